@@ -10,7 +10,7 @@ use Rattle.mdbox_base.specs.declared.requests.Request.{Request}
 use Rattle.mdbox_base.specs.declared.requests.Request.TheVariants as request
 use Rattle.model_lists.specs.Lists.{ListedMessage, Lists}
 use Rattle.list_machine.specs.Machine.{message_at}
-use Rattle.list_machine.specs.Run.{EventPart, First, Last, SecondHalf, GivesBack, RunEvent, Run, TakenFile, and_then, own_events}
+use Rattle.list_machine.specs.Run.{EventPart, First, Last, SecondHalf, GivesBack, RemovesFile, RunEvent, Run, TakenFile, and_then, own_events}
 use Rattle.journal.specs.Events.{Around, DidCopy, DidPart, RemovesIfThere}
 use Rattle.journal.specs.Found.{took_file}
 use Rattle.journal.proofs.OwnEventLemmas.{own_more, own_other}
@@ -61,6 +61,11 @@ pub make_takes_none : (name : List ℕ) → TakesNone (request.Make name)
 make_takes_none name around run lists event First d = files_of event _ d
 make_takes_none name around run lists event Last d = files_of event _ d
 make_takes_none name around run lists event part d = files_of event _ d
+
+pub fetch_takes_none : (name : List ℕ) (uid : Uid) → TakesNone (request.Fetch name uid)
+fetch_takes_none name uid around run lists event First d = files_of event _ d.2
+fetch_takes_none name uid around run lists event RemovesFile d = files_of event _ d.4
+fetch_takes_none name uid around run lists event part d = files_of event _ d
 
 -- ---- all of a request's
 

@@ -6,11 +6,12 @@ use Rattle.std.proofs.lemmas.List.Elements.{All-nil}
 use Rattle.disk_model.specs.Disk.{History}
 use Rattle.mdbox_base.specs.declared.replies.Reply.{Reply}
 use Rattle.mdbox_base.specs.declared.requests.Request.{Request}
+use Rattle.mdbox_base.specs.declared.requests.Request.TheVariants as request
 use Rattle.list_machine.specs.Run.{Run, RunEvent, and_then, own_events}
 use Rattle.journal.specs.Events.{last_refusal}
-use Rattle.journal.specs.Found.{took_file}
+use Rattle.journal.specs.Found.{gave_back, took_file}
 use Rattle.store_core.specs.Value.{StoreValue}
-use Rattle.task_claims.specs.Claims.{Claims, ClaimsNothing, Emptied, Taken, Thing, Made}
+use Rattle.task_claims.specs.Claims.{Claims, ClaimsNothing, Due, Emptied, Held, Made, Taken, Thing}
 use Rattle.task_claims.specs.Stable.{IsStable}
 use Rattle.task_claims.proofs.RestLemmas.{none_claimed_of}
 use Rattle.task_steps.specs.Step.{GivesNew, HasNotBegun, IsKept}
@@ -38,8 +39,23 @@ use Rattle.mail_ops.proofs.MakeStageLemmas.{make_kept}
 use Rattle.mail_ops.proofs.MoveStepLemmas.{move_kept}
 use Rattle.mail_ops.proofs.StableLemmas.{copy_stable, expunge_stable, make_stable, move_stable}
 use Rattle.mail_ops.proofs.StageLemmas.{stages_kept}
+use Rattle.attach_detach.specs.declared.message.Prepared.{Prepared}
+use Rattle.mail_fetch.specs.Claims.{IsReadyToFetch, fetch_claims}
+use Rattle.mail_fetch.specs.Stages.{IsAtFetch}
+use Rattle.mail_fetch.specs.declared.task.FetchStage.{FetchStage}
+use Rattle.mail_fetch.proofs.StableLemmas.{fetch_stable, stay_beside}
+use Rattle.mail_fetch.proofs.StepLemmas.{fetch_stays}
+use Rattle.mail_save.specs.Claims.{save_claims}
+use Rattle.mail_save.specs.SaveSeen.{HasItsParts, IsAtSave}
+use Rattle.mail_save.specs.Task.{IsReadyToDeliver, SaveValue}
+use Rattle.mail_save.specs.declared.task.SaveStage.{SaveStage}
+use Rattle.mail_save.specs.declared.task.SaveStage.TheVariants as save_stage
+use Rattle.mail_save.proofs.SaveKeptLemmas.{save_kept}
+use Rattle.mail_save.proofs.SaveReadyLemmas.{begins_ready as fresh_delivery}
+use Rattle.mail_save.proofs.SaveTakenLemmas.{taken_claimed}
+use Rattle.mail_save.proofs.StableSaveLemmas.{save_stable}
 use Rattle.lane_tasks.specs.Clause.{PassesBy}
-use Rattle.lane_tasks.specs.Tasks.{BeginsTask, IsAtFirst, IsAtTask, IsReadyTask, StandsTask, TookNoFile, claims_at, work_left}
+use Rattle.lane_tasks.specs.Tasks.{BeginsTask, IsAtDelivery, IsAtFirst, IsAtTask, IsFreshDelivery, IsMakeNumber, IsReadyTask, StandsTask, TookFiles, TookNoFile, claims_at, work_left}
 use Rattle.lane_tasks.specs.declared.task.Task.{Task}
 use Rattle.lane_tasks.specs.declared.task.Task.TheVariants as task
 use Rattle.lane_tasks.proofs.FilesLemmas.{none_taken, took_none_other}
@@ -49,33 +65,68 @@ use Rattle.lane_tasks.proofs.FilesLemmas.{none_taken, took_none_other}
 pub task_stable : {D : Type 0} → (t : Task) → IsStable {D = D} (claims_at t) (λ store history. IsReadyTask t store history)
 task_stable (task.Ops t) old new before after b ready = tt
 task_stable (task.Counts t) old new before after b ready = tt
-task_stable (task.Make t) old new before after b ready = make_stable t.stage old new before after b ready
+task_stable (task.Make t) old new before after b ready = (make_stable t.stage old new before after b ready.0, ready.1)
 task_stable (task.Copy t) old new before after b ready = copy_stable t.name t.uid t.stage old new before after b ready
 task_stable (task.Move t) old new before after b ready = move_stable t.name t.uid t.stage old new before after b ready
 task_stable (task.Expunge t) old new before after b ready = expunge_stable t.stage old new before after b ready
+task_stable (task.Fetch t) old new before after b ready = fetch_stable t.stage old new before after b ready
+task_stable (task.Deliver t) old new before after b ready = (ready.0, save_stable t.stage t.name t.time t.size ready.0 old new before after b ready.1)
 
-at_stays : {D : Type 0} → (t : Task) (old new : StoreValue D) (before after : Option History) (asked : Request) (run : Run) (place : ℕ) (said : List Reply) (event : RunEvent) → event.request ≢ place → GivesNew run event
+delivery_stays : {D : Type 0} → (t : SaveValue) (old new : StoreValue D) (before after : Option History) (asked : Request) (run : Run) (place : ℕ) (said : List Reply) (event : RunEvent) → PassesBy (task.Deliver t) old new before after → event.request ≢ place → GivesNew run event
+    → IsAtDelivery t old before asked run place said → IsAtDelivery t new after asked (and_then run event) place said
+delivery_stays t old new before after (request.Deliver name time octets) run place said event passes other gives at =
+    (save_kept t.stage run place said event other gives at.0, at.1, λ runs. save_stable t.stage t.name t.time t.size octets old new before after (passes runs).2 (at.2 (passes runs).0))
+delivery_stays t old new before after asked run place said event passes other gives at = absurd at
+
+at_stays : {D : Type 0} → (t : Task) (old new : StoreValue D) (before after : Option History) (asked : Request) (run : Run) (place : ℕ) (said : List Reply) (event : RunEvent) → PassesBy t old new before after → event.request ≢ place → GivesNew run event
     → IsAtTask t old before asked run place said → IsAtTask t new after asked (and_then run event) place said
-at_stays (task.Ops t) old new before after asked run place said event other gives at = stages_kept t.stage run place said event other gives at
-at_stays (task.Counts t) old new before after asked run place said event other gives at = not_begun_stays run place said event other gives at
-at_stays (task.Make t) old new before after asked run place said event other gives at = make_kept t.stage run place said event other gives at
-at_stays (task.Copy t) old new before after asked run place said event other gives at = copy_kept t.stage run place said event other gives at
-at_stays (task.Move t) old new before after asked run place said event other gives at = move_kept t.uid t.stage run place said event other gives at
-at_stays (task.Expunge t) old new before after asked run place said event other gives at = expunge_kept t.stage run place said event other gives at
+at_stays (task.Ops t) old new before after asked run place said event passes other gives at = stages_kept t.stage run place said event other gives at
+at_stays (task.Counts t) old new before after asked run place said event passes other gives at = not_begun_stays run place said event other gives at
+at_stays (task.Make t) old new before after asked run place said event passes other gives at = make_kept t.stage run place said event other gives at
+at_stays (task.Copy t) old new before after asked run place said event passes other gives at = copy_kept t.stage run place said event other gives at
+at_stays (task.Move t) old new before after asked run place said event passes other gives at = move_kept t.uid t.stage run place said event other gives at
+at_stays (task.Expunge t) old new before after asked run place said event passes other gives at = expunge_kept t.stage run place said event other gives at
+at_stays (task.Fetch t) old new before after asked run place said event passes other gives at =
+    stay_beside t.stage old new before after run event place said other (λ runs. (passes runs).0) (λ runs. ((passes runs).2, (passes runs).1)) at
+at_stays (task.Deliver t) old new before after asked run place said event passes other gives at = delivery_stays t old new before after asked run place said event passes other gives at
+
+took_stays : (t : Task) (run : Run) (place : ℕ) (event : RunEvent) → event.request ≢ place → TookFiles t run place → TookFiles t (and_then run event) place
+took_stays (task.Ops t) run place event other took = took_none_other run place event other took
+took_stays (task.Counts t) run place event other took = took_none_other run place event other took
+took_stays (task.Make t) run place event other took = took_none_other run place event other took
+took_stays (task.Copy t) run place event other took = took_none_other run place event other took
+took_stays (task.Move t) run place event other took = took_none_other run place event other took
+took_stays (task.Expunge t) run place event other took = took_none_other run place event other took
+took_stays (task.Fetch t) run place event other took = took_none_other run place event other took
+took_stays (task.Deliver t) run place event other took = tt
 
 pub task_stands : {D : Type 0} → (t : Task) (old new : StoreValue D) (before after : Option History) (asked : Request) (run : Run) (place : ℕ) (said : List Reply) (event : RunEvent) → PassesBy t old new before after → event.request ≢ place → GivesNew run event
     → StandsTask t old before asked run place said → StandsTask t new after asked (and_then run event) place said
 task_stands t old new before after asked run place said event passes other gives s = record {
   is_of = s.is_of;
-  at = at_stays t old new before after asked run place said event other gives s.at;
-  took = took_none_other run place event other s.took;
+  at = at_stays t old new before after asked run place said event passes other gives s.at;
+  took = took_stays t run place event other s.took;
 }
+
+delivery_kept : {D : Type 0} → (t : SaveValue) (store : StoreValue D) (history : Option History) (asked : Request) → IsKept (IsAtDelivery t store history asked)
+delivery_kept t store history (request.Deliver name time octets) run place said event other gives at = (save_kept t.stage run place said event other gives at.0, at.1, at.2)
+delivery_kept t store history asked run place said event other gives at = absurd at
+
+at_kept : {D : Type 0} → (t : Task) (store : StoreValue D) (history : Option History) (asked : Request) → IsKept (IsAtTask t store history asked)
+at_kept (task.Ops t) store history asked = stages_kept t.stage
+at_kept (task.Counts t) store history asked = not_begun_stays
+at_kept (task.Make t) store history asked = make_kept t.stage
+at_kept (task.Copy t) store history asked = copy_kept t.stage
+at_kept (task.Move t) store history asked = move_kept t.uid t.stage
+at_kept (task.Expunge t) store history asked = expunge_kept t.stage
+at_kept (task.Fetch t) store history asked = fetch_stays t.stage store.stopped history
+at_kept (task.Deliver t) store history asked = delivery_kept t store history asked
 
 pub task_kept : {D : Type 0} → (t : Task) (store : StoreValue D) (history : Option History) (asked : Request) → IsKept (StandsTask t store history asked)
 task_kept t store history asked run place said event other gives s = record {
   is_of = s.is_of;
-  at = at_stays t store store history history asked run place said event other gives s.at;
-  took = took_none_other run place event other s.took;
+  at = at_kept t store history asked run place said event other gives s.at;
+  took = took_stays t run place event other s.took;
 }
 
 -- ---- as a request begins
@@ -97,6 +148,16 @@ make_none thing = refl
 make_first : (now : MakeStage) → now ≡ make_stage.First → ClaimsNothing (make_claims now)
 make_first now e thing = ap (λ (s : MakeStage). make_claims s thing) e ∙ make_none thing
 
+save_none : (prepared : Prepared) (thing : Thing) → save_claims (save_stage.First prepared) thing ≡ 0
+save_none prepared (Due uid) = refl
+save_none prepared (Taken file) = refl
+save_none prepared (Held id) = refl
+save_none prepared thing = refl
+
+delivery_unclaimed : (t : SaveValue) (asked : Request) → IsFreshDelivery t asked → ClaimsNothing (save_claims t.stage)
+delivery_unclaimed t (request.Deliver name time octets) at thing = ap (λ (s : SaveStage). save_claims s thing) at.1 ∙ save_none at.0 thing
+delivery_unclaimed t asked at thing = absurd at
+
 pub begins_unclaimed : (asked : Request) (t : Task) → BeginsTask asked t → ClaimsNothing (claims_at t)
 begins_unclaimed asked (task.Ops t) b = λ thing. refl
 begins_unclaimed asked (task.Counts t) b = λ thing. refl
@@ -104,16 +165,34 @@ begins_unclaimed asked (task.Make t) b = make_first t.stage b.at
 begins_unclaimed asked (task.Copy t) b = copy_first t.stage b.at
 begins_unclaimed asked (task.Move t) b = move_first t.stage b.at
 begins_unclaimed asked (task.Expunge t) b = expunge_first t.stage b.at
+begins_unclaimed asked (task.Fetch t) b = λ thing. ap (λ (s : FetchStage). fetch_claims s thing) b.at
+begins_unclaimed asked (task.Deliver t) b = delivery_unclaimed t asked b.at
+
+fresh_ready : {D : Type 0} → (t : SaveValue) (name : List ℕ) (time : ℕ) (octets : List ℕ) (store : StoreValue D) (history : Option History) → IsFreshDelivery t (request.Deliver name time octets) → IsReadyToDeliver t.stage t.name t.time t.size octets store history
+fresh_ready t name time octets store history at =
+    subst (λ (s : SaveStage). IsReadyToDeliver s t.name t.time t.size octets store history) (sym at.1)
+    (subst (λ (n : ℕ). IsReadyToDeliver (save_stage.First at.0) t.name t.time n octets store history) (sym at.2) (fresh_delivery at.0 t.name t.time octets store history at.3 at.4))
+
+delivery_ready : {D : Type 0} → (t : SaveValue) (asked : Request) (store : StoreValue D) (history : Option History) → IsFreshDelivery t asked → (octets : List ℕ) × IsReadyToDeliver t.stage t.name t.time t.size octets store history
+delivery_ready t (request.Deliver name time octets) store history at = (octets, fresh_ready t name time octets store history at)
+delivery_ready t asked store history at = absurd at
 
 pub begins_ready : {D : Type 0} → (asked : Request) (t : Task) (store : StoreValue D) (history : Option History) → BeginsTask asked t → IsReadyTask t store history
 begins_ready asked (task.Ops t) store history b = tt
 begins_ready asked (task.Counts t) store history b = tt
-begins_ready asked (task.Make t) store history b = subst (λ (s : MakeStage). IsReadyToMake s store) (sym b.at) tt
+begins_ready asked (task.Make t) store history b = subst (λ (s : MakeStage). IsReadyToMake s store × IsMakeNumber s) (sym b.at) (tt, tt)
 begins_ready asked (task.Copy t) store history b = subst (λ (s : CopyStage). IsReadyToCopy t.name t.uid s store) (sym b.at) (record { due = λ other. omega arith; source = tt })
 begins_ready asked (task.Move t) store history b = subst (λ (s : MoveStage). IsReadyToMove t.name t.uid s store) (sym b.at) (record { due = λ other. omega arith; source = tt })
 begins_ready asked (task.Expunge t) store history b = subst (λ (s : ExpungeStage). AreDueIn store (expunge_amounts s)) (sym b.at) (λ other. omega arith)
+begins_ready asked (task.Fetch t) store history b = subst (λ (s : FetchStage). IsReadyToFetch s store) (sym b.at) tt
+begins_ready asked (task.Deliver t) store history b = delivery_ready t asked store history b.at
 
-begins_at : {D : Type 0} → (t : Task) (store : StoreValue D) (history : Option History) (asked : Request) (run : Run) (place : ℕ) (said : List Reply) → IsAtFirst t → HasNotBegun run place said → IsAtTask t store history asked run place said
+delivery_at : {D : Type 0} → (t : SaveValue) (store : StoreValue D) (history : Option History) (asked : Request) (run : Run) (place : ℕ) (said : List Reply) → IsFreshDelivery t asked → HasNotBegun run place said → IsAtDelivery t store history asked run place said
+delivery_at t store history (request.Deliver name time octets) run place said at begun =
+    (subst (λ (s : SaveStage). IsAtSave s run place said) (sym at.1) begun, subst (λ (s : SaveStage). HasItsParts s octets) (sym at.1) tt, λ runs. fresh_ready t name time octets store history at)
+delivery_at t store history asked run place said at begun = absurd at
+
+begins_at : {D : Type 0} → (t : Task) (store : StoreValue D) (history : Option History) (asked : Request) (run : Run) (place : ℕ) (said : List Reply) → IsAtFirst t asked → HasNotBegun run place said → IsAtTask t store history asked run place said
 begins_at (task.Ops t) store history asked run place said at begun = ops_first t.stage
   where
     ops_first : (s : TaskStage) → IsAt s run place said
@@ -124,29 +203,45 @@ begins_at (task.Make t) store history asked run place said at begun =
 begins_at (task.Copy t) store history asked run place said at begun = subst (λ (s : CopyStage). IsAtCopy s run place said) (sym at) begun
 begins_at (task.Move t) store history asked run place said at begun = subst (λ (s : MoveStage). IsAtMove t.uid s run place said) (sym at) begun
 begins_at (task.Expunge t) store history asked run place said at begun = subst (λ (s : ExpungeStage). IsAtExpunge s run place said) (sym at) begun
+begins_at (task.Fetch t) store history asked run place said at begun = subst (λ (s : FetchStage). IsAtFetch s store.stopped history run place said) (sym at) begun
+begins_at (task.Deliver t) store history asked run place said at begun = delivery_at t store history asked run place said at begun
+
+none_took : (run : Run) (place : ℕ) → own_events place run ≡ [] → TookNoFile run place
+none_took run place none = subst (λ (own : List RunEvent). All (λ e. e.refused ≡ None → e.files ≡ []) own) (sym none) (All-nil (λ (e : RunEvent). e.refused ≡ None → e.files ≡ []))
+
+begins_took : (t : Task) (run : Run) (place : ℕ) → own_events place run ≡ [] → TookFiles t run place
+begins_took (task.Ops t) run place none = none_took run place none
+begins_took (task.Counts t) run place none = none_took run place none
+begins_took (task.Make t) run place none = none_took run place none
+begins_took (task.Copy t) run place none = none_took run place none
+begins_took (task.Move t) run place none = none_took run place none
+begins_took (task.Expunge t) run place none = none_took run place none
+begins_took (task.Fetch t) run place none = none_took run place none
+begins_took (task.Deliver t) run place none = tt
 
 pub begins_standing : {D : Type 0} → (asked : Request) (t : Task) (store : StoreValue D) (history : Option History) (run : Run) (place : ℕ) (said : List Reply) → BeginsTask asked t → HasNotBegun run place said → StandsTask t store history asked run place said
 begins_standing asked t store history run place said b begun = record {
   is_of = b.is_of;
   at = begins_at t store history asked run place said b.at begun;
-  took = subst (λ (own : List RunEvent). All (λ e. e.refused ≡ None → e.files ≡ []) own) (sym begun.0) (All-nil (λ (e : RunEvent). e.refused ≡ None → e.files ≡ []));
+  took = begins_took t run place begun.0;
 }
 
 -- ---- files
 
-pub no_file_taken : (claims : Claims) (run : Run) (place : ℕ) (file : ℕ) → TookNoFile run place → list_any (took_file file) (own_events place run) ≡ true → (1 ≤ claims (Taken file)) ⊎ (1 ≤ claims (Emptied file))
+no_file_taken : (claims : Claims) (run : Run) (place : ℕ) (file : ℕ) → TookNoFile run place → list_any (took_file file) (own_events place run) ≡ true → (1 ≤ claims (Taken file)) ⊎ (1 ≤ claims (Emptied file))
 no_file_taken claims run place file took is = absurd (let e : true ≡ false = sym is ∙ none_taken file (own_events place run) took in cc e)
 
--- ---- the events that are still to come
+delivery_taken : {D : Type 0} → (t : SaveValue) (store : StoreValue D) (history : Option History) (asked : Request) (run : Run) (place : ℕ) (said : List Reply) (file : ℕ) → IsAtDelivery t store history asked run place said → 1 ≤ file → list_any (took_file file) (own_events place run) ≡ true → gave_back file (own_events place run) ≡ false → 1 ≤ save_claims t.stage (Taken file)
+delivery_taken t store history (request.Deliver name time octets) run place said file at some is left = taken_claimed t.stage run place said file at.0 some is left
+delivery_taken t store history asked run place said file at some is left = absurd at
 
-make_is_left : {D : Type 0} → (s : MakeStage) (old new : StoreValue D) → new.map.highest.mailbox ≡ old.map.highest.mailbox → make_left s new ≡ make_left s old
-make_is_left make_stage.First old new same = refl
-make_is_left (make_stage.Naming number) old new same = ap (λ (n : ℕ). if nat_lt n number.0 then 1 else 3) same
-
-pub work_is_left : {D : Type 0} → (t : Task) (old new : StoreValue D) → new.map.highest.mailbox ≡ old.map.highest.mailbox → work_left t new ≡ work_left t old
-work_is_left (task.Make t) old new same = make_is_left t.stage old new same
-work_is_left (task.Ops t) old new same = refl
-work_is_left (task.Counts t) old new same = refl
-work_is_left (task.Copy t) old new same = refl
-work_is_left (task.Move t) old new same = refl
-work_is_left (task.Expunge t) old new same = refl
+pub task_taken : {D : Type 0} → (t : Task) (store : StoreValue D) (history : Option History) (asked : Request) (run : Run) (place : ℕ) (said : List Reply) (file : ℕ) → StandsTask t store history asked run place said → 1 ≤ file → list_any (took_file file) (own_events place run) ≡ true → gave_back file (own_events place run) ≡ false
+    → (1 ≤ claims_at t (Taken file)) ⊎ (1 ≤ claims_at t (Emptied file))
+task_taken (task.Ops t) store history asked run place said file stood some is left = no_file_taken (claims_at (task.Ops t)) run place file stood.took is
+task_taken (task.Counts t) store history asked run place said file stood some is left = no_file_taken (claims_at (task.Counts t)) run place file stood.took is
+task_taken (task.Make t) store history asked run place said file stood some is left = no_file_taken (claims_at (task.Make t)) run place file stood.took is
+task_taken (task.Copy t) store history asked run place said file stood some is left = no_file_taken (claims_at (task.Copy t)) run place file stood.took is
+task_taken (task.Move t) store history asked run place said file stood some is left = no_file_taken (claims_at (task.Move t)) run place file stood.took is
+task_taken (task.Expunge t) store history asked run place said file stood some is left = no_file_taken (claims_at (task.Expunge t)) run place file stood.took is
+task_taken (task.Fetch t) store history asked run place said file stood some is left = no_file_taken (claims_at (task.Fetch t)) run place file stood.took is
+task_taken (task.Deliver t) store history asked run place said file stood some is left = inl (delivery_taken t store history asked run place said file stood.at some is left)

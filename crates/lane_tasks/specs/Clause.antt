@@ -1,46 +1,79 @@
 -- The clause of a task's step, for tasks of any kind.
-use Rattle.std.specs.Prelude.{◌≡◌, ℕ, false, List, Option, None}
+use Rattle.std.specs.Prelude.{◌≡◌, ◌≤◌, ℕ, false, List, Option, None}
 use Rattle.disk_model.specs.Disk.{History, Faults}
 use Rattle.mdbox_base.specs.declared.replies.Reply.{Reply}
+use Rattle.mdbox_base.specs.declared.ids.InstId.{InstId}
 use Rattle.mdbox_base.specs.declared.requests.Request.{Request}
+use Rattle.mdbox_base.specs.declared.requests.Request.TheVariants as request
 use Rattle.model_lists.specs.Lists.{Lists}
 use Rattle.list_machine.specs.Run.{Run, and_then}
 use Rattle.journal.specs.Events.{Around}
 use Rattle.store_core.specs.Value.{StoreValue}
+use Rattle.storage_files.specs.Files.{is_doomed_in, is_emptied_in, is_taken_in}
+use Rattle.task_claims.specs.Claims.{Claims, Held, Pinned}
 use Rattle.task_claims.specs.Stable.{Beside}
 use Rattle.task_steps.specs.Step.{ShowsSeen, HasComeTo, FindsRoom, DidEvent, and_told}
-use Rattle.mail_fetch.specs.Clause.{ReadsSafe}
+use Rattle.mail_fetch.specs.Claims.{HasUseRoom}
+use Rattle.mail_fetch.specs.Clause.{CanFetch}
 use Rattle.mail_fetch.specs.Task.{seen_in}
-use Rattle.lane_tasks.specs.Tasks.{StandsTask, claims_at, did_of}
+use Rattle.mail_save.specs.SaveSeen.{around_saving}
+use Rattle.mail_save.specs.Task.{SaveValue}
+use Rattle.lane_tasks.specs.Tasks.{IsReadyTask, StandsTask, claims_at, did_of}
 use Rattle.lane_tasks.specs.declared.task.Task.{Task}
+use Rattle.lane_tasks.specs.declared.task.Task.TheVariants as task
 
 -- ---- what it needs beside being ready
 
--- What the store has for its next event beside. As yet this says nothing: no task of these kinds pins a file or holds instances.
-abbrev pub HasTaskRoom : {D : Type 0} → Task → StoreValue D → Type 0
-HasTaskRoom task store = Unit {0}
+-- No purge has doomed a storage file. As yet no kind of task dooms one, so that none has to remove it.
+abbrev pub DoomsNothing : {D : Type 0} → StoreValue D → Type 0
+DoomsNothing store = (file : ℕ) → is_doomed_in file store.files.files ≡ false
 
--- What an event of the task finds of files and instances. As yet it may be anything: no task of these kinds reads them.
+-- What a store has for the next event of any task: each storage file can be pinned once more, and each instance held as often as a
+-- message may have attachments; and no file is doomed.
+pub record HasTaskRoom {D : Type 0} (store : StoreValue D) : Type 0 where
+  pub uses : HasUseRoom store
+  pub undoomed : DoomsNothing store
+
+-- A task claims no more of a thing than leaves room for the tasks of all lanes: one pin of a file, and 65,535 holds of an instance.
+pub record ClaimsFew (mine : Claims) : Type 0 where
+  pub pinned : (file : ℕ) → mine (Pinned file) ≤ 1
+  pub held : (id : InstId) → mine (Held id) ≤ 65535
+
+-- What an event of the task finds of files and instances: of a delivery what the store has for its message. Of all others nothing is
+-- asked, so it may be this.
+abbrev pub found_saving : {D : Type 0} → SaveValue → Request → StoreValue D → Around → Around
+found_saving t (request.Deliver name time octets) store around = around_saving octets t.stage store
+found_saving t other store around = around
+
 abbrev pub around_at : {D : Type 0} → Task → Request → StoreValue D → Around → Around
-around_at task asked store around = around
+around_at (task.Deliver t) asked store around = found_saving t asked store around
+around_at other asked store around = around
 
--- The task answers by what the files of messages read. As yet none does.
-abbrev pub AnswersByFiles : Task → Type 0
-AnswersByFiles task = ⊥
+-- a storage file that no task has taken, to add to it or to empty it
+pub record IsFreeToTake {D : Type 0} (file : ℕ) (store : StoreValue D) : Type 0 where
+  pub some : 1 ≤ file
+  pub untaken : is_taken_in file store.files.files ≡ false
+  pub unemptied : is_emptied_in file store.files.files ≡ false
+
+-- A task that answers by what the files of messages read needs them to store these for the lists: so a fetch does before its first
+-- event, of the one message.
+abbrev pub CanAnswer : {D : Type 0} → Task → Lists → StoreValue D → Option History → Type 0
+CanAnswer (task.Fetch t) lists store history = CanFetch t.stage t.name t.uid lists store.map history
+CanAnswer other lists store history = Unit {0}
 
 -- ---- the clause
 
 -- Of every run that has come to the store, of any lists that it shows, and where the task stands, unless the store runs and a request
--- has taken the file that it finds; of lists for which the files are safe, if it answers by what they read. It is `Steps`, with the
--- store and what its disk tells: as yet no task finds a file or answers by files, and these two premises say nothing.
+-- has taken the file that it finds; of lists of which the files store what it answers by. It is `Steps`, with the
+-- store and what its disk tells.
 abbrev pub StepsTask : {D : Type 0} → Task → Task → StoreValue D → StoreValue D → Option History → Option History → Faults → Faults → Option Reply → Type 0
 StepsTask task next old new before after began now ended =
     (asked : Request) (around behind : Around) (run : Run) (lane place : ℕ) (said : List Reply) (lists : Lists) → HasComeTo run (seen_in old before began) → ShowsSeen (seen_in old before began) lists
-    → (old.stopped ≡ false → FindsRoom (around_at task asked old around) run) → (AnswersByFiles task → old.stopped ≡ false → ReadsSafe lists before) → StandsTask task old before asked run place said
+    → (old.stopped ≡ false → FindsRoom (around_at task asked old around) run) → (old.stopped ≡ false → CanAnswer task lists old before) → StandsTask task old before asked run place said
     → (d : DidEvent (around_at task asked old around) behind run lane place said asked lists (seen_in old before began) (seen_in new after now) (did_of next) ended)
     × (ended ≡ None → StandsTask next new after asked (and_then run d.makes.event) place (and_told said d.makes.answer))
 
--- An event of another task beside this one: unless the store is stopped then, it ran before, and the event moved only its own task's
--- claims and left to the others what is theirs.
+-- An event of another task beside this one: unless the store is stopped then, it ran before, this task was ready, and the event moved
+-- only its own task's claims and left to the others what is theirs.
 abbrev pub PassesBy : {D : Type 0} → Task → StoreValue D → StoreValue D → Option History → Option History → Type 0
-PassesBy task old new before after = new.stopped ≡ false → (old.stopped ≡ false) × Beside (claims_at task) old new before after
+PassesBy task old new before after = new.stopped ≡ false → (old.stopped ≡ false) × IsReadyTask task old before × Beside (claims_at task) old new before after

@@ -1,5 +1,7 @@
 -- A task of any kind: its request, where it stands, what it claims, and what it needs of the store.
-use Rattle.std.specs.Prelude.{◌≡◌, ℕ, List, [], All, Option, None}
+use Rattle.std.specs.Prelude.{◌≡◌, ◌≤◌, ◌*◌, ◌+◌, ◌-◌, ℕ, false, List, [], All, length, Option, None}
+use Rattle.attach_detach.specs.Prepared.{IsPrepared}
+use Rattle.attach_detach.specs.declared.message.Prepared.{Prepared}
 use Rattle.disk_model.specs.Disk.{History}
 use Rattle.mdbox_base.specs.declared.progress.Did.{Did}
 use Rattle.mdbox_base.specs.declared.progress.Did.TheVariants as did
@@ -10,6 +12,10 @@ use Rattle.list_machine.specs.Run.{Run, own_events}
 use Rattle.store_core.specs.Value.{StoreValue}
 use Rattle.task_claims.specs.Claims.{Claims, no_claims}
 use Rattle.task_steps.specs.Step.{HasNotBegun}
+use Rattle.mail_fetch.specs.Claims.{IsReadyToFetch, fetch_claims}
+use Rattle.mail_fetch.specs.Stages.{IsAtFetch}
+use Rattle.mail_fetch.specs.Task.{events_left}
+use Rattle.mail_fetch.specs.declared.task.FetchStage.TheVariants as fetch_stage
 use Rattle.mail_ops.specs.Claims.{copy_claims, expunge_claims, make_claims, move_claims}
 use Rattle.mail_ops.specs.Copy.{IsAtCopy, IsReadyToCopy, copy_left}
 use Rattle.mail_ops.specs.Expunging.{IsAtExpunge, expunge_amounts, expunge_left}
@@ -19,20 +25,29 @@ use Rattle.mail_ops.specs.Owing.{AreDueIn}
 use Rattle.mail_ops.specs.Task.{IsAt}
 use Rattle.mail_ops.specs.declared.copy.CopyStage.TheVariants as copy_stage
 use Rattle.mail_ops.specs.declared.expunging.ExpungeStage.TheVariants as expunge_stage
+use Rattle.mail_ops.specs.declared.making.MakeStage.{MakeStage}
 use Rattle.mail_ops.specs.declared.making.MakeStage.TheVariants as make_stage
 use Rattle.mail_ops.specs.declared.moving.MoveStage.TheVariants as move_stage
+use Rattle.mail_save.specs.Claims.{save_claims}
+use Rattle.mail_save.specs.SaveSeen.{HasItsParts, IsAtSave}
+use Rattle.mail_save.specs.Task.{IsReadyToDeliver, SaveValue, save_events_left}
+use Rattle.mail_save.specs.declared.task.SaveStage.TheVariants as save_stage
 use Rattle.lane_tasks.specs.declared.task.Task.{Task}
 use Rattle.lane_tasks.specs.declared.task.Task.TheVariants as task
 
 -- ---- its request
 
--- the requests that tasks do: as yet all but those that read or add messages, and those of the whole store
+-- the requests that have a task as they are: a delivery's message is prepared first, and those of the whole store have none yet
 abbrev pub HasTask : Request → Type 0
 HasTask (request.Deliver name time octets) = ⊥
-HasTask (request.Fetch name uid) = ⊥
 HasTask request.Purge = ⊥
 HasTask request.Resync = ⊥
 HasTask other = Unit {0}
+
+-- A delivery's request is of its mailbox and time. Of the message the task keeps no octets, so these may be any.
+abbrev pub IsDeliveryOf : SaveValue → Request → Type 0
+IsDeliveryOf t (request.Deliver name time octets) = (name ≡ t.name) × (time ≡ t.time)
+IsDeliveryOf t other = ⊥
 
 -- The request is the task's. A listing and a setting of flags have one kind of task.
 abbrev pub IsTaskOf : Task → Request → Type 0
@@ -42,6 +57,8 @@ IsTaskOf (task.Make t) asked = asked ≡ request.Make t.name
 IsTaskOf (task.Copy t) asked = asked ≡ request.Copy t.name t.uid t.target
 IsTaskOf (task.Move t) asked = asked ≡ request.Move t.name t.uid t.target
 IsTaskOf (task.Expunge t) asked = asked ≡ request.Expunge t.name t.uid
+IsTaskOf (task.Fetch t) asked = asked ≡ request.Fetch t.name t.uid
+IsTaskOf (task.Deliver t) asked = IsDeliveryOf t asked
 
 -- what its last event did: nothing before the first
 abbrev pub did_of : Task → Did
@@ -51,19 +68,28 @@ did_of (task.Make t) = t.did
 did_of (task.Copy t) = t.did
 did_of (task.Move t) = t.did
 did_of (task.Expunge t) = t.did
+did_of (task.Fetch t) = t.did
+did_of (task.Deliver t) = t.did
 
--- It has begun nothing: its next event is the first. A task of one event is always so.
-abbrev pub IsAtFirst : Task → Type 0
-IsAtFirst (task.Make t) = t.stage ≡ make_stage.First
-IsAtFirst (task.Copy t) = t.stage ≡ copy_stage.First
-IsAtFirst (task.Move t) = t.stage ≡ move_stage.First
-IsAtFirst (task.Expunge t) = t.stage ≡ expunge_stage.First
-IsAtFirst other = Unit {0}
+-- a delivery that has begun nothing has the request's message, prepared
+abbrev pub IsFreshDelivery : SaveValue → Request → Type 0
+IsFreshDelivery t (request.Deliver name time octets) = (prepared : Prepared) × (t.stage ≡ save_stage.First prepared) × (t.size ≡ prepared.whole) × (length octets ≤ 67108864) × IsPrepared octets prepared
+IsFreshDelivery t other = ⊥
+
+-- It has begun nothing of this request: its next event is the first. A task of one event is always so.
+abbrev pub IsAtFirst : Task → Request → Type 0
+IsAtFirst (task.Make t) asked = t.stage ≡ make_stage.First
+IsAtFirst (task.Copy t) asked = t.stage ≡ copy_stage.First
+IsAtFirst (task.Move t) asked = t.stage ≡ move_stage.First
+IsAtFirst (task.Expunge t) asked = t.stage ≡ expunge_stage.First
+IsAtFirst (task.Fetch t) asked = t.stage ≡ fetch_stage.First
+IsAtFirst (task.Deliver t) asked = IsFreshDelivery t asked
+IsAtFirst other asked = Unit {0}
 
 -- A request has this task as it begins.
 pub record BeginsTask (asked : Request) (task : Task) : Type 0 where
   pub is_of : IsTaskOf task asked
-  pub at : IsAtFirst task
+  pub at : IsAtFirst task asked
   pub did : did_of task ≡ did.Quiet
 
 -- ---- what it claims of the store, and what it needs of it
@@ -73,25 +99,44 @@ claims_at (task.Make t) = make_claims t.stage
 claims_at (task.Copy t) = copy_claims t.stage
 claims_at (task.Move t) = move_claims t.stage
 claims_at (task.Expunge t) = expunge_claims t.stage
+claims_at (task.Fetch t) = fetch_claims t.stage
+claims_at (task.Deliver t) = save_claims t.stage
 claims_at other = no_claims
 
--- It is ready for its next event.
+-- the number of the log that a make has made is in range
+abbrev pub IsMakeNumber : MakeStage → Type 0
+IsMakeNumber (make_stage.Naming number) = number.0 ≤ 4294967294
+IsMakeNumber make_stage.First = Unit {0}
+
+-- It is ready for its next event: a delivery is so for that of some message.
 abbrev pub IsReadyTask : {D : Type 0} → Task → StoreValue D → Option History → Type 0
-IsReadyTask (task.Make t) store history = IsReadyToMake t.stage store
+IsReadyTask (task.Make t) store history = IsReadyToMake t.stage store × IsMakeNumber t.stage
 IsReadyTask (task.Copy t) store history = IsReadyToCopy t.name t.uid t.stage store
 IsReadyTask (task.Move t) store history = IsReadyToMove t.name t.uid t.stage store
 IsReadyTask (task.Expunge t) store history = AreDueIn store (expunge_amounts t.stage)
+IsReadyTask (task.Fetch t) store history = IsReadyToFetch t.stage store
+IsReadyTask (task.Deliver t) store history = (octets : List ℕ) × IsReadyToDeliver t.stage t.name t.time t.size octets store history
 IsReadyTask other store history = Unit {0}
 
--- How many events are still to come at the most, as long as other tasks make no mailbox.
+-- How many events are still to come at the most, also beside other tasks: a make may have to begin anew for each mailbox that others
+-- make, as long as there are numbers.
 abbrev pub work_left : {D : Type 0} → Task → StoreValue D → ℕ
-work_left (task.Make t) store = make_left t.stage store
+work_left (task.Make t) store = make_left t.stage store + 2 * (4294967295 - store.map.highest.mailbox)
 work_left (task.Copy t) store = copy_left t.stage
 work_left (task.Move t) store = move_left t.stage
 work_left (task.Expunge t) store = expunge_left t.stage
+work_left (task.Fetch t) store = events_left t.stage
+work_left (task.Deliver t) store = save_events_left t.stage store.instances
 work_left other store = 1
 
 -- ---- where it stands
+
+-- A delivery is at its stage, knows how many attachments the request's message has, and, unless the store is stopped, is ready for
+-- its next event with it.
+abbrev pub IsAtDelivery : {D : Type 0} → SaveValue → StoreValue D → Option History → Request → Run → ℕ → List Reply → Type 0
+IsAtDelivery t store history (request.Deliver name time octets) run place said =
+    IsAtSave t.stage run place said × HasItsParts t.stage octets × (store.stopped ≡ false → IsReadyToDeliver t.stage t.name t.time t.size octets store history)
+IsAtDelivery t store history other run place said = ⊥
 
 -- Of a store, of what its disk tells, and of the request: at which stage the task is, of a run, of its place in the script, and of the
 -- answers of its steps.
@@ -102,14 +147,17 @@ IsAtTask (task.Make t) store history asked run place said = IsAtMake t.stage run
 IsAtTask (task.Copy t) store history asked run place said = IsAtCopy t.stage run place said
 IsAtTask (task.Move t) store history asked run place said = IsAtMove t.uid t.stage run place said
 IsAtTask (task.Expunge t) store history asked run place said = IsAtExpunge t.stage run place said
+IsAtTask (task.Fetch t) store history asked run place said = IsAtFetch t.stage store.stopped history run place said
+IsAtTask (task.Deliver t) store history asked run place said = IsAtDelivery t store history asked run place said
 
 -- none of a request's events that wasn't refused took a storage file
 abbrev pub TookNoFile : Run → ℕ → Type 0
 TookNoFile run place = All (λ event. event.refused ≡ None → event.files ≡ []) (own_events place run)
 
--- The files that it took. As yet no kind of task takes any.
+-- The files that it took: a delivery's stage tells of the one that it has, and no other kind of task takes any.
 abbrev pub TookFiles : Task → Run → ℕ → Type 0
-TookFiles t run place = TookNoFile run place
+TookFiles (task.Deliver t) run place = Unit {0}
+TookFiles other run place = TookNoFile run place
 
 -- A task stands so in a run that has come to this store: it is of the request at this place, is at its stage, and took these files.
 pub record StandsTask {D : Type 0} (task : Task) (store : StoreValue D) (history : Option History) (asked : Request) (run : Run) (place : ℕ) (said : List Reply) : Type 0 where

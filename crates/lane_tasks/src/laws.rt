@@ -1,16 +1,22 @@
 // Tasks beside each other.
-ghost use Rattle.std.specs.Prelude.{◌≡◌, ◌≢◌, ◌≤◌, ◌⊎◌, ℕ, List, Option, true, false};
+ghost use Rattle.std.specs.Prelude.{◌≡◌, ◌≢◌, ◌≤◌, ◌⊎◌, ℕ, List, All, length, Option, Some, None, true, false};
 ghost use Rattle.std.specs.List.{list_any};
 ghost use Rattle.disk_model.specs.Disk.{History};
 ghost use Rattle.mdbox_base.specs.declared.replies.Reply.{Reply};
 ghost use Rattle.mdbox_base.specs.declared.requests.Request.{Request};
 ghost use Rattle.list_machine.specs.Run.{Run, RunEvent, and_then, own_events};
+ghost use Rattle.model_lists.specs.Lists.{Lists};
+ghost use Rattle.mail_fetch.specs.Clause.{ReadsSafe};
+ghost use Rattle.journal.specs.Events.{Around};
 ghost use Rattle.journal.specs.Found.{gave_back, took_file};
+ghost use Rattle.storage_files.specs.Files.{AreFilesInOrder};
+ghost use Rattle.store_core.specs.Running.{IsStore};
 ghost use Rattle.store_core.specs.Value.{StoreValue};
-ghost use Rattle.task_claims.specs.Claims.{ClaimsNothing, Emptied, Taken};
+ghost use Rattle.task_claims.specs.Claims.{AddsUp, Claims, ClaimsNothing, Emptied, Taken};
+ghost use Rattle.task_claims.specs.Leaving.{LeavesOthers};
 ghost use Rattle.task_claims.specs.Stable.{IsStable};
 ghost use Rattle.task_steps.specs.Step.{GivesNew, HasNotBegun, IsKept};
-ghost use Rattle.lane_tasks.specs.Clause.{PassesBy};
+ghost use Rattle.lane_tasks.specs.Clause.{CanAnswer, ClaimsFew, DoomsNothing, HasTaskRoom, IsFreeToTake, PassesBy, around_at};
 ghost use Rattle.lane_tasks.specs.Tasks.{BeginsTask, IsReadyTask, StandsTask, claims_at, work_left};
 ghost use Rattle.lane_tasks.specs.declared.task.Task.{Task};
 
@@ -43,7 +49,27 @@ pub fn tasks_have_taken<D: Disk>()
         → list_any (took_file file) (own_events place run) ≡ true → gave_back file (own_events place run) ≡ false → (1 ≤ claims_at task (Taken file)) ⊎ (1 ≤ claims_at task (Emptied file)) }
 {}
 
-/// An event that makes no mailbox leaves to every task as many events as were still to come.
+/// A task that is ready for its next event claims few of each thing.
+pub fn tasks_claim_few<D: Disk>()
+    ensures { (task : Task) (store : StoreValue D) (history : Option History) → IsReadyTask task store history → ClaimsFew (claims_at task) }
+{}
+
+/// What the tasks of 64 lanes claim, few of each thing, leaves room for the next event of any of them.
+pub fn tasks_have_room<D: Disk>()
+    ensures { (store : StoreValue D) (each : List Claims) → AddsUp store each → length each ≤ 64 → All ClaimsFew each → DoomsNothing store → HasTaskRoom store }
+{}
+
+/// The storage file that an event of a task finds to add to it is one that no task has taken.
+pub fn found_files_are_free<D: Disk>()
+    ensures { (task : Task) (asked : Request) (store : StoreValue D) (history : Option History) (around : Around) (file : ℕ) → IsStore history store → AreFilesInOrder store.files → around.room ≡ None → (around_at task asked store around).room ≡ Some file → IsFreeToTake file store }
+{}
+
+/// Where the files are safe for the lists, a task can answer by what they read.
+pub fn safe_files_answer<D: Disk>()
+    ensures { (task : Task) (lists : Lists) (store : StoreValue D) (history : Option History) → IsStore history store → store.stopped ≡ false → ReadsSafe lists history → CanAnswer task lists store history }
+{}
+
+/// No event of another task raises the number of events that are still to come of a task.
 pub fn tasks_leave_work<D: Disk>()
-    ensures { (task : Task) (old new : StoreValue D) → new.map.highest.mailbox ≡ old.map.highest.mailbox → work_left task new ≡ work_left task old }
+    ensures { (task : Task) (mine : Claims) (old new : StoreValue D) (before after : Option History) → IsReadyTask task old before → LeavesOthers mine old new before after → work_left task new ≤ work_left task old }
 {}

@@ -1,17 +1,24 @@
 // A task of any kind.
-ghost use Rattle.std.specs.Prelude.{◌≡◌, ◌<◌, false};
+ghost use Rattle.std.specs.Prelude.{◌≡◌, ◌≤◌, ◌<◌, ℕ, true, false, List, length};
+ghost use Rattle.attach_detach.specs.Prepared.{IsPrepared};
 ghost use Rattle.mdbox_base.specs.declared.progress.Progress.TheVariants as progress;
+ghost use Rattle.mdbox_base.specs.declared.replies.Refusal.TheVariants as refusal;
 ghost use Rattle.mdbox_base.specs.declared.replies.Reply.{Reply};
+ghost use Rattle.mdbox_base.specs.declared.replies.Reply.TheVariants as reply;
 ghost use Rattle.mdbox_base.specs.declared.requests.Request.{Request as RequestValue};
+ghost use Rattle.mdbox_base.specs.declared.requests.Request.TheVariants as request;
 ghost use Rattle.task_claims.specs.Claims.{ClaimsNothing, MovesClaims};
 ghost use Rattle.task_claims.specs.Leaving.{LeavesOthers};
 ghost use Rattle.task_steps.specs.Step.{ended_by};
-ghost use Rattle.lane_tasks.specs.Clause.{HasTaskRoom, StepsTask};
-ghost use Rattle.lane_tasks.specs.Tasks.{BeginsTask, HasTask, IsReadyTask, IsTaskOf, claims_at, work_left};
+ghost use Rattle.lane_tasks.specs.Clause.{DoomsNothing, HasTaskRoom, StepsTask};
+ghost use Rattle.lane_tasks.specs.Tasks.{BeginsTask, HasTask, IsReadyTask, IsTaskOf, claims_at, did_of, work_left};
 
+use attach_detach::Prepared;
 use disk_model::Disk;
+use mail_fetch::FetchTask;
 use mail_ops::{CopyTask, CountsTask, ExpungeTask, MakeTask, MoveTask, OpsTask};
-use mdbox_base::{Progress, Request};
+use mail_save::SaveTask;
+use mdbox_base::{Did, Name, Progress, Request};
 use store_core::Store;
 
 /// The task of a request of any kind.
@@ -29,10 +36,14 @@ pub enum Task {
     Move(MoveTask),
     /// Of an expunge.
     Expunge(ExpungeTask),
+    /// Of a fetch.
+    Fetch(FetchTask),
+    /// Of a delivery.
+    Deliver(SaveTask),
 }
 
 impl Task {
-    /// The task of a request that begins.
+    /// The task of a request that begins, but for a delivery.
     pub fn of(request: Request) -> Task
         requires { HasTask request }
         ensures { BeginsTask request result }
@@ -43,6 +54,7 @@ impl Task {
             Request::Copy { name, uid, target } => Task::Copy(CopyTask::of(name, uid, target)),
             Request::Move { name, uid, target } => Task::Move(MoveTask::of(name, uid, target)),
             Request::Expunge { name, uid } => Task::Expunge(ExpungeTask::of(name, uid)),
+            Request::Fetch { name, uid } => Task::Fetch(FetchTask::of(name, uid)),
             Request::List { name } => Task::Ops(OpsTask::of(Request::List { name })),
             Request::Flag { name, uid, flags } => {
                 Task::Ops(OpsTask::of(Request::Flag { name, uid, flags }))
@@ -51,11 +63,35 @@ impl Task {
         }
     }
 
+    /// The task of a delivery that begins, of a message that was prepared, received at this time (Unix seconds).
+    pub fn delivery(name: Name, time: u64, prepared: Prepared) -> Task
+        requires { (octets : List ℕ) × (length octets ≤ 67108864) × IsPrepared octets prepared }
+        ensures { (octets : List ℕ) → length octets ≤ 67108864 → IsPrepared octets prepared → BeginsTask (request.Deliver name time octets) result }
+    {
+        Task::Deliver(SaveTask::of(name, time, prepared))
+    }
+
+    /// What the last event did.
+    pub fn did(&self) -> Did
+        ensures { result ≡ did_of self.now }
+    {
+        match self {
+            Task::Ops(task) => task.did(),
+            Task::Counts(task) => task.did(),
+            Task::Make(task) => task.did(),
+            Task::Copy(task) => task.did(),
+            Task::Move(task) => task.did(),
+            Task::Expunge(task) => task.did(),
+            Task::Fetch(task) => task.did(),
+            Task::Deliver(task) => task.did(),
+        }
+    }
+
     /// Does the next event. A task that has given its reply begins anew; one that was stopped stays where it was.
     pub fn step<D: Disk>(&mut self, store: &mut Store<D>) -> Progress
         // Unless the store is stopped, it is ready for its event, and has room for it; and if it goes on, it is ready for the next.
         requires ready { store.old.stopped ≡ false → IsReadyTask self.old store.old (D.history store.old.disk) }
-        requires room { store.old.stopped ≡ false → HasTaskRoom self.old store.old }
+        requires room { store.old.stopped ≡ false → HasTaskRoom store.old }
         ensures ready { result ≡ progress.More → store.new.stopped ≡ false → IsReadyTask self.new store.new (D.history store.new.disk) }
 
         // Of every run that has come to the store: which event it was, what it answered, and which crash images it leaves.
@@ -66,6 +102,11 @@ impl Task {
         ensures claims { store.new.stopped ≡ false → MovesClaims (claims_at self.old) (claims_at self.new) store.old store.new }
         ensures leaves { store.new.stopped ≡ false → LeavesOthers (claims_at self.old) store.old store.new (D.history store.old.disk) (D.history store.new.disk) }
         ensures ended { (given : Reply) → result ≡ progress.Done given → store.new.stopped ≡ false → ClaimsNothing (claims_at self.new) }
+
+        // It replies so if the store is stopped then, and a store that is stopped stays so. No file is doomed.
+        ensures stopped { store.new.stopped ≡ true → result ≡ progress.Done (reply.Refused refusal.Stopped) }
+        ensures halted { store.old.stopped ≡ true → store.new.stopped ≡ true }
+        ensures undoomed { store.new.stopped ≡ false → DoomsNothing store.old → DoomsNothing store.new }
 
         // So it ends. It stays of its request.
         ensures left { result ≡ progress.More → work_left self.new store.new < work_left self.old store.old }
@@ -78,6 +119,8 @@ impl Task {
             Task::Copy(task) => task.step(store),
             Task::Move(task) => task.step(store),
             Task::Expunge(task) => task.step(store),
+            Task::Fetch(task) => task.step(store),
+            Task::Deliver(task) => task.step(store),
         }
     }
 }

@@ -1,5 +1,5 @@
 -- An event of a fetch moves no claims and leaves the others what is theirs, and a fetch that was replied claims nothing.
-use Rattle.std.proofs.Common.{◌≡◌, ℕ, Bool, true, false, List, Option, Some, None, inl, inr, refl, sym, ◌∙◌, ap, subst}
+use Rattle.std.proofs.Common.{◌≡◌, ℕ, Bool, true, false, List, Option, Some, None, inl, inr, refl, sym, ◌∙◌, ap, subst, arith}
 use Rattle.disk_model.specs.Disk.{DiskState, History, IsIdle}
 use Rattle.disk_model.specs.declared.name.FileName.TheVariants as file
 use Rattle.disk_model.proofs.BetweenLemmas.{between-map}
@@ -8,7 +8,7 @@ use Rattle.mdbox_base.specs.declared.progress.Progress.TheVariants as progress
 use Rattle.mdbox_base.specs.declared.replies.Refusal.{Refusal}
 use Rattle.mdbox_base.specs.declared.replies.Reply.{Reply}
 use Rattle.store_core.specs.Value.{StoreValue}
-use Rattle.task_claims.specs.Claims.{Claims, ClaimsNothing, Due, Emptied, Held, Made, Pinned, Placing, Removing, Taken, Thing, amount_in}
+use Rattle.task_claims.specs.Claims.{Claims, ClaimsNothing, Due, Emptied, Held, Made, Pinned, PlacingPieces, Removing, Taken, Thing, amount_in}
 use Rattle.task_claims.specs.Leaving.{IsSameOrSynced, LeavesOthers, SyncsMail}
 use Rattle.task_claims.proofs.RestLemmas.{rest_leaves}
 use Rattle.mail_fetch.specs.Claims.{fetch_claims}
@@ -22,7 +22,7 @@ same_amount store disk (Due uid) = refl
 same_amount store disk (Pinned file) = refl
 same_amount store disk (Taken file) = refl
 same_amount store disk (Emptied file) = refl
-same_amount store disk (Placing file) = refl
+same_amount store disk (PlacingPieces file) = refl
 same_amount store disk (Removing file) = refl
 same_amount store disk (Held id) = refl
 same_amount store disk (Made number) = refl
@@ -41,7 +41,7 @@ idle_syncs before after idle =
 pub reading_leaves : {D : Type 0} → (old new : StoreValue D) (before after : Option History) → new ≡ record old { disk = new.disk } → IsIdle before after → (mine : Claims) → LeavesOthers mine old new before after
 reading_leaves old new before after same idle mine =
     subst (λ (s : StoreValue _). LeavesOthers mine old s before after) (sym same)
-    (rest_leaves mine old (record old { disk = new.disk }) before after refl refl (idle_syncs before after idle) refl (λ name uid held k. record { m = k.m; named = k.named; below = k.below; same = k.same }) (λ uid row none found listed. (listed, refl)))
+    (rest_leaves mine old (record old { disk = new.disk }) before after refl refl (idle_syncs before after idle) refl (omega arith) (λ name uid held k. record { m = k.m; named = k.named; below = k.below; same = k.same }) (λ uid row none found listed. (listed, refl)))
 
 pub first_claims : (now : FetchStage) → now ≡ stage.First → ClaimsNothing (fetch_claims now)
 first_claims now is = subst (λ (s : FetchStage). ClaimsNothing (fetch_claims s)) (sym is) (λ thing. refl)

@@ -1,10 +1,11 @@
 -- The events of a fetch, which read the disk at most.
-use Rattle.std.proofs.Common.{◌≡◌, ◌≤◌, ◌+◌, ℕ, Bool, true, false, List, [], ◌∷◌, ◌++◌, Option, Some, None, refl, sym, ◌∙◌, ap, subst, arith, inl}
+use Rattle.std.proofs.Common.{◌≡◌, ◌≤◌, ◌+◌, ℕ, Bool, true, false, List, [], ◌∷◌, ◌++◌, Option, Some, None, refl, sym, ◌∙◌, ap, subst, arith, inl, inr}
 use Rattle.std.specs.Prelude.{◌≢◌, ◌↔◌, ◌⊎◌, length, slice_get, sum_by, if◌then◌else◌}
 use Rattle.std.specs.Option.{IfSome}
 use Rattle.std.proofs.lemmas.List.Elements.{All-nil}
 use Rattle.std.proofs.lemmas.List.Sums.{sum_by-append, sum_by-cons}
 use Rattle.disk_model.specs.Disk.{History, Faults, DiskState, IsIdle, told_calls, Grows}
+use Rattle.disk_model.specs.FaultCounts.{NoFault}
 use Rattle.disk_model.proofs.IdleLemmas.{idle-images}
 use Rattle.mdbox_base.specs.Streams.{Rose}
 use Rattle.mdbox_base.specs.declared.entries.Highest.{Highest}
@@ -21,17 +22,19 @@ use Rattle.mdbox_base.specs.declared.requests.Request.TheVariants as request
 use Rattle.mdbox_base.specs.declared.script.Half.TheVariants as half
 use Rattle.model_lists.specs.Lists.{Lists}
 use Rattle.model_meaning.specs.MapMeaning.{MapRecord, MapMeaning}
+use Rattle.model_kept.proofs.KeptLemmas.{kept_idle}
 use Rattle.model_store.specs.Safe.{Safe}
 use Rattle.model_store.specs.Settled.{IsSettled, IsSettledFor, Leaves}
 use Rattle.model_store.proofs.SettledLemmas.{settled_safe}
-use Rattle.list_machine.specs.Run.{EventPart, First, ReadsPiece, Unpins, RunEvent, event_of, Run, and_then, own_events}
+use Rattle.list_machine.specs.Run.{EventPart, First, ReadsPiece, Unpins, RunEvent, event_of, Run, and_then, is_one_of, own_events}
 use Rattle.list_machine.specs.Machine.{PartAnswers, first_refusal, part_checks, is_step}
 use Rattle.journal.specs.Journal.{halves_of, IsReplyOf}
 use Rattle.journal.specs.Events.{Around, DidPart, IsRecord, MayMeet, next_part, behind_event, piece_left, plain, IsRepliedBy, is_step_part, makes_step, begun_in, ended_in, pieces_to_read}
 use Rattle.journal.specs.Makes.{HasCome, Makes}
 use Rattle.journal.proofs.RunLemmas.{comes_on}
 use Rattle.task_steps.specs.Step.{Seen, ShowsSeen, HasComeTo, Leads, IsFault, DidEvent, HasNotBegun, pins_of, and_told}
-use Rattle.task_steps.proofs.SeenLemmas.{comes_to_still, no_guids, doomed_still, used_still, given_still, gone_still, file_still_known, placed_still}
+use Rattle.task_steps.proofs.SeenLemmas.{comes_to_still, no_guids, doomed_still, used_still, given_still, gone_still, file_still_known, placed_still, there_before}
+use Rattle.task_steps.proofs.UnmovedLemmas.{mail_still}
 use Rattle.task_steps.proofs.OneEventLemmas.{next_first, step_may, refusal_last, some_refusal, one_refusal, some_given, no_step, nothing, first_reply, still_faults}
 use Rattle.mail_fetch.specs.Events.{NoChangeFault}
 
@@ -69,9 +72,9 @@ sum_push f xs x = let h = sum_by-append f xs (x ∷ []) in let k = sum_by-cons f
 
 -- A run comes on with an event that may pin or unpin, and does nothing else.
 pub comes_with_pins : (run : Run) (event : RunEvent) (old : Seen) (history : Option History) (faults : Faults) (pins : ℕ → ℕ) → HasComeTo run old → HasCome (and_then run event) old.map old.drawn (told_calls history)
-    → ((uid : ℕ) → begun_in uid event ≡ ended_in uid event) → event.doomed ≡ [] → event.removed ≡ [] → event.given ≡ [] → event.placed ≡ [] → event.gone ≡ [] → (old.stopped ≡ false → (file : ℕ) → pins_of (and_then run event) file ≡ pins file)
+    → ((uid : ℕ) → begun_in uid event ≡ ended_in uid event) → event.made ≡ [] → event.doomed ≡ [] → event.removed ≡ [] → event.given ≡ [] → event.placed ≡ [] → event.gone ≡ [] → (old.stopped ≡ false → (file : ℕ) → pins_of (and_then run event) file ≡ pins file)
     → HasComeTo (and_then run event) (behind_reading old history faults pins)
-comes_with_pins run event old history faults pins h come due doomed removed given placed gone pinned = record {
+comes_with_pins run event old history faults pins h come due made doomed removed given placed gone pinned = record {
   come = come;
   keeps = λ runs.
       let k = h.keeps runs in
@@ -85,6 +88,7 @@ comes_with_pins run event old history faults pins h come due doomed removed give
         pins = pinned runs;
         doomed = λ file. doomed_still run event file doomed removed ∙ k.doomed file;
         instances = λ instance. placed_still run event instance placed gone ∙ k.instances instance;
+        files = λ file unsealed known. by_maker file (there_before run event old file k removed unsealed known);
       };
   used = λ file e. h.used file (sym (used_still run event file doomed removed) ∙ e);
   barred = h.barred;
@@ -92,6 +96,10 @@ comes_with_pins run event old history faults pins h come due doomed removed give
   gone = λ instance e. h.gone instance (sym (gone_still run event instance gone) ∙ e);
   files = λ file e. file_still_known run event file removed (h.files file e);
 }
+  where
+    by_maker : (file : ℕ) → (old.files file ≡ true) ⊎ (is_one_of event.made file ≡ true) → old.files file ≡ true
+    by_maker file (inl there) = there
+    by_maker file (inr is) = absurd (let k : false ≡ true = ap (λ (files : List ℕ). is_one_of files file) (sym made) ∙ is in cc k)
 
 -- ---- what an event is, beside what it did
 
@@ -159,20 +167,21 @@ in_turn name uid said none = ap (λ (s : List Reply). slice_get (halves_of (requ
 
 -- The first event pins the file of the record: a step that answers the octets of the message.
 pub did_pin : (around after : Around) (run : Run) (lane place : ℕ) (said : List Reply) (name : List ℕ) (uid : Uid) (lists : Lists) (old : Seen) (history : Option History) (faults : Faults) (pins : ℕ → ℕ) (entry : MapRecord) (octets : List ℕ) → HasComeTo run old → ShowsSeen old lists → HasNotBegun run place said
-    → old.stopped ≡ false → IsIdle old.history history → NoChangeFault old.faults faults → IsRecord run lists name uid.0 entry → ((event : RunEvent) → PartAnswers run event lists (request.Fetch name uid) First (reply.Fetched octets) lists)
+    → old.stopped ≡ false → IsIdle old.history history → NoChangeFault old.faults faults → NoFault old.faults faults → IsRecord run lists name uid.0 entry → ((event : RunEvent) → PartAnswers run event lists (request.Fetch name uid) First (reply.Fetched octets) lists)
     → (old.stopped ≡ false → (file : ℕ) → pins_of (and_then run (pin_event lane place entry.file (pieces_to_read entry) entry.instances (told_calls history))) file ≡ pins file)
     → DidSo around after run lane place said (request.Fetch name uid) lists old (behind_reading old history faults pins) (did.Step half.Whole) None (pin_event lane place entry.file (pieces_to_read entry) entry.instances (told_calls history)) (Some (reply.Fetched octets))
 unfolding pin_makes
-did_pin around after run lane place said name uid lists old history faults pins entry octets come shows stage runs idle none is_record answers pinned = record {
+did_pin around after run lane place said name uid lists old history faults pins entry octets come shows stage runs idle none quiet is_record answers pinned = record {
   so = record {
     left = lists;
     shown = shows;
     makes = pin_makes around after run lane place name uid lists old.map old.drawn (told_calls old.history) (told_calls history) entry octets come.come (idle_grows old.history history idle) stage.0 is_record answers;
     found = tt;
-    come = comes_with_pins run event old history faults pins come (comes_on run event old.map old.drawn (told_calls old.history) come.come (idle_grows old.history history idle) refl refl) (λ other. refl) refl refl refl refl refl pinned;
+    come = comes_with_pins run event old history faults pins come (comes_on run event old.map old.drawn (told_calls old.history) come.come (idle_grows old.history history idle) refl refl) (λ other. refl) refl refl refl refl refl refl pinned;
     gives = no_guids run event refl;
     went = (refl, refl, runs, idle_leads lists old history faults pins idle);
     grows = idle_grows old.history history idle;
+    mail = kept_idle old.map old.history history idle;
     ends = record {
       in_turn = λ some. in_turn name uid said stage.1;
       replied = λ given e. absurd (no_reply given e);
@@ -180,6 +189,7 @@ did_pin around after run lane place said name uid lists old history faults pins 
       still = λ e. absurd (fall old.stopped e runs);
       reads = λ e. absurd (no_refusal refusal.ReadFault e);
       faults = record { reads = none.reads; changes = let same = none.changes in omega (arith, same); rose = λ x. absurd x };
+      unfailed = λ differs faulty. quiet;
     };
   };
   event_is = refl;
@@ -269,10 +279,11 @@ did_refuse around after run lane place said name uid lists seen why come shows s
   shown = shows;
   makes = refuse_makes around after run lane place name uid lists seen.map seen.drawn (told_calls seen.history) why come.come stage.0 step (answers event);
   found = tt;
-  come = comes_to_still run event seen come (comes_on run event seen.map seen.drawn (told_calls seen.history) come.come (omega arith) refl refl) (λ other. refl) (record { pins = refl; unpins = refl; doomed = refl; removed = refl; given = refl; placed = refl; gone = refl });
+  come = comes_to_still run event seen come (comes_on run event seen.map seen.drawn (told_calls seen.history) come.come (omega arith) refl refl) (λ other. refl) (record { made = refl; pins = refl; unpins = refl; doomed = refl; removed = refl; given = refl; placed = refl; gone = refl });
   gives = no_guids run event refl;
   went = (refl, refl, runs, nothing lists seen);
   grows = omega arith;
+  mail = mail_still seen.map seen.history;
   ends = record {
     in_turn = λ some. in_turn name uid said stage.1;
     replied = first_reply (request.Fetch name uid) said (Some (reply.Refused why)) (reply.Refused why) stage.1 is;
@@ -280,6 +291,7 @@ did_refuse around after run lane place said name uid lists seen why come shows s
     still = λ e. refl;
     reads = λ e. absurd (steps_apart why refusal.ReadFault step refl (one_refusal why refusal.ReadFault e));
     faults = still_faults (IsFault (did.Step half.Whole)) seen.faults (λ x. x);
+    unfailed = λ differs faulty. refl;
   };
 }
   where
@@ -296,10 +308,11 @@ did_nothing around after run lane place said name uid lists seen why come shows 
   shown = shows;
   makes = unmade_makes around after run lane place name uid lists seen.map seen.drawn (told_calls seen.history) why come.come stage.0 none may;
   found = tt;
-  come = comes_to_still run event seen come (comes_on run event seen.map seen.drawn (told_calls seen.history) come.come (omega arith) refl refl) (λ other. refl) (record { pins = refl; unpins = refl; doomed = refl; removed = refl; given = refl; placed = refl; gone = refl });
+  come = comes_to_still run event seen come (comes_on run event seen.map seen.drawn (told_calls seen.history) come.come (omega arith) refl refl) (λ other. refl) (record { made = refl; pins = refl; unpins = refl; doomed = refl; removed = refl; given = refl; placed = refl; gone = refl });
   gives = no_guids run event refl;
   went = (refl, refl, nothing lists seen);
   grows = omega arith;
+  mail = mail_still seen.map seen.history;
   ends = record {
     in_turn = λ some. absurd (let k : false ≡ true = some in cc k);
     replied = first_reply (request.Fetch name uid) said None (reply.Refused why) stage.1 is;
@@ -307,6 +320,7 @@ did_nothing around after run lane place said name uid lists seen why come shows 
     still = λ e. refl;
     reads = λ e. absurd (let k : false ≡ true = subst (λ (r : Refusal). MayMeet First (request.Fetch name uid) r) (one_refusal why refusal.ReadFault e) may in cc k);
     faults = still_faults (IsFault did.Quiet) seen.faults (λ x. x);
+    unfailed = λ differs faulty. refl;
   };
 }
   where
@@ -376,23 +390,24 @@ late_makes around after run lane place name uid lists m drawn before calls part 
 
 -- An event behind the first one: no step.
 pub did_late : (around after : Around) (run : Run) (lane place : ℕ) (said : List Reply) (name : List ℕ) (uid : Uid) (lists : Lists) (old : Seen) (history : Option History) (faults : Faults) (pins : ℕ → ℕ) (part : EventPart) (refused : Option Refusal) (ended : Option Reply) → IsLatePart name uid part
-    → HasComeTo run old → ShowsSeen old lists → IsIdle old.history history → NoChangeFault old.faults faults → next_part around run (request.Fetch name uid) (own_events place run) ≡ Some part → IsLateRefusal refused → IfSome refused (MayMeet part (request.Fetch name uid))
+    → HasComeTo run old → ShowsSeen old lists → IsIdle old.history history → NoChangeFault old.faults faults → (refused ≢ Some refusal.ReadFault → NoFault old.faults faults) → next_part around run (request.Fetch name uid) (own_events place run) ≡ Some part → IsLateRefusal refused → IfSome refused (MayMeet part (request.Fetch name uid))
     → ((ended ≢ None) ↔ (behind_event after (and_then run (fetch_event part lane place refused ended (told_calls history))) (request.Fetch name uid) (fetch_event part lane place refused ended (told_calls history)) refused ≡ None))
     → IsRepliedBy (own_events place run ++ fetch_event part lane place refused ended (told_calls history) ∷ []) ended
     → ((given : Reply) → ended ≡ Some given → IsReplyOf (request.Fetch name uid) said given) → ((ended ≡ Some (reply.Refused refusal.Stopped)) ↔ (old.stopped ≡ true)) → (old.stopped ≡ true → behind_reading old history faults pins ≡ old)
     → (refused ≡ Some refusal.ReadFault → Rose old.faults.reads faults.reads) → (old.stopped ≡ false → (file : ℕ) → pins_of (and_then run (fetch_event part lane place refused ended (told_calls history))) file ≡ pins file)
     → DidSo around after run lane place said (request.Fetch name uid) lists old (behind_reading old history faults pins) did.Quiet ended (fetch_event part lane place refused ended (told_calls history)) None
 unfolding late_makes
-did_late around after run lane place said name uid lists old history faults pins part refused ended late come shows idle none next unstep may ends replied given halts still reads pinned = record {
+did_late around after run lane place said name uid lists old history faults pins part refused ended late come shows idle none quiet next unstep may ends replied given halts still reads pinned = record {
   so = record {
     left = lists;
     shown = shows;
     makes = late_makes around after run lane place name uid lists old.map old.drawn (told_calls old.history) (told_calls history) part refused ended late come.come (idle_grows old.history history idle) next unstep may ends replied;
     found = tt;
-    come = comes_with_pins run event old history faults pins come (comes_on run event old.map old.drawn (told_calls old.history) come.come (idle_grows old.history history idle) refl refl) (λ other. refl) refl refl refl refl refl pinned;
+    come = comes_with_pins run event old history faults pins come (comes_on run event old.map old.drawn (told_calls old.history) come.come (idle_grows old.history history idle) refl refl) (λ other. refl) refl refl refl refl refl refl pinned;
     gives = no_guids run event refl;
     went = (refl, refl, idle_leads lists old history faults pins idle);
     grows = idle_grows old.history history idle;
+    mail = kept_idle old.map old.history history idle;
     ends = record {
       in_turn = λ some. absurd (let k : false ≡ true = some in cc k);
       replied = given;
@@ -400,6 +415,7 @@ did_late around after run lane place said name uid lists old history faults pins
       still = λ e. ap (λ (s : Seen). record s { pins = pins }) (still e);
       reads = reads;
       faults = record { reads = none.reads; changes = let same = none.changes in omega (arith, same); rose = λ x. absurd x };
+      unfailed = λ differs faulty. quiet differs;
     };
   };
   event_is = refl;

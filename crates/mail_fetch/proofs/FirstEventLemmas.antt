@@ -20,10 +20,10 @@ use Rattle.store_core.specs.StoreInstances.{HasKnownInstances, IsKnownRow}
 use Rattle.store_core.specs.Value.{StoreValue, list_named}
 use Rattle.mail_fetch.specs.Events.{fetch_refusal, IsAbsent, IsPinned}
 use Rattle.mail_fetch.specs.Region.{RegionValue, stored_at, unread}
-use Rattle.mail_fetch.specs.Task.{HasPieceLeft, events_left}
+use Rattle.mail_fetch.specs.Task.{HasPieceLeft}
 use Rattle.mail_fetch.specs.declared.task.FetchStage.TheVariants as stage
 use Rattle.mail_fetch.specs.declared.parts.StoredAt.{StoredAt}
-use Rattle.mail_fetch.proofs.InstanceLemmas.{named_each, pieces_most}
+use Rattle.mail_fetch.proofs.InstanceLemmas.{named_each}
 use Rattle.mail_fetch.proofs.PartLemmas.{octets_of_parts, pieces_of_parts, some_piece}
 use Rattle.mail_fetch.proofs.RecordLemmas.{row_has_record}
 use Rattle.mail_fetch.proofs.StepLemmas.{store_is_sound}
@@ -61,12 +61,6 @@ pub pinned_region : {D : Type 0} → (store : StoreValue D) (name : List ℕ) (u
 pinned_region store name uid region (row, entry, stored, is) =
     subst (λ (r : RegionValue). list_any (λ row. row.file == r.from.file.0) store.map.records ≡ true) (sym is)
     (found_any (λ (r : MapRecord). r.uid == row.map_uid) (λ (r : MapRecord). r.file == entry.file) store.map.records entry stored.stored (eq-eqb entry.file entry.file refl))
-
--- Fewer events are left.
-pub pinned_fewer : {D : Type 0} → (store : StoreValue D) (name : List ℕ) (uid : ℕ) (region : RegionValue) → IsPinned name uid store region → events_left store.map (stage.Reading region) < events_left store.map stage.First
-pinned_fewer store name uid region (row, entry, stored, is) =
-    let most = pieces_most store.map row.map_uid row entry stored.stored in
-    subst (λ (r : RegionValue). events_left store.map (stage.Reading r) < events_left store.map stage.First) (sym is) (omega (arith, most))
 
 -- ---- what the map tells of a record
 

@@ -1,21 +1,22 @@
 -- Instances that are held, one after another.
-use Rattle.std.specs.Prelude.{IsSome}
+use Rattle.std.specs.Prelude.{IsSome, ◌&&◌, filter, map}
 use Rattle.std.specs.Option.{option_map}
 use Rattle.std.specs.Str.{bytes_eq}
-use Rattle.std.proofs.Common.{◌≡◌, ◌<◌, ◌≤◌, ◌+◌, ◌-◌, ℕ, Bool, cond, List, [], ◌∷◌, length, drop, get_or, Option, Some, None, All, refl, sym, ◌∙◌, ap, subst, arith}
+use Rattle.std.proofs.Common.{◌≡◌, ◌<◌, ◌≤◌, ◌+◌, ◌-◌, ℕ, Bool, true, false, cond, List, [], ◌∷◌, length, drop, get_or, Option, Some, None, All, refl, sym, ◌∙◌, ap, subst, arith}
 use Rattle.std.proofs.Math.ListN.{drop_of_length-le}
-use Rattle.std.proofs.lemmas.List.{drop_more}
+use Rattle.std.proofs.lemmas.List.{drop_more, length-map}
 use Rattle.std.proofs.lemmas.List.Sums.{count_by-le-length, sum_by-cons}
 use Rattle.mdbox_base.specs.declared.entries.InstRow.{InstRow}
 use Rattle.mdbox_base.specs.declared.ids.InstId.{InstId}
 use Rattle.model_octets.proofs.SearchLemmas.{text_yes}
 use Rattle.save_instances.specs.Attaching.{found_let_go}
-use Rattle.sis_store.specs.Instances.{IsInstanceKnown, holders_in, instance_in, with_holders}
+use Rattle.sis_store.specs.Instances.{InstancesValue, IsInstanceKnown, has_id, holders_in, instance_in, is_id_past, is_of_kind, with_holders}
 use Rattle.sis_store.specs.declared.instance.KnownInstance.{KnownInstance}
 use Rattle.store_core.specs.Keeping.{MovesHolds, holds_of}
 use Rattle.store_core.specs.StoreInstances.{IsKnownRow}
 use Rattle.store_core.specs.Value.{StoreValue}
 use Rattle.store_core.proofs.KnownInstanceLemmas.{row_held}
+use Rattle.task_claims.specs.Leaving.{PlacesFew}
 use Rattle.mail_fetch.specs.Claims.{held_for}
 
 -- the instance of a known row
@@ -85,3 +86,47 @@ rows_held (row ∷ rows) id known = rows_held rows id (hold_one row known) ∙ r
 pub rows_let_go : (rows : List InstRow) (id : InstId) (known : List KnownInstance) → option_map (λ k. k.row) (instance_in id (found_let_go rows known)) ≡ option_map (λ k. k.row) (instance_in id known)
 rows_let_go [] id known = refl
 rows_let_go (row ∷ rows) id known = rows_let_go rows id (with_holders row.id (holders_in row.id known - 1) known) ∙ row_held row.id id (holders_in row.id known - 1) known
+
+-- ---- the instances stay the same
+
+same_rows : (id : InstId) (holders : ℕ) (known : List KnownInstance) → map (λ k. k.row) (with_holders id holders known) ≡ map (λ k. k.row) known
+same_rows id holders [] = refl
+same_rows id holders (k ∷ ks) = by_test (has_id id k) (same_rows id holders ks)
+  where
+    by_test : (t : Bool) → map (λ k. k.row) (with_holders id holders ks) ≡ map (λ k. k.row) ks → map (λ k. k.row) (cond t (record k { holders = holders }) k ∷ with_holders id holders ks) ≡ map (λ k. k.row) (k ∷ ks)
+    by_test true rest = ap (λ (rows : List InstRow). k.row ∷ rows) rest
+    by_test false rest = ap (λ (rows : List InstRow). k.row ∷ rows) rest
+
+pub held_rows : (rows : List InstRow) (known : List KnownInstance) → map (λ k. k.row) (held_for rows known) ≡ map (λ k. k.row) known
+held_rows [] known = refl
+held_rows (row ∷ rows) known = held_rows rows (with_holders row.id (holders_in row.id known + 1) known) ∙ same_rows row.id (holders_in row.id known + 1) known
+
+pub let_go_rows : (rows : List InstRow) (known : List KnownInstance) → map (λ k. k.row) (found_let_go rows known) ≡ map (λ k. k.row) known
+let_go_rows [] known = refl
+let_go_rows (row ∷ rows) known = let_go_rows rows (with_holders row.id (holders_in row.id known - 1) known) ∙ same_rows row.id (holders_in row.id known - 1) known
+
+rows_passed : (p : InstRow → Bool) (known : List KnownInstance) → length (filter (λ k. p k.row) known) ≡ length (filter p (map (λ k. k.row) known))
+rows_passed p [] = refl
+rows_passed p (k ∷ ks) = by_test (p k.row) (rows_passed p ks)
+  where
+    by_test : (t : Bool) → length (filter (λ (i : KnownInstance). p i.row) ks) ≡ length (filter p (map (λ (i : KnownInstance). i.row) ks)) → length (cond t (k ∷ filter (λ (i : KnownInstance). p i.row) ks) (filter (λ (i : KnownInstance). p i.row) ks)) ≡ length (cond t (k.row ∷ filter p (map (λ (i : KnownInstance). i.row) ks)) (filter p (map (λ (i : KnownInstance). i.row) ks)))
+    by_test true rest = let a : length (k ∷ filter (λ (i : KnownInstance). p i.row) ks) ≡ length (filter (λ (i : KnownInstance). p i.row) ks) + 1 = omega arith in let b : length (k.row ∷ filter p (map (λ (i : KnownInstance). i.row) ks)) ≡ length (filter p (map (λ (i : KnownInstance). i.row) ks)) + 1 = omega arith in a ∙ (ap (λ (n : ℕ). n + 1) rest ∙ sym b)
+    by_test false rest = rest
+
+-- No instance was placed, so whatever task counts on them has no more to do.
+pub none_placed : (old : InstancesValue) (known : List KnownInstance) → map (λ k. k.row) known ≡ map (λ k. k.row) old.known → PlacesFew old (record old { known = known })
+none_placed old known same = record {
+  drawn = omega arith;
+  few =
+      let a = length-map known (λ (k : KnownInstance). k.row) in
+      let b = length-map old.known (λ (k : KnownInstance). k.row) in
+      let c = ap (λ (rows : List InstRow). length rows) same in
+      omega (arith, a, b, c);
+  candidates = λ still hash size after.
+      let p : InstRow → Bool = λ row. is_of_kind hash size row && is_id_past after row.id in
+      let a = rows_passed p known in
+      let b = rows_passed p old.known in
+      let c = ap (λ (rows : List InstRow). length (filter p rows)) same in
+      omega (arith, a, b, c);
+  last = λ differs. absurd (differs refl);
+}

@@ -11,7 +11,6 @@ use Rattle.sis_store.specs.declared.instance.KnownInstance.{KnownInstance}
 use Rattle.store_core.specs.StoreInstances.{IsKnownRow}
 use Rattle.mail_fetch.specs.Parts.{KnowsSource, has_octets, instance_part, parts_to_read, pieces_left, region_part}
 use Rattle.mail_fetch.specs.Region.{stored_at}
-use Rattle.mail_fetch.specs.Task.{all_pieces}
 use Rattle.mail_fetch.specs.declared.parts.Part.{Part}
 use Rattle.mail_fetch.proofs.PartLemmas.{pieces_of_parts}
 
@@ -37,20 +36,9 @@ named_each P m uid entry found h = named_in P uid m.records entry found h
 
 -- ---- what is read of them
 
-pieces_among : (uid : ℕ) (records : List MapRecord) (entry : MapRecord) → find (λ row. row.uid == uid) records ≡ Some entry → pieces_to_read entry ≤ sum_by pieces_to_read records
-pieces_among uid [] entry e = absurd (let k : None ≡ Some entry = e in cc k)
-pieces_among uid (r ∷ rs) entry e = by_test (r.uid == uid) e (λ k. pieces_among uid rs entry k)
-  where
-    by_test : (t : Bool) → cond t (Some r) (find (λ (row : MapRecord). row.uid == uid) rs) ≡ Some entry → (find (λ (row : MapRecord). row.uid == uid) rs ≡ Some entry → pieces_to_read entry ≤ sum_by pieces_to_read rs) → pieces_to_read entry ≤ sum_by pieces_to_read (r ∷ rs)
-    by_test true k rest = let same : pieces_to_read r ≡ pieces_to_read entry = (let w : r ≡ entry = cc k in ap pieces_to_read w) in let s = sum_by-cons pieces_to_read r rs in omega (arith, same, s)
-    by_test false k rest = let h = rest k in let s = sum_by-cons pieces_to_read r rs in omega (arith, h, s)
-
 -- as many pieces as the journal tells
 pub pieces_told : (row : LogRow) (entry : MapRecord) → pieces_left (parts_to_read (stored_at row entry)) ≡ pieces_to_read entry
 pieces_told row entry = pieces_of_parts (stored_at row entry)
-
-pub pieces_most : (m : MapMeaning) (uid : ℕ) (row : LogRow) (entry : MapRecord) → record_at m uid ≡ Some entry → pieces_left (parts_to_read (stored_at row entry)) ≤ all_pieces m
-pieces_most m uid row entry found = let h = pieces_among uid m.records entry found in let e = pieces_told row entry in omega (arith, h, e)
 
 kept_known : (known : List KnownInstance) (ps : List Part) → All (λ p. KnowsSource known p.source) ps → All (λ p. KnowsSource known p.source) (filter has_octets ps)
 kept_known known [] h = All-nil (λ (p : Part). KnowsSource known p.source)

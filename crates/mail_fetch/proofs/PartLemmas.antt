@@ -1,11 +1,11 @@
 -- Parts that are read piece by piece.
-use Rattle.std.proofs.Common.{◌≡◌, ◌≤◌, ◌<◌, ◌+◌, ◌-◌, ℕ, suc, Bool, true, false, cond, List, [], ◌∷◌, ◌++◌, length, take, drop, map, refl, sym, ◌∙◌, ap, subst, arith, All, add-one, append_assoc, append-nil, drop-cons}
+use Rattle.std.proofs.Common.{◌≡◌, ◌≤◌, ◌<◌, ◌+◌, ◌*◌, ◌^◌, ◌-◌, ℕ, suc, Bool, true, false, cond, List, [], ◌∷◌, ◌++◌, length, take, drop, map, refl, sym, ◌∙◌, ap, subst, arith, All, add-one, append_assoc, append-nil, drop-cons}
 use Rattle.std.specs.Prelude.{Option, Some, None, ◌⊎◌, filter, min, nat_lt, slice_index_or, sum_by, if◌then◌else◌}
 use Rattle.std.proofs.Common.{inl, inr}
 use Rattle.std.proofs.Math.Seq.{take-add}
 use Rattle.std.proofs.lemmas.Bool.{cases_lt}
 use Rattle.std.proofs.lemmas.Grind.{common_steps}
-use Rattle.std.proofs.lemmas.List.{drop-drop, take_all, length-drop}
+use Rattle.std.proofs.lemmas.List.{drop-drop, take_all, length-drop, length-map}
 use Rattle.std.proofs.lemmas.List.Elements.{All-cons, All-nil, All-head, All-tail}
 use Rattle.std.proofs.lemmas.List.Sums.{sum_by-cons}
 use Rattle.std.proofs.lemmas.Nat.{div-add-mod'}
@@ -15,6 +15,7 @@ use Rattle.sis_store.specs.declared.instance.KnownInstance.{KnownInstance}
 use Rattle.storage_files.specs.OnDisk.{piece_read}
 use Rattle.mail_fetch.specs.Parts.{HasSomeOctets, KnowsSource, first_read, has_octets, instance_part, left_after, octets_to_read, part_read, parts_to_read, parts_read, pieces_in, pieces_left, region_part, source_file}
 use Rattle.mail_fetch.specs.Room.{IsPart}
+use Rattle.mail_fetch.specs.Task.{most_pieces}
 use Rattle.mail_fetch.specs.declared.parts.Part.{Part}
 use Rattle.mail_fetch.specs.declared.parts.StoredAt.{StoredAt}
 
@@ -44,6 +45,33 @@ one_piece_less size h =
 
 last_piece_of : (size : ℕ) → 1 ≤ size → size ≤ 65536 → pieces_in size ≡ 1
 last_piece_of size some h = let e = div-add-mod' (size + 65535) 65536 in omega (arith, some, h, e)
+
+few_in : (size : ℕ) → size < 2 ^ 32 → pieces_in size ≤ 65536
+few_in size h = let e = div-add-mod' (size + 65535) 65536 in omega (arith, h, e)
+
+few_of : (parts : List Part) → All IsPart parts → pieces_left parts ≤ length parts * 65536
+few_of [] each = omega arith
+few_of (p ∷ ps) each =
+    let all : pieces_left (p ∷ ps) ≡ pieces_in p.size + pieces_left ps = sum_by-cons (λ (q : Part). pieces_in q.size) p ps in
+    let one = few_in p.size (All-head IsPart p ps each).size in
+    let rest = few_of ps (All-tail IsPart p ps each) in
+    omega (arith, all, one, rest)
+
+few_kept : (parts : List Part) → length (filter has_octets parts) ≤ length parts
+few_kept [] = omega arith
+few_kept (p ∷ ps) = by_test (has_octets p) (few_kept ps)
+  where
+    by_test : (t : Bool) → length (filter has_octets ps) ≤ length ps → length (cond t (p ∷ filter has_octets ps) (filter has_octets ps)) ≤ length (p ∷ ps)
+    by_test true rest = omega (arith, rest)
+    by_test false rest = omega (arith, rest)
+
+-- A message with at most 65,535 instances has no more pieces than a message may have.
+pub few_pieces : (from : StoredAt) → length from.instances ≤ 65535 → All IsPart (parts_to_read from) → pieces_left (parts_to_read from) ≤ most_pieces
+few_pieces from few each =
+    let kept = few_kept (region_part from ∷ map instance_part from.instances) in
+    let rows = length-map from.instances instance_part in
+    let most = few_of (parts_to_read from) each in
+    omega (arith, few, kept, rows, most)
 
 -- with the first piece read there is one less
 pub pieces_after : (parts : List Part) → All HasSomeOctets parts → 0 < pieces_left parts → pieces_left (left_after parts) + 1 ≡ pieces_left parts
@@ -81,7 +109,7 @@ pub octets_after : (parts : List Part) → All HasSomeOctets parts → All HasSo
 octets_after parts each = each_after HasSomeOctets parts (λ p more h. omega (arith, more)) each
 
 pub range_after : (parts : List Part) → All IsPart parts → All IsPart (left_after parts)
-range_after parts each = each_after IsPart parts (λ p more h. let ends = h.ends in record { some = omega (arith, more); ends = omega (arith, more, ends) }) each
+range_after parts each = each_after IsPart parts (λ p more h. let ends = h.ends in let size = h.size in record { some = omega (arith, more); size = omega (arith, size); ends = omega (arith, more, ends) }) each
 
 pub known_after : (known : List KnownInstance) (parts : List Part) → All (λ p. KnowsSource known p.source) parts → All (λ p. KnowsSource known p.source) (left_after parts)
 known_after known parts each = each_after (λ p. KnowsSource known p.source) parts (λ p more h. h) each

@@ -15,14 +15,17 @@ use Rattle.mdbox_base.specs.declared.replies.Reply.TheVariants as reply
 use Rattle.mdbox_base.specs.declared.requests.Request.TheVariants as request
 use Rattle.model_lists.specs.Lists.{ListedMessage, Mailbox, Lists, listing_row}
 use Rattle.model_meaning.specs.BoxMeaning.{LogRow, BoxMeaning, box_meaning, rows_after, row_at}
-use Rattle.model_meaning.specs.MapMeaning.{MapRecord, MapBox, MapMeaning, record_at, record_of}
+use Rattle.model_meaning.specs.MapMeaning.{MapRecord, MapBox, MapMeaning, named_instances, record_at, record_of}
 use Rattle.model_meaning.specs.Sound.{IsSoundMap}
 use Rattle.model_octets.proofs.SearchLemmas.{found_is, found_one, text_is, text_yes}
 use Rattle.model_store.specs.Listing.{listed_row, ShowLists, meaning_named}
 use Rattle.model_store.specs.Opening.{HasItsRecord}
+use Rattle.model_store.specs.Safe.{IsThereWhole}
 use Rattle.model_store.specs.Stands.{StoresMessage, IsListed, AreListed, IsMailbox, AreMailboxes}
 use Rattle.list_machine.specs.Run.{First, RunEvent, Run}
 use Rattle.list_machine.specs.Machine.{PartAnswers, mailbox_named, message_in, message_at}
+use Rattle.mail_fetch.specs.Stages.{StoresListed}
+use Rattle.mail_fetch.proofs.InstanceLemmas.{named_each}
 
 -- ---- a mailbox by its name
 
@@ -163,16 +166,19 @@ message_there files m (row ∷ rows) (y ∷ ys) uid x h e = by_test (y.uid == ui
     by_test true k rest = let same : y ≡ x = cc k in (row, subst (λ (o : ListedMessage). IsListed files m row o) same h.0)
     by_test false k rest = rest k
 
--- The record with a listed message's GUID stores its octets.
-pub stored_by : (files : Files) (m : MapMeaning) (boxes : List MapBox) (lists : Lists) (name : List ℕ) (uid : ℕ) (x : ListedMessage) (entry : MapRecord) → IsSoundMap m → AreMailboxes files m boxes lists → message_at name uid lists ≡ Some x → record_of m x.guid ≡ Some entry → StoresMessage files entry x.octets
-stored_by files m boxes lists name uid x entry s h at found = by_mailbox (mailbox_named name lists) refl at
+-- Files that stand for the lists, and have each instance that records name, store each listed message.
+pub listed_stored : (files : Files) (m : MapMeaning) (boxes : List MapBox) (lists : Lists) (name : List ℕ) (uid : ℕ) (x : ListedMessage) → IsSoundMap m → AreMailboxes files m boxes lists → All (IsThereWhole files) (named_instances m) → message_at name uid lists ≡ Some x → StoresListed m x files
+listed_stored files m boxes lists name uid x s h whole at = by_mailbox (mailbox_named name lists) refl at
   where
-    by_mailbox : (o : Option Mailbox) → mailbox_named name lists ≡ o → option_and_then (message_in uid) o ≡ Some x → StoresMessage files entry x.octets
+    by_mailbox : (o : Option Mailbox) → mailbox_named name lists ≡ o → option_and_then (message_in uid) o ≡ Some x → StoresListed m x files
     by_mailbox None e k = absurd (cc (let w : None ≡ Some x = k in w))
     by_mailbox (Some mailbox) e k =
         let box = mailbox_there files m boxes lists name mailbox h e in
         let listed = message_there files m (rows_after box.1.entries) mailbox.messages uid x box.1.messages k in
         let l = listed.1 in
-        let again = by_guid m listed.0.map_uid l.entry x.guid s l.found (l.same ∙ sym l.guid) in
-        let same : l.entry ≡ entry = (let w : Some l.entry ≡ Some entry = sym again ∙ found in cc w) in
-        subst (λ (r : MapRecord). StoresMessage files r x.octets) same l.octets
+        record {
+          entry = l.entry;
+          found = by_guid m listed.0.map_uid l.entry x.guid s l.found (l.same ∙ sym l.guid);
+          stores = l.octets;
+          sizes = named_each (IsThereWhole files) m listed.0.map_uid l.entry l.found whole;
+        }

@@ -7,7 +7,7 @@ use Rattle.std.proofs.lemmas.List.{length-append}
 use Rattle.std.proofs.lemmas.List.Elements.{All-cons, All-nil, All-head, All-tail}
 use Rattle.std.proofs.lemmas.List.Sums.{sum_by-cons}
 use Rattle.std.proofs.lemmas.Slice.Eq.{bytes_eq-Decides}
-use Rattle.disk_model.specs.Disk.{Faults, Files, History}
+use Rattle.disk_model.specs.Disk.{Files, History}
 use Rattle.disk_model.specs.declared.name.FileName.TheVariants.{Mail}
 use Rattle.mdbox_base.specs.declared.entries.InstRow.{InstRow}
 use Rattle.mdbox_base.specs.declared.ids.FileNo.{FileNo}
@@ -32,7 +32,7 @@ use Rattle.mail_fetch.specs.Claims.{IsClaimedPart, IsClaimedTo, IsReadyToFetch, 
 use Rattle.mail_fetch.specs.Parts.{KnowsSource, instance_part, part_read, parts_read, parts_to_read, pieces_left, region_part, source_file}
 use Rattle.mail_fetch.specs.Region.{RegionValue}
 use Rattle.mail_fetch.specs.Stages.{HasReadAllBut, IsAtFetch, IsFrontOfStored, Reading, UnpinsNext}
-use Rattle.mail_fetch.specs.Task.{one_pin, seen_in}
+use Rattle.mail_fetch.specs.Task.{one_pin}
 use Rattle.mail_fetch.specs.declared.parts.Part.{Part}
 use Rattle.mail_fetch.specs.declared.parts.Source.{Source}
 use Rattle.mail_fetch.specs.declared.parts.Source.TheVariants as source
@@ -222,12 +222,12 @@ claims_one_pin (stage.Unpinning from given) file = one_at_most (from.file.0 == f
 
 -- ---- where it stands
 
-pub stay_beside : {D : Type 0} → (now : FetchStage) (old new : StoreValue D) (before later : Option History) (began faults : Faults) (run : Run) (event : RunEvent) (place : ℕ) (said : List Reply) → event.request ≢ place → (new.stopped ≡ false → old.stopped ≡ false) → (new.stopped ≡ false → Beside (fetch_claims now) old new before later × IsReadyToFetch now old)
-    → IsAtFetch now (seen_in old before began) run place said → IsAtFetch now (seen_in new later faults) (and_then run event) place said
-stay_beside stage.First old new before later began faults run event place said other ran beside stood = (own_other place run event (ne_eqb event.request place other) ∙ stood.0, stood.1)
-stay_beside (stage.Reading region) old new before later began faults run event place said other ran beside stood = (
+pub stay_beside : {D : Type 0} → (now : FetchStage) (old new : StoreValue D) (before later : Option History) (run : Run) (event : RunEvent) (place : ℕ) (said : List Reply) → event.request ≢ place → (new.stopped ≡ false → old.stopped ≡ false) → (new.stopped ≡ false → Beside (fetch_claims now) old new before later × IsReadyToFetch now old)
+    → IsAtFetch now old.stopped before run place said → IsAtFetch now new.stopped later (and_then run event) place said
+stay_beside stage.First old new before later run event place said other ran beside stood = (own_other place run event (ne_eqb event.request place other) ∙ stood.0, stood.1)
+stay_beside (stage.Reading region) old new before later run event place said other ran beside stood = (
   subst (HasReadAllBut region.from (pieces_left region.left)) (sym (own_other place run event (ne_eqb event.request place other))) stood.0,
   (stood.1.0, stood.1.1, λ runs. let b = beside runs in reads_stay region stood.1.0 old new before later b.0 b.1 (stood.1.2 (ran runs))),
 )
-stay_beside (stage.Unpinning from given) old new before later began faults run event place said other ran beside stood =
+stay_beside (stage.Unpinning from given) old new before later run event place said other ran beside stood =
     (subst (UnpinsNext from given) (sym (own_other place run event (ne_eqb event.request place other))) stood.0, stood.1)

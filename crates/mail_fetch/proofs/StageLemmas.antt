@@ -38,7 +38,7 @@ use Rattle.mail_fetch.proofs.StepLemmas.{begin_steps, read_steps, stopped_steps,
 
 -- What a step says of a store as it was and as it is, but for how many events are left.
 pub record StepSays {D : Type 0} (H : D → Option History) (F : D → Faults) (name : List ℕ) (uid : Uid) (now next : FetchStage) (old new : StoreValue D) (how : Did) (answer : Progress) : Type 0 where
-  pub does : (around after : Around) → UnpinsUndoomed now old → FetchSteps around after name uid now next old new (H old.disk) (H new.disk) (F old.disk) (F new.disk) how (ended_by answer)
+  pub does : (around after : Around) → (old.stopped ≡ false → UnpinsUndoomed now old) → FetchSteps around after name uid now next old new (H old.disk) (H new.disk) (F old.disk) (F new.disk) how (ended_by answer)
   pub claims : new.stopped ≡ false → UnpinsUndoomed now old → MovesClaims (fetch_claims now) (fetch_claims next) old new
   pub leaves : new.stopped ≡ false → LeavesOthers (fetch_claims now) old new (H old.disk) (H new.disk)
   pub ended : (given : Reply) → answer ≡ progress.Done given → new.stopped ≡ false → ClaimsNothing (fetch_claims next)
@@ -135,7 +135,7 @@ piece_claims region next history old new thing (inl (piece, told, goes)) = by_si
 pub reading_says : {D : Type 0} → (H : D → Option History) (F : D → Faults) (name : List ℕ) (uid : Uid) (region : RegionValue) (next : FetchStage) (old new : StoreValue D) → HasPieceLeft (stage.Reading region) → old.stopped ≡ false → new ≡ record old { disk = new.disk } → IsIdle (H old.disk) (H new.disk) → NoChangeFault (F old.disk) (F new.disk)
     → ((HasFailedRead next → ⊥) → NoFault (F old.disk) (F new.disk)) → IsPieceRead region next (H old.disk) (F old.disk) (F new.disk) → IsReadyToFetch next new → StepSays H F name uid (stage.Reading region) next old new did.Quiet progress.More
 reading_says H F name uid region next old new left runs same idle fault unfailed read ready = record {
-  does = λ around after undoomed. read_steps around after name uid region old new (H old.disk) (H new.disk) (F old.disk) (F new.disk) next left runs same idle fault read;
+  does = λ around after undoomed. read_steps around after name uid region old new (H old.disk) (H new.disk) (F old.disk) (F new.disk) next left runs same idle fault unfailed read;
   claims = λ runs_now undoomed thing.
       let amount = reading_moves old new same thing in
       let mine = piece_claims region next (H old.disk) (F old.disk) (F new.disk) thing read in
@@ -162,7 +162,7 @@ unpinning_says {D = D} H F name uid from given old new runs own same claims leav
     record {
       does = λ around after undoomed.
           subst (λ (s : StoreValue D). FetchSteps around after name uid (stage.Unpinning from given) stage.First old s (H old.disk) (H s.disk) (F old.disk) (F s.disk) did.Quiet (Some given)) (sym same)
-          (unpin_steps around after name uid from given old (H old.disk) (F old.disk) runs undoomed own.claimed);
+          (unpin_steps around after name uid from given old (H old.disk) (F old.disk) runs (undoomed runs) own.claimed);
       claims = λ runs_now undoomed. claims undoomed;
       leaves = λ runs_now. leaves;
       ended = λ answer e runs_now thing. refl;
@@ -208,3 +208,7 @@ used_doomed {D = D} now next s t file e = ap (λ (v : StoreValue D). is_doomed_i
     by_stages (stage.Unpinning from given) stage.First = doomed_still from.file.0 file (pins_in from.file.0 s.files.files - 1) s.files.files
     by_stages (stage.Unpinning from given) (stage.Reading region) = refl
     by_stages (stage.Unpinning from given) (stage.Unpinning other reply) = refl
+
+-- a store that runs after an event ran before it
+pub used_runs : {D : Type 0} → (now next : FetchStage) (s t : StoreValue D) → t ≡ record (used_by now next s) { disk = t.disk } → t.stopped ≡ false → s.stopped ≡ false
+used_runs now next s t e runs = sym (ap (λ (v : StoreValue _). v.stopped) (used_only now next s t e)) ∙ runs

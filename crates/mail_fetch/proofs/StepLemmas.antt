@@ -1,11 +1,12 @@
 -- The clause of a fetch's step, event by event.
 use Rattle.std.proofs.Common.{◌≡◌, ◌≤◌, ◌<◌, ◌+◌, ◌-◌, ℕ, Bool, true, false, cond, List, [], ◌∷◌, ◌++◌, length, Option, Some, None, refl, sym, ◌∙◌, ap, subst, arith, inl, inr, length-append}
-use Rattle.std.specs.Prelude.{All, ◌⊎◌, is_some, if◌then◌else◌}
+use Rattle.std.specs.Prelude.{All, ◌⊎◌, ◌≢◌, is_some, if◌then◌else◌}
 use Rattle.std.specs.List.{list_any}
 use Rattle.std.specs.Option.{IfSome, option_map, option_map_or, option_or}
 use Rattle.std.proofs.lemmas.List.Elements.{All-nil, All-push}
 use Rattle.std.proofs.lemmas.Bool.{eq-eqb, ne_eqb, cases_lt}
 use Rattle.disk_model.specs.Disk.{DiskState, History, Faults, Files, IfTold, IsIdle, told_calls}
+use Rattle.disk_model.specs.FaultCounts.{NoFault}
 use Rattle.disk_model.proofs.IdleLemmas.{idle-begins}
 use Rattle.mdbox_base.specs.Streams.{Rose}
 use Rattle.mdbox_base.specs.declared.entries.InstRow.{InstRow}
@@ -30,7 +31,7 @@ use Rattle.model_meaning.proofs.MapSoundLemmas.{map_sound}
 use Rattle.model_store.specs.Listing.{ShowLists}
 use Rattle.model_store.specs.Safe.{IsThereWhole}
 use Rattle.model_store.specs.Settled.{files_of}
-use Rattle.model_store.specs.Stands.{AreMailboxes}
+use Rattle.model_store.specs.Stands.{AreMailboxes, StoresMessage}
 use Rattle.model_store.proofs.StandsLemmas.{map_same}
 use Rattle.list_machine.specs.Run.{First, ReadsPiece, Unpins, RemovesFile, Pin, RunEvent, Run, and_then, own_events, is_unpinning, has_unpinned}
 use Rattle.list_machine.specs.Machine.{PartAnswers, is_step}
@@ -46,23 +47,24 @@ use Rattle.task_steps.specs.Step.{DidEvent, Seen, ShowsSeen, HasComeTo, IsKept, 
 use Rattle.task_steps.proofs.SeenLemmas.{pins_still, doomed_still, not_begun_stays}
 use Rattle.task_steps.proofs.OneEventLemmas.{when_stopped, memory_is, some_given, never_more}
 use Rattle.mail_fetch.specs.Claims.{claims_of_pinned, held_for, used_by, with_claims, without_claims}
-use Rattle.mail_fetch.specs.Clause.{FetchSteps, ReadsSafe}
+use Rattle.mail_fetch.specs.Clause.{CanFetch, FetchSteps, ReadsSafe}
 use Rattle.mail_fetch.specs.Events.{fetch_refusal, IsAbsent, IsBegun, IsStoredBy, IsPinned, IsPieceRead, next_piece, with_piece, NoChangeFault}
+use Rattle.mail_fetch.specs.Failed.{HasFailedRead}
 use Rattle.mail_fetch.specs.Parts.{left_after, parts_to_read, pieces_left}
 use Rattle.mail_fetch.specs.Region.{stored_at, RegionValue, unread, IsReplyFor}
-use Rattle.mail_fetch.specs.Stages.{ReadPiece, HasPinned, HasReadAllBut, IsPieceRefusal, UnpinsNext, IsFrontOfStored, Reading, IsTrueReply, IsAtFetch}
+use Rattle.mail_fetch.specs.Stages.{ReadPiece, HasPinned, HasReadAllBut, IsPieceRefusal, StoresListed, UnpinsNext, IsFrontOfStored, Reading, IsTrueReply, IsAtFetch}
 use Rattle.mail_fetch.specs.Task.{HasPieceLeft, fetch_did, pins_kept_in, refusing_did, one_pin, seen_in}
 use Rattle.mail_fetch.specs.declared.parts.StoredAt.{StoredAt}
 use Rattle.mail_fetch.specs.declared.task.FetchStage.{FetchStage}
 use Rattle.mail_fetch.specs.declared.task.FetchStage.TheVariants as stage
-use Rattle.mail_fetch.proofs.InstanceLemmas.{named_each, pieces_told}
+use Rattle.mail_fetch.proofs.InstanceLemmas.{pieces_told}
 use Rattle.mail_fetch.proofs.OwnPinLemmas.{pins_begin, pins_end}
 use Rattle.mail_fetch.proofs.PartLemmas.{pieces_after}
 use Rattle.mail_fetch.proofs.FetchPartLemmas.{last_with, next_reads, next_unpins, unpins_by, holds_pin, own_files, none_doomed}
 use Rattle.mail_fetch.proofs.HoldLemmas.{rows_held, rows_let_go}
 use Rattle.mail_fetch.proofs.UseLemmas.{one_end, own_pinned, pins_fewer, pins_more, use_seen}
 use Rattle.mail_fetch.proofs.FetchEventLemmas.{behind_reading, DidSo, stands_so, did_refuse, did_nothing, pin_event, did_pin, fetch_event, IsLateRefusal, piece_is_late, unpin_is_late, did_late}
-use Rattle.mail_fetch.proofs.RecordLemmas.{shown_by, no_mailbox, no_message, is_fetched, by_guid, stored_by}
+use Rattle.mail_fetch.proofs.RecordLemmas.{IsShown, shown_by, no_mailbox, no_message, is_fetched, by_guid, listed_stored}
 use Rattle.mail_fetch.proofs.StoredRegionLemmas.{front_more, true_reply}
 
 fall : (b : Bool) → b ≡ true → b ≡ false → ⊥
@@ -105,7 +107,7 @@ stopped_steps around after name uid stage.First store history faults left stoppe
 )
 stopped_steps around after name uid (stage.Reading region) store history faults left stopped = λ run lane place said lists come shows safe stood.
     let seen = seen_in store history faults in (
-      (did_late around after run lane place said name uid lists seen history faults seen.pins ReadsPiece (Some refusal.Stopped) (Some (reply.Refused refusal.Stopped)) (piece_is_late name uid) come shows (idle-begins history) (record { reads = omega arith; changes = refl })
+      (did_late around after run lane place said name uid lists seen history faults seen.pins ReadsPiece (Some refusal.Stopped) (Some (reply.Refused refusal.Stopped)) (piece_is_late name uid) come shows (idle-begins history) (record { reads = omega arith; changes = refl }) (λ differs. refl)
           (next_reads around name uid run place (pieces_left region.left) region.from stood.0 left.0) (refl, λ e. absurd (let k : refusal.Stopped ≡ refusal.NoMemory = e in cc k)) tt
           (record { 0 = λ e. refl; 1 = λ e f. some_given (reply.Refused refusal.Stopped) f })
           (last_with (own_events place run) (fetch_event ReadsPiece lane place (Some refusal.Stopped) (Some (reply.Refused refusal.Stopped)) (told_calls history)))
@@ -115,7 +117,7 @@ stopped_steps around after name uid (stage.Reading region) store history faults 
     )
 stopped_steps around after name uid (stage.Unpinning from given) store history faults left stopped = λ run lane place said lists come shows safe stood.
     let seen = seen_in store history faults in (
-      (did_late around after run lane place said name uid lists seen history faults seen.pins Unpins (Some refusal.Stopped) (Some (reply.Refused refusal.Stopped)) (unpin_is_late name uid) come shows (idle-begins history) (record { reads = omega arith; changes = refl })
+      (did_late around after run lane place said name uid lists seen history faults seen.pins Unpins (Some refusal.Stopped) (Some (reply.Refused refusal.Stopped)) (unpin_is_late name uid) come shows (idle-begins history) (record { reads = omega arith; changes = refl }) (λ differs. refl)
           (next_unpins around name uid run place from given stood.0) (refl, λ e. absurd (let k : refusal.Stopped ≡ refusal.NoMemory = e in cc k)) tt
           (record { 0 = λ e. refl; 1 = λ e f. some_given (reply.Refused refusal.Stopped) f })
           (last_with (own_events place run) (fetch_event Unpins lane place (Some refusal.Stopped) (Some (reply.Refused refusal.Stopped)) (told_calls history)))
@@ -174,11 +176,12 @@ first_pinned around after name uid store history faults row entry end is runs st
     let guid : row.guid ≡ shown.message.guid = ap (λ (r : ListRow). r.guid.0) shown.same in
     let found : record_of store.map shown.message.guid ≡ Some entry = by_guid store.map row.map_uid entry shown.message.guid (store_is_sound history store is) stored.stored (stored.same ∙ guid) in
     let event = pin_event lane place entry.file (pieces_to_read entry) entry.instances (told_calls history) in
+    let one_record : (other : MapRecord) → record_of store.map shown.message.guid ≡ Some other → other ≡ entry = λ other there. (let k : Some other ≡ Some entry = sym there ∙ found in cc k) in
     let unpinned : has_unpinned place run ≡ false = ap (λ (es : List RunEvent). list_any is_unpinning es) stood.0 in
-    subst (λ (s : Seen). (d : DidEvent around after run lane place said (request.Fetch name uid) lists seen s (did.Step half.Whole) None) × (◌≡◌ {A = Option Reply} None None → IsAtFetch (stage.Reading (unread from)) s (and_then run d.makes.event) place (and_told said d.makes.answer))) (sym new_is)
+    subst (λ (s : Seen). (d : DidEvent around after run lane place said (request.Fetch name uid) lists seen s (did.Step half.Whole) None) × (◌≡◌ {A = Option Reply} None None → IsAtFetch (stage.Reading (unread from)) s.stopped s.history (and_then run d.makes.event) place (and_told said d.makes.answer))) (sym new_is)
     (stands_so around after run lane place said (request.Fetch name uid) lists seen new (did.Step half.Whole) None event (Some (reply.Fetched shown.message.octets))
-    (IsAtFetch (stage.Reading (unread from)) new)
-    (did_pin around after run lane place said name uid lists seen history faults pins entry shown.message.octets come shows stood runs (idle-begins history) (record { reads = omega arith; changes = refl })
+    (IsAtFetch (stage.Reading (unread from)) new.stopped new.history)
+    (did_pin around after run lane place said name uid lists seen history faults pins entry shown.message.octets come shows stood runs (idle-begins history) (record { reads = omega arith; changes = refl }) refl
     (shown.message, shown.there, ap (λ (m : MapMeaning). record_of m shown.message.guid) come.come.map_is ∙ found)
     (λ e. is_fetched run e store.map.boxes (indexes_of store.boxes) lists name uid stored.mailbox row shows.1 stored.named shown)
     (λ ran file.
@@ -202,30 +205,39 @@ first_pinned around after name uid store history faults row entry end is runs st
       (
         shown.message.octets,
         ap (λ (s : List Reply). s ++ reply.Fetched shown.message.octets ∷ []) stood.1,
-        λ runs_now. reading_as (HaveMessages store.map lists) (IsFrontOfStored (unread (stored_at row entry)) shown.message.octets) history (λ files there. record {
+        λ runs_now. reading_as (StoresListed store.map shown.message) (IsFrontOfStored (unread (stored_at row entry)) shown.message.octets) history (λ files there. record {
           row = row;
           entry = entry;
           from = refl;
           listed = sym (ap (λ (r : ListRow). r.size) shown.same);
-          stores = stored_by files store.map store.map.boxes lists name uid.0 shown.message entry (store_is_sound history store is) there.boxes shown.there found;
-          sizes = named_each (IsThereWhole files) store.map row.map_uid entry stored.stored there.instances;
+          stores = subst (λ (r : MapRecord). StoresMessage files r shown.message.octets) (one_record there.entry there.found) there.stores;
+          sizes = subst (λ (r : MapRecord). All (IsThereWhole files) r.instances) (one_record there.entry there.found) there.sizes;
           front = refl;
-        }) (boxes_safe history store lists is runs (safe runs)),
+        }) (safe runs shown.message shown.there),
       ),
     )))
 
--- where the files are safe, the message's file is there
-pub absent_unsafe : {D : Type 0} → (name : List ℕ) (uid : Uid) (store : StoreValue D) (history : Option History) (lists : Lists) (why : Refusal) → IsStore history store → store.stopped ≡ false → IsAbsent name uid.0 store why → ShowLists store.map.boxes (indexes_of store.boxes) lists → ReadsSafe lists history → ⊥
-absent_unsafe name uid store None lists why is runs absent shows safe = safe
-absent_unsafe name uid store (Some h) lists why is runs (row, entry, stored, none, why_is) shows safe =
-    let there = boxes_safe (Some h) store lists is runs safe in
-    let shown = shown_by store.map.boxes (indexes_of store.boxes) lists name uid.0 stored.mailbox row shows stored.named stored.listed in
-    let guid : row.guid ≡ shown.message.guid = ap (λ (r : ListRow). r.guid.0) shown.same in
-    let found : record_of store.map shown.message.guid ≡ Some entry = by_guid store.map row.map_uid entry shown.message.guid (store_is_sound (Some h) store is) stored.stored (stored.same ∙ guid) in
-    let stores = stored_by (files_of h.now) store.map store.map.boxes lists name uid.0 shown.message entry (store_is_sound (Some h) store is) there.boxes shown.there found in
-    let known = (is.running runs).files_known entry.file in
-    let k : Some (length stores.stored.octets_there) ≡ None = ap (option_map length) (sym stores.stored.there) ∙ (known ∙ none) in
-    cc k
+-- where the files store the message, its file is there
+pub absent_unstored : {D : Type 0} → (name : List ℕ) (uid : Uid) (store : StoreValue D) (history : Option History) (lists : Lists) (why : Refusal) → IsStore history store → store.stopped ≡ false → IsAbsent name uid.0 store why → ShowLists store.map.boxes (indexes_of store.boxes) lists → CanFetch stage.First name uid lists store.map history → ⊥
+absent_unstored name uid store history lists why is runs (row, entry, stored, none, why_is) shows can = by_disk history is (can shown.message shown.there)
+  where
+    shown : IsShown name uid.0 lists row
+    shown = shown_by store.map.boxes (indexes_of store.boxes) lists name uid.0 stored.mailbox row shows stored.named stored.listed
+
+    guid : row.guid ≡ shown.message.guid
+    guid = ap (λ (r : ListRow). r.guid.0) shown.same
+
+    found : record_of store.map shown.message.guid ≡ Some entry
+    found = by_guid store.map row.map_uid entry shown.message.guid (store_is_sound history store is) stored.stored (stored.same ∙ guid)
+
+    by_disk : (told : Option History) → IsStore told store → Reading (StoresListed store.map shown.message) told → ⊥
+    by_disk None kept there = there
+    by_disk (Some h) kept there =
+        let same : there.entry ≡ entry = (let k : Some there.entry ≡ Some entry = sym there.found ∙ found in cc k) in
+        let stores = subst (λ (r : MapRecord). StoresMessage (files_of h.now) r shown.message.octets) same there.stores in
+        let known = (kept.running runs).files_known entry.file in
+        let k : Some (length stores.stored.octets_there) ≡ None = ap (option_map length) (sym stores.stored.there) ∙ (known ∙ none) in
+        cc k
 
 -- The first event of a store that isn't stopped.
 pub begin_steps : {D : Type 0} → (around after : Around) (name : List ℕ) (uid : Uid) (store : StoreValue D) (history : Option History) (faults : Faults) (next : FetchStage) (answer : Progress) (how : Did) → IsStore history store → store.stopped ≡ false → IsBegun name uid.0 store next answer
@@ -249,7 +261,7 @@ begin_steps around after name uid store history faults next answer how is runs b
         by_cause : (why : Refusal) → (answer ≡ progress.Done (reply.Refused why)) × (next ≡ stage.First) → (why ≡ refusal.NoMemory) ⊎ IsAbsent name uid.0 store why → FirstClause around after name uid store history faults next answer how
         by_cause why is_so (inl none) =
             done refusal.NoMemory (is_so.0 ∙ ap (λ (r : Refusal). progress.Done (reply.Refused r)) none, is_so.1) (first_memory around after name uid store history faults runs)
-        by_cause why is_so (inr absent) = λ run lane place said lists come shows safe stood. absurd (absent_unsafe name uid store history lists why is runs absent shows.1 (safe runs))
+        by_cause why is_so (inr absent) = λ run lane place said lists come shows safe stood. absurd (absent_unstored name uid store history lists why is runs absent shows.1 (safe runs))
 
         by_case : ((answer ≡ progress.More) × ((region : RegionValue) × IsPinned name uid.0 store region × (next ≡ stage.Reading region))) ⊎ ((why : Refusal) × ((why ≡ refusal.NoMemory) ⊎ IsAbsent name uid.0 store why) × (answer ≡ progress.Done (reply.Refused why)) × (next ≡ stage.First))
             → FirstClause around after name uid store history faults next answer how
@@ -328,10 +340,10 @@ goes_on_behind after run name uid lane place (Some refusal.NoMemory) calls h e =
 goes_on_behind after run name uid lane place (Some refusal.Stopped) calls h e = absurd h
 
 read_did : (around after : Around) (run : Run) (lane place : ℕ) (said : List Reply) (name : List ℕ) (uid : Uid) (lists : Lists) (old : Seen) (history : Option History) (faults : Faults) (region : RegionValue) (refused : Option Refusal) → HasComeTo run old → ShowsSeen old lists → IsIdle old.history history
-    → NoChangeFault old.faults faults → old.stopped ≡ false → HasReadAllBut region.from (pieces_left region.left) (own_events place run) → 0 < pieces_left region.left → IsPieceRefused refused → (refused ≡ Some refusal.ReadFault → Rose old.faults.reads faults.reads)
+    → NoChangeFault old.faults faults → (refused ≢ Some refusal.ReadFault → NoFault old.faults faults) → old.stopped ≡ false → HasReadAllBut region.from (pieces_left region.left) (own_events place run) → 0 < pieces_left region.left → IsPieceRefused refused → (refused ≡ Some refusal.ReadFault → Rose old.faults.reads faults.reads)
     → DidSo around after run lane place said (request.Fetch name uid) lists old (behind_reading old history faults old.pins) did.Quiet None (fetch_event ReadsPiece lane place refused None (told_calls history)) None
-read_did around after run lane place said name uid lists old history faults region refused come shows idle none runs read left may rose =
-    did_late around after run lane place said name uid lists old history faults old.pins ReadsPiece refused None (piece_is_late name uid) come shows idle none (next_reads around name uid run place (pieces_left region.left) region.from read left) (piece_late refused may) (piece_may name uid refused may)
+read_did around after run lane place said name uid lists old history faults region refused come shows idle none quiet runs read left may rose =
+    did_late around after run lane place said name uid lists old history faults old.pins ReadsPiece refused None (piece_is_late name uid) come shows idle none quiet (next_reads around name uid run place (pieces_left region.left) region.from read left) (piece_late refused may) (piece_may name uid refused may)
     (record { 0 = λ h. absurd (h refl); 1 = λ e. absurd (goes_on_behind after run name uid lane place refused (told_calls history) may e) }) tt (λ given e. absurd (no_reply given e))
     (record { 0 = λ e. absurd (no_reply (reply.Refused refusal.Stopped) e); 1 = λ e. absurd (fall old.stopped e runs) }) (λ e. absurd (fall old.stopped e runs)) rose
     (λ ran file. pins_still run (fetch_event ReadsPiece lane place refused None (told_calls history)) file refl (reading_keeps lane place refused None (told_calls history)) ∙ (come.keeps ran).pins file)
@@ -359,13 +371,13 @@ PieceClause around after name uid region store history faults new then_history t
 
 -- a piece behind which others are read
 piece_more : {D : Type 0} → (around after : Around) (name : List ℕ) (uid : Uid) (region : RegionValue) (store : StoreValue D) (disk : D) (history then_history : Option History) (faults then_faults : Faults) (piece : List ℕ) → HasPieceLeft (stage.Reading region) → store.stopped ≡ false → IsIdle history then_history
-    → NoChangeFault faults then_faults → IfTold history (λ d. piece ≡ next_piece region d) → PieceClause around after name uid region store history faults (record store { disk = disk }) then_history then_faults (stage.Reading (with_piece region piece))
-piece_more around after name uid region store disk history then_history faults then_faults piece left runs idle none told = λ run lane place said lists come shows safe stood.
+    → NoChangeFault faults then_faults → NoFault faults then_faults → IfTold history (λ d. piece ≡ next_piece region d) → PieceClause around after name uid region store history faults (record store { disk = disk }) then_history then_faults (stage.Reading (with_piece region piece))
+piece_more around after name uid region store disk history then_history faults then_faults piece left runs idle none quiet told = λ run lane place said lists come shows safe stood.
     let seen = seen_in store history faults in
     let new = seen_in (record store { disk = disk }) then_history then_faults in
     let event = fetch_event ReadsPiece lane place None None (told_calls then_history) in
-    stands_so around after run lane place said (request.Fetch name uid) lists seen new did.Quiet None event None (IsAtFetch (stage.Reading (with_piece region piece)) new)
-    (read_did around after run lane place said name uid lists seen then_history then_faults region None come shows idle none runs stood.0 left.0 tt (λ e. absurd (let k : None ≡ Some refusal.ReadFault = e in cc k)))
+    stands_so around after run lane place said (request.Fetch name uid) lists seen new did.Quiet None event None (IsAtFetch (stage.Reading (with_piece region piece)) new.stopped new.history)
+    (read_did around after run lane place said name uid lists seen then_history then_faults region None come shows idle none (λ differs. quiet) runs stood.0 left.0 tt (λ e. absurd (let k : None ≡ Some refusal.ReadFault = e in cc k)))
     (λ goes_on. (
       (
         stood.0.0 ++ event ∷ [],
@@ -378,14 +390,14 @@ piece_more around after name uid region store disk history then_history faults t
 
 -- the last piece, or one that failed: by this it will reply
 piece_last : {D : Type 0} → (around after : Around) (name : List ℕ) (uid : Uid) (region : RegionValue) (store : StoreValue D) (disk : D) (history then_history : Option History) (faults then_faults : Faults) (given : Reply) (why : Refusal) → HasPieceLeft (stage.Reading region) → store.stopped ≡ false → IsIdle history then_history
-    → NoChangeFault faults then_faults → refusal_in given ≡ Some why → IsPieceRefusal why → (why ≡ refusal.ReadFault → Rose faults.reads then_faults.reads) → ((octets : List ℕ) → Reading (IsFrontOfStored region octets) history → IsTrueReply octets given)
+    → NoChangeFault faults then_faults → (why ≢ refusal.ReadFault → NoFault faults then_faults) → refusal_in given ≡ Some why → IsPieceRefusal why → (why ≡ refusal.ReadFault → Rose faults.reads then_faults.reads) → ((octets : List ℕ) → Reading (IsFrontOfStored region octets) history → IsTrueReply octets given)
     → PieceClause around after name uid region store history faults (record store { disk = disk }) then_history then_faults (stage.Unpinning region.from given)
-piece_last around after name uid region store disk history then_history faults then_faults given why left runs idle none refused may rose true_is = λ run lane place said lists come shows safe stood.
+piece_last around after name uid region store disk history then_history faults then_faults given why left runs idle none quiet refused may rose true_is = λ run lane place said lists come shows safe stood.
     let seen = seen_in store history faults in
     let new = seen_in (record store { disk = disk }) then_history then_faults in
     let event = fetch_event ReadsPiece lane place (Some why) None (told_calls then_history) in
-    stands_so around after run lane place said (request.Fetch name uid) lists seen new did.Quiet None event None (IsAtFetch (stage.Unpinning region.from given) new)
-    (read_did around after run lane place said name uid lists seen then_history then_faults region (Some why) come shows idle none runs stood.0 left.0 may (λ e. rose (let k : why ≡ refusal.ReadFault = cc e in k)))
+    stands_so around after run lane place said (request.Fetch name uid) lists seen new did.Quiet None event None (IsAtFetch (stage.Unpinning region.from given) new.stopped new.history)
+    (read_did around after run lane place said name uid lists seen then_history then_faults region (Some why) come shows idle none (λ differs. quiet (λ same. differs (ap (λ (r : Refusal). Some r) same))) runs stood.0 left.0 may (λ e. rose (let k : why ≡ refusal.ReadFault = cc e in k)))
     (λ goes_on. (
       inr (
         why,
@@ -402,14 +414,14 @@ piece_last around after name uid region store disk history then_history faults t
 
 -- the last piece of the message that is stored there
 piece_whole : {D : Type 0} → (around after : Around) (name : List ℕ) (uid : Uid) (region : RegionValue) (store : StoreValue D) (disk : D) (history then_history : Option History) (faults then_faults : Faults) (given : Reply) → HasPieceLeft (stage.Reading region) → store.stopped ≡ false → IsIdle history then_history
-    → NoChangeFault faults then_faults → refusal_in given ≡ None → pieces_left (left_after region.left) ≡ 0 → ((octets : List ℕ) → Reading (IsFrontOfStored region octets) history → IsTrueReply octets given)
+    → NoChangeFault faults then_faults → NoFault faults then_faults → refusal_in given ≡ None → pieces_left (left_after region.left) ≡ 0 → ((octets : List ℕ) → Reading (IsFrontOfStored region octets) history → IsTrueReply octets given)
     → PieceClause around after name uid region store history faults (record store { disk = disk }) then_history then_faults (stage.Unpinning region.from given)
-piece_whole around after name uid region store disk history then_history faults then_faults given left runs idle none fetched last true_is = λ run lane place said lists come shows safe stood.
+piece_whole around after name uid region store disk history then_history faults then_faults given left runs idle none quiet fetched last true_is = λ run lane place said lists come shows safe stood.
     let seen = seen_in store history faults in
     let new = seen_in (record store { disk = disk }) then_history then_faults in
     let event = fetch_event ReadsPiece lane place None None (told_calls then_history) in
-    stands_so around after run lane place said (request.Fetch name uid) lists seen new did.Quiet None event None (IsAtFetch (stage.Unpinning region.from given) new)
-    (read_did around after run lane place said name uid lists seen then_history then_faults region None come shows idle none runs stood.0 left.0 tt (λ e. absurd (let k : None ≡ Some refusal.ReadFault = e in cc k)))
+    stands_so around after run lane place said (request.Fetch name uid) lists seen new did.Quiet None event None (IsAtFetch (stage.Unpinning region.from given) new.stopped new.history)
+    (read_did around after run lane place said name uid lists seen then_history then_faults region None come shows idle none (λ differs. quiet) runs stood.0 left.0 tt (λ e. absurd (let k : None ≡ Some refusal.ReadFault = e in cc k)))
     (λ goes_on. (
       inl (
         fetched,
@@ -431,11 +443,11 @@ piece_to {D = D} around after name uid region store new history then_history fau
 
 -- An event that reads a piece, of a store that isn't stopped.
 pub read_steps : {D : Type 0} → (around after : Around) (name : List ℕ) (uid : Uid) (region : RegionValue) (store new : StoreValue D) (history then_history : Option History) (faults then_faults : Faults) (next : FetchStage) → HasPieceLeft (stage.Reading region) → store.stopped ≡ false → new ≡ record store { disk = new.disk }
-    → IsIdle history then_history → NoChangeFault faults then_faults → IsPieceRead region next history faults then_faults → PieceClause around after name uid region store history faults new then_history then_faults next
-read_steps around after name uid region store new history then_history faults then_faults next left runs same idle none (inr (rose, e)) =
+    → IsIdle history then_history → NoChangeFault faults then_faults → ((HasFailedRead next → ⊥) → NoFault faults then_faults) → IsPieceRead region next history faults then_faults → PieceClause around after name uid region store history faults new then_history then_faults next
+read_steps around after name uid region store new history then_history faults then_faults next left runs same idle none quiet (inr (rose, e)) =
     piece_to around after name uid region store new history then_history faults then_faults (stage.Unpinning region.from (reply.Refused refusal.ReadFault)) next same e
-    (piece_last around after name uid region store new.disk history then_history faults then_faults (reply.Refused refusal.ReadFault) refusal.ReadFault left runs idle none refl tt (λ k. rose) (λ octets f. inr refl))
-read_steps around after name uid region store new history then_history faults then_faults next left runs same idle none (inl (piece, told, goes)) = by_size (cases_lt 0 (pieces_left (left_after region.left)))
+    (piece_last around after name uid region store new.disk history then_history faults then_faults (reply.Refused refusal.ReadFault) refusal.ReadFault left runs idle none (λ differs. absurd (differs refl)) refl tt (λ k. rose) (λ octets f. inr refl))
+read_steps around after name uid region store new history then_history faults then_faults next left runs same idle none quiet (inl (piece, told, goes)) = by_size (cases_lt 0 (pieces_left (left_after region.left)))
   where
     now : (octets : List ℕ) → Reading (IsFrontOfStored region octets) history → Reading (IsFrontOfStored (with_piece region piece) octets) then_history
     now octets f = front_on region octets piece history then_history idle told f
@@ -443,17 +455,17 @@ read_steps around after name uid region store new history then_history faults th
     by_reply : (last : pieces_left (left_after region.left) ≡ 0) (given : Reply) → next ≡ stage.Unpinning region.from given → IsReplyFor region.from (region.octets ++ piece) given → PieceClause around after name uid region store history faults new then_history then_faults next
     by_reply last given e (inl (octets, holds, is)) =
         piece_to around after name uid region store new history then_history faults then_faults (stage.Unpinning region.from given) next same e
-        (piece_whole around after name uid region store new.disk history then_history faults then_faults given left runs idle none (ap refusal_in is) last
+        (piece_whole around after name uid region store new.disk history then_history faults then_faults given left runs idle none (quiet (λ failed. subst (λ (r : Reply). HasFailedRead (stage.Unpinning region.from r)) is (subst HasFailedRead e failed))) (ap refusal_in is) last
         (λ text f. true_on (with_piece region piece) text then_history given (now text f) last (inl (octets, holds, is))))
     by_reply last given e (inr (none_held, is)) =
         piece_to around after name uid region store new history then_history faults then_faults (stage.Unpinning region.from given) next same e
-        (piece_last around after name uid region store new.disk history then_history faults then_faults given (refusal.Damaged region.from.file region.from.offset) left runs idle none (ap refusal_in is) tt (λ k. absurd (let f : refusal.Damaged region.from.file region.from.offset ≡ refusal.ReadFault = k in cc f))
+        (piece_last around after name uid region store new.disk history then_history faults then_faults given (refusal.Damaged region.from.file region.from.offset) left runs idle none (λ differs. quiet (λ failed. subst (λ (r : Reply). HasFailedRead (stage.Unpinning region.from r)) is (subst HasFailedRead e failed))) (ap refusal_in is) tt (λ k. absurd (let f : refusal.Damaged region.from.file region.from.offset ≡ refusal.ReadFault = k in cc f))
         (λ text f. true_on (with_piece region piece) text then_history given (now text f) last (inr (none_held, is))))
 
     by_size : (0 < pieces_left (left_after region.left)) ⊎ (pieces_left (left_after region.left) ≤ 0) → PieceClause around after name uid region store history faults new then_history then_faults next
     by_size (inl more) =
         piece_to around after name uid region store new history then_history faults then_faults (stage.Reading (with_piece region piece)) next same (goes.more more)
-        (piece_more around after name uid region store new.disk history then_history faults then_faults piece left runs idle none told)
+        (piece_more around after name uid region store new.disk history then_history faults then_faults piece left runs idle none (quiet (λ failed. subst HasFailedRead (goes.more more) failed)) told)
     by_size (inr last) = let none_left : pieces_left (left_after region.left) ≡ 0 = omega (arith, last) in let r = goes.last none_left in by_reply none_left r.0 r.1 r.2
 
 -- ---- the last event
@@ -480,8 +492,8 @@ unpin_steps around after name uid from given store history faults runs undoomed 
     let pin = holds_pin from given place run stood.0 in
     let own_still : All (λ e. All (λ p. p.file ≡ from.file.0) e.pins) (own_events place (and_then run event)) =
     subst (All (λ e. All (λ p. p.file ≡ from.file.0) e.pins)) (sym (own_more place run event (eq-eqb place place refl))) (All-push (λ (e : RunEvent). All (λ (p : Pin). p.file ≡ from.file.0) e.pins) (own_events place run) event (own_files from given place run stood.0) (All-nil (λ (p : Pin). p.file ≡ from.file.0))) in
-    subst (λ (s : Seen). (d : DidEvent around after run lane place said (request.Fetch name uid) lists seen s did.Quiet (Some given)) × (Some given ≡ None → IsAtFetch stage.First s (and_then run d.makes.event) place (and_told said d.makes.answer))) (sym new_is) (
-      (did_late around after run lane place said name uid lists seen history faults pins Unpins None (Some given) (unpin_is_late name uid) come shows (idle-begins history) (record { reads = omega arith; changes = refl }) (next_unpins around name uid run place from given stood.0) tt tt
+    subst (λ (s : Seen). (d : DidEvent around after run lane place said (request.Fetch name uid) lists seen s did.Quiet (Some given)) × (Some given ≡ None → IsAtFetch stage.First s.stopped s.history (and_then run d.makes.event) place (and_told said d.makes.answer))) (sym new_is) (
+      (did_late around after run lane place said name uid lists seen history faults pins Unpins None (Some given) (unpin_is_late name uid) come shows (idle-begins history) (record { reads = omega arith; changes = refl }) (λ differs. refl) (next_unpins around name uid run place from given stood.0) tt tt
           (record { 0 = λ h. ends_here (leaves_doomed place (and_then run event)) (none_doomed place from.file.0 (and_then run event) own_still (doomed_still run event from.file.0 refl refl ∙ ((come.keeps runs).doomed from.file.0 ∙ undoomed))); 1 = λ e f. some_given given f })
           (last_with (own_events place run) event ∙ (none_or (last_refusal (own_events place run)) ∙ unpins_by from given (own_events place run) stood.0))
           (λ r e. subst (λ (x : Reply). IsReplyOf (request.Fetch name uid) said x) (let k : given ≡ r = cc e in k) (true_reply_of name uid stood.1.0 given said stood.1.1 stood.1.2))
@@ -499,11 +511,20 @@ unpin_steps around after name uid from given store history faults runs undoomed 
 
 -- ---- the stages stay
 
-pub fetch_stays : (now : FetchStage) (seen : Seen) → IsKept (IsAtFetch now seen)
-fetch_stays stage.First seen = not_begun_stays
-fetch_stays (stage.Reading region) seen = λ run place said event other gives stood.
+pub fetch_stays : (now : FetchStage) (stopped : Bool) (history : Option History) → IsKept (IsAtFetch now stopped history)
+fetch_stays stage.First stopped history = not_begun_stays
+fetch_stays (stage.Reading region) stopped history = λ run place said event other gives stood.
     let same = own_other place run event (ne_eqb event.request place other) in
     (subst (HasReadAllBut region.from (pieces_left region.left)) (sym same) stood.0, stood.1)
-fetch_stays (stage.Unpinning from given) seen = λ run place said event other gives stood.
+fetch_stays (stage.Unpinning from given) stopped history = λ run place said event other gives stood.
     let same = own_other place run event (ne_eqb event.request place other) in
     (subst (UnpinsNext from given) (sym same) stood.0, stood.1)
+
+-- ---- files that are safe
+
+-- Files that are safe for the lists store each of their messages.
+pub safe_fetched : {D : Type 0} → (now : FetchStage) (name : List ℕ) (uid : Uid) (store : StoreValue D) (history : Option History) (lists : Lists) → IsStore history store → store.stopped ≡ false → ReadsSafe lists history → CanFetch now name uid lists store.map history
+safe_fetched stage.First name uid store history lists is runs safe = λ message listed.
+    reading_as (HaveMessages store.map lists) (StoresListed store.map message) history (λ files there. listed_stored files store.map store.map.boxes lists name uid.0 message (store_is_sound history store is) there.boxes there.instances listed) (boxes_safe history store lists is runs safe)
+safe_fetched (stage.Reading region) name uid store history lists is runs safe = tt
+safe_fetched (stage.Unpinning from given) name uid store history lists is runs safe = tt

@@ -1,5 +1,5 @@
 -- What pins and holds change of a store, and what they leave of it.
-use Rattle.std.specs.Prelude.{is_some, is_none, nat_le, nat_lt}
+use Rattle.std.specs.Prelude.{is_some, is_none, map, nat_le, nat_lt}
 use Rattle.std.specs.List.{list_any}
 use Rattle.std.specs.Option.{option_map, option_map_or, option_and_then}
 use Rattle.std.specs.Str.{bytes_eq}
@@ -26,14 +26,15 @@ use Rattle.store_core.specs.Keeping.{KeepsInstances, MovesHolds, holds_of}
 use Rattle.store_core.specs.Knows.{knows_file, knows_instance, may_have_given}
 use Rattle.store_core.specs.Value.{StoreValue}
 use Rattle.store_seen.specs.Seeing.{may_be_barred, may_be_used}
-use Rattle.task_claims.specs.Claims.{AreIn, Claims, Due, Emptied, Held, Made, MovesClaims, Pinned, Placing, Removing, Taken, no_claims, one_if}
-use Rattle.task_claims.specs.Leaving.{LeavesOthers, LeavesPinnedFile, LeavesFile, IsSameOrSynced}
+use Rattle.task_claims.specs.Claims.{AreIn, Claims, Due, Emptied, Held, Made, MovesClaims, Pinned, PlacingPieces, Removing, Taken, no_claims, one_if}
+use Rattle.task_claims.specs.Leaving.{LeavesOthers, OnlyGrows, LeavesFile, IsSameOrSynced}
 use Rattle.task_claims.proofs.RestLemmas.{instance_kept, record_kept}
 use Rattle.task_steps.specs.Step.{Seen}
 use Rattle.mail_fetch.specs.Claims.{claims_of_pinned, held_for, with_claims, with_use, without_claims}
 use Rattle.mail_fetch.specs.Task.{one_pin, pins_kept_in, seen_in}
 use Rattle.mail_fetch.specs.declared.parts.StoredAt.{StoredAt}
 use Rattle.mail_fetch.proofs.ClaimLemmas.{idle_syncs}
+use Rattle.mail_fetch.proofs.HoldLemmas.{held_rows, let_go_rows, none_placed}
 
 -- ---- a storage file with other pins
 
@@ -136,7 +137,7 @@ use_begins from known store there undoomed held (Taken file) =
     ap (λ (b : Bool). one_if b + 0) (but_pins (λ (o : Option MailFile). option_map_or (λ f. f.taken) o false) from.file.0 file (pins_in from.file.0 store.files.files + 1) store.files.files (λ f. refl))
 use_begins from known store there undoomed held (Emptied file) =
     ap (λ (b : Bool). one_if b + 0) (but_pins (λ (o : Option MailFile). option_map_or (λ f. f.emptied) o false) from.file.0 file (pins_in from.file.0 store.files.files + 1) store.files.files (λ f. refl))
-use_begins from known store there undoomed held (Placing file) =
+use_begins from known store there undoomed held (PlacingPieces file) =
     ap (λ (b : Bool). one_if b + 0) (but_pins (λ (o : Option MailFile). is_some (option_and_then (λ f. f.begun) o)) from.file.0 file (pins_in from.file.0 store.files.files + 1) store.files.files (λ f. refl))
 use_begins from known store there undoomed held (Removing file) = ap (λ (b : Bool). one_if b + 0) (removing_same from.file.0 file (pins_in from.file.0 store.files.files + 1) store.files.files undoomed)
 use_begins from known store there undoomed held (Held id) = held id
@@ -151,7 +152,7 @@ use_ends from known store pinned undoomed held (Taken file) =
     ap (λ (b : Bool). one_if b + 0) (but_pins (λ (o : Option MailFile). option_map_or (λ f. f.taken) o false) from.file.0 file (pins_in from.file.0 store.files.files - 1) store.files.files (λ f. refl))
 use_ends from known store pinned undoomed held (Emptied file) =
     ap (λ (b : Bool). one_if b + 0) (but_pins (λ (o : Option MailFile). option_map_or (λ f. f.emptied) o false) from.file.0 file (pins_in from.file.0 store.files.files - 1) store.files.files (λ f. refl))
-use_ends from known store pinned undoomed held (Placing file) =
+use_ends from known store pinned undoomed held (PlacingPieces file) =
     ap (λ (b : Bool). one_if b + 0) (but_pins (λ (o : Option MailFile). is_some (option_and_then (λ f. f.begun) o)) from.file.0 file (pins_in from.file.0 store.files.files - 1) store.files.files (λ f. refl))
 use_ends from known store pinned undoomed held (Removing file) = ap (λ (b : Bool). one_if b + 0) (removing_same from.file.0 file (pins_in from.file.0 store.files.files - 1) store.files.files undoomed)
 use_ends from known store pinned undoomed held (Held id) = held id
@@ -170,7 +171,7 @@ file_left from pins number known store history = record {
   state = between-begins (λ a b. IsSameOrSynced (a (file.Mail number)) (b (file.Mail number))) history (λ disk. inl refl);
 }
 
-pinned_left : {D : Type 0} → (from : StoredAt) (pins number : ℕ) (known : List KnownInstance) (store : StoreValue D) (history : Option History) → LeavesPinnedFile number store (with_use from pins known store) history history
+pinned_left : {D : Type 0} → (from : StoredAt) (pins number : ℕ) (known : List KnownInstance) (store : StoreValue D) (history : Option History) → OnlyGrows number store (with_use from pins known store) history history
 pinned_left from pins number known store history = record {
   there = λ end is. (end, ends_still from.file.0 number pins store.files.files ∙ is, stays end);
   reads = between-begins (λ a b. (octets : List ℕ) → reading (a (file.Mail number)) ≡ Some octets → (more : List ℕ) × (reading (b (file.Mail number)) ≡ Some (octets ++ more))) history (λ disk octets is. ([], is ∙ ap Some (sym (append-nil octets))));
@@ -180,25 +181,26 @@ pinned_left from pins number known store history = record {
 pub keeps_beside : {D : Type 0} → (from : StoredAt) (pins : ℕ) (known : List KnownInstance) (old : StoreValue D) (before after : Option History) → KeepsInstances old (record old { instances = record old.instances { known = known } }) before after → KeepsInstances old (with_use from pins known old) before after
 keeps_beside from pins known old before after k = record { store = k.store; drawn = k.drawn; known = k.known; reads = k.reads; first = k.first; compared = k.compared }
 
-use_leaves_at : {D : Type 0} → (mine : Claims) (from : StoredAt) (pins : ℕ) (known : List KnownInstance) (store : StoreValue D) (history : Option History) → KeepsInstances store (with_use from pins known store) history history → LeavesOthers mine store (with_use from pins known store) history history
-use_leaves_at mine from pins known store history keeps = record {
+use_leaves_at : {D : Type 0} → (mine : Claims) (from : StoredAt) (pins : ℕ) (known : List KnownInstance) (store : StoreValue D) (history : Option History) → map (λ k. k.row) known ≡ map (λ k. k.row) store.instances.known → KeepsInstances store (with_use from pins known store) history history → LeavesOthers mine store (with_use from pins known store) history history
+use_leaves_at mine from pins known store history rows keeps = record {
   records = λ uid row more there. record_kept uid row store (with_use from pins known store) history history (idle_syncs history history (idle-begins history)) refl there;
   unlisted = λ uid row none found listed. (listed, refl);
   files = λ number took. file_left from pins number known store history;
-  pinned = λ number more. pinned_left from pins number known store history;
+  grow = λ number more. pinned_left from pins number known store history;
   instances = λ row is more. instance_kept row store (with_use from pins known store) history history keeps is;
   store = keeps.store;
-  drawn = keeps.drawn;
+  numbers = none_placed store.instances known rows;
+  mailboxes = omega arith;
   compared = keeps.compared;
   uids = λ name uid held k. record { m = k.m; named = k.named; below = k.below; same = k.same };
   told = between-begins (λ a b. Unit {0}) history (λ disk. tt);
 }
 
-pub use_leaves : {D : Type 0} → (H : D → Option History) (mine : Claims) (from : StoredAt) (pins : ℕ) (known : List KnownInstance) (old held new : StoreValue D) → held ≡ record old { instances = record old.instances { known = known } } → KeepsInstances old held (H old.disk) (H held.disk) → new ≡ with_use from pins known old
+pub use_leaves : {D : Type 0} → (H : D → Option History) (mine : Claims) (from : StoredAt) (pins : ℕ) (known : List KnownInstance) (old held new : StoreValue D) → map (λ k. k.row) known ≡ map (λ k. k.row) old.instances.known → held ≡ record old { instances = record old.instances { known = known } } → KeepsInstances old held (H old.disk) (H held.disk) → new ≡ with_use from pins known old
     → LeavesOthers mine old new (H old.disk) (H new.disk)
-use_leaves H mine from pins known old held new same keeps is =
+use_leaves H mine from pins known old held new rows same keeps is =
     subst (λ (s : StoreValue _). LeavesOthers mine old s (H old.disk) (H s.disk)) (sym is)
-    (use_leaves_at mine from pins known old (H old.disk) (keeps_beside from pins known old (H old.disk) (H old.disk) (subst (λ (s : StoreValue _). KeepsInstances old s (H old.disk) (H s.disk)) same keeps)))
+    (use_leaves_at mine from pins known old (H old.disk) rows (keeps_beside from pins known old (H old.disk) (H old.disk) (subst (λ (s : StoreValue _). KeepsInstances old s (H old.disk) (H s.disk)) same keeps)))
 
 -- ---- what is seen
 
@@ -279,7 +281,7 @@ claimed_moves from rows old held new end same held_is new_is ends undoomed moves
 pub claimed_leaves : {D : Type 0} → (H : D → Option History) (mine : Claims) (from : StoredAt) (rows : List InstRow) (old held new : StoreValue D) → rows ≡ from.instances → held ≡ with_known old (held_for rows old.instances.known) → KeepsInstances old held (H old.disk) (H held.disk) → new ≡ with_claims from old
     → LeavesOthers mine old new (H old.disk) (H new.disk)
 claimed_leaves H mine from rows old held new same held_is keeps new_is =
-    use_leaves H mine from (pins_in from.file.0 old.files.files + 1) (held_for from.instances old.instances.known) old held new (held_is ∙ ap (λ (rs : List InstRow). with_known old (held_for rs old.instances.known)) same) keeps new_is
+    use_leaves H mine from (pins_in from.file.0 old.files.files + 1) (held_for from.instances old.instances.known) old held new (held_rows from.instances old.instances.known) (held_is ∙ ap (λ (rs : List InstRow). with_known old (held_for rs old.instances.known)) same) keeps new_is
 
 pub given_same : {D : Type 0} → (from : StoredAt) (rows : List InstRow) (old held new : StoreValue D) → rows ≡ from.instances → held ≡ with_known old (found_let_go rows old.instances.known) → new ≡ with_files held (changed_in from.file.0 (with_pins (pins_in from.file.0 held.files.files - 1)) held.files.files) → new ≡ without_claims from old
 given_same from rows old held new same held_is new_is =
@@ -297,4 +299,4 @@ given_moves from rows old held new same held_is new_is claimed undoomed moves =
 pub given_leaves : {D : Type 0} → (H : D → Option History) (mine : Claims) (from : StoredAt) (rows : List InstRow) (old held new : StoreValue D) → rows ≡ from.instances → held ≡ with_known old (found_let_go rows old.instances.known) → KeepsInstances old held (H old.disk) (H held.disk) → new ≡ without_claims from old
     → LeavesOthers mine old new (H old.disk) (H new.disk)
 given_leaves H mine from rows old held new same held_is keeps new_is =
-    use_leaves H mine from (pins_in from.file.0 old.files.files - 1) (found_let_go from.instances old.instances.known) old held new (held_is ∙ ap (λ (rs : List InstRow). with_known old (found_let_go rs old.instances.known)) same) keeps new_is
+    use_leaves H mine from (pins_in from.file.0 old.files.files - 1) (found_let_go from.instances old.instances.known) old held new (let_go_rows from.instances old.instances.known) (held_is ∙ ap (λ (rs : List InstRow). with_known old (found_let_go rs old.instances.known)) same) keeps new_is

@@ -8,9 +8,11 @@ use Rattle.mdbox_base.specs.declared.progress.Progress.{Progress}
 use Rattle.mdbox_base.specs.declared.replies.Reply.{Reply}
 use Rattle.mdbox_base.specs.declared.requests.Request.{Request}
 use Rattle.mdbox_base.specs.declared.requests.Request.TheVariants as request
-use Rattle.model_lists.specs.Lists.{Lists}
+use Rattle.model_lists.specs.Lists.{ListedMessage, Lists}
+use Rattle.model_meaning.specs.MapMeaning.{MapMeaning}
 use Rattle.model_store.specs.Safe.{Safe}
 use Rattle.model_store.specs.Settled.{files_of}
+use Rattle.list_machine.specs.Machine.{message_at}
 use Rattle.list_machine.specs.Run.{Run, and_then}
 use Rattle.journal.specs.Events.{Around}
 use Rattle.store_core.specs.Value.{StoreValue}
@@ -18,26 +20,32 @@ use Rattle.task_steps.specs.Step.{Seen, ShowsSeen, HasComeTo, and_told, DidEvent
 use Rattle.mail_fetch.specs.Claims.{IsReadyToFetch, used_by}
 use Rattle.mail_fetch.specs.Events.{FetchesNext, NoChangeFault}
 use Rattle.mail_fetch.specs.Failed.{HasFailedRead}
-use Rattle.mail_fetch.specs.Stages.{IsAtFetch}
+use Rattle.mail_fetch.specs.Stages.{IsAtFetch, Reading, StoresListed}
 use Rattle.mail_fetch.specs.Task.{fetch_did, seen_in}
 use Rattle.mail_fetch.specs.declared.task.FetchStage.{FetchStage}
+use Rattle.mail_fetch.specs.declared.task.FetchStage.TheVariants as stage
 
 -- the disk is modelled, and its files as they read are safe for the lists
 abbrev pub ReadsSafe : Lists → Option History → Type 0
 ReadsSafe lists None = ⊥
 ReadsSafe lists (Some history) = Safe (files_of history.now) lists
 
--- The clause of a task's step (`Steps`), of lists for which the files are safe, unless the store is stopped: no other lists say
--- which octets are fetched.
-abbrev pub StepsOnSafe : (Run → ℕ → List Reply → Type 0) → (Run → ℕ → List Reply → Type 0) → Around → Around → Request → Seen → Seen → Did → Option Reply → Type 0
-StepsOnSafe Stood Stands around after request old new did ended =
-    (run : Run) (lane place : ℕ) (said : List Reply) (lists : Lists) → HasComeTo run old → ShowsSeen old lists → (old.stopped ≡ false → ReadsSafe lists old.history) → Stood run place said
+-- Before the first event, if the lists have a message with this UID, the disk is modelled, and its files as they read store it: no
+-- other lists say which octets are fetched. After it nothing more is asked of them.
+abbrev pub CanFetch : FetchStage → List ℕ → Uid → Lists → MapMeaning → Option History → Type 0
+CanFetch stage.First name uid lists m history = (message : ListedMessage) → message_at name uid.0 lists ≡ Some message → Reading (StoresListed m message) history
+CanFetch now name uid lists m history = Unit {0}
+
+-- The clause of a task's step (`Steps`), of lists of which this holds, unless the store is stopped.
+abbrev pub StepsOf : (Lists → Type 0) → (Run → ℕ → List Reply → Type 0) → (Run → ℕ → List Reply → Type 0) → Around → Around → Request → Seen → Seen → Did → Option Reply → Type 0
+StepsOf Holds Stood Stands around after request old new did ended =
+    (run : Run) (lane place : ℕ) (said : List Reply) (lists : Lists) → HasComeTo run old → ShowsSeen old lists → (old.stopped ≡ false → Holds lists) → Stood run place said
     → (d : DidEvent around after run lane place said request lists old new did ended) × (ended ≡ None → Stands (and_then run d.makes.event) place (and_told said d.makes.answer))
 
 -- It is so of a fetch that came from one stage to another, as a store is seen that has these pins.
 abbrev pub FetchSteps : {D : Type 0} → Around → Around → List ℕ → Uid → FetchStage → FetchStage → StoreValue D → StoreValue D → Option History → Option History → Faults → Faults → Did → Option Reply → Type 0
 FetchSteps around after name uid now next old new before later began faults did ended =
-    StepsOnSafe (IsAtFetch now (seen_in old before began)) (IsAtFetch next (seen_in new later faults)) around after (request.Fetch name uid) (seen_in old before began) (seen_in new later faults) did ended
+    StepsOf (λ lists. CanFetch now name uid lists old.map before) (IsAtFetch now old.stopped before) (IsAtFetch next new.stopped later) around after (request.Fetch name uid) (seen_in old before began) (seen_in new later faults) did ended
 
 -- What an event says beside this. How it answers, over every disk, and what it did. The store is what the event made of it, but for
 -- its disk, of which nothing has changed, and no change was tried. No read failed, unless the task will reply so. Where the store

@@ -9,6 +9,7 @@ use Rattle.mail_fetch.specs.declared.parts.StoredAt.{StoredAt}
 -- a part has octets, and its numbers are in range
 pub record IsPart (part : Part) : Type 0 where
   pub some : 1 ≤ part.size
+  pub size : part.size < 2 ^ 32
   pub ends : part.offset + part.size < 2 ^ 33
 
 -- There is room for all octets that are to be read, of which these were, and these parts are left.

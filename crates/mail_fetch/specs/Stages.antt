@@ -1,18 +1,19 @@
 -- Where a fetch stands in a run.
-use Rattle.std.specs.Prelude.{◌≡◌, ◌+◌, ◌⊎◌, ℕ, false, List, [], ◌∷◌, ◌++◌, length, Option, Some, None, All}
+use Rattle.std.specs.Prelude.{◌≡◌, ◌+◌, ◌⊎◌, ℕ, Bool, false, List, [], ◌∷◌, ◌++◌, length, Option, Some, None, All}
 use Rattle.disk_model.specs.Disk.{Files, History}
 use Rattle.mdbox_base.specs.declared.replies.Refusal.{Refusal}
 use Rattle.mdbox_base.specs.declared.replies.Refusal.TheVariants as refusal
 use Rattle.mdbox_base.specs.declared.replies.Reply.{Reply}
 use Rattle.mdbox_base.specs.declared.replies.Reply.TheVariants as reply
 use Rattle.model_meaning.specs.BoxMeaning.{LogRow}
-use Rattle.model_meaning.specs.MapMeaning.{MapRecord}
+use Rattle.model_lists.specs.Lists.{ListedMessage}
+use Rattle.model_meaning.specs.MapMeaning.{MapMeaning, MapRecord, record_of}
 use Rattle.model_store.specs.Safe.{IsThereWhole}
 use Rattle.model_store.specs.Settled.{files_of}
 use Rattle.model_store.specs.Stands.{StoresMessage}
 use Rattle.list_machine.specs.Run.{First, ReadsPiece, RunEvent, Run, own_events}
 use Rattle.journal.specs.Journal.{refusal_in}
-use Rattle.task_steps.specs.Step.{Seen, HasNotBegun}
+use Rattle.task_steps.specs.Step.{HasNotBegun}
 use Rattle.mail_fetch.specs.Parts.{parts_to_read, parts_read, pieces_left}
 use Rattle.mail_fetch.specs.Region.{RegionValue, stored_at}
 use Rattle.mail_fetch.specs.declared.parts.StoredAt.{StoredAt}
@@ -54,6 +55,13 @@ UnpinsNext from given own =
 
 -- ---- what the disk reads
 
+-- The files store a listed message: its record's region has its octets, and none of the record's instances is missing.
+pub record StoresListed (m : MapMeaning) (message : ListedMessage) (files : Files) : Type 0 where
+  pub entry : MapRecord
+  pub found : record_of m message.guid ≡ Some entry
+  pub stores : StoresMessage files entry message.octets
+  pub sizes : All (IsThereWhole files) entry.instances
+
 -- The files store this text where the fetch reads, and the octets that were read are the first of those that they have there.
 pub record IsFrontOfStored (region : RegionValue) (octets : List ℕ) (files : Files) : Type 0 where
   pub row : LogRow
@@ -75,12 +83,12 @@ IsTrueReply octets given = (given ≡ reply.Fetched octets) ⊎ (given ≡ reply
 
 -- ---- the stages
 
--- Where the task stands, as a store is seen: what is true of the run, for the place of its request, and of the answers of its
--- steps. The first event has answered the octets of the message as it was listed then, and the disk still stores them, unless the
--- store is stopped.
-abbrev pub IsAtFetch : FetchStage → Seen → Run → ℕ → List Reply → Type 0
-IsAtFetch stage.First seen run place said = HasNotBegun run place said
-IsAtFetch (stage.Reading region) seen run place said =
-    HasReadAllBut region.from (pieces_left region.left) (own_events place run) × ((octets : List ℕ) × (said ≡ reply.Fetched octets ∷ []) × (seen.stopped ≡ false → Reading (IsFrontOfStored region octets) seen.history))
-IsAtFetch (stage.Unpinning from given) seen run place said =
+-- Where the task stands, by whether the store is stopped and by what its disk tells: what is true of the run, for the place of its
+-- request, and of the answers of its steps. The first event has answered the octets of the message as it was listed then, and the disk
+-- still stores them, unless the store is stopped.
+abbrev pub IsAtFetch : FetchStage → Bool → Option History → Run → ℕ → List Reply → Type 0
+IsAtFetch stage.First stopped history run place said = HasNotBegun run place said
+IsAtFetch (stage.Reading region) stopped history run place said =
+    HasReadAllBut region.from (pieces_left region.left) (own_events place run) × ((octets : List ℕ) × (said ≡ reply.Fetched octets ∷ []) × (stopped ≡ false → Reading (IsFrontOfStored region octets) history))
+IsAtFetch (stage.Unpinning from given) stopped history run place said =
     UnpinsNext from given (own_events place run) × ((octets : List ℕ) × (said ≡ reply.Fetched octets ∷ []) × IsTrueReply octets given)

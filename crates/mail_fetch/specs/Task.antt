@@ -1,5 +1,5 @@
 -- What a caller sees of a fetch, and of the store that it works on.
-use Rattle.std.specs.Prelude.{◌≡◌, ◌+◌, ◌<◌, ◌==◌, ℕ, false, List, All, Option, sum_by, if◌then◌else◌}
+use Rattle.std.specs.Prelude.{◌≡◌, ◌+◌, ◌<◌, ◌==◌, ℕ, false, List, All, Option, if◌then◌else◌}
 use Rattle.disk_model.specs.Disk.{History, Faults}
 use Rattle.mdbox_base.specs.declared.ids.Uid.{Uid}
 use Rattle.mdbox_base.specs.declared.progress.Did.{Did}
@@ -9,9 +9,7 @@ use Rattle.mdbox_base.specs.declared.progress.Progress.TheVariants as progress
 use Rattle.mdbox_base.specs.declared.replies.Refusal.{Refusal}
 use Rattle.mdbox_base.specs.declared.replies.Reply.TheVariants as reply
 use Rattle.mdbox_base.specs.declared.script.Half.TheVariants as half
-use Rattle.model_meaning.specs.MapMeaning.{MapMeaning}
 use Rattle.list_machine.specs.Machine.{is_step}
-use Rattle.journal.specs.Events.{pieces_to_read}
 use Rattle.storage_files.specs.Files.{is_doomed_in, pins_in}
 use Rattle.store_core.specs.Value.{StoreValue}
 use Rattle.store_seen.specs.Seeing.{seen_of}
@@ -37,14 +35,16 @@ fetch_did stage.First progress.More = did.Step half.Whole
 fetch_did stage.First (progress.Done (reply.Refused why)) = refusing_did why
 fetch_did now answer = did.Quiet
 
--- How many events are still to come at the most: before the first, two and as many as the messages of all records have pieces.
-abbrev pub all_pieces : MapMeaning → ℕ
-all_pieces m = sum_by pieces_to_read m.records
+-- The most pieces that a message has: 65,536 of its region, and as many of each of 65,535 instances.
+abbrev pub most_pieces : ℕ
+most_pieces = 4294967296
 
-abbrev pub events_left : MapMeaning → FetchStage → ℕ
-events_left m stage.First = all_pieces m + 2
-events_left m (stage.Reading region) = pieces_left region.left + 1
-events_left m (stage.Unpinning from given) = 1
+-- How many events are still to come at the most: before the first, two and as many as a message may have pieces. So no event of
+-- another task changes it.
+abbrev pub events_left : FetchStage → ℕ
+events_left stage.First = 4294967298
+events_left (stage.Reading region) = pieces_left region.left + 1
+events_left (stage.Unpinning from given) = 1
 
 -- a task that reads has a piece left to read, and each part that is left has octets
 abbrev pub HasPieceLeft : FetchStage → Type 0

@@ -3,6 +3,8 @@ ghost use Rattle.std.specs.Prelude.{◌≡◌, ◌≤◌, ◌⊎◌, ℕ, Some, 
 ghost use Rattle.mdbox_base.specs.declared.replies.Refusal.TheVariants as refusal;
 ghost use Rattle.storage_files.specs.Files.{end_in};
 ghost use Rattle.mail_fetch.specs.Events.{fetch_refusal, IsAbsent, IsPinned};
+ghost use Rattle.mail_fetch.specs.Parts.{pieces_left};
+ghost use Rattle.mail_fetch.specs.Task.{most_pieces};
 
 use crate::parts::StoredAt;
 use crate::region::Region;
@@ -20,6 +22,7 @@ pub fn find_message<D: Disk>(store: &Store<D>, name: &Name, uid: Uid) -> Result<
     ensures pinned { IfOk result (λ region. (fetch_refusal name.now uid.0 store.now ≡ None) × IsPinned name.now uid.0 store.now region) }
     ensures there { IfOk result (λ region. (end : ℕ) × (end_in region.from.file.0 store.now.files.files ≡ Some end)) }
     ensures few { IfOk result (λ region. length region.from.instances ≤ 65535) }
+    ensures pieces { IfOk result (λ region. pieces_left region.left ≤ most_pieces) }
     ensures refused { IfErr result (λ why. (fetch_refusal name.now uid.0 store.now ≡ Some why) ⊎ ((fetch_refusal name.now uid.0 store.now ≡ None) × ((why ≡ refusal.NoMemory) ⊎ IsAbsent name.now uid.0 store.now why))) }
 {
     store.facts();

@@ -3,7 +3,7 @@
 
 pub use laws::{
     fetch_stages_are_kept, fetches_are_stable, fetches_claim_few, fetches_stay_beside,
-    stored_messages_are_fetched,
+    safe_files_are_fetched, stored_messages_are_fetched,
 };
 pub use parts::{Part, Source, StoredAt};
 pub use region::Region;

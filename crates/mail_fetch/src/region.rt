@@ -1,10 +1,11 @@
 // A message that is read piece by piece: its region, and behind it each instance.
-ghost use Rattle.std.specs.Prelude.{◌≡◌, ◌<◌, ◌↔◌, ℕ, List, All, IsTrue, IfOk, IsErr, OnOk};
+ghost use Rattle.std.specs.Prelude.{◌≡◌, ◌≤◌, ◌<◌, ◌↔◌, length, ℕ, List, All, IsTrue, IfOk, IsErr, OnOk};
 ghost use Rattle.disk_model.specs.Disk.{IfTold, IsIdle};
 ghost use Rattle.disk_model.specs.FaultCounts.{NoFault, ReadFaultCounted};
 ghost use Rattle.mail_fetch.specs.Events.{next_piece, with_piece};
 ghost use Rattle.mail_fetch.specs.Parts.{KnowsSource, pieces_left};
 ghost use Rattle.mail_fetch.specs.Region.{unread, IsReplyFor};
+ghost use Rattle.mail_fetch.specs.Task.{most_pieces};
 
 use crate::message::message_of;
 use crate::parts::{PIECE, Part, StoredAt, octets_to_read, parts_to_read, pass_piece, read_front};
@@ -47,7 +48,8 @@ impl Model for Region {
 impl Region {
     /// A message of which nothing is read, with the memory for its octets.
     pub fn of(alloc: Global, from: StoredAt) -> Result<Region, NoMemory>
-        ensures { IfOk result (λ region. region ≡ unread from) }
+        ensures unread { IfOk result (λ region. region ≡ unread from) }
+        ensures pieces { IfOk result (λ region. length from.instances ≤ 65535 → pieces_left region.left ≤ most_pieces) }
     {
         let total = octets_to_read(&from).ok_or(NoMemory)?;
         let parts = parts_to_read(alloc, &from)?;

@@ -86,8 +86,8 @@ impl FetchTask {
         requires ready { store.old.stopped ≡ false → IsReadyToFetch self.old.stage store.old }
         requires room { store.old.stopped ≡ false → HasFetchRoom self.old.stage store.old }
         // Of every run that has come to the store, and of lists for which its files are safe: which event it was, what it
-        // answered, and what a crash may leave. No purge has doomed the file that is unpinned.
-        ensures does { (around after : Around) → UnpinsUndoomed self.old.stage store.old → FetchSteps around after self.old.name self.old.uid self.old.stage self.new.stage store.old store.new (D.history store.old.disk) (D.history store.new.disk) (D.faults store.old.disk) (D.faults store.new.disk) self.new.did (ended_by result) }
+        // answered, and what a crash may leave. Unless the store is stopped, no purge has doomed the file that is unpinned.
+        ensures does { (around after : Around) → (store.old.stopped ≡ false → UnpinsUndoomed self.old.stage store.old) → FetchSteps around after self.old.name self.old.uid self.old.stage self.new.stage store.old store.new (D.history store.old.disk) (D.history store.new.disk) (D.faults store.old.disk) (D.faults store.new.disk) self.new.did (ended_by result) }
 
         // It moves only its own claims, and leaves to other tasks what is theirs. One that was replied claims nothing.
         ensures claims { store.new.stopped ≡ false → UnpinsUndoomed self.old.stage store.old → MovesClaims (fetch_claims self.old.stage) (fetch_claims self.new.stage) store.old store.new }
@@ -95,7 +95,7 @@ impl FetchTask {
         ensures ended { (given : Reply) → result ≡ progress.Done given → store.new.stopped ≡ false → ClaimsNothing (fetch_claims self.new.stage) }
 
         // So it ends.
-        ensures left { result ≡ progress.More → events_left store.old.map self.new.stage < events_left store.old.map self.old.stage }
+        ensures left { result ≡ progress.More → events_left self.new.stage < events_left self.old.stage }
         ensures request { (self.new.name ≡ self.old.name) × (self.new.uid ≡ self.old.uid) }
 
         // Over every disk: what was read and is replied, and what became of the store.
@@ -138,7 +138,7 @@ fn begin<D: Disk>(store: &mut Store<D>, name: &Name, uid: Uid) -> (FetchStage, P
     ensures leaves { LeavesOthers no_claims store.old store.new (D.history store.old.disk) (D.history store.new.disk) }
     ensures ready { IsReadyToFetch result.0 store.new }
     ensures left { HasPieceLeft result.0 }
-    ensures fewer { result.1 ≡ progress.More → events_left store.old.map result.0 < events_left store.old.map stage.First }
+    ensures fewer { result.1 ≡ progress.More → events_left result.0 < events_left stage.First }
 {
     store.facts();
     match find_message(store, name, uid) {
@@ -172,7 +172,7 @@ fn read_piece<D: Disk>(store: &mut Store<D>, region: Region) -> FetchStage
     ensures read { IsPieceRead region result (D.history store.old.disk) (D.faults store.old.disk) (D.faults store.new.disk) }
     ensures left { HasPieceLeft result }
     ensures ready { IsReadyToFetch (stage.Reading region) store.old → IsReadyToFetch result store.new }
-    ensures fewer { events_left store.old.map result < events_left store.old.map (stage.Reading region) }
+    ensures fewer { events_left result < events_left (stage.Reading region) }
     ensures same { store.new ≡ record store.old { disk = store.new.disk } }
     ensures idle { IsIdle (D.history store.old.disk) (D.history store.new.disk) }
     ensures fault { NoChangeFault (D.faults store.old.disk) (D.faults store.new.disk) }

@@ -276,7 +276,7 @@ copy_added name uid target held given Stands old new before after began faulted 
             ended_is = refl;
             unrefused = refl;
             undrawn = refl;
-            leaves = record { pins = refl; unpins = refl; doomed = refl; removed = refl; given = refl; placed = refl; gone = refl };
+            leaves = record { made = refl; pins = refl; unpins = refl; doomed = refl; removed = refl; given = refl; placed = refl; gone = refl };
             finds = tt;
             found = tt;
             part_is = adds_next around run q name uid target half_is.Whole held (own_events place run) first c one h;
@@ -290,7 +290,7 @@ copy_added name uid target held given Stands old new before after began faulted 
           (box_tells pins r.number (added_copy given r.row) old new before after began faulted (λ runs. ran) a) (
             answers_well run lists q event (reply.Copied given) (add_message target k.shown.message lists) shows.0 tt (allowed, copied),
             shown_on seen later _ (add_message target k.shown.message lists) a.map r.took.taken k.shows,
-          ) a.grows refl ((allowed, copied), refl) (
+          ) a.grows (a.stays old.map) refl ((allowed, copied), refl) (
             refl,
             refl,
             r.took.runs,
@@ -299,7 +299,7 @@ copy_added name uid target held given Stands old new before after began faulted 
               settled = λ s. subst (λ (ls : Lists). IsSettledFor ls after) k.by (r.took.settled lists k.shown.message.octets (brings_copy before old name uid target r.row r.number given lists is ran r.at k s) s);
             },
           )
-          (ends_well q said event ended ended (did.Step half_is.Whole) seen later refl ran r.took.runs (let same = a.reads in omega (arith, same)) a.changes (λ x. x) (copied_runs given) (λ some. ap (λ (s : List Reply). slice_get (halves_of q) (length s)) stood.1)
+          (ends_well q said event ended ended (did.Step half_is.Whole) seen later refl ran r.took.runs r.took.unfailed (λ x. x) (copied_runs given) (λ some. ap (λ (s : List Reply). slice_get (halves_of q) (length s)) stood.1)
           (λ x e. subst (λ (y : Reply). IsReplyOf q (said ++ reply.Copied given ∷ []) y) (one_reply (reply.Copied given) x e) (subst (λ (s : List Reply). IsReplyOf q (s ++ reply.Copied given ∷ []) (reply.Copied given)) (sym stood.1) refl)))).so,
       λ e. absurd (never_more _ e),
     )
@@ -404,7 +404,7 @@ given_back q name uid target half held why Stands old new before after began fau
             ended_is = refl;
             unrefused = refl;
             undrawn = refl;
-            leaves = record { pins = refl; unpins = refl; doomed = refl; removed = refl; given = refl; placed = refl; gone = refl };
+            leaves = record { made = refl; pins = refl; unpins = refl; doomed = refl; removed = refl; given = refl; placed = refl; gone = refl };
             finds = c.finds around event;
             found = c.found around run event GivesBack;
             part_is = gives_back_next around run q name uid target half why (own_events place run) first second c other two r;
@@ -415,8 +415,8 @@ given_back q name uid target half held why Stands old new before after began fau
             replied = replied_back (own_events place run) first second event why two r.refused refl;
           }) come (comes_with run event (lowering_of held) seen later come t.taken a.drawn a.grows refl refl refl)
           (λ u. lowered_ends (due_at u old) (due_at u new) held.0 u (lowered_due held old new u (due u) (t.due u)))
-          (took_tells pins (lowering_of held) old new before after began faulted ran t) (shows_still pins old new before after began faulted lists a shows) a.grows (sym c.steps_back) refl (refl, t.runs ∙ sym ran, leads_still pins (lowering_of held) old new before after began faulted lists t)
-          (ends_well q said event None (Some (reply.Refused why)) did.Quiet seen later refl ran t.runs (let same = a.reads in omega (arith, same)) a.changes (λ x. x) (λ e. other (let k : reply.Refused why ≡ reply.Refused refusal.Stopped = cc e in cc k)) (λ some. absurd (let k : false ≡ true = some in cc k))
+          (took_tells pins (lowering_of held) old new before after began faulted ran t) (shows_still pins old new before after began faulted lists a shows) a.grows (a.stays old.map) (sym c.steps_back) refl (refl, t.runs ∙ sym ran, leads_still pins (lowering_of held) old new before after began faulted lists t)
+          (ends_well q said event None (Some (reply.Refused why)) did.Quiet seen later refl ran t.runs t.unfailed (λ x. x) (λ e. other (let k : reply.Refused why ≡ reply.Refused refusal.Stopped = cc e in cc k)) (λ some. absurd (let k : false ≡ true = some in cc k))
           (λ given e. subst (λ (x : Reply). IsReplyOf q said x) (one_reply (reply.Refused why) given e) (given_reply q name uid target half said why c stood.1 stood.2)))).so,
       λ e. absurd (never_more _ e),
     )

@@ -16,6 +16,7 @@ use Rattle.list_machine.specs.Machine.{AreCounts, count_different}
 use Rattle.journal.specs.Journal.{halves_of, IsReplyOf}
 use Rattle.journal.specs.Events.{Around, next_part}
 use Rattle.store_core.specs.Value.{StoreValue}
+use Rattle.task_steps.proofs.UnmovedLemmas.{mail_still}
 use Rattle.task_steps.specs.Step.{HasNotBegun, Steps}
 use Rattle.task_steps.proofs.OneEventLemmas.{IsPlain, does_nothing, never_more, memory_is, when_stopped, nothing, some_given, refusal_last}
 use Rattle.task_steps.proofs.SeenLemmas.{tells_itself}
@@ -70,7 +71,7 @@ counts_done store history faults a b c d runs records listed counts ids = λ aro
             ended_is = refl;
             unrefused = refl;
             undrawn = refl;
-            leaves = record { pins = refl; unpins = refl; doomed = refl; removed = refl; given = refl; placed = refl; gone = refl };
+            leaves = record { made = refl; pins = refl; unpins = refl; doomed = refl; removed = refl; given = refl; placed = refl; gone = refl };
             finds = tt;
             found = tt;
             part_is = ap (λ (es : List RunEvent). next_part around run q es) stood.0;
@@ -79,8 +80,8 @@ counts_done store history faults a b c d runs records listed counts ids = λ aro
             did = refl;
             ends = record { 0 = λ e. refl; 1 = λ e f. some_given given f };
             replied = refusal_last (own_events place run) event stood.0;
-          }) come (comes_along run event seen seen come refl refl (omega arith) refl refl refl) (λ uid. refl) (tells_itself seen) shows (omega arith) refl ((refl, (are, refl)), refl) (refl, refl, runs, nothing lists seen)
-          (ends_well q said event (Some given) (Some given) (did.Step half.Whole) seen seen refl runs runs (omega arith) (omega arith) (λ x. x) (counted_runs a b c d) (λ some. ap (λ (s : List Reply). slice_get (halves_of q) (length s)) stood.1)
+          }) come (comes_along run event seen seen come refl refl (omega arith) refl refl refl) (λ uid. refl) (tells_itself seen) shows (omega arith) (mail_still store.map history) refl ((refl, (are, refl)), refl) (refl, refl, runs, nothing lists seen)
+          (ends_well q said event (Some given) (Some given) (did.Step half.Whole) seen seen refl runs runs refl (λ x. x) (counted_runs a b c d) (λ some. ap (λ (s : List Reply). slice_get (halves_of q) (length s)) stood.1)
           (λ r e. subst (λ (x : Reply). IsReplyOf q (said ++ given ∷ []) x) (one_reply given r e) (subst (λ (s : List Reply). IsReplyOf q (s ++ given ∷ []) given) (sym stood.1) refl)))).so,
       λ e. absurd (never_more _ e),
     )

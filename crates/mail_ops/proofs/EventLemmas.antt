@@ -3,7 +3,7 @@ use Rattle.std.proofs.Common.{◌≡◌, ◌≤◌, ◌+◌, ℕ, Bool, true, fa
 use Rattle.std.specs.Prelude.{All, length, slice_get, is_some, ◌↔◌, ◌++◌, ◌≢◌}
 use Rattle.std.specs.Option.{IfSome, option_or}
 use Rattle.std.proofs.lemmas.List.Elements.{All-nil, All-cons}
-use Rattle.disk_model.specs.Disk.{told_calls, Grows}
+use Rattle.disk_model.specs.Disk.{Faults, told_calls, Grows}
 use Rattle.mdbox_base.specs.Streams.{Rose}
 use Rattle.mdbox_base.specs.declared.entries.Highest.{Highest}
 use Rattle.mdbox_base.specs.declared.progress.Did.{Did}
@@ -25,7 +25,10 @@ use Rattle.journal.specs.Events.{Around, Finds, DidPart, MayMeet, has_memory, ne
 use Rattle.journal.specs.Found.{AgreesWithRun}
 use Rattle.journal.specs.Makes.{HasCome, StepOf}
 use Rattle.journal.proofs.RunLemmas.{comes_on}
-use Rattle.task_steps.specs.Step.{Seen, ShowsSeen, HasComeTo, Went, IsFault, and_told, EndsRequest, DidEvent}
+use Rattle.disk_model.specs.FaultCounts.{NoFault}
+use Rattle.model_kept.specs.Kept.{MailIsKept}
+use Rattle.task_steps.proofs.UnmovedLemmas.{mail_still}
+use Rattle.task_steps.specs.Step.{FaultsGrow, Seen, ShowsSeen, HasComeTo, Went, IsFault, and_told, EndsRequest, DidEvent}
 use Rattle.task_steps.specs.Tells.{LeavesFiles, TellsSame}
 use Rattle.task_steps.proofs.SeenLemmas.{comes_to_on, no_guids, tells_itself}
 use Rattle.task_steps.proofs.OneEventLemmas.{one_refusal, some_refusal, step_may, nothing}
@@ -79,11 +82,13 @@ pub record StaysSo (old new : Seen) : Type 0 where
   pub due : (uid : ℕ) → new.due uid ≡ old.due uid
   pub tells : TellsSame old new
   pub grows : Grows old.history new.history
+  pub mail : MailIsKept old.map old.history new.history
   pub reads : old.faults.reads ≤ new.faults.reads
   pub changes : old.faults.changes ≤ new.faults.changes
+  pub unfailed : new.stopped ≡ false → NoFault old.faults new.faults
 
 pub stays_itself : (seen : Seen) → StaysSo seen seen
-stays_itself seen = record { map = refl; drawn = refl; due = λ uid. refl; tells = tells_itself seen; grows = omega arith; reads = omega arith; changes = omega arith }
+stays_itself seen = record { map = refl; drawn = refl; due = λ uid. refl; tells = tells_itself seen; grows = omega arith; mail = mail_still seen.map seen.history; reads = omega arith; changes = omega arith; unfailed = λ runs. refl }
 
 -- the run with an event that adds no entry to the map log has come to where the store stands
 pub comes_along : (run : Run) (event : RunEvent) (old new : Seen) → HasComeTo run old → new.map ≡ old.map → new.drawn ≡ old.drawn → Grows old.history new.history → event.moment ≡ told_calls new.history → event.map_entries ≡ [] → event.drew ≡ no_numbers
@@ -143,10 +148,11 @@ did_refused around after run lane place said q part lists old new why ended answ
       made = made;
       come = comes;
     };
-    come = comes_to_on run event old new come comes (λ uid. let d = stays.due uid in omega (arith, d)) (record { pins = refl; unpins = refl; doomed = refl; removed = refl; given = refl; placed = refl; gone = refl }) stays.tells;
+    come = comes_to_on run event old new come comes (λ uid. let d = stays.due uid in omega (arith, d)) (record { made = refl; pins = refl; unpins = refl; doomed = refl; removed = refl; given = refl; placed = refl; gone = refl }) stays.tells;
     gives = no_guids run event refl;
     went = went;
     grows = stays.grows;
+    mail = stays.mail;
     ends = ends;
   };
   event_is = refl;
@@ -171,7 +177,19 @@ did_unstepped around after run lane place said q part lists old new why ended ho
       still = still;
       reads = λ e. absurd (calm (one_refusal why refusal.ReadFault e));
       faults = record { reads = stays.reads; changes = stays.changes; rose = rose };
+      unfailed = λ read change. unfailed_so how went change;
     })
+  where
+    -- nothing has changed in a store that is stopped
+    by_stopped : (b : Bool) → new.stopped ≡ b → new.stopped ≡ old.stopped → NoFault old.faults new.faults
+    by_stopped true e same = ap (λ (s : Seen). s.faults) (still (sym same ∙ e))
+    by_stopped false e same = stays.unfailed e
+
+    unfailed_so : (h : Did) → Went h q run lists lists (refusal_event lane place part why ended (told_calls new.history)) None old new → (IsFault h → ⊥) → NoFault old.faults new.faults
+    unfailed_so did.Quiet w change = by_stopped new.stopped refl w.1
+    unfailed_so (did.Step half) w change = absurd (let k : false ≡ true = w.0 in cc k)
+    unfailed_so did.Failed w change = absurd (change tt)
+    unfailed_so (did.Broken half) w change = absurd (change tt)
 
 -- A store that was stopped.
 stopped_calm : refusal.Stopped ≡ refusal.ReadFault → ⊥
@@ -212,6 +230,7 @@ did_check around after run lane place said q part lists seen why ended half can 
       still = λ e. refl;
       reads = λ e. absurd (step_calm why step (one_refusal why refusal.ReadFault e));
       faults = record { reads = omega arith; changes = omega arith; rose = λ x. absurd x };
+      unfailed = λ read change. refl;
     })
   where
     event : RunEvent
@@ -242,10 +261,10 @@ pub record DoesPart (around after : Around) (run : Run) (lane place : ℕ) (q : 
   pub replied : IsRepliedBy (own_events event.request run ++ event ∷ []) event.reply
 
 pub did_part : (around after : Around) (run : Run) (lane place : ℕ) (said : List Reply) (q : Request) (lists left : Lists) (old new : Seen) (how : Did) (ended answer : Option Reply) (event : RunEvent) → DoesPart around after run lane place q lists (told_calls new.history) ended event → HasComeTo run old
-    → HasCome (and_then run event) new.map new.drawn (told_calls new.history) → ((uid : ℕ) → new.due uid + ended_in uid event ≡ old.due uid + begun_in uid event) → TellsSame old new → ShowsSeen new left → Grows old.history new.history
+    → HasCome (and_then run event) new.map new.drawn (told_calls new.history) → ((uid : ℕ) → new.due uid + ended_in uid event ≡ old.due uid + begun_in uid event) → TellsSame old new → ShowsSeen new left → Grows old.history new.history → MailIsKept old.map old.history new.history
     → is_some answer ≡ makes_step q event.part event.refused → StepOf run q lists event answer left → Went how q run lists left event answer old new → EndsRequest q said event answer ended how old new
     → DidBy around after run lane place said q lists old new how ended event answer
-did_part around after run lane place said q lists left old new how ended answer event does come comes due tells shows grows told made went ends = record {
+did_part around after run lane place said q lists left old new how ended answer event does come comes due tells shows grows mail told made went ends = record {
   so = record {
     left = left;
     shown = shows;
@@ -279,6 +298,7 @@ did_part around after run lane place said q lists left old new how ended answer 
     gives = no_guids run event does.leaves.given;
     went = went;
     grows = grows;
+    mail = mail;
     ends = ends;
   };
   event_is = refl;
@@ -286,13 +306,14 @@ did_part around after run lane place said q lists left old new how ended answer 
 }
 
 -- the end of a request's event that isn't refused, of a store that isn't stopped before or afterwards
-pub ends_well : (q : Request) (said : List Reply) (event : RunEvent) (answer ended : Option Reply) (how : Did) (old new : Seen) → event.refused ≡ None → old.stopped ≡ false → new.stopped ≡ false → old.faults.reads ≤ new.faults.reads → old.faults.changes ≤ new.faults.changes → (IsFault how → ⊥)
+pub ends_well : (q : Request) (said : List Reply) (event : RunEvent) (answer ended : Option Reply) (how : Did) (old new : Seen) → event.refused ≡ None → old.stopped ≡ false → new.stopped ≡ false → NoFault old.faults new.faults → (IsFault how → ⊥)
     → (ended ≡ Some (reply.Refused refusal.Stopped) → ⊥) → (is_some answer ≡ true → slice_get (halves_of q) (length said) ≡ Some (half_of q event.part)) → ((given : Reply) → ended ≡ Some given → IsReplyOf q (and_told said answer) given) → EndsRequest q said event answer ended how old new
-ends_well q said event answer ended how old new unrefused ran runs reads changes faultless unstopped turn replied = record {
+ends_well q said event answer ended how old new unrefused ran runs unfailed faultless unstopped turn replied = record {
   in_turn = turn;
   replied = replied;
   halts = record { 0 = λ e. absurd (unstopped e); 1 = λ e. absurd (fall new.stopped e runs) };
   still = λ e. absurd (fall old.stopped e ran);
   reads = λ e. absurd (no_refusal refusal.ReadFault (sym unrefused ∙ e));
-  faults = record { reads = reads; changes = changes; rose = λ x. absurd (faultless x) };
+  faults = subst (λ (f : Faults). FaultsGrow (IsFault how) old.faults f) (sym unfailed) (record { reads = omega arith; changes = omega arith; rose = λ x. absurd (faultless x) });
+  unfailed = λ read change. unfailed;
 }

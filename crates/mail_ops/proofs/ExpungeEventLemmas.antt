@@ -113,7 +113,7 @@ expunge_removed name uid owed old new before after began then is ran r = λ arou
       ended_is = refl;
       unrefused = refl;
       undrawn = refl;
-      leaves = record { pins = refl; unpins = refl; doomed = refl; removed = refl; given = refl; placed = refl; gone = refl };
+      leaves = record { made = refl; pins = refl; unpins = refl; doomed = refl; removed = refl; given = refl; placed = refl; gone = refl };
       finds = tt;
       found = tt;
       part_is = ap (λ (es : List RunEvent). next_part around run q es) stood.0;
@@ -128,7 +128,7 @@ expunge_removed name uid owed old new before after began then is ran r = λ arou
     (box_tells pins r.number (box_entry.R uid) old new before after began then (λ runs. ran) a) (
       answers_well run lists q event reply.Done (expunge name uid.0 lists) shows.0 tt (k.allowed, refl),
       shown_on seen later _ (expunge name uid.0 lists) a.map r.took.taken k.shows,
-    ) a.grows refl ((k.allowed, refl), refl) (
+    ) a.grows (a.stays old.map) refl ((k.allowed, refl), refl) (
       refl,
       refl,
       r.took.runs,
@@ -137,7 +137,7 @@ expunge_removed name uid owed old new before after began then is ran r = λ arou
         settled = λ s. subst (λ (ls : Lists). IsSettledFor ls after) k.by (r.took.settled lists [] (brings_removal old.map uid [] before) s);
       },
     )
-    (ends_well q said event (Some reply.Done) None (did.Step half.Whole) seen later refl ran r.took.runs (let same = a.reads in omega (arith, same)) a.changes (λ x. x) (λ e. no_reply (reply.Refused refusal.Stopped) e)
+    (ends_well q said event (Some reply.Done) None (did.Step half.Whole) seen later refl ran r.took.runs r.took.unfailed (λ x. x) (λ e. no_reply (reply.Refused refusal.Stopped) e)
     (λ some. ap (λ (s : List Reply). slice_get (halves_of q) (length s)) stood.1) (λ given e. absurd (no_reply given e))))
     (λ goes_on. (
       (
@@ -228,7 +228,7 @@ expunge_lowered name uid owed old new before after began then ran due t = λ aro
             ended_is = refl;
             unrefused = refl;
             undrawn = refl;
-            leaves = record { pins = refl; unpins = refl; doomed = refl; removed = refl; given = refl; placed = refl; gone = refl };
+            leaves = record { made = refl; pins = refl; unpins = refl; doomed = refl; removed = refl; given = refl; placed = refl; gone = refl };
             finds = tt;
             found = tt;
             part_is = next_is around run name uid (own_events place run) at.0 at.1 at.2 at.3;
@@ -239,8 +239,8 @@ expunge_lowered name uid owed old new before after began then ran due t = λ aro
             replied = never_refused (own_events place run) at.0 event at.1 at.3;
           }) come (comes_with run event (lowering_of owed) seen later come t.taken a.drawn a.grows refl refl refl)
           (λ other. last_due (due_at other old) (due_at other new) owed.0 other (lowered_due owed old new other (due other) (t.due other)))
-          (took_tells pins (lowering_of owed) old new before after began then ran t) (shows_still pins old new before after began then lists a shows) a.grows refl refl (refl, t.runs ∙ sym ran, leads_still pins (lowering_of owed) old new before after began then lists t)
-          (ends_well q said event None (Some reply.Done) did.Quiet seen later refl ran t.runs (let same = a.reads in omega (arith, same)) a.changes (λ x. x) said_done (λ some. absurd (let k : false ≡ true = some in cc k))
+          (took_tells pins (lowering_of owed) old new before after began then ran t) (shows_still pins old new before after began then lists a shows) a.grows (a.stays old.map) refl refl (refl, t.runs ∙ sym ran, leads_still pins (lowering_of owed) old new before after began then lists t)
+          (ends_well q said event None (Some reply.Done) did.Quiet seen later refl ran t.runs t.unfailed (λ x. x) said_done (λ some. absurd (let k : false ≡ true = some in cc k))
           (λ given e. subst (λ (r : Reply). IsReplyOf q said r) (one_reply reply.Done given e) stood.1))).so,
       λ e. absurd (never_more _ e),
     )

@@ -29,6 +29,8 @@ use Rattle.journal.specs.Events.{Around, adds_to}
 use Rattle.journal.specs.Makes.{HasCome, Makes}
 use Rattle.journal.proofs.RunLemmas.{comes_on}
 use Rattle.store_core.specs.Append.{Brings}
+use Rattle.disk_model.specs.FaultCounts.{NoFault}
+use Rattle.model_kept.specs.Kept.{MailIsKept}
 use Rattle.task_steps.specs.Step.{Seen, ShowsSeen, HasComeTo, DidEvent, HasNotBegun}
 use Rattle.task_steps.specs.Tells.{TellsSame}
 use Rattle.task_steps.proofs.SeenLemmas.{comes_to_on, no_guids}
@@ -75,6 +77,8 @@ pub record AppendsFlag (old new : Seen) (number : ℕ) (uid : Uid) (bits : ℕ) 
   pub moments : (ls : Lists) → IsSettledFor ls old.history → Leaves ls (lists_by number [] (entry.F uid bits) ls) old.history new.history
   pub reads : old.faults.reads ≤ new.faults.reads
   pub changes : old.faults.changes ≤ new.faults.changes
+  pub mail : MailIsKept old.map old.history new.history
+  pub unfailed : new.stopped ≡ false → NoFault old.faults new.faults
 
 -- ---- the event
 
@@ -156,7 +160,7 @@ flag_done around after run lane place said lists name number uid flags bits old 
   makes = flag_makes around after run lane place name uid flags number bits lists old new come a stage.0 f.answers;
   found = tt;
   come = comes_to_on run event old new come (come_along run event old new number uid bits come a refl (comes_on run event old.map old.drawn (told_calls old.history) come.come a.grows refl refl))
-      (λ other. let d = a.due_is other in omega (arith, d)) (record { pins = refl; unpins = refl; doomed = refl; removed = refl; given = refl; placed = refl; gone = refl }) a.same;
+      (λ other. let d = a.due_is other in omega (arith, d)) (record { made = refl; pins = refl; unpins = refl; doomed = refl; removed = refl; given = refl; placed = refl; gone = refl }) a.same;
   gives = no_guids run event refl;
   went = (
     refl,
@@ -168,6 +172,7 @@ flag_done around after run lane place said lists name number uid flags bits old 
     },
   );
   grows = a.grows;
+  mail = a.mail;
   ends = record {
     in_turn = λ some. first_turn (request.Flag name uid flags) said event (flag_is_plain name uid flags) stage.1 refl;
     replied = first_reply (request.Flag name uid flags) said (Some reply.Done) reply.Done stage.1 refl;
@@ -175,6 +180,7 @@ flag_done around after run lane place said lists name number uid flags bits old 
     still = λ e. absurd (fall old.stopped e a.ran);
     reads = λ e. absurd (no_refusal refusal.ReadFault e);
     faults = record { reads = a.reads; changes = a.changes; rose = λ x. absurd x };
+    unfailed = λ read change. a.unfailed runs;
   };
 }
   where
@@ -207,6 +213,7 @@ flag_broken around after run lane place said lists name number uid flags bits ol
     ),
   );
   grows = a.grows;
+  mail = a.mail;
   ends = record {
     in_turn = λ some. absurd (let k : false ≡ true = some in cc k);
     replied = first_reply (request.Flag name uid flags) said None (reply.Refused refusal.Stopped) stage.1 tt;
@@ -214,6 +221,7 @@ flag_broken around after run lane place said lists name number uid flags bits ol
     still = λ e. absurd (fall old.stopped e a.ran);
     reads = λ e. absurd (stopped_is e);
     faults = record { reads = a.reads; changes = a.changes; rose = λ x. rose };
+    unfailed = λ read change. absurd (change tt);
   };
 }
   where

@@ -18,6 +18,7 @@ use Rattle.list_machine.specs.Machine.{PartAnswers}
 use Rattle.journal.specs.Events.{Around}
 use Rattle.journal.specs.Makes.{HasCome, Makes}
 use Rattle.journal.proofs.RunLemmas.{comes_on}
+use Rattle.task_steps.proofs.UnmovedLemmas.{mail_still}
 use Rattle.task_steps.specs.Step.{Seen, ShowsSeen, HasComeTo, IsFault, DidEvent, HasNotBegun}
 use Rattle.task_steps.proofs.SeenLemmas.{comes_to_still, no_guids}
 use Rattle.task_steps.proofs.OneEventLemmas.{IsPlain, next_first, refusal_last, some_given, nothing, first_reply, first_turn, still_faults}
@@ -73,10 +74,11 @@ does_list around after run lane place said name lists seen rows come shows stage
   shown = shows;
   makes = list_makes around after run lane place name lists seen.map seen.drawn (told_calls seen.history) rows come.come stage.0 answers;
   found = tt;
-  come = comes_to_still run (list_event lane place rows (told_calls seen.history)) seen come (comes_on run (list_event lane place rows (told_calls seen.history)) seen.map seen.drawn (told_calls seen.history) come.come (omega arith) refl refl) (λ uid. refl) (record { pins = refl; unpins = refl; doomed = refl; removed = refl; given = refl; placed = refl; gone = refl });
+  come = comes_to_still run (list_event lane place rows (told_calls seen.history)) seen come (comes_on run (list_event lane place rows (told_calls seen.history)) seen.map seen.drawn (told_calls seen.history) come.come (omega arith) refl refl) (λ uid. refl) (record { made = refl; pins = refl; unpins = refl; doomed = refl; removed = refl; given = refl; placed = refl; gone = refl });
   gives = no_guids run (list_event lane place rows (told_calls seen.history)) refl;
   went = (refl, refl, runs, nothing lists seen);
   grows = omega arith;
+  mail = mail_still seen.map seen.history;
   ends = record {
     in_turn = λ some. first_turn (request.List name) said (list_event lane place rows (told_calls seen.history)) (list_is_plain name) stage.1 refl;
     replied = first_reply (request.List name) said (Some (reply.Listed rows)) (reply.Listed rows) stage.1 refl;
@@ -84,5 +86,6 @@ does_list around after run lane place said name lists seen rows come shows stage
     still = λ e. refl;
     reads = λ e. absurd (no_refusal refusal.ReadFault e);
     faults = still_faults (IsFault (did.Step half.Whole)) seen.faults (λ x. x);
+    unfailed = λ read change. refl;
   };
 }

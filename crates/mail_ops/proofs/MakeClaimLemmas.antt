@@ -1,5 +1,5 @@
 -- What a make claims, and what its events leave to the tasks beside it.
-use Rattle.std.proofs.Common.{◌≡◌, ◌+◌, ◌==◌, ◌||◌, ℕ, Bool, true, false, not, cond, List, [], ◌∷◌, ◌++◌, map, Option, refl, sym, ◌∙◌, ap, arith}
+use Rattle.std.proofs.Common.{◌≡◌, ◌≤◌, ◌+◌, ◌==◌, ◌||◌, ℕ, Bool, true, false, not, cond, List, [], ◌∷◌, ◌++◌, map, Option, refl, sym, ◌∙◌, ap, subst, arith}
 use Rattle.std.specs.Prelude.{count_by}
 use Rattle.std.specs.List.{list_any}
 use Rattle.std.specs.Str.{bytes_eq}
@@ -20,10 +20,12 @@ use Rattle.store_core.specs.Keeping.{KeepsUids}
 use Rattle.store_core.specs.MadeLogs.{has_made_log, without_box}
 use Rattle.store_core.specs.Value.{StoreValue, indexes_of, references_to}
 use Rattle.store_core.specs.declared.store.OpenBox.{OpenBox}
-use Rattle.task_claims.specs.Claims.{ClaimsNothing, Due, Emptied, Held, Made, MovesClaims, Pinned, Placing, Removing, Taken, amount_in, one_if}
+use Rattle.task_claims.specs.Claims.{ClaimsNothing, Due, Emptied, Held, Made, MovesClaims, Pinned, PlacingPieces, Removing, Taken, amount_in, one_if}
 use Rattle.task_claims.specs.Leaving.{LeavesOthers, SameButCounts, SyncsMail, but_count}
 use Rattle.task_claims.proofs.CountedLemmas.{same_map}
 use Rattle.task_claims.proofs.RestLemmas.{rest_leaves}
+use Rattle.mdbox_base.specs.declared.entries.MapEntry.TheVariants as map_entry
+use Rattle.mail_ops.proofs.LeavingLemmas.{highest_rises, same_highest}
 use Rattle.mail_ops.specs.Claims.{own_log_of, make_claims}
 use Rattle.mail_ops.specs.Making.{IsReadyToMake, KeepsAllButLogs, MakeAnswers, MakesLog}
 use Rattle.mail_ops.specs.declared.event.NotDone.TheVariants as not_done
@@ -113,12 +115,14 @@ refs_of_new ms guid =
 -- of records, listings and logs, where the store wasn't stopped
 pub record MakeChanges {D : Type 0} (now next : MakeStage) (old new : StoreValue D) : Type 0 where
   pub same : SameButCounts old.map new.map
+  pub mailboxes : old.map.highest.mailbox ≤ new.map.highest.mailbox
   pub refs : (guid : List ℕ) → references_to new guid ≡ references_to old guid
   pub logs : (number : ℕ) → one_if (has_made_log number new) + own_log_of now number ≡ one_if (has_made_log number old) + own_log_of next number
 
 nothing_changed : {D : Type 0} → (now : MakeStage) (old new : StoreValue D) → new.map ≡ old.map → new.boxes ≡ old.boxes → new.made ≡ old.made → MakeChanges now now old new
 nothing_changed now old new map_is boxes made = record {
   same = same_map old.map new.map map_is;
+  mailboxes = same_highest old.map new.map map_is;
   refs = λ guid. ap (λ (bs : List OpenBox). refs_in (indexes_of bs) guid) boxes;
   logs = λ number. ap (λ (bs : List OpenBox). one_if (list_any (HasNumber number) bs) + own_log_of now number) made;
 }
@@ -126,6 +130,7 @@ nothing_changed now old new map_is boxes made = record {
 log_removed : {D : Type 0} → (number : BoxNo) (old new : StoreValue D) → new ≡ record old { disk = new.disk; made = without_box number.0 old.made } → has_made_log number.0 old ≡ true → MakeChanges (make_stage.Naming number) make_stage.First old new
 log_removed number old new same there = record {
   same = same_map old.map new.map (ap (λ (v : StoreValue _). v.map) same);
+  mailboxes = same_highest old.map new.map (ap (λ (v : StoreValue _). v.map) same);
   refs = λ guid. ap (λ (v : StoreValue _). references_to v guid) same;
   logs = log_less number.0 old new (ap (λ (v : StoreValue _). v.made) same) there;
 }
@@ -133,6 +138,7 @@ log_removed number old new same there = record {
 pub make_changes : {D : Type 0} → (name : List ℕ) (now next : MakeStage) (answer : Progress) (old new : StoreValue D) (before after : Option History) → new.stopped ≡ false → IsReadyToMake now old → MakeAnswers name now old new before after next answer → MakeChanges now next old new
 make_changes name make_stage.First (make_stage.Naming number) progress.More old new before after runs ready a = record {
   same = same_map old.map new.map (ap (λ (v : StoreValue _). v.map) a.1.same);
+  mailboxes = same_highest old.map new.map (ap (λ (v : StoreValue _). v.map) a.1.same);
   refs = λ guid. ap (λ (v : StoreValue _). references_to v guid) a.1.same;
   logs = log_more number.0 old new a.1;
 }
@@ -141,6 +147,7 @@ make_changes name make_stage.First make_stage.First (progress.Done (reply.Refuse
 make_changes name make_stage.First make_stage.First (progress.Done (reply.Refused why)) old new before after runs ready (not_done.Stopped, _, a) = absurd (fall new.stopped (ap (λ (v : StoreValue _). v.stopped) a.0) runs)
 make_changes name (make_stage.Naming number) make_stage.First (progress.Done reply.Done) old new before after runs ready a = record {
   same = ap (λ (m : MapMeaning). map but_count m.records) a.2.map ∙ ap (map but_count) (records_by_mailbox number 1 name old.map.records);
+  mailboxes = subst (λ (m : MapMeaning). old.map.highest.mailbox ≤ m.highest.mailbox) (sym a.2.map) (highest_rises (map_entry.B number 1 name) old.map);
   refs = λ guid. ap (λ (ms : List BoxMeaning). refs_in ms guid) a.2.indexes ∙ refs_of_new (indexes_of old.boxes) guid;
   logs = log_less number.0 old new a.2.made ready;
 }
@@ -156,7 +163,7 @@ make_moves now next old new c moves rest (Due uid) = moves.due uid
 make_moves now next old new c moves rest (Pinned file) = ap (λ (v : StoreValue _). amount_in (Pinned file) v + 0) rest
 make_moves now next old new c moves rest (Taken file) = ap (λ (v : StoreValue _). amount_in (Taken file) v + 0) rest
 make_moves now next old new c moves rest (Emptied file) = ap (λ (v : StoreValue _). amount_in (Emptied file) v + 0) rest
-make_moves now next old new c moves rest (Placing file) = ap (λ (v : StoreValue _). amount_in (Placing file) v + 0) rest
+make_moves now next old new c moves rest (PlacingPieces file) = ap (λ (v : StoreValue _). amount_in (PlacingPieces file) v + 0) rest
 make_moves now next old new c moves rest (Removing file) = ap (λ (v : StoreValue _). amount_in (Removing file) v + 0) rest
 make_moves now next old new c moves rest (Held id) = ap (λ (v : StoreValue _). amount_in (Held id) v + 0) rest
 make_moves now next old new c moves rest (Made number) = c.logs number
@@ -167,7 +174,7 @@ same_due a b e = omega (arith, e)
 pub make_leaves : {D : Type 0} → (now next : MakeStage) (old new : StoreValue D) (before after : Option History) → MakeChanges now next old new → Moves no_amounts no_amounts (amounts_in old) (amounts_in new) → KeepsAllButLogs old new → SyncsMail before after → KeepsUids old new
     → LeavesOthers (make_claims now) old new before after
 make_leaves now next old new before after c moves rest mail keeps =
-    rest_leaves (make_claims now) old new before after (ap (λ (v : StoreValue _). v.files) rest) (ap (λ (v : StoreValue _). v.instances) rest) mail c.same keeps
+    rest_leaves (make_claims now) old new before after (ap (λ (v : StoreValue _). v.files) rest) (ap (λ (v : StoreValue _). v.instances) rest) mail c.same c.mailboxes keeps
     (λ uid rec none found listed. (c.refs rec.guid ∙ listed, same_due (amount_in (Due uid) new) (amount_in (Due uid) old) (moves.due uid)))
 
 -- a make that has no log of its own
@@ -176,7 +183,7 @@ first_claims_nothing (Due uid) = refl
 first_claims_nothing (Pinned file) = refl
 first_claims_nothing (Taken file) = refl
 first_claims_nothing (Emptied file) = refl
-first_claims_nothing (Placing file) = refl
+first_claims_nothing (PlacingPieces file) = refl
 first_claims_nothing (Removing file) = refl
 first_claims_nothing (Held id) = refl
 first_claims_nothing (Made number) = refl

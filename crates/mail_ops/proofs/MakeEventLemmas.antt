@@ -27,6 +27,9 @@ use Rattle.journal.specs.Events.{MayMeet, Around, has_memory, is_overtaken, next
 use Rattle.journal.specs.Makes.{HasCome}
 use Rattle.journal.proofs.RunLemmas.{drawn_more, entries_more}
 use Rattle.store_core.specs.Value.{StoreValue, indexes_of}
+use Rattle.disk_model.specs.FaultCounts.{NoFault}
+use Rattle.model_kept.specs.Kept.{MailIsKept}
+use Rattle.task_steps.proofs.UnmovedLemmas.{mail_still}
 use Rattle.task_steps.specs.Step.{Seen, ShowsSeen, HasComeTo, Leads, Steps, Went, EndsRequest}
 use Rattle.task_steps.specs.Tells.{TellsSame}
 use Rattle.task_steps.proofs.OneEventLemmas.{step_may, leaves_none, never_more, memory_is, one_refusal, some_refusal}
@@ -113,8 +116,8 @@ in_turn name said part none = ap (λ (before : List Reply). slice_get (half.Whol
 
 -- ---- a store that goes on
 
-pub stays_of : {D : Type 0} → (pins : ℕ → ℕ) → (old new : StoreValue D) (before after : Option History) (began then : Faults) (left : Lists → Lists) → (new.stopped ≡ false → old.stopped ≡ false) → new.map ≡ old.map → new.drawn ≡ old.drawn → new.files ≡ old.files → new.instances ≡ old.instances → new.dues ≡ old.dues → ChangesDisk left before after began then → StaysSo (seen_of pins old before began) (seen_of pins new after then)
-stays_of pins old new before after began then left ran map drawn files instances dues c = record {
+pub stays_of : {D : Type 0} → (pins : ℕ → ℕ) → (old new : StoreValue D) (before after : Option History) (began then : Faults) (left : Lists → Lists) → (new.stopped ≡ false → old.stopped ≡ false) → new.map ≡ old.map → new.drawn ≡ old.drawn → new.files ≡ old.files → new.instances ≡ old.instances → new.dues ≡ old.dues → ChangesDisk left before after began then → (new.stopped ≡ false → NoFault began then) → StaysSo (seen_of pins old before began) (seen_of pins new after then)
+stays_of pins old new before after began then left ran map drawn files instances dues c unfailed = record {
   map = map;
   drawn = drawn;
   due = λ uid. due_as_before old new uid map dues;
@@ -122,6 +125,8 @@ stays_of pins old new before after began then left ran map drawn files instances
   grows = c.grows;
   reads = let same = c.reads in omega (arith, same);
   changes = c.changes;
+  mail = c.stays old.map;
+  unfailed = unfailed;
 }
 
 pub shows_of : {D : Type 0} → (pins : ℕ → ℕ) → (old new : StoreValue D) (before after : Option History) (began then : Faults) (lists : Lists) → new.map ≡ old.map → new.boxes ≡ old.boxes → ShowsSeen (seen_of pins old before began) lists → ShowsSeen (seen_of pins new after then) lists
@@ -193,6 +198,7 @@ pub record DrawsSo (old new : Seen) : Type 0 where
   pub grows : Grows old.history new.history
   pub reads : old.faults.reads ≤ new.faults.reads
   pub changes : old.faults.changes ≤ new.faults.changes
+  pub mail : MailIsKept old.map old.history new.history
 
 drawn_then : (run : Run) (event : RunEvent) (old new : Seen) → HasComeTo run old → DrawsSo old new → event.moment ≡ told_calls new.history → event.map_entries ≡ [] → event.drew ≡ one_box → HasCome (and_then run event) new.map new.drawn (told_calls new.history)
 drawn_then run event old new come d moment entries drew =
@@ -242,10 +248,11 @@ did_drawing around after run lane place said name lists old new how refused ende
       made = refl;
       come = comes;
     };
-    come = comes_to_on run event old new come comes (λ uid. let e = d.due uid in omega (arith, e)) (record { pins = refl; unpins = drawn_unpins refused; doomed = refl; removed = refl; given = refl; placed = refl; gone = refl }) d.tells;
+    come = comes_to_on run event old new come comes (λ uid. let e = d.due uid in omega (arith, e)) (record { made = refl; pins = refl; unpins = drawn_unpins refused; doomed = refl; removed = refl; given = refl; placed = refl; gone = refl }) d.tells;
     gives = no_guids run event refl;
     went = went;
     grows = d.grows;
+    mail = d.mail;
     ends = ends;
   };
   event_is = refl;
@@ -260,13 +267,14 @@ did_drawing around after run lane place said name lists old new how refused ende
 
 -- a store that has drawn a number
 pub draws_of : {D : Type 0} → (pins : ℕ → ℕ) → (old new : StoreValue D) (before after : Option History) (began then : Faults) → (new.stopped ≡ false → old.stopped ≡ false) → new.map ≡ old.map → new.drawn ≡ record old.drawn { mailbox = old.drawn.mailbox + 1 } → new.files ≡ old.files → new.instances ≡ old.instances → new.dues ≡ old.dues
-    → Grows before after → began.reads ≤ then.reads → began.changes ≤ then.changes → DrawsSo (seen_of pins old before began) (seen_of pins new after then)
-draws_of pins old new before after began then ran map drawn files instances dues grows reads changes = record {
+    → Grows before after → MailIsKept old.map before after → began.reads ≤ then.reads → began.changes ≤ then.changes → DrawsSo (seen_of pins old before began) (seen_of pins new after then)
+draws_of pins old new before after began then ran map drawn files instances dues grows mail reads changes = record {
   map = map;
   drawn = drawn;
   due = λ uid. due_as_before old new uid map dues;
   tells = tells_as_before pins old new before after began then ran (ap (λ (m : MapMeaning). m.store) map) (ap (λ (d : Highest). d.file) drawn) (ap (λ (d : Highest). d.instance) drawn) files instances;
   grows = grows;
+  mail = mail;
   reads = reads;
   changes = changes;
 }
@@ -288,7 +296,7 @@ making_unremembered name next store history faults runs = λ around behind pins 
     let new = with_drawn_box (store.drawn.mailbox + 1) store in
     let later = seen_of pins new history faults in
     let event = drawing lane place (Some refusal.NoMemory) (Some (reply.Refused refusal.NoMemory)) (told_calls history) in (
-      (did_drawing around behind run lane place said name lists seen later did.Quiet (Some refusal.NoMemory) (Some (reply.Refused refusal.NoMemory)) stood come (draws_of pins store new history history faults faults (λ runs. runs) refl refl refl refl refl (omega arith) (omega arith) (omega arith)) shows memory_steps tt
+      (did_drawing around behind run lane place said name lists seen later did.Quiet (Some refusal.NoMemory) (Some (reply.Refused refusal.NoMemory)) stood come (draws_of pins store new history history faults faults (λ runs. runs) refl refl refl refl refl (omega arith) (mail_still store.map history) (omega arith) (omega arith)) shows memory_steps tt
           (λ e. absurd (some_refusal refusal.NoMemory e)) (record { 0 = λ e. refl; 1 = λ e f. some_reply (reply.Refused refusal.NoMemory) f }) (last_with (own_events place run) event refusal.NoMemory refl) refl (refl, refl, record { stops = leaves_none history lists lists; settled = λ s. s })
           (record {
             in_turn = λ some. absurd (let k : false ≡ true = some in cc k);
@@ -297,6 +305,7 @@ making_unremembered name next store history faults runs = λ around behind pins 
             still = λ e. absurd (fall store.stopped e runs);
             reads = λ e. absurd (memory_calm (one_refusal refusal.NoMemory refusal.ReadFault e));
             faults = record { reads = omega arith; changes = omega arith; rose = λ x. absurd x };
+            unfailed = λ read change. refl;
           })).so,
       λ e. absurd (never_more _ e),
     )
@@ -311,7 +320,7 @@ making_fell name next old new before after began then ran same f = λ around beh
     let map_is : new.map ≡ old.map = ap (λ (s : StoreValue _). s.map) same in
     let event = drawing lane place (Some refusal.Stopped) (Some (reply.Refused refusal.Stopped)) (told_calls after) in (
       (did_drawing around behind run lane place said name lists seen later did.Failed (Some refusal.Stopped) (Some (reply.Refused refusal.Stopped)) stood come
-          (draws_of pins old new before after began then (λ runs. ran) map_is (ap (λ (s : StoreValue _). s.drawn) same) (ap (λ (s : StoreValue _). s.files) same) (ap (λ (s : StoreValue _). s.instances) same) (ap (λ (s : StoreValue _). s.dues) same) f.change.grows (let r = f.change.reads in omega (arith, r)) f.change.changes)
+          (draws_of pins old new before after began then (λ runs. ran) map_is (ap (λ (s : StoreValue _). s.drawn) same) (ap (λ (s : StoreValue _). s.files) same) (ap (λ (s : StoreValue _). s.instances) same) (ap (λ (s : StoreValue _). s.dues) same) f.change.grows (f.change.stays old.map) (let r = f.change.reads in omega (arith, r)) f.change.changes)
           (shows_of pins old new before after began then lists map_is (ap (λ (s : StoreValue _). s.boxes) same) shows) stopped_steps tt (λ e. absurd (some_refusal refusal.Stopped e)) (record { 0 = λ e. refl; 1 = λ e k. some_reply (reply.Refused refusal.Stopped) k })
           (last_with (own_events place run) event refusal.Stopped refl) refl (record { refused = refl; unanswered = refl; ran = ran; stopped = stops }, λ s. f.change.moments lists s)
           (record {
@@ -321,6 +330,7 @@ making_fell name next old new before after began then ran same f = λ around beh
             still = λ e. absurd (fall old.stopped e ran);
             reads = λ e. absurd (stopped_calm (one_refusal refusal.Stopped refusal.ReadFault e));
             faults = record { reads = (let r = f.change.reads in omega (arith, r)); changes = f.change.changes; rose = λ x. f.rose };
+            unfailed = λ read change. absurd (change tt);
           })).so,
       λ e. absurd (never_more _ e),
     )
@@ -345,10 +355,10 @@ making_done name number old new before after began then ran m = λ around behind
     let event = drawing lane place None None (told_calls after) in
     stands_by around behind run lane place said (request.Make name) lists seen later did.Quiet None event None (IsAtMake (stage.Naming number))
     (did_drawing around behind run lane place said name lists seen later did.Quiet None None stood come
-    (draws_of pins old new before after began then (λ runs. ran) map_is drawn_is (ap (λ (s : StoreValue _). s.files) same) (ap (λ (s : StoreValue _). s.instances) same) (ap (λ (s : StoreValue _). s.dues) same) m.disk.change.grows (let r = m.disk.change.reads in omega (arith, r)) m.disk.change.changes)
+    (draws_of pins old new before after began then (λ runs. ran) map_is drawn_is (ap (λ (s : StoreValue _). s.files) same) (ap (λ (s : StoreValue _). s.instances) same) (ap (λ (s : StoreValue _). s.dues) same) m.disk.change.grows (m.disk.change.stays old.map) (let r = m.disk.change.reads in omega (arith, r)) m.disk.change.changes)
     (shows_of pins old new before after began then lists map_is (ap (λ (s : StoreValue _). s.boxes) same) shows) (λ r e. absurd (no_refusal r e)) tt (λ e. making_checked pins before began run name old lists shows.1 come ∙ m.free)
     (record { 0 = λ h. absurd (h refl); 1 = λ h. absurd (makes_on (is_overtaken (and_then run event) place) h) }) tt refl (refl, runs ∙ sym ran, leads_of pins old new before after began then lists m.disk)
-    (ends_well (request.Make name) said event None None did.Quiet seen later refl ran runs (let r = m.disk.change.reads in omega (arith, r)) m.disk.change.changes (λ x. x) (λ e. no_reply (reply.Refused refusal.Stopped) e) (λ some. absurd (let k : false ≡ true = some in cc k)) (λ given e. absurd (no_reply given e))))
+    (ends_well (request.Make name) said event None None did.Quiet seen later refl ran runs m.disk.unfailed (λ x. x) (λ e. no_reply (reply.Refused refusal.Stopped) e) (λ some. absurd (let k : false ≡ true = some in cc k)) (λ given e. absurd (no_reply given e))))
     (λ goes_on. makes_log_then run event place said number.0 stood refl refl refl refl (m.log.next ∙ ap (λ (d : Highest). d.mailbox + 1) (sym come.come.drawn_is)))
 
 -- ---- the second event removes the log
@@ -357,7 +367,7 @@ making_done name number old new before after began then ran m = λ around behind
 pub removed_stays : {D : Type 0} → (pins : ℕ → ℕ) → (number : ℕ) (old new : StoreValue D) (before after : Option History) (began then : Faults) → RemovesLog number old new before after → HasChangedDisk same_lists before after began then → StaysSo (seen_of pins old before began) (seen_of pins new after then)
 removed_stays pins number old new before after began then r d =
     stays_of pins old new before after began then same_lists (λ runs. sym (ap (λ (s : StoreValue _). s.stopped) r.same) ∙ runs) (ap (λ (s : StoreValue _). s.map) r.same) (ap (λ (s : StoreValue _). s.drawn) r.same) (ap (λ (s : StoreValue _). s.files) r.same) (ap (λ (s : StoreValue _). s.instances) r.same)
-    (ap (λ (s : StoreValue _). s.dues) r.same) d.change
+    (ap (λ (s : StoreValue _). s.dues) r.same) d.change (λ runs. d.unfailed)
 
 pub removed_shows : {D : Type 0} → (pins : ℕ → ℕ) → (number : ℕ) (old new : StoreValue D) (before after : Option History) (began then : Faults) (lists : Lists) → RemovesLog number old new before after → ShowsSeen (seen_of pins old before began) lists → ShowsSeen (seen_of pins new after then) lists
 removed_shows pins number old new before after began then lists r shows = shows_of pins old new before after began then lists (ap (λ (s : StoreValue _). s.map) r.same) (ap (λ (s : StoreValue _). s.boxes) r.same) shows
@@ -387,6 +397,7 @@ naming_refused name number next old new before after began then why ran refuses 
             still = λ e. absurd (fall old.stopped e ran);
             reads = λ e. absurd (step_reads why w.0 (one_refusal why refusal.ReadFault e));
             faults = record { reads = (let k = d.change.reads in omega (arith, k)); changes = d.change.changes; rose = λ x. absurd x };
+            unfailed = λ read change. d.unfailed;
           })).so,
       λ e. absurd (never_more _ e),
     )
@@ -421,7 +432,7 @@ naming_unremembered name number next old new before after began then ran can r d
 pub stopped_stays : {D : Type 0} → (pins : ℕ → ℕ) → (old new : StoreValue D) (before after : Option History) (began then : Faults) (left : Lists → Lists) → IsStoppedSo old new → ChangesDisk left before after began then → StaysSo (seen_of pins old before began) (seen_of pins new after then)
 stopped_stays pins old new before after began then left same c =
     stays_of pins old new before after began then left (λ runs. absurd (fall new.stopped (ap (λ (s : StoreValue _). s.stopped) same) runs)) (ap (λ (s : StoreValue _). s.map) same) (ap (λ (s : StoreValue _). s.drawn) same) (ap (λ (s : StoreValue _). s.files) same) (ap (λ (s : StoreValue _). s.instances) same)
-    (ap (λ (s : StoreValue _). s.dues) same) c
+    (ap (λ (s : StoreValue _). s.dues) same) c (λ runs. absurd (fall new.stopped (ap (λ (s : StoreValue _). s.stopped) same) runs))
 
 pub stopped_shows : {D : Type 0} → (pins : ℕ → ℕ) → (old new : StoreValue D) (before after : Option History) (began then : Faults) (lists : Lists) → IsStoppedSo old new → ShowsSeen (seen_of pins old before began) lists → ShowsSeen (seen_of pins new after then) lists
 stopped_shows pins old new before after began then lists same shows = shows_of pins old new before after began then lists (ap (λ (s : StoreValue _). s.map) same) (ap (λ (s : StoreValue _). s.boxes) same) shows
@@ -459,7 +470,7 @@ naming_overtaken name number old new before after began then ran free behind_it 
       ended_is = refl;
       unrefused = refl;
       undrawn = refl;
-      leaves = record { pins = refl; unpins = refl; doomed = refl; removed = refl; given = refl; placed = refl; gone = refl };
+      leaves = record { made = refl; pins = refl; unpins = refl; doomed = refl; removed = refl; given = refl; placed = refl; gone = refl };
       finds = tt;
       found = tt;
       part_is = naming_next around run name place said number.0 old.map stood come.come.map_is ∙ ap (λ (b : Bool). Some (naming_part b)) (overtaken_is number.0 old.map.highest.mailbox behind_it);
@@ -468,9 +479,9 @@ naming_overtaken name number old new before after began then ran free behind_it 
       did = refl;
       ends = record { 0 = λ h. absurd (h refl); 1 = λ h. absurd (some_part First (over_is (is_overtaken (and_then run event) place) h)) };
       replied = tt;
-    }) come (comes_along run event seen later come stays.map stays.drawn stays.grows refl refl refl) (λ uid. let e = stays.due uid in omega (arith, e)) stays.tells (removed_shows pins number.0 old new before after began then lists r shows) stays.grows refl refl
+    }) come (comes_along run event seen later come stays.map stays.drawn stays.grows refl refl refl) (λ uid. let e = stays.due uid in omega (arith, e)) stays.tells (removed_shows pins number.0 old new before after began then lists r shows) stays.grows stays.mail refl refl
     (refl, runs ∙ sym ran, leads_of pins old new before after began then lists d)
-    (ends_well (request.Make name) said event None None did.Quiet seen later refl ran runs stays.reads stays.changes (λ x. x) (λ e. no_reply (reply.Refused refusal.Stopped) e) (λ some. absurd (let k : false ≡ true = some in cc k)) (λ given e. absurd (no_reply given e))))
+    (ends_well (request.Make name) said event None None did.Quiet seen later refl ran runs d.unfailed (λ x. x) (λ e. no_reply (reply.Refused refusal.Stopped) e) (λ some. absurd (let k : false ≡ true = some in cc k)) (λ given e. absurd (no_reply given e))))
     (λ goes_on. starts_over_then run event place said number.0 stood refl refl refl)
   where
     over_is : (b : Bool) → behind_make b StartsOver ≡ None → Some First ≡ None

@@ -134,7 +134,7 @@ naming_done name number next old new before after began then is ran n named d = 
             ended_is = refl;
             unrefused = refl;
             undrawn = refl;
-            leaves = record { pins = refl; unpins = refl; doomed = refl; removed = refl; given = refl; placed = refl; gone = refl };
+            leaves = record { made = refl; pins = refl; unpins = refl; doomed = refl; removed = refl; given = refl; placed = refl; gone = refl };
             finds = tt;
             found = tt;
             part_is = naming_next around run name place said number.0 old.map stood come.come.map_is ∙ ap (λ (b : Bool). Some (naming_part b)) (above_not number.0 old.map.highest.mailbox n.can.above);
@@ -146,9 +146,9 @@ naming_done name number next old new before after began then is ran n named d = 
           }) come
           (comes_with run event (map_entry.B (record { 0 = number_of run place }) 1 name) seen later come (subst (λ (k : ℕ). new.map ≡ map_applied (map_entry.B (record { 0 = k }) 1 name) old.map) (sym stood.2) named.map) (ap (λ (s : StoreValue _). s.drawn) named.same) d.change.grows refl refl refl)
           (λ uid. let e = named_due old new number name uid named in omega (arith, e))
-          (store_tells pins old new before after began then (λ runs. ran) (ap (λ (m : MapMeaning). m.store) named.map) (ap (λ (s : StoreValue _). s.drawn) named.same) (ap (λ (s : StoreValue _). s.files) named.same) (ap (λ (s : StoreValue _). s.instances) named.same)) shown d.change.grows refl ((free, made), refl)
+          (store_tells pins old new before after began then (λ runs. ran) (ap (λ (m : MapMeaning). m.store) named.map) (ap (λ (s : StoreValue _). s.drawn) named.same) (ap (λ (s : StoreValue _). s.files) named.same) (ap (λ (s : StoreValue _). s.instances) named.same)) shown d.change.grows (d.change.stays old.map) refl ((free, made), refl)
           (refl, refl, runs, record { stops = λ s. d.change.moments lists s; settled = λ s. d.settled lists s })
-          (ends_well (request.Make name) said event (Some reply.Done) (Some reply.Done) (did.Step half.Whole) seen later refl ran runs (let k = d.change.reads in omega (arith, k)) d.change.changes (λ x. x) done_stopped (λ some. in_turn name said Last none)
+          (ends_well (request.Make name) said event (Some reply.Done) (Some reply.Done) (did.Step half.Whole) seen later refl ran runs d.unfailed (λ x. x) done_stopped (λ some. in_turn name said Last none)
           (λ given e. subst (λ (r : Reply). IsReplyOf (request.Make name) (said ++ reply.Done ∷ []) r) (one_reply reply.Done given e) (ap (λ (before_it : List Reply). before_it ++ reply.Done ∷ []) none)))).so,
       λ e. absurd (never_more _ e),
     )

@@ -28,6 +28,7 @@ use Rattle.journal.proofs.OwnEventLemmas.{own_more, own_other}
 use Rattle.store_core.specs.Dues.{due_at}
 use Rattle.store_core.specs.Running.{IsStore}
 use Rattle.store_core.specs.Value.{StoreValue, indexes_of, list_named}
+use Rattle.task_steps.proofs.UnmovedLemmas.{mail_still}
 use Rattle.task_steps.specs.ExpungeStages.{one_due}
 use Rattle.task_steps.specs.Step.{IsKept}
 use Rattle.task_steps.proofs.OneEventLemmas.{never_more, nothing}
@@ -82,7 +83,7 @@ move_added name uid target held copied old new before after began faulted is ran
       ended_is = refl;
       unrefused = refl;
       undrawn = refl;
-      leaves = record { pins = refl; unpins = refl; doomed = refl; removed = refl; given = refl; placed = refl; gone = refl };
+      leaves = record { made = refl; pins = refl; unpins = refl; doomed = refl; removed = refl; given = refl; placed = refl; gone = refl };
       finds = tt;
       found = tt;
       part_is = adds_next around run q name uid target half.CopyHalf held (own_events place run) first c one h;
@@ -96,7 +97,7 @@ move_added name uid target held copied old new before after began faulted is ran
     (box_tells pins r.number (added_copy copied r.row) old new before after began faulted (λ runs. ran) a) (
       answers_well run lists q event (reply.Copied copied) (add_message target k.shown.message lists) shows.0 tt (allowed, done),
       shown_on seen later _ (add_message target k.shown.message lists) a.map r.took.taken k.shows,
-    ) a.grows refl ((allowed, done), refl) (
+    ) a.grows (a.stays old.map) refl ((allowed, done), refl) (
       refl,
       refl,
       r.took.runs,
@@ -105,7 +106,7 @@ move_added name uid target held copied old new before after began faulted is ran
         settled = λ s. subst (λ (ls : Lists). IsSettledFor ls after) k.by (r.took.settled lists k.shown.message.octets (brings_copy before old name uid target r.row r.number copied lists is ran r.at k s) s);
       },
     )
-    (ends_well q said event (Some (reply.Copied copied)) None (did.Step half.CopyHalf) seen later refl ran r.took.runs (let same = a.reads in omega (arith, same)) a.changes (λ x. x) (λ e. no_reply (reply.Refused refusal.Stopped) e) (λ some. ap (λ (s : List Reply). slice_get (halves_of q) (length s)) stood.1)
+    (ends_well q said event (Some (reply.Copied copied)) None (did.Step half.CopyHalf) seen later refl ran r.took.runs r.took.unfailed (λ x. x) (λ e. no_reply (reply.Refused refusal.Stopped) e) (λ some. ap (λ (s : List Reply). slice_get (halves_of q) (length s)) stood.1)
     (λ x e. absurd (no_reply x e))))
     (λ goes_on. (
       (first, event, held_twice place run event first refl one, h, record { part = refl; unrefused = refl; added = ap Some (sym k.given_is) }),
@@ -173,7 +174,7 @@ move_gone name uid target held copied Stands store history faults why runs missi
             ended_is = refl;
             unrefused = refl;
             undrawn = refl;
-            leaves = record { pins = refl; unpins = refl; doomed = refl; removed = refl; given = refl; placed = refl; gone = refl };
+            leaves = record { made = refl; pins = refl; unpins = refl; doomed = refl; removed = refl; given = refl; placed = refl; gone = refl };
             finds = tt;
             found = tt;
             part_is = removes_next around run name uid target copied (own_events place run) first second two a;
@@ -182,9 +183,9 @@ move_gone name uid target held copied Stands store history faults why runs missi
             did = subst (λ (o : Option ListedMessage). RemovesIfThere run lists name uid.0 event o) (sym none) refl;
             ends = record { 0 = λ e. refl; 1 = λ e f. some_reply (reply.Moved copied true) f };
             replied = never_twice (own_events place run) first second event two h.unrefused a.unrefused refl;
-          }) come (comes_along run event seen seen come refl refl (omega arith) refl refl refl) (λ other. refl) (tells_itself seen) shows (omega arith) refl
+          }) come (comes_along run event seen seen come refl refl (omega arith) refl refl refl) (λ other. refl) (tells_itself seen) shows (omega arith) (mail_still seen.map seen.history) refl
           ((refl, (gone, (sym (ap is_none none), refl))), refl) (refl, refl, runs, nothing lists seen)
-          (ends_well q said event ended ended (did.Step half.ExpungeHalf) seen seen refl runs runs (omega arith) (omega arith) (λ x. x) (moved_runs copied true) (λ some. ap (λ (s : List Reply). slice_get (halves_of q) (length s)) stood.1)
+          (ends_well q said event ended ended (did.Step half.ExpungeHalf) seen seen refl runs runs refl (λ x. x) (moved_runs copied true) (λ some. ap (λ (s : List Reply). slice_get (halves_of q) (length s)) stood.1)
           (λ x e. subst (λ (y : Reply). IsReplyOf q (said ++ reply.Moved copied true ∷ []) y) (one_reply (reply.Moved copied true) x e) (ap (λ (s : List Reply). s ++ reply.Moved copied true ∷ []) stood.1)))).so,
       λ e. absurd (never_more _ e),
     )
@@ -225,7 +226,7 @@ move_removed name uid target held copied old new before after began faulted is r
       ended_is = refl;
       unrefused = refl;
       undrawn = refl;
-      leaves = record { pins = refl; unpins = refl; doomed = refl; removed = refl; given = refl; placed = refl; gone = refl };
+      leaves = record { made = refl; pins = refl; unpins = refl; doomed = refl; removed = refl; given = refl; placed = refl; gone = refl };
       finds = tt;
       found = tt;
       part_is = removes_next around run name uid target copied (own_events place run) first second two added;
@@ -240,7 +241,7 @@ move_removed name uid target held copied old new before after began faulted is r
     (box_tells pins r.number (box_entry.R uid) old new before after began faulted (λ runs. ran) a) (
       answers_well run lists q event (reply.Moved copied false) (expunge name uid.0 lists) shows.0 tt (refl, (given, (there, refl))),
       shown_on seen later _ (expunge name uid.0 lists) a.map r.took.taken k.shows,
-    ) a.grows refl ((refl, (given, (there, refl))), refl) (
+    ) a.grows (a.stays old.map) refl ((refl, (given, (there, refl))), refl) (
       refl,
       refl,
       r.took.runs,
@@ -249,7 +250,7 @@ move_removed name uid target held copied old new before after began faulted is r
         settled = λ s. subst (λ (ls : Lists). IsSettledFor ls after) k.by (r.took.settled lists [] (brings_removal old.map uid [] before) s);
       },
     )
-    (ends_well q said event (Some (reply.Moved copied false)) None (did.Step half.ExpungeHalf) seen later refl ran r.took.runs (let same = a.reads in omega (arith, same)) a.changes (λ x. x) (λ e. no_reply (reply.Refused refusal.Stopped) e)
+    (ends_well q said event (Some (reply.Moved copied false)) None (did.Step half.ExpungeHalf) seen later refl ran r.took.runs r.took.unfailed (λ x. x) (λ e. no_reply (reply.Refused refusal.Stopped) e)
     (λ some. ap (λ (s : List Reply). slice_get (halves_of q) (length s)) stood.1) (λ given e. absurd (no_reply given e))))
     (λ goes_on. (
       (first, second, event, own_third place run event first second refl two, h, added, record { part = refl; unrefused = refl; mailbox = k.shown.mailbox.number; removed = refl }),
@@ -347,7 +348,7 @@ move_lowered name uid target owed copied Stands old new before after began fault
             ended_is = refl;
             unrefused = refl;
             undrawn = refl;
-            leaves = record { pins = refl; unpins = refl; doomed = refl; removed = refl; given = refl; placed = refl; gone = refl };
+            leaves = record { made = refl; pins = refl; unpins = refl; doomed = refl; removed = refl; given = refl; placed = refl; gone = refl };
             finds = tt;
             found = tt;
             part_is = lowers_next around run name uid target (own_events place run) first second third three removed;
@@ -358,8 +359,8 @@ move_lowered name uid target owed copied Stands old new before after began fault
             replied = never_thrice (own_events place run) first second third event three h.unrefused added.unrefused removed.unrefused refl;
           }) come (comes_with run event (lowering_of owed) seen later come t.taken a.drawn a.grows refl refl refl)
           (λ u. lowered_ends (due_at u old) (due_at u new) owed.0 u (lowered_due owed old new u (due u) (t.due u)))
-          (took_tells pins (lowering_of owed) old new before after began faulted ran t) (shows_still pins old new before after began faulted lists a shows) a.grows refl refl (refl, t.runs ∙ sym ran, leads_still pins (lowering_of owed) old new before after began faulted lists t)
-          (ends_well q said event None ended did.Quiet seen later refl ran t.runs (let same = a.reads in omega (arith, same)) a.changes (λ x. x) (moved_runs copied false) (λ some. absurd (let k : false ≡ true = some in cc k))
+          (took_tells pins (lowering_of owed) old new before after began faulted ran t) (shows_still pins old new before after began faulted lists a shows) a.grows (a.stays old.map) refl refl (refl, t.runs ∙ sym ran, leads_still pins (lowering_of owed) old new before after began faulted lists t)
+          (ends_well q said event None ended did.Quiet seen later refl ran t.runs t.unfailed (λ x. x) (moved_runs copied false) (λ some. absurd (let k : false ≡ true = some in cc k))
           (λ given e. subst (λ (x : Reply). IsReplyOf q said x) (one_reply (reply.Moved copied false) given e) stood.1))).so,
       λ e. absurd (never_more _ e),
     )

@@ -70,6 +70,8 @@ box_fell_stays pins number e old new before after began now f = record {
   grows = f.appends.grows;
   reads = let same = f.appends.reads in omega (arith, same);
   changes = f.appends.changes;
+  mail = f.appends.stays old.map;
+  unfailed = λ runs. absurd (fall new.stopped f.stopped runs);
 }
 
 pub map_fell_stays : {D : Type 0} → (pins : ℕ → ℕ) → (old new : StoreValue D) (before after : Option History) (began now : Faults) → MapFell old new before after began now → StaysSo (seen_of pins old before began) (seen_of pins new after now)
@@ -81,6 +83,8 @@ map_fell_stays pins old new before after began now f = record {
   grows = f.appends.grows;
   reads = let same = f.appends.reads in omega (arith, same);
   changes = f.appends.changes;
+  mail = f.appends.stays old.map;
+  unfailed = λ runs. absurd (fall new.stopped f.stopped runs);
 }
 
 -- ---- the lists without the message

@@ -40,6 +40,7 @@ use Rattle.mail_save.specs.declared.first.SavedParts.{SavedParts}
 use Rattle.mail_save.specs.declared.place.SavedAt.{SavedAt}
 use Rattle.mail_save.proofs.MailFileLemmas.{synced_reads}
 use Rattle.mail_save.proofs.SaveFileLemmas.{released_other, taken_other}
+use Rattle.mail_save.proofs.SaveNumberLemmas.{DrawsNumbers}
 
 -- ---- records
 
@@ -247,9 +248,9 @@ record_left Own uid row new before after mail k = record {
 }
 
 -- An event that leaves all this, and whose own file no other task has taken or is to remove, leaves to the others what is theirs.
-pub leaves_by : {D : Type 0} → (mine : Claims) (Own : ℕ → Type 0) (old new : StoreValue D) (before after : Option History) → KeepsInstances old new before after → KeepsUids old new → LeavesRecords Own old.map new.map → LeavesKnown Own old.files.files new.files.files → LeavesMailBut Own before after → LeavesUnlisted mine old new
+pub leaves_by : {D : Type 0} → (mine : Claims) (Own : ℕ → Type 0) (old new : StoreValue D) (before after : Option History) → KeepsInstances old new before after → KeepsUids old new → DrawsNumbers old new → LeavesRecords Own old.map new.map → LeavesKnown Own old.files.files new.files.files → LeavesMailBut Own before after → LeavesUnlisted mine old new
     → ((number : ℕ) → OthersTook mine old number → Own number → ⊥) → LeavesOthers mine old new before after
-leaves_by mine Own old new before after keeps uids rows known mail unlisted apart = record {
+leaves_by mine Own old new before after keeps uids draws rows known mail unlisted apart = record {
   records = λ uid row more there. record_left Own uid row new before after mail (rows.records uid row there);
   unlisted = unlisted;
   files = λ number took. record {
@@ -258,13 +259,14 @@ leaves_by mine Own old new before after keeps uids rows known mail unlisted apar
     guids = rows.guids number (apart number took);
     state = between-map (SyncsBut Own) (λ a b. IsSameOrSynced (a (Mail number)) (b (Mail number))) before after (λ a b s. s number (apart number took)) mail.files;
   };
-  pinned = λ number more. record {
+  grow = λ number more. record {
     there = known.ends number;
     reads = between-map GrowsMail (λ a b. (octets : List ℕ) → reading (a (Mail number)) ≡ Some octets → (more : List ℕ) × (reading (b (Mail number)) ≡ Some (octets ++ more))) before after (λ a b m octets is. m.0 number octets is) mail.grows;
   };
   instances = λ row is more. instance_kept row old new before after keeps is;
   store = keeps.store;
-  drawn = keeps.drawn;
+  numbers = draws.numbers;
+  mailboxes = draws.mailboxes;
   compared = keeps.compared;
   uids = uids;
   told = between-map GrowsMail (λ a b. Unit {0}) before after (λ a b m. tt) mail.grows;

@@ -29,6 +29,7 @@ pub mod SaveLastLemmas
 pub mod SaveLeavesLemmas
 pub mod SaveListLemmas
 pub mod SaveMomentLemmas
+pub mod SaveNumberLemmas
 pub mod SavePartLemmas
 pub mod SaveReadyLemmas
 pub mod SaveRefusedLemmas

@@ -1,13 +1,13 @@
 -- What the events did that find the instances of a message's attachments, by the clause of a step.
-use Rattle.std.proofs.Common.{◌≡◌, ◌≤◌, ◌<◌, ◌+◌, ◌&&◌, ◌||◌, ℕ, Bool, true, false, List, [], ◌∷◌, length, Option, Some, None, refl, sym, ◌∙◌, ap, subst, arith, inl, inr}
-use Rattle.std.specs.Prelude.{IsSome, nat_le, slice_get, if◌then◌else◌}
+use Rattle.std.proofs.Common.{◌≡◌, ◌≤◌, ◌<◌, ◌+◌, ◌⊎◌, ◌&&◌, ◌||◌, ℕ, Bool, true, false, List, [], ◌∷◌, length, Option, Some, None, refl, sym, ◌∙◌, ap, subst, arith, inl, inr}
+use Rattle.std.specs.Prelude.{IsSome, is_some, nat_le, slice_get, if◌then◌else◌}
 use Rattle.std.specs.List.{list_any}
 use Rattle.std.specs.Str.{bytes_eq}
 use Rattle.std.proofs.lemmas.Grind.{common_steps}
 use Rattle.std.proofs.lemmas.Option.{slice_get_within}
 use Rattle.std.proofs.lemmas.Slice.Eq.{bytes_eq-Decides}
 use Rattle.attach_detach.specs.declared.message.Detached.{Detached}
-use Rattle.disk_model.specs.Disk.{History, Faults, Grows}
+use Rattle.disk_model.specs.Disk.{History, Faults}
 use Rattle.disk_model.specs.FaultCounts.{ReadFaultCounted}
 use Rattle.mdbox_base.specs.declared.entries.Highest.{Highest}
 use Rattle.mdbox_base.specs.declared.entries.InstRow.{InstRow}
@@ -40,10 +40,10 @@ use Rattle.mail_save.specs.declared.first.SavedParts.{SavedParts}
 use Rattle.mail_save.specs.declared.task.SaveStage.{SaveStage}
 use Rattle.mail_save.specs.declared.task.SaveStage.TheVariants as stage
 use Rattle.mail_save.proofs.SaveClauseLemmas.{EventOf, DeliveryClause, with_did}
-use Rattle.mail_save.proofs.SaveDidLemmas.{or_none, step_calm, step_runs, HasRun, StaysSo}
+use Rattle.mail_save.proofs.SaveDidLemmas.{Lasts, or_none, same_changes, same_reads, step_calm, step_runs, HasRun, StaysSo}
 use Rattle.mail_save.proofs.SaveFrontLemmas.{SeesAround, compares_part, found_with, places_part}
 use Rattle.mail_save.proofs.SaveRefusedLemmas.{checked_save, comparing_at, ends_comparing, ends_placing_instance, fallen_save, forgotten_save, full_instances, placing_instance_at, unread_save}
-use Rattle.mail_save.proofs.SaveStepLemmas.{fell_by, memory_runs, memory_unread, more_differs, not_stopped, refused_differs, same_changes, same_reads, equal_reads, step_did, uid_full, untold_faults}
+use Rattle.mail_save.proofs.SaveStepLemmas.{fell_by, memory_runs, memory_unread, more_differs, not_stopped, refused_differs, equal_reads, step_did, uid_full, untold_faults}
 use Rattle.mail_save.proofs.SaveStoreLemmas.{TellsFiles, tells_same, drawn_instance, due_stays, gave_on, has_run, same_ends, sees_around, stays_so, tells_store}
 use Rattle.mail_save.proofs.SeenInstanceLemmas.{gone_on, knows_compared, knows_in, knows_with, knows_same, next_not_gone, next_number}
 
@@ -136,6 +136,7 @@ places_more pins parts attaching more next name time size octets how old new bef
       given = λ guid some. absurd (none_given guid event.given none some);
       gone = λ i k. gone_on old new i id (let d = ap (λ (h : Highest). h.instance) drawn in omega (arith, d)) k;
       files = λ n there. inl ((same_ends old new files ends).known n there);
+      there = λ n was. still_there n event.made unmade was;
       instances = λ i.
           ap (λ (v : StoreValue _). knows_in v.instances.known i) p.same
           ∙ (knows_with old.instances p.part.hash (length p.part.octets) i e.ids (let high = e.kept.highest in omega (arith, high, few)) ∙ ap (λ (b : Bool). knows_instance old i || b) (sym (among_list i row event.placed placed)));
@@ -162,6 +163,10 @@ places_more pins parts attaching more next name time size octets how old new bef
 
     ends : (n : ℕ) → end_in n new.files.files ≡ end_in n old.files.files
     ends n = ap (λ (v : StoreValue _). end_in n v.files.files) p.same
+
+    still_there : (n : ℕ) (made : List ℕ) → made ≡ [] → (is_some (end_in n old.files.files) ≡ true) ⊎ (is_one_of made n ≡ true) → is_some (end_in n new.files.files) ≡ true
+    still_there n made none (inl was) = ap (λ (o : Option ℕ). is_some o) (ends n) ∙ was
+    still_there n made none (inr was) = absurd (let k : false ≡ true = sym (ap (λ (fs : List ℕ). is_one_of fs n) none) ∙ was in cc k)
 
     files : TellsFiles old new
     files = tells_same old new (let d = ap (λ (v : StoreValue _). v.drawn.file) p.same in omega (arith, d)) (ap (λ (v : StoreValue _). v.files.files) p.same)
@@ -192,7 +197,7 @@ attaching_whole pins parts named attaching more name time size octets how old ne
 -- ---- it is refused
 
 -- a store of which the disk alone may have changed
-stays_told : {D : Type 0} → (pins : ℕ → ℕ) (old new : StoreValue D) (before after : Option History) (began faulted : Faults) → old.stopped ≡ false → new ≡ record old { disk = new.disk } → Grows before after → began.reads ≤ faulted.reads → began.changes ≤ faulted.changes → StaysSo no_numbers (seen_of pins old before began) (seen_of pins new after faulted)
+stays_told : {D : Type 0} → (pins : ℕ → ℕ) (old new : StoreValue D) (before after : Option History) (began faulted : Faults) → old.stopped ≡ false → new ≡ record old { disk = new.disk } → Lasts old.map before after → began.reads ≤ faulted.reads → began.changes ≤ faulted.changes → StaysSo no_numbers (seen_of pins old before began) (seen_of pins new after faulted)
 stays_told pins old new before after began faulted ran same grows reads changes =
     stays_so pins no_numbers old new before after began faulted ran (ap (λ (v : StoreValue _). v.map) same) (ap (λ (v : StoreValue _). v.drawn) same ∙ sym (drawn_none old.drawn)) (ap (λ (v : StoreValue _). v.dues) same) (ap (λ (v : StoreValue _). indexes_of v.boxes) same)
     (let d = ap (λ (v : StoreValue _). v.drawn.file) same in omega (arith, d)) (same_ends old new (tells_same old new (let d = ap (λ (v : StoreValue _). v.drawn.file) same in omega (arith, d)) (ap (λ (v : StoreValue _). v.files.files) same)) (λ n. ap (λ (v : StoreValue _). end_in n v.files.files) same)) (knows_same old new (ap (λ (v : StoreValue _). v.instances) same) (ap (λ (v : StoreValue _). v.drawn.instance) same)) grows reads changes

@@ -24,12 +24,12 @@ use Rattle.store_core.specs.Dues.{Moves, amounts_in}
 use Rattle.store_core.specs.Keeping.{MovesHolds}
 use Rattle.store_core.specs.Value.{StoreValue}
 use Rattle.store_core.specs.declared.store.OpenBox.{OpenBox}
-use Rattle.task_claims.specs.Claims.{ClaimsNothing, Due, Emptied, Held, Made, MovesClaims, Pinned, Placing, Removing, Taken, one_if}
+use Rattle.task_claims.specs.Claims.{ClaimsNothing, Due, Emptied, Held, Made, MovesClaims, Pinned, PlacingPieces, Removing, Taken, one_if}
 use Rattle.mail_save.specs.Claims.{own_file_of, save_claims}
 use Rattle.mail_save.specs.Held.{save_amounts, save_holds}
 use Rattle.mail_save.specs.Left.{HoldsRegion}
 use Rattle.mail_save.specs.SaveEffects.{AreOthersTaken, AttachesNext, AttachesNone, IsLeftAlone, LetsGo, PlacesParts, SaveEffects, StoresNone, TakesFileFor, TakesNone, TookAs, roomy_files, taken_files}
-use Rattle.mail_save.specs.Task.{HasLeft, RepliesAt, Saves, stopped_reply}
+use Rattle.mail_save.specs.Task.{EndsSave, HasLeft, RepliesAt, Saves, stopped_reply}
 use Rattle.mail_save.specs.declared.first.SavedParts.{SavedParts}
 use Rattle.mail_save.specs.declared.place.SavedAt.{SavedAt}
 use Rattle.mail_save.specs.declared.task.SaveStage.{SaveStage}
@@ -221,7 +221,7 @@ claims_by now next old new moves holds m (Due uid) = moves.due uid
 claims_by now next old new moves holds m (Pinned file) = ap (λ (k : ℕ). k + 0) (m.pins file)
 claims_by now next old new moves holds m (Taken file) = m.taken file
 claims_by now next old new moves holds m (Emptied file) = ap (λ (b : Bool). one_if b + 0) (m.emptied file)
-claims_by now next old new moves holds m (Placing file) = ap (λ (o : Option ℕ). one_if (is_some o) + 0) (m.begun file)
+claims_by now next old new moves holds m (PlacingPieces file) = ap (λ (o : Option ℕ). one_if (is_some o) + 0) (m.begun file)
 claims_by now next old new moves holds m (Removing file) =
     ap (λ (b : Bool). one_if (b && (pins_in file new.files.files == 0)) + 0) (m.doomed file) ∙ ap (λ (k : ℕ). one_if (is_doomed_in file old.files.files && (k == 0)) + 0) (m.pins file)
 claims_by now next old new moves holds m (Held id) = holds id
@@ -239,7 +239,7 @@ ended_claims (Due uid) = refl
 ended_claims (Pinned file) = refl
 ended_claims (Taken file) = refl
 ended_claims (Emptied file) = refl
-ended_claims (Placing file) = refl
+ended_claims (PlacingPieces file) = refl
 ended_claims (Removing file) = refl
 ended_claims (Held id) = refl
 ended_claims (Made number) = refl
@@ -259,3 +259,23 @@ at_end now next name time size given old new e = absurd e
 pub save_ended : {D : Type 0} → (now next : SaveStage) (name : List ℕ) (time size : ℕ) (answer : Progress) (given : Reply) (old new : StoreValue D) → SaveEffects now next name time size answer old new → answer ≡ progress.Done given → ClaimsNothing (save_claims next)
 save_ended now next name time size answer given old new e is =
     subst (λ (s : SaveStage). ClaimsNothing (save_claims s)) (sym (at_end now next name time size given old new (subst (λ (a : Progress). SaveEffects now next name time size a old new) is e))) ended_claims
+
+-- ---- how a step ends
+
+pub save_ends : {D : Type 0} → (now next : SaveStage) (name : List ℕ) (time size : ℕ) (answer : Progress) (how : Did) (old new : StoreValue D) (before after : Option History) (began faulted : Faults) → old.stopped ≡ false → AreFilesInOrder old.files → HasLeft now name time old before
+    → Saves now next name time size answer how old new before after began faulted → EndsSave next answer old new
+save_ends now next name time size answer how old new before after began faulted ran order left s = record {
+  stopped = s.stopped;
+  still = λ stopped. absurd (unfallen old.stopped stopped ran);
+  doomed = λ runs. (files_move now next name time size answer old new before after order left s.left runs s.stopped s.replies s.effects).doomed;
+  unclaimed = λ given is runs. save_ended now next name time size answer given old new s.effects is;
+}
+
+-- in a store that was stopped
+pub stopped_ends : {D : Type 0} → (next : SaveStage) (store : StoreValue D) → store.stopped ≡ true → EndsSave next stopped_reply store store
+stopped_ends next store stopped = record {
+  stopped = record { 0 = λ e. stopped; 1 = λ e. refl };
+  still = λ e. refl;
+  doomed = λ runs. absurd (unfallen store.stopped stopped runs);
+  unclaimed = λ given is runs. absurd (unfallen store.stopped stopped runs);
+}

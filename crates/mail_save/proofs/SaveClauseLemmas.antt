@@ -1,7 +1,7 @@
 -- The clause of a step of a delivery: what it stands on, and that instances may be let go as the event ends.
 use Rattle.std.proofs.Common.{◌≡◌, ◌<◌, ◌^◌, ℕ, Bool, true, false, List, length, Option, sym, ◌∙◌, ap, subst}
 use Rattle.std.specs.Prelude.{◌↔◌}
-use Rattle.disk_model.specs.Disk.{History, Faults, Grows, IfTold}
+use Rattle.disk_model.specs.Disk.{History, Faults, IfTold}
 use Rattle.mdbox_base.specs.Words.{IsOctets}
 use Rattle.mdbox_base.specs.declared.entries.InstRow.{InstRow}
 use Rattle.mdbox_base.specs.declared.progress.Did.{Did}
@@ -28,7 +28,7 @@ use Rattle.mail_save.specs.SaveEffects.{LetsGo}
 use Rattle.mail_save.specs.SaveSeen.{HasItsParts, IsAtSave, StepsWithRoom, around_saving}
 use Rattle.mail_save.specs.Task.{FaultsAt, HasLeft, MomentsAt, RepliesAt, RestsAt, saved_did, stopped_reply}
 use Rattle.mail_save.specs.declared.task.SaveStage.{SaveStage}
-use Rattle.mail_save.proofs.SaveDidLemmas.{fall}
+use Rattle.mail_save.proofs.SaveDidLemmas.{Lasts, fall}
 use Rattle.mail_save.proofs.SeenInstanceLemmas.{knows_let_go}
 
 -- ---- an event
@@ -55,7 +55,7 @@ pub record EventOf {D : Type 0} (now next : SaveStage) (name : List ℕ) (time s
   pub rests : new.stopped ≡ false → RestsAt now name answer old before after
   pub stopped : (answer ≡ stopped_reply) ↔ (new.stopped ≡ true)
   pub faults : FaultsAt answer began faulted
-  pub grows : Grows before after
+  pub grows : Lasts old.map before after
 
 abbrev pub DeliveryClause : {D : Type 0} → (pins : ℕ → ℕ) → List ℕ → SaveStage → SaveStage → List ℕ → ℕ → Progress → Did → StoreValue D → StoreValue D → Option History → Option History → Faults → Faults → Type 0
 DeliveryClause pins octets now next name time answer how old new before after began faulted =
@@ -86,7 +86,7 @@ went_as (did.Broken half) q run lists left event answer old new f w = (fell_as e
 come_as : (run : Run) (new : Seen) (f : InstRow → Bool) → ((row : InstRow) → f row ≡ new.instances row) → HasComeTo run new → HasComeTo run (telling new f)
 come_as run new f same h = record {
   come = h.come;
-  keeps = λ runs. let k = h.keeps runs in record { due = k.due; pins = k.pins; doomed = k.doomed; instances = λ row. k.instances row ∙ sym (same row) };
+  keeps = λ runs. let k = h.keeps runs in record { due = k.due; pins = k.pins; doomed = k.doomed; instances = λ row. k.instances row ∙ sym (same row); files = k.files };
   used = h.used;
   barred = h.barred;
   gave = h.gave;
@@ -102,6 +102,7 @@ ends_as q said event answer ended how old new f ran e = record {
   still = λ stopped. absurd (fall old.stopped stopped ran);
   reads = e.reads;
   faults = e.faults;
+  unfailed = e.unfailed;
 }
 
 did_as : (around after : Around) (run : Run) (lane place : ℕ) (said : List Reply) (q : Request) (lists : Lists) (old new : Seen) (how : Did) (ended : Option Reply) (f : InstRow → Bool) → old.stopped ≡ false → ((row : InstRow) → f row ≡ new.instances row)
@@ -115,6 +116,7 @@ did_as around after run lane place said q lists old new how ended f ran same d =
   gives = d.gives;
   went = went_as how q run lists d.left d.makes.event d.makes.answer old new f d.went;
   grows = d.grows;
+  mail = d.mail;
   ends = ends_as q said d.makes.event d.makes.answer ended how old new f ran d.ends;
 }
 

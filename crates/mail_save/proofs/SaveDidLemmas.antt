@@ -8,7 +8,8 @@ use Rattle.std.proofs.lemmas.Grind.{flat_map-append}
 use Rattle.std.proofs.lemmas.List.{append-nil}
 use Rattle.std.proofs.lemmas.List.Elements.{All-nil, All-push, All-weaker}
 use Rattle.std.proofs.lemmas.List.Folds.{list_any-append}
-use Rattle.disk_model.specs.Disk.{told_calls, Grows}
+use Rattle.disk_model.specs.Disk.{Faults, History, told_calls, Grows}
+use Rattle.disk_model.specs.FaultCounts.{NoFault}
 use Rattle.mdbox_base.specs.Streams.{Rose}
 use Rattle.mdbox_base.specs.declared.entries.Highest.{Highest}
 use Rattle.mdbox_base.specs.declared.entries.InstRow.{InstRow}
@@ -21,9 +22,10 @@ use Rattle.mdbox_base.specs.declared.replies.Reply.{Reply}
 use Rattle.mdbox_base.specs.declared.replies.Reply.TheVariants as reply
 use Rattle.mdbox_base.specs.declared.requests.Request.{Request}
 use Rattle.mdbox_base.specs.declared.script.Half.{Half}
+use Rattle.model_kept.specs.Kept.{MailIsKept}
 use Rattle.model_lists.specs.Lists.{Lists}
 use Rattle.model_meaning.specs.MapFits.{MapFits}
-use Rattle.model_meaning.specs.MapMeaning.{MapMeaning, map_meaning, map_applied, named_instances, no_numbers}
+use Rattle.model_meaning.specs.MapMeaning.{MapMeaning, is_sealed, map_meaning, map_applied, named_instances, no_numbers}
 use Rattle.list_machine.specs.Run.{EventPart, RunEvent, event_of, Run, before, and_then, entries_of, map_of, drawn_also, own_events, is_one_of, is_unpinning}
 use Rattle.list_machine.specs.Machine.{is_step, first_refusal, part_checks, checks_of}
 use Rattle.journal.specs.Journal.{half_of, halves_of, refusal_in, IsReplyOf}
@@ -32,7 +34,8 @@ use Rattle.journal.specs.Found.{AgreesWithRun, is_known_file, is_known_instance,
 use Rattle.journal.specs.Makes.{HasCome, StepOf}
 use Rattle.journal.proofs.RunLemmas.{entries_more, drawn_more, drawn_none, comes_on_with}
 use Rattle.task_steps.specs.Step.{Seen, ShowsSeen, was_given, KeepsTasks, HasComeTo, Went, Leads, IsFault, and_told, EndsRequest, GivesNew, DidEvent}
-use Rattle.task_steps.proofs.SeenLemmas.{no_guids, pins_still, used_still, doomed_still, file_still_known, file_now_known, gone_still, places_known, never_used, never_gone, due_more}
+use Rattle.task_steps.proofs.SeenLemmas.{no_guids, pins_still, used_still, doomed_still, file_still_known, file_now_known, gone_still, places_known, never_used, never_gone, due_more, there_before}
+use Rattle.task_steps.proofs.UnmovedLemmas.{mail_still}
 use Rattle.task_steps.proofs.OneEventLemmas.{one_refusal, some_refusal, nothing}
 
 -- ---- small facts
@@ -107,6 +110,7 @@ pub record TellsMore (event : RunEvent) (old new : Seen) : Type 0 where
   pub given : (guid : List ℕ) → list_any (bytes_eq guid) event.given ≡ true → new.gave guid ≡ true
   pub gone : (instance : InstRow) → old.gone instance ≡ true → new.gone instance ≡ true
   pub files : (file : ℕ) → new.files file ≡ true → (old.files file ≡ true) ⊎ (is_one_of event.made file ≡ true)
+  pub there : (file : ℕ) → (old.files file ≡ true) ⊎ (is_one_of event.made file ≡ true) → new.files file ≡ true
   pub instances : (instance : InstRow) → new.instances instance ≡ (old.instances instance || list_any (is_same_instance instance) event.placed)
   pub ungone : (instance : InstRow) → list_any (is_same_instance instance) event.placed ≡ true → old.gone instance ≡ false
 
@@ -142,6 +146,7 @@ comes_to_more run event old new h come due leaves tells = record {
       instances = λ instance.
           by_placed instance (list_any (is_same_instance instance) event.placed) refl
           ∙ (ap (λ (b : Bool). b || list_any (is_same_instance instance) event.placed) (k.instances instance) ∙ sym (tells.instances instance));
+      files = λ file unsealed known. tells.there file (there_before run event old file k leaves.removed unsealed known);
     }
 
     by_giver : (guid : List ℕ) → (was_given run guid ≡ true) ⊎ (list_any (bytes_eq guid) event.given ≡ true) → new.gave guid ≡ true
@@ -153,6 +158,14 @@ comes_to_more run event old new h come due leaves tells = record {
     by_maker file (inr e) = file_now_known run event file leaves.removed e (none_of_second file run.events (never_used run old file h (tells.unused file e)))
 
 -- ---- what an event did
+
+-- What holds of a disk whatever the event did: it tells no fewer calls, and at each moment has what this map needed.
+pub record Lasts (m : MapMeaning) (before after : Option History) : Type 0 where
+  pub grows : Grows before after
+  pub mail : MailIsKept m before after
+
+pub lasts_itself : (m : MapMeaning) (history : Option History) → Lasts m history history
+lasts_itself m history = record { grows = omega arith; mail = mail_still m history }
 
 -- This is what an event did; it was this event, with this answer.
 pub record DidBy (around after : Around) (run : Run) (lane place : ℕ) (said : List Reply) (q : Request) (lists : Lists) (old new : Seen) (how : Did) (ended : Option Reply) (event : RunEvent) (answer : Option Reply) : Type 0 where
@@ -184,7 +197,7 @@ pub record DoesPart (around after : Around) (run : Run) (lane place : ℕ) (q : 
   pub replied : IsRepliedBy (own_events event.request run ++ event ∷ []) event.reply
 
 pub did_part : (around after : Around) (run : Run) (lane place : ℕ) (said : List Reply) (q : Request) (lists left : Lists) (old new : Seen) (how : Did) (ended answer : Option Reply) (event : RunEvent) → DoesPart around after run lane place q lists (told_calls new.history) ended event
-    → HasComeTo (and_then run event) new → GivesNew run event → ShowsSeen new left → Grows old.history new.history
+    → HasComeTo (and_then run event) new → GivesNew run event → ShowsSeen new left → Lasts old.map old.history new.history
     → is_some answer ≡ makes_step q event.part event.refused → StepOf run q lists event answer left → Went how q run lists left event answer old new → EndsRequest q said event answer ended how old new
     → DidBy around after run lane place said q lists old new how ended event answer
 did_part around after run lane place said q lists left old new how ended answer event does comes gives shows grows told made went ends = record {
@@ -220,23 +233,31 @@ did_part around after run lane place said q lists left old new how ended answer 
     come = comes;
     gives = gives;
     went = went;
-    grows = grows;
+    grows = grows.grows;
+    mail = grows.mail;
     ends = ends;
   };
   event_is = refl;
   answer_is = refl;
 }
 
+pub same_reads : (began faulted : Faults) → NoFault began faulted → began.reads ≤ faulted.reads
+same_reads began faulted same = let e = ap (λ (f : Faults). f.reads) same in omega (arith, e)
+
+pub same_changes : (began faulted : Faults) → NoFault began faulted → began.changes ≤ faulted.changes
+same_changes began faulted same = let e = ap (λ (f : Faults). f.changes) same in omega (arith, e)
+
 -- the end of an event that isn't refused, of a store that isn't stopped before or afterwards
-pub ends_well : (q : Request) (said : List Reply) (event : RunEvent) (answer ended : Option Reply) (how : Did) (old new : Seen) → event.refused ≡ None → old.stopped ≡ false → new.stopped ≡ false → old.faults.reads ≤ new.faults.reads → old.faults.changes ≤ new.faults.changes → (IsFault how → ⊥)
+pub ends_well : (q : Request) (said : List Reply) (event : RunEvent) (answer ended : Option Reply) (how : Did) (old new : Seen) → event.refused ≡ None → old.stopped ≡ false → new.stopped ≡ false → NoFault old.faults new.faults → (IsFault how → ⊥)
     → (ended ≡ Some (reply.Refused refusal.Stopped) → ⊥) → (is_some answer ≡ true → slice_get (halves_of q) (length said) ≡ Some (half_of q event.part)) → ((given : Reply) → ended ≡ Some given → IsReplyOf q (and_told said answer) given) → EndsRequest q said event answer ended how old new
-ends_well q said event answer ended how old new unrefused ran runs reads changes faultless unstopped turn replied = record {
+ends_well q said event answer ended how old new unrefused ran runs quiet faultless unstopped turn replied = record {
   in_turn = turn;
   replied = replied;
   halts = record { 0 = λ e. absurd (unstopped e); 1 = λ e. absurd (fall new.stopped e runs) };
   still = λ e. absurd (fall old.stopped e ran);
   reads = λ e. absurd (no_refusal refusal.ReadFault (sym unrefused ∙ e));
-  faults = record { reads = reads; changes = changes; rose = λ x. absurd (faultless x) };
+  faults = record { reads = same_reads old.faults new.faults quiet; changes = same_changes old.faults new.faults quiet; rose = λ x. absurd (faultless x) };
+  unfailed = λ read other. quiet;
 }
 
 -- ---- an event that is refused
@@ -266,7 +287,7 @@ pub record CanRefuse (around : Around) (run : Run) (place : ℕ) (q : Request) (
   pub undrawn : is_step why ≡ true → drew ≡ no_numbers
 
 pub did_refused : (around after : Around) (run : Run) (lane place : ℕ) (said : List Reply) (q : Request) (part : EventPart) (lists : Lists) (old new : Seen) (why : Refusal) (ended answer : Option Reply) (how : Did) (drew : Highest) → CanRefuse around run place q part why ended drew
-    → HasComeTo (and_then run (refusal_event lane place part why ended drew (told_calls new.history))) new → ShowsSeen new lists → Grows old.history new.history
+    → HasComeTo (and_then run (refusal_event lane place part why ended drew (told_calls new.history))) new → ShowsSeen new lists → Lasts old.map old.history new.history
     → (is_step why ≡ true → first_refusal run lists (part_checks run (refusal_event lane place part why ended drew (told_calls new.history)) q part) ≡ Some why) → is_some answer ≡ is_step why
     → StepOf run q lists (refusal_event lane place part why ended drew (told_calls new.history)) answer lists → Went how q run lists lists (refusal_event lane place part why ended drew (told_calls new.history)) answer old new
     → EndsRequest q said (refusal_event lane place part why ended drew (told_calls new.history)) answer ended how old new
@@ -304,7 +325,8 @@ did_refused around after run lane place said q part lists old new why ended answ
     come = comes;
     gives = no_guids run event refl;
     went = went;
-    grows = grows;
+    grows = grows.grows;
+    mail = grows.mail;
     ends = ends;
   };
   event_is = refl;
@@ -316,11 +338,11 @@ did_refused around after run lane place said q part lists old new why ended answ
 
 -- An event that did nothing, and was no step: for want of memory, or since the store is stopped, now or before.
 pub did_unstepped : (around after : Around) (run : Run) (lane place : ℕ) (said : List Reply) (q : Request) (part : EventPart) (lists : Lists) (old new : Seen) (why : Refusal) (ended : Option Reply) (how : Did) (drew : Highest) → CanRefuse around run place q part why ended drew
-    → HasComeTo (and_then run (refusal_event lane place part why ended drew (told_calls new.history))) new → ShowsSeen new lists → Grows old.history new.history
+    → HasComeTo (and_then run (refusal_event lane place part why ended drew (told_calls new.history))) new → ShowsSeen new lists → Lasts old.map old.history new.history
     → is_step why ≡ false → (why ≡ refusal.ReadFault → ⊥) → Went how q run lists lists (refusal_event lane place part why ended drew (told_calls new.history)) None old new → ((given : Reply) → ended ≡ Some given → IsReplyOf q said given) → ((ended ≡ Some (reply.Refused refusal.Stopped)) ↔ (new.stopped ≡ true))
-    → (old.stopped ≡ true → new ≡ record old { pins = new.pins }) → old.faults.reads ≤ new.faults.reads → old.faults.changes ≤ new.faults.changes → (IsFault how → Rose old.faults.changes new.faults.changes)
+    → (old.stopped ≡ true → new ≡ record old { pins = new.pins }) → old.faults.reads ≤ new.faults.reads → old.faults.changes ≤ new.faults.changes → (IsFault how → Rose old.faults.changes new.faults.changes) → ((IsFault how → ⊥) → NoFault old.faults new.faults)
     → DidBy around after run lane place said q lists old new how ended (refusal_event lane place part why ended drew (told_calls new.history)) None
-did_unstepped around after run lane place said q part lists old new why ended how drew can comes shows grows unstep calm went replied halts still reads changes rose =
+did_unstepped around after run lane place said q part lists old new why ended how drew can comes shows grows unstep calm went replied halts still reads changes rose unfailed =
     did_refused around after run lane place said q part lists old new why ended None how drew can comes shows grows (λ s. absurd (fall (is_step why) s unstep)) (sym unstep) refl went (record {
       in_turn = λ some. absurd (unstepped some);
       replied = replied;
@@ -328,6 +350,7 @@ did_unstepped around after run lane place said q part lists old new why ended ho
       still = still;
       reads = λ e. absurd (calm (one_refusal why refusal.ReadFault e));
       faults = record { reads = reads; changes = changes; rose = rose };
+      unfailed = λ read. unfailed;
     })
 
 pub step_calm : (why : Refusal) → is_step why ≡ true → why ≡ refusal.ReadFault → ⊥
@@ -338,18 +361,19 @@ step_runs why s e = let k : true ≡ false = sym s ∙ ap is_step e in cc k
 
 -- A check refused it: a step.
 pub did_check : (around after : Around) (run : Run) (lane place : ℕ) (said : List Reply) (q : Request) (part : EventPart) (lists : Lists) (old new : Seen) (why : Refusal) (ended : Option Reply) (half : Half) → CanRefuse around run place q part why ended no_numbers
-    → HasComeTo (and_then run (refusal_event lane place part why ended no_numbers (told_calls new.history))) new → ShowsSeen new lists → Grows old.history new.history → old.stopped ≡ false → new.stopped ≡ false → Leads lists lists old new
+    → HasComeTo (and_then run (refusal_event lane place part why ended no_numbers (told_calls new.history))) new → ShowsSeen new lists → Lasts old.map old.history new.history → old.stopped ≡ false → new.stopped ≡ false → Leads lists lists old new
     → is_step why ≡ true → half_of q part ≡ half → slice_get (halves_of q) (length said) ≡ Some (half_of q part) → ((event : RunEvent) → first_refusal run lists (part_checks run event q part) ≡ Some why)
-    → ((given : Reply) → ended ≡ Some given → IsReplyOf q (said ++ reply.Refused why ∷ []) given) → (ended ≡ Some (reply.Refused refusal.Stopped) → ⊥) → old.faults.reads ≤ new.faults.reads → old.faults.changes ≤ new.faults.changes
+    → ((given : Reply) → ended ≡ Some given → IsReplyOf q (said ++ reply.Refused why ∷ []) given) → (ended ≡ Some (reply.Refused refusal.Stopped) → ⊥) → NoFault old.faults new.faults
     → DidBy around after run lane place said q lists old new (did.Step half) ended (refusal_event lane place part why ended no_numbers (told_calls new.history)) (Some (reply.Refused why))
-did_check around after run lane place said q part lists old new why ended half can comes shows grows ran runs leads step half_is turn refuses replied unstopped reads changes =
+did_check around after run lane place said q part lists old new why ended half can comes shows grows ran runs leads step half_is turn refuses replied unstopped quiet =
     did_refused around after run lane place said q part lists old new why ended (Some (reply.Refused why)) (did.Step half) no_numbers can comes shows grows (λ s. refuses event) (sym step) ((refuses event, refl), refl) (refl, half_is, runs, leads) (record {
       in_turn = λ some. turn;
       replied = replied;
       halts = record { 0 = λ e. absurd (unstopped e); 1 = λ e. absurd (fall new.stopped e runs) };
       still = λ e. absurd (fall old.stopped e ran);
       reads = λ e. absurd (step_calm why step (one_refusal why refusal.ReadFault e));
-      faults = record { reads = reads; changes = changes; rose = λ x. absurd x };
+      faults = record { reads = same_reads old.faults new.faults quiet; changes = same_changes old.faults new.faults quiet; rose = λ x. absurd x };
+      unfailed = λ read other. quiet;
     })
   where
     event : RunEvent
@@ -358,7 +382,7 @@ did_check around after run lane place said q part lists old new why ended half c
 -- ---- a store before and after an event
 
 -- It tells the same of its tasks, or more files that may be used or barred, GUIDs that may have been given and instances that may be
--- gone, or fewer files.
+-- gone.
 pub record KeepsTelling (old new : Seen) : Type 0 where
   pub ran : new.stopped ≡ false → old.stopped ≡ false
   pub pins : (file : ℕ) → new.pins file ≡ old.pins file
@@ -368,6 +392,7 @@ pub record KeepsTelling (old new : Seen) : Type 0 where
   pub gave : (guid : List ℕ) → old.gave guid ≡ true → new.gave guid ≡ true
   pub gone : (instance : InstRow) → old.gone instance ≡ true → new.gone instance ≡ true
   pub files : (file : ℕ) → new.files file ≡ true → old.files file ≡ true
+  pub there : (file : ℕ) → old.files file ≡ true → new.files file ≡ true
   pub instances : (instance : InstRow) → new.instances instance ≡ old.instances instance
 
 none_of_none : (guid : List ℕ) (given : List (List ℕ)) → given ≡ [] → list_any (bytes_eq guid) given ≡ true → ⊥
@@ -391,9 +416,14 @@ tells_on event old new none unmade unplaced k = record {
   given = λ guid some. absurd (none_of_none guid event.given none some);
   gone = k.gone;
   files = λ file e. inl (k.files file e);
+  there = λ file e. by_maker file e;
   instances = λ instance. k.instances instance ∙ sym (ap (λ (ps : List InstRow). old.instances instance || list_any (is_same_instance instance) ps) unplaced ∙ or_none (old.instances instance));
   ungone = λ instance some. absurd (none_placed instance event.placed unplaced some);
 }
+  where
+    by_maker : (file : ℕ) → (old.files file ≡ true) ⊎ (is_one_of event.made file ≡ true) → new.files file ≡ true
+    by_maker file (inl e) = k.there file e
+    by_maker file (inr e) = absurd (none_made file event.made unmade e)
 
 -- It goes on, with what it shows, and a settled disk.
 pub record HasRun (old new : Seen) : Type 0 where
@@ -401,27 +431,26 @@ pub record HasRun (old new : Seen) : Type 0 where
   pub runs : new.stopped ≡ false
   pub shown : (lists : Lists) → ShowsSeen old lists → ShowsSeen new lists
   pub leads : (lists : Lists) → Leads lists lists old new
-  pub grows : Grows old.history new.history
-  pub reads : old.faults.reads ≤ new.faults.reads
-  pub changes : old.faults.changes ≤ new.faults.changes
+  pub grows : Lasts old.map old.history new.history
+  pub quiet : NoFault old.faults new.faults
 
 -- the run with an event that adds no entry to the map log, and drew these numbers, has come to where the store stands
-pub comes_drawn : (run : Run) (event : RunEvent) (old new : Seen) → HasComeTo run old → new.map ≡ old.map → new.drawn ≡ drawn_also old.drawn event.drew → Grows old.history new.history → event.moment ≡ told_calls new.history → event.map_entries ≡ []
+pub comes_drawn : (run : Run) (event : RunEvent) (old new : Seen) → HasComeTo run old → new.map ≡ old.map → new.drawn ≡ drawn_also old.drawn event.drew → Lasts old.map old.history new.history → event.moment ≡ told_calls new.history → event.map_entries ≡ []
     → HasCome (and_then run event) new.map new.drawn (told_calls new.history)
 comes_drawn run event old new come map drawn grows moment none = record {
   map_is = (ap (λ (es : List MapEntry). map_meaning run.store es) ((entries_more run event ∙ ap (λ (es : List MapEntry). entries_of run ++ es) none) ∙ append-nil (entries_of run)) ∙ come.come.map_is) ∙ sym map;
   drawn_is = (drawn_more run event ∙ ap (λ (d : Highest). drawn_also d event.drew) come.come.drawn_is) ∙ sym drawn;
   moments =
-      let later : told_calls old.history ≤ told_calls new.history = grows in
+      let later : told_calls old.history ≤ told_calls new.history = grows.grows in
       All-push (λ (e : RunEvent). e.moment ≤ told_calls new.history) run.events event
       (All-weaker (λ (e : RunEvent). e.moment ≤ told_calls old.history) (λ (e : RunEvent). e.moment ≤ told_calls new.history) (λ e h. omega (arith, h, later)) run.events come.come.moments) (omega (arith, moment));
 }
 
 -- So has the run with an event that adds this entry.
-pub comes_stored : (run : Run) (event : RunEvent) (entry : MapEntry) (old new : Seen) → HasComeTo run old → new.map ≡ map_applied entry old.map → new.drawn ≡ drawn_also old.drawn event.drew → Grows old.history new.history → event.moment ≡ told_calls new.history → event.map_entries ≡ entry ∷ []
+pub comes_stored : (run : Run) (event : RunEvent) (entry : MapEntry) (old new : Seen) → HasComeTo run old → new.map ≡ map_applied entry old.map → new.drawn ≡ drawn_also old.drawn event.drew → Lasts old.map old.history new.history → event.moment ≡ told_calls new.history → event.map_entries ≡ entry ∷ []
     → HasCome (and_then run event) new.map new.drawn (told_calls new.history)
 comes_stored run event entry old new come map drawn grows moment entries =
-    let later : told_calls old.history ≤ event.moment = (let a : told_calls old.history ≤ told_calls new.history = grows in omega (arith, a, moment)) in
+    let later : told_calls old.history ≤ event.moment = (let a : told_calls old.history ≤ told_calls new.history = grows.grows in omega (arith, a, moment)) in
     subst (λ (m : MapMeaning). HasCome (and_then run event) m new.drawn (told_calls new.history)) (sym map)
     (subst (λ (d : Highest). HasCome (and_then run event) (map_applied entry old.map) d (told_calls new.history)) (sym drawn)
     (subst (λ (n : ℕ). HasCome (and_then run event) (map_applied entry old.map) (drawn_also old.drawn event.drew) n) moment (comes_on_with run event entry old.map old.drawn (told_calls old.history) come.come later entries)))
@@ -433,7 +462,7 @@ pub record StaysSo (drew : Highest) (old new : Seen) : Type 0 where
   pub due : (uid : ℕ) → new.due uid ≡ old.due uid
   pub tells : KeepsTelling old new
   pub shown : (lists : Lists) → ShowsSeen old lists → ShowsSeen new lists
-  pub grows : Grows old.history new.history
+  pub grows : Lasts old.map old.history new.history
   pub reads : old.faults.reads ≤ new.faults.reads
   pub changes : old.faults.changes ≤ new.faults.changes
 
@@ -448,9 +477,9 @@ stays_itself seen = record {
   map = refl;
   drawn = sym (drawn_none seen.drawn);
   due = λ uid. refl;
-  tells = record { ran = λ runs. runs; pins = λ file. refl; doomed = λ file. refl; used = λ file e. e; barred = λ file e. e; gave = λ guid e. e; gone = λ instance e. e; files = λ file e. e; instances = λ instance. refl };
+  tells = record { ran = λ runs. runs; pins = λ file. refl; doomed = λ file. refl; used = λ file e. e; barred = λ file e. e; gave = λ guid e. e; gone = λ instance e. e; files = λ file e. e; there = λ file e. e; instances = λ instance. refl };
   shown = λ lists shows. shows;
-  grows = omega arith;
+  grows = lasts_itself seen.map seen.history;
   reads = omega arith;
   changes = omega arith;
 }
@@ -464,7 +493,7 @@ pub quiet_on : (around after : Around) (run : Run) (lane place : ℕ) (said : Li
 quiet_on around after run lane place said q lists old new event Stands does step h comes gives shows stands =
     stands_by around after run lane place said q lists old new did.Quiet None event None Stands
     (did_part around after run lane place said q lists lists old new did.Quiet None None event does comes gives (h.shown lists shows) h.grows step refl (refl, h.runs ∙ sym h.ran, h.leads lists)
-    (ends_well q said event None None did.Quiet old new does.unrefused h.ran h.runs h.reads h.changes (λ x. x) (λ e. no_reply (reply.Refused refusal.Stopped) e) (λ some. absurd (unstepped some)) (λ given e. absurd (no_reply given e))))
+    (ends_well q said event None None did.Quiet old new does.unrefused h.ran h.runs h.quiet (λ x. x) (λ e. no_reply (reply.Refused refusal.Stopped) e) (λ some. absurd (unstepped some)) (λ given e. absurd (no_reply given e))))
     (λ goes_on. stands)
 
 memory_calm : refusal.NoMemory ≡ refusal.ReadFault → ⊥
@@ -482,7 +511,7 @@ pub forgets : (around after : Around) (run : Run) (lane place : ℕ) (said : Lis
     → DidBy around after run lane place said q lists old new did.Quiet ended (refusal_event lane place part refusal.NoMemory ended no_numbers (told_calls new.history)) None
 forgets around after run lane place said q part lists old new ended can come shows h s replied other =
     did_unstepped around after run lane place said q part lists old new refusal.NoMemory ended did.Quiet no_numbers can (refused_comes run lane place part refusal.NoMemory ended no_numbers old new come s) (s.shown lists shows) s.grows refl memory_calm (refl, h.runs ∙ sym h.ran, h.leads lists) replied
-    (memory_halts new.stopped h.runs ended other) (λ e. absurd (fall old.stopped e h.ran)) s.reads s.changes (λ x. absurd x)
+    (memory_halts new.stopped h.runs ended other) (λ e. absurd (fall old.stopped e h.ran)) s.reads s.changes (λ x. absurd x) (λ other. h.quiet)
 
 read_runs : Some (reply.Refused refusal.ReadFault) ≡ Some (reply.Refused refusal.Stopped) → ⊥
 read_runs e = let k : refusal.ReadFault ≡ refusal.Stopped = one_why refusal.ReadFault refusal.Stopped (one_reply (reply.Refused refusal.ReadFault) (reply.Refused refusal.Stopped) e) in cc k
@@ -500,6 +529,7 @@ misreads around after run lane place said q part lists old new can come shows ra
       still = λ e. absurd (fall old.stopped e ran);
       reads = λ e. rose;
       faults = record { reads = s.reads; changes = s.changes; rose = λ x. absurd x };
+      unfailed = λ read. absurd (read refl);
     })
 
 abbrev pub stopped_answer : Option Reply
@@ -510,14 +540,14 @@ pub stops_before : (around after : Around) (run : Run) (lane place : ℕ) (said 
     → IsReplyOf q said (reply.Refused refusal.Stopped) → seen.stopped ≡ true
     → DidBy around after run lane place said q lists seen seen did.Quiet stopped_answer (refusal_event lane place part refusal.Stopped stopped_answer no_numbers (told_calls seen.history)) None
 stops_before around after run lane place said q part lists seen can come shows is stopped =
-    did_unstepped around after run lane place said q part lists seen seen refusal.Stopped stopped_answer did.Quiet no_numbers can (refused_comes run lane place part refusal.Stopped stopped_answer no_numbers seen seen come (stays_itself seen)) shows (omega arith) refl stopped_calm (refl, refl, nothing lists seen)
-    (λ given e. subst (λ (r : Reply). IsReplyOf q said r) (one_reply (reply.Refused refusal.Stopped) given e) is) (record { 0 = λ e. stopped; 1 = λ e. refl }) (λ e. refl) (omega arith) (omega arith) (λ x. absurd x)
+    did_unstepped around after run lane place said q part lists seen seen refusal.Stopped stopped_answer did.Quiet no_numbers can (refused_comes run lane place part refusal.Stopped stopped_answer no_numbers seen seen come (stays_itself seen)) shows (lasts_itself seen.map seen.history) refl stopped_calm (refl, refl, nothing lists seen)
+    (λ given e. subst (λ (r : Reply). IsReplyOf q said r) (one_reply (reply.Refused refusal.Stopped) given e) is) (record { 0 = λ e. stopped; 1 = λ e. refl }) (λ e. refl) (omega arith) (omega arith) (λ x. absurd x) (λ other. refl)
 
 -- A change of the disk failed: it was no step, or would have been one (`went`).
 pub falls : (around after : Around) (run : Run) (lane place : ℕ) (said : List Reply) (q : Request) (part : EventPart) (lists : Lists) (old new : Seen) (how : Did) (drew : Highest) → CanRefuse around run place q part refusal.Stopped stopped_answer drew → HasComeTo run old → StaysSo drew old new → ShowsSeen old lists
-    → IsReplyOf q said (reply.Refused refusal.Stopped) → old.stopped ≡ false → new.stopped ≡ true → Rose old.faults.changes new.faults.changes
+    → IsReplyOf q said (reply.Refused refusal.Stopped) → old.stopped ≡ false → new.stopped ≡ true → Rose old.faults.changes new.faults.changes → IsFault how
     → Went how q run lists lists (refusal_event lane place part refusal.Stopped stopped_answer drew (told_calls new.history)) None old new
     → DidBy around after run lane place said q lists old new how stopped_answer (refusal_event lane place part refusal.Stopped stopped_answer drew (told_calls new.history)) None
-falls around after run lane place said q part lists old new how drew can come s shows is ran stopped rose went =
+falls around after run lane place said q part lists old new how drew can come s shows is ran stopped rose faulty went =
     did_unstepped around after run lane place said q part lists old new refusal.Stopped stopped_answer how drew can (refused_comes run lane place part refusal.Stopped stopped_answer drew old new come s) (s.shown lists shows) s.grows refl stopped_calm went
-    (λ given e. subst (λ (r : Reply). IsReplyOf q said r) (one_reply (reply.Refused refusal.Stopped) given e) is) (record { 0 = λ e. stopped; 1 = λ e. refl }) (λ e. absurd (fall old.stopped e ran)) s.reads s.changes (λ x. rose)
+    (λ given e. subst (λ (r : Reply). IsReplyOf q said r) (one_reply (reply.Refused refusal.Stopped) given e) is) (record { 0 = λ e. stopped; 1 = λ e. refl }) (λ e. absurd (fall old.stopped e ran)) s.reads s.changes (λ x. rose) (λ other. absurd (other faulty))

@@ -148,7 +148,7 @@ seen_does pins history faults task seen now next octets answer how old new same 
       rests = s.rests;
       stopped = s.stopped;
       faults = s.faults;
-      grows = s.grows;
+      grows = record { grows = s.grows; mail = s.stays };
     }) s.effects s.left)
     left timed parts ready
 

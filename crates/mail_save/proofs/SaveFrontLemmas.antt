@@ -1,5 +1,5 @@
 -- The events of a delivery up to that which stores the message, by the clause of a step.
-use Rattle.std.proofs.Common.{◌≡◌, ◌≤◌, ◌<◌, ◌+◌, ◌==◌, ◌||◌, ℕ, Bool, true, false, not, cond, List, [], ◌∷◌, ◌++◌, Option, Some, None, refl, sym, ◌∙◌, ap, subst, append_assoc, arith, inl, inr}
+use Rattle.std.proofs.Common.{◌≡◌, ◌≤◌, ◌<◌, ◌+◌, ◌⊎◌, ◌==◌, ◌||◌, ℕ, Bool, true, false, not, cond, List, [], ◌∷◌, ◌++◌, Option, Some, None, refl, sym, ◌∙◌, ap, subst, append_assoc, arith, inl, inr}
 use Rattle.std.specs.Prelude.{◌≢◌, nat_lt, nat_le, is_none, is_some, length, filter, flat_map, All, if◌then◌else◌}
 use Rattle.std.specs.List.{AllByRecursion, list_any}
 use Rattle.std.specs.Option.{IfSome, option_map_or, option_or}
@@ -357,6 +357,7 @@ places_message around after name time octets rows file guid old new sees long ea
       given = λ g some. by_guid g some;
       gone = tells.gone;
       files = λ f e. inl (tells.files f e);
+      there = λ f e. by_maker f e;
       instances = λ i. tells.instances i ∙ sym (or_none (old.instances i));
       ungone = λ i placed. absurd (let k : false ≡ true = placed in cc k);
     }))
@@ -375,6 +376,10 @@ places_message around after name time octets rows file guid old new sees long ea
     or_nothing : (b : Bool) → (b || false) ≡ true → b ≡ true
     or_nothing true e = refl
     or_nothing false e = e
+
+    by_maker : (f : ℕ) → (old.files f ≡ true) ⊎ (is_one_of [] f ≡ true) → new.files f ≡ true
+    by_maker f (inl e) = tells.there f e
+    by_maker f (inr e) = absurd (let k : false ≡ true = e in cc k)
 
     by_guid : (g : List ℕ) → list_any (bytes_eq g) (guid ∷ []) ≡ true → new.gave g ≡ true
     by_guid g some = subst (λ (k : List ℕ). new.gave k ≡ true) (sym ((bytes_eq-Decides g guid).0 (or_nothing (bytes_eq g guid) some))) gave

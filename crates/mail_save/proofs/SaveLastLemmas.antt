@@ -4,7 +4,8 @@ use Rattle.std.specs.Prelude.{find, length, if◌then◌else◌, slice_get}
 use Rattle.std.specs.Option.{option_map, option_or}
 use Rattle.std.specs.Str.{bytes_eq}
 use Rattle.std.proofs.lemmas.List.Elements.{All-nil, All-cons}
-use Rattle.disk_model.specs.Disk.{told_calls, Grows}
+use Rattle.disk_model.specs.Disk.{told_calls}
+use Rattle.disk_model.specs.FaultCounts.{NoFault}
 use Rattle.mdbox_base.specs.Streams.{Rose}
 use Rattle.mdbox_base.specs.declared.entries.BoxEntry.TheVariants as box_entry
 use Rattle.mdbox_base.specs.declared.entries.MapEntry.TheVariants as map_entry
@@ -38,7 +39,7 @@ use Rattle.mail_save.specs.Events.{box_refusal}
 use Rattle.mail_save.specs.SaveSeen.{StepsWithRoom}
 use Rattle.mail_save.specs.SaveStages.{IsAddingMessage, IsLoweringCount, IsOwnGuid}
 use Rattle.mail_save.proofs.SaveRunLemmas.{adds_next, gives_back_behind, gives_back_next, given_before, held_stored, held_refused, saved_refusal, lowered_refusal}
-use Rattle.mail_save.proofs.SaveDidLemmas.{no_reply, some_reply, some_part, one_reply, unstepped, step_runs, HasRun, KeepsTelling, StaysSo, comes_drawn, comes_stored, comes_to_more, tells_on, refused_comes, CanRefuse, did_part, did_check, ends_well, forgets, falls, stops_before, stopped_answer, refusal_event, stands_by}
+use Rattle.mail_save.proofs.SaveDidLemmas.{no_reply, some_reply, some_part, one_reply, unstepped, step_runs, HasRun, KeepsTelling, Lasts, StaysSo, comes_drawn, comes_stored, comes_to_more, tells_on, refused_comes, CanRefuse, did_part, did_check, ends_well, forgets, falls, stops_before, stopped_answer, refusal_event, stands_by}
 use Rattle.mail_save.proofs.SaveFrontLemmas.{SeesAround, finds_place, own_first}
 use Rattle.mail_save.proofs.SaveListLemmas.{AddsTo, adds_to_box, box_checked, has_room, made_of}
 use Rattle.mail_save.proofs.SaveRefusedLemmas.{deliver, never_looked, step_replied, lowering_why}
@@ -110,9 +111,8 @@ pub record AddsMessage (name : List ℕ) (time : ℕ) (octets guid : List ℕ) (
   pub tells : KeepsTelling old new
   pub moments : (lists : Lists) → IsSettledFor lists old.history → Leaves lists (lists_by number octets (made_of octets (record { 0 = uid }) time (record { 0 = held }) (record { 0 = guid })) lists) old.history new.history
   pub settled : (lists : Lists) → IsSettledFor lists old.history → IsSettledFor (lists_by number octets (made_of octets (record { 0 = uid }) time (record { 0 = held }) (record { 0 = guid })) lists) new.history
-  pub grows : Grows old.history new.history
-  pub reads : old.faults.reads ≤ new.faults.reads
-  pub changes : old.faults.changes ≤ new.faults.changes
+  pub grows : Lasts old.map old.history new.history
+  pub quiet : NoFault old.faults new.faults
 
 -- the lists are shown by a map and meanings
 shows_as : (new : Seen) (boxes : List MapBox) (meanings : List BoxMeaning) (lists : Lists) → new.map.boxes ≡ boxes → new.meanings ≡ meanings → ShowLists boxes meanings lists → ShowLists new.map.boxes new.meanings lists
@@ -158,7 +158,7 @@ saved_message around after name time octets guid held number uid Stands old new 
               settled = λ settled. subst (λ (ls : Lists). IsSettledFor ls new.history) k.by (a.settled lists settled);
             },
           )
-          (ends_well q said event ended ended (did.Step half.Whole) old new refl a.ran a.runs a.reads a.changes (λ x. x) (saved_runs uid guid) (λ some. ap (λ (r : List Reply). slice_get (halves_of q) (length r)) stood.0.2)
+          (ends_well q said event ended ended (did.Step half.Whole) old new refl a.ran a.runs a.quiet (λ x. x) (saved_runs uid guid) (λ some. ap (λ (r : List Reply). slice_get (halves_of q) (length r)) stood.0.2)
           (λ given e. subst (λ (y : Reply). IsReplyOf q (said ++ reply.Saved uid guid ∷ []) y) (one_reply (reply.Saved uid guid) given e) (subst (λ (r : List Reply). IsReplyOf q (r ++ reply.Saved uid guid ∷ []) (reply.Saved uid guid)) (sym stood.0.2) refl)))).so,
       λ e. absurd (never_more _ e),
     )
@@ -204,7 +204,7 @@ broken_save around after name time octets guid held number uid Stands old new se
     let s = stood.0.0 in
     let allowed = room_allows run name octets guid.0 time uid.0 number old lists would f shows.1 in
     let made = is_delivered run lane place said name time octets guid.0 uid.0 number held old lists None (told_calls new.history) f shows stood.0.1 k in (
-      (falls around after run lane place said q Last lists old new (did.Broken half.Whole) no_numbers (add_stops around run place name time octets guid.0 held said old sees stood.0) come a.stays shows tt a.ran a.stopped a.rose (
+      (falls around after run lane place said q Last lists old new (did.Broken half.Whole) no_numbers (add_stops around run place name time octets guid.0 held said old sees stood.0) come a.stays shows tt a.ran a.stopped a.rose tt (
         record { refused = refl; unanswered = refl; ran = a.ran; stopped = a.stopped },
         refl,
         (
@@ -271,7 +271,7 @@ refused_message around after name time octets guid held why old new sees step re
     let q = deliver name time octets in
     stands_by around after run lane place said q lists old new (did.Step half.Whole) None (refusal_event lane place Last why None no_numbers (told_calls new.history)) (Some (reply.Refused why)) (IsLoweringCount held why)
     (did_check around after run lane place said q Last lists old new why None half.Whole (add_goes_on around run place name time octets guid held said why old sees stood.0 (finds_place octets around run old sees come h.ran (stood.1 h.ran)) (step_runs why step) (step_may Last q why step)) (refused_comes run lane place Last why None no_numbers old new come stays) (h.shown lists shows) h.grows h.ran h.runs (h.leads lists) step refl
-    (ap (λ (r : List Reply). slice_get (half.Whole ∷ []) (length r)) stood.0.2) (λ event. box_checked run name old.map.boxes old.meanings lists [] shows.1 ∙ ap (λ (r : Option Refusal). option_or r None) refuses) (λ given e. absurd (no_reply given e)) (λ e. no_reply (reply.Refused refusal.Stopped) e) h.reads h.changes)
+    (ap (λ (r : List Reply). slice_get (half.Whole ∷ []) (length r)) stood.0.2) (λ event. box_checked run name old.map.boxes old.meanings lists [] shows.1 ∙ ap (λ (r : Option Refusal). option_or r None) refuses) (λ given e. absurd (no_reply given e)) (λ e. no_reply (reply.Refused refusal.Stopped) e) h.quiet)
     (λ goes_on. lowers_next place lane (told_calls new.history) run guid held said why (said ++ reply.Refused why ∷ []) stood.0 (ap (λ (r : List Reply). r ++ reply.Refused why ∷ []) stood.0.2 ∙ sym (ap (λ (b : Bool). if b then reply.Refused why ∷ [] else []) step)) (inl step))
 
 pub forgotten_message : (around after : Around) (name : List ℕ) (time : ℕ) (octets guid : List ℕ) (held : ℕ) (old new : Seen) → SeesAround octets around old → HasRun old new → StaysSo no_numbers old new
@@ -322,7 +322,7 @@ lowers_count around after name time octets held why Stands old new sees h fits t
           (comes_to_more run event old new come (comes_stored run event (map_entry.D (record { 0 = held } ∷ [])) old new come taken (drawn ∙ sym (drawn_none old.drawn)) h.grows refl refl) (λ u. lowered_ends (old.due u) (new.due u) held u (due u))
           (record { pins = refl; unpins = refl; doomed = refl; removed = refl; gone = refl }) (tells_on event old new refl refl refl tells))
           (no_guids run event refl) (h.shown lists shows) h.grows refl refl (refl, h.runs ∙ sym h.ran, h.leads lists)
-          (ends_well q said event None (Some (reply.Refused why)) did.Quiet old new refl h.ran h.runs h.reads h.changes (λ x. x) (λ e. other (let k : reply.Refused why ≡ reply.Refused refusal.Stopped = cc e in cc k)) (λ some. absurd (unstepped some))
+          (ends_well q said event None (Some (reply.Refused why)) did.Quiet old new refl h.ran h.runs h.quiet (λ x. x) (λ e. other (let k : reply.Refused why ≡ reply.Refused refusal.Stopped = cc e in cc k)) (λ some. absurd (unstepped some))
           (λ given e. subst (λ (x : Reply). IsReplyOf q said x) (one_reply (reply.Refused why) given e) (lowered_reply name time octets said why stood.0.1 stood.0.2)))).so,
       λ e. absurd (never_more _ e),
     )

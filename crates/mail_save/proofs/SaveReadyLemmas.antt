@@ -8,15 +8,17 @@ use Rattle.mdbox_base.specs.declared.progress.Did.{Did}
 use Rattle.mdbox_base.specs.declared.progress.Progress.{Progress}
 use Rattle.mdbox_base.specs.declared.progress.Progress.TheVariants as progress
 use Rattle.save_instances.proofs.FoundLemmas.{holds_few}
-use Rattle.save_instances.specs.Attaching.{AttachingValue, next_attachment, parts_left}
+use Rattle.save_instances.proofs.AttachCountLemmas.{none_more}
+use Rattle.save_instances.specs.Attaching.{AttachingValue, attach_events_left, next_attachment, nothing_found, parts_left}
 use Rattle.saved_message.proofs.ReferenceLemmas.{parts_few}
 use Rattle.sis_store.proofs.IdLemmas.{is_within}
 use Rattle.store_core.specs.Keeping.{holds_of}
 use Rattle.store_core.specs.Value.{StoreValue}
-use Rattle.task_claims.specs.Claims.{Held}
+use Rattle.task_claims.specs.Claims.{Claims, Held}
+use Rattle.task_claims.specs.Leaving.{LeavesOthers}
 use Rattle.mail_save.specs.Claims.{save_claims}
 use Rattle.mail_save.specs.Held.{HasHoldRoom}
-use Rattle.mail_save.specs.Task.{HasKept, HasLeft, IsAttached, IsAttachedSoFar, IsReadyToDeliver, Saves, holds_to_come}
+use Rattle.mail_save.specs.Task.{HasKept, HasLeft, IsAttached, IsAttachedSoFar, IsReadyToDeliver, Saves, holds_to_come, save_events_left}
 use Rattle.mail_save.specs.declared.first.SavedParts.{SavedParts}
 use Rattle.mail_save.specs.declared.task.SaveStage.{SaveStage}
 use Rattle.mail_save.specs.declared.task.SaveStage.TheVariants as stage
@@ -85,3 +87,24 @@ holds_are_few (stage.Storing at rows room) name time size octets store history r
 holds_are_few (stage.Adding added room) name time size octets store history r id = omega arith
 holds_are_few (stage.GivingBack uid why room) name time size octets store history r id = omega arith
 holds_are_few stage.Ended name time size octets store history r id = omega arith
+
+-- ---- room for all
+
+-- where each instance can be held as often as one task may come to hold it
+pub left_with_room : {D : Type 0} → (now : SaveStage) (name : List ℕ) (time size : ℕ) (octets : List ℕ) (store : StoreValue D) (history : Option History) → IsReadyToDeliver now name time size octets store history → HasHoldRoom 65535 store → HasLeft now name time store history
+left_with_room now name time size octets store history r room = left_of now name time size octets store history r (λ id. let few = holds_are_few now name time size octets store history r id in let most = room id in omega (arith, few, most))
+
+-- ---- events to come, beside other tasks
+
+pub work_stays : {D : Type 0} → (now : SaveStage) (mine : Claims) (old new : StoreValue D) (before after : Option History) → LeavesOthers mine old new before after → save_events_left now new.instances ≤ save_events_left now old.instances
+work_stays (stage.First prepared) mine old new before after l = one_more (nothing_found prepared.parts) 7
+  where
+    one_more : (value : AttachingValue) (n : ℕ) → attach_events_left value new.instances + n ≤ attach_events_left value old.instances + n
+    one_more value n = let few = none_more value old.instances new.instances l.numbers.drawn l.numbers.last l.numbers.few l.numbers.candidates in omega (arith, few)
+work_stays (stage.Attaching parts attaching) mine old new before after l = let few = none_more attaching old.instances new.instances l.numbers.drawn l.numbers.last l.numbers.few l.numbers.candidates in omega (arith, few)
+work_stays (stage.Taking parts) mine old new before after l = omega arith
+work_stays (stage.Placing parts file) mine old new before after l = omega arith
+work_stays (stage.Storing at rows room) mine old new before after l = omega arith
+work_stays (stage.Adding added room) mine old new before after l = omega arith
+work_stays (stage.GivingBack uid why room) mine old new before after l = omega arith
+work_stays stage.Ended mine old new before after l = omega arith

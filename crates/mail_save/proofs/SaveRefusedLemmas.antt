@@ -114,7 +114,7 @@ pub fallen_save : (around after : Around) (name : List ℕ) (time : ℕ) (octets
     → StepsWithRoom Stood Stands around after (deliver name time octets) old new did.Failed stopped_answer
 fallen_save around after name time octets part Stood Stands drew old new sees ends at drawn stays ran stopped rose stops = λ run lane place said lists come shows stood. (
   (falls around after run lane place said (deliver name time octets) part lists old new did.Failed drew
-      (refuses_part around run place name time octets part refusal.Stopped drew old sees (λ looked. absurd (let k : false ≡ true = looked in cc k)) ends (at.next run place said stood.0) (stopped_memory _) tt (drawn run) (λ s. absurd (let k : false ≡ true = s in cc k))) come stays shows tt ran stopped rose
+      (refuses_part around run place name time octets part refusal.Stopped drew old sees (λ looked. absurd (let k : false ≡ true = looked in cc k)) ends (at.next run place said stood.0) (stopped_memory _) tt (drawn run) (λ s. absurd (let k : false ≡ true = s in cc k))) come stays shows tt ran stopped rose tt
       (record { refused = refl; unanswered = refl; ran = ran; stopped = stopped }, stops lists)).so,
   λ e. absurd (never_more _ e),
 )
@@ -168,7 +168,7 @@ checked_save around after name time octets part Stood Stands why old new sees en
           (refused_comes run lane place part why (Some (reply.Refused why)) no_numbers old new come stays) (h.shown lists shows) h.grows h.ran h.runs (h.leads lists) step refl
           (ap (λ (s : List Reply). slice_get (half.Whole ∷ []) (length s)) none) (λ event. refuses run lists event come shows)
           (λ given e. subst (λ (r : Reply). IsReplyOf q (said ++ reply.Refused why ∷ []) r) (one_reply (reply.Refused why) given e) (subst (λ (s : List Reply). IsReplyOf q (s ++ reply.Refused why ∷ []) (reply.Refused why)) (sym none) (step_replied name time octets why step)))
-          (λ e. step_runs why step (let r : reply.Refused why ≡ reply.Refused refusal.Stopped = cc e in cc r)) h.reads h.changes).so,
+          (λ e. step_runs why step (let r : reply.Refused why ≡ reply.Refused refusal.Stopped = cc e in cc r)) h.quiet).so,
       λ e. absurd (never_more _ e),
     )
 

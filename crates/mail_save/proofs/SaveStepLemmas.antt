@@ -1,13 +1,13 @@
 -- What each event of a delivery did, by the clause of a step.
 use Rattle.std.proofs.Common.{◌≡◌, ◌≤◌, ◌<◌, ◌+◌, ◌^◌, ◌==◌, ◌&&◌, ◌||◌, ℕ, Bool, true, false, List, [], ◌∷◌, ◌++◌, ◌⊎◌, length, Option, Some, None, refl, sym, ◌∙◌, ap, subst, arith, inl, inr}
-use Rattle.std.specs.Prelude.{◌↔◌, nat_le, is_some, is_none, All, if◌then◌else◌}
+use Rattle.std.specs.Prelude.{◌≢◌, ◌↔◌, nat_le, is_some, is_none, All, if◌then◌else◌}
 use Rattle.std.specs.List.{list_any}
 use Rattle.std.specs.Option.{option_map_or, option_or}
 use Rattle.std.specs.Str.{bytes_eq}
 use Rattle.std.proofs.lemmas.Bool.{cases_eq}
 use Rattle.std.proofs.lemmas.Bool.Decides.{nat_tests}
 use Rattle.attach_detach.specs.declared.message.Prepared.{Prepared}
-use Rattle.disk_model.specs.Disk.{History, Faults, Grows}
+use Rattle.disk_model.specs.Disk.{History, Faults}
 use Rattle.disk_model.specs.FaultCounts.{ChangeFaultCounted}
 use Rattle.mdbox_base.specs.Words.{IsOctets}
 use Rattle.mdbox_base.specs.declared.entries.BoxEntry.{BoxEntry}
@@ -65,7 +65,7 @@ use Rattle.mail_save.specs.declared.task.SaveStage.{SaveStage}
 use Rattle.mail_save.specs.declared.task.SaveStage.TheVariants as stage
 use Rattle.mail_save.proofs.PlacedLemmas.{placed_stores}
 use Rattle.mail_save.proofs.SaveClauseLemmas.{EventOf, DeliveryClause, with_did}
-use Rattle.mail_save.proofs.SaveDidLemmas.{or_none, step_calm, step_runs, HasRun, StaysSo}
+use Rattle.mail_save.proofs.SaveDidLemmas.{Lasts, or_none, same_changes, same_reads, step_calm, step_runs, HasRun, StaysSo}
 use Rattle.mail_save.proofs.SaveFrontLemmas.{SeesAround, KeepsMap, begins_save, made_itself, takes_known, takes_new, places_message, stores_message}
 use Rattle.mail_save.proofs.SaveLastLemmas.{FindsBox, saved_message, broken_save, refused_message, forgotten_message, lowers_count}
 use Rattle.mail_save.proofs.SaveListLemmas.{box_checked, made_of}
@@ -105,13 +105,6 @@ step_did refusal.NoMemory s = absurd (cc s)
 step_did refusal.ReadFault s = absurd (cc s)
 step_did refusal.Stopped s = absurd (cc s)
 step_did (refusal.Damaged file offset) s = absurd (cc s)
-
--- the faults and the time of one that goes on, or that failed
-pub same_reads : (began faulted : Faults) → faulted ≡ began → began.reads ≤ faulted.reads
-same_reads began faulted same = let e = ap (λ (f : Faults). f.reads) same in omega (arith, e)
-
-pub same_changes : (began faulted : Faults) → faulted ≡ began → began.changes ≤ faulted.changes
-same_changes began faulted same = let e = ap (λ (f : Faults). f.changes) same in omega (arith, e)
 
 -- a refusal for which no call failed
 pub untold_faults : (why : Refusal) (began faulted : Faults) → (why ≡ refusal.Stopped → ⊥) → (why ≡ refusal.ReadFault → ⊥) → FaultsAt (progress.Done (reply.Refused why)) began faulted → faulted ≡ began
@@ -181,7 +174,7 @@ first_attaching pins prepared parts attaching name time size octets how old new 
     (first_goes pins prepared parts (stage.Attaching parts attaching) name time size octets how old new before after began faulted e same begins behind))
 
 -- a store that was left as it was
-stays_same : {D : Type 0} → (pins : ℕ → ℕ) (old new : StoreValue D) (before after : Option History) (began faulted : Faults) → old.stopped ≡ false → new ≡ old → Grows before after → began.reads ≤ faulted.reads → began.changes ≤ faulted.changes → StaysSo no_numbers (seen_of pins old before began) (seen_of pins new after faulted)
+stays_same : {D : Type 0} → (pins : ℕ → ℕ) (old new : StoreValue D) (before after : Option History) (began faulted : Faults) → old.stopped ≡ false → new ≡ old → Lasts old.map before after → began.reads ≤ faulted.reads → began.changes ≤ faulted.changes → StaysSo no_numbers (seen_of pins old before began) (seen_of pins new after faulted)
 stays_same pins old new before after began faulted ran same grows reads changes =
     stays_so pins no_numbers old new before after began faulted ran (ap (λ (v : StoreValue _). v.map) same) (ap (λ (v : StoreValue _). v.drawn) same ∙ sym (drawn_none old.drawn)) (ap (λ (v : StoreValue _). v.dues) same) (ap (λ (v : StoreValue _). indexes_of v.boxes) same)
     (let d = ap (λ (v : StoreValue _). v.drawn.file) same in omega (arith, d)) (same_ends old new (tells_same old new (let d = ap (λ (v : StoreValue _). v.drawn.file) same in omega (arith, d)) (ap (λ (v : StoreValue _). v.files.files) same)) (λ n. ap (λ (v : StoreValue _). end_in n v.files.files) same)) (knows_same old new (ap (λ (v : StoreValue _). v.instances) same) (ap (λ (v : StoreValue _). v.drawn.instance) same)) grows reads changes
@@ -289,6 +282,10 @@ taking_more pins parts laid file name time size octets how old new before after 
     as_laid behind does =
         subst (λ (p : SavedParts). StepsWithRoom (IsTakingFile parts.rows) (IsPlacingMessage p.rows file.0) (around_saving octets (stage.Taking parts) old) behind (request.Deliver name time octets) (seen_of pins old before began) (seen_of pins new after faulted) did.Quiet None) (sym laid_is) does
 
+    still_there : (n : ℕ) (made : List ℕ) → end_in n new.files.files ≡ end_in n old.files.files → n ≢ file.0 → made ≡ file.0 ∷ [] → (is_some (end_in n old.files.files) ≡ true) ⊎ (is_one_of made n ≡ true) → is_some (end_in n new.files.files) ≡ true
+    still_there n made same apart is (inl was) = ap (λ (o : Option ℕ). is_some o) same ∙ was
+    still_there n made same apart is (inr was) = absurd (apart (sym (only_one file.0 n (sym (ap (λ (fs : List ℕ). is_one_of fs n) is) ∙ was))))
+
     by_take : (take : Take) → IsTakeFor (length parts.laid.region) old.files take → TookAs take (length parts.header) file old new → t.take ≡ take → DeliveryClause pins octets (stage.Taking parts) (stage.Placing laid file) name time progress.More did.Quiet old new before after began faulted
     by_take (Known taken) is took kind = λ behind.
         let most = subst (λ (n : FileNo). All (λ g. MayBeTakenFor (length parts.laid.region) g → g.file.0 ≤ n.0) old.files.files) (sym is.2) is.4 in
@@ -317,6 +314,10 @@ taking_more pins parts laid file name time size octets how old new before after 
           files = λ n there. elim (cases_eq n file.0) [
             | inl same ↦ inr (ap (λ (fs : List ℕ). is_one_of fs n) made ∙ made_itself file.0 n (sym same))
             | inr apart ↦ inl (ap (λ (o : Option ℕ). is_some o) (sym (took.4 n apart)) ∙ there)
+          ];
+          there = λ n was. elim (cases_eq n file.0) [
+            | inl same ↦ ap (λ (m : ℕ). is_some (end_in m new.files.files)) same ∙ ap (λ (o : Option ℕ). is_some o) took.3
+            | inr apart ↦ still_there n event.made (took.4 n apart) apart made was
           ];
           gone = λ i k. gone_on old new i id (let d = ap (λ (h : Highest). h.instance) took.1 in omega (arith, d)) k;
           instances = λ i.
@@ -429,10 +430,14 @@ placing_more pins parts file at rows room name time size octets how old new befo
         | inl same ↦ ap (λ (k : ℕ). is_some (end_in k old.files.files)) same ∙ ap (λ (o : Option ℕ). is_some o) p.began
         | inr apart ↦ ap (λ (o : Option ℕ). is_some o) (sym (p.others n apart)) ∙ there
       ];
+      there = λ n was. elim (cases_eq n file.0) [
+        | inl same ↦ ap (λ (k : ℕ). is_some (end_in k new.files.files)) same ∙ ap (λ (o : Option ℕ). is_some o) p.ends
+        | inr apart ↦ ap (λ (o : Option ℕ). is_some o) (p.others n apart) ∙ was
+      ];
     }) (knows_same old new (ap (λ (v : StoreValue _). v.instances) p.same) (ap (λ (h : Highest). h.instance) drawn))) gave)))
 
 -- one that left the store as it was, of which a change failed
-stays_alone : {D : Type 0} → (pins : ℕ → ℕ) (old new : StoreValue D) (before after : Option History) (began faulted : Faults) → old.stopped ≡ false → IsLeftAlone old new → Grows before after → faulted.reads ≡ began.reads → began.changes ≤ faulted.changes → StaysSo no_numbers (seen_of pins old before began) (seen_of pins new after faulted)
+stays_alone : {D : Type 0} → (pins : ℕ → ℕ) (old new : StoreValue D) (before after : Option History) (began faulted : Faults) → old.stopped ≡ false → IsLeftAlone old new → Lasts old.map before after → faulted.reads ≡ began.reads → began.changes ≤ faulted.changes → StaysSo no_numbers (seen_of pins old before began) (seen_of pins new after faulted)
 stays_alone pins old new before after began faulted ran k grows reads changes =
     stays_so pins no_numbers old new before after began faulted ran (ap (λ (v : StoreValue _). v.map) k.same) (ap (λ (v : StoreValue _). v.drawn) k.same ∙ sym (drawn_none old.drawn)) (ap (λ (v : StoreValue _). v.dues) k.same) k.indexes
     (let d = ap (λ (v : StoreValue _). v.drawn.file) k.same in omega (arith, d)) (same_ends old new (tells_same old new (let d = ap (λ (v : StoreValue _). v.drawn.file) k.same in omega (arith, d)) (ap (λ (v : StoreValue _). v.files.files) k.same)) (λ n. ap (λ (v : StoreValue _). end_in n v.files.files) k.same)) (knows_same old new (ap (λ (v : StoreValue _). v.instances) k.same) (ap (λ (v : StoreValue _). v.drawn.instance) k.same)) grows (equal_reads began faulted reads) changes
@@ -599,8 +604,7 @@ adding_saved pins added room uid guid name time size octets how old new before a
       moments = λ lists t. subst (λ (x : BoxEntry). Leaves lists (lists_by p.number.0 octets x lists) before after) entry (s.moments p.number uid p.room lists octets (r.brings uid) t);
       settled = λ lists t. subst (λ (x : BoxEntry). IsSettledFor (lists_by p.number.0 octets x lists) after) entry (s.rests runs p.number p.room lists octets (r.brings uid) t);
       grows = s.grows;
-      reads = same_reads began faulted same;
-      changes = same_changes began faulted same;
+      quiet = same;
     })))
 
 pub adding_refused : {D : Type 0} → (pins : ℕ → ℕ) (added : Added) (room : LowerRoom) (why : Refusal) (name : List ℕ) (time size : ℕ) (octets : List ℕ) (how : Did) (old new : StoreValue D) (before after : Option History) (began faulted : Faults) → EventOf (stage.Adding added room) stage.Ended name time size octets (progress.Done (reply.Refused why)) how old new before after began faulted

@@ -7,7 +7,7 @@ use Rattle.std.proofs.lemmas.Bool.{cases_eq, eq-eqb, ne_eqb, cond-false}
 use Rattle.std.proofs.lemmas.Grind.{common_steps}
 use Rattle.std.proofs.lemmas.List.{length-append}
 use Rattle.std.proofs.lemmas.List.Elements.{All-nil, All-cons, All-head, All-tail, All-append}
-use Rattle.disk_model.specs.Disk.{History, Faults, Grows}
+use Rattle.disk_model.specs.Disk.{History, Faults}
 use Rattle.mdbox_base.specs.Words.{IsOctets}
 use Rattle.mdbox_base.specs.declared.entries.Highest.{Highest}
 use Rattle.mdbox_base.specs.declared.entries.InstRow.{InstRow}
@@ -37,7 +37,7 @@ use Rattle.mail_save.specs.SaveSeen.{around_saving, candidate_at, room_at}
 use Rattle.mail_save.specs.declared.task.SaveStage.{SaveStage}
 use Rattle.mail_save.specs.declared.task.SaveStage.TheVariants as stage
 use Rattle.mail_save.proofs.PlaceLemmas.{own_place, file_of_place, offset_of_place}
-use Rattle.mail_save.proofs.SaveDidLemmas.{fall, HasRun, KeepsTelling, StaysSo}
+use Rattle.mail_save.proofs.SaveDidLemmas.{fall, HasRun, KeepsTelling, Lasts, StaysSo}
 use Rattle.mail_save.proofs.SaveFileLemmas.{value_changed}
 use Rattle.mail_save.proofs.SaveFrontLemmas.{SeesAround}
 use Rattle.mail_save.proofs.SaveRoomLemmas.{RoomIs, room_is, both_true, le_true, true_le}
@@ -169,9 +169,10 @@ pub record EndsGoOn {D : Type 0} (old new : StoreValue D) : Type 0 where
   pub tells : TellsFiles old new
   pub gave : (n offset : ℕ) → n ≤ old.drawn.file → is_before offset (end_in n old.files.files) ≡ true → is_before offset (end_in n new.files.files) ≡ true
   pub known : (n : ℕ) → is_some (end_in n new.files.files) ≡ true → is_some (end_in n old.files.files) ≡ true
+  pub there : (n : ℕ) → is_some (end_in n old.files.files) ≡ true → is_some (end_in n new.files.files) ≡ true
 
 pub same_ends : {D : Type 0} → (old new : StoreValue D) → TellsFiles old new → AreEndsSame old new → EndsGoOn old new
-same_ends old new tells same = record { tells = tells; gave = λ n offset le e. ap (λ (o : Option ℕ). is_before offset o) (same n) ∙ e; known = λ n e. ap (λ (o : Option ℕ). is_some o) (sym (same n)) ∙ e }
+same_ends old new tells same = record { tells = tells; gave = λ n offset le e. ap (λ (o : Option ℕ). is_before offset o) (same n) ∙ e; known = λ n e. ap (λ (o : Option ℕ). is_some o) (sym (same n)) ∙ e; there = λ n e. ap (λ (o : Option ℕ). is_some o) (same n) ∙ e }
 
 all_true : (a b c : Bool) → a ≡ true → b ≡ true → c ≡ true → (a && (b && c)) ≡ true
 all_true a b c x y z = rw (x, y, z) refl
@@ -196,6 +197,7 @@ tells_store pins old new before after began faulted ran id more ends knows = rec
   gave = λ guid e. gave_on old new guid id more ends.gave e;
   gone = λ instance e. gone_on old new instance id knows.drawn e;
   files = λ file e. ends.known file e;
+  there = λ file e. ends.there file e;
   instances = λ instance. knows.known instance;
 }
 
@@ -206,21 +208,20 @@ shows_on pins old new before after began faulted lists boxes indexes shows =
     (shows.0, subst (λ (bs : List MapBox). ShowLists bs (indexes_of new.boxes) lists) (sym boxes) (subst (λ (ms : List BoxMeaning). ShowLists old.map.boxes ms lists) (sym indexes) shows.1))
 
 pub has_run : {D : Type 0} → (pins : ℕ → ℕ) (old new : StoreValue D) (before after : Option History) (began faulted : Faults) → old.stopped ≡ false → new.stopped ≡ false → new.map.boxes ≡ old.map.boxes → indexes_of new.boxes ≡ indexes_of old.boxes → ((lists : Lists) → IsSettledFor lists before → Leaves lists lists before after)
-    → ((lists : Lists) → IsSettledFor lists before → IsSettledFor lists after) → Grows before after → faulted ≡ began → HasRun (seen_of pins old before began) (seen_of pins new after faulted)
+    → ((lists : Lists) → IsSettledFor lists before → IsSettledFor lists after) → Lasts old.map before after → faulted ≡ began → HasRun (seen_of pins old before began) (seen_of pins new after faulted)
 has_run pins old new before after began faulted ran runs boxes indexes moments rests grows same = record {
   ran = ran;
   runs = runs;
   shown = λ lists shows. shows_on pins old new before after began faulted lists boxes indexes shows;
   leads = λ lists. record { stops = λ s. moments lists s; settled = λ s. rests lists s };
   grows = grows;
-  reads = let e = ap (λ (f : Faults). f.reads) same in omega (arith, e);
-  changes = let e = ap (λ (f : Faults). f.changes) same in omega (arith, e);
+  quiet = same;
 }
 
 pub due_stays : {D : Type 0} → (old new : StoreValue D) (uid : ℕ) → new.map ≡ old.map → new.dues ≡ old.dues → due_at uid new ≡ due_at uid old
 due_stays old new uid map dues = ap (λ (m : MapMeaning). number_beside uid m.records new.dues) map ∙ ap (number_beside uid old.map.records) dues
 
-pub stays_so : {D : Type 0} → (pins : ℕ → ℕ) (drew : Highest) (old new : StoreValue D) (before after : Option History) (began faulted : Faults) → old.stopped ≡ false → new.map ≡ old.map → new.drawn ≡ drawn_also old.drawn drew → new.dues ≡ old.dues → indexes_of new.boxes ≡ indexes_of old.boxes → old.drawn.file ≤ new.drawn.file → EndsGoOn old new → KnowsAlike old new → Grows before after
+pub stays_so : {D : Type 0} → (pins : ℕ → ℕ) (drew : Highest) (old new : StoreValue D) (before after : Option History) (began faulted : Faults) → old.stopped ≡ false → new.map ≡ old.map → new.drawn ≡ drawn_also old.drawn drew → new.dues ≡ old.dues → indexes_of new.boxes ≡ indexes_of old.boxes → old.drawn.file ≤ new.drawn.file → EndsGoOn old new → KnowsAlike old new → Lasts old.map before after
     → began.reads ≤ faulted.reads → began.changes ≤ faulted.changes → StaysSo drew (seen_of pins old before began) (seen_of pins new after faulted)
 stays_so pins drew old new before after began faulted ran map drawn dues indexes more ends knows grows reads changes = record {
   map = map;

@@ -71,7 +71,7 @@ pub attaching_left : {D : Type 0} → (theirs : Claims) (value : AttachingValue)
 attaching_left theirs value old new before after b own is = record {
   found = parts_left_so theirs value.found value.parts old new before after b (all_claimed theirs value.found own) is.found;
   held = still_held theirs value.found old new before after b own;
-  drawn = let a = is.drawn in let d = b.leaves.drawn in omega (arith, a, d);
+  drawn = let a = is.drawn in let d = b.leaves.numbers.drawn in omega (arith, a, d);
   unlike = λ part next.
       subst (λ (s : StoreId). IsUnlikeCompared s part.hash (length part.octets) part.octets value.after value.drawn new.instances.known after) (sym b.leaves.store)
       (b.leaves.compared part.hash (length part.octets) part.octets value.after value.drawn is.drawn (is.unlike part next));

@@ -14,6 +14,7 @@ use Rattle.mdbox_base.specs.declared.progress.Progress.{Progress}
 use Rattle.mdbox_base.specs.declared.progress.Progress.TheVariants as progress
 use Rattle.mdbox_base.specs.declared.replies.Refusal.{Refusal}
 use Rattle.mdbox_base.specs.declared.replies.Refusal.TheVariants as refusal
+use Rattle.mdbox_base.specs.declared.replies.Reply.{Reply}
 use Rattle.mdbox_base.specs.declared.replies.Reply.TheVariants as reply
 use Rattle.model_appends.specs.Appending.{lists_by}
 use Rattle.model_kept.specs.Kept.{MailIsKept}
@@ -22,12 +23,15 @@ use Rattle.model_meaning.specs.MapFits.{HasRecord}
 use Rattle.model_store.specs.Settled.{IsSettledFor, Leaves}
 use Rattle.save_instances.specs.Attaching.{AreHeld, AttachingValue, attach_events_left, next_attachment, next_candidate, nothing_found, parts_left}
 use Rattle.sis_store.specs.Instances.{InstancesValue}
+use Rattle.storage_files.specs.Files.{is_doomed_in}
 use Rattle.store_core.specs.Append.{Brings}
 use Rattle.store_core.specs.Dues.{Moves, amounts_in, due_at}
 use Rattle.store_core.specs.Keeping.{KeepsInstances, MovesHolds}
 use Rattle.store_core.specs.MapAppend.{IsReadyToStore}
 use Rattle.store_core.specs.Value.{StoreValue, list_named}
+use Rattle.task_claims.specs.Claims.{ClaimsNothing}
 use Rattle.mail_save.specs.Added.{HasRoomUnder, entry_added}
+use Rattle.mail_save.specs.Claims.{save_claims}
 use Rattle.mail_save.specs.Events.{box_refusal, instance_refusal, save_refusal, uid_refusal}
 use Rattle.mail_save.specs.Held.{HasHoldRoom, save_amounts, save_holds}
 use Rattle.mail_save.specs.Left.{HoldsFile, HoldsInstances, HoldsRegion}
@@ -89,7 +93,7 @@ pub record IsReadyToDeliver {D : Type 0} (now : SaveStage) (name : List ℕ) (ti
   pub kept : HasKept now name time store history
   pub ready : IsReadyToSave now name time size octets store history
 
--- how many events are still to come at the most, if no other task places an instance
+-- how many events are still to come at the most, whatever other tasks place
 abbrev pub save_events_left : SaveStage → InstancesValue → ℕ
 save_events_left (stage.First prepared) instances = attach_events_left (nothing_found prepared.parts) instances + 7
 save_events_left (stage.Attaching parts attaching) instances = attach_events_left attaching instances + 6
@@ -204,3 +208,11 @@ pub record Saves {D : Type 0} (now next : SaveStage) (name : List ℕ) (time siz
   pub stopped : (answer ≡ stopped_reply) ↔ (new.stopped ≡ true)
   pub faults : FaultsAt answer began ended
   pub grows : Grows before after
+
+-- How a step ends: it replies so if and only if the store is stopped then, and a store that was stopped stays as it was. Else no file
+-- is doomed more or less, and a task that has replied claims nothing.
+pub record EndsSave {D : Type 0} (next : SaveStage) (answer : Progress) (old new : StoreValue D) : Type 0 where
+  pub stopped : (answer ≡ stopped_reply) ↔ (new.stopped ≡ true)
+  pub still : old.stopped ≡ true → new ≡ old
+  pub doomed : new.stopped ≡ false → (file : ℕ) → is_doomed_in file new.files.files ≡ is_doomed_in file old.files.files
+  pub unclaimed : (given : Reply) → answer ≡ progress.Done given → new.stopped ≡ false → ClaimsNothing (save_claims next)

@@ -9,14 +9,15 @@ ghost use Rattle.list_machine.specs.Run.{Run, own_events};
 ghost use Rattle.mdbox_base.specs.declared.ids.InstId.{InstId};
 ghost use Rattle.mdbox_base.specs.declared.replies.Reply.{Reply};
 ghost use Rattle.store_core.specs.Value.{StoreValue};
-ghost use Rattle.task_claims.specs.Claims.{Held, Taken};
+ghost use Rattle.task_claims.specs.Claims.{Claims, Held, Taken};
+ghost use Rattle.task_claims.specs.Leaving.{LeavesOthers};
 ghost use Rattle.task_claims.specs.Stable.{IsStable};
 ghost use Rattle.task_steps.specs.Step.{IsKept};
 ghost use Rattle.mail_save.specs.Claims.{save_claims};
 ghost use Rattle.mail_save.specs.Held.{HasHoldRoom};
 ghost use Rattle.mail_save.specs.Ready.{IsReadyToSave};
 ghost use Rattle.mail_save.specs.SaveSeen.{HasItsParts, IsAtSave};
-ghost use Rattle.mail_save.specs.Task.{HasLeft, IsReadyToDeliver, holds_to_come};
+ghost use Rattle.mail_save.specs.Task.{HasLeft, IsReadyToDeliver, holds_to_come, save_events_left};
 ghost use Rattle.mail_save.specs.declared.task.SaveStage.{SaveStage};
 ghost use Rattle.mail_save.specs.declared.task.SaveStage.TheVariants as stage;
 
@@ -38,15 +39,20 @@ pub fn deliveries_are_stable<D: Disk>()
     ensures { (now : SaveStage) (name : List ℕ) (time size : ℕ) (octets : List ℕ) → IsStable (save_claims now) (λ (store : StoreValue D) (history : Option History). IsReadyToDeliver now name time size octets store history) }
 {}
 
-/// A delivery that has not begun is ready. One that is ready has what its step asks for, where the instances can be held as often as it
-/// may come to hold them; and of no instance it has that many holds in all.
+/// A delivery that has not begun is ready. One that is ready has what its step asks for, where each instance can be held 65,535 times
+/// more; and of no instance it will have more holds than that in all.
 pub fn ready_deliveries_have_left<D: Disk>()
     ensures begun { (prepared : Prepared) (name : List ℕ) (time : ℕ) (octets : List ℕ) (store : StoreValue D) (history : Option History) → length octets ≤ 67108864 → IsPrepared octets prepared → IsReadyToDeliver (stage.First prepared) name time prepared.whole octets store history }
-    ensures left { (now : SaveStage) (name : List ℕ) (time size : ℕ) (octets : List ℕ) (store : StoreValue D) (history : Option History) → IsReadyToDeliver now name time size octets store history → HasHoldRoom (holds_to_come now) store → HasLeft now name time store history }
+    ensures left { (now : SaveStage) (name : List ℕ) (time size : ℕ) (octets : List ℕ) (store : StoreValue D) (history : Option History) → IsReadyToDeliver now name time size octets store history → HasHoldRoom 65535 store → HasLeft now name time store history }
     ensures few { (now : SaveStage) (name : List ℕ) (time size : ℕ) (octets : List ℕ) (store : StoreValue D) (history : Option History) → IsReadyToDeliver now name time size octets store history → (id : InstId) → save_claims now (Held id) + holds_to_come now ≤ 65535 }
 {}
 
 /// A storage file that an event of a delivery has taken, and that its events haven't given back, is claimed by the delivery.
 pub fn deliveries_have_taken()
     ensures { (now : SaveStage) (run : Run) (place : ℕ) (said : List Reply) (file : ℕ) → IsAtSave now run place said → 1 ≤ file → list_any (took_file file) (own_events place run) ≡ true → gave_back file (own_events place run) ≡ false → 1 ≤ save_claims now (Taken file) }
+{}
+
+/// No event of another task leaves a delivery more events to come.
+pub fn deliveries_leave_work<D: Disk>()
+    ensures { (now : SaveStage) (mine : Claims) (old new : StoreValue D) (before after : Option History) → LeavesOthers mine old new before after → save_events_left now new.instances ≤ save_events_left now old.instances }
 {}

@@ -1,14 +1,13 @@
 // The task of a delivery.
-ghost use Rattle.std.specs.Prelude.{◌≡◌, ◌≢◌, ◌≤◌, ℕ, List, length, true, false, None, IsSome};
+ghost use Rattle.std.specs.Prelude.{◌≡◌, ◌≢◌, ◌≤◌, ◌<◌, ℕ, List, length, false, None, IsSome};
 ghost use Rattle.attach_detach.specs.Prepared.{IsPrepared};
 ghost use Rattle.attach_detach.specs.declared.message.Prepared.{Prepared as PreparedValue};
 ghost use Rattle.journal.specs.Events.{Around};
 ghost use Rattle.mdbox_base.specs.declared.ids.InstId.{InstId as InstIdValue};
-ghost use Rattle.mdbox_base.specs.Words.{IsName, IsOctets};
+ghost use Rattle.mdbox_base.specs.Words.{IsOctets};
 ghost use Rattle.mdbox_base.specs.declared.progress.Did.TheVariants as did;
 ghost use Rattle.mdbox_base.specs.declared.progress.Progress.TheVariants as progress;
 ghost use Rattle.mdbox_base.specs.declared.replies.Refusal.TheVariants as refusal;
-ghost use Rattle.mdbox_base.specs.declared.replies.Reply.{Reply as ReplyValue};
 ghost use Rattle.mdbox_base.specs.declared.replies.Reply.TheVariants as reply;
 ghost use Rattle.mdbox_base.specs.declared.requests.Request.TheVariants as request;
 ghost use Rattle.model_lists.specs.Lists.{Lists};
@@ -16,9 +15,8 @@ ghost use Rattle.model_store.specs.Settled.{IsSettledFor, Leaves};
 ghost use Rattle.save_instances.specs.Attaching.{next_attachment};
 ghost use Rattle.saved_message.specs.Laid.{IsLaid};
 ghost use Rattle.store_core.specs.Dues.{due_at};
-ghost use Rattle.store_core.specs.Keeping.{KeepsInstances, KeepsUids};
 ghost use Rattle.store_seen.specs.Seeing.{seen_of};
-ghost use Rattle.task_claims.specs.Claims.{ClaimsNothing, MovesClaims};
+ghost use Rattle.task_claims.specs.Claims.{MovesClaims};
 ghost use Rattle.task_claims.specs.Leaving.{LeavesOthers};
 ghost use Rattle.task_steps.specs.Step.{ended_by};
 ghost use Rattle.mail_save.specs.Claims.{save_claims};
@@ -26,7 +24,7 @@ ghost use Rattle.mail_save.specs.SaveEffects.{NamesFound};
 ghost use Rattle.mail_save.specs.declared.first.SavedParts.{SavedParts as SavedPartsValue};
 ghost use Rattle.mail_save.specs.Ready.{IsReadyToSave, save_lists, lists_delivered};
 ghost use Rattle.mail_save.specs.SaveSeen.{HasItsParts, IsAtSave, StepsWithRoom, around_saving};
-ghost use Rattle.mail_save.specs.Task.{HasLeft, IsAttached, IsReadyToDeliver, Saves, stopped_reply, refused_did, failing_did};
+ghost use Rattle.mail_save.specs.Task.{EndsSave, HasLeft, IsAttached, IsReadyToDeliver, Saves, save_events_left, refused_did, failing_did};
 ghost use Rattle.mail_save.specs.declared.task.SaveStage.TheVariants as stage;
 
 use crate::add::{Added, add_message};
@@ -155,19 +153,16 @@ impl SaveTask {
         ensures moments { (octets : List ℕ) → IsReadyToSave self.old.stage self.old.name self.old.time self.old.size octets store.old (D.history store.old.disk) → (lists : Lists) → IsSettledFor lists (D.history store.old.disk) → Leaves lists (save_lists self.old.stage self.old.name octets lists) (D.history store.old.disk) (D.history store.new.disk) }
         ensures settled { store.new.stopped ≡ false → (octets : List ℕ) → IsReadyToSave self.old.stage self.old.name self.old.time self.old.size octets store.old (D.history store.old.disk) → (lists : Lists) → IsSettledFor lists (D.history store.old.disk) → IsSettledFor (lists_delivered self.old.stage self.old.name octets result lists) (D.history store.new.disk) }
 
-        // A message that another task copies or moves stays the only one with its UID.
-        ensures keeps { KeepsUids store.old store.new }
-
-        // What another task has compared or found of the instances stays so, unless the store is stopped then.
-        ensures instances { store.new.stopped ≡ false → KeepsInstances store.old store.new (D.history store.old.disk) (D.history store.new.disk) }
-
-        // Unless it stops the store, it moves only its own claims, and leaves to other tasks what is theirs. One that was replied claims
-        // nothing.
+        // Unless it stops the store, it moves only its own claims, and leaves to other tasks what is theirs.
         ensures claims { store.new.stopped ≡ false → MovesClaims (save_claims self.old.stage) (save_claims self.new.stage) store.old store.new }
         ensures leaves { store.new.stopped ≡ false → LeavesOthers (save_claims self.old.stage) store.old store.new (D.history store.old.disk) (D.history store.new.disk) }
-        ensures ended { (given : ReplyValue) → result ≡ progress.Done given → store.new.stopped ≡ false → ClaimsNothing (save_claims self.new.stage) }
 
-        ensures stopped { store.old.stopped ≡ true → (result ≡ stopped_reply) × (store.new ≡ store.old) × (self.new.stage ≡ self.old.stage) × (self.new.did ≡ did.Quiet) }
+        // It replies so if and only if the store is stopped then, and one that was stopped stays as it was. Else no storage file is
+        // doomed more, and a task that was replied claims nothing.
+        ensures ended { EndsSave self.new.stage result store.old store.new }
+
+        // So it ends.
+        ensures left { result ≡ progress.More → save_events_left self.new.stage store.new.instances < save_events_left self.old.stage store.old.instances }
         ensures request { (self.new.name ≡ self.old.name) × (self.new.time ≡ self.old.time) × (self.new.size ≡ self.old.size) }
     {
         listings_are_shown();
@@ -310,20 +305,13 @@ fn known_id<D: Disk>(store: &Store<D>)
     let _ = store.id();
 }
 
-/// What is true of every mailbox name.
-fn known_name(name: &Name)
-    ensures { IsName name.now }
-{
-    let _ = name.as_octets();
-}
-
 /// The event that takes a storage file.
 fn taking<D: Disk>(store: &mut Store<D>, name: &Name, time: u64, parts: SavedParts) -> Led
     requires running { store.old.stopped ≡ false }
     requires left { IsAttached name.now time parts store.old (D.history store.old.disk) }
     ensures { (size : ℕ) → Saves (stage.Taking parts) result.next name.now time size result.answer result.did store.old store.new (D.history store.old.disk) (D.history store.new.disk) (D.faults store.old.disk) (D.faults store.new.disk) }
 {
-    known_name(name);
+    let _name = name.as_octets();
     let size = parts.laid.region().len() as u32;
     match take_file(store, parts.header.as_slice(), size) {
         Ok(file) => goes_on(SaveStage::Placing { parts, file }),
@@ -353,7 +341,7 @@ fn placing<D: Disk>(
         room,
     } = parts;
     let mut laid = laid;
-    known_name(name);
+    let _name = name.as_octets();
     match place_region(store, &mut laid, file) {
         Ok(at) => goes_on(SaveStage::Storing { at, rows, room }),
         Err(Stopped) => {

@@ -73,10 +73,14 @@ parts_left value = length value.parts - length value.found
 abbrev pub candidates_of : AttachingValue → InstancesValue → ℕ
 candidates_of value instances = option_map_or (λ part. candidates_left part.hash (length part.octets) (compared_to value instances) instances.known) (next_attachment value) 0
 
--- How many events are still to come at the most, if no other task places an instance. Each attachment but the next one may have to
--- be compared with all instances, those that are placed by then too.
+-- how many running numbers are left to be drawn
+abbrev pub numbers_left : InstancesValue → ℕ
+numbers_left instances = 4294967294 - instances.highest
+
+-- How many events are still to come at the most, whatever other tasks place. Each attachment but the next one may have to be compared
+-- with all instances, those that are placed by then too; and so may the next one again, for each running number that is drawn.
 abbrev pub attach_events_left : AttachingValue → InstancesValue → ℕ
-attach_events_left value instances = candidates_of value instances + parts_left value * (length instances.known + parts_left value + 1)
+attach_events_left value instances = candidates_of value instances + (parts_left value + numbers_left instances) * (length instances.known + numbers_left instances + 1)
 
 -- ---- what was found
 

@@ -203,6 +203,7 @@ impl Attaching {
         let octets = part.octets.as_slice();
         let size = octets.len() as u32;
         let id = store.place_instance(hash, octets)?;
+        store.facts();
         let row = InstRow { hash, id, size };
         self.keep(row);
         Ok(row)

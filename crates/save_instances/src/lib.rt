@@ -3,7 +3,8 @@
 
 pub use attaching::Attaching;
 pub use laws::{
-    attaching_goes_on, found_instances_are_kept, found_instances_are_named, own_holds_are_few,
+    attaching_ends, attaching_goes_on, found_instances_are_kept, found_instances_are_named,
+    own_holds_are_few,
 };
 pub use letting_go::let_go_all;
 

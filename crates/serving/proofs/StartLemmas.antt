@@ -1,13 +1,16 @@
 -- A script begins: each lane waits with all its requests.
 use Rattle.std.proofs.Common.{◌≡◌, ◌<◌, ◌+◌, ◌==◌, ℕ, zero, suc, Bool, true, false, cond, List, [], ◌∷◌, Option, Some, None, refl, sym, ◌∙◌, ap, subst, arith, inl, inr}
-use Rattle.std.specs.Prelude.{Contains, count_by, length, slice_get}
+use Rattle.std.specs.Prelude.{◌⊎◌, Contains, count_by, length, slice_get}
 use Rattle.std.proofs.lemmas.Grind.{common_steps}
 use Rattle.std.proofs.lemmas.List.Elements.{All-nil}
 use Rattle.std.proofs.lemmas.List.Sums.{sum_by-cons}
+use Rattle.mdbox_base.specs.declared.replies.Refusal.TheVariants as refusal
 use Rattle.mdbox_base.specs.declared.replies.Reply.{Reply}
 use Rattle.mdbox_base.specs.declared.requests.Request.{Request}
 use Rattle.model_lists.specs.Lists.{Lists}
 use Rattle.list_machine.specs.Run.{RunEvent, Run, own_events, reply_of}
+use Rattle.journal.specs.Makes.{StaysStopped}
+use Rattle.model_octets.proofs.PairLemmas.{pairs_nil}
 use Rattle.journal.specs.Journal.{Requests, HasReply, is_read_fault, no_broken}
 use Rattle.journal.specs.JournalExamples.{nothing_around}
 use Rattle.task_steps.specs.Step.{Seen, HasComeTo, ShowsSeen}
@@ -142,5 +145,7 @@ serving_start At start script run now lanes empty come shows runs fresh = record
   told = λ n event asked there. absurd (none_at run n event empty there);
   given = (as_many script, λ i lt. unanswered script i lt ∙ ap (λ (es : List RunEvent). Some (reply_of i (record run { events = es }))) (sym empty));
   would = λ n event asked around there. absurd (let z : None ≡ Some event = there in cc z);
+  stays_stopped = subst (λ (es : List RunEvent). StaysStopped es) (sym empty) (pairs_nil (λ (a b : RunEvent). a.refused ≡ Some refusal.Stopped → (b.refused ≡ Some refusal.Stopped) ⊎ (b.refused ≡ Some refusal.NoMemory)));
+  replied_stopped = λ stopped. absurd (let z : true ≡ false = sym stopped ∙ runs in cc z);
   lanes_at = λ k value there. subst (λ (v : LaneValue _). LaneAt At script run [] (unreplied script) (k + 1) v) (sym (fresh k value there)) (fresh_lane At script run (k + 1) empty);
 }

@@ -34,6 +34,8 @@ serving_taken_up {T} At start script run journal broken replies began now lanes 
   told = s.told;
   given = s.given;
   would = s.would;
+  stays_stopped = s.stays_stopped;
+  replied_stopped = s.replied_stopped;
   lanes_at = λ j other is. by_case j other is (nat_cases k j);
 }
   where

@@ -1,5 +1,6 @@
 // A script that lanes serve, event by event.
 ghost use Rattle.std.specs.Prelude.{◌≡◌, ◌≢◌, ◌<◌, ◌≤◌, ◌+◌, ◌++◌, ◌∷◌, [], true, false, ℕ, Bool, List, length, map, slice_get, slice_set, Option, Some, None};
+ghost use Rattle.disk_model.specs.Disk.{IfTold, IsImage, reading, told_calls};
 ghost use Rattle.mdbox_base.specs.declared.progress.Did.{Did};
 ghost use Rattle.mdbox_base.specs.declared.replies.Reply.{Reply};
 ghost use Rattle.mdbox_base.specs.declared.requests.Request.{Request};
@@ -11,7 +12,7 @@ ghost use Rattle.journal.specs.Journal.{Requests, JournalStep, Broken, HasReply,
 ghost use Rattle.journal.specs.Makes.{steps_made};
 ghost use Rattle.store_core.specs.Value.{StoreValue};
 ghost use Rattle.task_claims.specs.Claims.{AddsUp, Claims};
-ghost use Rattle.task_steps.specs.Serves.{IsTurn};
+ghost use Rattle.task_steps.specs.Serves.{BreaksBy, IsTurn};
 ghost use Rattle.task_steps.specs.Step.{Seen, HasComeTo, ShowsSeen, DidEvent, and_told};
 ghost use Rattle.serving.specs.Lanes.{AreFresh, LaneValue, lane_behind, replies_behind, said_by};
 ghost use Rattle.serving.specs.OwnWork.{HasWorked, OwnWork};
@@ -30,17 +31,18 @@ pub fn serving_start()
 pub fn serving_more()
     ensures { (start : Lists) (script : Requests) (run : Run) (journal : List JournalStep) (broken : Broken) (replies : List (Option Reply)) (began now new : Seen) (lanes : List (LaneValue OwnWork)) (k place : ℕ) (rest : List ℕ) (value : LaneValue OwnWork) (request : Request) (around after : Around) (how : Did)
         → IsServing HasWorked start script run journal broken replies began now lanes → slice_get lanes k ≡ Some value → value.queue ≡ place ∷ rest → slice_get script place ≡ Some (k + 1, request)
-        → (d : DidEvent around after run (k + 1) place (said_by journal place) request (left_by start journal) now new how None)
+        → (d : DidEvent around after run (k + 1) place (said_by journal place) request (left_by start journal) now new how None) → IfTold now.history (λ disk. IsImage disk (λ name. reading (disk name)))
         → (next : Broken) × IsServing HasWorked start script (and_then run d.makes.event) (journal ++ steps_made run request d.makes.event d.makes.answer d.left) next replies began new
-        (slice_set lanes k (lane_behind None (record { events = own_events place (and_then run d.makes.event); answers = and_told (said_by journal place) d.makes.answer }) value)) }
+        (slice_set lanes k (lane_behind None (record { events = own_events place (and_then run d.makes.event); answers = and_told (said_by journal place) d.makes.answer }) value)) × BreaksBy how run d.makes.event (told_calls now.history) broken next }
 {}
 
 /// And with one by which that request is answered: its reply stands at its place, and the next request of the lane is in turn.
 pub fn serving_done()
     ensures { (start : Lists) (script : Requests) (run : Run) (journal : List JournalStep) (broken : Broken) (replies : List (Option Reply)) (began now new : Seen) (lanes : List (LaneValue OwnWork)) (k place : ℕ) (rest : List ℕ) (value : LaneValue OwnWork) (request : Request) (work : OwnWork) (around after : Around) (how : Did) (given : Reply)
         → IsServing HasWorked start script run journal broken replies began now lanes → slice_get lanes k ≡ Some value → value.queue ≡ place ∷ rest → slice_get script place ≡ Some (k + 1, request)
-        → (d : DidEvent around after run (k + 1) place (said_by journal place) request (left_by start journal) now new how (Some given))
-        → (next : Broken) × IsServing HasWorked start script (and_then run d.makes.event) (journal ++ steps_made run request d.makes.event d.makes.answer d.left) next (replies_behind (Some given) place replies) began new (slice_set lanes k (lane_behind (Some given) work value)) }
+        → (d : DidEvent around after run (k + 1) place (said_by journal place) request (left_by start journal) now new how (Some given)) → IfTold now.history (λ disk. IsImage disk (λ name. reading (disk name)))
+        → (next : Broken) × IsServing HasWorked start script (and_then run d.makes.event) (journal ++ steps_made run request d.makes.event d.makes.answer d.left) next (replies_behind (Some given) place replies) began new (slice_set lanes k (lane_behind (Some given) work value))
+        × BreaksBy how run d.makes.event (told_calls now.history) broken next }
 {}
 
 /// No lane has a request left: every request of the script has its reply, which is that of its events.

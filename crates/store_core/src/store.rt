@@ -3,7 +3,7 @@ ghost use Rattle.std.specs.Prelude.{◌≡◌, ◌↔◌, ◌<◌, ◌≤◌, �
 ghost use Rattle.std.specs.Option.{option_copied, option_map};
 ghost use Rattle.std.specs.Str.{bytes_eq};
 ghost use Rattle.box_index.specs.Row.{IsAdded};
-ghost use Rattle.disk_model.specs.Disk.{Grows};
+ghost use Rattle.disk_model.specs.Disk.{Grows, IsMoment};
 ghost use Rattle.disk_model.specs.FaultCounts.{NoFault, ChangeFaultCounted};
 ghost use Rattle.mdbox_base.specs.declared.entries.BoxEntry.{BoxEntry};
 ghost use Rattle.model_appends.specs.Amounts.{IsAccounted, due_by_box, HoldsAdded};
@@ -244,6 +244,14 @@ impl<D: Disk> Store<D> {
         ensures { result ≡ self.now.stopped }
     {
         self.stopped
+    }
+
+    /// The present moment of its disk: how many calls of the disk have returned, as far as the type goes. The journal gives it
+    /// with each step.
+    pub fn moment(&self) -> u64
+        ensures { IsMoment (D.history self.now.disk) result }
+    {
+        self.disk.moment()
     }
 
     /// Adds an entry that fits to the log of a mailbox, and takes it in. It takes memory only for a message that is added, and

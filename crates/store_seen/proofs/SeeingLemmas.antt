@@ -41,6 +41,19 @@ known_first run m file none is told =
     either false true e = refl
     either false false e = e
 
+-- and one that is there and isn't sealed has a record's region
+named_file : (run : Run) (m : MapMeaning) (file : ℕ) → run.events ≡ [] → map_of run ≡ m → is_sealed (map_of run) file ≡ false → is_known_file run file ≡ true → list_any (λ row. row.file == file) m.records ≡ true
+named_file run m file none is unsealed known =
+    let at : map_of (record run { events = [] }) ≡ m = subst (λ (es : List RunEvent). map_of (record run { events = es }) ≡ m) none is in
+    sym (ap (λ (x : MapMeaning). list_any (λ row. row.file == file) x.records) at)
+    ∙ alone (list_any (λ row. row.file == file) (map_of (record run { events = [] })).records) (is_sealed (map_of (record run { events = [] })) file)
+    (subst (λ (es : List RunEvent). is_sealed (map_of (record run { events = es })) file ≡ false) none unsealed) (subst (λ (es : List RunEvent). is_known_file (record run { events = es }) file ≡ true) none known)
+  where
+    alone : (a b : Bool) → b ≡ false → ((a || (b || false)) && true) ≡ true → a ≡ true
+    alone true b e k = refl
+    alone false true e k = absurd (cc e)
+    alone false false e k = k
+
 -- and the instances are there that records name
 named_first : (run : Run) (m : MapMeaning) (instance : InstRow) → run.events ≡ [] → map_of run ≡ m → is_known_instance run instance ≡ list_any (is_same_instance instance) (named_instances m)
 named_first run m instance none is =
@@ -60,6 +73,7 @@ comes_at_first run store history faults at come = record {
     pins = λ file. subst (λ (es : List RunEvent). pins_of (record run { events = es }) file ≡ 0) (sym at.empty) refl;
     doomed = λ file. subst (λ (es : List RunEvent). is_doomed (record run { events = es }) file ≡ false) (sym at.empty) refl ∙ sym (at.undoomed file);
     instances = λ instance. named_first run store.map instance at.empty come.map_is ∙ sym (at.named instance);
+    files = λ file unsealed known. at.there file (ap (λ (m : MapMeaning). is_sealed m file) (sym come.map_is) ∙ unsealed) (named_file run store.map file at.empty come.map_is unsealed known);
   };
   used = λ file. subst (λ (es : List RunEvent). was_used (record run { events = es }) file ≡ true → may_be_used store file ≡ true) (sym at.empty) (λ e. absurd (cc e));
   barred = at.barred;

@@ -1,10 +1,10 @@
 -- An open store as an event of a task sees it.
-use Rattle.std.specs.Prelude.{◌≡◌, ◌&&◌, ◌||◌, nat_le, ℕ, Bool, true, false, is_none, List, [], Option}
+use Rattle.std.specs.Prelude.{◌≡◌, ◌==◌, ◌&&◌, ◌||◌, nat_le, ℕ, Bool, true, false, is_none, List, [], Option}
 use Rattle.std.specs.List.{list_any}
 use Rattle.std.specs.Option.{option_map_or}
 use Rattle.disk_model.specs.Disk.{History, Faults}
 use Rattle.mdbox_base.specs.declared.entries.InstRow.{InstRow}
-use Rattle.model_meaning.specs.MapMeaning.{named_instances}
+use Rattle.model_meaning.specs.MapMeaning.{is_sealed, named_instances}
 use Rattle.list_machine.specs.Run.{Run, is_one_of}
 use Rattle.journal.specs.Found.{is_same_instance}
 use Rattle.storage_files.specs.Files.{file_in, is_doomed_in}
@@ -42,11 +42,13 @@ seen_of pins store history faults = record {
 }
 
 -- A run has no events yet, and a store is as it was opened: nothing is due, no file is doomed, the map tells of those that are
--- there, the known instances are those that records name, and the files that the run calls barred are.
+-- there, each file is there in which a record has its region, unless it is sealed, the known instances are those that records
+-- name, and the files that the run calls barred are.
 pub record IsAtOpening {D : Type 0} (run : Run) (store : StoreValue D) : Type 0 where
   pub empty : run.events ≡ []
   pub free : store.dues ≡ none_due store.map.records
   pub undoomed : (file : ℕ) → is_doomed_in file store.files.files ≡ false
   pub told : (file : ℕ) → knows_file store file ≡ true → is_told_of store.map file ≡ true
+  pub there : (file : ℕ) → is_sealed store.map file ≡ false → list_any (λ row. row.file == file) store.map.records ≡ true → knows_file store file ≡ true
   pub named : (instance : InstRow) → knows_instance store instance ≡ list_any (is_same_instance instance) (named_instances store.map)
   pub barred : (file : ℕ) → is_one_of run.barred file ≡ true → may_be_barred store file ≡ true

@@ -11,7 +11,7 @@ use Rattle.store_core.specs.MadeLogs.{has_made_log}
 use Rattle.store_core.specs.StoreInstances.{IsKnownRow}
 use Rattle.store_core.specs.Value.{StoreValue}
 use Rattle.task_claims.specs.Claims.{Claims, Due, Emptied, Held, Made, Pinned, Removing, Taken, Thing, amount_in, is_to_remove, one_if}
-use Rattle.task_claims.specs.Leaving.{LeavesFile, LeavesInstance, LeavesPinnedFile, LeavesRecord}
+use Rattle.task_claims.specs.Leaving.{LeavesFile, LeavesInstance, OnlyGrows, LeavesRecord}
 use Rattle.task_claims.specs.Stable.{Beside}
 
 less : (mine theirs all : ℕ) → mine + theirs ≤ all → 1 ≤ theirs → mine < all
@@ -71,6 +71,6 @@ due_left theirs old new before after uid b = claim_left theirs old new before af
 pub held_left : {D : Type 0} → (theirs : Claims) (old new : StoreValue D) (before after : Option History) (id : InstId) → Beside theirs old new before after → theirs (Held id) ≤ holders_in id new.instances.known
 held_left theirs old new before after id b = claim_left theirs old new before after (Held id) b
 
-pub pinned_left : {D : Type 0} → (theirs : Claims) (old new : StoreValue D) (before after : Option History) (number : ℕ) → Beside theirs old new before after → 1 ≤ theirs (Pinned number) → LeavesPinnedFile number old new before after × (theirs (Pinned number) ≤ pins_in number new.files.files)
+pub pinned_left : {D : Type 0} → (theirs : Claims) (old new : StoreValue D) (before after : Option History) (number : ℕ) → Beside theirs old new before after → 1 ≤ theirs (Pinned number) → OnlyGrows number old new before after × (theirs (Pinned number) ≤ pins_in number new.files.files)
 pinned_left theirs old new before after number b some =
-    (b.leaves.pinned number (less (b.mine (Pinned number)) (theirs (Pinned number)) (pins_in number old.files.files) (b.are (Pinned number)) some), claim_left theirs old new before after (Pinned number) b)
+    (b.leaves.grow number (inl (less (b.mine (Pinned number)) (theirs (Pinned number)) (pins_in number old.files.files) (b.are (Pinned number)) some)), claim_left theirs old new before after (Pinned number) b)

@@ -12,7 +12,7 @@ use Rattle.storage_files.specs.declared.file.MailFile.{MailFile}
 use Rattle.store_core.specs.Dues.{number_beside}
 use Rattle.store_core.specs.Value.{StoreValue, none_due}
 use Rattle.store_core.specs.declared.store.OpenBox.{OpenBox}
-use Rattle.task_claims.specs.Claims.{AddsUp, Due, Emptied, HasNoTask, Held, IsUnusedFile, Made, Pinned, Placing, Removing, Taken, one_if}
+use Rattle.task_claims.specs.Claims.{AddsUp, Due, Emptied, HasNoTask, Held, IsUnusedFile, Made, Pinned, PlacingPieces, Removing, Taken, one_if}
 
 no_due : (rows : List MapRecord) (uid : ℕ) → number_beside uid rows (none_due rows) ≡ 0
 no_due [] uid = refl
@@ -55,7 +55,7 @@ none_claimed store none (Due uid) = ap (number_beside uid store.map.records) non
 none_claimed store none (Pinned number) = none_read (λ f. f.pins) 0 number store.files.files (λ f u. u.unpinned) none.files
 none_claimed store none (Taken number) = ap one_if (none_read (λ f. f.taken) false number store.files.files (λ f u. u.free.untaken) none.files)
 none_claimed store none (Emptied number) = ap one_if (none_read (λ f. f.emptied) false number store.files.files (λ f u. u.free.unemptied) none.files)
-none_claimed store none (Placing number) = ap (λ (o : Option ℕ). one_if (is_some o)) (none_begun number store.files.files none.files)
+none_claimed store none (PlacingPieces number) = ap (λ (o : Option ℕ). one_if (is_some o)) (none_begun number store.files.files none.files)
 none_claimed store none (Removing number) = undoomed (option_map_or (λ f. f.doomed) (file_in number store.files.files) false) (option_map_or (λ f. f.pins) (file_in number store.files.files) 0 == 0) (none_read (λ f. f.doomed) false number store.files.files (λ f u. u.free.undoomed) none.files)
   where
     undoomed : (d p : Bool) → d ≡ false → one_if (d && p) ≡ 0

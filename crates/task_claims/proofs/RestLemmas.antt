@@ -8,6 +8,7 @@ use Rattle.disk_model.proofs.BetweenLemmas.{between-map}
 use Rattle.mdbox_base.specs.declared.entries.InstRow.{InstRow}
 use Rattle.model_meaning.specs.MapMeaning.{MapRecord, record_at}
 use Rattle.model_store.specs.Settled.{files_of}
+use Rattle.sis_store.specs.Instances.{InstancesValue}
 use Rattle.sis_store.specs.OnDisk.{instance_file}
 use Rattle.storage_files.specs.Files.{FilesValue, end_in, file_in, with_pins}
 use Rattle.store_core.specs.Keeping.{KeepsInstances, KeepsMail, KeepsRest, KeepsUids, ReadsInstances}
@@ -16,8 +17,8 @@ use Rattle.store_core.specs.Dues.{due_at}
 use Rattle.store_core.specs.Value.{StoreValue}
 use Rattle.store_core.proofs.InstanceKeepingLemmas.{kept_same}
 use Rattle.store_core.proofs.MailChangeLemmas.{named_reads}
-use Rattle.task_claims.specs.Claims.{Claims, ClaimsNothing, Due, Emptied, Held, Made, MovesClaims, Pinned, Placing, Removing, Taken, Thing, amount_in, claims_of_dues}
-use Rattle.task_claims.specs.Leaving.{HasRegionOctets, HaveSameInstances, LeavesRecord, LeavesFile, LeavesInstance, LeavesPinnedFile, IsSameOrSynced, LeavesOthers, LeavesUnlisted, SameButCounts, SyncsMail, but_count}
+use Rattle.task_claims.specs.Claims.{Claims, ClaimsNothing, Due, Emptied, Held, Made, MovesClaims, Pinned, PlacingPieces, Removing, Taken, Thing, amount_in, claims_of_dues}
+use Rattle.task_claims.specs.Leaving.{HasRegionOctets, HaveSameInstances, LeavesRecord, LeavesFile, LeavesInstance, OnlyGrows, IsSameOrSynced, LeavesOthers, LeavesUnlisted, PlacesFew, SameButCounts, SyncsMail, but_count}
 use Rattle.task_claims.proofs.CountedLemmas.{all_same, found_same, rows_same}
 
 -- ---- records
@@ -69,8 +70,8 @@ file_kept number old new before after files mail same = record {
 stays : (n : ℕ) → n ≤ n
 stays n = omega arith
 
-pinned_kept : {D : Type 0} → (number : ℕ) (old new : StoreValue D) (before after : Option History) → new.files ≡ old.files → SyncsMail before after → LeavesPinnedFile number old new before after
-pinned_kept number old new before after files mail = record {
+grown_kept : {D : Type 0} → (number : ℕ) (old new : StoreValue D) (before after : Option History) → new.files ≡ old.files → SyncsMail before after → OnlyGrows number old new before after
+grown_kept number old new before after files mail = record {
   there = λ end is. (end, ap (λ (f : FilesValue). end_in number f.files) files ∙ is, stays end);
   reads = between-map Mails (λ a b. (octets : List ℕ) → reading (a (file.Mail number)) ≡ Some octets → (more : List ℕ) × (reading (b (file.Mail number)) ≡ Some (octets ++ more))) before after
       (λ a b m octets is. ([], synced_reads (a (file.Mail number)) (b (file.Mail number)) (m.0 number) ∙ (is ∙ ap Some (sym (append-nil octets))))) mail;
@@ -83,20 +84,25 @@ instance_kept row old new before after keeps known = record {
   first = between-map (λ a b. (r : InstRow) → IsKnownRow old.instances.known r → IsFirstKnown old.instances.known a r → IsFirstKnown new.instances.known b r) (λ a b. IsFirstKnown old.instances.known a row → IsFirstKnown new.instances.known b row) before after (λ a b f. f row known) keeps.first;
 }
 
+-- nothing was placed
+pub none_placed : (instances : InstancesValue) → PlacesFew instances instances
+none_placed instances = record { drawn = omega arith; few = omega arith; candidates = λ none hash size after. omega arith; last = λ some. absurd (some refl) }
+
 -- ---- all of it
 
-pub rest_leaves : {D : Type 0} → (mine : Claims) (old new : StoreValue D) (before after : Option History) → new.files ≡ old.files → new.instances ≡ old.instances → SyncsMail before after → SameButCounts old.map new.map → KeepsUids old new → LeavesUnlisted mine old new
+pub rest_leaves : {D : Type 0} → (mine : Claims) (old new : StoreValue D) (before after : Option History) → new.files ≡ old.files → new.instances ≡ old.instances → SyncsMail before after → SameButCounts old.map new.map → old.map.highest.mailbox ≤ new.map.highest.mailbox → KeepsUids old new → LeavesUnlisted mine old new
     → LeavesOthers mine old new before after
-rest_leaves mine old new before after files instances mail same uids unlisted =
+rest_leaves mine old new before after files instances mail same mailboxes uids unlisted =
     let keeps = kept_same old new before after instances (between-map Mails ReadsInstances before after (λ a b m hash id. synced_reads (a (file.Inst hash id)) (b (file.Inst hash id)) (m.1 hash id)) mail) in
     record {
       records = λ uid row more there. record_kept uid row old new before after mail same there;
       unlisted = unlisted;
       files = λ number took. file_kept number old new before after files mail same;
-      pinned = λ number more. pinned_kept number old new before after files mail;
+      grow = λ number more. grown_kept number old new before after files mail;
       instances = λ row known more. instance_kept row old new before after keeps known;
       store = keeps.store;
-      drawn = keeps.drawn;
+      numbers = subst (λ (v : InstancesValue). PlacesFew old.instances v) (sym instances) (none_placed old.instances);
+      mailboxes = mailboxes;
       compared = keeps.compared;
       uids = uids;
       told = between-map Mails (λ a b. Unit {0}) before after (λ a b m. tt) mail;
@@ -105,7 +111,7 @@ rest_leaves mine old new before after files instances mail same uids unlisted =
 -- an event that changes nothing
 pub idle_leaves : {D : Type 0} → (mine : Claims) (store : StoreValue D) (before after : Option History) → IsIdle before after → LeavesOthers mine store store before after
 idle_leaves mine store before after idle =
-    rest_leaves mine store store before after refl refl (between-map (λ a b. b ≡ a) Mails before after (λ a b e. ((λ number. inl (ap (λ (d : DiskState). d (file.Mail number)) e)), (λ hash id. inl (ap (λ (d : DiskState). d (file.Inst hash id)) e)))) idle.same) refl
+    rest_leaves mine store store before after refl refl (between-map (λ a b. b ≡ a) Mails before after (λ a b e. ((λ number. inl (ap (λ (d : DiskState). d (file.Mail number)) e)), (λ hash id. inl (ap (λ (d : DiskState). d (file.Inst hash id)) e)))) idle.same) refl (stays store.map.highest.mailbox)
     (λ name uid held k. k) (λ uid rec none found listed. (listed, refl))
 
 -- ---- claims
@@ -116,7 +122,7 @@ due_claims mine mine_now old new moves rest (Due uid) = moves uid
 due_claims mine mine_now old new moves rest (Pinned file) = ap (λ (v : StoreValue _). amount_in (Pinned file) v + 0) rest
 due_claims mine mine_now old new moves rest (Taken file) = ap (λ (v : StoreValue _). amount_in (Taken file) v + 0) rest
 due_claims mine mine_now old new moves rest (Emptied file) = ap (λ (v : StoreValue _). amount_in (Emptied file) v + 0) rest
-due_claims mine mine_now old new moves rest (Placing file) = ap (λ (v : StoreValue _). amount_in (Placing file) v + 0) rest
+due_claims mine mine_now old new moves rest (PlacingPieces file) = ap (λ (v : StoreValue _). amount_in (PlacingPieces file) v + 0) rest
 due_claims mine mine_now old new moves rest (Removing file) = ap (λ (v : StoreValue _). amount_in (Removing file) v + 0) rest
 due_claims mine mine_now old new moves rest (Held id) = ap (λ (v : StoreValue _). amount_in (Held id) v + 0) rest
 due_claims mine mine_now old new moves rest (Made number) = ap (λ (v : StoreValue _). amount_in (Made number) v + 0) rest
@@ -127,7 +133,7 @@ rest_amounts old new due rest (Due uid) = due uid
 rest_amounts old new due rest (Pinned file) = ap (λ (v : StoreValue _). amount_in (Pinned file) v) rest
 rest_amounts old new due rest (Taken file) = ap (λ (v : StoreValue _). amount_in (Taken file) v) rest
 rest_amounts old new due rest (Emptied file) = ap (λ (v : StoreValue _). amount_in (Emptied file) v) rest
-rest_amounts old new due rest (Placing file) = ap (λ (v : StoreValue _). amount_in (Placing file) v) rest
+rest_amounts old new due rest (PlacingPieces file) = ap (λ (v : StoreValue _). amount_in (PlacingPieces file) v) rest
 rest_amounts old new due rest (Removing file) = ap (λ (v : StoreValue _). amount_in (Removing file) v) rest
 rest_amounts old new due rest (Held id) = ap (λ (v : StoreValue _). amount_in (Held id) v) rest
 rest_amounts old new due rest (Made number) = ap (λ (v : StoreValue _). amount_in (Made number) v) rest
@@ -141,7 +147,7 @@ none_claimed_of due none (Due uid) = none uid
 none_claimed_of due none (Pinned file) = refl
 none_claimed_of due none (Taken file) = refl
 none_claimed_of due none (Emptied file) = refl
-none_claimed_of due none (Placing file) = refl
+none_claimed_of due none (PlacingPieces file) = refl
 none_claimed_of due none (Removing file) = refl
 none_claimed_of due none (Held id) = refl
 none_claimed_of due none (Made number) = refl

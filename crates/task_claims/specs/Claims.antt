@@ -18,7 +18,7 @@ pub data Thing : Type 0 where
   Pinned : (file : ℕ) → Thing
   Taken : (file : ℕ) → Thing
   Emptied : (file : ℕ) → Thing
-  Placing : (file : ℕ) → Thing
+  PlacingPieces : (file : ℕ) → Thing
   Removing : (file : ℕ) → Thing
   Held : (id : InstId) → Thing
   Made : (number : ℕ) → Thing
@@ -36,7 +36,7 @@ amount_in (Due uid) store = due_at uid store
 amount_in (Pinned file) store = pins_in file store.files.files
 amount_in (Taken file) store = one_if (is_taken_in file store.files.files)
 amount_in (Emptied file) store = one_if (is_emptied_in file store.files.files)
-amount_in (Placing file) store = one_if (is_some (place_begun_in file store.files.files))
+amount_in (PlacingPieces file) store = one_if (is_some (place_begun_in file store.files.files))
 amount_in (Removing file) store = one_if (is_to_remove file store)
 amount_in (Held id) store = holders_in id store.instances.known
 amount_in (Made number) store = one_if (has_made_log number store)

@@ -1,5 +1,5 @@
 -- What an event of a task leaves to the other tasks.
-use Rattle.std.specs.Prelude.{◌≡◌, ◌≢◌, ◌≤◌, ◌+◌, ◌==◌, ◌⊎◌, ◌++◌, ℕ, List, length, take, drop, All, map, filter, Option, Some}
+use Rattle.std.specs.Prelude.{◌≡◌, ◌≢◌, ◌≤◌, ◌+◌, ◌==◌, ◌⊎◌, ◌++◌, ℕ, List, length, take, drop, All, map, filter, Option, Some, IsSome}
 use Rattle.std.specs.Option.{option_map}
 use Rattle.disk_model.specs.Disk.{Files, FileState, History, Between, named, reading}
 use Rattle.disk_model.specs.declared.name.FileName.TheVariants as file
@@ -8,7 +8,8 @@ use Rattle.mdbox_base.specs.declared.ids.Hash.{Hash}
 use Rattle.mdbox_base.specs.declared.ids.InstId.{InstId}
 use Rattle.model_meaning.specs.MapMeaning.{MapRecord, MapMeaning, record_at, number_at}
 use Rattle.model_store.specs.Settled.{files_of}
-use Rattle.sis_store.specs.Comparing.{IsUnlikeCompared}
+use Rattle.sis_store.specs.Comparing.{IsUnlikeCompared, candidates_left}
+use Rattle.sis_store.specs.Instances.{InstancesValue}
 use Rattle.sis_store.specs.OnDisk.{instance_file}
 use Rattle.storage_files.specs.Files.{end_in, file_in, with_pins}
 use Rattle.storage_files.specs.declared.file.MailFile.{MailFile}
@@ -78,8 +79,13 @@ pub record LeavesFile {D : Type 0} (number : ℕ) (old new : StoreValue D) (befo
   pub guids : (guid : List ℕ) → number_at 8 guid ≡ number → All (λ row. row.guid ≢ guid) old.map.records → All (λ row. row.guid ≢ guid) new.map.records
   pub state : Between (λ a b. IsSameOrSynced (a (file.Mail number)) (b (file.Mail number))) before after
 
--- A file that others have pinned is there, and what it read is the beginning of what it reads.
-pub record LeavesPinnedFile {D : Type 0} (number : ℕ) (old new : StoreValue D) (before after : Option History) : Type 0 where
+-- Other tasks than this one have pinned a storage file; or it is there, and the task neither empties nor removes it. So it may only
+-- grow in an event of the task.
+abbrev pub MayOnlyGrow : {D : Type 0} → Claims → StoreValue D → ℕ → Type 0
+MayOnlyGrow mine store number = OthersClaim mine store (Pinned number) ⊎ (IsSome (end_in number store.files.files) × (mine (Emptied number) ≡ 0) × (mine (Removing number) ≡ 0))
+
+-- It is there and ends no earlier, and what it read is the beginning of what it reads.
+pub record OnlyGrows {D : Type 0} (number : ℕ) (old new : StoreValue D) (before after : Option History) : Type 0 where
   pub there : (end : ℕ) → end_in number old.files.files ≡ Some end → (now : ℕ) × (end_in number new.files.files ≡ Some now) × (end ≤ now)
   pub reads : Between (λ a b. (octets : List ℕ) → reading (a (file.Mail number)) ≡ Some octets → (more : List ℕ) × (reading (b (file.Mail number)) ≡ Some (octets ++ more))) before after
 
@@ -91,6 +97,16 @@ pub record LeavesInstance {D : Type 0} (row : InstRow) (old new : StoreValue D) 
   pub reads : Between (λ a b. reading (b (instance_file row)) ≡ reading (a (instance_file row))) before after
   pub first : Between (λ a b. IsFirstKnown old.instances.known a row → IsFirstKnown new.instances.known b row) before after
 
+-- ---- what grows
+
+-- Each instance that is known more has drawn a number. Where none was drawn, of a kind no more are known past any id than before;
+-- where one was, it is a number.
+pub record PlacesFew (old new : InstancesValue) : Type 0 where
+  pub drawn : old.highest ≤ new.highest
+  pub few : length new.known + old.highest ≤ length old.known + new.highest
+  pub candidates : new.highest ≡ old.highest → (hash : Hash) (size : ℕ) (after : Option InstId) → candidates_left hash size after new.known ≤ candidates_left hash size after old.known
+  pub last : new.highest ≢ old.highest → new.highest ≤ 4294967294
+
 -- ---- all of it
 
 -- What was compared with candidates without success stays so, whatever is placed or removed.
@@ -98,17 +114,19 @@ abbrev pub KeepsCompared : {D : Type 0} → StoreValue D → StoreValue D → Op
 KeepsCompared old new before after = (hash : Hash) (size : ℕ) (octets : List ℕ) (last : Option InstId) (drawn : ℕ) → drawn ≤ old.instances.highest
     → IsUnlikeCompared old.instances.store hash size octets last drawn old.instances.known before → IsUnlikeCompared old.instances.store hash size octets last drawn new.instances.known after
 
--- An event of a task that had these claims as it began, and that didn't stop the store, leaves to the other tasks what is theirs.
--- The last five are of no claim: the store of the instances, whose numbers rise; what was compared; the message with a UID; and a
--- disk that is modelled stays so.
+-- An event of a task that had these claims as it began, and that didn't stop the store, leaves to the other tasks what is theirs, and
+-- every storage file that it doesn't claim to empty or to remove. The last six are of no claim: the store of the
+-- instances, whose numbers rise; the numbers of mailboxes; what was compared; the message with a UID; and a disk that is modelled stays
+-- so. What grows here is what a task's work left is counted by, so that no event of another task adds to it.
 pub record LeavesOthers {D : Type 0} (mine : Claims) (old new : StoreValue D) (before after : Option History) : Type 0 where
   pub records : (uid : ℕ) (row : MapRecord) → OthersClaim mine old (Due uid) → record_at old.map uid ≡ Some row → LeavesRecord uid row new before after
   pub unlisted : LeavesUnlisted mine old new
   pub files : (number : ℕ) → OthersTook mine old number → LeavesFile number old new before after
-  pub pinned : (number : ℕ) → OthersClaim mine old (Pinned number) → LeavesPinnedFile number old new before after
+  pub grow : (number : ℕ) → MayOnlyGrow mine old number → OnlyGrows number old new before after
   pub instances : (row : InstRow) → IsKnownRow old.instances.known row → OthersClaim mine old (Held row.id) → LeavesInstance row old new before after
   pub store : new.instances.store ≡ old.instances.store
-  pub drawn : old.instances.highest ≤ new.instances.highest
+  pub numbers : PlacesFew old.instances new.instances
+  pub mailboxes : old.map.highest.mailbox ≤ new.map.highest.mailbox
   pub compared : KeepsCompared old new before after
   pub uids : KeepsUids old new
   pub told : Between (λ a b. Unit {0}) before after

@@ -5,7 +5,7 @@ use Rattle.store_core.specs.Value.{StoreValue}
 use Rattle.task_claims.specs.Claims.{AreIn, Claims, MovesClaims, both_claims}
 use Rattle.task_claims.specs.Leaving.{LeavesOthers}
 
--- An event of a task, by which its claims come to others, beside a task that claims this: it moves only its own claims, and leaves to
+-- An event of a task, by which its claims become others, beside a task that claims this: it moves only its own claims, and leaves to
 -- the others what is theirs. Both tasks' claims are among those that the store knows of.
 pub record Beside {D : Type 0} (theirs : Claims) (old new : StoreValue D) (before after : Option History) : Type 0 where
   pub mine : Claims
@@ -14,6 +14,6 @@ pub record Beside {D : Type 0} (theirs : Claims) (old new : StoreValue D) (befor
   pub leaves : LeavesOthers mine old new before after
   pub are : AreIn old (both_claims mine theirs)
 
--- A task that claims this is ready for its next event, and stays so beside each event of any other task.
+-- If a task that claims this is ready for its next event, it stays so beside each event of any other task that goes on as `Beside` says.
 abbrev pub IsStable : {D : Type 0} → Claims → (StoreValue D → Option History → Type 0) → Type 0
 IsStable theirs Ready = (old new : StoreValue _) (before after : Option History) → Beside theirs old new before after → Ready old before → Ready new after

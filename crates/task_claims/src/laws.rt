@@ -14,7 +14,7 @@ ghost use Rattle.store_core.specs.MadeLogs.{has_made_log};
 ghost use Rattle.store_core.specs.StoreInstances.{IsKnownRow};
 ghost use Rattle.store_core.specs.Value.{StoreValue};
 ghost use Rattle.task_claims.specs.Claims.{AddsUp, AreIn, Claims, ClaimsNothing, Due, Emptied, HasNoTask, Held, Made, MovesClaims, Pinned, Removing, Taken, both_claims, claims_of_dues, is_to_remove, no_claims};
-ghost use Rattle.task_claims.specs.Leaving.{LeavesFile, LeavesInstance, LeavesPinnedFile, LeavesRecord, LeavesOthers, LeavesUnlisted, SameButCounts, SyncsMail};
+ghost use Rattle.task_claims.specs.Leaving.{LeavesFile, LeavesInstance, OnlyGrows, LeavesRecord, LeavesOthers, LeavesUnlisted, SameButCounts, SyncsMail};
 ghost use Rattle.task_claims.specs.Stable.{Beside};
 
 /// What two tasks claim stays among what all claim, as one of them goes on.
@@ -38,7 +38,7 @@ pub fn claimed_things_stay<D>()
     ensures taken { (theirs : Claims) (old new : StoreValue D) (before after : Option History) (number : ℕ) → Beside theirs old new before after → 1 ≤ theirs (Taken number) → LeavesFile number old new before after × (is_taken_in number new.files.files ≡ true) }
     ensures emptied { (theirs : Claims) (old new : StoreValue D) (before after : Option History) (number : ℕ) → Beside theirs old new before after → 1 ≤ theirs (Emptied number) → LeavesFile number old new before after × (is_emptied_in number new.files.files ≡ true) }
     ensures removing { (theirs : Claims) (old new : StoreValue D) (before after : Option History) (number : ℕ) → Beside theirs old new before after → 1 ≤ theirs (Removing number) → LeavesFile number old new before after × (is_to_remove number new ≡ true) }
-    ensures pinned { (theirs : Claims) (old new : StoreValue D) (before after : Option History) (number : ℕ) → Beside theirs old new before after → 1 ≤ theirs (Pinned number) → LeavesPinnedFile number old new before after × (theirs (Pinned number) ≤ pins_in number new.files.files) }
+    ensures pinned { (theirs : Claims) (old new : StoreValue D) (before after : Option History) (number : ℕ) → Beside theirs old new before after → 1 ≤ theirs (Pinned number) → OnlyGrows number old new before after × (theirs (Pinned number) ≤ pins_in number new.files.files) }
     ensures instances { (theirs : Claims) (old new : StoreValue D) (before after : Option History) (row : InstRow) → Beside theirs old new before after → 1 ≤ theirs (Held row.id) → IsKnownRow old.instances.known row → LeavesInstance row old new before after }
     ensures held { (theirs : Claims) (old new : StoreValue D) (before after : Option History) (id : InstId) → Beside theirs old new before after → theirs (Held id) ≤ holders_in id new.instances.known }
     ensures logs { (theirs : Claims) (old new : StoreValue D) (before after : Option History) (number : ℕ) → Beside theirs old new before after → 1 ≤ theirs (Made number) → has_made_log number new ≡ true }
@@ -59,7 +59,7 @@ pub fn counts_leave_records()
 /// leaves to the other tasks what is theirs, if it leaves unlisted records so. One that changes nothing does. Where no more of the
 /// value changes than what logs mean and what is due, the claims are those of dues.
 pub fn log_events_leave_others<D>()
-    ensures logs { (mine : Claims) (old new : StoreValue D) (before after : Option History) → new.files ≡ old.files → new.instances ≡ old.instances → SyncsMail before after → SameButCounts old.map new.map → KeepsUids old new → LeavesUnlisted mine old new
+    ensures logs { (mine : Claims) (old new : StoreValue D) (before after : Option History) → new.files ≡ old.files → new.instances ≡ old.instances → SyncsMail before after → SameButCounts old.map new.map → old.map.highest.mailbox ≤ new.map.highest.mailbox → KeepsUids old new → LeavesUnlisted mine old new
         → LeavesOthers mine old new before after }
     ensures dues { (mine mine_now : ℕ → ℕ) (old new : StoreValue D) → ((uid : ℕ) → due_at uid new + mine uid ≡ due_at uid old + mine_now uid) → KeepsRest old new → MovesClaims (claims_of_dues mine) (claims_of_dues mine_now) old new }
     ensures idle { (mine : Claims) (store : StoreValue D) (before after : Option History) → IsIdle before after → LeavesOthers mine store store before after }

@@ -7,7 +7,7 @@ use Rattle.std.proofs.lemmas.List.{append-nil, length-append, map-append, take-a
 use Rattle.std.proofs.lemmas.Option.{slice_get_within}
 use Rattle.std.proofs.lemmas.List.Elements.{All-nil, All-cons, All-head, All-tail, All-push, All-append, All-weaker, filter-append}
 use Rattle.std.proofs.lemmas.List.Sums.{sum_by-append, sum_by-cons}
-use Rattle.disk_model.specs.Disk.{Files, DiskState, History, IsImage, EachImage, calls, state_at, told_calls}
+use Rattle.disk_model.specs.Disk.{Files, DiskState, History, IfTold, IsImage, EachImage, calls, state_at, told_calls}
 use Rattle.mdbox_base.specs.Streams.{Rose}
 use Rattle.task_steps.specs.Step.{FaultsGrow, Seen, ShowsSeen, HasComeTo, Leads, Stops, Fell, Went, IsFault, DidEvent}
 use Rattle.disk_model.proofs.MomentLemmas.{each_image-map, each_image-then, state_at-only}
@@ -16,6 +16,8 @@ use Rattle.mdbox_base.specs.declared.replies.Refusal.{Refusal}
 use Rattle.mdbox_base.specs.declared.replies.Refusal.TheVariants as refusal
 use Rattle.mdbox_base.specs.declared.replies.Reply.{Reply}
 use Rattle.mdbox_base.specs.declared.replies.Reply.TheVariants as reply
+use Rattle.model_kept.specs.Kept.{MailIsKept}
+use Rattle.model_kept.proofs.KeptLemmas.{ReadsImage}
 use Rattle.model_lists.specs.Lists.{Lists}
 use Rattle.list_machine.specs.Run.{RunEvent, Run, before, and_then}
 use Rattle.journal.specs.Journal.{Requests, half_of, halves_of, JournalStep, IsStep, AreSteps, left_by, IsLegal, Broken, no_broken, as_if, AreBroken, Reached, HasReply, RoseBy, steps_of, IsFirstPart}
@@ -34,7 +36,8 @@ use Rattle.model_store.proofs.SettledLemmas.{settled_safe}
 use Rattle.model_store.specs.Settled.{Leaves, IsSettled, IsSettledFor}
 use Rattle.mdbox_base.specs.declared.progress.Did.{Did}
 use Rattle.mdbox_base.specs.declared.progress.Did.TheVariants as did
-use Rattle.task_steps.specs.Serves.{IsReached, NoneStopped, WasAt, AreTimely, Serves, IsTurn}
+use Rattle.task_steps.proofs.UnmovedLemmas.{mail_on}
+use Rattle.task_steps.specs.Serves.{BreaksBy, IsReached, NoneMoved, NoneStopped, WasAt, AreTimely, Serves, IsTurn}
 
 -- ---- what an event adds to the journal
 
@@ -261,6 +264,7 @@ record Kept (start : Lists) (script : Requests) (run : Run) (journal : List Jour
   pub legal : IsLegal start script run journal replies began.faults now.faults
   pub come : HasComeTo run now
   pub shown : ShowsSeen now (left_by start journal)
+  pub mail : NoneMoved run.events → MailIsKept began.map began.history now.history
   pub reads : RoseBy (count_by is_faulted run.events) began.faults.reads now.faults.reads
   pub changes : began.faults.changes ≤ now.faults.changes
   pub halted : (i : ℕ) → HasReply replies i (reply.Refused refusal.Stopped) → now.stopped ≡ true
@@ -278,9 +282,9 @@ record Told (start : Lists) (script : Requests) (run : Run) (journal : List Jour
   pub moments : All (λ e. e.moment ≤ told_calls now.history) run.events
 
 -- the run goes on from one with this journal and these broken steps, and what the broken ones would have done follows too
-abbrev Going : Lists → Requests → Run → List JournalStep → Broken → Run → List JournalStep → List (Option Reply) → Seen → Seen → Type 0
-Going start script old steps before run journal replies began new =
-    (broken : Broken) × Serves start script run journal broken replies began new × (WouldDo script start old steps before → WouldDo script start run journal broken)
+abbrev Going : Lists → Requests → Run → List JournalStep → Broken → Run → List JournalStep → List (Option Reply) → Seen → Seen → Did → RunEvent → ℕ → Type 0
+Going start script old steps before run journal replies began new how event at =
+    (broken : Broken) × Serves start script run journal broken replies began new × (WouldDo script start old steps before → WouldDo script start run journal broken) × BreaksBy how old event at before broken
 
 -- no step: the images are safe for the lists that stay
 quiet_images : (start : Lists) (run : Run) (journal : List JournalStep) (broken : Broken) (began now new : Seen) (event : RunEvent) → All (λ s. s.event < length run.events) journal
@@ -392,11 +396,12 @@ falls_so request run lists left event answer now new did.Failed w ran e = w.0.re
 falls_so request run lists left event answer now new (did.Broken half) w ran e = w.0.refused
 
 quiet_on : (start : Lists) (script : Requests) (run : Run) (journal : List JournalStep) (broken : Broken) (replies : List (Option Reply)) (began now new : Seen) (request : Request) (event : RunEvent) (answer : Option Reply) (left : Lists) → Serves start script run journal broken replies began now
-    → Told start script run journal replies began now new request event answer left did.Quiet → answer ≡ None → new.stopped ≡ now.stopped → Leads (left_by start journal) (left_by start journal) now new → Going start script run journal broken (and_then run event) (journal_by run request journal event answer left) replies began new
+    → Told start script run journal replies began now new request event answer left did.Quiet → answer ≡ None → new.stopped ≡ now.stopped → Leads (left_by start journal) (left_by start journal) now new → Going start script run journal broken (and_then run event) (journal_by run request journal event answer left) replies began new did.Quiet event (told_calls now.history)
 quiet_on start script run journal broken replies began now new request event answer left s t none same leads = (
   broken,
   subst (λ (j : List JournalStep). Kept start script (and_then run event) j replies began new → Serves start script (and_then run event) j broken replies began new) (sym (unmade run request journal event answer left none)) all t.kept,
   unmade_would script start run request journal broken event answer left s.within none,
+  refl,
 )
   where
     crash : IsSettledFor start began.history → (b : Bool) → now.stopped ≡ b → EachImage (IsReached start (and_then run event) journal broken) began.history new.history
@@ -422,6 +427,7 @@ quiet_on start script run journal broken replies began now new request event ans
       timely = λ at. timely at now.stopped refl;
       unbroken = λ e. s.unbroken (sym same ∙ e);
       settled = λ e at. leads.settled (s.settled (sym same ∙ e) at);
+      mail = k.mail;
       reads = k.reads;
       changes = k.changes;
       fell = λ e. rose_later began.faults.changes now.faults.changes new.faults.changes (s.fell (sym same ∙ e)) t.faults.changes;
@@ -430,9 +436,9 @@ quiet_on start script run journal broken replies began now new request event ans
       unrefused = k.unrefused;
     }
 
-step_on : (start : Lists) (script : Requests) (run : Run) (journal : List JournalStep) (broken : Broken) (replies : List (Option Reply)) (began now new : Seen) (request : Request) (event : RunEvent) (answer : Option Reply) (left : Lists) (how : Did) → Serves start script run journal broken replies began now
-    → Told start script run journal replies began now new request event answer left how → is_some answer ≡ true → new.stopped ≡ false → now.stopped ≡ false → Leads (left_by start journal) left now new → Going start script run journal broken (and_then run event) (journal_by run request journal event answer left) replies began new
-step_on start script run journal broken replies began now new request event answer left how s t some runs ran leads = (
+step_on : (start : Lists) (script : Requests) (run : Run) (journal : List JournalStep) (broken : Broken) (replies : List (Option Reply)) (began now new : Seen) (request : Request) (event : RunEvent) (answer : Option Reply) (left : Lists) (half : Half) → Serves start script run journal broken replies began now
+    → Told start script run journal replies began now new request event answer left (did.Step half) → is_some answer ≡ true → new.stopped ≡ false → now.stopped ≡ false → Leads (left_by start journal) left now new → Going start script run journal broken (and_then run event) (journal_by run request journal event answer left) replies began new (did.Step half) event (told_calls now.history)
+step_on start script run journal broken replies began now new request event answer left half s t some runs ran leads = (
   no_broken,
   record {
     legal = t.kept.legal;
@@ -448,6 +454,7 @@ step_on start script run journal broken replies began now new request event answ
         (λ none. subst (λ (ls : Lists). IsSettledFor ls new.history) (sym (left_made run request start journal event answer left t.made)) (leads.settled (s.settled ran at)));
     unbroken = λ e. refl;
     settled = λ e at. subst (λ (ls : Lists). IsSettledFor ls new.history) (sym (left_made run request start journal event answer left t.made)) (leads.settled (s.settled ran at));
+    mail = t.kept.mail;
     reads = t.kept.reads;
     changes = t.kept.changes;
     fell = λ e. absurd (fall new.stopped e runs);
@@ -456,14 +463,16 @@ step_on start script run journal broken replies began now new request event answ
     unrefused = t.kept.unrefused;
   },
   λ d. none_would script start (and_then run event) (journal_by run request journal event answer left),
+  sym (s.unbroken ran),
 )
 
 failed_on : (start : Lists) (script : Requests) (run : Run) (journal : List JournalStep) (broken : Broken) (replies : List (Option Reply)) (began now new : Seen) (request : Request) (event : RunEvent) (answer : Option Reply) (left : Lists) → Serves start script run journal broken replies began now
-    → Told start script run journal replies began now new request event answer left did.Failed → Fell event answer now new → Stops (left_by start journal) (left_by start journal) now new → Going start script run journal broken (and_then run event) (journal_by run request journal event answer left) replies began new
+    → Told start script run journal replies began now new request event answer left did.Failed → Fell event answer now new → Stops (left_by start journal) (left_by start journal) now new → Going start script run journal broken (and_then run event) (journal_by run request journal event answer left) replies began new did.Failed event (told_calls now.history)
 failed_on start script run journal broken replies began now new request event answer left s t f stops = (
   broken,
   subst (λ (j : List JournalStep). Kept start script (and_then run event) j replies began new → Serves start script (and_then run event) j broken replies began new) (sym (unmade run request journal event answer left f.unanswered)) all t.kept,
   unmade_would script start run request journal broken event answer left s.within f.unanswered,
+  refl,
 )
   where
     all : Kept start script (and_then run event) journal replies began new → Serves start script (and_then run event) journal broken replies began new
@@ -479,6 +488,7 @@ failed_on start script run journal broken replies began now new request event an
       timely = λ at. failed_timely start run request journal now new event answer left t.within t.moments t.moment_is (s.timely at) (same_states (left_by start journal) (left_by start journal) now new (stops (s.settled f.ran at))) f.refused f.unanswered;
       unbroken = λ e. absurd (fall new.stopped f.stopped e);
       settled = λ e at. absurd (fall new.stopped f.stopped e);
+      mail = k.mail;
       reads = k.reads;
       changes = k.changes;
       fell = λ e. rose_now began.faults.changes now.faults.changes new.faults.changes s.changes (t.faults.rose tt);
@@ -487,14 +497,15 @@ failed_on start script run journal broken replies began now new request event an
       unrefused = k.unrefused;
     }
 
-broken_on : (start : Lists) (script : Requests) (run : Run) (journal : List JournalStep) (broken : Broken) (replies : List (Option Reply)) (began now new : Seen) (lane place : ℕ) (request : Request) (event : RunEvent) (answer : Option Reply) (left : Lists) (how : Did)
-    → slice_get script place ≡ Some (lane, request) → event.lane ≡ lane → event.request ≡ place → IsFault how → Serves start script run journal broken replies began now
-    → Told start script run journal replies began now new request event answer left how → Fell event answer now new → (w : WouldMake run request (left_by start journal) event) → Stops (left_by start journal) w.left now new → Going start script run journal broken (and_then run event) (journal_by run request journal event answer left) replies began new
-broken_on start script run journal broken replies began now new lane place request event answer left how asked on at fault s t f w stops = (
+broken_on : (start : Lists) (script : Requests) (run : Run) (journal : List JournalStep) (broken : Broken) (replies : List (Option Reply)) (began now new : Seen) (lane place : ℕ) (request : Request) (event : RunEvent) (answer : Option Reply) (left : Lists) (half : Half)
+    → slice_get script place ≡ Some (lane, request) → event.lane ≡ lane → event.request ≡ place → half_of request event.part ≡ half → Serves start script run journal broken replies began now
+    → Told start script run journal replies began now new request event answer left (did.Broken half) → Fell event answer now new → (w : WouldMake run request (left_by start journal) event) → Stops (left_by start journal) w.left now new → Going start script run journal broken (and_then run event) (journal_by run request journal event answer left) replies began new (did.Broken half) event (told_calls now.history)
+broken_on start script run journal broken replies began now new lane place request event answer left half asked on at is_half s t f w stops = (
   next,
   subst (λ (j : List JournalStep). Kept start script (and_then run event) j replies began new → Serves start script (and_then run event) j next replies began new) (sym (unmade run request journal event answer left f.unanswered)) all t.kept,
   λ d. subst (λ (j : List JournalStep). WouldDo script start (and_then run event) j next) (sym (unmade run request journal event answer left f.unanswered))
       (would_made script start run journal lane place request event w (told_calls now.history) step asked at refl),
+  (w.would, step, refl, w.lane_is, w.request_is, ap (half_of request) w.part_is ∙ is_half),
 )
   where
     step : JournalStep
@@ -530,9 +541,10 @@ broken_on start script run journal broken replies began now new lane place reque
       timely = λ at. failed_timely start run request journal now new event answer left t.within t.moments t.moment_is (s.timely at) (same_states (left_by start journal) w.left now new (stops (s.settled f.ran at))) f.refused f.unanswered;
       unbroken = λ e. absurd (fall new.stopped f.stopped e);
       settled = λ e at. absurd (fall new.stopped f.stopped e);
+      mail = k.mail;
       reads = k.reads;
       changes = k.changes;
-      fell = λ e. rose_now began.faults.changes now.faults.changes new.faults.changes s.changes (t.faults.rose fault);
+      fell = λ e. rose_now began.faults.changes now.faults.changes new.faults.changes s.changes (t.faults.rose tt);
       halted = k.halted;
       stopped_by = k.stopped_by;
       unrefused = k.unrefused;
@@ -547,13 +559,13 @@ ran_on now new runs still = by_test now.stopped refl
 
 by_way : (start : Lists) (script : Requests) (run : Run) (journal : List JournalStep) (broken : Broken) (replies : List (Option Reply)) (began now new : Seen) (lane place : ℕ) (request : Request) (event : RunEvent) (answer : Option Reply) (left : Lists) (how : Did)
     → slice_get script place ≡ Some (lane, request) → event.lane ≡ lane → event.request ≡ place → Serves start script run journal broken replies began now
-    → Told start script run journal replies began now new request event answer left how → Went how request run (left_by start journal) left event answer now new → Going start script run journal broken (and_then run event) (journal_by run request journal event answer left) replies began new
+    → Told start script run journal replies began now new request event answer left how → Went how request run (left_by start journal) left event answer now new → Going start script run journal broken (and_then run event) (journal_by run request journal event answer left) replies began new how event (told_calls now.history)
 by_way start script run journal broken replies began now new lane place request event answer left did.Quiet asked on at s t w = quiet_on start script run journal broken replies began now new request event answer left s t w.0 w.1 w.2
 by_way start script run journal broken replies began now new lane place request event answer left (did.Step half) asked on at s t w =
-    step_on start script run journal broken replies began now new request event answer left (did.Step half) s t w.0 w.2 (ran_on now new w.2 t.still) w.3
+    step_on start script run journal broken replies began now new request event answer left half s t w.0 w.2 (ran_on now new w.2 t.still) w.3
 by_way start script run journal broken replies began now new lane place request event answer left did.Failed asked on at s t w = failed_on start script run journal broken replies began now new request event answer left s t w.0 w.1
 by_way start script run journal broken replies began now new lane place request event answer left (did.Broken half) asked on at s t w =
-    broken_on start script run journal broken replies began now new lane place request event answer left (did.Broken half) asked on at tt s t w.0 w.2.0 w.2.1
+    broken_on start script run journal broken replies began now new lane place request event answer left half asked on at w.1 s t w.0 w.2.0 w.2.1
 
 -- a step is made only by a store that runs
 makes_running : (request : Request) (run : Run) (lists left : Lists) (event : RunEvent) (answer : Option Reply) (now new : Seen) (how : Did) → Went how request run lists left event answer now new → is_some answer ≡ true → new.stopped ≡ false
@@ -563,11 +575,12 @@ makes_running request run lists left event answer now new did.Failed w some = ab
 makes_running request run lists left event answer now new (did.Broken half) w some = absurd (fall (is_some answer) some (ap (λ (a : Option Reply). is_some a) w.0.unanswered))
 
 -- A run of events goes on with one more, of any task that does as its clause says, in its turn.
-pub serves_on : (start : Lists) (script : Requests) (run : Run) (journal : List JournalStep) (broken : Broken) (replies : List (Option Reply)) (began now new : Seen) (around after : Around) (lane place : ℕ) (request : Request) (how : Did) (ended : Option Reply) → Serves start script run journal broken replies began now
-    → IsTurn script journal replies lane place request → (d : DidEvent around after run lane place (map (λ s. s.answer) (steps_of place journal)) request (left_by start journal) now new how ended)
+pub serves_by : (start : Lists) (script : Requests) (run : Run) (journal : List JournalStep) (broken : Broken) (replies : List (Option Reply)) (began now new : Seen) (around after : Around) (lane place : ℕ) (request : Request) (how : Did) (ended : Option Reply) → Serves start script run journal broken replies began now
+    → IsTurn script journal replies lane place request → (d : DidEvent around after run lane place (map (λ s. s.answer) (steps_of place journal)) request (left_by start journal) now new how ended) → IfTold now.history ReadsImage
     → (next : Broken) × Serves start script (and_then run d.makes.event) (journal ++ steps_made run request d.makes.event d.makes.answer d.left) next replies began new
     × (WouldDo script start run journal broken → WouldDo script start (and_then run d.makes.event) (journal ++ steps_made run request d.makes.event d.makes.answer d.left) next)
-serves_on start script run journal broken replies began now new around after lane place request how ended s turn d =
+    × BreaksBy how run d.makes.event (told_calls now.history) broken next
+serves_by start script run journal broken replies began now new around after lane place request how ended s turn d reads =
     by_way start script run journal broken replies began now new lane place request d.makes.event d.makes.answer d.left how turn.asked d.makes.lane_is d.makes.request_is s told d.went
   where
     halted : (i : ℕ) → HasReply replies i (reply.Refused refusal.Stopped) → new.stopped ≡ true
@@ -602,6 +615,7 @@ serves_on start script run journal broken replies began now new around after lan
             d.ends.faults.reads d.ends.faults.changes;
         come = d.come;
         shown = subst (λ (ls : Lists). ShowsSeen new ls) (sym (left_made run request start journal d.makes.event d.makes.answer d.left d.makes.made)) d.shown;
+        mail = mail_on run began.map now.map began.history now.history new.history s.begins.map_is s.come.come.map_is reads s.mail d.mail d.makes.event;
         reads = reads_more run.events d.makes.event began.faults.reads now.faults.reads new.faults.reads s.reads d.ends.faults.reads d.ends.reads;
         changes = (let a = s.changes in let b = d.ends.faults.changes in omega (arith, a, b));
         halted = halted;
@@ -615,3 +629,10 @@ serves_on start script run journal broken replies began now new around after lan
       still = d.ends.still;
       faults = d.ends.faults;
     }
+
+-- The same, but for which steps are broken.
+pub serves_on : (start : Lists) (script : Requests) (run : Run) (journal : List JournalStep) (broken : Broken) (replies : List (Option Reply)) (began now new : Seen) (around after : Around) (lane place : ℕ) (request : Request) (how : Did) (ended : Option Reply) → Serves start script run journal broken replies began now
+    → IsTurn script journal replies lane place request → (d : DidEvent around after run lane place (map (λ s. s.answer) (steps_of place journal)) request (left_by start journal) now new how ended) → IfTold now.history ReadsImage
+    → (next : Broken) × Serves start script (and_then run d.makes.event) (journal ++ steps_made run request d.makes.event d.makes.answer d.left) next replies began new
+    × (WouldDo script start run journal broken → WouldDo script start (and_then run d.makes.event) (journal ++ steps_made run request d.makes.event d.makes.answer d.left) next)
+serves_on start script run journal broken replies began now new around after lane place request how ended s turn d reads = let s = serves_by start script run journal broken replies began now new around after lane place request how ended s turn d reads in (s.0, s.1, s.2)

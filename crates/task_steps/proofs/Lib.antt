@@ -4,3 +4,4 @@ pub mod GoingLemmas
 pub mod OneEventLemmas
 pub mod ReplyingLemmas
 pub mod SeenLemmas
+pub mod UnmovedLemmas

@@ -32,6 +32,7 @@ use Rattle.mdbox_base.specs.declared.progress.Did.TheVariants as did
 use Rattle.task_steps.specs.Step.{Seen, ShowsSeen, HasComeTo, Leads, IsFault, and_told, DidEvent, HasNotBegun}
 use Rattle.task_steps.specs.Tells.{LeavesFiles}
 use Rattle.task_steps.proofs.SeenLemmas.{comes_to_still, no_guids}
+use Rattle.task_steps.proofs.UnmovedLemmas.{mail_still}
 
 -- a request whose first event is its step and its end, and finds nothing in files
 pub record IsPlain (q : Request) : Type 0 where
@@ -47,7 +48,7 @@ abbrev pub refused_event : ℕ → ℕ → Refusal → ℕ → RunEvent
 refused_event lane place why calls = record (event_of lane place First calls) { refused = Some why; reply = Some (reply.Refused why) }
 
 pub refused_leaves : (lane place : ℕ) (why : Refusal) (calls : ℕ) → LeavesFiles (refused_event lane place why calls)
-refused_leaves lane place why calls = record { pins = refl; unpins = refl; doomed = refl; removed = refl; given = refl; placed = refl; gone = refl }
+refused_leaves lane place why calls = record { made = refl; pins = refl; unpins = refl; doomed = refl; removed = refl; given = refl; placed = refl; gone = refl }
 
 pub next_first : (around : Around) (run : Run) (q : Request) (own : List RunEvent) → own ≡ [] → next_part around run q own ≡ Some First
 next_first around run q own e = ap (λ (es : List RunEvent). next_part around run q es) e
@@ -173,6 +174,7 @@ does_nothing around after run lane place said q lists seen why plain come shows 
   gives = no_guids run (refused_event lane place why (told_calls seen.history)) refl;
   went = (refl, refl, nothing lists seen);
   grows = omega arith;
+  mail = mail_still seen.map seen.history;
   ends = record {
     in_turn = λ some. absurd (let k : false ≡ true = some in cc k);
     replied = first_reply q said None (reply.Refused why) stage.1 is;
@@ -180,6 +182,7 @@ does_nothing around after run lane place said q lists seen why plain come shows 
     still = λ e. refl;
     reads = λ e. absurd (let k : false ≡ true = sym plain.reads ∙ subst (λ (r : Refusal). MayMeet First q r) (one_refusal why refusal.ReadFault e) may in cc k);
     faults = still_faults (IsFault did.Quiet) seen.faults (λ x. x);
+    unfailed = λ read change. refl;
   };
 }
 
@@ -197,6 +200,7 @@ does_refuse around after run lane place said q lists seen why plain come shows s
   gives = no_guids run (refused_event lane place why (told_calls seen.history)) refl;
   went = (refl, plain.half_is, runs, nothing lists seen);
   grows = omega arith;
+  mail = mail_still seen.map seen.history;
   ends = record {
     in_turn = λ some. first_turn q said (refused_event lane place why (told_calls seen.history)) plain stage.1 refl;
     replied = first_reply q said (Some (reply.Refused why)) (reply.Refused why) stage.1 is;
@@ -207,6 +211,7 @@ does_refuse around after run lane place said q lists seen why plain come shows s
     still = λ e. refl;
     reads = λ e. absurd (reads why step (one_refusal why refusal.ReadFault e));
     faults = still_faults (IsFault (did.Step half.Whole)) seen.faults (λ x. x);
+    unfailed = λ read change. refl;
   };
 }
   where

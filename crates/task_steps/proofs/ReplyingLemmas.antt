@@ -25,6 +25,7 @@ use Rattle.journal.specs.Events.{Around, is_faulted}
 use Rattle.journal.specs.Makes.{HasCome, steps_made}
 use Rattle.mdbox_base.specs.declared.progress.Did.{Did}
 use Rattle.mdbox_base.specs.declared.progress.Did.TheVariants as did
+use Rattle.task_steps.proofs.UnmovedLemmas.{mail_still}
 use Rattle.task_steps.specs.Step.{Seen, ShowsSeen, HasComeTo, Went, and_told, DidEvent}
 use Rattle.task_steps.specs.Serves.{IsReached, Serves, IsTurn}
 
@@ -164,6 +165,7 @@ reply_on start script run journal broken next replies given_also began now new a
   stopped_by = t.stopped_by;
   unrefused = t.unrefused;
   settled = t.settled;
+  mail = t.mail;
   reads = t.reads;
   changes = t.changes;
   fell = t.fell;
@@ -235,6 +237,7 @@ serves_start start script run replies now empty come shows runs none faultless =
   stopped_by = λ e. absurd (fall now.stopped e runs);
   unrefused = λ e. subst (λ (es : List RunEvent). All (λ event. event.refused ≢ Some refusal.Stopped) es) (sym empty) (All-nil _);
   settled = λ e at. at;
+  mail = λ none. mail_still now.map now.history;
   reads = subst (λ (es : List RunEvent). RoseBy (count_by is_faulted es) now.faults.reads now.faults.reads) (sym empty) (omega arith);
   changes = omega arith;
   fell = λ e. absurd (fall now.stopped e runs);

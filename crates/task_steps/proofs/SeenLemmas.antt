@@ -1,5 +1,5 @@
 -- What a store tells, as a run goes on with one event more.
-use Rattle.std.proofs.Common.{◌≡◌, ◌<◌, ◌+◌, ◌==◌, ◌&&◌, ◌||◌, ℕ, zero, suc, Bool, true, false, not, List, [], ◌∷◌, ◌++◌, refl, sym, ◌∙◌, ap, subst, arith, All}
+use Rattle.std.proofs.Common.{inl, inr, ◌⊎◌, ◌≡◌, ◌<◌, ◌+◌, ◌==◌, ◌&&◌, ◌||◌, ℕ, zero, suc, Bool, true, false, not, List, [], ◌∷◌, ◌++◌, refl, sym, ◌∙◌, ap, subst, arith, All}
 use Rattle.std.specs.Prelude.{◌≢◌, flat_map, sum_by, count_by, nat_lt, filter, cond, if◌then◌else◌}
 use Rattle.std.proofs.lemmas.Grind.{common_steps}
 use Rattle.std.specs.List.{list_any}
@@ -190,6 +190,42 @@ file_now_known run event file none made stays =
     by_tests false true took gone t g = ap (λ (b : Bool). not b) g
     by_tests false false took gone t g = ap (λ (b : Bool). b && not gone) t ∙ ap (λ (b : Bool). not b) g
 
+-- a file that isn't sealed wasn't before
+pub open_before : (run : Run) (event : RunEvent) (file : ℕ) → is_sealed (map_of (and_then run event)) file ≡ false → is_sealed (map_of run) file ≡ false
+open_before run event file unsealed = by_test (is_sealed (map_of run) file) refl
+  where
+    by_test : (b : Bool) → is_sealed (map_of run) file ≡ b → is_sealed (map_of run) file ≡ false
+    by_test true e = absurd (let k : true ≡ false = sym (sealed_still run event file e) ∙ unsealed in cc k)
+    by_test false e = e
+
+-- a file that isn't sealed and is known is one that the event made, or was known before
+pub known_before : (run : Run) (event : RunEvent) (file : ℕ) → event.removed ≡ [] → is_sealed (map_of (and_then run event)) file ≡ false → is_known_file (and_then run event) file ≡ true → (is_known_file run file ≡ true) ⊎ (is_one_of event.made file ≡ true)
+known_before run event file none unsealed known =
+    by_tests (list_any (λ row. row.file == file) (map_of (before 0 run)).records) (is_sealed (map_of run) file) (is_sealed (map_of (and_then run event)) file) (list_any (λ (e : RunEvent). is_one_of e.made file) run.events) (is_one_of event.made file)
+    (list_any (λ (e : RunEvent). is_one_of e.made file) (run.events ++ event ∷ [])) (list_any (λ (e : RunEvent). is_one_of e.removed file) run.events) (list_any (λ (e : RunEvent). is_one_of e.removed file) (run.events ++ event ∷ []))
+    (any_push (λ (e : RunEvent). is_one_of e.made file) run.events event) (any_still (λ (e : RunEvent). is_one_of e.removed file) run.events event (ap (λ (fs : List ℕ). is_one_of fs file) none)) unsealed known
+  where
+    or_true : (b : Bool) → (b || true) ≡ true
+    or_true true = refl
+    or_true false = refl
+
+    by_tests : (first was sealed earlier now made gone gone_on : Bool) → made ≡ (earlier || now) → gone_on ≡ gone → sealed ≡ false → ((first || (sealed || made)) && not gone_on) ≡ true → (((first || (was || earlier)) && not gone) ≡ true) ⊎ (now ≡ true)
+    by_tests true was sealed earlier now made gone gone_on m g s k = inl (ap (λ (b : Bool). not b) (sym g) ∙ k)
+    by_tests false was sealed true now made gone gone_on m g s k =
+        inl (ap (λ (b : Bool). b && not gone) (or_true was) ∙ (ap (λ (b : Bool). not b) (sym g) ∙ (sym (ap (λ (b : Bool). (b || true) && not gone_on) s) ∙ (sym (ap (λ (b : Bool). (sealed || b) && not gone_on) m) ∙ k))))
+    by_tests false was sealed false true made gone gone_on m g s k = inr refl
+    by_tests false was sealed false false made gone gone_on m g s k =
+        absurd (let e : false ≡ true = sym (ap (λ (b : Bool). (b || false) && not gone_on) s) ∙ (sym (ap (λ (b : Bool). (sealed || b) && not gone_on) m) ∙ k) in cc e)
+
+-- so the store knew it, or the event made it
+pub there_before : (run : Run) (event : RunEvent) (seen : Seen) (file : ℕ) → KeepsTasks run seen → event.removed ≡ [] → is_sealed (map_of (and_then run event)) file ≡ false → is_known_file (and_then run event) file ≡ true
+    → (seen.files file ≡ true) ⊎ (is_one_of event.made file ≡ true)
+there_before run event seen file k none unsealed known = by_case (known_before run event file none unsealed known)
+  where
+    by_case : (is_known_file run file ≡ true) ⊎ (is_one_of event.made file ≡ true) → (seen.files file ≡ true) ⊎ (is_one_of event.made file ≡ true)
+    by_case (inl before) = inl (k.files file (open_before run event file unsealed) before)
+    by_case (inr made) = inr made
+
 -- an event that placed an instance makes it known, unless one removed it
 pub instance_now_known : (run : Run) (event : RunEvent) (instance : InstRow) → event.gone ≡ [] → list_any (is_same_instance instance) event.placed ≡ true → was_gone run instance ≡ false → is_known_instance (and_then run event) instance ≡ true
 instance_now_known run event instance none put stays =
@@ -228,13 +264,19 @@ comes_to_on run event old new h come due leaves same = record {
   files = λ file e. file_still_known run event file leaves.removed (h.files file (sym (same.files file) ∙ e));
 }
   where
+    by_maker : (file : ℕ) → (old.files file ≡ true) ⊎ (is_one_of event.made file ≡ true) → old.files file ≡ true
+    by_maker file (inl there) = there
+    by_maker file (inr made) = absurd (let e : false ≡ true = ap (λ (fs : List ℕ). is_one_of fs file) (sym leaves.made) ∙ made in cc e)
+
     keeps_on : KeepsTasks run old → KeepsTasks (and_then run event) new
     keeps_on k = record {
       due = λ uid. due_more run event uid (old.due uid) (new.due uid) (k.due uid) (due uid);
       pins = λ file. pins_still run event file leaves.pins leaves.unpins ∙ (k.pins file ∙ sym (same.pins file));
       doomed = λ file. doomed_still run event file leaves.doomed leaves.removed ∙ (k.doomed file ∙ sym (same.doomed file));
       instances = λ instance. placed_still run event instance leaves.placed leaves.gone ∙ (k.instances instance ∙ sym (same.instances instance));
+      files = λ file unsealed known. same.files file ∙ by_maker file (there_before run event old file k leaves.removed unsealed known);
     }
+
 
 -- a store tells the same as itself
 pub tells_itself : (seen : Seen) → TellsSame seen seen

@@ -1,16 +1,23 @@
 -- What the events since the beginning have made of a store.
 use Rattle.journal.specs.Events.{is_faulted, Around}
-use Rattle.std.specs.Prelude.{◌≡◌, ◌≢◌, ◌≤◌, ◌<◌, ◌+◌, ℕ, count_by, true, false, List, [], All, Option, Some, None, length, slice_get, take}
+use Rattle.std.specs.Prelude.{◌≡◌, ◌≢◌, ◌≤◌, ◌<◌, ◌+◌, ℕ, count_by, Bool, true, false, List, [], All, Option, Some, None, length, slice_get, take}
+use Rattle.std.specs.List.{list_any}
 use Rattle.disk_model.specs.Disk.{Files, DiskState, History, EachImage, state_at}
 use Rattle.mdbox_base.specs.Streams.{Rose}
+use Rattle.mdbox_base.specs.declared.entries.MapEntry.{MapEntry}
+use Rattle.mdbox_base.specs.declared.entries.MapEntry.TheVariants as map_entry
+use Rattle.mdbox_base.specs.declared.progress.Did.{Did}
+use Rattle.mdbox_base.specs.declared.progress.Did.TheVariants as did
 use Rattle.mdbox_base.specs.declared.requests.Request.{Request}
 use Rattle.mdbox_base.specs.declared.replies.Refusal.TheVariants as refusal
 use Rattle.mdbox_base.specs.declared.replies.Reply.{Reply}
 use Rattle.mdbox_base.specs.declared.replies.Reply.TheVariants as reply
+use Rattle.model_kept.specs.Kept.{MailIsKept}
 use Rattle.model_lists.specs.Lists.{Lists}
 use Rattle.list_machine.specs.Run.{RunEvent, Run, before}
 use Rattle.journal.specs.Journal.{Requests, JournalStep, left_by, IsLegal, Broken, no_broken, AreBroken, IsOfFailure, Reached, HasReply, RoseBy, steps_of}
 use Rattle.journal.specs.Found.{AgreeWithRun}
+use Rattle.journal.specs.GoesOn.{broken_by}
 use Rattle.journal.specs.Makes.{HasCome, AreNextEvents, lists_before}
 use Rattle.model_store.specs.Safe.{Safe}
 use Rattle.model_store.specs.Settled.{IsSettled, IsSettledFor}
@@ -23,6 +30,15 @@ IsReached start run journal broken m image = (lists : Lists) × Reached start ru
 -- no event was refused by a stopped store
 abbrev pub NoneStopped : List RunEvent → Type 0
 NoneStopped events = All (λ event. event.refused ≢ Some refusal.Stopped) events
+
+-- an entry of the map log that moves records to another storage file, or drops them
+abbrev pub moves_records : MapEntry → Bool
+moves_records (map_entry.P file target moved dropped) = true
+moves_records entry = false
+
+-- no event appended one
+abbrev pub NoneMoved : List RunEvent → Type 0
+NoneMoved events = All (λ event. list_any moves_records event.map_entries ≡ false) events
 
 -- the disk was in this state after so many calls
 abbrev pub WasAt : Option History → ℕ → DiskState → Type 0
@@ -44,6 +60,8 @@ AreTimely start run journal history = (n : ℕ) (event : RunEvent) (state : Disk
 -- settled at the start each image since is safe for lists that are reached, and at the moment of each event before the store
 -- stopped it was settled for what the steps up to it left; unless the store is stopped, no step is broken, no event was refused
 -- as by one that is, and the disk is settled for the present lists. Broken steps are those of the append that stopped the store.
+-- Until an event moves or drops records, storage files and instances have at each moment what the map needed at the start, of a
+-- damaged store too.
 pub record Serves (start : Lists) (script : Requests) (run : Run) (journal : List JournalStep) (broken : Broken) (replies : List (Option Reply)) (began now : Seen) : Type 0 where
   pub legal : IsLegal start script run journal replies began.faults now.faults
   pub begins : HasCome (before 0 run) began.map began.drawn 0
@@ -58,6 +76,7 @@ pub record Serves (start : Lists) (script : Requests) (run : Run) (journal : Lis
   pub stopped_by : now.stopped ≡ true → NoneStopped run.events → ⊥
   pub unrefused : now.stopped ≡ false → NoneStopped run.events
   pub settled : now.stopped ≡ false → IsSettledFor start began.history → IsSettledFor (left_by start journal) now.history
+  pub mail : NoneMoved run.events → MailIsKept began.map began.history now.history
   pub reads : RoseBy (count_by is_faulted run.events) began.faults.reads now.faults.reads
   pub changes : began.faults.changes ≤ now.faults.changes
   pub fell : now.stopped ≡ true → Rose began.faults.changes now.faults.changes
@@ -77,3 +96,9 @@ pub record Follows (start : Lists) (script : Requests) (run : Run) (journal : Li
   pub after : ℕ → Around
   pub next : AreNextEvents around after script start run journal
   pub found : AgreeWithRun around script run
+
+-- Which steps are broken after an event: those that it would have made, if its append failed, which began as the event did; else
+-- those that were.
+abbrev pub BreaksBy : Did → Run → RunEvent → ℕ → Broken → Broken → Type 0
+BreaksBy (did.Broken half) run event began old next = (would : RunEvent) × (step : JournalStep) × (next ≡ broken_by run would began step) × (step.lane ≡ event.lane) × (step.request ≡ event.request) × (step.half ≡ half)
+BreaksBy other run event began old next = next ≡ old

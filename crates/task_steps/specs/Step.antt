@@ -4,6 +4,7 @@ use Rattle.std.specs.List.{list_any}
 use Rattle.std.specs.Option.{IfSome}
 use Rattle.std.specs.Str.{bytes_eq}
 use Rattle.disk_model.specs.Disk.{History, Faults}
+use Rattle.disk_model.specs.FaultCounts.{NoFault}
 use Rattle.mdbox_base.specs.Streams.{Rose}
 use Rattle.mdbox_base.specs.declared.entries.Highest.{Highest}
 use Rattle.mdbox_base.specs.declared.entries.InstRow.{InstRow}
@@ -13,9 +14,10 @@ use Rattle.mdbox_base.specs.declared.replies.Reply.TheVariants as reply
 use Rattle.mdbox_base.specs.declared.requests.Request.{Request}
 use Rattle.model_lists.specs.Lists.{Lists, AreWellFormed}
 use Rattle.model_meaning.specs.BoxMeaning.{BoxMeaning}
-use Rattle.model_meaning.specs.MapMeaning.{MapMeaning}
+use Rattle.model_kept.specs.Kept.{MailIsKept}
+use Rattle.model_meaning.specs.MapMeaning.{MapMeaning, is_sealed}
 use Rattle.model_store.specs.Listing.{ShowLists}
-use Rattle.list_machine.specs.Run.{RunEvent, Run, and_then, own_events, is_one_of, has_unpinned, is_doomed}
+use Rattle.list_machine.specs.Run.{RunEvent, Run, and_then, map_of, own_events, is_one_of, has_unpinned, is_doomed}
 use Rattle.journal.specs.Journal.{half_of, halves_of, IsReplyOf}
 use Rattle.journal.specs.Events.{Around, begun_in, ended_in}
 use Rattle.journal.specs.Found.{AgreesWithRun, is_known_file, is_taken, is_same_instance, is_known_instance}
@@ -72,13 +74,14 @@ was_used run file = list_any (λ e. is_one_of e.doomed file || is_one_of e.remov
 abbrev pub was_gone : Run → InstRow → Bool
 was_gone run instance = list_any (λ e. list_any (is_same_instance instance) e.gone) run.events
 
--- What a store that runs keeps of its tasks, as a run says it: of each record as much began as ended and is due, and files are
--- pinned and doomed, and instances there, as the store has them.
+-- What a store that runs keeps of its tasks, as a run says it: of each record as much began as ended and is due, files are pinned
+-- and doomed, and instances there, as the store has them, and it knows each file that is there, unless that is sealed.
 pub record KeepsTasks (run : Run) (seen : Seen) : Type 0 where
   pub due : (uid : ℕ) → sum_by (begun_in uid) run.events ≡ seen.due uid + sum_by (ended_in uid) run.events
   pub pins : (file : ℕ) → pins_of run file ≡ seen.pins file
   pub doomed : (file : ℕ) → is_doomed run file ≡ seen.doomed file
   pub instances : (instance : InstRow) → is_known_instance run instance ≡ seen.instances instance
+  pub files : (file : ℕ) → is_sealed (map_of run) file ≡ false → is_known_file run file ≡ true → seen.files file ≡ true
 
 -- The run has come to where the store stands. Its entries, numbers and moments are the store's; unless it is stopped, it keeps of
 -- its tasks what the run says; files were barred, events used files, gave GUIDs and removed instances only if the store may have;
@@ -139,7 +142,7 @@ pub record FaultsGrow (failed : Type 0) (old new : Faults) : Type 0 where
 
 -- A step is the next of its request. What a request is replied follows from the answers of its steps; exactly a stopped store
 -- replies so, and in one that was stopped nothing happens but that pins are taken away; an event is refused by a read fault
--- where a read failed.
+-- where a read failed. In an event that was refused by none, and in which no change failed, no call failed.
 pub record EndsRequest (request : Request) (said : List Reply) (event : RunEvent) (answer ended : Option Reply) (did : Did) (old new : Seen) : Type 0 where
   pub in_turn : is_some answer ≡ true → slice_get (halves_of request) (length said) ≡ Some (half_of request event.part)
   pub replied : (given : Reply) → ended ≡ Some given → IsReplyOf request (and_told said answer) given
@@ -147,6 +150,7 @@ pub record EndsRequest (request : Request) (said : List Reply) (event : RunEvent
   pub still : old.stopped ≡ true → new ≡ record old { pins = new.pins }
   pub reads : event.refused ≡ Some refusal.ReadFault → Rose old.faults.reads new.faults.reads
   pub faults : FaultsGrow (IsFault did) old.faults new.faults
+  pub unfailed : event.refused ≢ Some refusal.ReadFault → (IsFault did → ⊥) → NoFault old.faults new.faults
 
 -- ---- an event
 
@@ -155,8 +159,8 @@ abbrev pub GivesNew : Run → RunEvent → Type 0
 GivesNew run event = All (λ guid. was_given run guid ≡ false) event.given
 
 -- What an event did, of a run and of lists: which event of the run it was and what it answered, that what it found agrees with
--- the run, the lists that the store shows now, that the run with it has come to the store, what a crash within it leaves, and
--- how its request ended, if it did.
+-- the run, the lists that the store shows now, that the run with it has come to the store, what a crash within it leaves, that at
+-- each of its moments storage files and instances have what its map needed as it began, and how its request ended, if it did.
 pub record DidEvent (around after : Around) (run : Run) (lane place : ℕ) (said : List Reply) (request : Request) (lists : Lists) (old new : Seen) (did : Did) (ended : Option Reply) : Type 0 where
   pub left : Lists
   pub shown : ShowsSeen new left
@@ -166,6 +170,7 @@ pub record DidEvent (around after : Around) (run : Run) (lane place : ℕ) (said
   pub gives : GivesNew run makes.event
   pub went : Went did request run lists left makes.event makes.answer old new
   pub grows : Grows old.history new.history
+  pub mail : MailIsKept old.map old.history new.history
   pub ends : EndsRequest request said makes.event makes.answer ended did old new
 
 -- The clause of a task's step: of every run that has come to the store, of any lists that it shows, and where the task stands

@@ -4,8 +4,9 @@ use Rattle.mdbox_base.specs.declared.entries.InstRow.{InstRow}
 use Rattle.list_machine.specs.Run.{RunEvent, is_unpinning}
 use Rattle.task_steps.specs.Step.{Seen}
 
--- an event that pins, unpins, dooms and removes no file, places and removes no instance, and gives no GUID
+-- an event that makes, pins, unpins, dooms and removes no file, places and removes no instance, and gives no GUID
 pub record LeavesFiles (event : RunEvent) : Type 0 where
+  pub made : event.made ≡ []
   pub pins : event.pins ≡ []
   pub unpins : is_unpinning event ≡ false
   pub doomed : event.doomed ≡ []

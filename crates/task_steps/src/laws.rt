@@ -1,24 +1,26 @@
 // Events of tasks compose.
-ghost use Rattle.std.specs.Prelude.{◌≡◌, ◌≢◌, true, false, ◌≤◌, ◌<◌, ◌+◌, nat_lt, All, length, ◌++◌, ◌∷◌, [], ℕ, List, Option, Some, None, is_some, map, count_by, slice_get};
+ghost use Rattle.std.specs.Prelude.{◌≡◌, ◌≢◌, ◌⊎◌, true, false, ◌≤◌, ◌<◌, ◌+◌, nat_lt, All, length, ◌++◌, ◌∷◌, [], ℕ, List, Option, Some, None, is_some, map, count_by, slice_get};
 ghost use Rattle.std.specs.List.{list_any};
 ghost use Rattle.mdbox_base.specs.declared.entries.InstRow.{InstRow};
 ghost use Rattle.mdbox_base.specs.declared.requests.Request.{Request};
 ghost use Rattle.mdbox_base.specs.declared.replies.Reply.{Reply};
 ghost use Rattle.model_lists.specs.Lists.{Mailbox, Lists};
-ghost use Rattle.list_machine.specs.Run.{First, RunEvent, Run, and_then, own_events, reply_of, given_by_others, is_one_of, is_pinned, is_doomed};
+ghost use Rattle.list_machine.specs.Run.{First, RunEvent, Run, and_then, map_of, own_events, reply_of, given_by_others, is_one_of, is_pinned, is_doomed};
 ghost use Rattle.journal.specs.Journal.{Requests, JournalStep, left_by, Broken, no_broken, HasReply, is_read_fault, steps_of};
 ghost use Rattle.journal.specs.Events.{Around, IsRecord, makes_step, is_faulted, begun_in, ended_in, due_of, number_of, was_pinned};
-ghost use Rattle.journal.specs.Found.{is_same_instance, is_known_instance};
+ghost use Rattle.journal.specs.Found.{is_known_file, is_same_instance, is_known_instance};
 ghost use Rattle.journal.specs.Makes.{HasCome, WouldDo, steps_made, AreReplies, AreTold};
 ghost use Rattle.journal.specs.GoesOn.{RepliesAlso};
-ghost use Rattle.disk_model.specs.Disk.{History, Faults, told_calls, Grows};
+ghost use Rattle.disk_model.specs.Disk.{History, Faults, IfTold, IsImage, reading, told_calls, Grows};
+ghost use Rattle.disk_model.specs.FaultCounts.{NoFault};
+ghost use Rattle.model_kept.specs.Kept.{MailIsKept};
 ghost use Rattle.mdbox_base.specs.declared.ids.Uid.{Uid};
 ghost use Rattle.mdbox_base.specs.declared.replies.Reply.TheVariants as reply;
 ghost use Rattle.mdbox_base.specs.declared.requests.Request.TheVariants as request;
 ghost use Rattle.model_meaning.specs.BoxMeaning.{BoxMeaning};
 ghost use Rattle.mdbox_base.specs.declared.entries.MapEntry.TheVariants as entry;
 ghost use Rattle.model_meaning.specs.MapFits.{MapFits};
-ghost use Rattle.model_meaning.specs.MapMeaning.{MapRecord};
+ghost use Rattle.model_meaning.specs.MapMeaning.{MapRecord, is_sealed};
 ghost use Rattle.list_machine.specs.Machine.{mailbox_named, expunge, first_refusal, part_checks};
 ghost use Rattle.journal.specs.Stages.{Stage, ToRemove, ToLower, removal};
 ghost use Rattle.task_steps.specs.ExpungeStages.{StandsAtStage, one_due, behind_box, behind_lowering};
@@ -34,7 +36,7 @@ pub fn events_go_on()
     ensures start { (start : Lists) (script : Requests) (run : Run) (replies : List (Option Reply)) (now : Seen) → run.events ≡ [] → HasComeTo run now → ShowsSeen now start → now.stopped ≡ false
         → ((i : ℕ) (given : Reply) → HasReply replies i given → ⊥) → count_by is_read_fault replies ≡ 0 → Serves start script run [] no_broken replies now now }
     ensures on { (start : Lists) (script : Requests) (run : Run) (journal : List JournalStep) (broken : Broken) (replies : List (Option Reply)) (began now new : Seen) (around after : Around) (lane place : ℕ) (request : Request) (how : Did) (ended : Option Reply) → Serves start script run journal broken replies began now
-        → IsTurn script journal replies lane place request → (d : DidEvent around after run lane place (map (λ s. s.answer) (steps_of place journal)) request (left_by start journal) now new how ended)
+        → IsTurn script journal replies lane place request → (d : DidEvent around after run lane place (map (λ s. s.answer) (steps_of place journal)) request (left_by start journal) now new how ended) → IfTold now.history (λ disk. IsImage disk (λ name. reading (disk name)))
         → (next : Broken) × Serves start script (and_then run d.makes.event) (journal ++ steps_made run request d.makes.event d.makes.answer d.left) next replies began new
         × (WouldDo script start run journal broken → WouldDo script start (and_then run d.makes.event) (journal ++ steps_made run request d.makes.event d.makes.answer d.left) next) }
 
@@ -86,6 +88,8 @@ pub fn stores_tell()
     // An event places an instance that none can have removed: it is there, and so it stays with every event that removes none.
     ensures placed { (run : Run) (event : RunEvent) (seen : Seen) (instance : InstRow) → HasComeTo run seen → seen.gone instance ≡ false → event.gone ≡ [] → list_any (is_same_instance instance) event.placed ≡ true → is_known_instance (and_then run event) instance ≡ true }
     ensures known { (run : Run) (event : RunEvent) (instance : InstRow) → event.gone ≡ [] → is_known_instance run instance ≡ true → is_known_instance (and_then run event) instance ≡ true }
+    // A file that isn't sealed and is known behind the event is one that the store knew, or that the event made.
+    ensures files { (run : Run) (event : RunEvent) (seen : Seen) (file : ℕ) → HasComeTo run seen → seen.stopped ≡ false → event.removed ≡ [] → is_sealed (map_of (and_then run event)) file ≡ false → is_known_file (and_then run event) file ≡ true → (seen.files file ≡ true) ⊎ (is_one_of event.made file ≡ true) }
     // The run comes on with an event that leaves files and GUIDs.
     ensures on { (run : Run) (event : RunEvent) (old new : Seen) → HasComeTo run old → HasCome (and_then run event) new.map new.drawn (told_calls new.history) → ((uid : ℕ) → new.due uid + ended_in uid event ≡ old.due uid + begun_in uid event)
         → LeavesFiles event → TellsSame old new → HasComeTo (and_then run event) new }
@@ -103,10 +107,10 @@ pub fn replies_go_on()
 pub fn expunges_step_twice()
     ensures removing { (around after : Around) (run : Run) (lane place : ℕ) (said : List Reply) (name : List ℕ) (uid : Uid) (lists : Lists) (old : Seen) (meanings : List BoxMeaning) (history : Option History) (faults : Faults) (mailbox : Mailbox) (row : MapRecord)
         → HasComeTo run old → StandsAtStage ToRemove run place said → old.stopped ≡ false → first_refusal run lists (part_checks run (removal lane place mailbox uid row.uid (told_calls history)) (request.Expunge name uid) First) ≡ None
-        → mailbox_named name lists ≡ Some mailbox → IsRecord run lists name uid.0 row → ShowsSeen (behind_box old meanings row.uid history faults) (expunge name uid.0 lists) → Leads lists (expunge name uid.0 lists) old (behind_box old meanings row.uid history faults) → Grows old.history history → old.faults.reads ≤ faults.reads → old.faults.changes ≤ faults.changes
+        → mailbox_named name lists ≡ Some mailbox → IsRecord run lists name uid.0 row → ShowsSeen (behind_box old meanings row.uid history faults) (expunge name uid.0 lists) → Leads lists (expunge name uid.0 lists) old (behind_box old meanings row.uid history faults) → Grows old.history history → MailIsKept old.map old.history history → NoFault old.faults faults
         → (d : DidEvent around after run lane place said (request.Expunge name uid) lists old (behind_box old meanings row.uid history faults) (did.Step half.Whole) None) × StandsAtStage (ToLower row.uid) (and_then run d.makes.event) place (and_told said d.makes.answer) }
     ensures lowering { (around after : Around) (run : Run) (lane place : ℕ) (said : List Reply) (name : List ℕ) (uid : Uid) (lists : Lists) (old : Seen) (owed : ℕ) (due : ℕ → ℕ) (history : Option History) (faults : Faults)
-        → HasComeTo run old → StandsAtStage (ToLower owed) run place said → old.stopped ≡ false → MapFits old.map (entry.D (record { 0 = owed } ∷ [])) → ((uid : ℕ) → due uid + one_due owed uid ≡ old.due uid) → ShowsSeen (behind_lowering old owed due history faults) lists → Leads lists lists old (behind_lowering old owed due history faults) → Grows old.history history → old.faults.reads ≤ faults.reads → old.faults.changes ≤ faults.changes
+        → HasComeTo run old → StandsAtStage (ToLower owed) run place said → old.stopped ≡ false → MapFits old.map (entry.D (record { 0 = owed } ∷ [])) → ((uid : ℕ) → due uid + one_due owed uid ≡ old.due uid) → ShowsSeen (behind_lowering old owed due history faults) lists → Leads lists lists old (behind_lowering old owed due history faults) → Grows old.history history → MailIsKept old.map old.history history → NoFault old.faults faults
         → DidEvent around after run lane place said (request.Expunge name uid) lists old (behind_lowering old owed due history faults) did.Quiet (Some reply.Done) }
     ensures kept { (stage : Stage) → IsKept (StandsAtStage stage) }
 {}

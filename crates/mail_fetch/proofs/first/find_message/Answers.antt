@@ -25,7 +25,7 @@ returns-clause-pinned g c =
     let entry = told_is _ c.args.store.now.map c.in_ok-row.row.map_uid.0 _ has.0 _ c.in-Some-Some.entry c.map-map.ensures has.1 c.row.ensures c.in-Some-Some.is-0 in
     let instances = told_is _ c.args.store.now.map c.in_ok-row.row.map_uid.0 _ has.0 _ c.in-Some-Some.instances.now c.map-map.ensures has.1 c.instances.ensures (ap option_copied c.in-Some-Some.is-1) in
     let row : LogRow = record { uid = c.in_ok-row.row.uid.0; flags = c.in_ok-row.row.flags; time = c.in_ok-row.row.time; size = c.in_ok-row.row.size; map_uid = c.in_ok-row.row.map_uid.0; guid = c.in_ok-row.row.guid.0 } in
-    ok_mapped _ _ _ _ _ c.map_err.ensures.cases c.of.ensures (λ region is.
+    ok_mapped _ _ _ _ _ c.map_err.ensures.cases c.of.ensures.unread (λ region is.
     pinned_by c.args.store.now c.args.name.now c.args.uid.0 _ row has.0 _ region (sym c.stopped.ensures ∙ c.if-stopped.false) named listed has.1 has.2
     (stored_same c.in-Some-Some.entry _ c.in-Ok.instances _ row has.0 (λ e rows. record { file = e.file; offset = e.offset; size = e.size; guid = e.guid; listed = c.in_ok-row.row.size; instances = rows }) entry (c.in-Ok.ensures ∙ instances) refl) is)
 
@@ -41,4 +41,4 @@ returns-then-is_none-clause-refused g c =
 pub returns-clause-there : goal.returns-clause-there
 returns-clause-there g c =
     let end = some_end c.end_of.result _ c.if-is_none.ensures c.end_of.ensures in
-    ok_mapped _ _ _ (λ (region : RegionValue). (n : ℕ) × (end_in region.from.file.0 c.args.store.now.files.files ≡ Some n)) _ c.map_err.ensures.cases c.of.ensures (λ region is. (end.0, ap (λ (r : RegionValue). end_in r.from.file.0 c.args.store.now.files.files) is ∙ end.1))
+    ok_mapped _ _ _ (λ (region : RegionValue). (n : ℕ) × (end_in region.from.file.0 c.args.store.now.files.files ≡ Some n)) _ c.map_err.ensures.cases c.of.ensures.unread (λ region is. (end.0, ap (λ (r : RegionValue). end_in r.from.file.0 c.args.store.now.files.files) is ∙ end.1))

@@ -8,7 +8,7 @@ use Rattle.storage_files.specs.Files.{end_in}
 use Rattle.mail_fetch.specs.Region.{RegionValue}
 use Rattle.mail_fetch.specs.declared.task.FetchStage.TheVariants as stage
 use Rattle.mail_fetch.specs.declared.parts.StoredAt.{StoredAt}
-use Rattle.mail_fetch.proofs.FirstEventLemmas.{pinned_left, pinned_fewer, pinned_region, pinned_rows}
+use Rattle.mail_fetch.proofs.FirstEventLemmas.{pinned_left, pinned_region, pinned_rows}
 use Rattle.mail_fetch.proofs.ReadyLemmas.{pinned_ready}
 use Rattle.mail_fetch.proofs.task.begin.Goals as goal
 
@@ -41,6 +41,3 @@ returns-in-Ok-clause-ready g c =
 
 pub returns-in-Ok-clause-left : goal.returns-in-Ok-clause-left
 returns-in-Ok-clause-left g c = pinned_left _ c.args.store.now c.args.name.now c.args.uid.0 c.in-Ok.region c.facts.ensures.store c.in-Ok.ensures.pinned.1
-
-pub returns-in-Ok-clause-fewer : goal.returns-in-Ok-clause-fewer
-returns-in-Ok-clause-fewer g c = λ more. pinned_fewer c.args.store.now c.args.name.now c.args.uid.0 c.in-Ok.region c.in-Ok.ensures.pinned.1

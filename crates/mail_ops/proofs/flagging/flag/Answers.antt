@@ -52,6 +52,8 @@ returns-in-Ok-clause-does g c = λ around after pins run lane place said lists c
         moments = λ ls. c.in-Ok.ensures.any_moment ls [] (brings_none c.args.store.now.map c.args.uid c.bits.result [] (g.D.Disk.history c.args.store.now.disk));
         reads = let same = c.in-Ok.ensures.fault.reads in omega (arith, same);
         changes = c.in-Ok.ensures.fault.changes;
+        mail = c.in-Ok.ensures.mail_stays c.args.store.now.map;
+        unfailed = λ runs. c.in-Ok.ensures.unfailed;
       })
       (not_true _ (λ e. ok_is_none _ (c.in-Ok.ensures.stopped.1 e))) c.in-Ok.ensures.taken (λ ls. c.in-Ok.ensures.settled ls [] (brings_none c.args.store.now.map c.args.uid c.bits.result [] (g.D.Disk.history c.args.store.now.disk))),
   λ e. absurd (never_more _ e),
@@ -71,6 +73,8 @@ returns-in-Err-Stopped-clause-does g c = λ around after pins run lane place sai
         moments = λ ls. c.in-Err-Stopped.ensures.any_moment ls [] (brings_none c.args.store.now.map c.args.uid c.bits.result [] (g.D.Disk.history c.args.store.now.disk));
         reads = let same = c.in-Err-Stopped.ensures.fault.reads in omega (arith, same);
         changes = c.in-Err-Stopped.ensures.fault.changes;
+        mail = c.in-Err-Stopped.ensures.mail_stays c.args.store.now.map;
+        unfailed = λ runs. absurd (fall _ (c.in-Err-Stopped.ensures.stopped.0 (ap Err c.in-Err-Stopped.field-0-is)) runs);
       })
       (c.in-Err-Stopped.ensures.stopped.0 (ap Err c.in-Err-Stopped.field-0-is)) (c.in-Err-Stopped.ensures.untaken refl).0 (c.in-Err-Stopped.ensures.fault.rose (ap Err c.in-Err-Stopped.field-0-is)),
   λ e. absurd (never_more _ e),

@@ -1,6 +1,7 @@
 use Rattle.std.proofs.Common.{rules, ◌<◌, ◌≤◌, ◌^◌, ◌∙◌, ap, sym, subst, refl, arith, ℕ, List, length}
 use Rattle.disk_model.specs.Disk.{IfTold}
 use Rattle.disk_model.specs.declared.name.FileName.TheVariants.{Mail}
+use Rattle.mdbox_base.specs.Words.{IsName}
 use Rattle.mdbox_base.specs.declared.entries.InstRow.{InstRow}
 use Rattle.mdbox_base.specs.declared.ids.FileNo.{FileNo}
 use Rattle.mdbox_base.specs.declared.progress.Progress.TheVariants as progress
@@ -50,7 +51,7 @@ returns-in-Ok g c = λ size_now.
     let laid = c.place_region.new.laid in
     let runs = is_false new.stopped (λ e. never_true (o.stopped.1 e)) in
     let timed : c.args.time < 2 ^ 64 = search rules in
-    let some : 1 ≤ length parts.laid.region = (region_short c.args.name.now c.args.time parts old before c.known_name.ensures timed c.requires.left.0).0 in
+    let some : 1 ≤ length parts.laid.region = (region_short c.args.name.now c.args.time parts old before (subst IsName c.as_octets-name.ensures.same c.as_octets-name.ensures.name) timed c.requires.left.0).0 in
     let size = o.size in
     let same = ap (λ v. v.instances) o.same in
     let keeps = placed_keeps laid.region c.args.file.0 old new before after same o.appended in
@@ -74,7 +75,7 @@ returns-in-Ok g c = λ size_now.
       mail = λ ran prepared is. subst (λ (region : List ℕ). HasAppended region c.args.file.0 before after) (o.set c.args.name.now c.args.time prepared (ids_in parts.rows) unknown_guid is.laid).region o.appended;
       ready = λ e octets h. (
         h.0,
-        region_ready at_place parts.rows c.args.name.now c.args.time octets h.1.prepared laid after (record { named = c.known_name.ensures; timed = timed; small = h.0.1; form = h.1.form })
+        region_ready at_place parts.rows c.args.name.now c.args.time octets h.1.prepared laid after (record { named = (subst IsName c.as_octets-name.ensures.same c.as_octets-name.ensures.name); timed = timed; small = h.0.1; form = h.1.form })
             (o.set c.args.name.now c.args.time h.1.prepared (ids_in parts.rows) unknown_guid h.1.laid.laid) (o.long ∙ sym size) (instances_are parts.rows h.1.prepared.parts old.instances.known before h.1.found h.1.one_each)
             (subst (λ (f : FileNo). IfTold after (λ now. EndsWith at_place.offset laid.region (now (Mail f.0)))) (sym o.file) o.written)
             (instances_there parts.rows h.1.prepared.parts new.instances.known after (of_parts_kept parts.rows h.1.prepared.parts old new before after keeps h.1.found) h.1.one_each)

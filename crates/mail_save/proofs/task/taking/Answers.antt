@@ -1,4 +1,5 @@
 use Rattle.std.proofs.Common.{rules, ◌≡◌, ◌<◌, ◌^◌, ◌∙◌, ap, sym, subst, refl, arith, ℕ, List, Err, length}
+use Rattle.mdbox_base.specs.Words.{IsName}
 use Rattle.mdbox_base.specs.declared.entries.InstRow.{InstRow}
 use Rattle.mdbox_base.specs.declared.progress.Progress.TheVariants as progress
 use Rattle.mdbox_base.specs.declared.replies.Reply.TheVariants as reply
@@ -26,7 +27,7 @@ use Rattle.mail_save.proofs.task.taking.Goals as goal
 pub overflow_cast-size : goal.overflow_cast-size
 overflow_cast-size g c =
     let timed : c.args.time < 2 ^ 64 = search rules in
-    let short = region_short c.args.name.now c.args.time c.args.parts c.args.store.now _ c.known_name.ensures timed c.requires.left in
+    let short = region_short c.args.name.now c.args.time c.args.parts c.args.store.now _ (subst IsName c.as_octets-name.ensures.same c.as_octets-name.ensures.name) timed c.requires.left in
     let least = short.0 in
     let most = short.1 in
     let is = ap length c.region.ensures in
@@ -35,7 +36,7 @@ overflow_cast-size g c =
 pub take_file-requires-clause-size : goal.take_file-requires-clause-size
 take_file-requires-clause-size g c =
     let timed : c.args.time < 2 ^ 64 = search rules in
-    let most = (region_short c.args.name.now c.args.time c.args.parts c.args.store.now _ c.known_name.ensures timed c.requires.left).1 in
+    let most = (region_short c.args.name.now c.args.time c.args.parts c.args.store.now _ (subst IsName c.as_octets-name.ensures.same c.as_octets-name.ensures.name) timed c.requires.left).1 in
     let is = ap length c.region.ensures in
     let short = header_short c.args.name.now c.args.time c.args.parts c.args.store.now _ timed c.requires.left in
     let header = ap length c.as_slice.ensures in

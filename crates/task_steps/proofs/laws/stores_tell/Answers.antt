@@ -1,4 +1,4 @@
-use Rattle.task_steps.proofs.SeenLemmas.{due_is, is_new, pinned_as, never_used, first_doomed, instance_still_known, places_new, comes_to_on}
+use Rattle.task_steps.proofs.SeenLemmas.{due_is, is_new, pinned_as, never_used, first_doomed, instance_still_known, places_new, comes_to_on, there_before}
 use Rattle.task_steps.proofs.laws.stores_tell.Goals as goal
 
 pub returns-clause-due : goal.returns-clause-due
@@ -27,3 +27,6 @@ returns-clause-on c = comes_to_on
 
 pub returns-clause-instances : goal.returns-clause-instances
 returns-clause-instances c = λ run seen instance h runs. (h.keeps runs).instances instance
+
+pub returns-clause-files : goal.returns-clause-files
+returns-clause-files c = λ run event seen file h runs none unsealed known. there_before run event seen file (h.keeps runs) none unsealed known

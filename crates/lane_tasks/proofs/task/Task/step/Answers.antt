@@ -1,11 +1,20 @@
-use Rattle.std.proofs.Common.{sym, subst}
+use Rattle.std.proofs.Common.{◌≡◌, ◌<◌, Bool, true, false, refl, sym, ◌∙◌, ap, subst}
+use Rattle.std.specs.Prelude.{◌↔◌}
+use Rattle.mdbox_base.specs.declared.progress.Progress.{Progress}
+use Rattle.mdbox_base.specs.declared.progress.Progress.TheVariants as progress
+use Rattle.mdbox_base.specs.declared.replies.Refusal.TheVariants as refusal
+use Rattle.mdbox_base.specs.declared.replies.Reply.TheVariants as reply
+use Rattle.store_core.specs.Value.{StoreValue}
+use Rattle.task_claims.specs.Claims.{MovesClaims}
 use Rattle.task_claims.specs.Leaving.{LeavesOthers}
 use Rattle.task_steps.specs.Step.{ended_by}
 use Rattle.lane_tasks.specs.Clause.{StepsTask}
-use Rattle.lane_tasks.specs.Tasks.{claims_at}
+use Rattle.lane_tasks.specs.Tasks.{IsReadyTask, IsTaskOf, claims_at, work_left}
 use Rattle.lane_tasks.specs.declared.task.Task.{Task}
 use Rattle.lane_tasks.specs.declared.task.Task.TheVariants as task
-use Rattle.lane_tasks.proofs.StepLemmas.{copy_does, counts_does, expunge_does, make_does, move_does, ops_asked, ops_does}
+use Rattle.mail_fetch.proofs.StageLemmas.{used_doomed, used_only, used_runs}
+use Rattle.mail_save.proofs.SaveReadyLemmas.{left_with_room}
+use Rattle.lane_tasks.proofs.StepLemmas.{copy_does, counts_does, deliver_does, deliver_ran, deliver_stays_of, doomed_as, doomed_rest, expunge_does, fetch_does, fetch_halts, logs_files, make_does, make_fewer, make_numbered, move_does, ops_asked, ops_does, ops_halted, ran_before, ready_as, rest_files, stays_stopped, unpins_undoomed, use_room}
 use Rattle.lane_tasks.proofs.task.Task.step.Goals as goal
 
 pub returns-in-Ops-clause-does : goal.returns-in-Ops-clause-does
@@ -45,3 +54,142 @@ returns-in-Make-clause-leaves g c = λ runs.
 pub returns-in-Expunge-clause-leaves : goal.returns-in-Expunge-clause-leaves
 returns-in-Expunge-clause-leaves g c = λ runs.
     subst (λ (t : Task). LeavesOthers (claims_at t) c.args.store.now c.step-in-Expunge.new.store (g.D.Disk.history c.args.store.now.disk) (g.D.Disk.history c.step-in-Expunge.new.store.disk)) (sym c.in-Expunge.is) (c.step-in-Expunge.ensures.leaves runs)
+
+-- a make that goes on ran in a store that runs
+make_ran : {D : Type 0} → (old new : StoreValue D) (answer : Progress) → ((answer ≡ progress.Done (reply.Refused refusal.Stopped)) ↔ (new.stopped ≡ true)) → (old.stopped ≡ true → new ≡ old) → answer ≡ progress.More → old.stopped ≡ false
+make_ran old new answer halts still more = by_test new.stopped refl
+  where
+    by_test : (b : Bool) → new.stopped ≡ b → old.stopped ≡ false
+    by_test true is = absurd (let k : progress.More ≡ progress.Done (reply.Refused refusal.Stopped) = sym more ∙ halts.1 is in cc k)
+    by_test false is = ran_before old.stopped new.stopped (λ stopped. ap (λ (s : StoreValue _). s.stopped) (still stopped) ∙ stopped) is
+
+pub returns-in-Make-clause-ready : goal.returns-in-Make-clause-ready
+returns-in-Make-clause-ready g c = λ more runs.
+    let step = c.step-in-Make.ensures in
+    let ran = make_ran c.args.store.now c.step-in-Make.new.store c.step-in-Make.result step.stopped (λ stopped. (step.still stopped).0) more in
+    (step.ready runs, make_numbered c.in-Make.task.name c.in-Make.task.stage c.step-in-Make.new.self.stage c.args.store.now c.step-in-Make.new.store _ _ c.step-in-Make.result (step.replies ran) more)
+
+pub returns-in-Make-clause-left : goal.returns-in-Make-clause-left
+returns-in-Make-clause-left g c = λ more.
+    let step = c.step-in-Make.ensures in
+    let ran = make_ran c.args.store.now c.step-in-Make.new.store c.step-in-Make.result step.stopped (λ stopped. (step.still stopped).0) more in
+    subst (λ (t : Task). work_left (task.Make c.step-in-Make.new.self) c.step-in-Make.new.store < work_left t c.args.store.now) (sym c.in-Make.is)
+    (make_fewer c.in-Make.task.name c.in-Make.task c.step-in-Make.new.self c.args.store.now c.step-in-Make.new.store _ _ c.step-in-Make.result (step.replies ran) more (step.left more))
+
+-- ---- a fetch
+
+pub step-requires-in-Fetch-clause-room : goal.step-requires-in-Fetch-clause-room
+step-requires-in-Fetch-clause-room g c = λ runs. use_room c.in-Fetch.task.stage c.args.store.now (c.requires.room runs).uses
+
+pub returns-in-Fetch-clause-does : goal.returns-in-Fetch-clause-does
+returns-in-Fetch-clause-does g c =
+    subst (λ (t : Task). StepsTask t (task.Fetch c.step-in-Fetch.new.self) c.args.store.now c.step-in-Fetch.new.store (g.D.Disk.history c.args.store.now.disk) (g.D.Disk.history c.step-in-Fetch.new.store.disk) (g.D.Disk.faults c.args.store.now.disk) (g.D.Disk.faults c.step-in-Fetch.new.store.disk) (ended_by c.step-in-Fetch.result)) (sym c.in-Fetch.is)
+    (fetch_does c.in-Fetch.task c.step-in-Fetch.new.self c.args.store.now c.step-in-Fetch.new.store (g.D.Disk.history c.args.store.now.disk) (g.D.Disk.history c.step-in-Fetch.new.store.disk) (g.D.Disk.faults c.args.store.now.disk) (g.D.Disk.faults c.step-in-Fetch.new.store.disk) (ended_by c.step-in-Fetch.result) c.step-in-Fetch.ensures.request
+    (λ runs. unpins_undoomed c.in-Fetch.task.stage c.args.store.now (c.requires.room runs).undoomed) c.step-in-Fetch.ensures.does)
+
+-- a store that runs after an event of a fetch ran before it
+pub returns-in-Fetch-clause-claims : goal.returns-in-Fetch-clause-claims
+returns-in-Fetch-clause-claims g c = λ runs.
+    let ran = used_runs c.in-Fetch.task.stage c.step-in-Fetch.new.self.stage c.args.store.now c.step-in-Fetch.new.store c.step-in-Fetch.ensures.alone.same runs in
+    subst (λ (t : Task). MovesClaims (claims_at t) (claims_at (task.Fetch c.step-in-Fetch.new.self)) c.args.store.now c.step-in-Fetch.new.store) (sym c.in-Fetch.is)
+    (c.step-in-Fetch.ensures.claims runs (unpins_undoomed c.in-Fetch.task.stage c.args.store.now (c.requires.room ran).undoomed))
+
+pub returns-in-Fetch-clause-leaves : goal.returns-in-Fetch-clause-leaves
+returns-in-Fetch-clause-leaves g c = λ runs.
+    subst (λ (t : Task). LeavesOthers (claims_at t) c.args.store.now c.step-in-Fetch.new.store (g.D.Disk.history c.args.store.now.disk) (g.D.Disk.history c.step-in-Fetch.new.store.disk)) (sym c.in-Fetch.is) (c.step-in-Fetch.ensures.leaves runs)
+
+pub returns-in-Fetch-clause-ready : goal.returns-in-Fetch-clause-ready
+returns-in-Fetch-clause-ready g c = λ more runs. c.step-in-Fetch.ensures.alone.ready runs
+
+-- ---- a store that is stopped, and files that are doomed
+
+pub returns-in-Ops-clause-halted : goal.returns-in-Ops-clause-halted
+returns-in-Ops-clause-halted g c = let r = c.step.ensures.replies in ops_halted c.in-Ops.task.request c.args.store.now c.step.new.store (ops_asked c.in-Ops.task.request c.args.store.now c.step.new.store r.0 r.2) c.step.ensures.same
+
+pub returns-in-Make-clause-halted : goal.returns-in-Make-clause-halted
+returns-in-Make-clause-halted g c = stays_stopped c.args.store.now c.step-in-Make.new.store (λ stopped. (c.step-in-Make.ensures.still stopped).0)
+
+pub returns-in-Copy-clause-halted : goal.returns-in-Copy-clause-halted
+returns-in-Copy-clause-halted g c = stays_stopped c.args.store.now c.step-in-Copy.new.store (λ stopped. (c.step-in-Copy.ensures.still stopped).0)
+
+pub returns-in-Move-clause-halted : goal.returns-in-Move-clause-halted
+returns-in-Move-clause-halted g c = stays_stopped c.args.store.now c.step-in-Move.new.store (λ stopped. (c.step-in-Move.ensures.still stopped).0)
+
+pub returns-in-Expunge-clause-halted : goal.returns-in-Expunge-clause-halted
+returns-in-Expunge-clause-halted g c = stays_stopped c.args.store.now c.step-in-Expunge.new.store (λ stopped. (c.step-in-Expunge.ensures.still stopped).0)
+
+pub returns-in-Fetch-clause-halted : goal.returns-in-Fetch-clause-halted
+returns-in-Fetch-clause-halted g c = λ stopped. ap (λ (s : StoreValue _). s.stopped) (used_only c.in-Fetch.task.stage c.step-in-Fetch.new.self.stage c.args.store.now c.step-in-Fetch.new.store c.step-in-Fetch.ensures.alone.same) ∙ stopped
+
+pub returns-in-Fetch-clause-stopped : goal.returns-in-Fetch-clause-stopped
+returns-in-Fetch-clause-stopped g c = λ stopped.
+    let alone = c.step-in-Fetch.ensures.alone in
+    let was = sym (ap (λ (s : StoreValue _). s.stopped) (used_only c.in-Fetch.task.stage c.step-in-Fetch.new.self.stage c.args.store.now c.step-in-Fetch.new.store alone.same)) ∙ stopped in
+    fetch_halts c.in-Fetch.task.name c.in-Fetch.task.uid.0 c.in-Fetch.task.stage c.step-in-Fetch.new.self.stage c.step-in-Fetch.result c.args.store.now _ _ _ alone.replies was
+
+pub returns-in-Ops-clause-undoomed : goal.returns-in-Ops-clause-undoomed
+returns-in-Ops-clause-undoomed g c = λ runs. doomed_rest c.args.store.now c.step.new.store (rest_files c.args.store.now c.step.new.store c.step.ensures.rest)
+
+pub returns-in-Copy-clause-undoomed : goal.returns-in-Copy-clause-undoomed
+returns-in-Copy-clause-undoomed g c = λ runs. doomed_rest c.args.store.now c.step-in-Copy.new.store (rest_files c.args.store.now c.step-in-Copy.new.store c.step-in-Copy.ensures.rest)
+
+pub returns-in-Move-clause-undoomed : goal.returns-in-Move-clause-undoomed
+returns-in-Move-clause-undoomed g c = λ runs. doomed_rest c.args.store.now c.step-in-Move.new.store (rest_files c.args.store.now c.step-in-Move.new.store c.step-in-Move.ensures.rest)
+
+pub returns-in-Expunge-clause-undoomed : goal.returns-in-Expunge-clause-undoomed
+returns-in-Expunge-clause-undoomed g c = λ runs. doomed_rest c.args.store.now c.step-in-Expunge.new.store (rest_files c.args.store.now c.step-in-Expunge.new.store c.step-in-Expunge.ensures.rest)
+
+pub returns-in-Make-clause-undoomed : goal.returns-in-Make-clause-undoomed
+returns-in-Make-clause-undoomed g c = λ runs. doomed_rest c.args.store.now c.step-in-Make.new.store (logs_files c.args.store.now c.step-in-Make.new.store c.step-in-Make.ensures.rest)
+
+pub returns-in-Fetch-clause-undoomed : goal.returns-in-Fetch-clause-undoomed
+returns-in-Fetch-clause-undoomed g c = λ runs. doomed_as c.args.store.now c.step-in-Fetch.new.store (λ file. used_doomed c.in-Fetch.task.stage c.step-in-Fetch.new.self.stage c.args.store.now c.step-in-Fetch.new.store file c.step-in-Fetch.ensures.alone.same)
+
+-- ---- a delivery
+
+pub step-requires-in-Deliver : goal.step-requires-in-Deliver
+step-requires-in-Deliver g c = record { left = λ runs.
+    let t = c.in-Deliver.task in
+    let ready = subst (λ (k : Task). IsReadyTask k c.args.store.now (g.D.Disk.history c.args.store.now.disk)) c.in-Deliver.is (c.requires.ready runs) in
+    left_with_room t.stage t.name t.time t.size ready.0 c.args.store.now (g.D.Disk.history c.args.store.now.disk) ready.1 (c.requires.room runs).uses.holds }
+
+pub returns-in-Deliver-clause-ready : goal.returns-in-Deliver-clause-ready
+returns-in-Deliver-clause-ready g c = λ more runs.
+    let step = c.step-in-Deliver.ensures in
+    let ran = deliver_ran c.step-in-Deliver.new.self.stage c.args.store.now c.step-in-Deliver.new.store c.step-in-Deliver.result step.ended more in
+    let ready = subst (λ (k : Task). IsReadyTask k c.args.store.now (g.D.Disk.history c.args.store.now.disk)) c.in-Deliver.is (c.requires.ready ran) in
+    (ready.0, ready_as c.in-Deliver.task c.step-in-Deliver.new.self ready.0 c.step-in-Deliver.new.store (g.D.Disk.history c.step-in-Deliver.new.store.disk) step.request (step.ready more ready.0 ready.1))
+
+pub returns-in-Deliver-clause-does : goal.returns-in-Deliver-clause-does
+returns-in-Deliver-clause-does g c =
+    subst (λ (t : Task). StepsTask t (task.Deliver c.step-in-Deliver.new.self) c.args.store.now c.step-in-Deliver.new.store (g.D.Disk.history c.args.store.now.disk) (g.D.Disk.history c.step-in-Deliver.new.store.disk) (g.D.Disk.faults c.args.store.now.disk) (g.D.Disk.faults c.step-in-Deliver.new.store.disk) (ended_by c.step-in-Deliver.result)) (sym c.in-Deliver.is)
+    (let r = c.step-in-Deliver.ensures.request in deliver_does c.in-Deliver.task c.step-in-Deliver.new.self c.args.store.now c.step-in-Deliver.new.store (g.D.Disk.history c.args.store.now.disk) (g.D.Disk.history c.step-in-Deliver.new.store.disk) (g.D.Disk.faults c.args.store.now.disk) (g.D.Disk.faults c.step-in-Deliver.new.store.disk) c.step-in-Deliver.result r c.step-in-Deliver.ensures.claims
+    c.step-in-Deliver.ensures.ready (λ octets pins behind. c.step-in-Deliver.ensures.does octets pins behind))
+
+pub returns-in-Deliver-clause-claims : goal.returns-in-Deliver-clause-claims
+returns-in-Deliver-clause-claims g c = λ runs.
+    subst (λ (t : Task). MovesClaims (claims_at t) (claims_at (task.Deliver c.step-in-Deliver.new.self)) c.args.store.now c.step-in-Deliver.new.store) (sym c.in-Deliver.is) (c.step-in-Deliver.ensures.claims runs)
+
+pub returns-in-Deliver-clause-leaves : goal.returns-in-Deliver-clause-leaves
+returns-in-Deliver-clause-leaves g c = λ runs.
+    subst (λ (t : Task). LeavesOthers (claims_at t) c.args.store.now c.step-in-Deliver.new.store (g.D.Disk.history c.args.store.now.disk) (g.D.Disk.history c.step-in-Deliver.new.store.disk)) (sym c.in-Deliver.is) (c.step-in-Deliver.ensures.leaves runs)
+
+pub returns-in-Deliver-clause-ended : goal.returns-in-Deliver-clause-ended
+returns-in-Deliver-clause-ended g c = c.step-in-Deliver.ensures.ended.unclaimed
+
+pub returns-in-Deliver-clause-stopped : goal.returns-in-Deliver-clause-stopped
+returns-in-Deliver-clause-stopped g c = c.step-in-Deliver.ensures.ended.stopped.1
+
+pub returns-in-Deliver-clause-halted : goal.returns-in-Deliver-clause-halted
+returns-in-Deliver-clause-halted g c = stays_stopped c.args.store.now c.step-in-Deliver.new.store c.step-in-Deliver.ensures.ended.still
+
+pub returns-in-Deliver-clause-undoomed : goal.returns-in-Deliver-clause-undoomed
+returns-in-Deliver-clause-undoomed g c = λ runs. doomed_as c.args.store.now c.step-in-Deliver.new.store (c.step-in-Deliver.ensures.ended.doomed runs)
+
+pub returns-in-Deliver-clause-left : goal.returns-in-Deliver-clause-left
+returns-in-Deliver-clause-left g c = λ more.
+    subst (λ (t : Task). work_left (task.Deliver c.step-in-Deliver.new.self) c.step-in-Deliver.new.store < work_left t c.args.store.now) (sym c.in-Deliver.is) (c.step-in-Deliver.ensures.left more)
+
+pub returns-in-Deliver-clause-request : goal.returns-in-Deliver-clause-request
+returns-in-Deliver-clause-request g c = λ asked is.
+    deliver_stays_of c.in-Deliver.task c.step-in-Deliver.new.self asked c.step-in-Deliver.ensures.request (subst (λ (t : Task). IsTaskOf t asked) c.in-Deliver.is is)

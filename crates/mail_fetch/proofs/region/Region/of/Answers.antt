@@ -1,9 +1,11 @@
-use Rattle.std.proofs.Common.{◌≡◌, length, ◌∙◌, ap, arith}
+use Rattle.std.proofs.Common.{◌≡◌, ◌≤◌, length, List, All, ◌∙◌, sym, ap, subst, arith}
 use Rattle.std.specs.Prelude.{sum_by}
 use Rattle.std.proofs.lemmas.List.{nil_from_length}
 use Rattle.mail_fetch.specs.declared.parts.Part.{Part}
-use Rattle.mail_fetch.specs.Parts.{octets_to_read}
-use Rattle.mail_fetch.proofs.PartLemmas.{total_of_parts}
+use Rattle.mail_fetch.specs.Parts.{octets_to_read, pieces_left}
+use Rattle.mail_fetch.specs.Room.{IsPart}
+use Rattle.mail_fetch.specs.Task.{most_pieces}
+use Rattle.mail_fetch.proofs.PartLemmas.{few_pieces, total_of_parts}
 use Rattle.mail_fetch.proofs.region.Region.of.Goals.{then-instances-gt0, else-instances-gt0}
 use Rattle.mail_fetch.proofs.region.Region.of.Goals as goal
 
@@ -27,3 +29,8 @@ invariant_of-result c =
         ];
       },
     )
+
+pub returns-clause-pieces : goal.returns-clause-pieces
+returns-clause-pieces c = λ few.
+    let parts = c.in_ok-parts.ensures in
+    subst (λ (ps : List Part). pieces_left ps ≤ most_pieces) (sym parts.parts) (few_pieces c.args.from few (subst (All IsPart) parts.parts parts.range))

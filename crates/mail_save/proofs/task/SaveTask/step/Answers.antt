@@ -1,12 +1,11 @@
 use Rattle.std.proofs.Common.{rules, ◌<◌, ◌^◌, refl, sym, ◌∙◌}
 use Rattle.store_core.proofs.BoxCrashLemmas.{leaves_none}
-use Rattle.mail_save.proofs.SaveClaimLemmas.{save_ended, save_moves}
+use Rattle.mail_save.proofs.SaveClaimLemmas.{save_ends, save_moves, stopped_ends}
 use Rattle.mail_save.proofs.SaveDoesLemmas.{IsOpenStore, seen_does, seen_stopped}
 use Rattle.mail_save.proofs.SaveEventLemmas.{done_goes_on, seen_saves, unfallen}
 use Rattle.mail_save.proofs.SaveLeavesLemmas.{save_leaves}
 use Rattle.mail_save.proofs.SaveMomentLemmas.{save_moments, save_rests}
 use Rattle.mail_save.proofs.SaveReadyLemmas.{save_ready}
-use Rattle.mail_save.proofs.SaveUidLemmas.{store_stays, uids_stay}
 use Rattle.mail_save.proofs.task.SaveTask.step.Goals as goal
 
 pub returns-clause-saves : goal.returns-clause-saves
@@ -56,21 +55,6 @@ returns-clause-settled g c = λ ran octets ready lists at.
     let s = seen_saves _ c.args.self.now c.replace-now.result _ _ _ _ _ _ _ _ _ c.self.view_is c.replace-now.ensures.value c.next_event-next.ensures in
     save_rests c.args.self.now.stage _ _ _ _ _ _ c.args.store.now _ _ _ _ _ c.listings_are_shown.ensures.logs c.facts.ensures.store (sym c.stopped.ensures ∙ c.if-stopped.false) (g.met.D.Disk.reads_image c.args.store.now.disk) (c.requires.left (sym c.stopped.ensures ∙ c.if-stopped.false)) s ran octets ready lists at
 
-pub returns-then-stopped-clause-keeps : goal.returns-then-stopped-clause-keeps
-returns-then-stopped-clause-keeps g c = store_stays c.args.store.now c.args.store.now refl
-
-pub returns-clause-keeps : goal.returns-clause-keeps
-returns-clause-keeps g c =
-    let s = seen_saves _ c.args.self.now c.replace-now.result _ _ _ _ _ _ _ _ _ c.self.view_is c.replace-now.ensures.value c.next_event-next.ensures in
-    uids_stay c.args.self.now.stage _ _ _ _ _ c.args.store.now _ s.effects
-
-pub returns-then-stopped-clause-instances : goal.returns-then-stopped-clause-instances
-returns-then-stopped-clause-instances g c = λ ran. absurd (unfallen c.args.store.now.stopped (sym c.stopped.ensures ∙ c.if-stopped.true) ran)
-
-pub returns-clause-instances : goal.returns-clause-instances
-returns-clause-instances g c = λ ran.
-    (seen_saves _ c.args.self.now c.replace-now.result _ _ _ _ _ _ _ _ _ c.self.view_is c.replace-now.ensures.value c.next_event-next.ensures).instances ran
-
 pub returns-then-stopped-clause-ready : goal.returns-then-stopped-clause-ready
 returns-then-stopped-clause-ready g c = λ more. absurd (done_goes_on _ more)
 
@@ -88,12 +72,18 @@ returns-clause-claims g c = λ ran.
     save_moves c.args.self.now.stage _ _ _ _ _ _ c.args.store.now _ _ _ _ _ c.facts.ensures.files (c.requires.left (sym c.stopped.ensures ∙ c.if-stopped.false)) ran s
 
 pub returns-then-stopped-clause-ended : goal.returns-then-stopped-clause-ended
-returns-then-stopped-clause-ended g c = λ given is ran. absurd (unfallen c.args.store.now.stopped (sym c.stopped.ensures ∙ c.if-stopped.true) ran)
+returns-then-stopped-clause-ended g c = stopped_ends _ c.args.store.now (sym c.stopped.ensures ∙ c.if-stopped.true)
 
 pub returns-clause-ended : goal.returns-clause-ended
-returns-clause-ended g c = λ given is ran.
+returns-clause-ended g c =
     let s = seen_saves _ c.args.self.now c.replace-now.result _ _ _ _ _ _ _ _ _ c.self.view_is c.replace-now.ensures.value c.next_event-next.ensures in
-    save_ended c.args.self.now.stage _ _ _ _ _ given c.args.store.now _ s.effects is
+    save_ends c.args.self.now.stage _ _ _ _ _ _ c.args.store.now _ _ _ _ _ (sym c.stopped.ensures ∙ c.if-stopped.false) c.facts.ensures.files (c.requires.left (sym c.stopped.ensures ∙ c.if-stopped.false)) s
+
+pub returns-then-stopped-clause-left : goal.returns-then-stopped-clause-left
+returns-then-stopped-clause-left g c = λ more. absurd (done_goes_on _ more)
+
+pub returns-clause-left : goal.returns-clause-left
+returns-clause-left g c = (seen_saves _ c.args.self.now c.replace-now.result _ _ _ _ _ _ _ _ _ c.self.view_is c.replace-now.ensures.value c.next_event-next.ensures).fewer
 
 pub returns-then-stopped-clause-leaves : goal.returns-then-stopped-clause-leaves
 returns-then-stopped-clause-leaves g c = λ ran. absurd (unfallen c.args.store.now.stopped (sym c.stopped.ensures ∙ c.if-stopped.true) ran)
@@ -101,4 +91,4 @@ returns-then-stopped-clause-leaves g c = λ ran. absurd (unfallen c.args.store.n
 pub returns-clause-leaves : goal.returns-clause-leaves
 returns-clause-leaves g c = λ ran.
     let s = seen_saves _ c.args.self.now c.replace-now.result _ _ _ _ _ _ _ _ _ c.self.view_is c.replace-now.ensures.value c.next_event-next.ensures in
-    save_leaves c.args.self.now.stage _ _ _ _ _ _ c.args.store.now _ _ _ _ _ c.facts.ensures.store (sym c.stopped.ensures ∙ c.if-stopped.false) c.facts.ensures.files (c.requires.left (sym c.stopped.ensures ∙ c.if-stopped.false)) ran s
+    save_leaves c.args.self.now.stage _ _ _ _ _ _ c.args.store.now _ _ _ _ _ c.facts.ensures.store (sym c.stopped.ensures ∙ c.if-stopped.false) c.facts.ensures.files c.facts.ensures.instances.kept.highest (c.requires.left (sym c.stopped.ensures ∙ c.if-stopped.false)) ran s

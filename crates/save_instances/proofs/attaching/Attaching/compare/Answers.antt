@@ -1,8 +1,9 @@
 use Rattle.std.specs.Prelude.{slice_get}
 use Rattle.std.proofs.Common.{◌≡◌, ◌<◌, ◌≤◌, ◌+◌, ℕ, length, Some, sym, ◌∙◌, ap, subst, refl}
+use Rattle.std.proofs.Math.Nat.{le_of_eq, le_refl}
 use Rattle.sis_store.specs.Instances.{InstancesValue}
 use Rattle.store_core.specs.Value.{StoreValue}
-use Rattle.save_instances.specs.Attaching.{AttachingValue, IsAttaching, attach_events_left, next_attachment}
+use Rattle.save_instances.specs.Attaching.{AttachingValue, IsAttaching, attach_events_left, next_attachment, numbers_left}
 use Rattle.save_instances.proofs.AttachCountLemmas.{found_fewer, held_many}
 use Rattle.save_instances.proofs.AttachingLemmas.{compared_on, found_moves, found_on, goes_on_same, of_candidate}
 use Rattle.save_instances.proofs.FoundLemmas.{of_part_kept}
@@ -19,8 +20,9 @@ returns-then-alike-clause-fewer g c =
     let known = ap (λ (s : StoreValue _). s.instances) c.hold.ensures.same in
     let same = ap (λ (s : StoreValue _). s.instances) c.same_octets.ensures.same in
     subst (λ (i : InstancesValue). attach_events_left c.keep.new.self c.hold.new.self.instances < attach_events_left value i) same
-    (found_fewer value c.keep.new.self c.args.candidate c.in-Some.part.now c.same_octets.new.self.instances c.hold.new.self.instances next c.keep.ensures
-    (subst (λ (i : InstancesValue). length i.known ≤ length c.same_octets.new.self.instances.known + 1) (sym known) (held_many c.args.candidate.id _ c.same_octets.new.self.instances.known)))
+    (found_fewer value c.keep.new.self c.args.candidate c.in-Some.part.now c.same_octets.new.self.instances c.hold.new.self.instances next c.keep.ensures (subst (λ (i : InstancesValue). numbers_left i ≤ numbers_left c.same_octets.new.self.instances) (sym known) (le_refl _))
+    (subst (λ (i : InstancesValue). length i.known + numbers_left i ≤ length c.same_octets.new.self.instances.known + numbers_left c.same_octets.new.self.instances) (sym known)
+    (le_of_eq (ap (λ (n : ℕ). n + numbers_left c.same_octets.new.self.instances) (held_many c.args.candidate.id _ c.same_octets.new.self.instances.known)))))
 
 pub returns-then-alike-clause-attaching : goal.returns-then-alike-clause-attaching
 returns-then-alike-clause-attaching g c =

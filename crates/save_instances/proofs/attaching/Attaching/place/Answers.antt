@@ -1,12 +1,12 @@
 use Rattle.std.specs.Prelude.{slice_get}
-use Rattle.std.proofs.Common.{◌≡◌, ◌≤◌, ◌+◌, ℕ, List, length, Some, sym, ◌∙◌, ap, subst, refl}
-use Rattle.sis_store.specs.Instances.{InstancesValue}
+use Rattle.std.proofs.Common.{◌≡◌, ℕ, List, length, Some, sym, ◌∙◌, ap, subst, refl}
+use Rattle.sis_store.specs.Instances.{after_placing}
 use Rattle.store_core.specs.Value.{StoreValue}
 use Rattle.save_instances.specs.Attaching.{AttachingValue, IsAttaching, next_attachment}
 use Rattle.mdbox_base.specs.declared.entries.InstRow.{InstRow}
 use Rattle.store_core.specs.StoreInstances.{IsFirstWith}
 use Rattle.save_instances.specs.Attaching.{IsOfPart}
-use Rattle.save_instances.proofs.AttachCountLemmas.{found_fewer, placed_many}
+use Rattle.save_instances.proofs.AttachCountLemmas.{placed_fewer}
 use Rattle.save_instances.proofs.AttachingLemmas.{found_moves, found_on, unlike_all}
 use Rattle.save_instances.proofs.attaching.Attaching.place.Goals as goal
 
@@ -20,9 +20,8 @@ pub returns-clause-fewer : goal.returns-clause-fewer
 returns-clause-fewer g c =
     let value : AttachingValue = c.args.self.now in
     let next : next_attachment value ≡ Some c.in-Some.part.now = subst (λ (v : AttachingValue). next_attachment v ≡ Some c.in-Some.part.now) c.self.view_is (ap (slice_get c.self.inside.parts) (sym (c.len.ensures ∙ c.self.inside.found.ok.0)) ∙ c.in-Some.ensures.some) in
-    let known = ap (λ (s : StoreValue _). s.instances) c.in_ok-id.ensures.ok in
-    found_fewer value c.keep.new.self _ c.in-Some.part.now c.args.store.now.instances c.place_instance.new.self.instances next c.keep.ensures
-    (subst (λ (i : InstancesValue). length i.known ≤ length c.args.store.now.instances.known + 1) (sym known) (placed_many _ c.args.store.now.instances.known))
+    let known : c.place_instance.new.self.instances ≡ after_placing _ _ c.args.store.now.instances = ap (λ (s : StoreValue _). s.instances) c.in_ok-id.ensures.ok in
+    placed_fewer value c.keep.new.self _ _ _ c.in-Some.part.now c.args.store.now.instances c.place_instance.new.self.instances next c.keep.ensures known c.facts-2.ensures.ids.last
 
 pub returns-clause-attaching : goal.returns-clause-attaching
 returns-clause-attaching g c = λ going.

@@ -1,0 +1,137 @@
+-- Which numbers an event of a delivery draws: instances that it places draw one each, and no mailbox gets one.
+use Rattle.std.proofs.Common.{◌≡◌, ◌≢◌, ◌≤◌, ◌+◌, ℕ, Bool, true, false, List, Option, refl, sym, ◌∙◌, ap, subst, arith, inl, inr, length}
+use Rattle.std.specs.Prelude.{◌<◌, if◌then◌else◌, map}
+use Rattle.std.proofs.Math.Nat.{le-max_left, le_of_eq}
+use Rattle.mdbox_base.specs.declared.entries.InstRow.{InstRow}
+use Rattle.mdbox_base.specs.declared.entries.MapEntry.{MapEntry}
+use Rattle.mdbox_base.specs.declared.ids.Hash.{Hash}
+use Rattle.mdbox_base.specs.declared.progress.Progress.{Progress}
+use Rattle.mdbox_base.specs.declared.progress.Progress.TheVariants as progress
+use Rattle.mdbox_base.specs.declared.replies.Refusal.{Refusal}
+use Rattle.mdbox_base.specs.declared.replies.Refusal.TheVariants as refusal
+use Rattle.mdbox_base.specs.declared.replies.Reply.TheVariants as reply
+use Rattle.model_meaning.specs.MapMeaning.{MapMeaning, map_applied, numbers_of}
+use Rattle.save_instances.proofs.AttachCountLemmas.{AreSameRows, held_rows, let_go_rows, placed_many, same_candidates, same_many}
+use Rattle.save_instances.specs.Attaching.{AttachingValue, candidate_held, found_let_go}
+use Rattle.sis_store.specs.Instances.{InstancesValue, after_placing, holders_in, instance_placed}
+use Rattle.sis_store.specs.declared.instance.KnownInstance.{KnownInstance}
+use Rattle.store_core.specs.Value.{StoreValue}
+use Rattle.task_claims.specs.Leaving.{PlacesFew}
+use Rattle.mail_save.specs.Record.{entry_lowered, entry_stored}
+use Rattle.mail_save.specs.SaveEffects.{AttachesNext, AttachesNone, IsLeftAlone, LetsGo, SaveEffects, StoresNone, TakesNone}
+use Rattle.mail_save.specs.declared.place.SavedAt.{SavedAt}
+use Rattle.mail_save.specs.declared.task.SaveStage.{SaveStage}
+use Rattle.mail_save.specs.declared.task.SaveStage.TheVariants as stage
+use Rattle.mail_save.proofs.SaveAttachLemmas.{few_drawn}
+use Rattle.mail_save.proofs.SaveEventLemmas.{unfallen}
+
+-- ---- instances
+
+abbrev map_rows : List KnownInstance → List InstRow
+map_rows known = map (λ k. k.row) known
+
+held_few : (old new : InstancesValue) → new.highest ≡ old.highest → AreSameRows old.known new.known → PlacesFew old new
+held_few old new high rows = record {
+  drawn = omega (arith, high);
+  few = let many = same_many old.known new.known rows in omega (arith, high, many);
+  candidates = λ same hash size after. le_of_eq (same_candidates old.known new.known rows hash size after);
+  last = λ other. absurd (other high);
+}
+
+placed_few : (hash : Hash) (size : ℕ) (old new : InstancesValue) → new ≡ after_placing hash size old → old.highest < 4294967294 → PlacesFew old new
+placed_few hash size old new is few =
+    let high : new.highest ≡ old.highest + 1 = ap (λ (i : InstancesValue). i.highest) is in
+    let many : length new.known ≤ length old.known + 1 = subst (λ (i : InstancesValue). length i.known ≤ length old.known + 1) (sym is) (placed_many (instance_placed old hash size) old.known) in
+    record { drawn = omega (arith, high); few = omega (arith, high, many); candidates = λ same. absurd (never old.highest new.highest high same); last = λ other. omega (arith, high, few) }
+  where
+    never : (a b : ℕ) → b ≡ a + 1 → b ≡ a → ⊥
+    never a b more same = omega (arith, more, same)
+
+-- ---- numbers of a store
+
+pub record DrawsNumbers {D : Type 0} (old new : StoreValue D) : Type 0 where
+  pub numbers : PlacesFew old.instances new.instances
+  pub mailboxes : old.map.highest.mailbox ≤ new.map.highest.mailbox
+
+same_map : {D : Type 0} → (old new : StoreValue D) → new.map ≡ old.map → old.map.highest.mailbox ≤ new.map.highest.mailbox
+same_map old new map = let same = ap (λ (m : MapMeaning). m.highest.mailbox) map in omega (arith, same)
+
+entry_more : (entry : MapEntry) (m n : MapMeaning) → n ≡ map_applied entry m → m.highest.mailbox ≤ n.highest.mailbox
+entry_more entry m n is = subst (λ (k : MapMeaning). m.highest.mailbox ≤ k.highest.mailbox) (sym is) (le-max_left m.highest.mailbox (numbers_of m.store entry).mailbox)
+
+by_rows : {D : Type 0} → (old new : StoreValue D) → new.map ≡ old.map → new.instances.highest ≡ old.instances.highest → AreSameRows old.instances.known new.instances.known → DrawsNumbers old new
+by_rows old new map high rows = record { numbers = held_few old.instances new.instances high rows; mailboxes = same_map old new map }
+
+keeps_numbers : {D : Type 0} → (old new : StoreValue D) → new.map ≡ old.map → new.instances ≡ old.instances → DrawsNumbers old new
+keeps_numbers old new map instances = by_rows old new map (ap (λ (i : InstancesValue). i.highest) instances) (ap (λ (i : InstancesValue). map_rows i.known) instances)
+
+let_go_numbers : {D : Type 0} → (found : List InstRow) (old left new : StoreValue D) → LetsGo found left new → left.instances ≡ old.instances → old.map.highest.mailbox ≤ left.map.highest.mailbox → DrawsNumbers old new
+let_go_numbers found old left new gone instances mailboxes = record {
+  numbers =
+      held_few old.instances new.instances (ap (λ (v : StoreValue _). v.instances.highest) gone ∙ ap (λ (i : InstancesValue). i.highest) instances)
+      (ap (λ (v : StoreValue _). map_rows v.instances.known) gone ∙ (let_go_rows found left.instances.known ∙ ap (λ (i : InstancesValue). map_rows i.known) instances));
+  mailboxes = subst (λ (v : StoreValue _). old.map.highest.mailbox ≤ v.map.highest.mailbox) (sym gone) mailboxes;
+}
+
+-- ---- by event
+
+attached_numbers : {D : Type 0} → (attaching more : AttachingValue) (old new : StoreValue D) → old.instances.highest ≡ old.drawn.instance → AttachesNext attaching more old new → DrawsNumbers old new
+attached_numbers attaching more old new drawn (inl k) =
+    by_rows old new (ap (λ (v : StoreValue _). v.map) k.same) (ap (λ (v : StoreValue _). v.instances.highest) k.same) (ap (λ (v : StoreValue _). map_rows v.instances.known) k.same ∙ by_test k.alike)
+  where
+    by_test : (alike : Bool) → AreSameRows old.instances.known (if alike then candidate_held k.candidate old.instances.known else old.instances.known)
+    by_test true = held_rows k.candidate.id (holders_in k.candidate.id old.instances.known + 1) old.instances.known
+    by_test false = refl
+attached_numbers attaching more old new drawn (inr k) = record {
+  numbers = placed_few k.part.hash (length k.part.octets) old.instances new.instances (ap (λ (v : StoreValue _). v.instances) k.same) (let few = few_drawn old.drawn.instance k.few in omega (arith, few, drawn));
+  mailboxes = same_map old new (ap (λ (v : StoreValue _). v.map) k.same);
+}
+
+-- of a store that runs still
+unattached_instances : {D : Type 0} → (attaching : AttachingValue) (why : Refusal) (old new : StoreValue D) → new.stopped ≡ false → AttachesNone attaching why old new → (new.instances ≡ old.instances) × (new.map ≡ old.map)
+unattached_instances attaching refusal.Stopped old new runs k = absurd (unfallen new.stopped (ap (λ (v : StoreValue _). v.stopped) k.2) runs)
+unattached_instances attaching refusal.ReadFault old new runs k = (ap (λ (v : StoreValue _). v.instances) k.1, ap (λ (v : StoreValue _). v.map) k.1)
+unattached_instances attaching why old new runs k = (ap (λ (v : StoreValue _). v.instances) k.1, ap (λ (v : StoreValue _). v.map) k.1)
+
+untaken_instances : {D : Type 0} → (size : ℕ) (why : Refusal) (old new : StoreValue D) → TakesNone size why old new → (new.instances ≡ old.instances) × (new.map ≡ old.map)
+untaken_instances size why old new (inl k) = (ap (λ (v : StoreValue _). v.instances) k.1, ap (λ (v : StoreValue _). v.map) k.1)
+untaken_instances size why old new (inr (inl k)) = (ap (λ (v : StoreValue _). v.instances) k.1.same, ap (λ (v : StoreValue _). v.map) k.1.same)
+untaken_instances size why old new (inr (inr k)) = (ap (λ (v : StoreValue _). v.instances) k.1.same, ap (λ (v : StoreValue _). v.map) k.1.same)
+
+unstored_instances : {D : Type 0} → (at : SavedAt) (why : Refusal) (old new : StoreValue D) → StoresNone at why old new → (new.instances ≡ old.instances) × (new.map ≡ old.map)
+unstored_instances at why old new (inl k) = (ap (λ (v : StoreValue _). v.instances) k.1.same, ap (λ (v : StoreValue _). v.map) k.1.same)
+unstored_instances at why old new (inr k) = (ap (λ (v : StoreValue _). v.instances) k.1.same, ap (λ (v : StoreValue _). v.map) k.1.same)
+
+as_same : {D : Type 0} → (old new : StoreValue D) → new ≡ old → DrawsNumbers old new
+as_same old new same = keeps_numbers old new (ap (λ (v : StoreValue _). v.map) same) (ap (λ (v : StoreValue _). v.instances) same)
+
+alone_numbers : {D : Type 0} → (old new : StoreValue D) → IsLeftAlone old new → DrawsNumbers old new
+alone_numbers old new k = keeps_numbers old new (ap (λ (v : StoreValue _). v.map) k.same) (ap (λ (v : StoreValue _). v.instances) k.same)
+
+let_go_same : {D : Type 0} → (found : List InstRow) (old left new : StoreValue D) → LetsGo found left new → (left.instances ≡ old.instances) × (left.map ≡ old.map) → DrawsNumbers old new
+let_go_same found old left new gone k = let_go_numbers found old left new gone k.0 (same_map old left k.1)
+
+pub save_numbers : {D : Type 0} → (now next : SaveStage) (name : List ℕ) (time size : ℕ) (answer : Progress) (old new : StoreValue D) → old.instances.highest ≡ old.drawn.instance → new.stopped ≡ false → SaveEffects now next name time size answer old new → DrawsNumbers old new
+save_numbers (stage.First prepared) (stage.Attaching parts attaching) name time size progress.More old new drawn runs e = as_same old new e.0
+save_numbers (stage.First prepared) (stage.Taking parts) name time size progress.More old new drawn runs e = as_same old new e.0
+save_numbers (stage.First prepared) stage.Ended name time size (progress.Done (reply.Refused why)) old new drawn runs e = as_same old new e
+save_numbers (stage.Attaching parts attaching) (stage.Attaching laid more) name time size progress.More old new drawn runs e = attached_numbers attaching more old new drawn e.1
+save_numbers (stage.Attaching parts attaching) (stage.Taking named) name time size progress.More old new drawn runs e = attached_numbers attaching e.0 old new drawn e.1
+save_numbers (stage.Attaching parts attaching) stage.Ended name time size (progress.Done (reply.Refused why)) old new drawn runs e =
+    let_go_same attaching.found old e.0 new e.2 (unattached_instances attaching why old e.0 (sym (ap (λ (v : StoreValue _). v.stopped) e.2) ∙ runs) e.1)
+save_numbers (stage.Taking parts) (stage.Placing laid file) name time size progress.More old new drawn runs e = keeps_numbers old new (ap (λ (v : StoreValue _). v.map) e.1.same) (ap (λ (v : StoreValue _). v.instances) e.1.same)
+save_numbers (stage.Taking parts) stage.Ended name time size (progress.Done (reply.Refused why)) old new drawn runs e = let_go_same parts.rows old e.0 new e.2 (untaken_instances (length parts.laid.region) why old e.0 e.1)
+save_numbers (stage.Placing parts file) (stage.Storing at rows room) name time size progress.More old new drawn runs e = keeps_numbers old new (ap (λ (v : StoreValue _). v.map) e.same) (ap (λ (v : StoreValue _). v.instances) e.same)
+save_numbers (stage.Placing parts file) stage.Ended name time size (progress.Done (reply.Refused why)) old new drawn runs e = let_go_same parts.rows old e.0 new e.2 (ap (λ (v : StoreValue _). v.instances) e.1.same, ap (λ (v : StoreValue _). v.map) e.1.same)
+save_numbers (stage.Storing at rows room) (stage.Adding added left) name time size progress.More old new drawn runs e =
+    let_go_numbers rows old e.0 new e.2 (ap (λ (v : StoreValue _). v.instances) e.1.same) (entry_more (entry_stored rows added.map_uid at) old.map e.0.map e.1.map)
+save_numbers (stage.Storing at rows room) stage.Ended name time size (progress.Done (reply.Refused why)) old new drawn runs e = let_go_same rows old e.0 new e.2 (unstored_instances at why old e.0 e.1)
+save_numbers (stage.Adding added room) stage.Ended name time size (progress.Done (reply.Saved uid guid)) old new drawn runs e = keeps_numbers old new (ap (λ (v : StoreValue _). v.map) e.1.same) (ap (λ (v : StoreValue _). v.instances) e.1.same)
+save_numbers (stage.Adding added room) stage.Ended name time size (progress.Done (reply.Refused why)) old new drawn runs e = alone_numbers old new e
+save_numbers (stage.Adding added room) (stage.GivingBack uid why left) name time size progress.More old new drawn runs e = as_same old new e.1
+save_numbers (stage.GivingBack uid why room) stage.Ended name time size (progress.Done (reply.Refused given)) old new drawn runs (inl e) = record {
+  numbers = held_few old.instances new.instances (ap (λ (v : StoreValue _). v.instances.highest) e.1.same) (ap (λ (v : StoreValue _). map_rows v.instances.known) e.1.same);
+  mailboxes = entry_more (entry_lowered uid) old.map new.map e.1.map;
+}
+save_numbers (stage.GivingBack uid why room) stage.Ended name time size (progress.Done (reply.Refused given)) old new drawn runs (inr e) = alone_numbers old new e.1
+save_numbers now next name time size answer old new drawn runs e = absurd e
