@@ -23,6 +23,7 @@ use Rattle.mdbox_base.specs.declared.replies.Reply.{Reply}
 use Rattle.mdbox_base.specs.declared.replies.Reply.TheVariants as reply
 use Rattle.mdbox_base.specs.declared.requests.Request.{Request}
 use Rattle.mdbox_base.specs.declared.requests.Request.TheVariants as request
+use Rattle.model_kept.proofs.KeptLemmas.{ReadsImage}
 use Rattle.model_lists.specs.Lists.{ListedMessage, Lists}
 use Rattle.model_meaning.specs.BoxMeaning.{LogRow, BoxMeaning, row_at}
 use Rattle.model_meaning.specs.MapMeaning.{MapRecord, record_at}
@@ -178,6 +179,7 @@ at_use first now = record first { disk = now.disk; files = now.files; instances 
 pub record FetchEvent {D : Type 0} (history : D → Option History) (faults : D → Faults) (name : List ℕ) (uid : Uid) (first d e : StoreValue D) (now next : FetchStage) (how : Did) (answer : Progress) : Type 0 where
   pub does : (around after : Around) → FetchSteps around after name uid now next (at_use first d) (at_use first e) (history d.disk) (history e.disk) (faults d.disk) (faults e.disk) how (ended_by answer)
   pub replies : FetchesNext name uid.0 now next answer (at_use first d) (history d.disk) (faults d.disk) (faults e.disk)
+  pub reads : IfTold (history d.disk) ReadsImage
   pub idle : IsIdle (history d.disk) (history e.disk)
   pub fault : NoChangeFault (faults d.disk) (faults e.disk)
   pub unfailed : (HasFailedRead next → ⊥) → NoFault (faults d.disk) (faults e.disk)
@@ -335,7 +337,7 @@ fetching_on history faults name uid first d e now next how running so event = re
       let to : Seen = seen_in (at_use first e) (history e.disk) (faults e.disk) in
       let u = so.served lists seen u0 safe in
       let s = event.does nothing_found nothing_found u.run 1 0 u.said lists u.goes.serves.come (way_shows (IsAtFetch now from) (request.Fetch name uid) lists lists seen from u) (λ runs. reads_on lists (history first.disk) (history d.disk) so.idle safe) u.stands in
-      let v = way_goes_on (IsAtFetch now from) (IsAtFetch next to) (request.Fetch name uid) lists lists seen from to nothing_found nothing_found how u s.0 (s.1 refl) in
+      let v = way_goes_on (IsAtFetch now from) (IsAtFetch next to) (request.Fetch name uid) lists lists seen from to nothing_found nothing_found how u s.0 event.reads (s.1 refl) in
       kept_lists name uid lists seen to (IsAtFetch next to) s.0.left (fetch_leaves u.run s.0.makes.event name uid lists s.0.left s.0.makes.answer s.0.makes.made) v;
 }
 
@@ -540,7 +542,7 @@ served_ends history faults name uid first d e now next how given running so even
     let to : Seen = seen_in (at_use first e) (history e.disk) (faults e.disk) in
     let u = so.served lists seen u0 safe in
     let s = event.does nothing_found nothing_found u.run 1 0 u.said lists u.goes.serves.come (way_shows (IsAtFetch now from) (request.Fetch name uid) lists lists seen from u) (λ runs. reads_on lists (history first.disk) (history d.disk) so.idle safe) u.stands in
-    way_ends (IsAtFetch now from) (request.Fetch name uid) lists lists given seen from to nothing_found nothing_found how (at_use first e) u k refl refl s.0
+    way_ends (IsAtFetch now from) (request.Fetch name uid) lists lists given seen from to nothing_found nothing_found how (at_use first e) u k refl refl s.0 event.reads
     (λ fault.
     let one = fault_seen name uid.0 now next given (at_use first d) (history d.disk) (faults d.disk) (faults e.disk) from u.run u.said running event.replies u.stands fault in
     let more = count_front is_faulted u.run.events (s.0.makes.event ∷ []) in
@@ -556,6 +558,7 @@ unpins_undoomed (stage.Reading region) s none = tt
 
 -- What a step of the task says, of the store as it was and as it is.
 pub record StepSaid {D : Type 0} (history : D → Option History) (faults : D → Faults) (s t : StoreValue D) (task next : FetchValue) (answer : Progress) : Type 0 where
+  pub reads : IfTold (history s.disk) ReadsImage
   pub does : (around after : Around) → FetchSteps around after task.name task.uid task.stage next.stage s t (history s.disk) (history t.disk) (faults s.disk) (faults t.disk) next.did (ended_by answer)
   pub alone : FetchesAlone task.name task.uid.0 task.stage next.stage next.did answer s t (history s.disk) (history t.disk) (faults s.disk) (faults t.disk)
 
@@ -581,6 +584,7 @@ event_of {D = D} history faults name uid first s t task next answer names uids s
       subst (λ (n : List ℕ). FetchesNext n uid.0 task.stage next.stage answer (at_use first s) (history s.disk) (faults s.disk) (faults t.disk)) names
       (subst (λ (u : Uid). FetchesNext task.name u.0 task.stage next.stage answer (at_use first s) (history s.disk) (faults s.disk) (faults t.disk)) uids
       (subst (λ (v : StoreValue D). FetchesNext task.name task.uid.0 task.stage next.stage answer v (history s.disk) (faults s.disk) (faults t.disk)) same step.alone.replies));
+  reads = step.reads;
   idle = step.alone.idle;
   fault = step.alone.fault;
   unfailed = step.alone.unfailed;

@@ -1,4 +1,3 @@
-pub mod EndLemmas
 pub mod MailStaysLemmas
 pub mod OpenedLemmas
 pub mod RunBeginsLemmas
