@@ -40,7 +40,8 @@ loop-reply-preserved g c =
       room = room_on c.loop-reply.task.name c.loop-reply.task.uid.0 c.loop-reply.task.stage c.step.new.self.stage c.loop-reply.store c.step.new.store (g.D.Disk.history c.loop-reply.store.disk) (g.D.Disk.faults c.loop-reply.store.disk) (g.D.Disk.faults c.step.new.store.disk) runs
           (subst (λ a. FetchesNext c.loop-reply.task.name c.loop-reply.task.uid.0 c.loop-reply.task.stage c.step.new.self.stage a c.loop-reply.store (g.D.Disk.history c.loop-reply.store.disk) (g.D.Disk.faults c.loop-reply.store.disk) (g.D.Disk.faults c.step.new.store.disk)) c.in_default.is step.alone.replies);
       so_far = fetching_on g.D.Disk.history g.D.Disk.faults c.args.name c.args.uid c.args.store.now c.loop-reply.store c.step.new.store c.loop-reply.task.stage c.step.new.self.stage c.step.new.self.did c.requires.running now.so_far
-          (subst (λ a. FetchEvent g.D.Disk.history g.D.Disk.faults c.args.name c.args.uid c.args.store.now c.loop-reply.store c.step.new.store c.loop-reply.task.stage c.step.new.self.stage c.step.new.self.did a) c.in_default.is event);
+          (subst (λ a. FetchEvent g.D.Disk.history g.D.Disk.faults c.args.name c.args.uid c.args.store.now c.loop-reply.store c.step.new.store c.loop-reply.task.stage c.step.new.self.stage c.step.new.self.did a) c.in_default.is event)
+          (subst (λ v. IsStore (g.D.Disk.history c.loop-reply.store.disk) v) now.same c.facts.ensures.store);
     }
 
 pub returns-in-Done-clause-refused : goal.returns-in-Done-clause-refused
