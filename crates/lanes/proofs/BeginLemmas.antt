@@ -59,7 +59,7 @@ seen_come {D} run store history faults at come none = record {
 
 -- ---- a lane
 
-row_of : {X : Type 0} → (f : LaneRow → X) (rows : List LaneRow) (k : ℕ) (value : X) → slice_get (map f rows) k ≡ Some value → (row : LaneRow) × (slice_get rows k ≡ Some row) × (f row ≡ value)
+pub row_of : {X : Type 0} → (f : LaneRow → X) (rows : List LaneRow) (k : ℕ) (value : X) → slice_get (map f rows) k ≡ Some value → (row : LaneRow) × (slice_get rows k ≡ Some row) × (f row ≡ value)
 row_of f [] k value there = absurd (let z : None ≡ Some value = there in cc z)
 row_of f (row ∷ more) zero value there = (row, refl, one_some (f row) value there)
 row_of f (row ∷ more) (suc k) value there = row_of f more k value there
@@ -128,7 +128,7 @@ serving_begins {D} start script run rows store history faults empty come shows r
     s : IsServing (stands_in store history) start script run [] no_broken (unreplied script) (seen_in store history faults) (seen_in store history faults) (map untaken rows)
     s = serving_start (stands_in store history) start script run (seen_in store history faults) (map untaken rows) empty come shows runs all_fresh
 
-none_in_all : {T : Type 0} → (claims : T → Claims) (lanes : List (LaneValue T)) (thing : Thing) → ((k : ℕ) (value : LaneValue T) → slice_get lanes k ≡ Some value → ClaimsNothing (lane_claims claims value)) → 0 ≡ total_claims (map (lane_claims claims) lanes) thing
+pub none_in_all : {T : Type 0} → (claims : T → Claims) (lanes : List (LaneValue T)) (thing : Thing) → ((k : ℕ) (value : LaneValue T) → slice_get lanes k ≡ Some value → ClaimsNothing (lane_claims claims value)) → 0 ≡ total_claims (map (lane_claims claims) lanes) thing
 none_in_all claims [] thing none = refl
 none_in_all claims (a ∷ more) thing none =
     let first : lane_claims claims a thing ≡ 0 = none 0 a refl thing in

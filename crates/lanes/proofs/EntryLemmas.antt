@@ -6,7 +6,7 @@ use Rattle.std.proofs.lemmas.List.Elements.{All-cons, All-head, All-nil, All-tai
 use Rattle.disk_model.specs.Disk.{History, IsTold, IsMoment, told_calls}
 use Rattle.mdbox_base.specs.declared.script.Half.{Half}
 use Rattle.mdbox_base.specs.declared.script.JournalEntry.{JournalEntry}
-use Rattle.journal.specs.Journal.{AreSteps, IsFirstPart, JournalStep, Requests, StandInOrder, halves_of, left_by, moment_of, steps_of}
+use Rattle.journal.specs.Journal.{AreEntriesOf, AreSteps, IsFirstPart, JournalStep, Requests, StandInOrder, halves_of, left_by, moment_of, steps_of}
 use Rattle.list_machine.specs.Run.{Run, RunEvent, and_then}
 use Rattle.model_lists.specs.Lists.{Lists}
 use Rattle.mdbox_base.specs.declared.requests.Request.{Request}
@@ -43,6 +43,12 @@ entries_join history began moment [] more [] last are join = join
 entries_join history began moment (s ∷ steps) more (e ∷ entries) last are join = (are.0, entries_join history began moment steps more entries last are.1 join)
 entries_join history began moment [] more (e ∷ entries) last are join = absurd are
 entries_join history began moment (s ∷ steps) more [] last are join = absurd are
+
+pub entries_told : (history : History) (began : ℕ) (run : Run) (steps : List JournalStep) (entries : List JournalEntry) → AreEntriesAt (Some history) began (moment_of run) steps entries → AreEntriesOf run began steps entries
+entries_told history began run [] [] are = tt
+entries_told history began run (s ∷ steps) (e ∷ entries) are = (record { lane_is = are.0.lane_is; request_is = are.0.request_is; half_is = are.0.half_is; calls_are = are.0.calls_are tt }, entries_told history began run steps entries are.1)
+entries_told history began run [] (e ∷ entries) are = absurd are
+entries_told history began run (s ∷ steps) [] are = absurd are
 
 -- ---- moments
 

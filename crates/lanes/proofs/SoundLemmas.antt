@@ -2,7 +2,7 @@
 use Rattle.std.proofs.Common.{◌≡◌, ◌<◌, ◌≤◌, ◌+◌, ◌-◌, ◌*◌, ◌^◌, ℕ, zero, suc, Bool, true, false, List, [], ◌∷◌, map, slice_set, Option, Some, None, refl, sym, ◌∙◌, ap, subst, arith, inl, inr}
 use Rattle.std.specs.Prelude.{◌≢◌, ◌⊎◌, All, length, slice_get}
 use Rattle.std.proofs.lemmas.List.{length-set}
-use Rattle.std.proofs.lemmas.List.Elements.{All-head, All-tail, All-nil}
+use Rattle.std.proofs.lemmas.List.Elements.{All-cons, All-head, All-tail, All-nil}
 use Rattle.disk_model.specs.Disk.{Faults, History}
 use Rattle.mdbox_base.specs.declared.replies.Reply.{Reply}
 use Rattle.serving.specs.Accounts.{LanesAccount}
@@ -15,7 +15,7 @@ use Rattle.lane_tasks.specs.Tasks.{IsReadyTask, claims_at}
 use Rattle.lane_tasks.specs.declared.task.Task.{Task}
 use Rattle.store_core.specs.Value.{StoreValue}
 use Rattle.lanes.specs.Rows.{LaneRow, RowGoesOn, after_event, lane_value, lanes_of, next_in_turn, queue_in}
-use Rattle.lanes.specs.Worlds.{BeginsSome, IsSound, Works, WorldValue, replied_behind}
+use Rattle.lanes.specs.Worlds.{BeginsSome, IsIdleLane, IsSound, Works, WorldValue, replied_behind}
 use Rattle.lanes.specs.declared.lane.LaneEvent.{LaneEvent}
 use Rattle.lanes.specs.declared.lane.Queued.{Queued}
 use Rattle.lanes.proofs.GoingLemmas.{accounts_row, queue_is, value_at}
@@ -44,7 +44,7 @@ queue_after P (Some given) first place [] same all = All-nil P
 queue_after P (Some given) first place (next ∷ rest) same all = All-tail P place (next.place ∷ map (λ (q : Queued). q.place) rest) all
 
 -- a lane that has a request in turn isn't idle
-busy : (rows : List LaneRow) (k : ℕ) (row : LaneRow) (first : Queued) → slice_get rows k ≡ Some row → row.current ≡ Some first → AreIdle (lanes_of rows) → ⊥
+pub busy : (rows : List LaneRow) (k : ℕ) (row : LaneRow) (first : Queued) → slice_get rows k ≡ Some row → row.current ≡ Some first → AreIdle (lanes_of rows) → ⊥
 busy rows k row first there was idle =
     let e = all_at (λ (value : LaneValue Task). value.queue ≡ []) (lanes_of rows) k (lane_value row) idle (value_at rows k row there) in
     let z : first.place ∷ map (λ (q : Queued). q.place) row.waiting ≡ [] = sym (queue_is row first was) ∙ e in cc z
@@ -104,3 +104,13 @@ place_within k row now event old new before after first second world g history s
     let one = All-head (λ (place : ℕ). place < length world.replies) g.queued.place (map (λ (q : Queued). q.place) row.waiting) all in
     let same = g.goes.place_is in
     omega (arith, one, same)
+
+-- a lane with a request in turn isn't idle
+pub not_idle : (lane : ℕ) (rows : List LaneRow) (row : LaneRow) → slice_get rows (lane - 1) ≡ Some row → (row.current ≢ None) → IsIdleLane lane rows → ⊥
+not_idle lane rows row there some idle = some (ap (λ (r : LaneRow). r.current) (one_some row idle.0 (sym there ∙ idle.1)) ∙ idle.2)
+
+-- lanes of which none has a request in turn are idle
+pub all_idle : (rows : List LaneRow) → ((k : ℕ) (row : LaneRow) → slice_get rows k ≡ Some row → row.current ≡ None) → AreIdle (lanes_of rows)
+all_idle [] none = All-nil (λ (value : LaneValue Task). value.queue ≡ [])
+all_idle (row ∷ rows) none =
+    All-cons (λ (value : LaneValue Task). value.queue ≡ []) (lane_value row) (lanes_of rows) (ap (λ (o : Option Queued). queue_in (record row { current = o })) (none 0 row refl)) (all_idle rows (λ k r there. none (suc k) r there))

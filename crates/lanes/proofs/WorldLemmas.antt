@@ -241,9 +241,9 @@ pub record GoesTo {D : Type 0} (k : ℕ) (start : Lists) (script : Requests) (ru
   pub moment_is : added.moment ≡ told_calls after
   pub is : (finished : Bool) (turns : List LaneTurn) → IsTraceOf finished turns (and_then run added) (lanes_of new.rows) → IsWorldOf start script (and_then run added) (steps ++ more) broke began after second (record new { turns = turns; finished = finished })
 
-pub works_on : {D : Type 0} → (k : ℕ) (old new : WorldValue D) (before after : Option History) (first second : Faults) → Works k old new before after first second → IsSound before old
+pub works_by : {D : Type 0} → (k : ℕ) (old new : WorldValue D) (before after : Option History) (first second : Faults) → Works k old new before after first second → old.began ≤ 2 ^ 64 - 1 → length old.replies ≤ 100000
     → (start : Lists) (script : Requests) (run : Run) (steps : List JournalStep) (failed : Broken) (began : Seen) → IsWorldOf start script run steps failed began before first old → GoesTo k start script run steps began after second new
-works_on {D} k old new before after first second w sound start script run steps failed began world = record {
+works_by {D} k old new before after first second w clock few start script run steps failed began world = record {
   added = added;
   more = more;
   broke = broke;
@@ -289,12 +289,12 @@ works_on {D} k old new before after first second w sound start script run steps 
 
     entries : AreEntriesAt after new.began (moment_of (and_then run added)) (steps ++ more) new.journal
     entries = subst (λ (b : ℕ). AreEntriesAt after b (moment_of (and_then run added)) (steps ++ more) new.journal) (sym w.began_is)
-        (journal_on before after old.began w.later (k + 1) w.event.place w.event.did run added steps more old.journal new.journal (2 * length old.replies) sound.clock w.later_is adds.moment_is adds.halves_are adds.steps_are told
+        (journal_on before after old.began w.later (k + 1) w.event.place w.event.did run added steps more old.journal new.journal (2 * length old.replies) clock w.later_is adds.moment_is adds.halves_are adds.steps_are told
         (steps_within run script start steps world.going.serving.serves.legal.steps) world.entries short w.unmade_is w.journal_is)
 
     broken : AreEntriesAt after new.began (λ s. broke.began) broke.steps new.broken
     broken = subst (λ (b : ℕ). AreEntriesAt after b (λ s. broke.began) broke.steps new.broken) (sym w.began_is)
-        (broken_on before after old.began w.earlier (k + 1) w.event.place w.event.did run added failed broke old.broken new.broken sound.clock w.earlier_is adds.lane_is adds.request_is told adds.breaks adds.once world.broken w.unbroken_is w.broken_is)
+        (broken_on before after old.began w.earlier (k + 1) w.event.place w.event.did run added failed broke old.broken new.broken clock w.earlier_is adds.lane_is adds.request_is told adds.breaks adds.once world.broken w.unbroken_is w.broken_is)
 
     turn : (request : Request) × (slice_get script w.event.place ≡ Some (k + 1, request)) × (slice_get old.replies w.event.place ≡ Some None)
     turn = let t = in_turn start script run steps failed old.replies began (seen_in old.store before first) old.rows k w.row w.goes.queued old.store before w.there w.goes.was world.going.serving in
@@ -303,7 +303,11 @@ works_on {D} k old new before after first second w sound start script run steps 
     counts : AreCounted script new.replies new.replied
     counts = subst (λ (rs : List (Option Reply)). AreCounted script rs new.replied) (sym w.replies_are)
         (subst (λ (cs : List ℕ). AreCounted script (replies_behind (ended_by w.event.ended) w.event.place old.replies) cs) (sym w.replied_are)
-        (counted_on script old.replies old.replied k w.event.place turn.0 (ended_by w.event.ended) turn.1 turn.2 sound.short world.counts))
+        (counted_on script old.replies old.replied k w.event.place turn.0 (ended_by w.event.ended) turn.1 turn.2 few world.counts))
+
+pub works_on : {D : Type 0} → (k : ℕ) (old new : WorldValue D) (before after : Option History) (first second : Faults) → Works k old new before after first second → IsSound before old
+    → (start : Lists) (script : Requests) (run : Run) (steps : List JournalStep) (failed : Broken) (began : Seen) → IsWorldOf start script run steps failed began before first old → GoesTo k start script run steps began after second new
+works_on k old new before after first second w sound start script run steps failed began world = works_by k old new before after first second w sound.clock sound.short start script run steps failed began world
 
 -- ---- what a world's own calls make of it
 

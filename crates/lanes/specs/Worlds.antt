@@ -11,15 +11,17 @@ use Rattle.model_lists.specs.Lists.{Lists}
 use Rattle.list_machine.specs.Run.{Run, RunEvent, and_then}
 use Rattle.journal.specs.Journal.{Broken, JournalStep, Requests, moment_of}
 use Rattle.serving.specs.Accounts.{LanesAccount}
-use Rattle.serving.specs.Lanes.{replies_behind}
+use Rattle.serving.specs.Lanes.{queue_of, replies_behind}
 use Rattle.serving.specs.Serving.{AreIdle}
 use Rattle.serving.specs.Turns.{IsTraceOf, LaneTurn}
 use Rattle.store_core.specs.Value.{StoreValue}
 use Rattle.task_steps.specs.Step.{Seen, ended_by}
+use Rattle.attach_detach.specs.Prepared.{IsPrepared}
 use Rattle.attach_detach.specs.declared.message.Prepared.{Prepared}
+use Rattle.mdbox_base.specs.declared.requests.Request.TheVariants as request
 use Rattle.lane_tasks.specs.Clause.{DoomsNothing}
 use Rattle.lane_tasks.specs.Tasks.{BeginsTask, HasTask, IsReadyTask, claims_at, work_left}
-use Rattle.lanes.specs.Going.{AreFreshRows, IsGoing}
+use Rattle.lanes.specs.Going.{AreFreshRows, IsGoing, WaitsWithTask}
 use Rattle.lanes.specs.Rows.{LaneRow, RowGoesOn, lanes_of, queue_in}
 use Rattle.lanes.specs.declared.lane.LaneEvent.{LaneEvent}
 use Rattle.lanes.specs.declared.lane.Queued.{Queued}
@@ -116,8 +118,10 @@ turn_of lane idle = record { lane = lane; idle = idle }
 abbrev pub AreOfLanes : ℕ → Requests → Type 0
 AreOfLanes lanes script = All (λ asked. (0 < asked.0) × (asked.0 ≤ lanes)) script
 
--- What a request is given beside: nothing.
+-- What a request is given beside: a delivery its message, prepared, of 67,108,864 octets at the most, and every other request nothing.
 abbrev pub IsGiven : Request → Option Prepared → Type 0
+IsGiven (request.Deliver name time octets) (Some prepared) = (length octets ≤ 67108864) × IsPrepared octets prepared
+IsGiven (request.Deliver name time octets) None = ⊥
 IsGiven asked given = HasTask asked × (given ≡ None)
 
 abbrev pub AreGiven : Requests → List (Option Prepared) → Type 0
@@ -130,11 +134,41 @@ pub record PartsValue : Type 0 where
   pub rows : List LaneRow
   pub requests : ℕ
 
+-- some request has this task as it begins
+abbrev pub BeginsSome : Queued → Type 0
+BeginsSome queued = (asked : Request) × BeginsTask asked queued.task
+
+-- the requests that aren't answered, with the tasks of those in turn and of those that wait
+abbrev pub queued_in : LaneRow → List Queued
+queued_in row = option_map_or (λ first. first ∷ row.waiting) row.current []
+
+-- Its requests are 100,000 at the most, each of which has a place among them and the task with which some request begins. None waits in
+-- a lane unless one is in turn.
+pub record AreFreshParts (parts : PartsValue) : Type 0 where
+  pub few : parts.requests ≤ 100000
+  pub begin : (k : ℕ) (row : LaneRow) → slice_get parts.rows k ≡ Some row → All BeginsSome (queued_in row)
+  pub places : (k : ℕ) (row : LaneRow) → slice_get parts.rows k ≡ Some row → All (λ place. place < parts.requests) (queue_in row)
+  pub alone : (k : ℕ) (row : LaneRow) → slice_get parts.rows k ≡ Some row → row.current ≡ None → row.waiting ≡ []
+
 -- They are those of this script and of so many lanes.
 pub record ArePartsOf (script : Requests) (lanes : ℕ) (parts : PartsValue) : Type 0 where
   pub rows : AreFreshRows script parts.rows
   pub many : length parts.rows ≡ lanes
   pub requests : parts.requests ≡ length script
+
+-- a lane without requests
+abbrev pub empty_row : LaneRow
+empty_row = record { current = None; waiting = [] }
+
+-- A lane has the requests of it that stand in this part of a script, which begins at a place, each with the task with which it begins.
+pub record IsRowFrom (script : Requests) (lane place : ℕ) (part : Requests) (row : LaneRow) : Type 0 where
+  pub all : queue_in row ≡ queue_of lane place part
+  pub begin : All (WaitsWithTask script lane) (queued_in row)
+  pub alone : row.current ≡ None → row.waiting ≡ []
+
+-- So many lanes have theirs.
+abbrev pub AreRowsFrom : Requests → ℕ → ℕ → Requests → List LaneRow → Type 0
+AreRowsFrom script lanes place part rows = (length rows ≡ lanes) × ((k : ℕ) (row : LaneRow) → slice_get rows k ≡ Some row → IsRowFrom script (k + 1) place part row)
 
 -- a world that begins with these parts over a store, at this moment of its disk
 abbrev pub world_begun : {D : Type 0} → StoreValue D → PartsValue → ℕ → WorldValue D
@@ -156,10 +190,6 @@ abbrev pub IsBegun : {D : Type 0} → StoreValue D → PartsValue → Option His
 IsBegun store parts history world = (moment : ℕ) × IsMoment history moment × (world ≡ world_begun store parts moment)
 
 -- ---- what every world keeps
-
--- some request has this task as it begins
-abbrev pub BeginsSome : Queued → Type 0
-BeginsSome queued = (asked : Request) × BeginsTask asked queued.task
 
 -- Whatever script it is of: it has 64 lanes at the most, the requests that wait begin, and unless the store is stopped, the lanes
 -- account for it and no storage file is doomed. There are 100,000 requests at the most. Each has a place among the replies, each lane its count, and a world that was
@@ -217,10 +247,6 @@ pub record Works {D : Type 0} (k : ℕ) (old new : WorldValue D) (before after :
   pub finished_is : new.finished ≡ old.finished
 
 -- ---- what is left to do
-
--- the requests that aren't answered, with the tasks of those in turn and of those that wait
-abbrev pub queued_in : LaneRow → List Queued
-queued_in row = option_map_or (λ first. first ∷ row.waiting) row.current []
 
 abbrev pub left_in : {D : Type 0} → StoreValue D → LaneRow → ℕ
 left_in store row = sum_by (λ queued. work_left queued.task store) (queued_in row)

@@ -1,9 +1,10 @@
 // A lane: the request in turn with its task, and those behind it.
-ghost use Rattle.std.specs.Prelude.{◌≡◌, ◌↔◌, true, false, [], None, IfSome, IsNone};
+ghost use Rattle.std.specs.Prelude.{◌≡◌, ◌≢◌, true, false, [], Some, None, IfSome, IsNone, OnOk};
 ghost use Rattle.lane_tasks.specs.Tasks.{IsReadyTask};
 ghost use Rattle.lane_tasks.specs.Clause.{HasTaskRoom};
 ghost use Rattle.lane_tasks.specs.declared.task.Task.{Task as TaskValue};
 ghost use Rattle.task_steps.specs.Step.{ended_by};
+ghost use Rattle.lanes.specs.Worlds.{queued_in};
 ghost use Rattle.lanes.specs.Rows.{IsReadyRow, RowGoesOn, TaskGoesOn, goes_on_by};
 
 use disk_model::Disk;
@@ -61,19 +62,31 @@ impl Lane {
         }
     }
 
-    /// Adds a request behind the others. Without memory the lane stays.
-    pub(crate) fn push(&mut self, queued: Queued) -> Result<(), NoMemory> {
-        if self.current.is_none() {
-            self.current = Some(queued);
+    /// Puts a request before the others. Without memory it is let go, and the lane stays.
+    pub(crate) fn push_front(&mut self, queued: Queued) -> Result<(), NoMemory>
+        ensures ok { OnOk result (self.new ≡ record { current = Some queued; waiting = queued_in self.old }) }
+    {
+        let Some(first) = self.current.take() else {
+            put(&mut self.current, Some(queued));
             return Ok(());
+        };
+        match self.waiting.push_front(first) {
+            Ok(()) => {
+                put(&mut self.current, Some(queued));
+                Ok(())
+            }
+            Err(failed) => {
+                put(&mut self.current, Some(failed.value));
+                let_go(queued);
+                Err(NoMemory)
+            }
         }
-        self.waiting.push_back(queued)?;
-        Ok(())
     }
 
     /// Whether it has no request left.
     pub fn is_idle(&self) -> bool
-        ensures { (result ≡ true) ↔ (self.now.current ≡ None) }
+        ensures idle { result ≡ true → (self.now.current ≡ None) × (self.now.waiting ≡ []) }
+        ensures busy { result ≡ false → self.now.current ≢ None }
     {
         self.current.is_none()
     }

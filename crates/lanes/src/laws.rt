@@ -4,10 +4,11 @@ ghost use Rattle.disk_model.specs.Disk.{History, Faults, told_calls};
 ghost use Rattle.mdbox_base.specs.declared.ids.Uid.{Uid};
 ghost use Rattle.mdbox_base.specs.declared.replies.Reply.{Reply};
 ghost use Rattle.mdbox_base.specs.declared.requests.Request.TheVariants as request;
+ghost use Rattle.mdbox_base.specs.declared.script.JournalEntry.{JournalEntry};
 ghost use Rattle.model_store.specs.Settled.{IsSettledFor};
 ghost use Rattle.model_lists.specs.Lists.{Lists};
 ghost use Rattle.list_machine.specs.Run.{Run, RunEvent, and_then, reply_of};
-ghost use Rattle.journal.specs.Journal.{Broken, HasReply, JournalStep, Requests, no_broken};
+ghost use Rattle.journal.specs.Journal.{AreEntriesOf, Broken, HasReply, JournalStep, Requests, moment_of, no_broken};
 ghost use Rattle.journal.specs.Makes.{HasCome};
 ghost use Rattle.serving.specs.Lanes.{replies_behind};
 ghost use Rattle.serving.specs.Serving.{AreIdle, HaveLanes, unreplied};
@@ -18,6 +19,7 @@ ghost use Rattle.task_steps.specs.Step.{Seen, ShowsSeen, ended_by};
 ghost use Rattle.mail_fetch.specs.Task.{seen_in};
 ghost use Rattle.lanes.specs.Going.{AddsEvent, AreFreshRows, IsGoing};
 ghost use Rattle.lanes.specs.Rows.{LaneRow, RowGoesOn, lanes_of};
+ghost use Rattle.lanes.specs.Worlds.{AreEntriesAt, ArePartsOf, IsBegun, IsWorldOf, PartsValue, WorldValue};
 ghost use Rattle.lanes.specs.declared.lane.LaneEvent.{LaneEvent};
 
 use disk_model::Disk;
@@ -46,7 +48,14 @@ pub fn lanes_end<D: Disk>()
         → AreIdle (lanes_of rows) → (i : ℕ) → i < length script → (given : Reply) × HasReply replies i given × (reply_of i run ≡ Some given) }
 {}
 
-/// tmp
-pub fn tmp_law<D: Disk>()
-    ensures { (n : ℕ) → n ≡ n }
+/// A world that begins with the parts of a script, over a store that lanes begin to serve it, is one of this script, whenever it was
+/// begun to be seen.
+pub fn worlds_begin<D: Disk>()
+    ensures { (start : Lists) (script : Requests) (run : Run) (began : Seen) (lanes : ℕ) (parts : PartsValue) (store : StoreValue D) (history : Option History) (faults : Faults) (world : WorldValue D) → IsBegun store parts history world → ArePartsOf script lanes parts → run.events ≡ []
+        → IsGoing start script run [] no_broken (unreplied script) began store history faults parts.rows → IsWorldOf start script run [] no_broken began history faults world }
+{}
+
+/// The entries of a world over a disk that is modelled are those of its steps.
+pub fn entries_are_told()
+    ensures { (history : History) (began : ℕ) (run : Run) (steps : List JournalStep) (entries : List JournalEntry) → AreEntriesAt (Some history) began (moment_of run) steps entries → AreEntriesOf run began steps entries }
 {}

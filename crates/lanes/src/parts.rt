@@ -1,7 +1,9 @@
 // What a world takes of memory.
-ghost use Rattle.std.specs.Prelude.{◌≡◌, ◌≤◌, length, IfOk};
-ghost use Rattle.mdbox_base.specs.declared.script.Script.{Script as ScriptValue};
-ghost use Rattle.lanes.specs.Worlds.{AreGiven, AreOfLanes, ArePartsOf};
+ghost use Rattle.std.specs.Prelude.{◌≡◌, ◌≤◌, ◌++◌, ◌∷◌, [], ℕ, None, length, replicate, vec_len, IfOk};
+ghost use Rattle.mdbox_base.specs.declared.requests.Request.{Request as RequestValue};
+ghost use Rattle.journal.specs.Journal.{Requests};
+ghost use Rattle.lane_tasks.specs.Tasks.{BeginsTask};
+ghost use Rattle.lanes.specs.Worlds.{AreGiven, AreOfLanes, ArePartsOf, AreRowsFrom, IsGiven, empty_row};
 
 use crate::lane::{Lane, Queued};
 use crate::turn::Turn;
@@ -33,13 +35,13 @@ pub struct WorldParts {
 
 impl Model for WorldParts {
     ghost use Rattle.std.specs.Prelude.{◌≡◌, ◌≤◌, ◌*◌, [], None, length, replicate, vec_len, vec_capacity};
-    ghost use Rattle.lanes.specs.Worlds.{PartsValue, turns_for};
+    ghost use Rattle.lanes.specs.Worlds.{AreFreshParts, PartsValue, turns_for};
 
     ghost Value = { PartsValue };
 
     ghost view = { λ parts. record { rows = parts.lanes.items; requests = length parts.replies.items } };
 
-    ghost invariant = { λ parts. (vec_len parts.lanes ≡ length parts.lanes.items) × (vec_len parts.replies ≡ length parts.replies.items) × (parts.replies.items ≡ replicate (length parts.replies.items) None) × (parts.replied.items ≡ replicate (length parts.lanes.items) 0) × (parts.journal.items ≡ []) × (vec_len parts.journal ≡ 0) × (2 * length parts.replies.items ≤ vec_capacity parts.journal) × (parts.broken.items ≡ []) × (vec_len parts.broken ≡ 0) × (16 ≤ vec_capacity parts.broken) × (parts.turns.items ≡ []) × (vec_len parts.turns ≡ 0) × (parts.turn_room ≤ vec_capacity parts.turns) × (parts.turn_room ≡ turns_for (length parts.replies.items) (length parts.lanes.items)) };
+    ghost invariant = { λ parts. AreFreshParts (record { rows = parts.lanes.items; requests = length parts.replies.items }) × (vec_len parts.lanes ≡ length parts.lanes.items) × (vec_len parts.replies ≡ length parts.replies.items) × (parts.replies.items ≡ replicate (length parts.replies.items) None) × (parts.replied.items ≡ replicate (length parts.lanes.items) 0) × (vec_len parts.replied ≡ length parts.replied.items) × (parts.journal.items ≡ []) × (vec_len parts.journal ≡ 0) × (2 * length parts.replies.items ≤ vec_capacity parts.journal) × (parts.broken.items ≡ []) × (vec_len parts.broken ≡ 0) × (16 ≤ vec_capacity parts.broken) × (parts.turns.items ≡ []) × (vec_len parts.turns ≡ 0) × (parts.turn_room ≤ vec_capacity parts.turns) × (parts.turn_room ≡ turns_for (length parts.replies.items) (length parts.lanes.items)) };
 }
 
 impl WorldParts {
@@ -69,7 +71,9 @@ impl WorldParts {
 }
 
 /// No reply for each of so many requests.
-fn no_replies(alloc: Global, requests: usize) -> Result<Vec<Option<Reply>>, NoMemory> {
+fn no_replies(alloc: Global, requests: usize) -> Result<Vec<Option<Reply>>, NoMemory>
+    ensures { IfOk result (λ replies. (replies.items ≡ replicate requests None) × (vec_len replies ≡ requests)) }
+{
     let mut replies = Vec::with_capacity(alloc, requests)?;
     for _ in 0..requests {
         replies.push(None)?;
@@ -77,24 +81,64 @@ fn no_replies(alloc: Global, requests: usize) -> Result<Vec<Option<Reply>>, NoMe
     Ok(replies)
 }
 
+/// So many lanes without requests.
+fn empty_lanes(alloc: Global, count: u32) -> Result<Vec<Lane>, NoMemory>
+    ensures { IfOk result (λ lanes. (lanes.items ≡ replicate count empty_row) × (vec_len lanes ≡ count)) }
+{
+    let mut lanes = Vec::with_capacity(alloc, count as usize)?;
+    for _ in 0..count {
+        lanes.push(Lane::empty(alloc))?;
+    }
+    Ok(lanes)
+}
+
+/// The task of a request that begins.
+fn task_for(request: Request, given: Option<Prepared>) -> Task
+    requires { IsGiven request given }
+    ensures { BeginsTask request result }
+{
+    match request {
+        Request::Deliver { name, time, .. } => match given {
+            Some(prepared) => Task::delivery(name, time, prepared),
+            None => unreachable!(),
+        },
+        other => Task::of(other),
+    }
+}
+
+/// Takes the last of what requests are given.
+fn last_given(prepared: &mut Vec<Option<Prepared>>) -> Option<Prepared>
+    requires { vec_len prepared.old ≡ length prepared.old.items }
+    ensures len { vec_len prepared.new ≡ length prepared.new.items }
+    ensures given { (requests : Requests) (lane : ℕ) (request : RequestValue) → AreGiven (requests ++ (lane, request) ∷ []) prepared.old.items → AreGiven requests prepared.new.items × IsGiven request result }
+{
+    match prepared.pop() {
+        Some(given) => given,
+        None => None,
+    }
+}
+
 /// Lanes with the requests of a script, each with the task with which it begins.
 fn lanes_for(
     alloc: Global,
     script: Script,
     prepared: Seq<Option<Prepared>>,
-) -> Result<Vec<Lane>, NoMemory> {
-    let mut lanes = Vec::with_capacity(alloc, script.lanes as usize)?;
-    for _ in 0..script.lanes {
-        lanes.push(Lane::empty(alloc))?;
-    }
-    let mut place = 0;
-    for (lane, request) in script.requests.into_vec() {
+) -> Result<Vec<Lane>, NoMemory>
+    requires lanes { AreOfLanes script.lanes script.requests }
+    requires few { length script.requests ≤ 100000 }
+    requires given { AreGiven script.requests prepared }
+    ensures { IfOk result (λ lanes. (vec_len lanes ≡ length lanes.items) × AreRowsFrom script.requests script.lanes 0 script.requests lanes.items) }
+{
+    let mut lanes = empty_lanes(alloc, script.lanes)?;
+    let mut requests = script.requests.into_vec();
+    let mut prepared = prepared.into_vec();
+    while let Some((lane, request)) = requests.pop() {
+        let given = last_given(&mut prepared);
         let queued = Queued {
-            place,
-            task: Task::of(request),
+            place: requests.len() as u32,
+            task: task_for(request, given),
         };
-        lanes[(lane - 1) as usize].push(queued)?;
-        place += 1;
+        lanes[(lane - 1) as usize].push_front(queued)?;
     }
     Ok(lanes)
 }

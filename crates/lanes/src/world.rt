@@ -1,11 +1,11 @@
 // A world: lanes over one store, which do the requests of a script.
-ghost use Rattle.std.specs.Prelude.{◌≡◌, ◌≤◌, ◌<◌, ◌+◌, ◌-◌, ◌++◌, ◌∷◌, [], false, true, length, slice_get, Some, IfErr, IfOk, vec_len, vec_capacity};
+ghost use Rattle.std.specs.Prelude.{◌≡◌, ◌≤◌, ◌<◌, ◌+◌, ◌-◌, ◌++◌, ◌∷◌, [], ℕ, false, true, length, slice_get, Some, None, IfErr, IfOk, IfSome, IsNone, vec_len, vec_capacity};
 ghost use Rattle.serving.specs.Lanes.{replies_behind};
 ghost use Rattle.serving.specs.Serving.{AreIdle};
 ghost use Rattle.task_claims.specs.Claims.{HasNoTask};
 ghost use Rattle.task_steps.specs.Step.{ended_by};
-ghost use Rattle.lanes.specs.Rows.{lanes_of};
-ghost use Rattle.lanes.specs.Worlds.{AreGiven, AreOfLanes, ArePartsOf, GoesOnBy, IsBegun, IsIdleLane, IsLaneEvent, PartsValue, Works, entries_broken, entries_made, replied_behind, turn_of, world_left};
+ghost use Rattle.lanes.specs.Rows.{LaneRow, lanes_of};
+ghost use Rattle.lanes.specs.Worlds.{AreGiven, AreOfLanes, ArePartsOf, GoesOnBy, IsBegun, IsIdleLane, IsLaneEvent, IsSound, PartsValue, Works, entries_broken, entries_made, replied_behind, turn_of, world_left};
 ghost use Rattle.lanes.specs.declared.turn.Turned.TheVariants as turned;
 
 use crate::lane::{Lane, LaneEvent};
@@ -93,6 +93,13 @@ impl<D: Disk> World<D> {
         }
     }
 
+    /// What every world keeps.
+    pub fn known_facts(&self)
+        ensures { IsSound (D.history self.now.store.disk) self.now }
+    {
+        let _store = &self.store;
+    }
+
     /// Gives a lane its turn: it does the next event of its request in turn, unless it has no request left. The turn is added to the
     /// trace, which takes memory only after `turn_room` turns.
     pub fn advance(&mut self, lane: u32) -> Turned
@@ -122,20 +129,25 @@ impl<D: Disk> World<D> {
         ensures finished { self.new.finished ≡ true }
         ensures same { (self.new.turns ≡ self.old.turns) × (self.new.turn_room ≡ self.old.turn_room) × (self.new.began ≡ self.old.began) }
     {
-        while self.round() {}
+        let mut last = 0;
+        while let Some(lane) = self.next_busy(last) {
+            self.known_facts();
+            self.work(lane);
+            last = lane;
+        }
         self.finished = true;
     }
 
-    /// Does an event of each lane that has a request left, and answers whether one had.
-    fn round(&mut self) -> bool {
-        let mut worked = false;
-        for place in 0..self.lanes.len() {
-            if !self.lanes[place].is_idle() {
-                self.work((place + 1) as u32);
-                worked = true;
-            }
+    /// The lane that is in turn after this one, of those that have a request left.
+    fn next_busy(&self, after: u32) -> Option<u32>
+        ensures some { IfSome result (λ lane. (1 ≤ lane) × (lane ≤ length self.now.rows) × (IsIdleLane lane self.now.rows → ⊥)) }
+        ensures none { IsNone result → AreIdle (lanes_of self.now.rows) }
+    {
+        let next = first_busy(self.lanes.as_slice(), after);
+        if next.is_some() {
+            return next;
         }
-        worked
+        first_busy(self.lanes.as_slice(), 0)
     }
 
     /// Does the next event of a lane that has a request left, and keeps what came of it.
@@ -227,6 +239,20 @@ impl<D: Disk> World<D> {
         } = self;
         (store, Seq::of(replies), Seq::of(journal), Seq::of(broken))
     }
+}
+
+/// The first lane after this one that has a request left.
+fn first_busy(lanes: &[Lane], after: u32) -> Option<u32>
+    requires { length lanes.now ≤ 64 }
+    ensures some { IfSome result (λ lane. (1 ≤ lane) × (lane ≤ length lanes.now) × (IsIdleLane lane lanes.now → ⊥)) }
+    ensures none { IsNone result → (k : ℕ) (row : LaneRow) → after ≤ k → slice_get lanes.now k ≡ Some row → row.current ≡ None }
+{
+    for place in after as usize..lanes.len() {
+        if !lanes[place].is_idle() {
+            return Some(place as u32 + 1);
+        }
+    }
+    None
 }
 
 /// Adds the entry of an event to the journal, if it made a step and there is room.
