@@ -1,8 +1,9 @@
 -- A script is done, from the opening of the store to the end of the last lane.
-use Rattle.std.specs.Prelude.{◌≡◌, ◌<◌, ◌≤◌, ◌+◌, ◌-◌, ◌*◌, ◌==◌, ◌&&◌, ◌||◌, ◌++◌, ◌⊎◌, ℕ, zero, suc, Bool, true, false, cond, List, [], ◌∷◌, All, Contains, length, map, replicate, slice_get, is_some, count_by, Option, Some, None}
+use Rattle.std.specs.Prelude.{◌≡◌, ◌≢◌, ◌<◌, ◌≤◌, ◌+◌, ◌-◌, ◌*◌, ◌==◌, ◌&&◌, ◌||◌, ◌++◌, ◌⊎◌, ℕ, zero, suc, Bool, true, false, cond, List, [], ◌∷◌, All, Contains, length, map, replicate, slice_get, is_some, count_by, Option, Some, None}
 use Rattle.std.specs.List.{list_any}
 use Rattle.std.proofs.Common.{refl, sym, ◌∙◌, ap, subst, arith, inl, inr}
 use Rattle.std.proofs.lemmas.List.{length-map}
+use Rattle.std.proofs.lemmas.Option.{slice_get_within}
 use Rattle.std.proofs.lemmas.List.Elements.{All-nil, All-weaker}
 use Rattle.disk_model.specs.Disk.{Faults, History, IsMoment, IfTold, told_calls}
 use Rattle.mdbox_base.specs.Streams.{Rose}
@@ -10,13 +11,15 @@ use Rattle.mdbox_base.specs.declared.ids.Uid.{Uid}
 use Rattle.mdbox_base.specs.declared.replies.Refusal.TheVariants as refusal
 use Rattle.mdbox_base.specs.declared.replies.Reply.{Reply}
 use Rattle.mdbox_base.specs.declared.replies.Reply.TheVariants as reply
+use Rattle.mdbox_base.specs.declared.script.JournalEntry.{JournalEntry}
 use Rattle.mdbox_base.specs.declared.requests.Request.{Request}
 use Rattle.mdbox_base.specs.declared.requests.Request.TheVariants as request
 use Rattle.model_kept.specs.Kept.{MailIsKept}
 use Rattle.model_lists.specs.Lists.{Lists}
 use Rattle.model_store.specs.Settled.{IsSettledFor}
 use Rattle.list_machine.specs.Run.{Run, RunEvent, reply_of}
-use Rattle.journal.specs.Makes.{HasCome}
+use Rattle.journal.specs.Events.{Around, is_fault}
+use Rattle.journal.specs.Makes.{AreNextEvents, HasCome}
 use Rattle.journal.specs.Journal.{Broken, HasReply, IsLegal, JournalStep, Requests, no_broken}
 use Rattle.serving.specs.Serving.{AreIdle, HaveLanes, unreplied}
 use Rattle.sis_store.specs.Instances.{AreInstances}
@@ -24,7 +27,8 @@ use Rattle.store_core.specs.Running.{IsStore}
 use Rattle.store_core.specs.Value.{StoreValue, indexes_of}
 use Rattle.store_seen.specs.Seeing.{IsAtOpening}
 use Rattle.task_claims.specs.Claims.{HasNoTask}
-use Rattle.task_steps.specs.Step.{Seen}
+use Rattle.task_steps.specs.Step.{Seen, ShowsSeen}
+use Rattle.task_steps.proofs.OneEventLemmas.{not_true}
 use Rattle.mail_fetch.specs.Task.{seen_in}
 use Rattle.lanes.specs.Going.{AreFreshRows, IsGoing}
 use Rattle.lanes.specs.Rows.{LaneRow, lane_value, lanes_of}
@@ -32,13 +36,14 @@ use Rattle.lane_tasks.specs.Tasks.{HasTask}
 use Rattle.attach_detach.specs.declared.message.Prepared.{Prepared}
 use Rattle.lanes.specs.Worlds.{AreGiven, AreOfLanes, ArePartsOf, GoesOnBy, IsBegun, IsWorldOf, PartsValue, WorldValue, and_events, replied_in, world_begun}
 use Rattle.script_run.specs.Done.{IsScriptDone, MayRead}
-use Rattle.script_run.specs.Faults.{FaultsByReplies}
+use Rattle.script_run.specs.Faults.{FaultsByReplies, HasReadFault}
 use Rattle.script_run.specs.Opening.{AreSafeFor, LogsShowLists}
 use Rattle.script_run.specs.Script.{HasStopped, ServesScript, has_fetch, is_fetch}
 use Rattle.script_run.proofs.EndLemmas.{all_given, script_served, serves_from}
 use Rattle.script_run.proofs.MailStaysLemmas.{opening_keeps, run_keeps}
-use Rattle.script_run.proofs.MovedLemmas.{Purges, none_moved}
+use Rattle.script_run.proofs.MovedLemmas.{Purges, all_at, none_moved}
 use Rattle.script_run.proofs.OpenedLemmas.{none_holds, none_used}
+use Rattle.script_run.proofs.ReadFaultLemmas.{TellsFault, faults_are_told}
 use Rattle.script_run.proofs.RunBeginsLemmas.{OpenedNow, at_opening, before_opening, beginning, first_come, opening_begins}
 use Rattle.script_run.proofs.ShownLemmas.{LogsShow, opened_logs_show}
 use Rattle.script_run.proofs.SomeListsLemmas.{some_lists}
@@ -175,6 +180,12 @@ abbrev pub LanesEnd : (D : Type 0) → Type 0
 LanesEnd D = (start : Lists) (script : Requests) (run : Run) (journal : List JournalStep) (broken : Broken) (replies : List (Option Reply)) (began : Seen) (store : StoreValue D) (history : Option History) (faults : Faults) (rows : List LaneRow) → IsGoing start script run journal broken replies began store history faults rows
     → AreIdle (lanes_of rows) → (i : ℕ) → i < length script → (given : Reply) × HasReply replies i given × (reply_of i run ≡ Some given)
 
+-- the law of lanes that begin
+abbrev pub LanesBegin : (D : Type 0) → Type 0
+LanesBegin D = (start : Lists) (script : Requests) (run : Run) (rows : List LaneRow) (store : StoreValue D) (history : Option History) (faults : Faults) → IsAtOpening run store → HasCome run store.map store.drawn (told_calls history) → HasNoTask store → store.stopped ≡ false → ShowsSeen (seen_in store history faults) start
+    → AreFreshRows script rows → HaveLanes script (lanes_of rows) → length rows ≤ 64
+    → ((place lane : ℕ) (name : List ℕ) (uid : Uid) → slice_get script place ≡ Some (lane, request.Fetch name uid) → IsSettledFor start history) → IsGoing start script run [] no_broken (unreplied script) (seen_in store history faults) store history faults rows
+
 -- What is known of a script's run: the opening, the world that began then, and what it came to.
 pub record ScriptRan {D : Type 0} (script : Requests) (old mid new : Option History) (first last : Faults) (s : StoreValue D) (world ended : WorldValue D) : Type 0 where
   pub opened : OpenedNow old mid s
@@ -185,6 +196,18 @@ pub record ScriptRan {D : Type 0} (script : Requests) (old mid new : Option Hist
   pub idle : AreIdle (lanes_of ended.rows)
   pub later : IsStore new ended.store
   pub law : LanesEnd D
+
+-- Where no reply tells a fault, no event was refused by one.
+none_faulted : (around after : ℕ → Around) (script : Requests) (start : Lists) (run : Run) (journal : List JournalStep) (given : List Reply) → AreNextEvents around after script start run journal → ((i : ℕ) → i < length script → (one : Reply) × HasReply (map Some given) i one × (reply_of i run ≡ Some one))
+    → (HasReadFault given → ⊥) → (HasStopped given → ⊥) → All (λ event. event.refused ≢ Some refusal.ReadFault) run.events
+none_faulted around after script start run journal given next each unread unstopped = all_at (λ event. event.refused ≢ Some refusal.ReadFault) run.events (λ n e at why.
+    let k = next n e at in
+    let g = each e.request (slice_get_within script e.request k.asked k.request_is) in
+    by_reply g.0 (given_at given e.request g.0 g.1) (faults_are_told around after script start run journal next n e at (ap is_fault why) g.0 g.2))
+  where
+    by_reply : (one : Reply) → Contains given one → TellsFault one → ⊥
+    by_reply one c (inl e) = unread (subst (Contains given) e c)
+    by_reply one c (inr e) = unstopped (subst (Contains given) e c)
 
 -- from lists that the logs show, the replies are all there
 replies_of_run : {D : Type 0} → (script : Requests) (old mid new : Option History) (first last : Faults) (s : StoreValue D) (world ended : WorldValue D) → (r : ScriptRan script old mid new first last s world ended) → (start : Lists) → LogsShowLists s.map (indexes_of s.boxes) start → MayRead script start old
@@ -201,6 +224,10 @@ replies_of_run script old mid new first last s world ended r start shows may =
       reads = legal.causes.reads;
       changes = going.serving.serves.changes;
       stopped = λ h. let i = at_given g.0 (reply.Refused refusal.Stopped) h in legal.causes.changes i.0 i.1;
+      quiet = λ unread unstopped.
+          going.quiet (not_true ended.store.stopped (λ e. let i = going.serving.replied_stopped e in unstopped (given_at g.0 i.0 (reply.Refused refusal.Stopped) (subst (λ (rs : List (Option Reply)). HasReply rs i.0 (reply.Refused refusal.Stopped)) g.1 i.1))))
+          (none_faulted going.serving.follows.around going.serving.follows.after script start run w.1 g.0 going.serving.follows.next
+              (λ i l. let e = r.law start script run w.1 w.2 ended.replies _ ended.store new last ended.rows going r.idle i l in (e.0, subst (λ (rs : List (Option Reply)). HasReply rs i e.0) g.1 e.1, e.2)) unread unstopped);
     },
     going.serving.serves.mail (none_moved going.serving.follows.around going.serving.follows.after script start _ w.1 r.unpurged going.serving.follows.next))
 
@@ -254,3 +281,33 @@ script_ran script lanes prepared parts old mid new first last s world ended o sh
   later = later;
   law = law;
 }
+
+-- So its replies are given, and it is done.
+pub run_done : {D : Type 0} → (history : D → Option History) (faults : D → Faults) (script : Requests) (lanes : ℕ) (prepared : List (Option Prepared)) (parts : PartsValue) (old : Option History) (s : StoreValue D) (world ended : WorldValue D) → (o : OpenedNow old (history s.disk) s) → LogsShow → AreGiven script prepared → AreOfLanes lanes script → lanes ≤ 64
+    → ArePartsOf script lanes parts → HasNoTask s → LanesBegin D → LanesEnd D → IsBegun s parts (history s.disk) world → GoesOnBy world ended (history world.store.disk) (history ended.store.disk) (faults world.store.disk) (faults ended.store.disk) → AreIdle (lanes_of ended.rows) → IsStore (history ended.store.disk) ended.store → ((lists : Lists) × MayRead script lists old)
+    → (given : List Reply) × (ended.replies ≡ map Some given) × IsScriptDone script given ended.journal old (history ended.store.disk) (faults s.disk) (faults ended.store.disk)
+run_done {D} history faults script lanes prepared parts old s world ended o show given in_lanes few are unused begin end begun goes idle later some =
+    script_done script old (history s.disk) (history ended.store.disk) (faults s.disk) (faults ended.store.disk) s world ended
+        (script_ran script lanes prepared parts old (history s.disk) (history ended.store.disk) (faults s.disk) (faults ended.store.disk) s world ended o show given are begun going went idle later end)
+        some
+  where
+    going : (start : Lists) → MayRead script start old → LogsShowLists s.map (indexes_of s.boxes) start → (run : Run) → IsAtOpening run s → HasCome run s.map s.drawn (told_calls (history s.disk)) → IsGoing start script run [] no_broken (unreplied script) (seen_in s (history s.disk) (faults s.disk)) s (history s.disk) (faults s.disk) parts.rows
+    going start may shows run at come =
+        begin start script run parts.rows s (history s.disk) (faults s.disk) at come unused o.running shows are.rows (of_lanes script lanes parts.rows are.many in_lanes) (subst (λ (n : ℕ). n ≤ 64) (sym are.many) few)
+            (λ place lane name uid there. o.settled_again start (may (fetches script place lane name uid there)))
+
+    went : GoesOnBy world ended (history s.disk) (history ended.store.disk) (faults s.disk) (faults ended.store.disk)
+    went = subst (λ (t : StoreValue D). GoesOnBy world ended (history t.disk) (history ended.store.disk) (faults t.disk) (faults ended.store.disk)) (ap (λ (w : WorldValue D). w.store) begun.2) goes
+
+-- what a world is taken apart into
+abbrev pub EndedParts : Type 0 → Type 0
+EndedParts D = StoreValue D × List (Option Reply) × List JournalEntry × List JournalEntry
+
+-- It is handed back so, with the disk of its store.
+pub handed_back : {D : Type 0} → (history : D → Option History) (faults : D → Faults) (script : Requests) (old : Option History) (first began : Faults) (ended : WorldValue D) (parts : EndedParts D) (disk : D) → parts ≡ (ended.store, ended.replies, ended.journal, ended.broken) → disk ≡ parts.0.disk → first ≡ began
+    → (given : List Reply) × (ended.replies ≡ map Some given) × IsScriptDone script given ended.journal old (history ended.store.disk) first (faults ended.store.disk)
+    → (given : List Reply) × (parts.1 ≡ map Some given) × IsScriptDone script given parts.2 old (history disk) began (faults disk)
+handed_back {D} history faults script old first began ended parts disk are is same done =
+    subst (λ (d : D). (given : List Reply) × (parts.1 ≡ map Some given) × IsScriptDone script given parts.2 old (history d) began (faults d)) (sym is)
+    (subst (λ (f : Faults). (given : List Reply) × (parts.1 ≡ map Some given) × IsScriptDone script given parts.2 old (history parts.0.disk) f (faults parts.0.disk)) same
+    (subst (λ (p : EndedParts D). (given : List Reply) × (p.1 ≡ map Some given) × IsScriptDone script given p.2 old (history p.0.disk) first (faults p.0.disk)) (sym are) done))

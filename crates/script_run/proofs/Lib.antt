@@ -3,6 +3,7 @@ pub mod EndLemmas
 pub mod MailStaysLemmas
 pub mod MovedLemmas
 pub mod OpenedLemmas
+pub mod ReadFaultLemmas
 pub mod RunBeginsLemmas
 pub mod ShownLemmas
 pub mod SomeListsLemmas

@@ -237,7 +237,7 @@ unmoved_event around after run lists asked event none is = by_refused event.refu
     by_refused None e = by_part around run lists asked event event.part none (is.did e)
     by_refused (Some why) e = ap entries_moved (is.undone why e).0
 
-all_at : {X : Type 0} → (P : X → Type 0) (xs : List X) → ((n : ℕ) (x : X) → slice_get xs n ≡ Some x → P x) → All P xs
+pub all_at : {X : Type 0} → (P : X → Type 0) (xs : List X) → ((n : ℕ) (x : X) → slice_get xs n ≡ Some x → P x) → All P xs
 all_at P [] each = All-nil P
 all_at P (x ∷ xs) each = All-cons P x xs (each 0 x refl) (all_at P xs (λ n y at. each (suc n) y at))
 
