@@ -34,7 +34,7 @@ use Rattle.lanes.specs.Going.{AreFreshRows, IsGoing}
 use Rattle.lanes.specs.Rows.{LaneRow, lane_value, lanes_of}
 use Rattle.lane_tasks.specs.Tasks.{HasTask}
 use Rattle.attach_detach.specs.declared.message.Prepared.{Prepared}
-use Rattle.lanes.specs.Worlds.{AreGiven, AreOfLanes, ArePartsOf, GoesOnBy, IsBegun, IsWorldOf, PartsValue, WorldValue, and_events, replied_in, world_begun}
+use Rattle.lanes.specs.Worlds.{AreGiven, AreOfLanes, ArePartsOf, GoesOnBy, HasItsMessage, IsFreshWorld, IsWorldOf, PartsValue, WorldValue, and_events, replied_in, world_begun}
 use Rattle.script_run.specs.Done.{IsScriptDone, MayRead}
 use Rattle.script_run.specs.Faults.{FaultsByReplies, HasReadFault}
 use Rattle.script_run.specs.Opening.{AreSafeFor, LogsShowLists}
@@ -52,38 +52,6 @@ use Rattle.script_run.proofs.SomeListsLemmas.{some_lists}
 
 pub no_task : {D : Type 0} → (old mid : Option History) (s : StoreValue D) → OpenedNow old mid s → AreInstances s.instances → s.made ≡ [] → HasNoTask s
 no_task old mid s o are made = record { dues = o.free; files = none_used s old o.files; instances = none_holds s are o.instances; made = made }
-
-none_replied : (script : Requests) → replicate (length script) None ≡ unreplied script
-none_replied [] = refl
-none_replied (asked ∷ script) = ap (λ (rs : List (Option Reply)). None ∷ rs) (none_replied script)
-
-and_no : (b : Bool) → (b && false) ≡ false
-and_no true = refl
-and_no false = refl
-
-none_counted : (lane : ℕ) (script : Requests) (n : ℕ) → replied_in lane script (replicate n None) ≡ 0
-none_counted lane [] n = refl
-none_counted lane (asked ∷ script) zero = refl
-none_counted lane (asked ∷ script) (suc n) = sum_of ((asked.0 == lane) && false) (replied_in lane script (replicate n None)) (and_no (asked.0 == lane)) (none_counted lane script n)
-  where
-    sum_of : (b : Bool) (rest : ℕ) → b ≡ false → rest ≡ 0 → cond b 1 0 + rest ≡ 0
-    sum_of false rest e z = omega (arith, z)
-    sum_of true rest e z = absurd (cc e)
-
-zero_at : (n k count : ℕ) → slice_get (replicate n 0) k ≡ Some count → count ≡ 0
-zero_at zero k count at = absurd (let e : None ≡ Some count = at in cc e)
-zero_at (suc n) zero count at = let e : Some 0 ≡ Some count = at in let z : 0 ≡ count = cc e in sym z
-zero_at (suc n) (suc k) count at = zero_at n k count at
-
-world_begins : {D : Type 0} → (start : Lists) (script : Requests) (run : Run) (began : Seen) (s : StoreValue D) (history : Option History) (faults : Faults) (parts : PartsValue) (moment : ℕ) → run.events ≡ [] → parts.requests ≡ length script
-    → IsGoing start script run [] no_broken (unreplied script) began s history faults parts.rows → IsWorldOf start script run [] no_broken began history faults (world_begun s parts moment)
-world_begins start script run began s history faults parts moment empty requests g = record {
-  going = subst (λ (rs : List (Option Reply)). IsGoing start script run [] no_broken rs began s history faults parts.rows) (sym (ap (λ (n : ℕ). replicate n None) requests ∙ none_replied script)) g;
-  entries = tt;
-  broken = tt;
-  counts = λ k count at. zero_at (length parts.rows) k count at ∙ sym (none_counted (k + 1) script parts.requests);
-  trace = record { worked = sym (ap (λ (es : List RunEvent). map (λ event. event.lane) es) empty); idle = All-nil _ };
-}
 
 -- ---- it reads messages only from settled disks
 
@@ -106,15 +74,19 @@ of_lanes script lanes rows many are =
     let same : length (lanes_of rows) ≡ lanes = length-map rows lane_value ∙ many in
     subst (λ (n : ℕ). All (λ asked. (0 < asked.0) × (asked.0 ≤ n)) script) (sym same) are
 
+-- the law of worlds that begin
+abbrev pub WorldsBegin : (D : Type 0) → Type 0
+WorldsBegin D = (start : Lists) (script : Requests) (run : Run) (began : Seen) (lanes : ℕ) (parts : PartsValue) (store : StoreValue D) (history : Option History) (faults : Faults) (world : WorldValue D) → IsFreshWorld store parts history world → ArePartsOf script lanes parts → run.events ≡ []
+    → IsGoing start script run [] no_broken (unreplied script) began store history faults parts.rows → IsWorldOf start script run [] no_broken began history faults world
+
 -- a world of the script begins, with the disk as it was before the opening
-pub begins_from : {D : Type 0} → (start : Lists) (script : Requests) (lanes : ℕ) (parts : PartsValue) (old mid : Option History) (first : Faults) (s : StoreValue D) (o : OpenedNow old mid s) (world : WorldValue D)
-    → IsGoing start script (beginning s.map o.store.entries) [] no_broken (unreplied script) (seen_in s mid first) s mid first parts.rows → ArePartsOf script lanes parts → LogsShowLists s.map (indexes_of s.boxes) start → MayRead script start old → IsBegun s parts mid world
+pub begins_from : {D : Type 0} → (start : Lists) (script : Requests) (lanes : ℕ) (parts : PartsValue) (old mid : Option History) (first : Faults) (s : StoreValue D) (o : OpenedNow old mid s) (world : WorldValue D) → WorldsBegin D
+    → IsGoing start script (beginning s.map o.store.entries) [] no_broken (unreplied script) (seen_in s mid first) s mid first parts.rows → ArePartsOf script lanes parts → LogsShowLists s.map (indexes_of s.boxes) start → MayRead script start old → IsFreshWorld s parts mid world
     → IsWorldOf start script (beginning s.map o.store.entries) [] no_broken (before_opening (seen_in s mid first) old) mid first world
-begins_from start script lanes parts old mid first s o world g are shows may begun =
+begins_from start script lanes parts old mid first s o world law g are shows may begun =
     let run : Run = beginning s.map o.store.entries in
     let from : Seen = before_opening (seen_in s mid first) old in
-    subst (λ (w : WorldValue _). IsWorldOf start script run [] no_broken from mid first w) (sym begun.2)
-    (world_begins start script run from s mid first parts begun.0 refl are.requests
+    law start script run from lanes parts s mid first world begun are refl
     (record {
       serving = record {
         serves = serves_from start script run (unreplied script) (seen_in s mid first) old refl g.serving.serves (o.safe start) (o.settled_again start) (opening_keeps old mid s.map (indexes_of s.boxes) o.opened o.stays);
@@ -133,7 +105,7 @@ begins_from start script lanes parts old mid first s o world g are shows may beg
       undoomed = g.undoomed;
       quiet = g.quiet;
       fetched = λ place lane name uid at. may (fetches script place lane name uid at);
-    }))
+    })
 
 -- ---- the end
 
@@ -148,19 +120,11 @@ at_given [] one c = absurd (let k = c.1 in omega (arith, k))
 at_given (r ∷ rest) one (zero, l, c) = (0, ap (λ (x : Reply). Some (Some x)) c)
 at_given (r ∷ rest) one (suc n, l, c) = let h = at_given rest one (n, omega (arith, l), c) in (suc h.0, h.1)
 
--- a request that is given its task is no purge
-not_purging : (asked : Request) → HasTask asked → Purges asked → ⊥
-not_purging request.Purge h p = h
-not_purging request.Resync h p = h
-not_purging (request.Deliver name time octets) h p = p
-not_purging (request.List name) h p = p
-not_purging (request.Fetch name uid) h p = p
-not_purging (request.Flag name uid flags) h p = p
-not_purging (request.Copy name uid target) h p = p
-not_purging (request.Move name uid target) h p = p
-not_purging (request.Expunge name uid) h p = p
-not_purging (request.Make name) h p = p
-not_purging request.Counts h p = p
+-- a request that is given what it wants is no purge
+not_purging : (asked : Request) (one : Option Prepared) → HasItsMessage asked one → Purges asked → ⊥
+not_purging request.Purge one h p = h.0
+not_purging request.Resync one h p = h.0
+not_purging asked one h p = p
 
 pub none_purges : (script : Requests) (prepared : List (Option Prepared)) → AreGiven script prepared → (i : ℕ) (asked : ℕ × Request) → slice_get script i ≡ Some asked → Purges asked.1 → ⊥
 none_purges [] prepared given i asked at p = absurd (let e : None ≡ Some asked = at in cc e)
@@ -168,7 +132,7 @@ none_purges (first ∷ script) [] given i asked at p = absurd given
 none_purges (first ∷ script) (one ∷ prepared) given zero asked at p =
     let e : Some first ≡ Some asked = at in
     let is : first ≡ asked = cc e in
-    not_purging asked.1 (subst (λ (q : ℕ × Request). HasTask q.1) is given.0.0) p
+    not_purging asked.1 one (subst (λ (q : ℕ × Request). HasItsMessage q.1 one) is given.0) p
 none_purges (first ∷ script) (one ∷ prepared) given (suc i) asked at p = none_purges script prepared given.1 i asked at p
 
 settled_safe : (lists : Lists) (old : Option History) → IsSettledFor lists old → AreSafeFor lists old
@@ -268,14 +232,14 @@ script_done script old mid new first last s world ended r some =
     })
 
 -- What a script's run says of the opening, of the world and of its end: so it is done.
-pub script_ran : {D : Type 0} → (script : Requests) (lanes : ℕ) (prepared : List (Option Prepared)) (parts : PartsValue) (old mid new : Option History) (first last : Faults) (s : StoreValue D) (world ended : WorldValue D) → (o : OpenedNow old mid s) → LogsShow → AreGiven script prepared → ArePartsOf script lanes parts → IsBegun s parts mid world
+pub script_ran : {D : Type 0} → (script : Requests) (lanes : ℕ) (prepared : List (Option Prepared)) (parts : PartsValue) (old mid new : Option History) (first last : Faults) (s : StoreValue D) (world ended : WorldValue D) → (o : OpenedNow old mid s) → LogsShow → AreGiven script prepared → ArePartsOf script lanes parts → IsFreshWorld s parts mid world
     → ((start : Lists) → MayRead script start old → LogsShowLists s.map (indexes_of s.boxes) start → (run : Run) → IsAtOpening run s → HasCome run s.map s.drawn (told_calls mid) → IsGoing start script run [] no_broken (unreplied script) (seen_in s mid first) s mid first parts.rows)
-    → GoesOnBy world ended mid new first last → AreIdle (lanes_of ended.rows) → IsStore new ended.store → LanesEnd D → ScriptRan script old mid new first last s world ended
-script_ran script lanes prepared parts old mid new first last s world ended o show given are begun going goes idle later law = record {
+    → GoesOnBy world ended mid new first last → AreIdle (lanes_of ended.rows) → IsStore new ended.store → WorldsBegin D → LanesEnd D → ScriptRan script old mid new first last s world ended
+script_ran script lanes prepared parts old mid new first last s world ended o show given are begun going goes idle later begin law = record {
   opened = o;
   show = show;
   unpurged = none_purges script prepared given;
-  begins = λ start shows may. begins_from start script lanes parts old mid first s o world (going start may shows (beginning s.map o.store.entries) (at_opening old mid s o) (first_come old mid (told_calls mid) s o)) are shows may begun;
+  begins = λ start shows may. begins_from start script lanes parts old mid first s o world begin (going start may shows (beginning s.map o.store.entries) (at_opening old mid s o) (first_come old mid (told_calls mid) s o)) are shows may begun;
   goes = goes;
   idle = idle;
   later = later;
@@ -284,11 +248,11 @@ script_ran script lanes prepared parts old mid new first last s world ended o sh
 
 -- So its replies are given, and it is done.
 pub run_done : {D : Type 0} → (history : D → Option History) (faults : D → Faults) (script : Requests) (lanes : ℕ) (prepared : List (Option Prepared)) (parts : PartsValue) (old : Option History) (s : StoreValue D) (world ended : WorldValue D) → (o : OpenedNow old (history s.disk) s) → LogsShow → AreGiven script prepared → AreOfLanes lanes script → lanes ≤ 64
-    → ArePartsOf script lanes parts → HasNoTask s → LanesBegin D → LanesEnd D → IsBegun s parts (history s.disk) world → GoesOnBy world ended (history world.store.disk) (history ended.store.disk) (faults world.store.disk) (faults ended.store.disk) → AreIdle (lanes_of ended.rows) → IsStore (history ended.store.disk) ended.store → ((lists : Lists) × MayRead script lists old)
+    → ArePartsOf script lanes parts → HasNoTask s → LanesBegin D → WorldsBegin D → LanesEnd D → IsFreshWorld s parts (history s.disk) world → GoesOnBy world ended (history world.store.disk) (history ended.store.disk) (faults world.store.disk) (faults ended.store.disk) → AreIdle (lanes_of ended.rows) → IsStore (history ended.store.disk) ended.store → ((lists : Lists) × MayRead script lists old)
     → (given : List Reply) × (ended.replies ≡ map Some given) × IsScriptDone script given ended.journal old (history ended.store.disk) (faults s.disk) (faults ended.store.disk)
-run_done {D} history faults script lanes prepared parts old s world ended o show given in_lanes few are unused begin end begun goes idle later some =
+run_done {D} history faults script lanes prepared parts old s world ended o show given in_lanes few are unused begin world_begin end begun goes idle later some =
     script_done script old (history s.disk) (history ended.store.disk) (faults s.disk) (faults ended.store.disk) s world ended
-        (script_ran script lanes prepared parts old (history s.disk) (history ended.store.disk) (faults s.disk) (faults ended.store.disk) s world ended o show given are begun going went idle later end)
+        (script_ran script lanes prepared parts old (history s.disk) (history ended.store.disk) (faults s.disk) (faults ended.store.disk) s world ended o show given are begun going went idle later world_begin end)
         some
   where
     going : (start : Lists) → MayRead script start old → LogsShowLists s.map (indexes_of s.boxes) start → (run : Run) → IsAtOpening run s → HasCome run s.map s.drawn (told_calls (history s.disk)) → IsGoing start script run [] no_broken (unreplied script) (seen_in s (history s.disk) (faults s.disk)) s (history s.disk) (faults s.disk) parts.rows
