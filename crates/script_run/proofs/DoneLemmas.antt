@@ -182,18 +182,21 @@ replies_of_run script old mid new first last s world ended r start shows may =
     let going = w.3.going in
     let many : length ended.replies ≡ length script = going.serving.given.0 in
     let g = all_given ended.replies (λ i l. let e = r.law start script run w.1 w.2 ended.replies _ ended.store new last ended.rows going r.idle i (subst (λ (n : ℕ). i < n) many l) in (e.0, e.1)) in
-    let legal = subst (λ (rs : List (Option Reply)). IsLegal start script run w.1 rs first last) g.1 going.serving.serves.legal in
-    (g.0, g.1, sym (length-map g.0 Some) ∙ (ap length (sym g.1) ∙ many),
-    record {
-      reads = legal.causes.reads;
-      changes = going.serving.serves.changes;
-      stopped = λ h. let i = at_given g.0 (reply.Refused refusal.Stopped) h in legal.causes.changes i.0 i.1;
-      quiet = λ unread unstopped.
-          going.quiet (not_true ended.store.stopped (λ e. let i = going.serving.replied_stopped e in unstopped (given_at g.0 i.0 (reply.Refused refusal.Stopped) (subst (λ (rs : List (Option Reply)). HasReply rs i.0 (reply.Refused refusal.Stopped)) g.1 i.1))))
-          (none_faulted going.serving.follows.around going.serving.follows.after script start run w.1 g.0 going.serving.follows.next
-              (λ i l. let e = r.law start script run w.1 w.2 ended.replies _ ended.store new last ended.rows going r.idle i l in (e.0, subst (λ (rs : List (Option Reply)). HasReply rs i e.0) g.1 e.1, e.2)) unread unstopped);
-    },
-    going.serving.serves.mail (none_moved going.serving.follows.around going.serving.follows.after script start _ w.1 r.unpurged going.serving.follows.next))
+    let legal = subst (λ (rs : List (Option Reply)). IsLegal start script run w.1 rs first last) g.1 going.serving.serves.legal in (
+      g.0,
+      g.1,
+      sym (length-map g.0 Some) ∙ (ap length (sym g.1) ∙ many),
+      record {
+        reads = legal.causes.reads;
+        changes = going.serving.serves.changes;
+        stopped = λ h. let i = at_given g.0 (reply.Refused refusal.Stopped) h in legal.causes.changes i.0 i.1;
+        quiet = λ unread unstopped.
+            going.quiet (not_true ended.store.stopped (λ e. let i = going.serving.replied_stopped e in unstopped (given_at g.0 i.0 (reply.Refused refusal.Stopped) (subst (λ (rs : List (Option Reply)). HasReply rs i.0 (reply.Refused refusal.Stopped)) g.1 i.1))))
+            (none_faulted going.serving.follows.around going.serving.follows.after script start run w.1 g.0 going.serving.follows.next
+            (λ i l. let e = r.law start script run w.1 w.2 ended.replies _ ended.store new last ended.rows going r.idle i l in (e.0, subst (λ (rs : List (Option Reply)). HasReply rs i e.0) g.1 e.1, e.2)) unread unstopped);
+      },
+      going.serving.serves.mail (none_moved going.serving.follows.around going.serving.follows.after script start _ w.1 r.unpurged going.serving.follows.next),
+    )
 
 -- it is served from them
 serves_run : {D : Type 0} → (script : Requests) (old mid new : Option History) (first last : Faults) (s : StoreValue D) (world ended : WorldValue D) → (r : ScriptRan script old mid new first last s world ended) → (given : List Reply) → ended.replies ≡ map Some given → (start : Lists) → LogsShowLists s.map (indexes_of s.boxes) start → MayRead script start old
@@ -204,7 +207,7 @@ serves_run script old mid new first last s world ended r given are start shows m
     let run : Run = and_events (beginning s.map r.opened.store.entries) w.0 in
     let going = subst (λ (rs : List (Option Reply)). IsGoing start script run w.1 w.2 rs from ended.store new last ended.rows) are w.3.going in
     script_served start script run w.1 w.2 given ended.journal from ended.began ended.store new last ended.rows going going.serving.stays_stopped r.later r.opened.drawn (opening_begins old mid s r.opened)
-        (λ e. let i = going.serving.replied_stopped e in given_at given i.0 (reply.Refused refusal.Stopped) i.1) w.3.entries
+    (λ e. let i = going.serving.replied_stopped e in given_at given i.0 (reply.Refused refusal.Stopped) i.1) w.3.entries
 
 -- Some lists are shown from which the script may be served, if there are lists from which it may read.
 start_of : {D : Type 0} → (script : Requests) (old mid : Option History) (s : StoreValue D) → OpenedNow old mid s → LogsShow → ((lists : Lists) × MayRead script lists old) → (start : Lists) × LogsShowLists s.map (indexes_of s.boxes) start × MayRead script start old
@@ -218,18 +221,20 @@ pub script_done : {D : Type 0} → (script : Requests) (old mid new : Option His
     → (given : List Reply) × (ended.replies ≡ map Some given) × IsScriptDone script given ended.journal old new first last
 script_done script old mid new first last s world ended r some =
     let start = start_of script old mid s r.opened r.show some in
-    let g = replies_of_run script old mid new first last s world ended r start.0 start.1 start.2 in
-    (g.0, g.1,
-    record {
-      each = g.2;
-      m = s.map;
-      meanings = indexes_of s.boxes;
-      opened = r.opened.opened;
-      shown = λ lists safe. opened_logs_show lists old s.map (indexes_of s.boxes) r.opened.opened r.show safe;
-      serves = λ lists shows may. serves_run script old mid new first last s world ended r g.0 g.1 lists shows may;
-      faults = g.3;
-      stays = run_keeps old new s.map (indexes_of s.boxes) r.opened.opened g.4;
-    })
+    let g = replies_of_run script old mid new first last s world ended r start.0 start.1 start.2 in (
+      g.0,
+      g.1,
+      record {
+        each = g.2;
+        m = s.map;
+        meanings = indexes_of s.boxes;
+        opened = r.opened.opened;
+        shown = λ lists safe. opened_logs_show lists old s.map (indexes_of s.boxes) r.opened.opened r.show safe;
+        serves = λ lists shows may. serves_run script old mid new first last s world ended r g.0 g.1 lists shows may;
+        faults = g.3;
+        stays = run_keeps old new s.map (indexes_of s.boxes) r.opened.opened g.4;
+      },
+    )
 
 -- What a script's run says of the opening, of the world and of its end: so it is done.
 pub script_ran : {D : Type 0} → (script : Requests) (lanes : ℕ) (prepared : List (Option Prepared)) (parts : PartsValue) (old mid new : Option History) (first last : Faults) (s : StoreValue D) (world ended : WorldValue D) → (o : OpenedNow old mid s) → LogsShow → AreGiven script prepared → ArePartsOf script lanes parts → IsFreshWorld s parts mid world
@@ -252,13 +257,13 @@ pub run_done : {D : Type 0} → (history : D → Option History) (faults : D →
     → (given : List Reply) × (ended.replies ≡ map Some given) × IsScriptDone script given ended.journal old (history ended.store.disk) (faults s.disk) (faults ended.store.disk)
 run_done {D} history faults script lanes prepared parts old s world ended o show given in_lanes few are unused begin world_begin end begun goes idle later some =
     script_done script old (history s.disk) (history ended.store.disk) (faults s.disk) (faults ended.store.disk) s world ended
-        (script_ran script lanes prepared parts old (history s.disk) (history ended.store.disk) (faults s.disk) (faults ended.store.disk) s world ended o show given are begun going went idle later world_begin end)
-        some
+    (script_ran script lanes prepared parts old (history s.disk) (history ended.store.disk) (faults s.disk) (faults ended.store.disk) s world ended o show given are begun going went idle later world_begin end)
+    some
   where
     going : (start : Lists) → MayRead script start old → LogsShowLists s.map (indexes_of s.boxes) start → (run : Run) → IsAtOpening run s → HasCome run s.map s.drawn (told_calls (history s.disk)) → IsGoing start script run [] no_broken (unreplied script) (seen_in s (history s.disk) (faults s.disk)) s (history s.disk) (faults s.disk) parts.rows
     going start may shows run at come =
         begin start script run parts.rows s (history s.disk) (faults s.disk) at come unused o.running shows are.rows (of_lanes script lanes parts.rows are.many in_lanes) (subst (λ (n : ℕ). n ≤ 64) (sym are.many) few)
-            (λ place lane name uid there. o.settled_again start (may (fetches script place lane name uid there)))
+        (λ place lane name uid there. o.settled_again start (may (fetches script place lane name uid there)))
 
     went : GoesOnBy world ended (history s.disk) (history ended.store.disk) (faults s.disk) (faults ended.store.disk)
     went = subst (λ (t : StoreValue D). GoesOnBy world ended (history t.disk) (history ended.store.disk) (faults t.disk) (faults ended.store.disk)) (ap (λ (w : WorldValue D). w.store) begun.2) goes

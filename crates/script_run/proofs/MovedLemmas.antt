@@ -106,6 +106,7 @@ by_fetch run lists name uid event CopiesMessage d = ap entries_moved d
 by_fetch run lists name uid event Switches d = ap entries_moved d
 by_fetch run lists name uid event RemovesInstance d = ap entries_moved d
 by_fetch run lists name uid event ReadsFile d = ap entries_moved d
+
 -- of a request that is neither a purge nor a resync
 abbrev pub Purges : Request → Type 0
 Purges request.Purge = Unit {0}

@@ -74,7 +74,7 @@ all_in_order high [] (log ∷ logs) s g = All-nil IsMailboxInOrder
 all_in_order high (box ∷ boxes) [] s g = All-nil IsMailboxInOrder
 all_in_order high (box ∷ boxes) (log ∷ logs) s g =
     All-cons IsMailboxInOrder (shown_mailbox box (box_meaning log)) (shown_lists boxes logs) (mailbox_in_order high box (box_meaning log) (All-head (IsSoundMapBox high) box boxes s) (box_sound log g.0.1 g.0.0))
-        (all_in_order high boxes logs (All-tail (IsSoundMapBox high) box boxes s) g.1)
+    (all_in_order high boxes logs (All-tail (IsSoundMapBox high) box boxes s) g.1)
 
 all_shown : (P : MapBox → Type 0) (Q : Mailbox → Type 0) → ((box : MapBox) (m : BoxMeaning) → P box → Q (shown_mailbox box m)) → (boxes : List MapBox) (logs : List (List BoxEntry)) → All P boxes → All Q (shown_lists boxes logs)
 all_shown P Q carries [] [] p = All-nil Q
@@ -89,7 +89,7 @@ pairs_shown R Q carries [] (log ∷ logs) p = pairs_nil Q
 pairs_shown R Q carries (box ∷ boxes) [] p = pairs_nil Q
 pairs_shown R Q carries (box ∷ boxes) (log ∷ logs) p =
     AllPairs-cons Q (shown_mailbox box (box_meaning log)) (shown_lists boxes logs)
-        (all_shown (R box) (Q (shown_mailbox box (box_meaning log))) (λ b n r. carries box b (box_meaning log) n r) boxes logs (pairs_head R box boxes p)) (pairs_shown R Q carries boxes logs (pairs_tail R box boxes p))
+    (all_shown (R box) (Q (shown_mailbox box (box_meaning log))) (λ b n r. carries box b (box_meaning log) n r) boxes logs (pairs_head R box boxes p)) (pairs_shown R Q carries boxes logs (pairs_tail R box boxes p))
 
 -- whatever logs a store opened with, some lists are shown by them
 pub some_lists : (old : Option History) (m : MapMeaning) (meanings : List BoxMeaning) → IsOpenedAs old m meanings → (lists : Lists) × LogsShowLists m meanings lists
@@ -103,5 +103,5 @@ some_lists old m meanings o =
     } in
     let shows : ShowLists m.boxes meanings (shown_lists n.boxes o.logs) =
     subst (λ (ms : List BoxMeaning). ShowLists m.boxes ms (shown_lists n.boxes o.logs)) (sym o.meanings_are)
-        (shows_same n.boxes m.boxes (map box_meaning o.logs) (shown_lists n.boxes o.logs) o.means.numbers o.means.names (are_shown n.boxes o.logs o.good.one_each)) in
+    (shows_same n.boxes m.boxes (map box_meaning o.logs) (shown_lists n.boxes o.logs) o.means.numbers o.means.names (are_shown n.boxes o.logs o.good.one_each)) in
     (shown_lists n.boxes o.logs, (formed, shows))
