@@ -4,7 +4,10 @@ use Rattle.std.specs.Prelude.{length, slice_get, option_map}
 use Rattle.std.proofs.lemmas.List.Sums.{sum_by-cons}
 use Rattle.std.proofs.lemmas.Option.{slice_get-map}
 use Rattle.disk_model.specs.Disk.{History, Faults, told_calls}
+use Rattle.mdbox_base.specs.declared.ids.Uid.{Uid}
 use Rattle.mdbox_base.specs.declared.requests.Request.{Request}
+use Rattle.mdbox_base.specs.declared.requests.Request.TheVariants as request
+use Rattle.model_store.specs.Settled.{IsSettledFor}
 use Rattle.model_lists.specs.Lists.{Lists}
 use Rattle.list_machine.specs.Run.{Run}
 use Rattle.journal.specs.Journal.{Requests, no_broken}
@@ -42,6 +45,7 @@ seen_come {D} run store history faults at come none = record {
     pins = λ file. let unpinned : pins_in file store.files.files ≡ 0 = none_claimed store none (Pinned file) in (first.keeps runs).pins file ∙ sym unpinned;
     doomed = (first.keeps runs).doomed;
     instances = (first.keeps runs).instances;
+    files = (first.keeps runs).files;
   };
   used = first.used;
   barred = first.barred;
@@ -55,7 +59,7 @@ seen_come {D} run store history faults at come none = record {
 
 -- ---- a lane
 
-row_of : {X : Type 0} → (f : LaneRow → X) (rows : List LaneRow) (k : ℕ) (value : X) → slice_get (map f rows) k ≡ Some value → (row : LaneRow) × (slice_get rows k ≡ Some row) × (f row ≡ value)
+pub row_of : {X : Type 0} → (f : LaneRow → X) (rows : List LaneRow) (k : ℕ) (value : X) → slice_get (map f rows) k ≡ Some value → (row : LaneRow) × (slice_get rows k ≡ Some row) × (f row ≡ value)
 row_of f [] k value there = absurd (let z : None ≡ Some value = there in cc z)
 row_of f (row ∷ more) zero value there = (row, refl, one_some (f row) value there)
 row_of f (row ∷ more) (suc k) value there = row_of f more k value there
@@ -111,6 +115,8 @@ serving_begins {D} start script run rows store history faults empty come shows r
   told = s.told;
   given = s.given;
   would = s.would;
+  stays_stopped = s.stays_stopped;
+  replied_stopped = s.replied_stopped;
   lanes_at = λ k value there. let r = row_of lane_value rows k value there in
       subst (λ (v : LaneValue Task). LaneAt (stands_in store history) script run [] (unreplied script) (k + 1) v) r.2
       (lane_begins script run k r.0 store history (fresh k r.0 r.1) (s.lanes_at k (untaken r.0) (slice_get-map untaken rows k ∙ ap (λ (o : Option LaneRow). option_map untaken o) r.1)));
@@ -122,7 +128,7 @@ serving_begins {D} start script run rows store history faults empty come shows r
     s : IsServing (stands_in store history) start script run [] no_broken (unreplied script) (seen_in store history faults) (seen_in store history faults) (map untaken rows)
     s = serving_start (stands_in store history) start script run (seen_in store history faults) (map untaken rows) empty come shows runs all_fresh
 
-none_in_all : {T : Type 0} → (claims : T → Claims) (lanes : List (LaneValue T)) (thing : Thing) → ((k : ℕ) (value : LaneValue T) → slice_get lanes k ≡ Some value → ClaimsNothing (lane_claims claims value)) → 0 ≡ total_claims (map (lane_claims claims) lanes) thing
+pub none_in_all : {T : Type 0} → (claims : T → Claims) (lanes : List (LaneValue T)) (thing : Thing) → ((k : ℕ) (value : LaneValue T) → slice_get lanes k ≡ Some value → ClaimsNothing (lane_claims claims value)) → 0 ≡ total_claims (map (lane_claims claims) lanes) thing
 none_in_all claims [] thing none = refl
 none_in_all claims (a ∷ more) thing none =
     let first : lane_claims claims a thing ≡ 0 = none 0 a refl thing in
@@ -131,12 +137,16 @@ none_in_all claims (a ∷ more) thing none =
     omega (arith, first, rest, s)
 
 pub all_begin : {D : Type 0} → (start : Lists) (script : Requests) (run : Run) (rows : List LaneRow) (store : StoreValue D) (history : Option History) (faults : Faults) → IsAtOpening run store → HasCome run store.map store.drawn (told_calls history) → HasNoTask store → store.stopped ≡ false → ShowsSeen (seen_in store history faults) start
-    → AreFreshRows script rows → HaveLanes script (lanes_of rows) → length rows ≤ 64 → IsGoing start script run [] no_broken (unreplied script) (seen_in store history faults) store history faults rows
-all_begin {D} start script run rows store history faults at come none runs shows fresh lanes few = record {
+    → AreFreshRows script rows → HaveLanes script (lanes_of rows) → length rows ≤ 64 → ((place lane : ℕ) (name : List ℕ) (uid : Uid) → slice_get script place ≡ Some (lane, request.Fetch name uid) → IsSettledFor start history)
+    → IsGoing start script run [] no_broken (unreplied script) (seen_in store history faults) store history faults rows
+all_begin {D} start script run rows store history faults at come none runs shows fresh lanes few settled = record {
   serving = serving_begins start script run rows store history faults at.empty (seen_come run store history faults at come none) shows runs fresh;
   lanes = lanes;
   few = few;
   waiting = λ k row there. (fresh k row there).behind;
+  undoomed = λ still. at.undoomed;
+  fetched = settled;
+  quiet = λ still unread. refl;
   accounts = λ still. record {
     adds_up = λ thing. none_claimed store none thing ∙ none_in_all claims_at (lanes_of rows) thing unclaimed;
     ready = λ k value there. let r = row_of lane_value rows k value there in subst (λ (v : LaneValue Task). IsReadyLane IsReadyTask v store history) r.2 (row_ready script (k + 1) r.0 store history (fresh k r.0 r.1));

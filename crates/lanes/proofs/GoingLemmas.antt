@@ -3,12 +3,14 @@ use Rattle.std.proofs.Common.{◌≡◌, ◌<◌, ◌≤◌, ◌+◌, ℕ, zero,
 use Rattle.std.specs.Prelude.{◌≢◌, ◌⊎◌, ◌++◌, is_some, length, slice_get, option_map}
 use Rattle.std.proofs.lemmas.Option.{slice_get-map}
 use Rattle.std.proofs.lemmas.List.{length-set}
-use Rattle.std.proofs.lemmas.List.Elements.{All-head, All-tail, All-nil}
-use Rattle.disk_model.specs.Disk.{History, Faults}
+use Rattle.std.proofs.lemmas.List.Elements.{All-cons, All-head, All-tail, All-nil}
+use Rattle.disk_model.specs.Disk.{History, Faults, told_calls}
+use Rattle.disk_model.specs.FaultCounts.{NoFault}
 use Rattle.mdbox_base.specs.declared.progress.Did.{Did}
 use Rattle.mdbox_base.specs.declared.progress.Did.TheVariants as did
 use Rattle.mdbox_base.specs.declared.progress.Progress.{Progress}
 use Rattle.mdbox_base.specs.declared.progress.Progress.TheVariants as progress
+use Rattle.mdbox_base.specs.declared.replies.Refusal.TheVariants as refusal
 use Rattle.mdbox_base.specs.declared.replies.Reply.{Reply}
 use Rattle.mdbox_base.specs.declared.requests.Request.{Request}
 use Rattle.mdbox_base.specs.declared.script.Half.{Half}
@@ -28,25 +30,26 @@ use Rattle.serving.proofs.TakeUpLemmas.{TakesUp, serving_taken_up}
 use Rattle.store_core.specs.Value.{StoreValue}
 use Rattle.task_claims.specs.Claims.{Claims, ClaimsNothing, MovesClaims, amount_in}
 use Rattle.task_claims.specs.Leaving.{LeavesOthers}
-use Rattle.task_steps.specs.Serves.{IsTurn}
-use Rattle.task_steps.specs.Step.{DidEvent, FindsRoom, Seen, Went, and_told, ended_by}
-use Rattle.mail_fetch.specs.Clause.{ReadsSafe}
+use Rattle.task_steps.specs.Serves.{BreaksBy, IsTurn}
+use Rattle.task_steps.specs.Step.{DidEvent, FindsRoom, IsFault, Seen, Went, and_told, ended_by}
 use Rattle.mail_fetch.specs.Task.{seen_in}
-use Rattle.lane_tasks.specs.Clause.{AnswersByFiles, PassesBy, around_at}
+use Rattle.lane_tasks.specs.Clause.{CanAnswer, PassesBy, around_at}
 use Rattle.lane_tasks.specs.Tasks.{BeginsTask, IsReadyTask, StandsTask, claims_at, did_of}
 use Rattle.lane_tasks.specs.declared.task.Task.{Task}
 use Rattle.lane_tasks.proofs.StandLemmas.{begins_ready, begins_standing, begins_unclaimed, task_stable, task_stands}
-use Rattle.lanes.specs.Going.{AddsEvent, AreWaiting, IsGoing, WaitsWithTask, halves_told, stands_in}
+use Rattle.lanes.specs.Going.{AddsEvent, AreWaiting, IsGoing, IsStepOf, WaitsWithTask, halves_told, stands_in}
+use Rattle.lanes.specs.Worlds.{BeginsSome}
 use Rattle.lanes.specs.Rows.{LaneRow, RowGoesOn, lane_value, lanes_of, next_in_turn, queue_in, after_event}
 use Rattle.lanes.specs.declared.lane.LaneEvent.{LaneEvent}
 use Rattle.lanes.specs.declared.lane.Queued.{Queued}
+use Rattle.lanes.proofs.FindingLemmas.{can_answer, finds_room, uses_taken}
 
 -- ---- rows
 
-value_at : (rows : List LaneRow) (k : ℕ) (row : LaneRow) → slice_get rows k ≡ Some row → slice_get (lanes_of rows) k ≡ Some (lane_value row)
+pub value_at : (rows : List LaneRow) (k : ℕ) (row : LaneRow) → slice_get rows k ≡ Some row → slice_get (lanes_of rows) k ≡ Some (lane_value row)
 value_at rows k row there = slice_get-map lane_value rows k ∙ ap (λ (o : Option LaneRow). option_map lane_value o) there
 
-rows_set : (rows : List LaneRow) (k : ℕ) (now : LaneRow) → lanes_of (slice_set rows k now) ≡ slice_set (lanes_of rows) k (lane_value now)
+pub rows_set : (rows : List LaneRow) (k : ℕ) (now : LaneRow) → lanes_of (slice_set rows k now) ≡ slice_set (lanes_of rows) k (lane_value now)
 rows_set [] k now = refl
 rows_set (a ∷ more) zero now = refl
 rows_set (a ∷ more) (suc k) now = ap (λ (vs : List (LaneValue Task)). lane_value a ∷ vs) (rows_set more k now)
@@ -55,16 +58,6 @@ set_twice : {X : Type 0} → (xs : List X) (k : ℕ) (x y : X) → slice_set (sl
 set_twice [] k x y = refl
 set_twice (a ∷ more) zero x y = refl
 set_twice (a ∷ more) (suc k) x y = ap (λ (vs : List _). a ∷ vs) (set_twice more k x y)
-
--- ---- what the tasks are asked beside
-
--- no task takes files yet
-finds_room : {D : Type 0} → (t : Task) (asked : Request) (store : StoreValue D) (run : Run) → FindsRoom (around_at t asked store nothing_around) run
-finds_room t asked store run = tt
-
--- and none answers by what files read
-reads_safe : (t : Task) (lists : Lists) (history : Option History) → AnswersByFiles t → ReadsSafe lists history
-reads_safe t lists history by_files = absurd by_files
 
 -- ---- claims
 
@@ -75,13 +68,18 @@ moved_none mine next now old new none nothing moves thing = sums (amount_in thin
     sums all old next now e n z = omega (arith, e, n, z)
 
 -- what follows the first request begins, and claims nothing
-next_unclaimed : (script : Requests) (lane : ℕ) (waiting : List Queued) → AreWaiting script lane waiting → ClaimsNothing (lane_claims claims_at (lane_value (next_in_turn waiting)))
-next_unclaimed script lane [] are = λ thing. refl
-next_unclaimed script lane (next ∷ rest) are = let b = All-head (WaitsWithTask script lane) next rest are in begins_unclaimed b.0 next.task b.2
+next_unclaimed : (waiting : List Queued) → All BeginsSome waiting → ClaimsNothing (lane_claims claims_at (lane_value (next_in_turn waiting)))
+next_unclaimed [] are = λ thing. refl
+next_unclaimed (next ∷ rest) are = let b = All-head BeginsSome next rest are in begins_unclaimed b.0 next.task b.1
 
-next_ready : {D : Type 0} → (script : Requests) (lane : ℕ) (waiting : List Queued) (store : StoreValue D) (history : Option History) → AreWaiting script lane waiting → IsReadyLane IsReadyTask (lane_value (next_in_turn waiting)) store history
-next_ready script lane [] store history are task has = absurd (let z : None ≡ Some task = has in cc z)
-next_ready script lane (next ∷ rest) store history are task has = let b = All-head (WaitsWithTask script lane) next rest are in subst (λ (t : Task). IsReadyTask t store history) (one_some next.task task has) (begins_ready b.0 next.task store history b.2)
+next_ready : {D : Type 0} → (waiting : List Queued) (store : StoreValue D) (history : Option History) → All BeginsSome waiting → IsReadyLane IsReadyTask (lane_value (next_in_turn waiting)) store history
+next_ready [] store history are task has = absurd (let z : None ≡ Some task = has in cc z)
+next_ready (next ∷ rest) store history are task has = let b = All-head BeginsSome next rest are in subst (λ (t : Task). IsReadyTask t store history) (one_some next.task task has) (begins_ready b.0 next.task store history b.1)
+
+-- requests that wait in a script begin
+pub begin_some : (script : Requests) (lane : ℕ) (waiting : List Queued) → AreWaiting script lane waiting → All BeginsSome waiting
+begin_some script lane [] are = All-nil BeginsSome
+begin_some script lane (next ∷ rest) are = let b = All-head (WaitsWithTask script lane) next rest are in All-cons BeginsSome next rest (b.0, b.2) (begin_some script lane rest (All-tail (WaitsWithTask script lane) next rest are))
 
 pub next_waiting : (script : Requests) (lane : ℕ) (waiting : List Queued) → AreWaiting script lane waiting → AreWaiting script lane (next_in_turn waiting).waiting
 next_waiting script lane [] are = All-nil (WaitsWithTask script lane)
@@ -98,7 +96,7 @@ task_is row first was = ap (option_map (λ (q : Queued). q.task)) was
 claims_are : (row : LaneRow) (first : Queued) → row.current ≡ Some first → lane_claims claims_at (lane_value row) ≡ claims_at first.task
 claims_are row first was = ap (λ (o : Option Queued). lane_claims claims_at (lane_value (record row { current = o }))) was
 
-in_turn : {D : Type 0} → (start : Lists) (script : Requests) (run : Run) (journal : List JournalStep) (broken : Broken) (replies : List (Option Reply)) (began now : Seen) (rows : List LaneRow) (k : ℕ) (row : LaneRow) (first : Queued) (store : StoreValue D) (history : Option History) → slice_get rows k ≡ Some row → row.current ≡ Some first
+pub in_turn : {D : Type 0} → (start : Lists) (script : Requests) (run : Run) (journal : List JournalStep) (broken : Broken) (replies : List (Option Reply)) (began now : Seen) (rows : List LaneRow) (k : ℕ) (row : LaneRow) (first : Queued) (store : StoreValue D) (history : Option History) → slice_get rows k ≡ Some row → row.current ≡ Some first
     → IsServing (stands_in store history) start script run journal broken replies began now (lanes_of rows)
     → (request : Request) × IsTurn script journal replies (k + 1) first.place request × StandsTask first.task store history request run first.place (said_by journal first.place)
 in_turn start script run journal broken replies began now rows k row first store history there was s =
@@ -127,6 +125,7 @@ others_stand rows k row first next old new before after there was ran moves leav
     passes : PassesBy t old new before after
     passes runs = (
       ran runs,
+      (accounts (ran runs)).ready j other is t has,
       task_beside claims_at other t old new before after has
           (lane_beside claims_at (lanes_of rows) k j (lane_value row) other (claims_at next) old new before after (accounts (ran runs)).adds_up (value_at rows k row there) is apart
           (subst (λ (c : Claims). MovesClaims c (claims_at next) old new) mine (moves runs)) (subst (λ (c : Claims). LeavesOthers c old new before after) mine (leaves runs))),
@@ -171,7 +170,7 @@ serves_row start script run journal broken replies began now rows k row first ne
 
 -- ---- all lanes
 
-as_many : (rows : List LaneRow) (k : ℕ) (now : LaneRow) → length (lanes_of (slice_set rows k now)) ≡ length (lanes_of rows)
+pub as_many : (rows : List LaneRow) (k : ℕ) (now : LaneRow) → length (lanes_of (slice_set rows k now)) ≡ length (lanes_of rows)
 as_many [] k now = refl
 as_many (a ∷ more) zero now = refl
 as_many (a ∷ more) (suc k) now = let h = as_many more k now in omega (arith, h)
@@ -192,34 +191,34 @@ all_waiting script rows k row now there own all j other is = by_case (nat_cases 
 
 -- ---- the store
 
-moves_row : {D : Type 0} → (script : Requests) (lane : ℕ) (ended : Option Reply) (first : Queued) (next : Task) (waiting : List Queued) (old new : StoreValue D) → AreWaiting script lane waiting → (ended ≢ None → ClaimsNothing (claims_at next)) → MovesClaims (claims_at first.task) (claims_at next) old new
+moves_row : {D : Type 0} → (ended : Option Reply) (first : Queued) (next : Task) (waiting : List Queued) (old new : StoreValue D) → All BeginsSome waiting → (ended ≢ None → ClaimsNothing (claims_at next)) → MovesClaims (claims_at first.task) (claims_at next) old new
     → MovesClaims (claims_at first.task) (lane_claims claims_at (lane_value (after_event ended (record first { task = next }) waiting))) old new
-moves_row script lane None first next waiting old new are nothing moves = moves
-moves_row script lane (Some given) first next waiting old new are nothing moves =
-    moved_none (claims_at first.task) (claims_at next) (lane_claims claims_at (lane_value (next_in_turn waiting))) old new (nothing (λ e. absurd (let z : Some given ≡ None = e in cc z))) (next_unclaimed script lane waiting are) moves
+moves_row None first next waiting old new are nothing moves = moves
+moves_row (Some given) first next waiting old new are nothing moves =
+    moved_none (claims_at first.task) (claims_at next) (lane_claims claims_at (lane_value (next_in_turn waiting))) old new (nothing (λ e. absurd (let z : Some given ≡ None = e in cc z))) (next_unclaimed waiting are) moves
 
-ready_row : {D : Type 0} → (script : Requests) (lane : ℕ) (ended : Option Reply) (first : Queued) (next : Task) (waiting : List Queued) (store : StoreValue D) (history : Option History) → AreWaiting script lane waiting → (ended ≡ None → IsReadyTask next store history)
+ready_row : {D : Type 0} → (ended : Option Reply) (first : Queued) (next : Task) (waiting : List Queued) (store : StoreValue D) (history : Option History) → All BeginsSome waiting → (ended ≡ None → IsReadyTask next store history)
     → IsReadyLane IsReadyTask (lane_value (after_event ended (record first { task = next }) waiting)) store history
-ready_row script lane None first next waiting store history are ready = λ t has. subst (λ (t : Task). IsReadyTask t store history) (one_some next t has) (ready refl)
-ready_row script lane (Some given) first next waiting store history are ready = next_ready script lane waiting store history are
+ready_row None first next waiting store history are ready = λ t has. subst (λ (t : Task). IsReadyTask t store history) (one_some next t has) (ready refl)
+ready_row (Some given) first next waiting store history are ready = next_ready waiting store history are
 
-more_by : (p : Progress) → ended_by p ≡ None → p ≡ progress.More
+pub more_by : (p : Progress) → ended_by p ≡ None → p ≡ progress.More
 more_by progress.More none = refl
 more_by (progress.Done given) none = absurd (let z : Some given ≡ None = none in cc z)
 
-done_by : (p : Progress) → ended_by p ≢ None → (given : Reply) × (p ≡ progress.Done given)
+pub done_by : (p : Progress) → ended_by p ≢ None → (given : Reply) × (p ≡ progress.Done given)
 done_by progress.More some = absurd (some refl)
 done_by (progress.Done given) some = (given, refl)
 
-accounts_row : {D : Type 0} → (script : Requests) (rows : List LaneRow) (k : ℕ) (row now : LaneRow) (event : LaneEvent) (old new : StoreValue D) (before after : Option History) (first second : Faults) → slice_get rows k ≡ Some row → AreWaiting script (k + 1) row.waiting → new.stopped ≡ false
+pub accounts_row : {D : Type 0} → (rows : List LaneRow) (k : ℕ) (row now : LaneRow) (event : LaneEvent) (old new : StoreValue D) (before after : Option History) (first second : Faults) → slice_get rows k ≡ Some row → All BeginsSome row.waiting → new.stopped ≡ false
     → (g : RowGoesOn row now event old new before after first second) → LanesAccount claims_at IsReadyTask old before (lanes_of rows)
     → LanesAccount claims_at IsReadyTask new after (lanes_of (slice_set rows k (after_event (ended_by event.ended) (record g.queued { task = g.next }) row.waiting)))
-accounts_row {D} script rows k row now event old new before after first second there are runs g all =
+accounts_row {D} rows k row now event old new before after first second there are runs g all =
     subst (λ (vs : List (LaneValue Task)). LanesAccount claims_at IsReadyTask new after vs) (sym (rows_set rows k then))
     (accounted_on claims_at IsReadyTask task_stable (lanes_of rows) k (lane_value row) (lane_value then) old new before after (value_at rows k row there)
     (subst (λ (c : Claims). MovesClaims c (lane_claims claims_at (lane_value then)) old new) mine
-    (moves_row script (k + 1) (ended_by event.ended) g.queued g.next row.waiting old new are (λ some. let d = done_by event.ended some in g.goes.unclaimed d.0 d.1 runs) (g.goes.claims runs)))
-    (subst (λ (c : Claims). LeavesOthers c old new before after) mine (g.goes.leaves runs)) (ready_row script (k + 1) (ended_by event.ended) g.queued g.next row.waiting new after are (λ more. g.goes.ready (more_by event.ended more) runs)) all)
+    (moves_row (ended_by event.ended) g.queued g.next row.waiting old new are (λ some. let d = done_by event.ended some in g.goes.unclaimed d.0 d.1 runs) (g.goes.claims runs)))
+    (subst (λ (c : Claims). LeavesOthers c old new before after) mine (g.goes.leaves runs)) (ready_row (ended_by event.ended) g.queued g.next row.waiting new after are (λ more. g.goes.ready (more_by event.ended more) runs)) all)
   where
     then : LaneRow
     then = after_event (ended_by event.ended) (record g.queued { task = g.next }) row.waiting
@@ -243,9 +242,37 @@ halves_made (did.Step half) request run lists left event answer old new w = one_
 halves_made did.Failed request run lists left event answer old new w = none_made run request event answer left w.0.unanswered
 halves_made (did.Broken half) request run lists left event answer old new w = none_made run request event answer left w.0.unanswered
 
+-- an event that was refused otherwise than by a read fault
+abbrev unread_event : RunEvent → Type 0
+unread_event event = event.refused ≢ Some refusal.ReadFault
+
+all_front : {X : Type 0} → (P : X → Type 0) (xs : List X) (x : X) → All P (xs ++ x ∷ []) → All P xs
+all_front P [] x all = All-nil P
+all_front P (a ∷ xs) x all = All-cons P a xs (All-head P a (xs ++ x ∷ []) all) (all_front P xs x (All-tail P a (xs ++ x ∷ []) all))
+
+all_last : {X : Type 0} → (P : X → Type 0) (xs : List X) (x : X) → All P (xs ++ x ∷ []) → P x
+all_last P [] x all = All-head P x [] all
+all_last P (a ∷ xs) x all = all_last P xs x (All-tail P a (xs ++ x ∷ []) all)
+
+-- a store in which an append fails ran before
+broken_ran : (half : Half) (request : Request) (run : Run) (lists left : Lists) (event : RunEvent) (answer : Option Reply) (old new : Seen) (how : Did) → how ≡ did.Broken half → Went how request run lists left event answer old new → old.stopped ≡ false
+broken_ran half request run lists left event answer old new how is w = (subst (λ (h : Did). Went h request run lists left event answer old new) is w).0.ran
+
+-- in an event that leaves the store running no change failed
+unfaulted : (request : Request) (run : Run) (lists left : Lists) (event : RunEvent) (answer : Option Reply) (old new : Seen) (how : Did) → Went how request run lists left event answer old new → new.stopped ≡ false → IsFault how → ⊥
+unfaulted request run lists left event answer old new did.Quiet w runs fault = fault
+unfaulted request run lists left event answer old new (did.Step half) w runs fault = fault
+unfaulted request run lists left event answer old new did.Failed w runs fault = let z : true ≡ false = sym w.0.stopped ∙ runs in cc z
+unfaulted request run lists left event answer old new (did.Broken half) w runs fault = let z : true ≡ false = sym w.0.stopped ∙ runs in cc z
+
+made_of : (lane place : ℕ) (run : Run) (request : Request) (event : RunEvent) (answer : Option Reply) (left : Lists) → event.lane ≡ lane → event.request ≡ place → All (IsStepOf lane place run) (steps_made run request event answer left)
+made_of lane place run request event None left on at = All-nil (IsStepOf lane place run)
+made_of lane place run request event (Some answer) left on at =
+    All-cons (IsStepOf lane place run) (record { lane = event.lane; request = event.request; half = half_of request event.part; event = length run.events; answer = answer; left = left }) [] (record { lane_is = on; request_is = at; event_is = refl }) (All-nil (IsStepOf lane place run))
+
 pub going_on : {D : Type 0} → (start : Lists) (script : Requests) (run : Run) (journal : List JournalStep) (broken : Broken) (replies : List (Option Reply)) (began : Seen) (rows : List LaneRow) (k : ℕ) (row now : LaneRow) (event : LaneEvent) (old new : StoreValue D) (before after : Option History) (first second : Faults) → slice_get rows k ≡ Some row
     → RowGoesOn row now event old new before after first second → IsGoing start script run journal broken replies began old before first rows
-    → (added : RunEvent) × (steps : List JournalStep) × (failed : Broken) × AddsEvent (k + 1) event after added steps × IsGoing start script (and_then run added) (journal ++ steps) failed (replies_behind (ended_by event.ended) event.place replies) began new after second (slice_set rows k now)
+    → (added : RunEvent) × (steps : List JournalStep) × (failed : Broken) × AddsEvent (k + 1) event run old.map before after added steps broken failed × IsGoing start script (and_then run added) (journal ++ steps) failed (replies_behind (ended_by event.ended) event.place replies) began new after second (slice_set rows k now)
 going_on {D} start script run journal broken replies began rows k row now event old new before after first second there g s = (
   d.0.makes.event,
   steps_made run turn.0 d.0.makes.event d.0.makes.answer d.0.left,
@@ -256,6 +283,10 @@ going_on {D} start script run journal broken replies began rows k row now event 
     reply_is = d.0.makes.ended_is;
     moment_is = d.0.makes.moment_is;
     halves_are = halves_made (did_of g.next) turn.0 run (left_by start journal) d.0.left d.0.makes.event d.0.makes.answer (seen_in old before first) (seen_in new after second) d.0.went ∙ ap halves_told (sym g.goes.did_is);
+    steps_are = made_of (k + 1) event.place run turn.0 d.0.makes.event d.0.makes.answer d.0.left d.0.makes.lane_is (d.0.makes.request_is ∙ sym g.goes.place_is);
+    breaks = subst (λ (how : Did). BreaksBy how run d.0.makes.event (told_calls before) broken goes.0) (sym g.goes.did_is) goes.2;
+    mail = d.0.mail;
+    once = λ half is. s.serving.serves.unbroken (broken_ran half turn.0 run (left_by start journal) d.0.left d.0.makes.event d.0.makes.answer (seen_in old before first) (seen_in new after second) (did_of g.next) (sym g.goes.did_is ∙ is) d.0.went);
   },
   subst (λ (r : LaneRow). IsGoing start script then_run then_journal goes.0 (replies_behind (ended_by event.ended) event.place replies) began new after second (slice_set rows k r)) (sym g.now_is)
       (subst (λ (n : ℕ). IsGoing start script then_run then_journal goes.0 (replies_behind (ended_by event.ended) n replies) began new after second (slice_set rows k then)) (sym g.goes.place_is) (record {
@@ -263,7 +294,10 @@ going_on {D} start script run journal broken replies began rows k row now event 
         few = subst (λ (n : ℕ). n ≤ 64) (sym (length-set rows k then)) s.few;
         lanes = subst (λ (n : ℕ). All (λ (asked : ℕ × Request). (0 < asked.0) × (asked.0 ≤ n)) script) (sym (as_many rows k then)) s.lanes;
         waiting = all_waiting script rows k row then there (waiting_behind script (k + 1) (ended_by event.ended) (record g.queued { task = g.next }) row.waiting are) s.waiting;
-        accounts = λ runs. accounts_row script rows k row now event old new before after first second there are runs g (s.accounts (ran runs));
+        accounts = λ runs. accounts_row rows k row now event old new before after first second there (begin_some script (k + 1) row.waiting are) runs g (s.accounts (ran runs));
+        undoomed = λ runs. g.goes.undoomed runs (s.undoomed (ran runs));
+        fetched = s.fetched;
+        quiet = λ runs unread. quiet_then ran d.0.ends.unfailed (unfaulted turn.0 run (left_by start journal) d.0.left d.0.makes.event d.0.makes.answer (seen_in old before first) (seen_in new after second) (did_of g.next) d.0.went) runs unread;
       })),
 )
   where
@@ -276,9 +310,15 @@ going_on {D} start script run journal broken replies began rows k row now event 
     turn : (request : Request) × IsTurn script journal replies (k + 1) g.queued.place request × StandsTask g.queued.task old before request run g.queued.place (said_by journal g.queued.place)
     turn = in_turn start script run journal broken replies began (seen_in old before first) rows k row g.queued old before there g.was s.serving
 
-    d : (d : DidEvent nothing_around nothing_around run (k + 1) g.queued.place (said_by journal g.queued.place) turn.0 (left_by start journal) (seen_in old before first) (seen_in new after second) (did_of g.next) (ended_by event.ended))
+    finds : old.stopped ≡ false → FindsRoom (around_at g.queued.task turn.0 old nothing_around) run
+    finds runs = finds_room g.queued.task turn.0 old before run g.goes.store g.goes.ordered (uses_taken start script run journal broken replies began (seen_in old before first) old before (lanes_of rows) s.serving s.lanes (s.accounts runs).adds_up)
+
+    answers : old.stopped ≡ false → CanAnswer g.queued.task (left_by start journal) old before
+    answers runs = can_answer g.queued.task turn.0 (left_by start journal) old before g.goes.store runs turn.2.is_of (λ name uid is. s.serving.serves.settled runs (s.fetched g.queued.place (k + 1) name uid (turn.1.asked ∙ ap (λ (q : Request). Some (k + 1, q)) is)))
+
+    d : (d : DidEvent (around_at g.queued.task turn.0 old nothing_around) nothing_around run (k + 1) g.queued.place (said_by journal g.queued.place) turn.0 (left_by start journal) (seen_in old before first) (seen_in new after second) (did_of g.next) (ended_by event.ended))
         × (ended_by event.ended ≡ None → StandsTask g.next new after turn.0 (and_then run d.makes.event) g.queued.place (and_told (said_by journal g.queued.place) d.makes.answer))
-    d = g.goes.steps turn.0 nothing_around nothing_around run (k + 1) g.queued.place (said_by journal g.queued.place) (left_by start journal) s.serving.serves.come s.serving.serves.shown (λ runs. finds_room g.queued.task turn.0 old run) (λ by_files runs. reads_safe g.queued.task (left_by start journal) before by_files) turn.2
+    d = g.goes.steps turn.0 nothing_around nothing_around run (k + 1) g.queued.place (said_by journal g.queued.place) (left_by start journal) s.serving.serves.come s.serving.serves.shown finds answers turn.2
 
     then_run : Run
     then_run = and_then run d.0.makes.event
@@ -289,6 +329,11 @@ going_on {D} start script run journal broken replies began rows k row now event 
     ran : new.stopped ≡ false → old.stopped ≡ false
     ran = ran_before (seen_in old before first) (seen_in new after second) d.0.ends.still
 
+    quiet_then : (new.stopped ≡ false → old.stopped ≡ false) → (d.0.makes.event.refused ≢ Some refusal.ReadFault → (IsFault (did_of g.next) → ⊥) → NoFault first second) → (new.stopped ≡ false → IsFault (did_of g.next) → ⊥) → new.stopped ≡ false
+        → All (λ event. event.refused ≢ Some refusal.ReadFault) (run.events ++ d.0.makes.event ∷ []) → NoFault began.faults second
+    quiet_then ran unfailed unfaulted runs unread = unfailed (all_last unread_event run.events d.0.makes.event unread) (unfaulted runs) ∙ s.quiet (ran runs) (all_front unread_event run.events d.0.makes.event unread)
+
     goes : (failed : Broken) × IsServing (stands_in new after) start script then_run then_journal failed (replies_behind (ended_by event.ended) g.queued.place replies) began (seen_in new after second) (slice_set (lanes_of rows) k (lane_behind (ended_by event.ended) g.next (lane_value row)))
-    goes = lane_goes_on (stands_in old before) (stands_in new after) start script run journal broken replies began (seen_in old before first) (seen_in new after second) (lanes_of rows) k g.queued.place (map (λ (q : Queued). q.place) row.waiting) (lane_value row) turn.0 g.next nothing_around nothing_around (did_of g.next) (ended_by event.ended)
-        s.serving (others_stand rows k row g.queued g.next old new before after there g.was ran g.goes.claims g.goes.leaves s.accounts) (value_at rows k row there) (queue_is row g.queued g.was) turn.1.asked d.0 d.1
+        × BreaksBy (did_of g.next) run d.0.makes.event (told_calls before) broken failed
+    goes = lane_goes_on (stands_in old before) (stands_in new after) start script run journal broken replies began (seen_in old before first) (seen_in new after second) (lanes_of rows) k g.queued.place (map (λ (q : Queued). q.place) row.waiting) (lane_value row) turn.0 g.next (around_at g.queued.task turn.0 old nothing_around) nothing_around (did_of g.next) (ended_by event.ended)
+        s.serving (others_stand rows k row g.queued g.next old new before after there g.was ran g.goes.claims g.goes.leaves s.accounts) (value_at rows k row there) (queue_is row g.queued g.was) turn.1.asked d.0 g.goes.image d.1

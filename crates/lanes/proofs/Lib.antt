@@ -1,2 +1,11 @@
 pub mod BeginLemmas
+pub mod EntryLemmas
+pub mod FindingLemmas
 pub mod GoingLemmas
+pub mod LeftLemmas
+pub mod OpeningLemmas
+pub mod PartsLemmas
+pub mod RoomLemmas
+pub mod SoundLemmas
+pub mod TraceLemmas
+pub mod WorldLemmas

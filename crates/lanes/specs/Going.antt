@@ -1,20 +1,29 @@
 -- A script that lanes of tasks serve.
-use Rattle.std.specs.Prelude.{◌≡◌, ◌≤◌, ◌+◌, ◌∷◌, ℕ, false, List, [], All, length, map, slice_get, Option, Some}
+use Rattle.std.specs.Prelude.{◌≡◌, ◌≢◌, ◌≤◌, ◌+◌, ◌∷◌, ℕ, false, List, [], All, length, map, slice_get, Option, Some}
 use Rattle.disk_model.specs.Disk.{History, Faults, told_calls}
+use Rattle.disk_model.specs.FaultCounts.{NoFault}
 use Rattle.mdbox_base.specs.declared.progress.Did.{Did}
 use Rattle.mdbox_base.specs.declared.progress.Did.TheVariants as did
+use Rattle.mdbox_base.specs.declared.replies.Refusal.TheVariants as refusal
 use Rattle.mdbox_base.specs.declared.replies.Reply.{Reply}
 use Rattle.mdbox_base.specs.declared.requests.Request.{Request}
+use Rattle.mdbox_base.specs.declared.requests.Request.TheVariants as request
+use Rattle.mdbox_base.specs.declared.ids.Uid.{Uid}
 use Rattle.mdbox_base.specs.declared.script.Half.{Half}
+use Rattle.model_kept.specs.Kept.{MailIsKept}
+use Rattle.model_meaning.specs.MapMeaning.{MapMeaning}
+use Rattle.model_store.specs.Settled.{IsSettledFor}
 use Rattle.model_lists.specs.Lists.{Lists}
 use Rattle.list_machine.specs.Run.{Run, RunEvent}
-use Rattle.journal.specs.Journal.{Broken, JournalStep, Requests}
+use Rattle.journal.specs.Journal.{Broken, JournalStep, Requests, no_broken}
 use Rattle.serving.specs.Accounts.{LanesAccount}
 use Rattle.serving.specs.Lanes.{queue_of}
 use Rattle.serving.specs.Serving.{HaveLanes, IsServing}
 use Rattle.store_core.specs.Value.{StoreValue}
+use Rattle.task_steps.specs.Serves.{BreaksBy}
 use Rattle.task_steps.specs.Step.{Seen, ended_by}
 use Rattle.mail_fetch.specs.Task.{seen_in}
+use Rattle.lane_tasks.specs.Clause.{DoomsNothing}
 use Rattle.lane_tasks.specs.Tasks.{BeginsTask, IsReadyTask, StandsTask, claims_at}
 use Rattle.lane_tasks.specs.declared.task.Task.{Task}
 use Rattle.lanes.specs.Rows.{LaneRow, lanes_of, queue_in}
@@ -34,13 +43,17 @@ AreWaiting script lane waiting = All (WaitsWithTask script lane) waiting
 
 -- A script is being served by lanes, of which there are 64 at most, from these lists and from a store as it was seen then, by the
 -- events of this run: with this journal, these broken steps and these replies so far, each lane's request in turn stands where its task
--- does, those behind it begin; and unless the store is stopped, the lanes account for it.
+-- does, those behind it begin; and unless the store is stopped, the lanes account for it, no storage file is doomed, and no call of the
+-- disk has failed but for those that read faults tell. A script with a fetch is served so from a settled disk alone.
 pub record IsGoing {D : Type 0} (start : Lists) (script : Requests) (run : Run) (journal : List JournalStep) (broken : Broken) (replies : List (Option Reply)) (began : Seen) (store : StoreValue D) (history : Option History) (faults : Faults) (rows : List LaneRow) : Type 0 where
   pub serving : IsServing (stands_in store history) start script run journal broken replies began (seen_in store history faults) (lanes_of rows)
   pub lanes : HaveLanes script (lanes_of rows)
   pub few : length rows ≤ 64
   pub waiting : (k : ℕ) (row : LaneRow) → slice_get rows k ≡ Some row → AreWaiting script (k + 1) row.waiting
   pub accounts : store.stopped ≡ false → LanesAccount claims_at IsReadyTask store history (lanes_of rows)
+  pub undoomed : store.stopped ≡ false → DoomsNothing store
+  pub quiet : store.stopped ≡ false → All (λ event. event.refused ≢ Some refusal.ReadFault) run.events → NoFault began.faults faults
+  pub fetched : (place lane : ℕ) (name : List ℕ) (uid : Uid) → slice_get script place ≡ Some (lane, request.Fetch name uid) → IsSettledFor start began.history
 
 -- ---- what an event of a lane adds to the run and to the journal
 
@@ -49,14 +62,25 @@ abbrev pub halves_told : Did → List Half
 halves_told (did.Step half) = half ∷ []
 halves_told other = []
 
--- It is an event of this lane and of its request, with the reply that it gave, and ended at the disk's present moment; and it has an
--- entry in the journal if it was a step.
-pub record AddsEvent (lane : ℕ) (event : LaneEvent) (history : Option History) (added : RunEvent) (steps : List JournalStep) : Type 0 where
+-- The step is one of this lane, this request and the event that comes next in the run.
+pub record IsStepOf (lane place : ℕ) (run : Run) (step : JournalStep) : Type 0 where
+  pub lane_is : step.lane ≡ lane
+  pub request_is : step.request ≡ place
+  pub event_is : step.event ≡ length run.events
+
+-- It is an event of this lane and of its request, with the reply that it gave, and ended at the disk's present moment; it has an entry
+-- in the journal if it was a step; and where its append failed, the step that it would have been is broken, from the moment on at which
+-- the event began, and no other one is. At each moment of it storage files and instances have what the map needed as it began.
+pub record AddsEvent (lane : ℕ) (event : LaneEvent) (run : Run) (m : MapMeaning) (before after : Option History) (added : RunEvent) (steps : List JournalStep) (broken failed : Broken) : Type 0 where
   pub lane_is : added.lane ≡ lane
   pub request_is : added.request ≡ event.place
   pub reply_is : added.reply ≡ ended_by event.ended
-  pub moment_is : added.moment ≡ told_calls history
+  pub moment_is : added.moment ≡ told_calls after
   pub halves_are : map (λ step. step.half) steps ≡ halves_told event.did
+  pub steps_are : All (IsStepOf lane event.place run) steps
+  pub breaks : BreaksBy event.did run added (told_calls before) broken failed
+  pub once : (half : Half) → event.did ≡ did.Broken half → broken ≡ no_broken
+  pub mail : MailIsKept m before after
 
 -- ---- how lanes begin
 

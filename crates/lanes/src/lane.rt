@@ -1,14 +1,16 @@
 // A lane: the request in turn with its task, and those behind it.
-ghost use Rattle.std.specs.Prelude.{◌≡◌, false, [], None, IfSome, IsNone};
-ghost use Rattle.lane_tasks.specs.Tasks.{IsReadyTask, did_of};
+ghost use Rattle.std.specs.Prelude.{◌≡◌, ◌≢◌, true, false, [], Some, None, IfSome, IsNone, OnOk};
+ghost use Rattle.lane_tasks.specs.Tasks.{IsReadyTask};
 ghost use Rattle.lane_tasks.specs.Clause.{HasTaskRoom};
 ghost use Rattle.lane_tasks.specs.declared.task.Task.{Task as TaskValue};
 ghost use Rattle.task_steps.specs.Step.{ended_by};
+ghost use Rattle.lanes.specs.Worlds.{queued_in};
 ghost use Rattle.lanes.specs.Rows.{IsReadyRow, RowGoesOn, TaskGoesOn, goes_on_by};
 
 use disk_model::Disk;
 use lane_tasks::Task;
-use mdbox_base::{Did, Progress};
+use mdbox_base::{Did, NoMemory, Progress};
+use std::alloc::Global;
 use std::collections::VecDeque;
 use std::marker::Model;
 use store_core::Store;
@@ -50,9 +52,49 @@ impl Model for Lane {
 }
 
 impl Lane {
+    /// A lane without requests.
+    pub(crate) fn empty(alloc: Global) -> Lane
+        ensures { result ≡ record { current = None; waiting = [] } }
+    {
+        Lane {
+            current: None,
+            waiting: VecDeque::new(alloc),
+        }
+    }
+
+    /// Puts a request before the others. Without memory it is let go, and the lane stays.
+    pub(crate) fn push_front(&mut self, queued: Queued) -> Result<(), NoMemory>
+        ensures ok { OnOk result (self.new ≡ record { current = Some queued; waiting = queued_in self.old }) }
+    {
+        let Some(first) = self.current.take() else {
+            put(&mut self.current, Some(queued));
+            return Ok(());
+        };
+        match self.waiting.push_front(first) {
+            Ok(()) => {
+                put(&mut self.current, Some(queued));
+                Ok(())
+            }
+            Err(failed) => {
+                put(&mut self.current, Some(failed.value));
+                let_go(queued);
+                Err(NoMemory)
+            }
+        }
+    }
+
+    /// Whether it has no request left.
+    pub fn is_idle(&self) -> bool
+        ensures idle { result ≡ true → (self.now.current ≡ None) × (self.now.waiting ≡ []) }
+        ensures busy { result ≡ false → self.now.current ≢ None }
+    {
+        self.current.is_none()
+    }
+
     /// Does the next event of the request in turn; if that answers it, the next one is in turn. None if the lane has no request left.
     pub fn advance<D: Disk>(&mut self, store: &mut Store<D>) -> Option<LaneEvent>
         requires ready { store.old.stopped ≡ false → IsReadyRow self.old store.old (D.history store.old.disk) }
+        requires room { store.old.stopped ≡ false → HasTaskRoom store.old }
         ensures some { IfSome result (λ event. RowGoesOn self.old self.new event store.old store.new (D.history store.old.disk) (D.history store.new.disk) (D.faults store.old.disk) (D.faults store.new.disk)) }
         ensures none { IsNone result → (self.old.current ≡ None) × (self.old.waiting ≡ []) × (self.new ≡ self.old) × (store.new ≡ store.old) }
     {
@@ -82,14 +124,15 @@ fn let_go<T: Drop>(_answered: T) {}
 /// Does the next event of a request's task. The request is given back if it goes on.
 fn event_of<D: Disk>(first: Queued, store: &mut Store<D>) -> (LaneEvent, Option<Queued>)
     requires ready { store.old.stopped ≡ false → IsReadyTask first.task store.old (D.history store.old.disk) }
-    requires room { store.old.stopped ≡ false → HasTaskRoom first.task store.old }
+    requires room { store.old.stopped ≡ false → HasTaskRoom store.old }
     ensures { (next : TaskValue) × TaskGoesOn first next result.0 store.old store.new (D.history store.old.disk) (D.history store.new.disk) (D.faults store.old.disk) (D.faults store.new.disk) × (result.1 ≡ goes_on_by (ended_by result.0.ended) (record first { task = next })) }
 {
+    store.facts();
     let mut first = first;
     let ended = first.task.step(store);
     let event = LaneEvent {
         place: first.place,
-        did: last_did(&first.task),
+        did: first.task.did(),
         ended,
     };
     let goes_on = if_more(first, &event.ended);
@@ -106,19 +149,5 @@ fn if_more(first: Queued, ended: &Progress) -> Option<Queued>
             let_go(first);
             None
         }
-    }
-}
-
-/// What the last event of a task did.
-fn last_did(task: &Task) -> Did
-    ensures { result ≡ did_of task.now }
-{
-    match task {
-        Task::Ops(task) => task.did(),
-        Task::Counts(task) => task.did(),
-        Task::Make(task) => task.did(),
-        Task::Copy(task) => task.did(),
-        Task::Move(task) => task.did(),
-        Task::Expunge(task) => task.did(),
     }
 }

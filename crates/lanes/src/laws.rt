@@ -1,10 +1,14 @@
 // Lanes begin, go on and end.
 ghost use Rattle.std.specs.Prelude.{◌≡◌, ◌<◌, ◌≤◌, ◌+◌, ◌++◌, ℕ, false, List, [], length, slice_get, slice_set, Option, Some};
 ghost use Rattle.disk_model.specs.Disk.{History, Faults, told_calls};
+ghost use Rattle.mdbox_base.specs.declared.ids.Uid.{Uid};
 ghost use Rattle.mdbox_base.specs.declared.replies.Reply.{Reply};
+ghost use Rattle.mdbox_base.specs.declared.requests.Request.TheVariants as request;
+ghost use Rattle.mdbox_base.specs.declared.script.JournalEntry.{JournalEntry};
+ghost use Rattle.model_store.specs.Settled.{IsSettledFor};
 ghost use Rattle.model_lists.specs.Lists.{Lists};
 ghost use Rattle.list_machine.specs.Run.{Run, RunEvent, and_then, reply_of};
-ghost use Rattle.journal.specs.Journal.{Broken, HasReply, JournalStep, Requests, no_broken};
+ghost use Rattle.journal.specs.Journal.{AreEntriesOf, Broken, HasReply, JournalStep, Requests, moment_of, no_broken};
 ghost use Rattle.journal.specs.Makes.{HasCome};
 ghost use Rattle.serving.specs.Lanes.{replies_behind};
 ghost use Rattle.serving.specs.Serving.{AreIdle, HaveLanes, unreplied};
@@ -15,6 +19,7 @@ ghost use Rattle.task_steps.specs.Step.{Seen, ShowsSeen, ended_by};
 ghost use Rattle.mail_fetch.specs.Task.{seen_in};
 ghost use Rattle.lanes.specs.Going.{AddsEvent, AreFreshRows, IsGoing};
 ghost use Rattle.lanes.specs.Rows.{LaneRow, RowGoesOn, lanes_of};
+ghost use Rattle.lanes.specs.Worlds.{AreEntriesAt, ArePartsOf, IsFreshWorld, IsWorldOf, PartsValue, WorldValue};
 ghost use Rattle.lanes.specs.declared.lane.LaneEvent.{LaneEvent};
 
 use disk_model::Disk;
@@ -23,7 +28,8 @@ use disk_model::Disk;
 /// with the tasks with which these begin.
 pub fn lanes_begin<D: Disk>()
     ensures { (start : Lists) (script : Requests) (run : Run) (rows : List LaneRow) (store : StoreValue D) (history : Option History) (faults : Faults) → IsAtOpening run store → HasCome run store.map store.drawn (told_calls history) → HasNoTask store → store.stopped ≡ false → ShowsSeen (seen_in store history faults) start
-        → AreFreshRows script rows → HaveLanes script (lanes_of rows) → length rows ≤ 64 → IsGoing start script run [] no_broken (unreplied script) (seen_in store history faults) store history faults rows }
+        → AreFreshRows script rows → HaveLanes script (lanes_of rows) → length rows ≤ 64
+        → ((place lane : ℕ) (name : List ℕ) (uid : Uid) → slice_get script place ≡ Some (lane, request.Fetch name uid) → IsSettledFor start history) → IsGoing start script run [] no_broken (unreplied script) (seen_in store history faults) store history faults rows }
 {}
 
 /// A script that lanes serve is served with an event more of any lane, whatever the other lanes do: the run and the journal go on with
@@ -32,7 +38,7 @@ pub fn lanes_begin<D: Disk>()
 pub fn lanes_go_on<D: Disk>()
     ensures { (start : Lists) (script : Requests) (run : Run) (journal : List JournalStep) (broken : Broken) (replies : List (Option Reply)) (began : Seen) (rows : List LaneRow) (k : ℕ) (row now : LaneRow) (event : LaneEvent) (old new : StoreValue D) (before after : Option History) (first second : Faults)
         → slice_get rows k ≡ Some row → RowGoesOn row now event old new before after first second → IsGoing start script run journal broken replies began old before first rows
-        → (added : RunEvent) × (steps : List JournalStep) × (failed : Broken) × AddsEvent (k + 1) event after added steps
+        → (added : RunEvent) × (steps : List JournalStep) × (failed : Broken) × AddsEvent (k + 1) event run old.map before after added steps broken failed
         × IsGoing start script (and_then run added) (journal ++ steps) failed (replies_behind (ended_by event.ended) event.place replies) began new after second (slice_set rows k now) }
 {}
 
@@ -40,4 +46,16 @@ pub fn lanes_go_on<D: Disk>()
 pub fn lanes_end<D: Disk>()
     ensures { (start : Lists) (script : Requests) (run : Run) (journal : List JournalStep) (broken : Broken) (replies : List (Option Reply)) (began : Seen) (store : StoreValue D) (history : Option History) (faults : Faults) (rows : List LaneRow) → IsGoing start script run journal broken replies began store history faults rows
         → AreIdle (lanes_of rows) → (i : ℕ) → i < length script → (given : Reply) × HasReply replies i given × (reply_of i run ≡ Some given) }
+{}
+
+/// A world that begins with the parts of a script, over a store that lanes begin to serve it, is one of this script, whenever it was
+/// begun to be seen.
+pub fn worlds_begin<D: Disk>()
+    ensures { (start : Lists) (script : Requests) (run : Run) (began : Seen) (lanes : ℕ) (parts : PartsValue) (store : StoreValue D) (history : Option History) (faults : Faults) (world : WorldValue D) → IsFreshWorld store parts history world → ArePartsOf script lanes parts → run.events ≡ []
+        → IsGoing start script run [] no_broken (unreplied script) began store history faults parts.rows → IsWorldOf start script run [] no_broken began history faults world }
+{}
+
+/// The entries of a world over a disk that is modelled are those of its steps.
+pub fn entries_are_told()
+    ensures { (history : History) (began : ℕ) (run : Run) (steps : List JournalStep) (entries : List JournalEntry) → AreEntriesAt (Some history) began (moment_of run) steps entries → AreEntriesOf run began steps entries }
 {}

@@ -2,7 +2,13 @@
 #![tactic(auto)]
 
 pub use lane::{Lane, LaneEvent, Queued};
-pub use laws::{lanes_begin, lanes_end, lanes_go_on};
+pub use laws::{entries_are_told, lanes_begin, lanes_end, lanes_go_on, worlds_begin};
+pub use parts::WorldParts;
+pub use turn::{Turn, Turned};
+pub use world::{World, WorldRefused, world_of};
 
 mod lane;
 mod laws;
+mod parts;
+mod turn;
+mod world;

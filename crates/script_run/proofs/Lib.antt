@@ -1,3 +1,4 @@
+pub mod EndLemmas
 pub mod MailStaysLemmas
 pub mod OpenedLemmas
 pub mod RunBeginsLemmas

@@ -9,13 +9,19 @@ returns g c = (
   c.step-ended.new.self,
   record {
     place_is = refl;
-    did_is = c.last_did.ensures;
+    did_is = c.did.ensures;
     steps = c.step-ended.ensures.does;
     claims = c.step-ended.ensures.claims;
     leaves = c.step-ended.ensures.leaves;
     ready = c.step-ended.ensures.ready;
     unclaimed = c.step-ended.ensures.ended;
     left = c.step-ended.ensures.left;
+    stopped = c.step-ended.ensures.stopped;
+    halted = c.step-ended.ensures.halted;
+    undoomed = c.step-ended.ensures.undoomed;
+    store = c.facts.ensures.store;
+    ordered = c.facts.ensures.files;
+    image = g.met.D.Disk.reads_image c.args.store.now.disk;
   },
   c.if_more-goes_on.ensures,
 )

@@ -1,0 +1,116 @@
+-- What every world keeps stays with an event of a lane.
+use Rattle.std.proofs.Common.{◌≡◌, ◌<◌, ◌≤◌, ◌+◌, ◌-◌, ◌*◌, ◌^◌, ℕ, zero, suc, Bool, true, false, List, [], ◌∷◌, map, slice_set, Option, Some, None, refl, sym, ◌∙◌, ap, subst, arith, inl, inr}
+use Rattle.std.specs.Prelude.{◌≢◌, ◌⊎◌, All, length, slice_get}
+use Rattle.std.proofs.lemmas.List.{length-set}
+use Rattle.std.proofs.lemmas.List.Elements.{All-cons, All-head, All-tail, All-nil}
+use Rattle.disk_model.specs.Disk.{Faults, History}
+use Rattle.mdbox_base.specs.declared.replies.Reply.{Reply}
+use Rattle.serving.specs.Accounts.{LanesAccount}
+use Rattle.serving.specs.Lanes.{LaneValue, replies_behind}
+use Rattle.serving.specs.Serving.{AreIdle}
+use Rattle.serving.proofs.LaneLemmas.{get_set_other, get_set_same, nat_cases, one_some}
+use Rattle.serving.proofs.ServingLemmas.{all_at}
+use Rattle.task_steps.specs.Step.{ended_by}
+use Rattle.lane_tasks.specs.Tasks.{IsReadyTask, claims_at}
+use Rattle.lane_tasks.specs.declared.task.Task.{Task}
+use Rattle.store_core.specs.Value.{StoreValue}
+use Rattle.lanes.specs.Rows.{LaneRow, RowGoesOn, after_event, lane_value, lanes_of, next_in_turn, queue_in}
+use Rattle.lanes.specs.Worlds.{BeginsSome, IsIdleLane, IsSoundWorld, Works, WorldValue, replied_behind}
+use Rattle.lanes.specs.declared.lane.LaneEvent.{LaneEvent}
+use Rattle.lanes.specs.declared.lane.Queued.{Queued}
+use Rattle.lanes.proofs.GoingLemmas.{accounts_row, queue_is, value_at}
+
+-- ---- rows
+
+-- what holds of each row, and of one that comes in the place of another
+each_set : (P : LaneRow → Type 0) (rows : List LaneRow) (k : ℕ) (row now : LaneRow) → slice_get rows k ≡ Some row → P now → ((j : ℕ) (other : LaneRow) → slice_get rows j ≡ Some other → P other) → (j : ℕ) (other : LaneRow) → slice_get (slice_set rows k now) j ≡ Some other → P other
+each_set P rows k row now there own all j other is = by_case (nat_cases k j)
+  where
+    by_case : (k ≡ j) ⊎ (k ≢ j) → P other
+    by_case (inl e) = subst P (one_some now other (sym (get_set_same rows k now row there) ∙ (ap (λ (n : ℕ). slice_get (slice_set rows k now) n) e ∙ is))) own
+    by_case (inr apart) = all j other (sym (get_set_other rows k j now apart) ∙ is)
+
+waiting_after : (ended : Option Reply) (first : Queued) (waiting : List Queued) → All BeginsSome waiting → All BeginsSome (after_event ended first waiting).waiting
+waiting_after None first waiting all = all
+waiting_after (Some given) first [] all = All-nil BeginsSome
+waiting_after (Some given) first (next ∷ rest) all = All-tail BeginsSome next rest all
+
+place_of : Queued → ℕ
+place_of queued = queued.place
+
+queue_after : (P : ℕ → Type 0) (ended : Option Reply) (first : Queued) (place : ℕ) (waiting : List Queued) → first.place ≡ place → All P (place ∷ map (λ (q : Queued). q.place) waiting) → All P (queue_in (after_event ended first waiting))
+queue_after P None first place waiting same all = subst (λ (n : ℕ). All P (n ∷ map (λ (q : Queued). q.place) waiting)) (sym same) all
+queue_after P (Some given) first place [] same all = All-nil P
+queue_after P (Some given) first place (next ∷ rest) same all = All-tail P place (next.place ∷ map (λ (q : Queued). q.place) rest) all
+
+-- a lane that has a request in turn isn't idle
+pub busy : (rows : List LaneRow) (k : ℕ) (row : LaneRow) (first : Queued) → slice_get rows k ≡ Some row → row.current ≡ Some first → AreIdle (lanes_of rows) → ⊥
+busy rows k row first there was idle =
+    let e = all_at (λ (value : LaneValue Task). value.queue ≡ []) (lanes_of rows) k (lane_value row) idle (value_at rows k row there) in
+    let z : first.place ∷ map (λ (q : Queued). q.place) row.waiting ≡ [] = sym (queue_is row first was) ∙ e in cc z
+
+pub replies_many : (ended : Option Reply) (place : ℕ) (replies : List (Option Reply)) → length (replies_behind ended place replies) ≡ length replies
+replies_many None place replies = refl
+replies_many (Some given) place replies = length-set replies place (Some given)
+
+pub replied_many : (ended : Option Reply) (k : ℕ) (counts : List ℕ) → length (replied_behind ended k counts) ≡ length counts
+replied_many None k counts = refl
+replied_many (Some given) k counts = length-set counts k _
+
+pub ran_then : {D : Type 0} → (k : ℕ) (old new : WorldValue D) (before after : Option History) (first second : Faults) → Works k old new before after first second → new.store.stopped ≡ false → old.store.stopped ≡ false
+ran_then k old new before after first second w runs = by_test old.store.stopped refl
+  where
+    by_test : (b : Bool) → old.store.stopped ≡ b → old.store.stopped ≡ false
+    by_test true is = absurd (let z : true ≡ false = sym (w.goes.goes.halted is) ∙ runs in cc z)
+    by_test false is = is
+
+pub sound_on : {D : Type 0} → (k : ℕ) (old new : WorldValue D) (before after : Option History) (first second : Faults) → Works k old new before after first second → IsSoundWorld before old → IsSoundWorld after new
+sound_on {D} k old new before after first second w s = record {
+  few = let n = rows_many in let f = s.few in omega (arith, n, f);
+  waiting = λ j row there. each_set (λ r. All BeginsSome r.waiting) old.rows k w.row w.now w.there (subst (λ (r : LaneRow). All BeginsSome r.waiting) (sym w.goes.now_is) (waiting_after (ended_by w.event.ended) next w.row.waiting begins)) s.waiting j row (ap (λ (rs : List LaneRow). slice_get rs j) (sym w.rows_are) ∙ there);
+  accounts = λ runs. subst (λ (rows : List LaneRow). LanesAccount claims_at IsReadyTask new.store after (lanes_of rows)) (ap (slice_set old.rows k) (sym w.goes.now_is) ∙ sym w.rows_are)
+      (accounts_row old.rows k w.row w.now w.event old.store new.store before after first second w.there begins runs w.goes (s.accounts (ran runs)));
+  undoomed = λ runs. w.goes.goes.undoomed runs (s.undoomed (ran runs));
+  places = λ j row there. subst (λ (n : ℕ). All (λ place. place < n) (queue_in row)) (sym as_many)
+      (each_set (λ r. All (λ place. place < length old.replies) (queue_in r)) old.rows k w.row w.now w.there
+      (subst (λ (r : LaneRow). All (λ place. place < length old.replies) (queue_in r)) (sym w.goes.now_is) (queue_after (λ place. place < length old.replies) (ended_by w.event.ended) next w.goes.queued.place w.row.waiting refl
+      (subst (λ (ps : List ℕ). All (λ place. place < length old.replies) ps) (queue_is w.row w.goes.queued w.goes.was) (s.places k w.row w.there)))) s.places j row (ap (λ (rs : List LaneRow). slice_get rs j) (sym w.rows_are) ∙ there));
+  short = let n = as_many in let f = s.short in omega (arith, n, f);
+  clock = subst (λ (n : ℕ). n ≤ 2 ^ 64 - 1) (sym w.began_is) s.clock;
+  many = ap length w.replied_are ∙ (replied_many (ended_by w.event.ended) k old.replied ∙ (s.many ∙ sym rows_many));
+  room = w.room_is ∙ (s.room ∙ (let n = as_many in let r = rows_many in omega (arith, n, r)));
+  idle = λ done. absurd (busy old.rows k w.row w.goes.queued w.there w.goes.was (s.idle (sym w.finished_is ∙ done)));
+}
+  where
+    next : Queued
+    next = record w.goes.queued { task = w.goes.next }
+
+    begins : All BeginsSome w.row.waiting
+    begins = s.waiting k w.row w.there
+
+    ran : new.store.stopped ≡ false → old.store.stopped ≡ false
+    ran = ran_then k old new before after first second w
+
+    rows_many : length new.rows ≡ length old.rows
+    rows_many = ap length w.rows_are ∙ length-set old.rows k w.now
+
+    as_many : length new.replies ≡ length old.replies
+    as_many = ap length w.replies_are ∙ replies_many (ended_by w.event.ended) w.event.place old.replies
+
+-- the request of an event has a place among the replies
+pub place_within : {D : Type 0} → (k : ℕ) (row now : LaneRow) (event : LaneEvent) (old new : StoreValue D) (before after : Option History) (first second : Faults) (world : WorldValue D) → RowGoesOn row now event old new before after first second → (history : Option History) → IsSoundWorld history world → slice_get world.rows k ≡ Some row → event.place < length world.replies
+place_within k row now event old new before after first second world g history s there =
+    let all = subst (λ (ps : List ℕ). All (λ place. place < length world.replies) ps) (queue_is row g.queued g.was) (s.places k row there) in
+    let one = All-head (λ (place : ℕ). place < length world.replies) g.queued.place (map (λ (q : Queued). q.place) row.waiting) all in
+    let same = g.goes.place_is in
+    omega (arith, one, same)
+
+-- a lane with a request in turn isn't idle
+pub not_idle : (lane : ℕ) (rows : List LaneRow) (row : LaneRow) → slice_get rows (lane - 1) ≡ Some row → (row.current ≢ None) → IsIdleLane lane rows → ⊥
+not_idle lane rows row there some idle = some (ap (λ (r : LaneRow). r.current) (one_some row idle.0 (sym there ∙ idle.1)) ∙ idle.2)
+
+-- lanes of which none has a request in turn are idle
+pub all_idle : (rows : List LaneRow) → ((k : ℕ) (row : LaneRow) → slice_get rows k ≡ Some row → row.current ≡ None) → AreIdle (lanes_of rows)
+all_idle [] none = All-nil (λ (value : LaneValue Task). value.queue ≡ [])
+all_idle (row ∷ rows) none =
+    All-cons (λ (value : LaneValue Task). value.queue ≡ []) (lane_value row) (lanes_of rows) (ap (λ (o : Option Queued). queue_in (record row { current = o })) (none 0 row refl)) (all_idle rows (λ k r there. none (suc k) r there))

@@ -1,0 +1,40 @@
+use Rattle.std.proofs.Common.{rules, ◌≡◌, ◌≤◌, ◌+◌, ◌*◌, [], ℕ, List, Option, None, length, replicate, vec_len, refl, sym, ◌∙◌, ap, subst, arith}
+use Rattle.mdbox_base.specs.declared.replies.Reply.{Reply}
+use Rattle.lanes.specs.Worlds.{AreRowsFrom}
+use Rattle.lanes.proofs.PartsLemmas.{parts_fresh, parts_of, replies_many}
+use Rattle.lanes.proofs.parts.WorldParts.of.Goals as goal
+
+pub invariant_of-result : goal.invariant_of-result
+invariant_of-result c =
+    let requests : c.length-requests.result ≡ length c.args.script.requests = c.length-requests.ensures in
+    let items : c.in_ok-no_replies.field-0.items ≡ replicate c.length-requests.result None = c.in_ok-no_replies.ensures.0 in
+    let many : length c.in_ok-no_replies.field-0.items ≡ c.length-requests.result = ap (λ (rs : List (Option Reply)). length rs) items ∙ replies_many c.length-requests.result in
+    let from = c.in_ok-lanes_for.ensures.1 in
+    let lanes : length c.in_ok-lanes_for.field-0.items ≡ c.args.script.lanes = from.0 in
+    let zeros : c.in_ok-vec.field-0.items ≡ replicate c.args.script.lanes 0 = search rules in
+    let journal_room = c.in_ok-with_capacity.ensures.capacity in
+    let turns_room = c.in_ok-with_capacity-3.ensures.capacity in (
+      parts_fresh c.args.script.requests c.args.script.lanes (length c.in_ok-no_replies.field-0.items) c.in_ok-lanes_for.field-0.items from (many ∙ requests) c.requires.few,
+      c.in_ok-lanes_for.ensures.0,
+      c.in_ok-no_replies.field-0.ok.0,
+      items ∙ ap (λ (n : ℕ). replicate n None) (sym many),
+      zeros ∙ ap (λ (n : ℕ). replicate n 0) (sym lanes),
+      c.in_ok-vec.field-0.ok.0,
+      c.in_ok-with_capacity.ensures.items,
+      c.in_ok-with_capacity.ensures.len,
+      omega (arith, many, journal_room),
+      c.in_ok-with_capacity-2.ensures.items,
+      c.in_ok-with_capacity-2.ensures.len,
+      c.in_ok-with_capacity-2.ensures.capacity,
+      c.in_ok-with_capacity-3.ensures.items,
+      c.in_ok-with_capacity-3.ensures.len,
+      turns_room,
+      omega (arith, many, lanes),
+    )
+
+pub returns : goal.returns
+returns c =
+    let requests : c.length-requests.result ≡ length c.args.script.requests = c.length-requests.ensures in
+    let items : c.in_ok-no_replies.field-0.items ≡ replicate c.length-requests.result None = c.in_ok-no_replies.ensures.0 in
+    let many : length c.in_ok-no_replies.field-0.items ≡ c.length-requests.result = ap (λ (rs : List (Option Reply)). length rs) items ∙ replies_many c.length-requests.result in
+    parts_of c.args.script.requests c.args.script.lanes (length c.in_ok-no_replies.field-0.items) c.in_ok-lanes_for.field-0.items c.in_ok-lanes_for.ensures.1 (many ∙ requests)
