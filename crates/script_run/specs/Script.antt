@@ -1,5 +1,5 @@
 -- What a script makes of a store.
-use Rattle.std.specs.Prelude.{◌≡◌, ℕ, List, Option, Some, Contains, map, All}
+use Rattle.std.specs.Prelude.{ℕ, List, Option, Some, Contains, map}
 use Rattle.disk_model.specs.Disk.{told_calls, History, Faults, EachImage}
 use Rattle.mdbox_base.specs.declared.entries.Highest.{Highest}
 use Rattle.mdbox_base.specs.declared.replies.Refusal.TheVariants as refusal
