@@ -1,4 +1,5 @@
 pub mod ImageLemmas
 pub mod NameStepLemmas
 pub mod OwnLemmas
+pub mod SpelledLemmas
 pub mod StepLemmas

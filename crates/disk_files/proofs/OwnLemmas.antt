@@ -7,8 +7,8 @@ use Rattle.disk_files.proofs.NameStepLemmas.{may_cases, new_cases, numbered, syn
 -- fewer files may stand
 owns_fewer : (s t : System) → ((path : List ℕ) (number : ℕ) → MayStand t path (PlainFile number) → MayStand s path (PlainFile number)) → HasOwnFiles s → HasOwnFiles t
 owns_fewer s t fewer owns = record {
-  own = λ path other number may stand. owns.own path other number (fewer path number may) (fewer other number stand);
-  one = λ path number other may stand. owns.one path number other (fewer path number may) (fewer path other stand);
+  own = λ path other number is also may stand. owns.own path other number is also (fewer path number may) (fewer other number stand);
+  one = λ path number other is may stand. owns.one path number other is (fewer path number may) (fewer path other stand);
 }
 
 pub owns_put : (path : List ℕ) (put : Node) (s : System) → ((number : ℕ) → PlainFile number ≢ put) → HasOwnFiles s → HasOwnFiles (with_node path put s)
@@ -25,24 +25,24 @@ number_is a b e = cc
 
 pub owns_new : (path : List ℕ) (s : System) → IsSystem s → ((number : ℕ) → MayStand s path (PlainFile number) → ⊥) → HasOwnFiles s → HasOwnFiles (with_new_file path s)
 owns_new path s system none owns = record {
-  own = λ p q number may stand. elim (new_cases s path p (PlainFile number) may) [
+  own = λ p q number is_p is_q may stand. elim (new_cases s path p (PlainFile number) may) [
     | inl here ↦ elim (new_cases s path q (PlainFile number) stand) [
       | inl there ↦ here.0 ∙ sym there.0
       | inr before ↦ absurd (too_high number (number_is number s.count here.1) (numbered s q number system before))
     ]
     | inr before ↦ elim (new_cases s path q (PlainFile number) stand) [
       | inl there ↦ absurd (too_high number (number_is number s.count there.1) (numbered s p number system before))
-      | inr also ↦ owns.own p q number before also
+      | inr also ↦ owns.own p q number is_p is_q before also
     ]
   ];
-  one = λ p number other may stand. elim (new_cases s path p (PlainFile number) may) [
+  one = λ p number other is_p may stand. elim (new_cases s path p (PlainFile number) may) [
     | inl here ↦ elim (new_cases s path p (PlainFile other) stand) [
       | inl there ↦ number_is number s.count here.1 ∙ sym (number_is other s.count there.1)
       | inr before ↦ let F : List ℕ → Type 0 = λ l. MayStand s l (PlainFile other) in absurd (none other (subst F here.0 before))
     ]
     | inr before ↦ elim (new_cases s path p (PlainFile other) stand) [
       | inl there ↦ let F : List ℕ → Type 0 = λ l. MayStand s l (PlainFile number) in absurd (none number (subst F there.0 before))
-      | inr also ↦ owns.one p number other before also
+      | inr also ↦ owns.one p number other is_p before also
     ]
   ];
 }

@@ -8,7 +8,8 @@ use Rattle.disk_model.specs.declared.name.FileName.{FileName}
 use Rattle.disk_model.proofs.NameLemmas.{same_name-true, same_name-eq}
 use Rattle.file_paths.specs.Paths.{path_text, IsStoreFile}
 use Rattle.file_paths.specs.OneFile.{HaveOwnPaths}
-use Rattle.folder_model.specs.Paths.{folder_at}
+use Rattle.folder_model.specs.Paths.{folder_at, IsPath}
+use Rattle.disk_files.proofs.SpelledLemmas.{spelled}
 use Rattle.folder_model.specs.System.{Node, Nothing, PlainFile, AFolder, Another, System, MayStand, IsHalfWritten, with_content}
 use Rattle.disk_files.specs.Follows.{octets_at, CoversFile, StaysFolder, Current, Below, FollowsPath, FollowsSystem, HasOwnFiles, ChangesAlike, half_written_as}
 
@@ -35,9 +36,9 @@ reads_there f octets reads = elim (cases_Bool f.is_there) [
 
 module _ (number : ℕ) (step other : FileState → FileState) (s : System) where
   -- the file that changes
-  here : (f : FileState) (path : List ℕ) → HasOwnFiles s → s.node path ≡ PlainFile number → ChangesAlike step other f (s.content number) → FollowsPath f s path
+  here : (f : FileState) (path : List ℕ) → HasOwnFiles s → IsPath path → s.node path ≡ PlainFile number → ChangesAlike step other f (s.content number) → FollowsPath f s path
       → FollowsPath (step f) (with_content number other s) path
-  here f path owns stands alike follows =
+  here f path owns is_path stands alike follows =
       let g = s.content number in
       let reads : (f.is_there ≡ true) × (f.octets ≡ g.octets) = reads_there f g.octets (follows.reads ∙ ap (octets_at s) stands) in
       let may : MayStand s path (PlainFile number) = inl (sym stands) in
@@ -48,7 +49,7 @@ module _ (number : ℕ) (step other : FileState → FileState) (s : System) wher
         holds = λ n stand.
             let F : ℕ → Type 0 = λ k. CoversFile (step f) ((with_content number other s).content k) in
             let G : FileState → Type 0 = λ h. CoversFile (step f) h in
-            subst F (owns.one path number n may stand) (subst G (sym (content-same number other s)) (alike.covers reads.1 (follows.holds number may)));
+            subst F (owns.one path number n is_path may stand) (subst G (sym (content-same number other s)) (alike.covers reads.1 (follows.holds number may)));
         firm = λ is node stand. follows.firm (sym alike.loose ∙ is) node stand;
         stays = λ is there. stays-like s (with_content number other s) (λ p node m. m) (folder_at path) (follows.stays (sym alike.loose ∙ is) (sym alike.there ∙ there));
       }
@@ -60,15 +61,15 @@ module _ (number : ℕ) (step other : FileState → FileState) (s : System) wher
   octets_apart Another apart = refl
 
   -- a file at another path
-  elsewhere : (f : FileState) (path own : List ℕ) → HasOwnFiles s → s.node own ≡ PlainFile number → path ≢ own → FollowsPath f s path → FollowsPath f (with_content number other s) path
-  elsewhere f path own owns stands apart follows =
+  elsewhere : (f : FileState) (path own : List ℕ) → HasOwnFiles s → IsPath path → IsPath own → s.node own ≡ PlainFile number → path ≢ own → FollowsPath f s path → FollowsPath f (with_content number other s) path
+  elsewhere f path own owns is_path is_own stands apart follows =
       let may : MayStand s own (PlainFile number) = inl (sym stands) in
       record {
-        reads = follows.reads ∙ sym (octets_apart (s.node path) (λ same. apart (owns.own path own number (inl (sym same)) may)));
+        reads = follows.reads ∙ sym (octets_apart (s.node path) (λ same. apart (owns.own path own number is_path is_own (inl (sym same)) may)));
         holds = λ n stand.
             let F : FileState → Type 0 = λ h. CoversFile f h in
             let G : ℕ → Type 0 = λ k. MayStand s path (PlainFile k) in
-            subst F (sym (content-apart number n other s (λ same. apart (owns.own path own number (subst G same stand) may)))) (follows.holds n stand);
+            subst F (sym (content-apart number n other s (λ same. apart (owns.own path own number is_path is_own (subst G same stand) may)))) (follows.holds n stand);
         firm = λ is node stand. follows.firm is node stand;
         stays = λ is there. stays-like s (with_content number other s) (λ p node m. m) (folder_at path) (follows.stays is there);
       }
@@ -82,11 +83,11 @@ module _ (number : ℕ) (step other : FileState → FileState) (s : System) wher
         let e : n ≡ name = same_name-true n name same in
         let F : FileState → Type 0 = λ f. FollowsPath f (with_content number other s) (path_text n) in
         let G : FileName → Type 0 = λ k. FollowsPath (step (disk k)) (with_content number other s) (path_text k) in
-        subst F (sym (cond-true (same_name n name) (step (disk n)) (disk n) same)) (subst G (sym e) (here (disk name) (path_text name) owns stands alike (follows name file)))
+        subst F (sym (cond-true (same_name n name) (step (disk n)) (disk n) same)) (subst G (sym e) (here (disk name) (path_text name) owns (spelled name file) stands alike (follows name file)))
     | inr other_name ↦
         let F : FileState → Type 0 = λ f. FollowsPath f (with_content number other s) (path_text n) in
         let apart : path_text n ≢ path_text name = λ same. apart_names n name other_name (paths n name is file same) in
-        subst F (sym (cond-false (same_name n name) (step (disk n)) (disk n) other_name)) (elsewhere (disk n) (path_text n) (path_text name) owns stands apart (follows n is))
+        subst F (sym (cond-false (same_name n name) (step (disk n)) (disk n) other_name)) (elsewhere (disk n) (path_text n) (path_text name) owns (spelled n is) (spelled name file) stands apart (follows n is))
   ]
     where
       apart_names : (a b : FileName) → same_name a b ≡ false → a ≢ b

@@ -3,7 +3,7 @@ use Rattle.std.specs.Prelude.{◌≡◌, ℕ, ◌<◌, ◌≤◌, false, true, L
 use Rattle.disk_model.specs.Disk.{Files, FileState, DiskState, MayLeave, half_written, reading}
 use Rattle.disk_model.specs.declared.name.FileName.{FileName}
 use Rattle.file_paths.specs.Paths.{path_text, IsStoreFile}
-use Rattle.folder_model.specs.Paths.{folder_at}
+use Rattle.folder_model.specs.Paths.{folder_at, IsPath}
 use Rattle.folder_model.specs.System.{Node, Nothing, PlainFile, AFolder, Another, System, MayStand, IsLeftByCrash}
 
 -- the octets of what stands at a path, if it is a plain file
@@ -46,8 +46,8 @@ CoversSystem disk s = (after : System) → IsLeftByCrash s after → (name : Fil
 
 -- No file has two paths, and at no path may two files stand.
 pub record HasOwnFiles (s : System) : Type 0 where
-  pub own : (path other : List ℕ) (number : ℕ) → MayStand s path (PlainFile number) → MayStand s other (PlainFile number) → path ≡ other
-  pub one : (path : List ℕ) (number other : ℕ) → MayStand s path (PlainFile number) → MayStand s path (PlainFile other) → number ≡ other
+  pub own : (path other : List ℕ) (number : ℕ) → IsPath path → IsPath other → MayStand s path (PlainFile number) → MayStand s other (PlainFile number) → path ≡ other
+  pub one : (path : List ℕ) (number other : ℕ) → IsPath path → MayStand s path (PlainFile number) → MayStand s path (PlainFile other) → number ≡ other
 
 -- Two changes of files do alike: what the wide one covered it still covers.
 pub record ChangesAlike (step other : FileState → FileState) (f g : FileState) : Type 0 where

@@ -3,6 +3,7 @@ ghost use Rattle.std.specs.Prelude.{◌≡◌, ◌≢◌, true, ℕ, List};
 ghost use Rattle.disk_model.specs.Disk.{FileState, DiskState, change, change_all, written, cut_to, synced, made, removed, named};
 ghost use Rattle.disk_model.specs.declared.name.FileName.{FileName};
 ghost use Rattle.file_paths.specs.Paths.{path_text, IsStoreFile};
+ghost use Rattle.folder_model.specs.Paths.{IsPath};
 ghost use Rattle.folder_model.specs.System.{System, IsSystem, Nothing, PlainFile, AFolder, with_node, with_new_file, with_content, with_synced_file, with_synced_names, MayStand, with_lock, with_failed_sync, after_end, IsHalfWritten};
 ghost use Rattle.disk_files.specs.Follows.{FollowsSystem, CoversSystem, HasOwnFiles, HasDurableNames, half_written_as};
 
@@ -11,6 +12,11 @@ use file_paths::files_have_own_paths;
 /// What a crash may leave of a system is an image of each disk that follows it.
 pub fn images_are_covered()
     ensures { (disk : DiskState) (s : System) → FollowsSystem disk s → CoversSystem disk s }
+{}
+
+/// The paths of a store's files are of one spelling.
+pub fn paths_are_spelled()
+    ensures { (name : FileName) → IsStoreFile name → IsPath (path_text name) }
 {}
 
 /// A disk follows a system through a write of a file.

@@ -14,6 +14,7 @@ pub fn read_all<F: Folder>(
 ) -> Result<(), CallError>
     requires { IsLocked (F.modelled folder.old) }
     ensures octets { OnOk result (IfSound (F.modelled folder.old) (λ s. into.new ≡ take (length into.old) (drop offset (s.content (F.number file.now)).octets))) }
+    ensures still { F.past folder.new ≡ F.past folder.old }
     ensures same { F.modelled folder.new ≡ F.modelled folder.old }
 {
     let Some(_) = offset.checked_add(into.len() as u64) else {

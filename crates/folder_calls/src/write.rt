@@ -2,7 +2,8 @@
 ghost use Rattle.std.specs.Prelude.{◌≡◌, ◌+◌, ◌<◌, ◌≤◌, ◌^◌, length, IfOk, OnOk, OnErr};
 ghost use Rattle.disk_model.specs.Disk.{written};
 ghost use Rattle.folder_model.specs.System.{with_content, IsHalfWritten};
-ghost use Rattle.folder_model.specs.Calls.{IfModelled, IsLocked, IsPartlyDone, done_by};
+ghost use Rattle.folder_model.specs.Calls.{IfModelled, IsLocked, IsPartlyDone, AreSince, done_by};
+ghost use Rattle.folder_calls.specs.Writing.{IsOnItsWay};
 
 use folder_model::{CallError, Folder};
 
@@ -18,6 +19,7 @@ pub fn write_all<F: Folder>(
     requires reaches { IfModelled (F.modelled folder.old) (λ s. offset ≤ length (s.content (F.number file.now)).octets) }
     ensures wrote { OnOk result (F.modelled folder.new ≡ done_by (with_content (F.number file.now) (written offset from.now)) (F.modelled folder.old)) }
     ensures failed { OnErr result (IsPartlyDone (F.number file.now) (IsHalfWritten offset (length from.now)) (F.modelled folder.old) (F.modelled folder.new)) }
+    ensures passed { AreSince (IsOnItsWay (F.number file.now) offset from.now (F.modelled folder.old)) (F.past folder.old) (F.past folder.new) }
     ensures fits { OnOk result (offset + length from.now < 2 ^ 64) }
 {
     let Some(_) = offset.checked_add(from.len() as u64) else {

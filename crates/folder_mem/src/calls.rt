@@ -1,6 +1,6 @@
 // The calls of a folder.
 ghost use Rattle.std.specs.Prelude.{◌<◌, ◌≤◌};
-ghost use Rattle.folder_mem.specs.Mem.{mem_model};
+ghost use Rattle.folder_mem.specs.Mem.{mem_model, mem_past};
 ghost use Rattle.folder_mem.specs.SystemLaw.{system_is};
 
 use crate::folder::{MemFile, MemFolder};
@@ -15,6 +15,8 @@ impl Folder for MemFolder {
     type File = MemFile;
 
     ghost modelled = { mem_model };
+
+    ghost past = { mem_past };
 
     ghost number = { λ file. file.number };
 
@@ -146,6 +148,9 @@ impl Folder for MemFolder {
     fn sync_folder(&mut self, path: &str) -> Result<(), CallError> {
         if let Turn::Broken = self.begin()? {
             self.note(Change::SyncFailed)?;
+            return Err(CallError::Failed);
+        }
+        if seen_path(&self.changes, path).thing != Thing::Folder {
             return Err(CallError::Failed);
         }
         let path = self.text_of(path)?;

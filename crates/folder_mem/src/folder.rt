@@ -29,15 +29,16 @@ pub struct MemFolder {
 }
 
 impl MemFolder {
-    ghost use Rattle.std.specs.Prelude.{Some, IfOk, OnOk, OnErr, string_bytes};
+    ghost use Rattle.std.specs.Prelude.{[], Some, IfOk, OnOk, OnErr, string_bytes};
     ghost use Rattle.folder_model.specs.System.{after_end};
-    ghost use Rattle.folder_model.specs.Calls.{done_by};
+    ghost use Rattle.folder_model.specs.Calls.{done_by, passed};
     ghost use Rattle.folder_mem.specs.Notes.{empty_system, changes_to, system_after};
-    ghost use Rattle.folder_mem.specs.Mem.{mem_model};
+    ghost use Rattle.folder_mem.specs.Mem.{mem_model, mem_past};
 
     /// An empty folder.
     pub fn empty(alloc: Global) -> MemFolder
-        ensures { mem_model result ≡ Some (record { start = empty_system; now = empty_system }) }
+        ensures model { mem_model result ≡ Some (record { start = empty_system; now = empty_system }) }
+        ensures past { mem_past result ≡ [] }
     {
         MemFolder {
             alloc,
@@ -54,6 +55,7 @@ impl MemFolder {
     /// The same folder, whose calls go so, by their numbers, counted from 1 after this call.
     pub fn going(self, turns: Seq<(u64, Turn)>) -> MemFolder
         ensures model { mem_model result ≡ mem_model self }
+        ensures past { mem_past result ≡ mem_past self }
         ensures plan { result.plan ≡ record { turns = turns; call = 0 } }
     {
         let mut folder = self;
@@ -64,7 +66,9 @@ impl MemFolder {
 
     /// The same folder, of which another process has the lock, or none.
     pub fn held(self, is_held: bool) -> MemFolder
-        ensures { mem_model result ≡ mem_model self }
+        ensures model { mem_model result ≡ mem_model self }
+        ensures past { mem_past result ≡ mem_past self }
+        ensures held { result.is_held ≡ is_held }
     {
         let mut folder = self;
         folder.is_held = is_held;
@@ -73,7 +77,8 @@ impl MemFolder {
 
     /// What a new process finds after this one has ended.
     pub fn kill(self) -> Result<MemFolder, NoMemory>
-        ensures { IfOk result (λ folder. let now = after_end (system_after self.changes.items) in mem_model folder ≡ Some (record { start = now; now = now })) }
+        ensures past { IfOk result (λ folder. mem_past folder ≡ []) }
+        ensures model { IfOk result (λ folder. let now = after_end (system_after self.changes.items) in mem_model folder ≡ Some (record { start = now; now = now })) }
     {
         let mut folder = self;
         folder.changes.push(Change::Ended)?;
@@ -84,7 +89,9 @@ impl MemFolder {
     /// Makes a change.
     pub(crate) fn note(&mut self, change: Change) -> Result<(), NoMemory>
         ensures ok { OnOk result (mem_model self.new ≡ done_by (changes_to change) (mem_model self.old)) }
+        ensures passed { OnOk result (mem_past self.new ≡ passed (mem_model self.old) (mem_past self.old)) }
         ensures err { OnErr result (mem_model self.new ≡ mem_model self.old) }
+        ensures still { OnErr result (mem_past self.new ≡ mem_past self.old) }
     {
         self.changes.push(change)?;
         Ok(())
@@ -92,7 +99,8 @@ impl MemFolder {
 
     /// How the next call goes. An error where nothing is to be done.
     pub(crate) fn begin(&mut self) -> Result<Turn, CallError>
-        ensures { mem_model self.new ≡ mem_model self.old }
+        ensures model { mem_model self.new ≡ mem_model self.old }
+        ensures past { mem_past self.new ≡ mem_past self.old }
     {
         match self.plan.next() {
             Turn::Interrupted => Err(CallError::Interrupted),

@@ -5,7 +5,7 @@ use Rattle.std.proofs.lemmas.Bool.{cases_Bool, cond-true, cond-false, eqb-true, 
 use Rattle.std.proofs.lemmas.List.{length-append, length-take, length-take-le, length-drop, take-take, take_rest, drop-take, take-append-drop}
 use Rattle.std.proofs.lemmas.List.Elements.{All-take}
 use Rattle.disk_model.specs.Disk.{FileState, overlaid, written, cut_to}
-use Rattle.folder_model.specs.System.{System, IsSystem, IsHalfWritten, IsHalfCut, with_content}
+use Rattle.folder_model.specs.System.{System, IsSystem, IsHalfWritten, IsHalfCut, with_content, weakened}
 use Rattle.folder_model.specs.Calls.{Modelled, IfModelled, IsLocked, IsPartlyDone, done_by}
 use Rattle.folder_model.proofs.PartLemmas.{written-written, written-nil, written-half, half-written}
 
@@ -133,6 +133,7 @@ writes-stop number at done octets (Some old) now fit is reaches so =
       (
         written at (take done octets) (old.now.content number),
         written-half (old.now.content number) at (length octets) (take done octets) (is.contents number) reaches short (All-take (λ octet. octet < 256) done octets fit),
+        true,
         ap (with_contents old.now) (changed_like number (written at (take done octets)) (λ _. written at (take done octets) (old.now.content number)) old.now.content refl),
       ),
     ))
@@ -147,6 +148,7 @@ cut-part number end (Some old) now so =
       (
         cut_to end (old.now.content number),
         record { end = end; is = refl; least = omega arith },
+        true,
         ap (with_contents old.now) (changed_like number (cut_to end) (λ _. cut_to end (old.now.content number)) old.now.content refl),
       ),
     ))
@@ -177,7 +179,8 @@ fails-after number at done octets (Some old) (Some new) within fit is reaches (i
       (
         f,
         half-written (old.now.content number) f at rest (length octets) first (is.contents number) reaches (omega (arith, long, size)) half,
-        part.1.2 ∙ content-content number (written at first) (λ _. f) (λ _. f) old.now refl,
+        part.1.2,
+        part.1.3 ∙ ap (weakened part.1.2) (content-content number (written at first) (λ _. f) (λ _. f) old.now refl),
       ),
     )
 

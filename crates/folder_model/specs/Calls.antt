@@ -1,7 +1,7 @@
 -- What a call of the system says, where the system's files are modelled.
-use Rattle.std.specs.Prelude.{◌≡◌, ◌⊎◌, ℕ, true, Option, Some, None, MatchOption, ⊤}
+use Rattle.std.specs.Prelude.{◌≡◌, ◌⊎◌, ℕ, Bool, true, List, ◌∷◌, Option, Some, None, MatchOption, Contains, ⊤}
 use Rattle.disk_model.specs.Disk.{FileState}
-use Rattle.folder_model.specs.System.{Node, Nothing, PlainFile, AFolder, Another, System, with_content}
+use Rattle.folder_model.specs.System.{Node, Nothing, PlainFile, AFolder, Another, System, with_content, weakened}
 use Rattle.folder_model.specs.declared.folder.Kind.{Kind}
 use Rattle.folder_model.specs.declared.folder.Kind.TheVariants as kind
 
@@ -37,10 +37,24 @@ Becomes R (Some old) (Some new) = (new.start ≡ old.start) × R old.now new.now
 abbrev pub IsDoneOrNot : (System → System) → Option Modelled → Option Modelled → Type 0
 IsDoneOrNot step old new = (new ≡ old) ⊎ (new ≡ done_by step old)
 
--- a call that failed has done a part of a change of one file, or nothing
+-- the systems that calls have left before, the latest first, and the present one before them
+abbrev pub passed : Option Modelled → List System → List System
+passed None past = past
+passed (Some m) past = m.now ∷ past
+
+-- After a call the system before it is one of the past, or it is still the present one.
+abbrev pub HasPassed : Option Modelled → List System → Option Modelled → List System → Type 0
+HasPassed old before new after = (after ≡ passed old before) ⊎ ((after ≡ before) × (new ≡ old))
+
+-- each system that calls have left since is so
+abbrev pub AreSince : (System → Type 0) → List System → List System → Type 0
+AreSince P old new = (s : System) → Contains new s → Contains old s ⊎ P s
+
+-- A call that failed has done a part of a change of one file, or nothing. The system may go on as after a sync that failed: an
+-- earlier write may have been lost.
 abbrev pub IsPartlyDone : ℕ → (FileState → FileState → Type 0) → Option Modelled → Option Modelled → Type 0
 IsPartlyDone number R old new =
-    (new ≡ old) ⊎ Becomes (λ before after. (f : FileState) × R (before.content number) f × (after ≡ with_content number (λ _. f) before)) old new
+    (new ≡ old) ⊎ Becomes (λ before after. (f : FileState) × R (before.content number) f × (sound : Bool) × (after ≡ weakened sound (with_content number (λ _. f) before))) old new
 
 -- what a look at a path tells
 abbrev pub kind_of_node : Node → Kind

@@ -1,9 +1,9 @@
 -- The system's files as the calls of one process see them, what of them is durable, and what a crash may leave.
-use Rattle.std.specs.Prelude.{◌≡◌, ◌≢◌, ◌⊎◌, ℕ, ◌==◌, ◌+◌, ◌<◌, ◌≤◌, max, Bool, true, false, if◌then◌else◌, List, [], ◌∷◌, length, take, slice_get, All, Contains, ⊤, codes}
+use Rattle.std.specs.Prelude.{◌≡◌, ◌≢◌, ◌⊎◌, ℕ, ◌==◌, ◌+◌, ◌<◌, ◌≤◌, max, Bool, true, false, ◌&&◌, if◌then◌else◌, List, [], ◌∷◌, length, take, slice_get, All, Contains, ⊤, codes}
 use Rattle.disk_model.specs.Name.{same_octets}
 use Rattle.disk_model.specs.Disk.{FileState, MayHold, covers, still, synced, half_written, half_cut}
 use Rattle.std.specs.Str.{IsUtf8}
-use Rattle.folder_model.specs.Paths.{folder_at}
+use Rattle.folder_model.specs.Paths.{folder_at, lock_name}
 
 -- What stands at a path: nothing, a plain file by the system's number for it, a folder, or another thing, as a link or a device.
 pub data Node : Type 0 where
@@ -53,6 +53,10 @@ with_synced_file number s = with_content number (λ f. if s.is_sound then synced
 -- after a sync that failed
 abbrev pub with_failed_sync : System → System
 with_failed_sync s = record s { is_sound = false }
+
+-- after a change that failed: the system may go on as after a sync that failed
+abbrev pub weakened : Bool → System → System
+weakened sound s = record s { is_sound = sound && s.is_sound }
 
 -- after the lock was had
 abbrev pub with_lock : System → System
@@ -106,9 +110,9 @@ pub record StandsIn (s : System) (folder path : List ℕ) : Type 0 where
   pub below : path ≢ codes "."
   pub there : s.node path ≢ Nothing
 
--- these are paths of what stands in a folder, and all of them that are text
+-- These are paths of what stands in a folder, and all of them that are text. The lock's file may be among them.
 pub record ArePathsIn (s : System) (folder : List ℕ) (paths : List (List ℕ)) : Type 0 where
-  pub stand : (path : List ℕ) → Contains paths path → StandsIn s folder path
+  pub stand : (path : List ℕ) → Contains paths path → StandsIn s folder path ⊎ (path ≡ lock_name)
   pub all : (path : List ℕ) → StandsIn s folder path → IsUtf8 path → Contains paths path
 
 -- a crash may leave this at a path
@@ -116,9 +120,12 @@ abbrev pub MayStand : System → List ℕ → Node → Type 0
 MayStand s path node = (node ≡ s.node path) ⊎ Contains (s.earlier path) node
 
 -- What a crash leaves: the current folder; at each path a thing that may stand there, or nothing where its folder is gone; and of
--- each file octets that it may hold. All of it is durable.
+-- each file octets that it may hold. All of it is durable, the system is sound, and nobody has the lock.
 pub record IsLeftByCrash (before after : System) : Type 0 where
   pub current : after.node (codes ".") ≡ AFolder
   pub node : (path : List ℕ) → MayStand before path (after.node path) ⊎ ((after.node path ≡ Nothing) × (after.node (folder_at path) ≢ AFolder))
   pub earlier : (path : List ℕ) → after.earlier path ≡ []
   pub content : (number : ℕ) → (octets : List ℕ) × MayHold (before.content number) octets × (after.content number ≡ still octets)
+  pub count : after.count ≡ before.count
+  pub sound : after.is_sound ≡ true
+  pub free : after.is_locked ≡ false

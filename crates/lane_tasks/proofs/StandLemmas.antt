@@ -1,6 +1,6 @@
 -- Where tasks begin, and that they stay where they stand, and ready, beside events of others.
 use Rattle.std.proofs.Common.{◌≡◌, ℕ, true, false, List, [], Option, None, refl, sym, ◌∙◌, ap, subst, arith, inl}
-use Rattle.std.specs.Prelude.{◌≢◌, ◌⊎◌, ◌≤◌, All, if◌then◌else◌, nat_lt}
+use Rattle.std.specs.Prelude.{◌≢◌, ◌⊎◌, ◌≤◌, All}
 use Rattle.std.specs.List.{list_any}
 use Rattle.std.proofs.lemmas.List.Elements.{All-nil}
 use Rattle.disk_model.specs.Disk.{History}
@@ -19,7 +19,7 @@ use Rattle.task_steps.proofs.SeenLemmas.{not_begun_stays}
 use Rattle.mail_ops.specs.Claims.{copy_claims, expunge_claims, make_claims, move_claims}
 use Rattle.mail_ops.specs.Copy.{IsAtCopy, IsReadyToCopy, copy_dues}
 use Rattle.mail_ops.specs.Expunging.{IsAtExpunge, expunge_amounts, expunge_dues}
-use Rattle.mail_ops.specs.Making.{IsAtMake, IsReadyToMake, make_left}
+use Rattle.mail_ops.specs.Making.{IsAtMake, IsReadyToMake}
 use Rattle.mail_ops.specs.Moving.{IsAtMove, IsReadyToMove, move_dues}
 use Rattle.mail_ops.specs.Owing.{AreDueIn}
 use Rattle.mail_ops.specs.Task.{IsAt}
@@ -55,7 +55,7 @@ use Rattle.mail_save.proofs.SaveReadyLemmas.{begins_ready as fresh_delivery}
 use Rattle.mail_save.proofs.SaveTakenLemmas.{taken_claimed}
 use Rattle.mail_save.proofs.StableSaveLemmas.{save_stable}
 use Rattle.lane_tasks.specs.Clause.{PassesBy}
-use Rattle.lane_tasks.specs.Tasks.{BeginsTask, IsAtDelivery, IsAtFirst, IsAtTask, IsFreshDelivery, IsMakeNumber, IsReadyTask, StandsTask, TookFiles, TookNoFile, claims_at, work_left}
+use Rattle.lane_tasks.specs.Tasks.{BeginsTask, IsAtDelivery, IsAtFirst, IsAtTask, IsFreshDelivery, IsMakeNumber, IsReadyTask, StandsTask, TookFiles, TookNoFile, claims_at}
 use Rattle.lane_tasks.specs.declared.task.Task.{Task}
 use Rattle.lane_tasks.specs.declared.task.Task.TheVariants as task
 use Rattle.lane_tasks.proofs.FilesLemmas.{none_taken, took_none_other}

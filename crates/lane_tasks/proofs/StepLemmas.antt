@@ -1,5 +1,5 @@
 -- The clause of a task's step, from that of its kind.
-use Rattle.std.proofs.Common.{◌≡◌, ◌<◌, ◌-◌, ℕ, Bool, true, false, List, [], Option, Some, None, refl, sym, ◌∙◌, ap, subst, arith}
+use Rattle.std.proofs.Common.{◌≡◌, ◌<◌, ◌-◌, ℕ, Bool, true, false, List, Option, Some, None, refl, sym, ◌∙◌, ap, subst, arith}
 use Rattle.std.specs.Prelude.{if◌then◌else◌}
 use Rattle.disk_model.specs.Disk.{History, Faults}
 use Rattle.mdbox_base.specs.declared.ids.Uid.{Uid}
@@ -209,14 +209,14 @@ pub fetch_does : {D : Type 0} → (t u : FetchValue) (old new : StoreValue D) (b
 fetch_does t u old new before after began now ended same undoomed steps asked around behind run lane place said lists come shown room reads stood =
     let is : asked ≡ request.Fetch t.name t.uid = stood.is_of in
     let does : StepsOf (λ ls. CanFetch t.stage t.name t.uid ls old.map before) (IsAtFetch t.stage old.stopped before) (IsAtFetch u.stage new.stopped after) around behind asked (seen_in old before began) (seen_in new after now) u.did ended =
-        subst (λ (k : Request). StepsOf (λ ls. CanFetch t.stage t.name t.uid ls old.map before) (IsAtFetch t.stage old.stopped before) (IsAtFetch u.stage new.stopped after) around behind k (seen_in old before began) (seen_in new after now) u.did ended) (sym is) (steps around behind undoomed) in
+    subst (λ (k : Request). StepsOf (λ ls. CanFetch t.stage t.name t.uid ls old.map before) (IsAtFetch t.stage old.stopped before) (IsAtFetch u.stage new.stopped after) around behind k (seen_in old before began) (seen_in new after now) u.did ended) (sym is) (steps around behind undoomed) in
     let d = does run lane place said lists come shown reads stood.at in (
       d.0,
       λ more. record {
         is_of = is ∙ fetch_request t u same;
         at = d.1 more;
         took = took_none_more run place d.0.makes.event d.0.makes.request_is
-        (λ done. fetch_takes_none t.name t.uid around run lists d.0.makes.event d.0.makes.event.part (subst (λ (k : Request). DidPart around run lists k d.0.makes.event d.0.makes.event.part) is (d.0.makes.is_event.did done))) stood.took;
+            (λ done. fetch_takes_none t.name t.uid around run lists d.0.makes.event d.0.makes.event.part (subst (λ (k : Request). DidPart around run lists k d.0.makes.event d.0.makes.event.part) is (d.0.makes.is_event.did done))) stood.took;
       },
     )
 
@@ -298,8 +298,8 @@ pub deliver_does : {D : Type 0} → (t u : SaveValue) (old new : StoreValue D) (
 unfolding event_with
 deliver_does t u old new before after began now result same claims ready steps (request.Deliver name time octets) around behind run lane place said lists come shown room reads stood =
     let does : StepsWithRoom (IsAtSave t.stage) (IsAtSave u.stage) (around_saving octets t.stage old) behind (request.Deliver name time octets) (seen_in old before began) (seen_of (λ file. pins_in file old.files.files) new after now) u.did (ended_by result) =
-        subst (λ (k : Request). StepsWithRoom (IsAtSave t.stage) (IsAtSave u.stage) (around_saving octets t.stage old) behind k (seen_in old before began) (seen_of (λ file. pins_in file old.files.files) new after now) u.did (ended_by result)) (deliver_request t name time octets stood.is_of)
-        (steps octets (λ file. pins_in file old.files.files) behind stood.at.1 (λ runs. (stood.at.2 runs).ready)) in
+    subst (λ (k : Request). StepsWithRoom (IsAtSave t.stage) (IsAtSave u.stage) (around_saving octets t.stage old) behind k (seen_in old before began) (seen_of (λ file. pins_in file old.files.files) new after now) u.did (ended_by result)) (deliver_request t name time octets stood.is_of)
+    (steps octets (λ file. pins_in file old.files.files) behind stood.at.1 (λ runs. (stood.at.2 runs).ready)) in
     let d = does run lane place said lists come shown (stood.at.0, room) in
     let pinned : new.stopped ≡ false → (file : ℕ) → pins_in file new.files.files ≡ pins_in file old.files.files = λ runs file. let c = claims runs (Pinned file) in omega (arith, c) in (
       event_with (around_saving octets t.stage old) behind run lane place said (request.Deliver name time octets) lists (seen_in old before began) (seen_of (λ file. pins_in file old.files.files) new after now) u.did (ended_by result) (λ file. pins_in file new.files.files) pinned d.0,

@@ -1,5 +1,5 @@
 -- No event of another task raises the number of events that are still to come.
-use Rattle.std.proofs.Common.{◌≡◌, ◌<◌, ◌+◌, ◌*◌, ◌-◌, ℕ, Bool, true, false, cond, Option, refl, sym, ap, subst, arith, inl, inr}
+use Rattle.std.proofs.Common.{◌≡◌, ◌<◌, ◌+◌, ◌*◌, ◌-◌, ℕ, Bool, true, false, Option, ap, arith, inl, inr}
 use Rattle.std.specs.Prelude.{◌≤◌, ◌⊎◌, nat_lt, if◌then◌else◌}
 use Rattle.std.proofs.lemmas.Bool.{cases_lt}
 use Rattle.std.proofs.lemmas.Grind.{common_steps}

@@ -2,8 +2,8 @@
 #![tactic(auto)]
 
 pub use laws::{
-    found_files_are_free, safe_files_answer, tasks_are_stable, tasks_begin, tasks_claim_few, tasks_have_room, tasks_have_taken, tasks_leave_work,
-    tasks_stand,
+    found_files_are_free, safe_files_answer, tasks_are_stable, tasks_begin, tasks_claim_few,
+    tasks_have_room, tasks_have_taken, tasks_leave_work, tasks_stand,
 };
 pub use task::Task;
 

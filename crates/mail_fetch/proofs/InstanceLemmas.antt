@@ -1,8 +1,7 @@
 -- The instances that a record names.
-use Rattle.std.proofs.Common.{◌≡◌, ◌≤◌, ℕ, Bool, true, false, cond, List, [], ◌∷◌, ◌++◌, map, Some, None, find, ap, subst, arith, All}
-use Rattle.std.specs.Prelude.{filter, flat_map, ◌==◌, sum_by}
+use Rattle.std.proofs.Common.{◌≡◌, ℕ, Bool, true, false, cond, List, [], ◌∷◌, ◌++◌, map, Some, None, find, subst, All}
+use Rattle.std.specs.Prelude.{filter, flat_map, ◌==◌}
 use Rattle.std.proofs.lemmas.List.Elements.{All-cons, All-nil, All-head, All-tail}
-use Rattle.std.proofs.lemmas.List.Sums.{sum_by-cons}
 use Rattle.mdbox_base.specs.declared.entries.InstRow.{InstRow}
 use Rattle.model_meaning.specs.BoxMeaning.{LogRow}
 use Rattle.model_meaning.specs.MapMeaning.{MapRecord, MapMeaning, named_instances, record_at}

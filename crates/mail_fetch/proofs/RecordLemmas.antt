@@ -21,7 +21,7 @@ use Rattle.model_octets.proofs.SearchLemmas.{found_is, found_one, text_is, text_
 use Rattle.model_store.specs.Listing.{listed_row, ShowLists, meaning_named}
 use Rattle.model_store.specs.Opening.{HasItsRecord}
 use Rattle.model_store.specs.Safe.{IsThereWhole}
-use Rattle.model_store.specs.Stands.{StoresMessage, IsListed, AreListed, IsMailbox, AreMailboxes}
+use Rattle.model_store.specs.Stands.{IsListed, AreListed, IsMailbox, AreMailboxes}
 use Rattle.list_machine.specs.Run.{First, RunEvent, Run}
 use Rattle.list_machine.specs.Machine.{PartAnswers, mailbox_named, message_in, message_at}
 use Rattle.mail_fetch.specs.Stages.{StoresListed}

@@ -21,10 +21,10 @@ use Rattle.model_meaning.specs.MapMeaning.{MapBox, MapMeaning}
 use Rattle.model_store.specs.Listing.{meaning_named}
 use Rattle.model_store.specs.Settled.{IsSettledFor, Leaves}
 use Rattle.list_machine.specs.Machine.{add_message, is_step, message_at}
-use Rattle.store_core.specs.Dues.{due_at, Moves, Spares, amounts_in}
+use Rattle.store_core.specs.Dues.{due_at, Moves, amounts_in}
 use Rattle.store_core.specs.Running.{IsStore}
 use Rattle.store_core.specs.Value.{StoreValue, indexes_of, list_named}
-use Rattle.store_core.proofs.DueLemmas.{moves_as, spares_kept, keeps_itself}
+use Rattle.store_core.proofs.DueLemmas.{moves_as}
 use Rattle.task_steps.specs.ExpungeStages.{one_due}
 use Rattle.task_steps.specs.Step.{IsKept, ended_by}
 use Rattle.task_steps.proofs.OneEventLemmas.{leaves_none}
@@ -55,7 +55,6 @@ pub record CopyKnown {D : Type 0} (name : List ℕ) (uid : Uid) (target : List �
   pub fault : ChangeFaultCounted (answer ≡ progress.Done (reply.Refused refusal.Stopped)) began faulted
   pub unfailed : answer ≢ progress.Done (reply.Refused refusal.Stopped) → NoFault began faulted
   pub moves : Moves (copy_amounts now) (copy_amounts next) (amounts_in old) (amounts_in new)
-  pub spares : new.stopped ≡ old.stopped → Spares (copy_amounts now) old new before after
   pub replies : CopyAnswers name uid target now old new next answer
   pub left : answer ≡ progress.More → copy_left next < copy_left now
 
@@ -107,7 +106,6 @@ known_raised name uid target held old new before after began faulted is ran r = 
   fault = record { reads = r.took.appends.reads; changes = r.took.appends.changes; rose = λ e. absurd (more_is (reply.Refused refusal.Stopped) e) };
   unfailed = λ other. r.took.unfailed;
   moves = record { due = λ other. raised_moves (due_at other old) (due_at other new) held.0 other (r.took.due other) };
-  spares = λ same. record { records = λ other row more found. r.took.spared other row found };
   replies = (r.row, r.number, r.next, r.at, r.holds, r.few, record { indexes = r.took.appends.indexes; mailboxes = r.took.appends.mailboxes; taken = r.took.taken });
   left = λ e. omega arith;
 }
@@ -123,7 +121,6 @@ known_unraised name uid target old new before after began faulted ran f may = re
   fault = record { reads = f.appends.reads; changes = f.appends.changes; rose = λ e. f.rose };
   unfailed = λ other. absurd (other refl);
   moves = moves_as (copy_amounts stage.First) (amounts_in old) (amounts_in new) (λ other. due_as_before old new other f.map f.dues);
-  spares = λ same. absurd (fall new.stopped f.stopped (same ∙ ran));
   replies = inl (refl, f.stopped, may);
   left = λ e. absurd (done_more (reply.Refused refusal.Stopped) e);
 }
@@ -140,7 +137,6 @@ known_same name uid target why how store history faults runs running cause does 
   fault = record { reads = refl; changes = omega arith; rose = λ e. absurd (running (why_is why refusal.Stopped e)) };
   unfailed = λ other. refl;
   moves = moves_as (copy_amounts stage.First) (amounts_in store) (amounts_in store) (λ other. refl);
-  spares = λ same. spares_kept (copy_amounts stage.First) store store history history refl (keeps_itself history);
   replies = inr (refl, cause);
   left = λ e. absurd (done_more (reply.Refused why) e);
 }
@@ -178,7 +174,6 @@ known_added name uid target held given old new before after began faulted show i
   fault = record { reads = r.took.appends.reads; changes = r.took.appends.changes; rose = λ e. absurd (copied_stopped given e) };
   unfailed = λ other. r.took.unfailed;
   moves = record { due = λ other. ended_moves (due_at other old) (due_at other new) held.0 other (added_due held given r.row r.at.m old new other r.holds (ready.due other) (r.took.due r.at.m other r.at.to.numbered)) };
-  spares = λ same. spares_kept (copy_amounts (stage.Adding held)) old new before after r.took.appends.map r.took.stored;
   replies = (r.row, r.number, r.at, r.holds);
   left = λ e. absurd (done_more (reply.Copied given) e);
 }
@@ -207,7 +202,6 @@ known_unadded name uid target held old new before after began faulted show is ra
   fault = record { reads = r.fell.appends.reads; changes = r.fell.appends.changes; rose = λ e. r.fell.rose };
   unfailed = λ other. absurd (other refl);
   moves = moves_as (copy_amounts (stage.Adding held)) (amounts_in old) (amounts_in new) (λ other. due_as_before old new other r.fell.appends.map r.fell.dues);
-  spares = λ same. absurd (fall new.stopped r.fell.stopped (same ∙ ran));
   replies = (refl, refl, r.fell.stopped);
   left = λ e. absurd (done_more (reply.Refused refusal.Stopped) e);
 }
@@ -228,7 +222,6 @@ known_back name uid target held why how store history faults runs ready cause do
   fault = record { reads = refl; changes = omega arith; rose = λ e. absurd (more_is (reply.Refused refusal.Stopped) e) };
   unfailed = λ other. refl;
   moves = moves_as (copy_amounts (stage.Adding held)) (amounts_in store) (amounts_in store) (λ other. refl);
-  spares = λ same. spares_kept (copy_amounts (stage.Adding held)) store store history history refl (keeps_itself history);
   replies = (refl, refl, cause);
   left = λ e. omega arith;
 }
@@ -246,7 +239,6 @@ known_given name uid target held why old new before after began faulted ran read
   fault = record { reads = t.appends.reads; changes = t.appends.changes; rose = λ e. absurd (running (why_is why refusal.Stopped e)) };
   unfailed = λ other. t.unfailed;
   moves = record { due = λ other. ended_moves (due_at other old) (due_at other new) held.0 other (lowered_due held old new other (ready.due other) (t.due other)) };
-  spares = λ same. record { records = λ other row more found. t.spared other row found };
   replies = (refl, record { indexes = t.appends.indexes; mailboxes = t.appends.mailboxes; taken = t.taken });
   left = λ e. absurd (done_more (reply.Refused why) e);
 }
@@ -262,7 +254,6 @@ known_ungiven name uid target held why old new before after began faulted ran re
   fault = record { reads = f.appends.reads; changes = f.appends.changes; rose = λ e. f.rose };
   unfailed = λ other. absurd (other refl);
   moves = moves_as (copy_amounts (stage.GivingBack held why)) (amounts_in old) (amounts_in new) (λ other. due_as_before old new other f.map f.dues);
-  spares = λ same. absurd (fall new.stopped f.stopped (same ∙ ran));
   replies = (refl, refl, refl, f.stopped);
   left = λ e. absurd (done_more (reply.Refused refusal.Stopped) e);
 }

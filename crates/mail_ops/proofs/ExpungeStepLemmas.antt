@@ -18,10 +18,10 @@ use Rattle.model_lists.specs.Lists.{Lists}
 use Rattle.model_store.specs.Settled.{IsSettledFor, Leaves}
 use Rattle.list_machine.specs.Machine.{expunge}
 use Rattle.journal.specs.Stages.{ToRemove, ToLower}
-use Rattle.store_core.specs.Dues.{due_at, Moves, Spares, amounts_in}
+use Rattle.store_core.specs.Dues.{due_at, Moves, amounts_in}
 use Rattle.store_core.specs.Running.{IsStore}
 use Rattle.store_core.specs.Value.{StoreValue}
-use Rattle.store_core.proofs.DueLemmas.{moves_as, spares_kept, keeps_itself}
+use Rattle.store_core.proofs.DueLemmas.{moves_as}
 use Rattle.task_steps.specs.ExpungeStages.{one_due}
 use Rattle.task_steps.specs.Step.{IsKept, ended_by}
 use Rattle.task_steps.proofs.ExpungingLemmas.{expunges_are_kept}
@@ -53,7 +53,6 @@ pub record ExpungeKnown {D : Type 0} (name : List ℕ) (uid : Uid) (now next : E
   pub fault : ChangeFaultCounted (answer ≡ progress.Done (reply.Refused refusal.Stopped)) began then
   pub unfailed : answer ≢ progress.Done (reply.Refused refusal.Stopped) → NoFault began then
   pub moves : Moves (expunge_amounts now) (expunge_amounts next) (amounts_in old) (amounts_in new)
-  pub spares : new.stopped ≡ old.stopped → Spares (expunge_amounts now) old new before after
   pub replies : ExpungeAnswers name uid now old new next answer
   pub left : answer ≡ progress.More → expunge_left next < expunge_left now
 
@@ -90,7 +89,6 @@ known_removed name uid owed old new before after began then show is ran r = reco
   fault = record { reads = r.took.appends.reads; changes = r.took.appends.changes; rose = λ e. absurd (more_is (reply.Refused refusal.Stopped) e) };
   unfailed = λ other. r.took.unfailed;
   moves = record { due = λ other. removed_moves (due_at other old) (due_at other new) owed.0 other (rises other) };
-  spares = λ same. spares_kept (expunge_amounts stage.First) old new before after r.took.appends.map r.took.stored;
   replies = (r.number, r.row, r.there, r.owes);
   left = λ e. omega arith;
 }
@@ -109,7 +107,6 @@ known_broken name uid old new before after began then show is ran r = record {
   fault = record { reads = r.fell.appends.reads; changes = r.fell.appends.changes; rose = λ e. r.fell.rose };
   unfailed = λ other. absurd (other refl);
   moves = moves_as (expunge_amounts stage.First) (amounts_in old) (amounts_in new) (λ other. due_as_before old new other r.fell.appends.map r.fell.dues);
-  spares = λ same. absurd (fall new.stopped r.fell.stopped (same ∙ ran));
   replies = (r.fell.stopped, not_missing name uid.0 old r.number r.row r.there);
   left = λ e. absurd (done_more (reply.Refused refusal.Stopped) e);
 }
@@ -139,7 +136,6 @@ known_same name uid why how store history faults runs running missing does = rec
   fault = record { reads = refl; changes = omega arith; rose = λ e. absurd (running (why_is why refusal.Stopped e)) };
   unfailed = λ n. refl;
   moves = moves_as (expunge_amounts stage.First) (amounts_in store) (amounts_in store) (λ other. refl);
-  spares = λ same. spares_kept (expunge_amounts stage.First) store store history history refl (keeps_itself history);
   replies = same_answers name uid why store running missing;
   left = λ e. absurd (done_more (reply.Refused why) e);
 }
@@ -178,7 +174,6 @@ known_lowered name uid owed old new before after began then ran due t = record {
   fault = record { reads = t.appends.reads; changes = t.appends.changes; rose = λ e. absurd (done_stopped e) };
   unfailed = λ other. t.unfailed;
   moves = record { due = λ other. lowered_moves (due_at other old) (due_at other new) owed.0 other (lowered_due owed old new other (due other) (t.due other)) };
-  spares = λ same. record { records = λ other row more found. t.spared other row found };
   replies = tt;
   left = λ e. absurd (done_more reply.Done e);
 }
@@ -194,7 +189,6 @@ known_unlowered name uid owed old new before after began then ran due f = record
   fault = record { reads = f.appends.reads; changes = f.appends.changes; rose = λ e. f.rose };
   unfailed = λ other. absurd (other refl);
   moves = moves_as (expunge_amounts (stage.Owing owed)) (amounts_in old) (amounts_in new) (λ other. due_as_before old new other f.map f.dues);
-  spares = λ same. absurd (fall new.stopped f.stopped (same ∙ ran));
   replies = (refl, f.stopped);
   left = λ e. absurd (done_more (reply.Refused refusal.Stopped) e);
 }

@@ -12,7 +12,6 @@ pub mod ExpungeEventLemmas
 pub mod ExpungeStepLemmas
 pub mod FlagEventLemmas
 pub mod FlagListLemmas
-pub mod KeepingLemmas
 pub mod KeptMailLemmas
 pub mod KeptRestLemmas
 pub mod KeptRowLemmas

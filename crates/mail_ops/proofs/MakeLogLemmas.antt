@@ -1,48 +1,19 @@
 -- What the events of a make leave to other tasks, and the log that it has made.
-use Rattle.std.proofs.Common.{◌≡◌, ◌==◌, ◌||◌, ℕ, Bool, true, false, cond, List, [], ◌∷◌, ◌++◌, Some, None, refl, sym, ◌∙◌, ap}
-use Rattle.std.specs.List.{list_any}
+use Rattle.std.proofs.Common.{◌≡◌, ◌==◌, ◌||◌, ℕ, Bool, true, false, cond, List, [], ◌∷◌, ◌++◌, Some, None, refl, ◌∙◌, ap}
 use Rattle.std.specs.Str.{bytes_eq}
 use Rattle.std.proofs.lemmas.Bool.{eq-eqb}
 use Rattle.mdbox_base.specs.declared.ids.BoxNo.{BoxNo}
 use Rattle.model_meaning.specs.BoxMeaning.{BoxMeaning, box_meaning}
 use Rattle.model_meaning.specs.MapMeaning.{MapBox, MapMeaning}
 use Rattle.model_store.specs.Listing.{meaning_named}
-use Rattle.store_core.specs.Keeping.{KeepsRest, KeepsUids}
-use Rattle.store_core.specs.MadeLogs.{has_made_log, without_box}
+use Rattle.store_core.specs.Keeping.{KeepsUids}
+use Rattle.store_core.specs.MadeLogs.{has_made_log}
 use Rattle.store_core.specs.Value.{StoreValue, indexes_of}
-use Rattle.store_core.specs.declared.store.OpenBox.{OpenBox}
-use Rattle.store_core.proofs.MadeLogLemmas.{left_has}
 use Rattle.store_core.proofs.NamingLemmas.{one_box_more, box_named}
-use Rattle.mail_ops.specs.Making.{IsReadyToMake, HaveOtherLogs, LeavesLogs, MakesLog, NamesLog}
-use Rattle.mail_ops.specs.declared.making.MakeStage.{MakeStage}
+use Rattle.mail_ops.specs.Making.{IsReadyToMake, MakesLog, NamesLog}
 use Rattle.mail_ops.specs.declared.making.MakeStage.TheVariants as stage
 
 -- ---- logs
-
--- none has changed
-pub logs_stay : {D : Type 0} → (now : MakeStage) (old new : StoreValue D) → new.made ≡ old.made → LeavesLogs now now old new
-logs_stay now old new same = record {
-  logs = λ other there apart. ap (λ (boxes : List OpenBox). list_any (λ b. b.number.0 == other) boxes) same ∙ there;
-  fresh = λ other there apart own. apart own;
-}
-
-either : (a b : Bool) → a ≡ true → (a || b) ≡ true
-either true b e = refl
-either false b e = absurd (let k : false ≡ true = e in cc k)
-
--- one was made
-pub logs_more : {D : Type 0} → (number : BoxNo) (old new : StoreValue D) → MakesLog number.0 old new → LeavesLogs stage.First (stage.Naming number) old new
-logs_more number old new m = record {
-  logs = λ other there apart. m.made other ∙ either (has_made_log other old) (number.0 == other) there;
-  fresh = λ other there apart own. let k : true ≡ false = sym there ∙ (ap (λ (n : ℕ). has_made_log n old) own ∙ m.unmade) in cc k;
-}
-
--- the task's own has gone
-pub logs_less : {D : Type 0} → (number : BoxNo) (old new : StoreValue D) → new.made ≡ without_box number.0 old.made → LeavesLogs (stage.Naming number) stage.First old new
-logs_less number old new same = record {
-  logs = λ other there apart. ap (λ (boxes : List OpenBox). list_any (λ b. b.number.0 == other) boxes) same ∙ left_has number.0 other old.made apart there;
-  fresh = λ other there apart own. own;
-}
 
 -- the log that was made is there
 either_last : (a b : Bool) → b ≡ true → (a || b) ≡ true
@@ -51,22 +22,6 @@ either_last false b e = e
 
 pub made_there : {D : Type 0} → (number : BoxNo) (old new : StoreValue D) → MakesLog number.0 old new → IsReadyToMake (stage.Naming number) new
 made_there number old new m = m.made number.0 ∙ either_last (has_made_log number.0 old) (number.0 == number.0) (eq-eqb number.0 number.0 refl)
-
--- ---- of other makes
-
-pub make_stays_ready : {D : Type 0} → (mine mine_now other : MakeStage) (old new : StoreValue D) → LeavesLogs mine mine_now old new → HaveOtherLogs mine other → IsReadyToMake other old → IsReadyToMake other new
-make_stays_ready mine mine_now stage.First old new l apart ready = tt
-make_stays_ready mine mine_now (stage.Naming number) old new l apart ready = l.logs number.0 ready (λ own. apart number.0 own refl)
-
-pub makes_stay_apart : {D : Type 0} → (mine mine_now other : MakeStage) (old new : StoreValue D) → LeavesLogs mine mine_now old new → HaveOtherLogs mine other → IsReadyToMake other old → HaveOtherLogs mine_now other
-makes_stay_apart mine mine_now stage.First old new l apart ready = λ number own theirs. theirs
-makes_stay_apart mine mine_now (stage.Naming made) old new l apart ready = λ number own theirs.
-    let there : has_made_log number old ≡ true = ap (λ (n : ℕ). has_made_log n old) theirs ∙ ready in
-    l.fresh number there (λ mine_is. apart number mine_is theirs) own
-
-pub make_ready_beside : {D : Type 0} → (other : MakeStage) (old new : StoreValue D) → KeepsRest old new → IsReadyToMake other old → IsReadyToMake other new
-make_ready_beside stage.First old new rest ready = tt
-make_ready_beside (stage.Naming number) old new rest ready = ap (λ (s : StoreValue _). has_made_log number.0 s) rest ∙ ready
 
 -- ---- the UIDs of other tasks' messages
 

@@ -1,6 +1,6 @@
 -- What the step of a make says, event by event.
 use Rattle.std.proofs.Common.{◌≡◌, ◌≢◌, ◌≤◌, ◌<◌, ◌+◌, ◌↔◌, ℕ, Bool, true, false, cond, List, Option, Some, None, refl, sym, ◌∙◌, ap, subst, arith, inl, inr}
-use Rattle.std.specs.Prelude.{◌⊎◌, ◌==◌, find, nat_lt}
+use Rattle.std.specs.Prelude.{◌⊎◌, nat_lt}
 use Rattle.std.proofs.lemmas.Grind.{common_steps}
 use Rattle.disk_model.specs.Disk.{History, Faults, Files}
 use Rattle.disk_model.specs.FaultCounts.{NoFault, ChangeFaultCounted}
@@ -18,21 +18,20 @@ use Rattle.mdbox_base.specs.declared.replies.Reply.TheVariants as reply
 use Rattle.mdbox_base.specs.declared.script.Half.TheVariants as half
 use Rattle.model_kept.specs.Kept.{MailIsKept}
 use Rattle.model_lists.specs.Lists.{Lists}
-use Rattle.model_meaning.specs.MapMeaning.{MapRecord, MapMeaning, record_at}
+use Rattle.model_meaning.specs.MapMeaning.{MapMeaning}
 use Rattle.model_store.specs.Safe.{Safe}
 use Rattle.model_store.specs.Settled.{IsSettledFor, Leaves}
 use Rattle.list_machine.specs.Machine.{is_step}
-use Rattle.store_core.specs.Dues.{Moves, Spares, no_amounts, amounts_in, KeepsStored}
+use Rattle.store_core.specs.Dues.{Moves, no_amounts, amounts_in}
 use Rattle.store_core.specs.Keeping.{KeepsMail, KeepsUids}
 use Rattle.store_core.specs.MadeLogs.{IsUnnamed, has_made_log, without_box}
 use Rattle.store_core.specs.Running.{IsStore}
 use Rattle.store_core.specs.Value.{StoreValue, indexes_of}
-use Rattle.store_core.proofs.DueLemmas.{moves_as, spares_kept, keeps_itself}
-use Rattle.store_core.proofs.NamingLemmas.{same_records}
+use Rattle.store_core.proofs.DueLemmas.{moves_as}
 use Rattle.task_steps.specs.Step.{ended_by}
 use Rattle.task_steps.proofs.OneEventLemmas.{leaves_none}
 use Rattle.mail_ops.specs.Event.{refusal_told, told_as}
-use Rattle.mail_ops.specs.Making.{MakeValue, naming_refusal, making_refusal, IsReadyToMake, LeavesLogs, KeepsAllButLogs, make_left, make_lists, lists_by_make, with_drawn_box, NamesLog, RemovesLog, IsLogNotMade, IsStoppedSo, MakeAnswers, HasChangedDisk, FellChanging, same_lists, with_mailbox, MadeLogSo, FellIfStopped, CanBeNamed, MakesOn}
+use Rattle.mail_ops.specs.Making.{MakeValue, naming_refusal, making_refusal, IsReadyToMake, KeepsAllButLogs, make_left, make_lists, lists_by_make, with_drawn_box, NamesLog, RemovesLog, IsLogNotMade, IsStoppedSo, MakeAnswers, HasChangedDisk, FellChanging, same_lists, with_mailbox, MadeLogSo, FellIfStopped, CanBeNamed, MakesOn}
 use Rattle.mail_ops.specs.declared.event.NotDone.{NotDone}
 use Rattle.mail_ops.specs.declared.event.NotDone.TheVariants as not_done
 use Rattle.mail_ops.specs.declared.making.MakeStage.{MakeStage}
@@ -45,7 +44,7 @@ use Rattle.mail_ops.proofs.KeptMailLemmas.{fell_spares, mail_named, spared_none,
 use Rattle.mail_ops.proofs.KeptUidLemmas.{logs_keep, same_keeps}
 use Rattle.mail_ops.proofs.MakeCheckLemmas.{naming_steps, making_steps}
 use Rattle.mail_ops.proofs.MakeEventLemmas.{MakeClause, first_stopped, naming_stopped, making_refused, making_unremembered, making_fell, making_done, naming_refused, naming_unremembered, removing_fell, naming_overtaken}
-use Rattle.mail_ops.proofs.MakeLogLemmas.{logs_stay, logs_more, logs_less, made_there, naming_keeps}
+use Rattle.mail_ops.proofs.MakeLogLemmas.{made_there, naming_keeps}
 use Rattle.mail_ops.proofs.MakeNamedLemmas.{IsNamedSo, named_due, naming_done, naming_fell}
 
 -- what a step says of an event
@@ -58,9 +57,7 @@ pub record MakeKnown {D : Type 0} (name : List ℕ) (now next : MakeStage) (answ
   pub fault : ChangeFaultCounted (answer ≡ progress.Done (reply.Refused refusal.Stopped)) began then
   pub unfailed : answer ≢ progress.Done (reply.Refused refusal.Stopped) → NoFault began then
   pub moves : Moves no_amounts no_amounts (amounts_in old) (amounts_in new)
-  pub spares : new.stopped ≡ old.stopped → Spares no_amounts old new before after
   pub keeps : KeepsUids old new
-  pub logs : LeavesLogs now next old new
   pub rest : KeepsAllButLogs old new
   pub mail : SparesMail (new.stopped ≡ old.stopped) before after
   pub replies : MakeAnswers name now old new before after next answer
@@ -111,21 +108,6 @@ leaves_make name now lists before after l = leaves_also lists (make_lists name n
 refused_lists : (name : List ℕ) (now : MakeStage) (why : Refusal) (lists : Lists) (after : Option History) → IsSettledFor lists after → IsSettledFor (lists_by_make name now (progress.Done (reply.Refused why)) lists) after
 refused_lists name now why lists after s = s
 
--- ---- what is kept of records
-
-named_spares : {D : Type 0} → (old new : StoreValue D) (number : BoxNo) (name : List ℕ) (before after : Option History) → NamesLog number name old new → KeepsStored before after → Spares no_amounts old new before after
-named_spares old new number name before after n keeps = record {
-  records = λ uid row more found.
-      let kept = spares_kept no_amounts old (record old { disk = new.disk }) before after refl keeps in
-      let own = kept.records uid row more found in
-      record {
-        now = own.now;
-        there = ap (λ (m : MapMeaning). record_at m uid) n.map ∙ (ap (λ (rows : List MapRecord). find (λ r. r.uid == uid) rows) (same_records old.map number name) ∙ own.there);
-        guid = own.guid;
-        stores = own.stores;
-      };
-}
-
 -- ---- the first event
 
 high_number : (highest drawn number : ℕ) → highest ≤ drawn → number ≡ drawn + 1 → nat_lt highest number ≡ true
@@ -146,9 +128,7 @@ known_made name number old new before after began then b m = record {
   fault = record { reads = m.disk.change.reads; changes = m.disk.change.changes; rose = λ e. absurd (more_is (reply.Refused refusal.Stopped) e) };
   unfailed = λ other. m.disk.unfailed;
   moves = moves_as no_amounts (amounts_in old) (amounts_in new) (λ uid. due_as_before old new uid map_is (ap (λ (s : StoreValue _). s.dues) m.log.same));
-  spares = λ same. spares_kept no_amounts old new before after map_is m.disk.stored;
   keeps = logs_keep old new (ap (λ (s : StoreValue _). s.map.boxes) m.log.same) (ap (λ (s : StoreValue _). indexes_of s.boxes) m.log.same);
-  logs = logs_more number old new m.log;
   rest = rest_of m.log.same;
   mail = record { stays = m.disk.change.stays; left = λ same. mail_named number.0 before after m.others };
   replies = (m.free, m.log, m.others);
@@ -173,9 +153,7 @@ known_refused name why store history faults b refuses = record {
   fault = record { reads = refl; changes = omega arith; rose = λ e. absurd (step_runs why (making_steps name store why refuses) (why_is why refusal.Stopped e)) };
   unfailed = λ other. refl;
   moves = moves_as no_amounts (amounts_in store) (amounts_in store) (λ uid. refl);
-  spares = λ same. spares_kept no_amounts store store history history refl (keeps_itself history);
   keeps = same_keeps store store refl;
-  logs = logs_stay stage.First store store refl;
   rest = refl;
   mail = spared_none _ history;
   replies = (not_done.Refused why, refl, (refl, refuses));
@@ -194,9 +172,7 @@ known_unremembered name store history faults b free = record {
   fault = record { reads = refl; changes = omega arith; rose = λ e. absurd (memory_runs (why_is refusal.NoMemory refusal.Stopped e)) };
   unfailed = λ other. refl;
   moves = moves_as no_amounts (amounts_in store) (amounts_in store) (λ uid. refl);
-  spares = λ same. spares_kept no_amounts store (with_drawn_box (store.drawn.mailbox + 1) store) history history refl (keeps_itself history);
   keeps = logs_keep store (with_drawn_box (store.drawn.mailbox + 1) store) refl refl;
-  logs = logs_stay stage.First store (with_drawn_box (store.drawn.mailbox + 1) store) refl;
   rest = refl;
   mail = spared_none _ history;
   replies = (not_done.NoMemory, refl, (refl, free));
@@ -215,9 +191,7 @@ known_fell name old new before after began then b n f = record {
   fault = record { reads = f.change.reads; changes = f.change.changes; rose = λ e. f.rose };
   unfailed = λ other. absurd (other refl);
   moves = moves_as no_amounts (amounts_in old) (amounts_in new) (λ uid. due_as_before old new uid (ap (λ (s : StoreValue _). s.map) n.0) (ap (λ (s : StoreValue _). s.dues) n.0));
-  spares = λ same. absurd (fall new.stopped stops (same ∙ b.runs));
   keeps = logs_keep old new (ap (λ (s : StoreValue _). s.map.boxes) n.0) (ap (λ (s : StoreValue _). indexes_of s.boxes) n.0);
-  logs = logs_stay stage.First old new (ap (λ (s : StoreValue _). s.made) n.0);
   rest = rest_of n.0;
   mail = fell_spares old new before after b.runs stops f.change.stays;
   replies = (not_done.Stopped, refl, n);
@@ -257,9 +231,7 @@ known_named name number old new before after began then b can n mail d = record 
   fault = record { reads = d.change.reads; changes = d.change.changes; rose = λ e. absurd (made_stopped e) };
   unfailed = λ other. d.unfailed;
   moves = moves_as no_amounts (amounts_in old) (amounts_in new) (λ uid. named_due old new number name uid n);
-  spares = λ same. named_spares old new number name before after n d.stored;
   keeps = naming_keeps number name old new n;
-  logs = logs_less number old new n.made;
   rest = rest_of n.same;
   mail = took_spares _ before after d.change.stays mail;
   replies = (can.free, can.above, n, mail);
@@ -272,9 +244,7 @@ known_named name number old new before after began then b can n mail d = record 
 -- the log was removed: what every answer says
 pub record RemovedKnown {D : Type 0} (now : MakeStage) (old new : StoreValue D) (before after : Option History) : Type 0 where
   pub moves : Moves no_amounts no_amounts (amounts_in old) (amounts_in new)
-  pub spares : Spares no_amounts old new before after
   pub keeps : KeepsUids old new
-  pub logs : LeavesLogs now stage.First old new
   pub rest : KeepsAllButLogs old new
   pub mail : SyncsMail before after
   pub runs : new.stopped ≡ old.stopped
@@ -282,9 +252,7 @@ pub record RemovedKnown {D : Type 0} (now : MakeStage) (old new : StoreValue D) 
 removed_known : {D : Type 0} → (number : BoxNo) (old new : StoreValue D) (before after : Option History) (began then : Faults) → RemovesLog number.0 old new before after → HasChangedDisk same_lists before after began then → RemovedKnown (stage.Naming number) old new before after
 removed_known number old new before after began then r d = record {
   moves = moves_as no_amounts (amounts_in old) (amounts_in new) (λ uid. due_as_before old new uid map_is (ap (λ (s : StoreValue _). s.dues) r.same));
-  spares = spares_kept no_amounts old new before after map_is d.stored;
   keeps = logs_keep old new (ap (λ (s : StoreValue _). s.map.boxes) r.same) (ap (λ (s : StoreValue _). indexes_of s.boxes) r.same);
-  logs = logs_less number old new (ap (λ (s : StoreValue _). s.made) r.same);
   rest = rest_of r.same;
   mail = mail_named number.0 before after r.others;
   runs = ap (λ (s : StoreValue _). s.stopped) r.same;
@@ -310,9 +278,7 @@ known_removed name number why how old new before after began then b r d running 
       fault = record { reads = d.change.reads; changes = d.change.changes; rose = λ e. absurd (running (why_is why refusal.Stopped e)) };
       unfailed = λ other. d.unfailed;
       moves = k.moves;
-      spares = λ same. k.spares;
       keeps = k.keeps;
-      logs = k.logs;
       rest = k.rest;
       mail = record { stays = d.change.stays; left = λ same. k.mail };
       replies = (r, cause);
@@ -339,9 +305,7 @@ known_overtaken name number old new before after began then b free behind_it r d
       fault = record { reads = d.change.reads; changes = d.change.changes; rose = λ e. absurd (more_is (reply.Refused refusal.Stopped) e) };
       unfailed = λ other. d.unfailed;
       moves = k.moves;
-      spares = λ same. k.spares;
       keeps = k.keeps;
-      logs = k.logs;
       rest = k.rest;
       mail = record { stays = d.change.stays; left = λ same. k.mail };
       replies = (free, behind_it, r);
@@ -361,9 +325,7 @@ known_stopped name number how old new before after began then b same moments sta
   fault = fault;
   unfailed = λ other. absurd (other refl);
   moves = moves_as no_amounts (amounts_in old) (amounts_in new) (λ uid. due_as_before old new uid (ap (λ (s : StoreValue _). s.map) same) (ap (λ (s : StoreValue _). s.dues) same));
-  spares = λ again. absurd (fall new.stopped stops (again ∙ b.runs));
   keeps = logs_keep old new (ap (λ (s : StoreValue _). s.map.boxes) same) (ap (λ (s : StoreValue _). indexes_of s.boxes) same);
-  logs = logs_stay (stage.Naming number) old new (ap (λ (s : StoreValue _). s.made) same);
   rest = rest_of same;
   mail = fell_spares old new before after b.runs stops stays;
   replies = (refl, refl, same);

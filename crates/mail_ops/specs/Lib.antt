@@ -6,7 +6,6 @@ pub mod Counting
 pub mod Event
 pub mod Expunging
 pub mod Flagging
-pub mod Keeping
 pub mod Listing
 pub mod MakeStages
 pub mod Making

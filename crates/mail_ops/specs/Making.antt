@@ -58,24 +58,10 @@ making_refusal name store = option_or (naming_refusal name store) (refused_where
 
 -- ---- the log of a task
 
--- the number of the log that the task has made
-abbrev pub IsOwnLog : MakeStage → ℕ → Type 0
-IsOwnLog stage.First number = ⊥
-IsOwnLog (stage.Naming made) number = number ≡ made.0
-
 -- What an event asks of the store: the log that the task has made is there still, and isn't named.
 abbrev pub IsReadyToMake : {D : Type 0} → MakeStage → StoreValue D → Type 0
 IsReadyToMake stage.First store = Unit {0}
 IsReadyToMake (stage.Naming number) store = has_made_log number.0 store ≡ true
-
--- two tasks have made different logs
-abbrev pub HaveOtherLogs : MakeStage → MakeStage → Type 0
-HaveOtherLogs mine other = (number : ℕ) → IsOwnLog mine number → IsOwnLog other number → ⊥
-
--- The logs that others have made are there still, and a log that the event makes is none of them.
-pub record LeavesLogs {D : Type 0} (mine mine_now : MakeStage) (old new : StoreValue D) : Type 0 where
-  pub logs : (other : ℕ) → has_made_log other old ≡ true → (IsOwnLog mine other → ⊥) → has_made_log other new ≡ true
-  pub fresh : (other : ℕ) → has_made_log other old ≡ true → (IsOwnLog mine other → ⊥) → IsOwnLog mine_now other → ⊥
 
 -- Of the store's value no more has changed than its map, its mailboxes, the logs that were made, the numbers drawn, and whether it is
 -- stopped: what is due, its storage files and its instances are as they were.

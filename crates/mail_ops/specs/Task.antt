@@ -4,7 +4,6 @@ use Rattle.list_machine.specs.Run.{Run}
 use Rattle.mdbox_base.specs.declared.progress.Did.{Did}
 use Rattle.mdbox_base.specs.declared.replies.Reply.{Reply}
 use Rattle.mdbox_base.specs.declared.requests.Request.{Request}
-use Rattle.store_core.specs.Dues.{Amounts, no_amounts}
 use Rattle.task_steps.specs.Step.{HasNotBegun}
 use Rattle.mail_ops.specs.declared.task.TaskStage.{TaskStage}
 use Rattle.mail_ops.specs.declared.task.TaskStage.TheVariants as stage
@@ -18,7 +17,3 @@ pub record TaskValue : Type 0 where
 -- where the task stands: what is true of the run, for the place of its request, and of the answers of its steps
 abbrev pub IsAt : TaskStage → Run → ℕ → List Reply → Type 0
 IsAt stage.First run place said = HasNotBegun run place said
-
--- what the task holds and owes of records: a listing nothing
-abbrev pub amounts_of : TaskValue → Amounts
-amounts_of task = no_amounts

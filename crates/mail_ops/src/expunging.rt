@@ -10,8 +10,7 @@ ghost use Rattle.mdbox_base.specs.declared.replies.Reply.TheVariants as reply;
 ghost use Rattle.mdbox_base.specs.declared.requests.Request.TheVariants as request;
 ghost use Rattle.model_lists.specs.Lists.{Lists};
 ghost use Rattle.model_store.specs.Settled.{IsSettledFor, Leaves};
-ghost use Rattle.store_core.specs.Dues.{Moves, Spares, amounts_in};
-ghost use Rattle.store_core.specs.Keeping.{KeepsRest, KeepsUids};
+ghost use Rattle.store_core.specs.Keeping.{KeepsRest};
 ghost use Rattle.task_steps.specs.Step.{Steps, ended_by};
 ghost use Rattle.mail_ops.specs.Expunging.{IsAtExpunge, expunge_amounts, expunge_left, expunge_lists, expunged_lists, ExpungeAnswers, ExpungesOn, RemovesRow, IsNotRemoved};
 ghost use Rattle.mail_ops.specs.Owing.{AreDueIn};
@@ -100,12 +99,7 @@ impl ExpungeTask {
         ensures fault { store.old.stopped ≡ false → ChangeFaultCounted (result ≡ progress.Done (reply.Refused refusal.Stopped)) (D.faults store.old.disk) (D.faults store.new.disk) }
         ensures unfailed { result ≢ progress.Done (reply.Refused refusal.Stopped) → NoFault (D.faults store.old.disk) (D.faults store.new.disk) }
 
-        // What is due of each record grows or shrinks in the store by as much as in this task; and records of which something is due
-        // for other tasks are kept, unless a failed change stops the store. No other message gets the UID of one that
-        // another task copies or moves, and the rest of the store stays; so do storage files and instances, at each moment.
-        ensures moves { Moves (expunge_amounts self.old.stage) (expunge_amounts self.new.stage) (amounts_in store.old) (amounts_in store.new) }
-        ensures spares { store.new.stopped ≡ store.old.stopped → Spares (expunge_amounts self.old.stage) store.old store.new (D.history store.old.disk) (D.history store.new.disk) }
-        ensures keeps { KeepsUids store.old store.new }
+        // The rest of the store stays, and so do storage files and instances, at each moment.
         ensures rest { KeepsRest store.old store.new }
         ensures mail { SparesMail (store.new.stopped ≡ store.old.stopped) (D.history store.old.disk) (D.history store.new.disk) }
         ensures replies { store.old.stopped ≡ false → ExpungeAnswers self.old.name self.old.uid self.old.stage store.old store.new self.new.stage result }

@@ -14,8 +14,8 @@ ghost use Rattle.mail_ops.specs.SparedMail.{SparesMail};
 ghost use Rattle.task_claims.specs.Claims.{no_claims};
 ghost use Rattle.task_claims.specs.Leaving.{LeavesOthers};
 ghost use Rattle.store_seen.specs.Seeing.{seen_of};
-ghost use Rattle.store_core.specs.Dues.{due_at, KeepsStored};
-ghost use Rattle.store_core.specs.Keeping.{KeepsRest, KeepsUids};
+ghost use Rattle.store_core.specs.Dues.{due_at};
+ghost use Rattle.store_core.specs.Keeping.{KeepsRest};
 ghost use Rattle.task_steps.specs.Step.{HasNotBegun, Steps};
 
 use crate::laws::flags_are_shown;
@@ -29,9 +29,6 @@ pub fn flag<D: Disk>(store: &mut Store<D>, name: &Name, uid: Uid, flags: Flags) 
     ensures refused { (why : Refusal) → flag_refusal name.now uid.0 store.old ≡ Some why → (result.0 ≡ reply.Refused why) × (store.new ≡ store.old) }
     ensures done { flag_refusal name.now uid.0 store.old ≡ None → (result.0 ≡ reply.Done) ⊎ ((result.0 ≡ reply.Refused refusal.Stopped) × (store.new.stopped ≡ true)) }
     ensures due { (uid : ℕ) → due_at uid store.new ≡ due_at uid store.old }
-    ensures map { store.new.map ≡ store.old.map }
-    ensures stored { store.new.stopped ≡ store.old.stopped → KeepsStored (D.history store.old.disk) (D.history store.new.disk) }
-    ensures keeps { KeepsUids store.old store.new }
     ensures rest { KeepsRest store.old store.new }
     ensures leaves { store.new.stopped ≡ false → LeavesOthers no_claims store.old store.new (D.history store.old.disk) (D.history store.new.disk) }
     ensures mail { SparesMail (store.new.stopped ≡ store.old.stopped) (D.history store.old.disk) (D.history store.new.disk) }

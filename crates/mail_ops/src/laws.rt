@@ -6,7 +6,6 @@ ghost use Rattle.disk_model.specs.Disk.{History};
 ghost use Rattle.list_machine.specs.Machine.{PartAnswers, set_flags};
 ghost use Rattle.list_machine.specs.Run.{First, RunEvent, Run};
 ghost use Rattle.mdbox_base.specs.declared.entries.BoxEntry.TheVariants.{F};
-ghost use Rattle.mdbox_base.specs.declared.entries.InstRow.{InstRow};
 ghost use Rattle.mdbox_base.specs.declared.ids.Uid.{Uid};
 ghost use Rattle.mdbox_base.specs.declared.replies.Refusal.TheVariants.{NoMailbox, NoMessage};
 ghost use Rattle.mdbox_base.specs.declared.replies.Reply.TheVariants.{Refused, Done};
@@ -16,18 +15,14 @@ ghost use Rattle.model_lists.specs.Lists.{Lists, AreWellFormed};
 ghost use Rattle.model_meaning.specs.BoxMeaning.{LogRow, BoxMeaning, row_at};
 ghost use Rattle.model_meaning.specs.MapMeaning.{MapBox};
 ghost use Rattle.model_store.specs.Listing.{ShowLists, meaning_named, listing_of};
-ghost use Rattle.store_core.specs.Dues.{Amounts, Moves, amounts_in};
-ghost use Rattle.store_core.specs.Keeping.{KeepsRest, KeepsUids};
 ghost use Rattle.store_core.specs.Value.{StoreValue};
 ghost use Rattle.task_claims.specs.Stable.{IsStable};
 ghost use Rattle.task_steps.specs.Step.{IsKept};
 ghost use Rattle.mail_ops.specs.Claims.{copy_claims, expunge_claims, make_claims, move_claims};
-ghost use Rattle.mail_ops.specs.Copy.{IsAtCopy, IsReadyToCopy, copy_amounts};
+ghost use Rattle.mail_ops.specs.Copy.{IsAtCopy, IsReadyToCopy};
 ghost use Rattle.mail_ops.specs.Expunging.{IsAtExpunge, expunge_amounts};
-ghost use Rattle.mail_ops.specs.Keeping.{both_amounts};
-ghost use Rattle.store_core.specs.Knows.{knows_instance};
-ghost use Rattle.mail_ops.specs.Making.{IsAtMake, IsReadyToMake, HaveOtherLogs, LeavesLogs, KeepsAllButLogs};
-ghost use Rattle.mail_ops.specs.Moving.{IsAtMove, IsReadyToMove, move_amounts};
+ghost use Rattle.mail_ops.specs.Making.{IsAtMake, IsReadyToMake};
+ghost use Rattle.mail_ops.specs.Moving.{IsAtMove, IsReadyToMove};
 ghost use Rattle.mail_ops.specs.Owing.{AreDueIn};
 ghost use Rattle.mail_ops.specs.Task.{IsAt};
 ghost use Rattle.mail_ops.specs.declared.copy.CopyStage.{CopyStage};
@@ -63,16 +58,6 @@ pub fn make_stages_are_kept()
     ensures { (stage : MakeStage) → IsKept (IsAtMake stage) }
 {}
 
-/// The event of a task leaves the others ready for theirs. What they hold and owe is due behind it too, if it was together with
-/// what the task held and owed before. So a copy or a move stays ready.
-pub fn others_stay_ready<D: Disk>()
-    ensures due { (mine mine_now other : Amounts) (old new : StoreValue D) → Moves mine mine_now (amounts_in old) (amounts_in new) → AreDueIn old (both_amounts mine other) → AreDueIn new (both_amounts mine_now other) }
-    ensures copies { (mine mine_now : Amounts) (name : List ℕ) (uid : Uid) (now : CopyStage) (old new : StoreValue D) → Moves mine mine_now (amounts_in old) (amounts_in new) → KeepsUids old new → AreDueIn old (both_amounts mine (copy_amounts now))
-        → IsReadyToCopy name uid now old → IsReadyToCopy name uid now new }
-    ensures moves { (mine mine_now : Amounts) (name : List ℕ) (uid : Uid) (now : MoveStage) (old new : StoreValue D) → Moves mine mine_now (amounts_in old) (amounts_in new) → KeepsUids old new → AreDueIn old (both_amounts mine (move_amounts now))
-        → IsReadyToMove name uid now old → IsReadyToMove name uid now new }
-{}
-
 /// Each of these tasks stays ready for its next event beside each event of any other task that moves only its own claims and leaves to
 /// others what is theirs.
 pub fn ready_tasks_are_stable<D: Disk>()
@@ -80,21 +65,6 @@ pub fn ready_tasks_are_stable<D: Disk>()
     ensures moves { (name : List ℕ) (uid : Uid) (now : MoveStage) → IsStable (move_claims now) (λ (store : StoreValue D) (history : Option History). IsReadyToMove name uid now store) }
     ensures expunges { (now : ExpungeStage) → IsStable (expunge_claims now) (λ (store : StoreValue D) (history : Option History). AreDueIn store (expunge_amounts now)) }
     ensures makes { (now : MakeStage) → IsStable (make_claims now) (λ (store : StoreValue D) (history : Option History). IsReadyToMake now store) }
-{}
-
-/// A make whose log isn't the task's own stays ready too, where the event leaves the logs, and a log that it makes is another. So
-/// it does beside an event that leaves the rest of the store as it is.
-pub fn makes_stay_ready<D: Disk>()
-    ensures ready { (mine mine_now other : MakeStage) (old new : StoreValue D) → LeavesLogs mine mine_now old new → HaveOtherLogs mine other → IsReadyToMake other old → IsReadyToMake other new }
-    ensures apart { (mine mine_now other : MakeStage) (old new : StoreValue D) → LeavesLogs mine mine_now old new → HaveOtherLogs mine other → IsReadyToMake other old → HaveOtherLogs mine_now other }
-    ensures beside { (other : MakeStage) (old new : StoreValue D) → KeepsRest old new → IsReadyToMake other old → IsReadyToMake other new }
-{}
-
-/// The store knows the same instances where the rest of it is as it was, and behind an event of a make. So they may be those that
-/// other tasks rely on.
-pub fn known_instances_stay<D: Disk>()
-    ensures rest { (old new : StoreValue D) → KeepsRest old new → (row : InstRow) → knows_instance new row ≡ knows_instance old row }
-    ensures make { (old new : StoreValue D) → KeepsAllButLogs old new → (row : InstRow) → knows_instance new row ≡ knows_instance old row }
 {}
 
 /// Where lists are shown, what the logs of the mailboxes mean is what the list machine answers a listing.

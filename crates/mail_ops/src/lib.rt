@@ -6,9 +6,8 @@ pub use counting::CountsTask;
 pub use event::NotDone;
 pub use expunging::{ExpungeStage, ExpungeTask};
 pub use laws::{
-    copy_stages_are_kept, expunge_stages_are_kept, flags_are_shown, known_instances_stay,
-    listings_are_answered, make_stages_are_kept, makes_stay_ready, move_stages_are_kept,
-    others_stay_ready, ready_tasks_are_stable, task_stages_are_kept,
+    copy_stages_are_kept, expunge_stages_are_kept, flags_are_shown, listings_are_answered,
+    make_stages_are_kept, move_stages_are_kept, ready_tasks_are_stable, task_stages_are_kept,
 };
 pub use lowering::Lowering;
 pub use making::{MakeStage, MakeTask};

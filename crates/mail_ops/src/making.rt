@@ -11,11 +11,9 @@ ghost use Rattle.mdbox_base.specs.declared.replies.Reply.TheVariants as reply;
 ghost use Rattle.mdbox_base.specs.declared.requests.Request.TheVariants as request;
 ghost use Rattle.model_lists.specs.Lists.{Lists};
 ghost use Rattle.model_store.specs.Settled.{IsSettledFor, Leaves};
-ghost use Rattle.store_core.specs.Dues.{Moves, Spares, no_amounts, amounts_in};
-ghost use Rattle.store_core.specs.Keeping.{KeepsUids};
 ghost use Rattle.store_core.specs.MadeLogs.{has_made_log};
 ghost use Rattle.task_steps.specs.Step.{Steps, ended_by};
-ghost use Rattle.mail_ops.specs.Making.{IsAtMake, naming_refusal, IsReadyToMake, LeavesLogs, KeepsAllButLogs, MakeAnswers, make_left, make_lists, lists_by_make, IsLogNotMade, MadeLogSo, FellIfStopped, MakesOn, RemovesOr};
+ghost use Rattle.mail_ops.specs.Making.{IsAtMake, naming_refusal, IsReadyToMake, KeepsAllButLogs, MakeAnswers, make_left, make_lists, lists_by_make, IsLogNotMade, MadeLogSo, FellIfStopped, MakesOn, RemovesOr};
 ghost use Rattle.task_claims.specs.Claims.{ClaimsNothing, MovesClaims};
 ghost use Rattle.task_claims.specs.Leaving.{LeavesOthers};
 ghost use Rattle.mail_ops.specs.Claims.{make_claims};
@@ -103,13 +101,7 @@ impl MakeTask {
         ensures fault { store.old.stopped ≡ false → ChangeFaultCounted (result ≡ progress.Done (reply.Refused refusal.Stopped)) (D.faults store.old.disk) (D.faults store.new.disk) }
         ensures unfailed { result ≢ progress.Done (reply.Refused refusal.Stopped) → NoFault (D.faults store.old.disk) (D.faults store.new.disk) }
 
-        // What is due of each record stays, and each record is kept, unless a failed change stops the store. No other message gets
-        // the UID of one that another task copies or moves, the logs that other tasks have made stay, and so does the rest of the
-        // store; storage files and instances stay at each moment, and names may be synced.
-        ensures moves { Moves no_amounts no_amounts (amounts_in store.old) (amounts_in store.new) }
-        ensures spares { store.new.stopped ≡ store.old.stopped → Spares no_amounts store.old store.new (D.history store.old.disk) (D.history store.new.disk) }
-        ensures keeps { KeepsUids store.old store.new }
-        ensures logs { LeavesLogs self.old.stage self.new.stage store.old store.new }
+        // The rest of the store stays; storage files and instances do at each moment, and names may be synced.
         ensures rest { KeepsAllButLogs store.old store.new }
         ensures mail { SparesMail (store.new.stopped ≡ store.old.stopped) (D.history store.old.disk) (D.history store.new.disk) }
         ensures replies { store.old.stopped ≡ false → MakeAnswers self.old.name self.old.stage store.old store.new (D.history store.old.disk) (D.history store.new.disk) self.new.stage result }

@@ -11,9 +11,9 @@ ghost use Rattle.model_lists.specs.Lists.{Lists};
 ghost use Rattle.model_store.specs.Settled.{IsSettledFor, Leaves};
 ghost use Rattle.task_steps.specs.Step.{HasNotBegun, Steps, ended_by};
 ghost use Rattle.mail_ops.specs.Requests.{IsOpsRequest, Replies, AppendsNothing, lists_after, lists_by_reply};
-ghost use Rattle.store_core.specs.Dues.{due_at, KeepsStored, Moves, Spares, amounts_in};
-ghost use Rattle.store_core.specs.Keeping.{KeepsRest, KeepsUids};
-ghost use Rattle.mail_ops.specs.Task.{IsAt, amounts_of};
+ghost use Rattle.store_core.specs.Dues.{due_at};
+ghost use Rattle.store_core.specs.Keeping.{KeepsRest};
+ghost use Rattle.mail_ops.specs.Task.{IsAt};
 ghost use Rattle.mail_ops.specs.SparedMail.{SparesMail};
 ghost use Rattle.task_claims.specs.Claims.{MovesClaims, no_claims};
 ghost use Rattle.task_claims.specs.Leaving.{LeavesOthers};
@@ -90,12 +90,7 @@ impl OpsTask {
         ensures fault { store.old.stopped ≡ false → ChangeFaultCounted (result ≡ progress.Done (reply.Refused refusal.Stopped)) (D.faults store.old.disk) (D.faults store.new.disk) }
         ensures unfailed { result ≢ progress.Done (reply.Refused refusal.Stopped) → NoFault (D.faults store.old.disk) (D.faults store.new.disk) }
 
-        // What is due of each record grows or shrinks in the store by as much as in this task; and records of which something is due
-        // for other tasks are kept, unless a failed change stops the store. No other message gets the UID of one that
-        // another task copies or moves, and the rest of the store stays; so do storage files and instances, at each moment.
-        ensures moves { Moves (amounts_of self.old) (amounts_of self.new) (amounts_in store.old) (amounts_in store.new) }
-        ensures spares { store.new.stopped ≡ store.old.stopped → Spares (amounts_of self.old) store.old store.new (D.history store.old.disk) (D.history store.new.disk) }
-        ensures keeps { KeepsUids store.old store.new }
+        // The rest of the store stays, and so do storage files and instances, at each moment.
         ensures rest { KeepsRest store.old store.new }
         ensures mail { SparesMail (store.new.stopped ≡ store.old.stopped) (D.history store.old.disk) (D.history store.new.disk) }
 
@@ -120,9 +115,6 @@ fn only_event<D: Disk>(store: &mut Store<D>, request: &Request) -> (Reply, Did)
     ensures replies { Replies request.now store.old store.new result.0 }
     ensures same { AppendsNothing request.now store.old → store.new ≡ store.old }
     ensures due { (uid : ℕ) → due_at uid store.new ≡ due_at uid store.old }
-    ensures map { store.new.map ≡ store.old.map }
-    ensures stored { store.new.stopped ≡ store.old.stopped → KeepsStored (D.history store.old.disk) (D.history store.new.disk) }
-    ensures keeps { KeepsUids store.old store.new }
     ensures rest { KeepsRest store.old store.new }
     ensures leaves { store.new.stopped ≡ false → LeavesOthers no_claims store.old store.new (D.history store.old.disk) (D.history store.new.disk) }
     ensures mail { SparesMail (store.new.stopped ≡ store.old.stopped) (D.history store.old.disk) (D.history store.new.disk) }

@@ -24,14 +24,15 @@ use Rattle.request_text.specs.Outcomes.{status_of}
 use Rattle.request_text.specs.ReplyText.{reply_text, single_text}
 use Rattle.request_text.specs.declared.outcome.Outcome.{Outcome}
 use Rattle.request_text.specs.declared.outcome.Outcome.TheVariants as outcome
+use Rattle.script_run.specs.Opening.{IsUnopened}
 use Rattle.mdbox_top.specs.FetchRun.{FetchRests}
 use Rattle.mdbox_top.specs.Changed.{moved_lists, ChangeMoments, ChangeRests}
 use Rattle.mdbox_top.specs.MoveRun.{MoveMoments, MoveRests}
 use Rattle.mdbox_top.specs.OpeningOutcome.{opening_outcome}
 use Rattle.mdbox_top.specs.Served.{FaultsByReply, ShowsReply, RequestOutcome}
-use Rattle.mdbox_top.specs.Alone.{ReplyTells, RequestMoments, RequestRests, MayFail, IsDoneAlone, IsUnopened}
+use Rattle.mdbox_top.specs.Alone.{ReplyTells, RequestMoments, RequestRests, MayFail, IsDoneAlone}
 use Rattle.mdbox_top.proofs.RequestLemmas.{faulted_is, failed_outcome, failed_status, unopened}
-use Rattle.mdbox_top.proofs.ShownLemmas.{LogsShow, ListsAnswer}
+use Rattle.script_run.proofs.ShownLemmas.{LogsShow, ListsAnswer}
 use Rattle.mdbox_top.proofs.ServedLemmas.{Doing, request_served}
 use Rattle.mdbox_top.proofs.ListLemmas.{list_calm, list_runs, list_tells, list_leaves, list_rests}
 use Rattle.mdbox_top.proofs.CountsLemmas.{counts_calm, counts_run}

@@ -28,13 +28,14 @@ use Rattle.store_core.specs.Value.{StoreValue, indexes_of}
 use Rattle.mail_ops.specs.SparedMail.{SparesMail}
 use Rattle.mail_ops.proofs.KeptMailLemmas.{spared_none}
 use Rattle.model_kept.proofs.KeptLemmas.{ReadsImage}
+use Rattle.script_run.proofs.RunBeginsLemmas.{OpenedNow, before_opening, beginning, opening_begins}
 use Rattle.mdbox_top.specs.Changed.{lists_told, OpensUnchanged, ChangeMoments, AreOneOf, SafeForAmong, MomentsAmong}
 use Rattle.mdbox_top.specs.ChangeEvents.{IsWayTo, ServesAlone, ChangesAlone}
 use Rattle.mdbox_top.specs.UnderWay.{IsUnderWay, seen_alone}
 use Rattle.mdbox_top.proofs.MailLemmas.{spares_then}
-use Rattle.mdbox_top.proofs.ServedLemmas.{OpenedNow, comes, opening_begins}
-use Rattle.mdbox_top.proofs.ShownLemmas.{opens_again}
-use Rattle.mdbox_top.proofs.UnderWayLemmas.{nothing_found, beginning, before_opening, way_begins, way_shows, way_goes_on, way_ends}
+use Rattle.mdbox_top.proofs.ServedLemmas.{comes}
+use Rattle.script_run.proofs.ShownLemmas.{opens_again}
+use Rattle.mdbox_top.proofs.UnderWayLemmas.{nothing_found, way_begins, way_shows, way_goes_on, way_ends}
 
 pub more_done : (given : Reply) → progress.More ≡ progress.Done given → ⊥
 more_done given e = cc e

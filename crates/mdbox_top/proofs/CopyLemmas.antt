@@ -37,6 +37,7 @@ use Rattle.mail_ops.specs.declared.copy.CopyStage.{CopyStage}
 use Rattle.mail_ops.specs.declared.copy.CopyStage.TheVariants as stage
 use Rattle.mail_ops.proofs.CopyFirstLemmas.{no_room, place_free, too_many, few_copies, raise_steps}
 use Rattle.store_open.specs.Opened.{IsOpenedAs}
+use Rattle.script_run.proofs.RunBeginsLemmas.{OpenedNow, before_opening}
 use Rattle.mdbox_top.specs.Alone.{IsDoneAlone}
 use Rattle.mdbox_top.specs.Changed.{lists_told, AreOneOf, OpensAsBefore}
 use Rattle.mdbox_top.specs.ChangeEvents.{ChangesAlone, CopiesAlone, IsAsBefore}
@@ -44,9 +45,8 @@ use Rattle.mdbox_top.specs.CopyRun.{uncopied_cause, IsCopiedAs, IsCopyAnswer, Is
 use Rattle.mdbox_top.proofs.AloneLemmas.{alone_faults}
 use Rattle.mdbox_top.proofs.ChangeLemmas.{ChangeEvent, SoFar, so_far_begins, so_far_on, IsUnrefused, so_far_ends, way_shown, opens_unchanged, changed_moments}
 use Rattle.mdbox_top.proofs.MailLemmas.{opened_mail}
-use Rattle.mdbox_top.proofs.ServedLemmas.{OpenedNow, way_opens}
-use Rattle.mdbox_top.proofs.ShownLemmas.{LogsShow, opens_again}
-use Rattle.mdbox_top.proofs.UnderWayLemmas.{before_opening}
+use Rattle.mdbox_top.proofs.ServedLemmas.{way_opens}
+use Rattle.script_run.proofs.ShownLemmas.{LogsShow, opens_again}
 use Rattle.mdbox_top.specs.UnderWay.{seen_alone}
 
 -- ---- why it isn't copied

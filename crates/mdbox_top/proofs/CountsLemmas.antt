@@ -24,16 +24,18 @@ use Rattle.mail_ops.proofs.CountingLemmas.{shown_many}
 use Rattle.request_text.specs.Outcomes.{status_of, reply_outcome}
 use Rattle.request_text.specs.declared.outcome.Outcome.{Outcome}
 use Rattle.request_text.specs.declared.outcome.Outcome.TheVariants as outcome
+use Rattle.script_run.specs.Opening.{AreSafeFor}
+use Rattle.script_run.proofs.RunBeginsLemmas.{OpenedNow, before_opening}
 use Rattle.mdbox_top.specs.Alone.{IsDoneAlone}
 use Rattle.mdbox_top.specs.CountsRun.{counts_of, IsCountsReply, CountsOutcome}
 use Rattle.mdbox_top.specs.InputRun.{IsOneOf}
 use Rattle.mdbox_top.specs.OpeningOutcome.{opening_outcome}
-use Rattle.mdbox_top.specs.Served.{AreSafeFor, ServesRequest, FaultsByReply, ShowsReply}
+use Rattle.mdbox_top.specs.Served.{ServesRequest, FaultsByReply, ShowsReply}
 use Rattle.mdbox_top.specs.UnderWay.{IsUnderWay, seen_alone}
 use Rattle.mdbox_top.proofs.RequestLemmas.{opening_number, request_status}
-use Rattle.mdbox_top.proofs.ServedLemmas.{OpenedNow, way_opens}
-use Rattle.mdbox_top.proofs.ShownLemmas.{LogsShow, opens_again, opened_shows}
-use Rattle.mdbox_top.proofs.UnderWayLemmas.{nothing_found, before_opening, way_shows, way_ends}
+use Rattle.mdbox_top.proofs.ServedLemmas.{way_opens}
+use Rattle.script_run.proofs.ShownLemmas.{LogsShow, opens_again, opened_shows}
+use Rattle.mdbox_top.proofs.UnderWayLemmas.{nothing_found, way_shows, way_ends}
 
 -- what is counted, or that there is no memory
 abbrev IsCount : MapMeaning → List BoxMeaning → Reply → Type 0

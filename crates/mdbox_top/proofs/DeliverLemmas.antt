@@ -39,7 +39,10 @@ use Rattle.request_text.specs.declared.outcome.InputRefusal.TheVariants as input
 use Rattle.request_text.specs.declared.outcome.StoreRefusal.{StoreRefusal}
 use Rattle.request_text.specs.declared.outcome.Outcome.{Outcome}
 use Rattle.request_text.specs.declared.outcome.Outcome.TheVariants as outcome
-use Rattle.mdbox_top.specs.Alone.{IsDoneAlone, IsUnopened}
+use Rattle.script_run.specs.Opening.{IsUnopened}
+use Rattle.script_run.proofs.MailStaysLemmas.{stays_from}
+use Rattle.script_run.proofs.RunBeginsLemmas.{OpenedNow, before_opening}
+use Rattle.mdbox_top.specs.Alone.{IsDoneAlone}
 use Rattle.mdbox_top.specs.Changed.{saved_lists, lists_told}
 use Rattle.mdbox_top.specs.ChangeEvents.{IsAlike, AreAlongSave, ShowsChanged, StoresAlone, SavesAlone}
 use Rattle.mdbox_top.specs.DeliverRun.{undelivered_cause, region_length, HasRecordLeft, HasRecordMore, IsDeliverAnswer, OpensAlike, OpensSaved, IsDeliverReply, SaveOutcome, AreSaved, SaveMoments, SaveRests, unread_outcome, IsUnread, DeliverOutcome, DeliverRests, DeliverStatus}
@@ -51,10 +54,8 @@ use Rattle.mdbox_top.proofs.CopyLemmas.{one_refusal}
 use Rattle.mdbox_top.proofs.InputLemmas.{long_told}
 use Rattle.mdbox_top.proofs.KnownFirstLemmas.{named_there}
 use Rattle.mdbox_top.proofs.RequestLemmas.{opening_number, shown_number, request_status, request_used, request_input, request_damage}
-use Rattle.mdbox_top.proofs.ServedLemmas.{OpenedNow, way_opens}
-use Rattle.mdbox_top.proofs.ShownLemmas.{LogsShow, opens_again}
-use Rattle.mdbox_top.proofs.StaysLemmas.{stays_from}
-use Rattle.mdbox_top.proofs.UnderWayLemmas.{before_opening}
+use Rattle.mdbox_top.proofs.ServedLemmas.{way_opens}
+use Rattle.script_run.proofs.ShownLemmas.{LogsShow, opens_again}
 use Rattle.mdbox_top.proofs.WroteLemmas.{wrote_message}
 use Rattle.mdbox_top.specs.UnderWay.{seen_alone}
 

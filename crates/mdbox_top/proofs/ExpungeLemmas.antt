@@ -28,6 +28,7 @@ use Rattle.mail_ops.specs.Messages.{missing_message}
 use Rattle.mail_ops.specs.declared.expunging.ExpungeStage.{ExpungeStage}
 use Rattle.mail_ops.specs.declared.expunging.ExpungeStage.TheVariants as stage
 use Rattle.mail_ops.proofs.MessageLemmas.{not_missing}
+use Rattle.script_run.proofs.RunBeginsLemmas.{OpenedNow, before_opening}
 use Rattle.mdbox_top.specs.Alone.{IsDoneAlone}
 use Rattle.mdbox_top.specs.Changed.{IsChangeAnswer, lists_told, AreOneOf}
 use Rattle.mdbox_top.specs.ChangeEvents.{ChangesAlone, RemovesAlone}
@@ -36,9 +37,8 @@ use Rattle.mdbox_top.specs.Served.{missing_cause}
 use Rattle.mdbox_top.proofs.AloneLemmas.{alone_faults}
 use Rattle.mdbox_top.proofs.ChangeLemmas.{ChangeEvent, SoFar, so_far_begins, so_far_on, IsUnrefused, so_far_ends, way_shown, opens_unchanged, changed_moments}
 use Rattle.mdbox_top.proofs.MailLemmas.{opened_mail}
-use Rattle.mdbox_top.proofs.ServedLemmas.{OpenedNow, way_opens}
-use Rattle.mdbox_top.proofs.ShownLemmas.{LogsShow, opens_again}
-use Rattle.mdbox_top.proofs.UnderWayLemmas.{before_opening}
+use Rattle.mdbox_top.proofs.ServedLemmas.{way_opens}
+use Rattle.script_run.proofs.ShownLemmas.{LogsShow, opens_again}
 use Rattle.mdbox_top.specs.UnderWay.{seen_alone}
 
 -- ---- replies

@@ -32,16 +32,16 @@ use Rattle.mail_fetch.specs.Events.{fetch_refusal}
 use Rattle.mail_fetch.specs.Stages.{IsAtFetch}
 use Rattle.mail_fetch.specs.Task.{seen_in}
 use Rattle.mail_fetch.specs.declared.task.FetchStage.TheVariants as stage
+use Rattle.script_run.specs.Opening.{AreSafeFor, StaysSettled}
+use Rattle.script_run.proofs.RunBeginsLemmas.{OpenedNow, before_opening}
 use Rattle.mdbox_top.specs.Alone.{IsDoneAlone}
 use Rattle.mdbox_top.specs.FetchEvents.{FetchIsAt, TakesMessage, TakesServed}
 use Rattle.mdbox_top.specs.FetchRun.{IsFetched, IsFetchReply}
-use Rattle.mdbox_top.specs.ListRun.{StaysSettled}
-use Rattle.mdbox_top.specs.Served.{AreSafeFor, FaultsByReply}
+use Rattle.mdbox_top.specs.Served.{FaultsByReply}
 use Rattle.mdbox_top.proofs.FetchLemmas.{at_use, cause_of}
-use Rattle.mdbox_top.proofs.OpenedLemmas.{none_pinned}
-use Rattle.mdbox_top.proofs.ServedLemmas.{OpenedNow, way_opens}
-use Rattle.mdbox_top.proofs.ShownLemmas.{LogsShow, opens_again}
-use Rattle.mdbox_top.proofs.UnderWayLemmas.{before_opening}
+use Rattle.script_run.proofs.OpenedLemmas.{none_pinned}
+use Rattle.mdbox_top.proofs.ServedLemmas.{way_opens}
+use Rattle.script_run.proofs.ShownLemmas.{LogsShow, opens_again}
 use Rattle.mdbox_top.specs.UnderWay.{IsUnderWay, seen_alone}
 use Rattle.mdbox_top.proofs.MailLemmas.{opened_stays}
 

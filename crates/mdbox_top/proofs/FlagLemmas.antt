@@ -26,11 +26,12 @@ use Rattle.store_open.specs.Opened.{IsOpenedAs, StoreCarries}
 use Rattle.store_sweep.specs.Swept.{IsSwept}
 use Rattle.mail_ops.specs.Flagging.{flag_refusal}
 use Rattle.mail_ops.specs.Requests.{Replies, lists_by_reply}
+use Rattle.script_run.proofs.RunBeginsLemmas.{beginning}
 use Rattle.mdbox_top.specs.Served.{missing_cause}
 use Rattle.mdbox_top.specs.FlagRun.{IsFlagAnswer, HasFlagged, IsFlagReply, FlagMoments, FlagRests}
 use Rattle.mdbox_top.proofs.ServedLemmas.{Doing, comes}
-use Rattle.mdbox_top.proofs.UnderWayLemmas.{nothing_found, beginning}
-use Rattle.mdbox_top.proofs.ShownLemmas.{opens_again}
+use Rattle.mdbox_top.proofs.UnderWayLemmas.{nothing_found}
+use Rattle.script_run.proofs.ShownLemmas.{opens_again}
 use Rattle.mdbox_top.proofs.MailLemmas.{opened_mail}
 
 -- ---- what is replied

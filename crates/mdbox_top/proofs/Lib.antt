@@ -16,7 +16,6 @@ pub mod MailLemmas
 pub mod MakeFileLemmas
 pub mod MakeLemmas
 pub mod MoveLemmas
-pub mod OpenedLemmas
 pub mod ReplyFaultLemmas
 pub mod RequestLemmas
 pub mod RoomLemmas
@@ -24,7 +23,6 @@ pub mod RunLemmas
 pub mod SaveLemmas
 pub mod SavedFormLemmas
 pub mod ServedLemmas
-pub mod ShownLemmas
 pub mod StaysLemmas
 pub mod UnderWayLemmas
 pub mod WroteLemmas

@@ -14,9 +14,10 @@ use Rattle.store_core.specs.Value.{StoreValue, indexes_of, list_named}
 use Rattle.store_open.specs.Opened.{IsOpenedAs, StoreCarries}
 use Rattle.store_sweep.specs.Swept.{IsSwept}
 use Rattle.mail_ops.specs.Requests.{Replies}
-use Rattle.mdbox_top.specs.ListRun.{StaysSettled, IsListReply, ListMoments, ListRests}
+use Rattle.script_run.specs.Opening.{StaysSettled}
+use Rattle.mdbox_top.specs.ListRun.{IsListReply, ListMoments, ListRests}
 use Rattle.mdbox_top.proofs.ServedLemmas.{Doing}
-use Rattle.mdbox_top.proofs.ShownLemmas.{LogsShow, ListsAnswer, answers_safe, opens_again}
+use Rattle.script_run.proofs.ShownLemmas.{LogsShow, ListsAnswer, answers_safe, opens_again}
 
 -- what a store that isn't stopped replies
 listed : {D : Type 0} → (name : List ℕ) (s t : StoreValue D) (given : Reply) → s.stopped ≡ false → Replies (request.List name) s t given → (given ≡ listing_of (list_named s name)) ⊎ (given ≡ reply.Refused refusal.NoMemory)

@@ -14,8 +14,8 @@ use Rattle.store_core.specs.Value.{StoreValue}
 use Rattle.store_open.specs.Opened.{KeepsOpenedMail}
 use Rattle.mail_ops.specs.SparedMail.{SparesMail}
 use Rattle.task_claims.specs.Leaving.{IsSameOrSynced, SyncsMail}
+use Rattle.script_run.proofs.RunBeginsLemmas.{OpenedNow}
 use Rattle.mdbox_top.specs.Changed.{LeavesMail}
-use Rattle.mdbox_top.proofs.ServedLemmas.{OpenedNow}
 
 -- ---- names that are synced
 

@@ -39,7 +39,9 @@ use Rattle.mail_ops.specs.declared.making.MakeStage.TheVariants as stage
 use Rattle.store_open.specs.Opened.{IsOpenedAs}
 use Rattle.store_open.specs.declared.error.OpenError.{OpenError}
 use Rattle.store_open.specs.declared.error.OpenError.TheVariants as error
-use Rattle.mdbox_top.specs.Alone.{IsDoneAlone, IsUnopened}
+use Rattle.script_run.specs.Opening.{IsUnopened}
+use Rattle.script_run.proofs.RunBeginsLemmas.{OpenedNow, before_opening}
+use Rattle.mdbox_top.specs.Alone.{IsDoneAlone}
 use Rattle.mdbox_top.specs.Changed.{IsChangeAnswer, AreOneOf}
 use Rattle.mdbox_top.specs.ChangeEvents.{ServesAlone, ShowsChanged, MeansAsBefore, MakingLeaves, MakesAlone}
 use Rattle.mdbox_top.specs.MakeRun.{next_mailbox, lists_by_making, AreMade, IsMakeReply, MakeMoments, MakeRests}
@@ -49,9 +51,8 @@ use Rattle.mdbox_top.proofs.ChangeLemmas.{ChangeEvent, SoFar, so_far_begins, so_
 use Rattle.mdbox_top.proofs.CopyLemmas.{one_refusal, none_made, unremembered_runs}
 use Rattle.mdbox_top.proofs.ExpungeLemmas.{there_answers, missing_answers, done_runs}
 use Rattle.mdbox_top.proofs.MakeFileLemmas.{unmade_files, removed_files, named_files, stopped_files, reads_alike}
-use Rattle.mdbox_top.proofs.ServedLemmas.{OpenedNow, way_opens}
-use Rattle.mdbox_top.proofs.ShownLemmas.{LogsShow, opens_again}
-use Rattle.mdbox_top.proofs.UnderWayLemmas.{before_opening}
+use Rattle.mdbox_top.proofs.ServedLemmas.{way_opens}
+use Rattle.script_run.proofs.ShownLemmas.{LogsShow, opens_again}
 use Rattle.mdbox_top.specs.UnderWay.{seen_alone}
 
 -- ---- replies

@@ -33,6 +33,7 @@ use Rattle.mail_ops.specs.Moving.{IsAtMove, move_lists, lists_moved, IsReadyToMo
 use Rattle.mail_ops.specs.declared.moving.MoveStage.{MoveStage}
 use Rattle.mail_ops.specs.declared.moving.MoveStage.TheVariants as stage
 use Rattle.mail_ops.proofs.CopyFirstLemmas.{raise_steps}
+use Rattle.script_run.proofs.RunBeginsLemmas.{OpenedNow, before_opening}
 use Rattle.mdbox_top.specs.Alone.{IsDoneAlone}
 use Rattle.mdbox_top.specs.Changed.{moved_lists, lists_behind, lists_told}
 use Rattle.mdbox_top.specs.ChangeEvents.{IsWayTo, ChangesAlone, MovesAlone, IsAsBefore}
@@ -41,9 +42,9 @@ use Rattle.mdbox_top.proofs.AloneLemmas.{alone_faults}
 use Rattle.mdbox_top.proofs.ChangeLemmas.{ChangeEvent, SoFar, so_far_begins, so_far_on, IsUnrefused, so_far_ends, way_shown, opens_unchanged, moments_as}
 use Rattle.mdbox_top.proofs.CopyLemmas.{CauseIn, raise_cause, may_cause, one_refusal, memory_runs, step_calm, none_made, given_back, still_before, HoldsRaised, raised_first, named_kept, only_memory, opens_as_before, unremembered_runs}
 use Rattle.mdbox_top.proofs.MailLemmas.{opened_mail}
-use Rattle.mdbox_top.proofs.ServedLemmas.{OpenedNow, way_opens}
-use Rattle.mdbox_top.proofs.ShownLemmas.{LogsShow, opens_again}
-use Rattle.mdbox_top.proofs.UnderWayLemmas.{nothing_found, before_opening, way_shows}
+use Rattle.mdbox_top.proofs.ServedLemmas.{way_opens}
+use Rattle.script_run.proofs.ShownLemmas.{LogsShow, opens_again}
+use Rattle.mdbox_top.proofs.UnderWayLemmas.{nothing_found, way_shows}
 use Rattle.mdbox_top.specs.UnderWay.{seen_alone}
 
 -- ---- replies

@@ -75,6 +75,7 @@ use Rattle.mail_save.specs.declared.first.SavedParts.{SavedParts}
 use Rattle.mail_save.specs.declared.place.SavedAt.{SavedAt}
 use Rattle.mail_save.specs.declared.task.SaveStage.{SaveStage}
 use Rattle.mail_save.specs.declared.task.SaveStage.TheVariants as stage
+use Rattle.script_run.proofs.MailStaysLemmas.{needs_same}
 use Rattle.mdbox_top.specs.Changed.{saved_lists, lists_told, MomentsAmong}
 use Rattle.mdbox_top.specs.ChangeEvents.{IsAlike, ShowsChanged, AreAlongSave, IsWayTo, StoresAlone, SavesAlone}
 use Rattle.mdbox_top.specs.DeliverRun.{attachment_octets, region_length, IsFileFor, IsSavedAs, IsSavedPlace, IsOutOfFiles, IsOutOfInstances, IsUncompared, IsDeliverAnswer, HasRecordMore, HasRecordLeft}
@@ -87,7 +88,7 @@ use Rattle.mdbox_top.proofs.FirstLemmas.{AreFirstKnown, firsts_let_go, firsts_na
 use Rattle.mdbox_top.proofs.ReplyFaultLemmas.{fault_event, replied_faults}
 use Rattle.mdbox_top.proofs.RoomLemmas.{finds_room, of_one}
 use Rattle.mdbox_top.proofs.SavedFormLemmas.{AttachedAs, attached_as, attaching_parts, ready_instances}
-use Rattle.mdbox_top.proofs.StaysLemmas.{needs_same, needs_stored}
+use Rattle.mdbox_top.proofs.StaysLemmas.{needs_stored}
 use Rattle.mdbox_top.proofs.WroteLemmas.{AreAmong, added_among, added_none, added_on, compares_attachment, instances_on, places_attachment, took_mail, wrote_mail, wrote_on}
 use Rattle.mdbox_top.proofs.UnderWayLemmas.{nothing_found, way_shows, way_goes_on, way_ends}
 

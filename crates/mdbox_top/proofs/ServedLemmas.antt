@@ -34,51 +34,19 @@ use Rattle.model_kept.proofs.KeptLemmas.{ReadsImage}
 use Rattle.mail_ops.specs.Requests.{Replies, AppendsNothing, lists_after, lists_by_reply}
 use Rattle.mail_ops.specs.Task.{TaskValue, IsAt}
 use Rattle.mail_ops.specs.declared.task.TaskStage.TheVariants as stage
-use Rattle.mdbox_top.specs.ListRun.{StaysSettled}
-use Rattle.mdbox_top.specs.Served.{AreSafeFor, RunBegins, ServesRequest, barred_files}
+use Rattle.script_run.specs.Opening.{AreSafeFor, RunBegins, StaysSettled, barred_files}
+use Rattle.script_run.proofs.RunBeginsLemmas.{OpenedNow, at_opening, before_opening, beginning, first_come, opening_begins}
+use Rattle.mdbox_top.specs.Served.{ServesRequest}
 use Rattle.mdbox_top.specs.UnderWay.{IsUnderWay, seen_alone}
-use Rattle.mdbox_top.proofs.OpenedLemmas.{bars_known, found_is_told, knows_named, none_doomed}
-use Rattle.mdbox_top.proofs.ShownLemmas.{LogsShow, opened_shows}
-use Rattle.mdbox_top.proofs.UnderWayLemmas.{nothing_found, beginning, before_opening, run_begins, way_begins, way_shows, way_ends}
+use Rattle.script_run.proofs.ShownLemmas.{LogsShow, opened_shows}
+use Rattle.mdbox_top.proofs.UnderWayLemmas.{nothing_found, way_begins, way_shows, way_ends}
 use Rattle.store_sweep.specs.Moments.{IdleIf}
 
 -- ---- the opening
 
--- What is known of the opening of a store.
-pub record OpenedNow {D : Type 0} (old mid : Option History) (s : StoreValue D) : Type 0 where
-  pub opened : IsOpenedAs old s.map (indexes_of s.boxes)
-  pub store : IsStore mid s
-  pub drawn : s.drawn ≡ s.map.highest
-  pub free : s.dues ≡ none_due s.map.records
-  pub order : AreFilesInOrder s.files
-  pub files : IsFoundFiles s.map old s.files
-  pub instances : IsFoundInstances s.map s.instances
-  pub running : s.stopped ≡ false
-  pub safe : (lists : Lists) → IsSettledFor lists old → EachImage (λ _ image. Safe image lists) old mid
-  pub settled_again : StaysSettled old mid
-  pub carried : StoreCarries old mid
-  pub swept : (generation : ℕ) × IsSwept generation s.map old mid
-  pub stays : KeepsOpenedMail old mid
-  pub reads : IfTold mid ReadsImage
-  pub closed_well : IdleIf IsClosedWell old mid
-
 -- the run has come to it
 pub comes : {D : Type 0} → (old mid : Option History) (began : Faults) (s : StoreValue D) → (o : OpenedNow old mid s) → HasComeTo (beginning s.map o.store.entries) (seen_alone s mid began)
-comes old mid began s o =
-    comes_at_first (beginning s.map o.store.entries) s mid began
-    (record {
-      empty = refl;
-      free = o.free;
-      undoomed = λ file. none_doomed s old o.files file;
-      told = λ file e. found_is_told s old o.files file e;
-      named = λ instance. knows_named s o.instances instance;
-      barred = λ file e. bars_known s old o.order o.files o.store.files.highest file e;
-    })
-    (record { map_is = ap (map_meaning s.map.store) (append-nil o.store.entries) ∙ sym o.store.map_is; drawn_is = sym o.drawn; moments = All-nil _ })
-
--- the run begins with the map log of the files
-pub opening_begins : {D : Type 0} → (old mid : Option History) (s : StoreValue D) → (o : OpenedNow old mid s) → RunBegins (beginning s.map o.store.entries) old
-opening_begins old mid s o = run_begins (beginning s.map o.store.entries) old o.opened.entries o.opened.logs (ap barred_files o.store.map_is) o.opened.opens (subst (λ (n : MapMeaning). MeansSame (map_meaning s.map.store o.opened.entries) n) o.store.map_is o.opened.means)
+comes old mid began s o = comes_at_first (beginning s.map o.store.entries) s mid began (at_opening old mid s o) (first_come old mid _ s o)
 
 -- Behind the opening any request is under way, from the lists for which the files were safe.
 pub way_opens : {D : Type 0} → (Stands : Run → ℕ → List Reply → Type 0) (request : Request) (lists : Lists) (old mid : Option History) (began : Faults) (s : StoreValue D) → (o : OpenedNow old mid s) → LogsShow → AreSafeFor lists old → Stands (beginning s.map o.store.entries) 0 []

@@ -1,33 +1,16 @@
 -- Storage files and instances that stay over a run which adds a record.
-use Rattle.std.specs.Prelude.{◌==◌, Contains}
-use Rattle.std.specs.List.{list_any}
-use Rattle.std.proofs.Common.{◌≡◌, ◌∷◌, [], ℕ, List, All, Option, Some, None, refl, sym, ◌∙◌, ap, subst}
-use Rattle.std.proofs.lemmas.List.Elements.{All-weaker, All-contains_itself, Contains-append_left}
-use Rattle.disk_model.specs.Disk.{History, IfTold}
+use Rattle.std.specs.Prelude.{Contains}
+use Rattle.std.proofs.Common.{◌≡◌, ◌∷◌, [], List, sym, subst}
+use Rattle.std.proofs.lemmas.List.Elements.{Contains-append_left}
 use Rattle.mdbox_base.specs.declared.entries.InstRow.{InstRow}
-use Rattle.mdbox_base.specs.declared.entries.MapEntry.{MapEntry}
 use Rattle.mdbox_base.specs.declared.ids.MapUid.{MapUid}
 use Rattle.model_appends.specs.MapAppending.{stored_row}
-use Rattle.model_kept.specs.Kept.{IsPlacedIn, MailIsKept, NeedsAllOf}
-use Rattle.model_kept.proofs.KeptLemmas.{ReadsImage, kept_for_less, kept_then}
-use Rattle.model_meaning.specs.BoxMeaning.{BoxMeaning}
-use Rattle.model_meaning.specs.MapMeaning.{MapMeaning, MapRecord, map_applied, map_meaning}
-use Rattle.model_meaning.specs.SameMeaning.{MeansSame}
+use Rattle.model_kept.specs.Kept.{NeedsAllOf}
+use Rattle.model_meaning.specs.MapMeaning.{MapMeaning, MapRecord, map_applied}
 use Rattle.model_meaning.proofs.AppliedLemmas.{records_by_stored}
-use Rattle.model_store.specs.Settled.{files_of}
-use Rattle.model_store.proofs.OpeningLemmas.{one_store}
 use Rattle.mail_save.specs.Record.{entry_stored}
 use Rattle.mail_save.specs.declared.place.SavedAt.{SavedAt}
-use Rattle.store_open.specs.Opened.{IsOpenedAs, KeepsOpenedMail}
-
--- ---- a map that needs no less
-
-placed_itself : (rows : List MapRecord) (m : MapMeaning) → ((row : MapRecord) → Contains rows row → Contains m.records row) → All (IsPlacedIn m) rows
-placed_itself rows m among = All-weaker (Contains rows) (IsPlacedIn m) (λ row own. record { now = row; there = among row own; file = refl; offset = refl; size = refl; instances = refl }) rows (All-contains_itself rows)
-
--- the same map
-pub needs_same : (m n : MapMeaning) → n ≡ m → NeedsAllOf n m
-needs_same m n same = subst (λ (x : MapMeaning). NeedsAllOf x m) (sym same) (record { sealed = λ number is. is; records = placed_itself m.records m (λ row own. own) })
+use Rattle.script_run.proofs.MailStaysLemmas.{placed_itself}
 
 -- with the record of a message that was stored
 pub needs_stored : (m n : MapMeaning) (rows : List InstRow) (uid : MapUid) (at : SavedAt) → n ≡ map_applied (entry_stored rows uid at) m → NeedsAllOf n m
@@ -39,23 +22,3 @@ needs_stored m n rows uid at is =
       records = placed_itself m.records (map_applied (entry_stored rows uid at) m)
           (λ row own. subst (λ (rs : List MapRecord). Contains rs row) (sym (records_by_stored 0 1 uid at.file at.offset at.size at.guid rows m.records)) (Contains-append_left m.records (made ∷ []) row own));
     })
-
--- that from which a store opened, but for the generations of mailbox logs
-needs_opened : (m n : MapMeaning) → MeansSame m n → NeedsAllOf n m
-needs_opened m n same = record {
-  sealed = λ number is. ap (λ (sealed : List ℕ). list_any (λ f. f == number) sealed) same.sealed ∙ is;
-  records = subst (λ (rows : List MapRecord). All (IsPlacedIn n) rows) same.records (placed_itself n.records n (λ row own. own));
-}
-
--- ---- over a whole run
-
--- from the opening on, where they stay for the map that it gave
-pub stays_from : (old mid new : Option History) (m : MapMeaning) (meanings : List BoxMeaning) → IsOpenedAs old m meanings → IfTold mid ReadsImage → KeepsOpenedMail old mid → MailIsKept m mid new → KeepsOpenedMail old new
-stays_from None mid new m meanings opened reads kept stays = λ store entries logs opens.
-    let none : mid ≡ None = kept store entries logs opens in
-    subst (λ (h : Option History). MailIsKept m h new) none stays
-stays_from (Some old) mid new m meanings opened reads kept stays = λ store entries logs opens.
-    let e = one_store (files_of old.now) m.store store opened.entries entries opened.logs logs opened.opens opens in
-    let needs : NeedsAllOf m (map_meaning store entries) =
-    subst (λ (s : List ℕ). NeedsAllOf m (map_meaning s entries)) e.0 (subst (λ (es : List MapEntry). NeedsAllOf m (map_meaning m.store es)) e.1 (needs_opened (map_meaning m.store opened.entries) m opened.means)) in
-    kept_then (map_meaning store entries) (Some old) mid new reads (kept store entries logs opens) (kept_for_less m (map_meaning store entries) mid new needs stays)

@@ -34,7 +34,9 @@ use Rattle.task_steps.proofs.OneEventLemmas.{never_more, not_true}
 use Rattle.task_steps.proofs.ReplyingLemmas.{answers_more, turn_stays, reply_on, serves_start}
 use Rattle.store_core.specs.Running.{IsStore}
 use Rattle.store_core.specs.Value.{StoreValue}
-use Rattle.mdbox_top.specs.Served.{barred_files, RunBegins, RunHasCome, ServesRequest}
+use Rattle.script_run.specs.Opening.{RunBegins, RunHasCome, barred_files}
+use Rattle.script_run.proofs.RunBeginsLemmas.{before_opening, beginning, first_map, run_ends}
+use Rattle.mdbox_top.specs.Served.{ServesRequest}
 use Rattle.mdbox_top.specs.UnderWay.{alone, GoesAlone, IsUnderWay}
 
 -- ---- one request
@@ -66,10 +68,6 @@ replied_also given = record { none_before = refl; here = refl; others = λ j oth
     elsewhere : (j : ℕ) → (0 == j) ≡ false → slice_get (Some given ∷ []) j ≡ slice_get (None ∷ []) j
     elsewhere zero e = absurd (cc e)
     elsewhere (suc j) e = refl
-
--- the run as it begins
-abbrev pub beginning : MapMeaning → List MapEntry → Run
-beginning m entries = record { store = m.store; start = entries; opened = m.highest; barred = barred_files m; events = [] }
 
 no_replies : (request : Request) (m : MapMeaning) (entries : List MapEntry) → AreReplies (alone request) (beginning m entries) (None ∷ [])
 no_replies request m entries = (refl, λ i l. there i l)
@@ -103,12 +101,6 @@ none_earlier run request i q l e on = absurd (omega (arith, l))
 
 stays_on : (run : Run) (event : RunEvent) → StaysStopped run.events → All (λ e. e.refused ≢ Some refusal.Stopped) run.events → StaysStopped (run.events ++ event ∷ [])
 stays_on run event stays unrefused = pairs_push StopsLater run.events event stays (All-weaker (λ (e : RunEvent). e.refused ≢ Some refusal.Stopped) (λ (e : RunEvent). StopsLater e event) (λ e no stopped. absurd (no stopped)) run.events unrefused)
-
--- the map and the numbers with which a run begins
-first_map : (run : Run) (m : MapMeaning) (drawn : Highest) → HasCome (before 0 run) m drawn 0 → drawn ≡ m.highest → HasCome (before 0 run) (map_meaning run.store run.start) (map_meaning run.store run.start).highest 0
-first_map run m drawn come is =
-    let first : map_of (before 0 run) ≡ map_meaning run.store run.start = ap (map_meaning run.store) (append-nil run.start) in
-    record { map_is = first; drawn_is = come.drawn_is ∙ (is ∙ ap (λ (n : MapMeaning). n.highest) (sym come.map_is ∙ first)); moments = All-nil _ }
 
 -- The event that answers it: it was served.
 pub goes_ended : (request : Request) (lists : Lists) (given : Reply) (run : Run) (journal : List JournalStep) (broken : Broken) (began now new : Seen) (around after : Around) (how : Did) → GoesAlone request lists run journal broken began now → began.drawn ≡ began.map.highest → RunBegins run began.history
@@ -157,10 +149,6 @@ left_more run request lists journal event None left made = ap (λ (j : List Jour
 left_more run request lists journal event (Some given) left made = left_push lists journal _
 
 -- ---- it begins
-
--- what was seen of a store, with the disk as it was before the opening
-abbrev pub before_opening : Seen → Option History → Seen
-before_opening seen old = record seen { history = old }
 
 -- No event has happened since: of a disk that was settled before the opening, each crash image since is safe for the lists.
 opened_serves : (request : Request) (lists : Lists) (m : MapMeaning) (entries : List MapEntry) (seen : Seen) (old : Option History) → HasComeTo (beginning m entries) seen → ShowsSeen seen lists → seen.stopped ≡ false
@@ -267,14 +255,6 @@ way_goes_on Stood Stands request lists left began now new around after how u =
     (goes_on_alone Stands request lists u.run u.journal u.broken began now new around after how u.goes u.begins u.opened))
 
 -- ---- it ends
-
-pub run_begins : (run : Run) (old : Option History) (entries : List MapEntry) (logs : List (List BoxEntry)) → run.barred ≡ barred_files (map_meaning run.store run.start) → IfTold old (λ now. Opens (files_of now) run.store entries logs) → MeansSame (map_meaning run.store entries) (map_meaning run.store run.start) → RunBegins run old
-run_begins run None entries logs barred opens means = (barred, tt)
-run_begins run (Some h) entries logs barred opens means = (barred, (entries, logs, opens, means))
-
-run_ends : (run : Run) (m : MapMeaning) (new : Option History) (entries : List MapEntry) (logs : List (List BoxEntry)) → IfTold new (λ now. Opens (files_of now) run.store entries logs) → m ≡ map_meaning run.store entries → RunHasCome run m new
-run_ends run m None entries logs opens is = tt
-run_ends run m (Some h) entries logs opens is = (entries, logs, opens, subst (λ (n : MapMeaning). MeansSame n m) is (means_itself m))
 
 -- an event that answers a request
 abbrev EndsAlone : Request → Reply → Run → Seen → Seen → Around → Around → Did → Lists → Seen → List Reply → Lists → Type 0

@@ -1,23 +1,16 @@
 -- What is said of a request alone, by its kind.
 use Rattle.std.specs.Prelude.{◌≡◌, ℕ, [], ◌∷◌, Option}
-use Rattle.disk_model.specs.Disk.{History, Faults, EachImage, IsIdle}
-use Rattle.disk_model.specs.FaultCounts.{NoFault, AnyFaultCounted}
+use Rattle.disk_model.specs.Disk.{History, Faults}
 use Rattle.mdbox_base.specs.declared.replies.Refusal.TheVariants as refusal
 use Rattle.mdbox_base.specs.declared.replies.Reply.{Reply}
 use Rattle.mdbox_base.specs.declared.replies.Reply.TheVariants as reply
 use Rattle.mdbox_base.specs.declared.requests.Request.{Request}
 use Rattle.mdbox_base.specs.declared.requests.Request.TheVariants as request
 use Rattle.model_lists.specs.Lists.{Lists}
-use Rattle.model_store.specs.Safe.{Safe}
-use Rattle.model_store.specs.Settled.{IsSettledFor}
-use Rattle.store_open.specs.Making.{IdleUnless}
-use Rattle.store_open.specs.Opened.{Opening, StoreCarries, IsOpeningError, KeepsOpenedMail, IsClosedWell}
-use Rattle.store_open.specs.declared.error.OpenError.{OpenError}
-use Rattle.store_open.specs.declared.error.OpenError.TheVariants as error
-use Rattle.store_sweep.specs.Moments.{NoFailedChange, IdleIf}
+use Rattle.script_run.specs.Opening.{AreSafeFor}
 use Rattle.mdbox_top.specs.InputRun.{IsOneOf}
-use Rattle.mdbox_top.specs.Served.{AreSafeFor, ServesRequest, FaultsByReply}
-use Rattle.mdbox_top.specs.ListRun.{StaysSettled, IsListReply, ListMoments, ListRests}
+use Rattle.mdbox_top.specs.Served.{ServesRequest, FaultsByReply}
+use Rattle.mdbox_top.specs.ListRun.{IsListReply, ListMoments, ListRests}
 use Rattle.mdbox_top.specs.DeliverRun.{IsDeliverReply, SaveMoments, SaveRests}
 use Rattle.mdbox_top.specs.FetchRun.{IsFetchReply, FetchMoments, FetchRests}
 use Rattle.mdbox_top.specs.FlagRun.{IsFlagReply, FlagMoments, FlagRests}
@@ -82,18 +75,3 @@ pub record IsDoneAlone (request : Request) (given : Reply) (old new : Option His
   pub moments : RequestMoments request old new
   pub rests : RequestRests request (given ≡ reply.Refused refusal.Stopped) began now old new
   pub faults : FaultsByReply given began now
-
--- The store was not opened. Each crash image of a settled disk is safe for its lists; unless a change failed, it is settled
--- for them again, and all that the store reads is carried over. At each moment storage files and instances stayed.
--- A store that was closed well was left as it is.
-pub record IsUnopened (why : OpenError) (old new : Option History) (began now : Faults) : Type 0 where
-  pub cause : IsOpeningError old why
-  pub idle : (why ≡ error.DiskFault → ⊥) → IsIdle old new
-  pub untouched : IdleUnless Opening old new
-  pub stays : KeepsOpenedMail old new
-  pub closed_well : IdleIf IsClosedWell old new
-  pub moments : (lists : Lists) → IsSettledFor lists old → EachImage (λ _ image. Safe image lists) old new
-  pub settled_again : NoFailedChange (why ≡ error.DiskFault) began now → StaysSettled old new
-  pub carried : NoFailedChange (why ≡ error.DiskFault) began now → StoreCarries old new
-  pub fault : AnyFaultCounted (why ≡ error.DiskFault) began now
-  pub unfailed : (why ≡ error.DiskFault → ⊥) → NoFault began now

@@ -14,8 +14,9 @@ use Rattle.model_meaning.specs.MapMeaning.{MapMeaning}
 use Rattle.store_open.specs.Opened.{IsOpenedAs, StoreCarries}
 use Rattle.store_sweep.specs.Swept.{IsSwept}
 use Rattle.request_text.specs.declared.outcome.Outcome.{Outcome}
-use Rattle.mdbox_top.specs.ListRun.{StaysSettled, ListMoments, ListRests}
-use Rattle.mdbox_top.specs.Served.{AreSafeFor, RequestOutcome}
+use Rattle.script_run.specs.Opening.{AreSafeFor, StaysSettled}
+use Rattle.mdbox_top.specs.ListRun.{ListMoments, ListRests}
+use Rattle.mdbox_top.specs.Served.{RequestOutcome}
 
 -- What logs count that mean this: records, listed messages, the sum of the counts that are kept, and different instances that
 -- records name.

@@ -19,8 +19,9 @@ use Rattle.mail_fetch.specs.Stages.{IsTrueReply}
 use Rattle.store_open.specs.Opened.{IsOpenedAs, StoreCarries}
 use Rattle.store_sweep.specs.Swept.{IsSwept}
 use Rattle.request_text.specs.declared.outcome.Outcome.{Outcome}
-use Rattle.mdbox_top.specs.Served.{AreSafeFor, RequestOutcome, missing_cause}
-use Rattle.mdbox_top.specs.ListRun.{StaysSettled, ListMoments, ListRests}
+use Rattle.script_run.specs.Opening.{AreSafeFor, StaysSettled}
+use Rattle.mdbox_top.specs.Served.{RequestOutcome, missing_cause}
+use Rattle.mdbox_top.specs.ListRun.{ListMoments, ListRests}
 
 -- By what the logs mean the mailbox with this name has this row of this UID, and this is the row's record.
 pub record IsRecordOf (name : List ℕ) (uid : ℕ) (m : MapMeaning) (meanings : List BoxMeaning) (row : LogRow) (entry : MapRecord) : Type 0 where

@@ -17,11 +17,8 @@ use Rattle.store_open.specs.Opened.{IsOpenedAs, StoreCarries, KeepsOpenedMail, I
 use Rattle.store_sweep.specs.Moments.{NoFailedChange, IdleIf}
 use Rattle.store_sweep.specs.Swept.{IsSwept}
 use Rattle.request_text.specs.declared.outcome.Outcome.{Outcome}
-use Rattle.mdbox_top.specs.Served.{AreSafeFor, RequestOutcome}
-
--- A disk that was settled for lists is settled for them again.
-abbrev pub StaysSettled : Option History → Option History → Type 0
-StaysSettled old new = (lists : Lists) → IsSettledFor lists old → IsSettledFor lists new
+use Rattle.script_run.specs.Opening.{AreSafeFor, StaysSettled}
+use Rattle.mdbox_top.specs.Served.{RequestOutcome}
 
 -- The reply to a listing of this mailbox: what the logs mean from which the store opened, and opens again, or out of memory.
 -- If the files were safe for lists, the first is the list machine's reply for these. All that the store reads is carried over,

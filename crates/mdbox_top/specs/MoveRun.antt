@@ -17,9 +17,10 @@ use Rattle.mail_ops.specs.Copy.{copied_lists}
 use Rattle.store_open.specs.Opened.{IsOpenedAs}
 use Rattle.store_sweep.specs.Moments.{NoFailedChange}
 use Rattle.request_text.specs.declared.outcome.Outcome.{Outcome}
+use Rattle.script_run.specs.Opening.{AreSafeFor}
 use Rattle.mdbox_top.specs.Changed.{moved_lists, lists_behind, lists_told, OpensChanged, OpensUnchanged, OpensAsBefore, LeavesMail}
 use Rattle.mdbox_top.specs.CopyRun.{uncopied_cause}
-use Rattle.mdbox_top.specs.Served.{AreSafeFor, RequestOutcome}
+use Rattle.mdbox_top.specs.Served.{RequestOutcome}
 
 -- the copy has the target's next UID
 abbrev pub IsMovedAs : Option BoxMeaning → Reply → Type 0

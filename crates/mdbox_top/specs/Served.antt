@@ -1,12 +1,10 @@
 -- What a request alone makes of a store, and how it ends.
-use Rattle.std.specs.Prelude.{◌≡◌, ◌≤◌, ◌⊎◌, ◌&&◌, ℕ, not, filter, List, [], ◌∷◌, is_some, if◌then◌else◌, Option, Some, None}
+use Rattle.std.specs.Prelude.{◌≡◌, ◌≤◌, ◌⊎◌, ℕ, not, List, [], ◌∷◌, is_some, if◌then◌else◌, Option, Some, None}
 use Rattle.std.specs.Option.{option_map_or}
-use Rattle.disk_model.specs.Disk.{told_calls, History, Faults, EachImage, IfTold, IsIdle}
+use Rattle.disk_model.specs.Disk.{told_calls, History, Faults, EachImage, IsIdle}
 use Rattle.disk_model.specs.FaultCounts.{NoFault}
 use Rattle.mdbox_base.specs.Streams.{Appended, Rose}
-use Rattle.mdbox_base.specs.declared.entries.BoxEntry.{BoxEntry}
 use Rattle.mdbox_base.specs.declared.entries.Highest.{Highest}
-use Rattle.mdbox_base.specs.declared.entries.MapEntry.{MapEntry}
 use Rattle.mdbox_base.specs.declared.replies.Refusal.{Refusal}
 use Rattle.mdbox_base.specs.declared.replies.Refusal.TheVariants as refusal
 use Rattle.mdbox_base.specs.declared.replies.Reply.{Reply}
@@ -14,16 +12,11 @@ use Rattle.mdbox_base.specs.declared.replies.Reply.TheVariants as reply
 use Rattle.mdbox_base.specs.declared.requests.Request.{Request}
 use Rattle.model_lists.specs.Lists.{Lists}
 use Rattle.model_meaning.specs.BoxMeaning.{BoxMeaning, row_at}
-use Rattle.model_meaning.specs.MapMeaning.{MapMeaning, is_sealed, map_meaning}
-use Rattle.model_meaning.specs.SameMeaning.{MeansSame}
-use Rattle.model_store.specs.Opening.{Opens}
-use Rattle.model_store.specs.Safe.{Safe}
-use Rattle.model_store.specs.Settled.{files_of, IsSettledFor}
+use Rattle.model_meaning.specs.MapMeaning.{MapMeaning, map_meaning}
+use Rattle.model_store.specs.Settled.{IsSettledFor}
 use Rattle.list_machine.specs.Run.{Run}
 use Rattle.journal.specs.Journal.{JournalStep, Broken, left_by}
 use Rattle.journal.specs.Makes.{IsServed}
-use Rattle.store_files.specs.Barred.{is_barred}
-use Rattle.store_files.specs.Regions.{end_of, region_numbers}
 use Rattle.store_open.specs.Making.{IdleUnless}
 use Rattle.store_open.specs.Opened.{Opening, IsOpeningError, KeepsOpenedMail}
 use Rattle.store_open.specs.declared.error.OpenError.{OpenError}
@@ -33,26 +26,9 @@ use Rattle.request_text.specs.Outcomes.{reply_outcome}
 use Rattle.request_text.specs.ReplyText.{single_text}
 use Rattle.request_text.specs.declared.outcome.Outcome.{Outcome}
 use Rattle.request_text.specs.declared.outcome.Outcome.TheVariants as outcome
+use Rattle.script_run.specs.Opening.{AreSafeFor, RunBegins, RunHasCome}
 use Rattle.mdbox_top.specs.OpeningOutcome.{opening_outcome}
 use Rattle.task_steps.specs.Serves.{AreTimely, IsReached}
-
--- the disk is modelled, and its files are safe for these lists
-abbrev pub AreSafeFor : Lists → Option History → Type 0
-AreSafeFor lists None = ⊥
-AreSafeFor lists (Some history) = Safe (files_of history.now) lists
-
--- the storage files, of those that aren't sealed and that records name, to which nothing may be appended until the next opening
-abbrev pub barred_files : MapMeaning → List ℕ
-barred_files m = filter (λ number. not (is_sealed m number) && is_barred m number (end_of m number)) (region_numbers m)
-
--- The files opened, and their map log means the same as the entries with which the run begins, by which the same storage files
--- are barred.
-abbrev pub RunBegins : Run → Option History → Type 0
-RunBegins run old = (run.barred ≡ barred_files (map_meaning run.store run.start)) × IfTold old (λ disk. (entries : List MapEntry) × (logs : List (List BoxEntry)) × Opens (files_of disk) run.store entries logs × MeansSame (map_meaning run.store entries) (map_meaning run.store run.start))
-
--- The files open, and their map log means the same as this.
-abbrev pub RunHasCome : Run → MapMeaning → Option History → Type 0
-RunHasCome run m new = IfTold new (λ disk. (entries : List MapEntry) × (logs : List (List BoxEntry)) × Opens (files_of disk) run.store entries logs × MeansSame (map_meaning run.store entries) m)
 
 -- The request is a script of its own, on one lane. From these lists, for which the files were safe, it was served legally,
 -- by a run that begins with the map log of the files, and was replied this. The run has come to where the disk is now: to what

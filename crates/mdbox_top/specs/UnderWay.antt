@@ -11,7 +11,7 @@ use Rattle.store_core.specs.Value.{StoreValue}
 use Rattle.store_seen.specs.Seeing.{seen_of}
 use Rattle.task_steps.specs.Serves.{Serves, IsTurn, Follows}
 use Rattle.task_steps.specs.Step.{Seen}
-use Rattle.mdbox_top.specs.Served.{RunBegins}
+use Rattle.script_run.specs.Opening.{RunBegins}
 
 -- a store as the events of a request alone see it, which pins no storage file
 abbrev pub seen_alone : {D : Type 0} → StoreValue D → Option History → Faults → Seen

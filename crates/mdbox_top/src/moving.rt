@@ -3,7 +3,8 @@ ghost use Rattle.std.specs.Prelude.{◌≡◌, ◌≢◌, ◌≤◌, false, IfOk
 ghost use Rattle.disk_model.specs.FaultCounts.{NoFault, AnyFaultCounted};
 ghost use Rattle.mdbox_base.specs.Streams.{Rose};
 ghost use Rattle.mdbox_base.specs.declared.requests.Request.TheVariants as request;
-ghost use Rattle.mdbox_top.specs.Alone.{MayFail, IsDoneAlone, IsUnopened};
+ghost use Rattle.script_run.specs.Opening.{IsUnopened};
+ghost use Rattle.mdbox_top.specs.Alone.{MayFail, IsDoneAlone};
 ghost use Rattle.mdbox_top.specs.ChangeEvents.{MovesAlone};
 ghost use Rattle.mdbox_top.specs.MoveRun.{MoveOutcome, MoveMoments, MoveRests};
 ghost use Rattle.request_text.specs.Outcomes.{status_of};

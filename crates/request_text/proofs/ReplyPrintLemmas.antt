@@ -34,19 +34,30 @@ pushed_passed h k p q r t e a = (a.0, sym e ∙ sym (append-nil q) ∙ a.1, a.2)
 pub pushed_cut : (h k : Option (List ℕ)) (p q t : List ℕ) → q ≡ p ++ t → WritesPrefix h q [] k → WritesPrefix h p t k
 pushed_cut h k p q t e a = (a.0, a.1, sym e ∙ sym (append-nil q) ∙ a.2, a.3)
 
-front_kept : (h : Option (List ℕ)) (p t : List ℕ) → p ≡ t → Gathers h [] t h p
-front_kept h p t e = subst (Gathers h [] t h) (sym e) (passed_kept h [] t)
+-- a text of three parts, one after another
+pub text_cut : (h k l : Option (List ℕ)) (p q front text last : List ℕ) → Gathers h p front k q → WritesPrefix k q text l → WritesPrefix h p (front ++ (text ++ last)) l
+text_cut h k l p q front text last a b = cut_more h k l p q front (text ++ last) a (cut_before k l q text last b)
 
--- a front that stands in the piece, then a text, and what ends it
-pub text_cut : (h k : Option (List ℕ)) (p front text last : List ℕ) → p ≡ front → WritesPrefix h p text k → WritesPrefix h [] (front ++ (text ++ last)) k
-text_cut h k p front text last e a =
-    subst (λ (t : List ℕ). WritesPrefix h [] t k) (append_assoc front text last) (cut_before h k [] (front ++ text) last (cut_more h h k [] p front text (front_kept h p front e) a))
+pub last_cut : (h k l m : Option (List ℕ)) (p q r front text last : List ℕ) → Gathers h p front k q → Gathers k q text l r → WritesPrefix l r last m → WritesPrefix h p (front ++ (text ++ last)) m
+last_cut h k l m p q r front text last a b c = cut_more h k m p q front (text ++ last) a (cut_more k l m q r text last b c)
 
-pub last_cut : (h k l : Option (List ℕ)) (p q front text last : List ℕ) → p ≡ front → Gathers h p text k q → WritesPrefix k q last l → WritesPrefix h [] (front ++ (text ++ last)) l
-last_cut h k l p q front text last e a b = cut_more h h l [] p front (text ++ last) (front_kept h p front e) (cut_more h k l p q text last a b)
+pub last_passed : (h k l m : Option (List ℕ)) (p q r s front text last : List ℕ) → Gathers h p front k q → Gathers k q text l r → Gathers l r last m s → Gathers h p (front ++ (text ++ last)) m s
+last_passed h k l m p q r s front text last a b c = passed_more h k m p q s front (text ++ last) a (passed_more k l m q r s text last b c)
 
-pub last_passed : (h k l : Option (List ℕ)) (p q r front text last : List ℕ) → p ≡ front → Gathers h p text k q → Gathers k q last l r → Gathers h [] (front ++ (text ++ last)) l r
-last_passed h k l p q r front text last e a b = passed_more h h l [] p r front (text ++ last) (front_kept h p front e) (passed_more h k l p q r text last a b)
+-- the same text, written otherwise
+pub line_cut : (h k : Option (List ℕ)) (p t u : List ℕ) → t ≡ u → WritesPrefix h p t k → WritesPrefix h p u k
+line_cut h k p t u e a = subst (λ (x : List ℕ). WritesPrefix h p x k) e a
+
+pub line_passed : (h k : Option (List ℕ)) (p q t u : List ℕ) → t ≡ u → Gathers h p t k q → Gathers h p u k q
+line_passed h k p q t u e a = subst (λ (x : List ℕ). Gathers h p x k q) e a
+
+-- a text that begins with nothing in the piece
+pub from_empty : (h k : Option (List ℕ)) (p q t : List ℕ) → p ≡ [] → Gathers h p t k q → Gathers h [] t k q
+from_empty h k p q t e a = subst (λ (x : List ℕ). Gathers h x t k q) e a
+
+-- a front that was added to the piece, and a text
+pub after_front : (h k : Option (List ℕ)) (p q f t : List ℕ) → q ≡ p ++ f → WritesPrefix h q t k → WritesPrefix h p (f ++ t) k
+after_front h k p q f t e a = cut_more h h k p q f t (subst (λ (x : List ℕ). Gathers h p f h x) (sym e) (passed_kept h p f)) a
 
 -- the listing so far
 abbrev pub rows_to : List ListRow → ℕ → List ℕ
@@ -66,21 +77,21 @@ rows_rest rows i =
     ap (λ (t : List ℕ). front ++ t) (ap (flat_map row_text) (sym (take-append-drop i rows)) ∙ flat_map-append row_text (take i rows) (drop i rows))
     ∙ sym (append_assoc front (flat_map row_text (take i rows)) (flat_map row_text (drop i rows)))
 
-pub listing_begins : (h : Option (List ℕ)) (rows : List ListRow) (piece : List ℕ) → piece ≡ ok_line (numbers_text (length rows ∷ [])) → Gathers h [] (rows_to rows 0) h piece
-listing_begins h rows piece e = front_kept h piece (rows_to rows 0) (e ∙ sym (append-nil (ok_line (numbers_text (length rows ∷ [])))))
+pub listing_begins : (h k : Option (List ℕ)) (rows : List ListRow) (p q : List ℕ) → Gathers h p (ok_line (numbers_text (length rows ∷ []))) k q → Gathers h p (rows_to rows 0) k q
+listing_begins h k rows p q first = subst (λ (t : List ℕ). Gathers h p t k q) (sym (append-nil (ok_line (numbers_text (length rows ∷ []))))) first
 
-pub listing_goes_on : (h k l : Option (List ℕ)) (rows : List ListRow) (row : ListRow) (p q : List ℕ) (i : ℕ) → i < length rows → row ≡ get_or rows i row
-    → Gathers h [] (rows_to rows i) k p → Gathers k p (row_text row) l q → Gathers h [] (rows_to rows (i + 1)) l q
-listing_goes_on h k l rows row p q i b is first second =
-    subst (λ (t : List ℕ). Gathers h [] t l q) (sym (one_row_more rows row i b is)) (passed_more h k l [] p q (rows_to rows i) (row_text row) first second)
+pub listing_goes_on : (h k l : Option (List ℕ)) (rows : List ListRow) (row : ListRow) (p q r : List ℕ) (i : ℕ) → i < length rows → row ≡ get_or rows i row
+    → Gathers h p (rows_to rows i) k q → Gathers k q (row_text row) l r → Gathers h p (rows_to rows (i + 1)) l r
+listing_goes_on h k l rows row p q r i b is first second =
+    subst (λ (t : List ℕ). Gathers h p t l r) (sym (one_row_more rows row i b is)) (passed_more h k l p q r (rows_to rows i) (row_text row) first second)
 
-pub listing_cut : (h k l : Option (List ℕ)) (rows : List ListRow) (row : ListRow) (p : List ℕ) (i : ℕ) → i < length rows → row ≡ get_or rows i row
-    → Gathers h [] (rows_to rows i) k p → WritesPrefix k p (row_text row) l → WritesPrefix h [] (listing_text rows) l
-listing_cut h k l rows row p i b is first second =
-    subst (λ (t : List ℕ). WritesPrefix h [] t l) (sym (rows_rest rows (i + 1)))
-    (cut_before h l [] (rows_to rows (i + 1)) (flat_map row_text (drop (i + 1) rows))
-    (subst (λ (t : List ℕ). WritesPrefix h [] t l) (sym (one_row_more rows row i b is)) (cut_more h k l [] p (rows_to rows i) (row_text row) first second)))
+pub listing_cut : (h k l : Option (List ℕ)) (rows : List ListRow) (row : ListRow) (p q : List ℕ) (i : ℕ) → i < length rows → row ≡ get_or rows i row
+    → Gathers h p (rows_to rows i) k q → WritesPrefix k q (row_text row) l → WritesPrefix h p (listing_text rows) l
+listing_cut h k l rows row p q i b is first second =
+    subst (λ (t : List ℕ). WritesPrefix h p t l) (sym (rows_rest rows (i + 1)))
+    (cut_before h l p (rows_to rows (i + 1)) (flat_map row_text (drop (i + 1) rows))
+    (subst (λ (t : List ℕ). WritesPrefix h p t l) (sym (one_row_more rows row i b is)) (cut_more h k l p q (rows_to rows i) (row_text row) first second)))
 
-pub listing_passed : (h k : Option (List ℕ)) (rows : List ListRow) (p : List ℕ) (i : ℕ) → length rows ≤ i → Gathers h [] (rows_to rows i) k p → Gathers h [] (listing_text rows) k p
-listing_passed h k rows p i a first =
-    subst (λ (t : List ℕ). Gathers h [] t k p) (ap (λ (t : List ListRow). ok_line (numbers_text (length rows ∷ [])) ++ flat_map row_text t) (take_all i rows a)) first
+pub listing_passed : (h k : Option (List ℕ)) (rows : List ListRow) (p q : List ℕ) (i : ℕ) → length rows ≤ i → Gathers h p (rows_to rows i) k q → Gathers h p (listing_text rows) k q
+listing_passed h k rows p q i a first =
+    subst (λ (t : List ℕ). Gathers h p t k q) (ap (λ (t : List ListRow). ok_line (numbers_text (length rows ∷ [])) ++ flat_map row_text t) (take_all i rows a)) first

@@ -1,3 +1,6 @@
+pub mod BatchText
 pub mod Commands
 pub mod Outcomes
 pub mod ReplyText
+pub mod Steps
+pub mod SummaryText

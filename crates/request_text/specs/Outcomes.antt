@@ -1,5 +1,6 @@
 -- What is told of how a run ended: the exit status, and the text on the errors' sink.
-use Rattle.std.specs.Prelude.{◌≡◌, ℕ, List, [], ◌∷◌, ◌++◌, codes, ◌⊎◌}
+use Rattle.std.specs.Prelude.{◌≡◌, ℕ, Bool, true, false, List, [], ◌∷◌, ◌++◌, codes, Option, Some, None, if◌then◌else◌, ◌⊎◌}
+use Rattle.std.specs.List.{list_any}
 use Rattle.mdbox_base.specs.Numbers.{decimal_text}
 use Rattle.mdbox_base.specs.declared.replies.Refusal.TheVariants as refused
 use Rattle.mdbox_base.specs.declared.replies.Reply.{Reply}
@@ -33,6 +34,25 @@ reply_outcome (reply.Refused refused.Stopped) = outcome.DiskFault
 reply_outcome (reply.Refused other) = outcome.No
 reply_outcome other = outcome.Done
 
+-- A request was answered by 18 or 19; by 17; by any NO.
+abbrev pub is_disk_no : Option Reply → Bool
+is_disk_no (Some (reply.Refused refused.ReadFault)) = true
+is_disk_no (Some (reply.Refused refused.Stopped)) = true
+is_disk_no other = false
+
+abbrev pub is_lack : Option Reply → Bool
+is_lack (Some (reply.Refused refused.NoMemory)) = true
+is_lack other = false
+
+abbrev pub is_no : Option Reply → Bool
+is_no (Some (reply.Refused why)) = true
+is_no other = false
+
+-- The end of a run that printed these replies: a disk fault if any is 18 or 19, else out of memory if any is 17, else a
+-- refusal if any is NO.
+abbrev pub replies_outcome : List (Option Reply) → Outcome
+replies_outcome replies = if list_any is_disk_no replies then outcome.DiskFault else (if list_any is_lack replies then outcome.NoMemory else (if list_any is_no replies then outcome.No else outcome.Done))
+
 -- why the input is refused, and a number
 abbrev pub reason_text : InputRefusal → List ℕ
 reason_text (input.TooLong limit) = codes "TooLong " ++ decimal_text limit
@@ -41,6 +61,7 @@ reason_text (input.File (file.HeaderSize size)) = codes "HeaderSize " ++ decimal
 reason_text (input.File (file.Truncated offset)) = codes "Truncated " ++ decimal_text offset
 reason_text (input.File (file.BadMessage offset)) = codes "BadMessage " ++ decimal_text offset
 reason_text (input.Log place) = codes "LogDamaged " ++ decimal_text place
+reason_text (input.Script place) = codes "Script " ++ decimal_text place
 
 -- why a store was not made or opened
 abbrev pub store_text : StoreRefusal → List ℕ

@@ -89,6 +89,7 @@ fn reason_of(why: InputRefusal) -> (&'static [u8], u64)
         InputRefusal::File(FileRefusal::Truncated(offset)) => (b"Truncated ", offset),
         InputRefusal::File(FileRefusal::BadMessage(offset)) => (b"BadMessage ", offset),
         InputRefusal::Log(place) => (b"LogDamaged ", place),
+        InputRefusal::Script(place) => (b"Script ", place),
     }
 }
 

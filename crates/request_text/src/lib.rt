@@ -1,16 +1,24 @@
 //! The words of the program's commands, what is printed of replies, how a run ends, and what is told of that.
 #![tactic(auto)]
 
+pub use batch_print::{print_batch, push_reply};
 pub use command::{Command, HELP, VERSION};
 pub use error_report::report;
-pub use outcome::{FileRefusal, InputRefusal, Outcome, StoreRefusal, outcome_of_reply};
-pub use reply_print::{print_fetch_alone, print_reply};
+pub use outcome::{
+    FileRefusal, InputRefusal, Outcome, StoreRefusal, outcome_of_replies, outcome_of_reply,
+};
+pub use places::{Places, Steps};
+pub use reply_print::{print_fetch_alone, print_reply, push_answer};
 pub use status::Status;
+pub use summary::{Summary, print_summary};
 pub use words::{WordsError, read_words};
 
+mod batch_print;
 mod command;
 mod error_report;
 mod outcome;
+mod places;
 mod reply_print;
 mod status;
+mod summary;
 mod words;

@@ -1,6 +1,7 @@
 // How a run ends.
 ghost use Rattle.std.specs.Prelude.{◌≡◌};
-ghost use Rattle.request_text.specs.Outcomes.{reply_outcome};
+ghost use Rattle.std.specs.List.{list_any};
+ghost use Rattle.request_text.specs.Outcomes.{reply_outcome, replies_outcome, is_disk_no, is_lack, is_no};
 
 use disk_model::FileName;
 use mdbox_base::{Refusal, Reply};
@@ -27,6 +28,8 @@ pub enum InputRefusal {
     File(FileRefusal),
     /// It is no log: it is damaged at this place.
     Log(u64),
+    /// It is no script: no request stands at this offset, or one too many.
+    Script(u64),
 }
 
 /// Why the files let no store be made or opened.
@@ -74,4 +77,64 @@ pub fn outcome_of_reply(given: &Reply) -> Outcome
         Reply::Refused(_) => Outcome::No,
         _ => Outcome::Done,
     }
+}
+
+/// The end of a run that printed these replies.
+pub fn outcome_of_replies(replies: &[Option<Reply>]) -> Outcome
+    ensures { result ≡ replies_outcome replies.now }
+{
+    if any_fault(replies) {
+        Outcome::DiskFault
+    } else if any_lack(replies) {
+        Outcome::NoMemory
+    } else if any_no(replies) {
+        Outcome::No
+    } else {
+        Outcome::Done
+    }
+}
+
+/// Whether any request failed by the disk.
+fn any_fault(replies: &[Option<Reply>]) -> bool
+    ensures { result ≡ list_any is_disk_no replies.now }
+{
+    replies.iter().any(has_fault)
+}
+
+/// Whether any request found no memory.
+fn any_lack(replies: &[Option<Reply>]) -> bool
+    ensures { result ≡ list_any is_lack replies.now }
+{
+    replies.iter().any(has_lack)
+}
+
+/// Whether any request was refused.
+fn any_no(replies: &[Option<Reply>]) -> bool
+    ensures { result ≡ list_any is_no replies.now }
+{
+    replies.iter().any(has_no)
+}
+
+/// Whether a request failed by the disk.
+fn has_fault(answer: &Option<Reply>) -> bool
+    ensures { result ≡ is_disk_no answer.now }
+{
+    matches!(
+        answer,
+        Some(Reply::Refused(Refusal::ReadFault | Refusal::Stopped))
+    )
+}
+
+/// Whether a request found no memory.
+fn has_lack(answer: &Option<Reply>) -> bool
+    ensures { result ≡ is_lack answer.now }
+{
+    matches!(answer, Some(Reply::Refused(Refusal::NoMemory)))
+}
+
+/// Whether a request was refused.
+fn has_no(answer: &Option<Reply>) -> bool
+    ensures { result ≡ is_no answer.now }
+{
+    matches!(answer, Some(Reply::Refused(_)))
 }

@@ -1,6 +1,7 @@
 // Printing replies of the store, gathered in pieces.
-ghost use Rattle.std.specs.Prelude.{◌≡◌, ◌≤◌, ◌++◌, ◌∷◌, [], codes, length, IfOk, IfErr, OnOk, OnErr};
+ghost use Rattle.std.specs.Prelude.{◌≡◌, ◌≢◌, ◌≤◌, ◌++◌, ◌∷◌, [], ℕ, List, codes, length, IfOk, IfErr, OnOk, OnErr};
 ghost use Rattle.mdbox_base.specs.Streams.{Appended};
+ghost use Rattle.mdbox_base.specs.declared.replies.ListRow.{ListRow};
 ghost use Rattle.mdbox_base.specs.declared.replies.Refusal.TheVariants as refusal;
 ghost use Rattle.mdbox_base.specs.declared.replies.Reply.TheVariants as reply;
 ghost use Rattle.request_text.specs.ReplyText.{numbers_text, guid_text, row_text, ok_line, listing_text, refusal_text, reply_text, fetched_text};
@@ -9,7 +10,7 @@ ghost use Rattle.piece_writer.specs.Pieces.{Gathers, WritesPrefix, IsPrintError}
 use disk_model::FileName;
 use file_paths::path_of;
 use mdbox_base::{
-    FileNo, Guid, ListRow, NoMemory, Octets, Refusal, Reply, Sink, Uid, push_decimal,
+    FileNo, Guid, ListRow, MemSink, NoMemory, Octets, Refusal, Reply, Seq, Sink, Uid, push_decimal,
 };
 use piece_writer::{PieceWriter, PrintError, write_text};
 use std::alloc::Global;
@@ -137,16 +138,19 @@ fn moved_line(alloc: Global, uid: Uid, gone: bool) -> Result<Octets, NoMemory>
     Ok(line)
 }
 
-/// Prints a text that lies in memory whole.
-fn print_line<O: Sink>(output: &mut O, line: &Octets) -> Result<(), PrintError>
-    ensures ok { OnOk result (Appended (O.held output.old) line.now (O.held output.new)) }
-    ensures err { OnErr result (WritesPrefix (O.held output.old) [] line.now (O.held output.new)) }
+/// Adds a text that lies in memory whole to the piece. A piece that is full is given to the output.
+fn put_line<O: Sink>(
+    output: &mut O,
+    writer: &mut PieceWriter,
+    line: &Octets,
+) -> Result<(), PrintError>
+    ensures ok { OnOk result (Gathers (O.held output.old) writer.old.piece line.now (O.held output.new) writer.new.piece) }
+    ensures err { OnErr result (WritesPrefix (O.held output.old) writer.old.piece line.now (O.held output.new)) }
     ensures quiet { OnOk result (O.faults output.new ≡ O.faults output.old) }
     ensures cause { IfErr result (IsPrintError (O.faults output.old) (O.faults output.new)) }
     ensures counted { O.faults output.old ≤ O.faults output.new }
 {
-    write_text(output, line.as_slice())?;
-    Ok(())
+    writer.put(output, line.as_slice())
 }
 
 /// Adds a row to the piece. A piece that is full is given to the output.
@@ -165,37 +169,96 @@ fn put_row<O: Sink>(
     writer.put(output, b"")
 }
 
-/// Prints the rows of a listing.
-fn print_listing<O: Sink>(alloc: Global, output: &mut O, rows: &[ListRow]) -> Result<(), PrintError>
-    ensures ok { OnOk result (Appended (O.held output.old) (listing_text rows.now) (O.held output.new)) }
-    ensures err { OnErr result (WritesPrefix (O.held output.old) [] (listing_text rows.now) (O.held output.new)) }
+/// Adds the rows of a listing to the piece.
+fn put_listing<O: Sink>(
+    alloc: Global,
+    output: &mut O,
+    writer: &mut PieceWriter,
+    rows: &[ListRow],
+) -> Result<(), PrintError>
+    ensures ok { OnOk result (Gathers (O.held output.old) writer.old.piece (listing_text rows.now) (O.held output.new) writer.new.piece) }
+    ensures err { OnErr result (WritesPrefix (O.held output.old) writer.old.piece (listing_text rows.now) (O.held output.new)) }
     ensures quiet { OnOk result (O.faults output.new ≡ O.faults output.old) }
     ensures cause { IfErr result (IsPrintError (O.faults output.old) (O.faults output.new)) }
     ensures counted { O.faults output.old ≤ O.faults output.new }
 {
-    let mut writer = PieceWriter {
-        piece: numbers_line(alloc, &[rows.len() as u64])?,
-    };
+    let line = numbers_line(alloc, &[rows.len() as u64])?;
+    put_line(output, writer, &line)?;
     for row in rows {
-        put_row(output, &mut writer, *row)?;
+        put_row(output, writer, *row)?;
     }
-    writer.finish(output)
+    Ok(())
 }
 
-/// Prints a message that was fetched.
-fn print_fetched<O: Sink>(alloc: Global, output: &mut O, message: &Octets) -> Result<(), PrintError>
-    ensures ok { OnOk result (Appended (O.held output.old) (reply_text (reply.Fetched message.now)) (O.held output.new)) }
-    ensures err { OnErr result (WritesPrefix (O.held output.old) [] (reply_text (reply.Fetched message.now)) (O.held output.new)) }
+/// Adds a message that was fetched to the piece: a long one goes to the output from where it lies.
+fn put_fetched<O: Sink>(
+    alloc: Global,
+    output: &mut O,
+    writer: &mut PieceWriter,
+    message: &Octets,
+) -> Result<(), PrintError>
+    ensures ok { OnOk result (Gathers (O.held output.old) writer.old.piece (reply_text (reply.Fetched message.now)) (O.held output.new) writer.new.piece) }
+    ensures err { OnErr result (WritesPrefix (O.held output.old) writer.old.piece (reply_text (reply.Fetched message.now)) (O.held output.new)) }
     ensures quiet { OnOk result (O.faults output.new ≡ O.faults output.old) }
     ensures cause { IfErr result (IsPrintError (O.faults output.old) (O.faults output.new)) }
     ensures counted { O.faults output.old ≤ O.faults output.new }
 {
-    let mut writer = PieceWriter {
-        piece: numbers_line(alloc, &[message.length() as u64])?,
-    };
-    writer.put(output, message.as_slice())?;
-    writer.put(output, b"\n")?;
-    writer.finish(output)
+    let line = numbers_line(alloc, &[message.length() as u64])?;
+    put_line(output, writer, &line)?;
+    put_line(output, writer, message)?;
+    writer.put(output, b"\n")
+}
+
+/// Adds a reply to the piece. A piece that is full is given to the output.
+pub fn put_reply<O: Sink>(
+    alloc: Global,
+    output: &mut O,
+    writer: &mut PieceWriter,
+    reply: &Reply,
+) -> Result<(), PrintError>
+    ensures ok { OnOk result (Gathers (O.held output.old) writer.old.piece (reply_text reply.now) (O.held output.new) writer.new.piece) }
+    ensures err { OnErr result (WritesPrefix (O.held output.old) writer.old.piece (reply_text reply.now) (O.held output.new)) }
+    ensures quiet { OnOk result (O.faults output.new ≡ O.faults output.old) }
+    ensures cause { IfErr result (IsPrintError (O.faults output.old) (O.faults output.new)) }
+    ensures counted { O.faults output.old ≤ O.faults output.new }
+{
+    match reply {
+        Reply::Listed(rows) => put_listing(alloc, output, writer, rows.as_slice()),
+        Reply::Fetched(message) => put_fetched(alloc, output, writer, message),
+        _ => {
+            let line = reply_line(alloc, reply)?;
+            put_line(output, writer, &line)
+        }
+    }
+}
+
+/// The line of a reply that is no listing and no message.
+fn reply_line(alloc: Global, given: &Reply) -> Result<Octets, NoMemory>
+    requires listing { (rows : List ListRow) → given.now ≢ reply.Listed rows }
+    requires message { (octets : List ℕ) → given.now ≢ reply.Fetched octets }
+    ensures { IfOk result (λ line. line ≡ reply_text given.now) }
+{
+    match given {
+        Reply::Saved { uid, guid } => saved_line(alloc, *uid, *guid),
+        Reply::Listed(_) => unreachable!(),
+        Reply::Fetched(_) => unreachable!(),
+        Reply::Done => numbers_line(alloc, &[]),
+        Reply::Copied { uid } => numbers_line(alloc, &[uid.0 as u64]),
+        Reply::Moved { uid, gone } => moved_line(alloc, *uid, *gone),
+        Reply::Counted {
+            records,
+            references,
+            counts,
+            instances,
+        } => numbers_line(alloc, &[*records, *references, *counts, *instances]),
+        Reply::Purged {
+            dropped,
+            files,
+            instances,
+        } => numbers_line(alloc, &[*dropped, *files, *instances]),
+        Reply::Resynced { corrected, damaged } => numbers_line(alloc, &[*corrected, *damaged]),
+        Reply::Refused(refusal) => refusal_line(alloc, *refusal),
+    }
 }
 
 /// Prints a reply.
@@ -206,35 +269,9 @@ pub fn print_reply<O: Sink>(alloc: Global, output: &mut O, reply: &Reply) -> Res
     ensures cause { IfErr result (IsPrintError (O.faults output.old) (O.faults output.new)) }
     ensures counted { O.faults output.old ≤ O.faults output.new }
 {
-    match reply {
-        Reply::Saved { uid, guid } => print_line(output, &saved_line(alloc, *uid, *guid)?),
-        Reply::Listed(rows) => print_listing(alloc, output, rows.as_slice()),
-        Reply::Fetched(message) => print_fetched(alloc, output, message),
-        Reply::Done => print_line(output, &numbers_line(alloc, &[])?),
-        Reply::Copied { uid } => print_line(output, &numbers_line(alloc, &[uid.0 as u64])?),
-        Reply::Moved { uid, gone } => print_line(output, &moved_line(alloc, *uid, *gone)?),
-        Reply::Counted {
-            records,
-            references,
-            counts,
-            instances,
-        } => {
-            let numbers = [*records, *references, *counts, *instances];
-            print_line(output, &numbers_line(alloc, &numbers)?)
-        }
-        Reply::Purged {
-            dropped,
-            files,
-            instances,
-        } => {
-            let numbers = [*dropped, *files, *instances];
-            print_line(output, &numbers_line(alloc, &numbers)?)
-        }
-        Reply::Resynced { corrected, damaged } => {
-            print_line(output, &numbers_line(alloc, &[*corrected, *damaged])?)
-        }
-        Reply::Refused(refusal) => print_line(output, &refusal_line(alloc, *refusal)?),
-    }
+    let mut writer = PieceWriter::empty(alloc);
+    put_reply(alloc, output, &mut writer, reply)?;
+    writer.finish(output)
 }
 
 /// Prints the reply to a fetch that is a request of its own: of a message that was fetched the octets alone, from where they lie.
@@ -250,7 +287,22 @@ pub fn print_fetch_alone<O: Sink>(
     ensures counted { O.faults output.old ≤ O.faults output.new }
 {
     match reply {
-        Reply::Fetched(message) => print_line(output, message),
+        Reply::Fetched(message) => {
+            write_text(output, message.as_slice())?;
+            Ok(())
+        }
         _ => print_reply(alloc, output, reply),
+    }
+}
+
+/// Appends a reply as it is printed. Without memory nothing is appended.
+pub fn push_answer(alloc: Global, out: &mut Octets, reply: &Reply) -> Result<(), NoMemory>
+    ensures ok { OnOk result (out.new ≡ out.old ++ reply_text reply.now) }
+    ensures err { OnErr result (out.new ≡ out.old) }
+{
+    let mut text = MemSink::of(Octets::empty(alloc), Seq::empty(alloc));
+    match print_reply(alloc, &mut text, reply) {
+        Ok(()) => out.push_all(text.held().as_slice()),
+        Err(_) => Err(NoMemory),
     }
 }

@@ -277,7 +277,6 @@ comes_to_on run event old new h come due leaves same = record {
       files = λ file unsealed known. same.files file ∙ by_maker file (there_before run event old file k leaves.removed unsealed known);
     }
 
-
 -- a store tells the same as itself
 pub tells_itself : (seen : Seen) → TellsSame seen seen
 tells_itself seen = record { ran = λ runs. runs; pins = λ file. refl; doomed = λ file. refl; used = λ file. refl; barred = λ file. refl; gave = λ guid. refl; gone = λ instance. refl; files = λ file. refl; instances = λ instance. refl }

@@ -1,17 +1,28 @@
 -- Two tasks that take turns stay ready, as long as the store runs.
-use Rattle.std.proofs.Common.{◌≡◌, ◌≤◌, ◌+◌, ℕ, Bool, true, false, refl, sym, ◌∙◌, arith}
-use Rattle.store_core.specs.Dues.{Amounts, Moves, amounts_in, due_at}
-use Rattle.store_core.specs.Keeping.{KeepsUids}
-use Rattle.store_core.specs.Value.{StoreValue}
-use Rattle.mail_ops.specs.Expunging.{expunge_amounts}
-use Rattle.mail_ops.specs.Keeping.{both_amounts}
-use Rattle.mail_ops.specs.Making.{HaveOtherLogs, IsReadyToMake, LeavesLogs}
-use Rattle.mail_ops.specs.Owing.{AreDueIn}
+use Rattle.std.proofs.Common.{◌≡◌, ◌≤◌, ◌+◌, ℕ, Bool, true, false, Option, refl, sym, ◌∙◌, subst, arith}
+use Rattle.disk_model.specs.Disk.{History}
+use Rattle.mail_ops.specs.Claims.{copy_claims, expunge_claims, make_claims, move_claims}
+use Rattle.mail_ops.specs.Copy.{copy_dues}
+use Rattle.mail_ops.specs.Expunging.{expunge_dues}
+use Rattle.mail_ops.specs.Making.{IsReadyToMake}
+use Rattle.mail_ops.specs.Moving.{move_dues}
+use Rattle.mail_ops.specs.declared.copy.CopyStage.{CopyStage}
+use Rattle.mail_ops.specs.declared.copy.CopyStage.TheVariants as copy_stage
+use Rattle.mail_ops.specs.declared.expunging.ExpungeStage.{ExpungeStage}
+use Rattle.mail_ops.specs.declared.expunging.ExpungeStage.TheVariants as expunge_stage
 use Rattle.mail_ops.specs.declared.making.MakeStage.{MakeStage}
-use Rattle.mail_ops.proofs.MakeLogLemmas.{make_stays_ready, makes_stay_apart}
-use Rattle.mail_ops.proofs.ReadyLemmas.{copy_stays_ready, move_stays_ready, other_due, others_due}
+use Rattle.mail_ops.specs.declared.making.MakeStage.TheVariants as make_stage
+use Rattle.mail_ops.specs.declared.moving.MoveStage.{MoveStage}
+use Rattle.mail_ops.specs.declared.moving.MoveStage.TheVariants as move_stage
+use Rattle.mail_ops.proofs.MakeClaimLemmas.{first_claims_nothing}
+use Rattle.mail_ops.proofs.StableLemmas.{copy_stable, expunge_stable, make_stable, move_stable}
+use Rattle.store_core.specs.Value.{StoreValue}
+use Rattle.task_claims.specs.Claims.{AreIn, Claims, ClaimsNothing, MovesClaims, Thing, amount_in, both_claims}
+use Rattle.task_claims.specs.Leaving.{LeavesOthers}
+use Rattle.task_claims.specs.Stable.{Beside}
+use Rattle.task_claims.proofs.RestLemmas.{none_claimed_of}
 use Rattle.tests.specs.Makes.{AreReadyMakes}
-use Rattle.tests.specs.Tasks.{AreReadyTasks, IsReadyRacer, task_amounts}
+use Rattle.tests.specs.Tasks.{AreReadyTasks, HasNotStarted, IsReadyRacer, racer_claims}
 use Rattle.tests.specs.declared.tasks.race.AnyTask.{AnyTask}
 use Rattle.tests.specs.declared.tasks.race.AnyTask.TheVariants as any
 
@@ -20,43 +31,68 @@ pub was_running : (old new : Bool) → (old ≡ true → new ≡ true) → new �
 was_running true new still runs = sym (still refl) ∙ runs
 was_running false new still runs = refl
 
-racer_stays : {D : Type 0} → (mine mine_now : Amounts) (other : AnyTask) (old new : StoreValue D) → Moves mine mine_now (amounts_in old) (amounts_in new) → KeepsUids old new → AreDueIn old (both_amounts mine (task_amounts other)) → IsReadyRacer other old → IsReadyRacer other new
-racer_stays mine mine_now (any.Copy t) old new moves keeps due ready = copy_stays_ready mine mine_now t.name t.uid t.stage old new moves keeps due ready
-racer_stays mine mine_now (any.Move t) old new moves keeps due ready = move_stays_ready mine mine_now t.name t.uid t.stage old new moves keeps due ready
-racer_stays mine mine_now (any.Expunge t) old new moves keeps due ready = other_due mine mine_now (expunge_amounts t.stage) old new moves due
+-- ---- claims
 
 flipped : (a b all : ℕ) → a + b ≤ all → b + a ≤ all
 flipped a b all e = omega (arith, e)
 
-pub one_goes : {D : Type 0} → (one now two : AnyTask) (old new : StoreValue D) → IsReadyRacer now new → Moves (task_amounts one) (task_amounts now) (amounts_in old) (amounts_in new) → KeepsUids old new → AreReadyTasks one two old → AreReadyTasks now two new
-one_goes one now two old new ready moves keeps was = record {
+within : (mine mine_now other all all_now : ℕ) → all_now + mine ≡ all + mine_now → mine + other ≤ all → mine_now + other ≤ all_now
+within mine mine_now other all all_now moved due = omega (arith, moved, due)
+
+none_of_both : (a b all : ℕ) → a ≡ 0 → b ≡ 0 → a + b ≤ all
+none_of_both a b all x y = omega (arith, x, y)
+
+claimed_then : {D : Type 0} → (mine mine_now theirs : Claims) (old new : StoreValue D) → MovesClaims mine mine_now old new → AreIn old (both_claims mine theirs) → AreIn new (both_claims mine_now theirs)
+claimed_then mine mine_now theirs old new moves are thing = within (mine thing) (mine_now thing) (theirs thing) (amount_in thing old) (amount_in thing new) (moves thing) (are thing)
+
+other_way : {D : Type 0} → (mine theirs : Claims) (store : StoreValue D) → AreIn store (both_claims mine theirs) → AreIn store (both_claims theirs mine)
+other_way mine theirs store are thing = flipped (mine thing) (theirs thing) (amount_in thing store) (are thing)
+
+pub both_in : {D : Type 0} → (mine theirs : Claims) (store : StoreValue D) → ClaimsNothing mine → ClaimsNothing theirs → AreIn store (both_claims mine theirs)
+both_in mine theirs store a b thing = none_of_both (mine thing) (theirs thing) (amount_in thing store) (a thing) (b thing)
+
+-- a task that hasn't started claims nothing
+pub unstarted_claims : (task : AnyTask) → HasNotStarted task → ClaimsNothing (racer_claims task)
+unstarted_claims (any.Copy task) first = subst (λ (s : CopyStage). ClaimsNothing (copy_claims s)) (sym first) (none_claimed_of (copy_dues copy_stage.First) (λ uid. refl))
+unstarted_claims (any.Move task) first = subst (λ (s : MoveStage). ClaimsNothing (move_claims s)) (sym first) (none_claimed_of (move_dues move_stage.First) (λ uid. refl))
+unstarted_claims (any.Expunge task) first = subst (λ (s : ExpungeStage). ClaimsNothing (expunge_claims s)) (sym first) (none_claimed_of (expunge_dues expunge_stage.First) (λ uid. refl))
+
+-- ---- the task beside one that goes on
+
+racer_stays : {D : Type 0} → (other : AnyTask) (old new : StoreValue D) (before after : Option History) → Beside (racer_claims other) old new before after → IsReadyRacer other old → IsReadyRacer other new
+racer_stays (any.Copy t) old new before after b ready = copy_stable t.name t.uid t.stage old new before after b ready
+racer_stays (any.Move t) old new before after b ready = move_stable t.name t.uid t.stage old new before after b ready
+racer_stays (any.Expunge t) old new before after b ready = expunge_stable t.stage old new before after b ready
+
+pub one_goes : {D : Type 0} → (one now two : AnyTask) (old new : StoreValue D) (before after : Option History) → IsReadyRacer now new → MovesClaims (racer_claims one) (racer_claims now) old new → LeavesOthers (racer_claims one) old new before after → AreReadyTasks one two old → AreReadyTasks now two new
+one_goes one now two old new before after ready moves leaves was = record {
   one_ready = ready;
-  two_ready = racer_stays (task_amounts one) (task_amounts now) two old new moves keeps was.due was.two_ready;
-  due = others_due (task_amounts one) (task_amounts now) (task_amounts two) old new moves was.due;
+  two_ready = racer_stays two old new before after (record { mine = racer_claims one; mine_now = racer_claims now; moves = moves; leaves = leaves; are = was.claimed }) was.two_ready;
+  claimed = claimed_then (racer_claims one) (racer_claims now) (racer_claims two) old new moves was.claimed;
 }
 
-pub two_goes : {D : Type 0} → (one two now : AnyTask) (old new : StoreValue D) → IsReadyRacer now new → Moves (task_amounts two) (task_amounts now) (amounts_in old) (amounts_in new) → KeepsUids old new → AreReadyTasks one two old → AreReadyTasks one now new
-two_goes one two now old new ready moves keeps was =
-    let due : AreDueIn old (both_amounts (task_amounts two) (task_amounts one)) = λ uid. flipped ((task_amounts one).due uid) ((task_amounts two).due uid) (due_at uid old) (was.due uid) in record {
-      one_ready = racer_stays (task_amounts two) (task_amounts now) one old new moves keeps due was.one_ready;
+pub two_goes : {D : Type 0} → (one two now : AnyTask) (old new : StoreValue D) (before after : Option History) → IsReadyRacer now new → MovesClaims (racer_claims two) (racer_claims now) old new → LeavesOthers (racer_claims two) old new before after → AreReadyTasks one two old → AreReadyTasks one now new
+two_goes one two now old new before after ready moves leaves was =
+    let are = other_way (racer_claims one) (racer_claims two) old was.claimed in record {
+      one_ready = racer_stays one old new before after (record { mine = racer_claims two; mine_now = racer_claims now; moves = moves; leaves = leaves; are = are }) was.one_ready;
       two_ready = ready;
-      due = λ uid. flipped ((task_amounts now).due uid) ((task_amounts one).due uid) (due_at uid new) (others_due (task_amounts two) (task_amounts now) (task_amounts one) old new moves due uid);
+      claimed = other_way (racer_claims now) (racer_claims one) new (claimed_then (racer_claims two) (racer_claims now) (racer_claims one) old new moves are);
     }
 
-pub one_makes : {D : Type 0} → (one now two : MakeStage) (old new : StoreValue D) → IsReadyToMake now new → LeavesLogs one now old new → AreReadyMakes one two old → AreReadyMakes now two new
-one_makes one now two old new ready logs was =
-    let apart : HaveOtherLogs now two = makes_stay_apart one now two old new logs was.one_apart was.two_ready in record {
-      one_ready = ready;
-      two_ready = make_stays_ready one now two old new logs was.one_apart was.two_ready;
-      one_apart = apart;
-      two_apart = λ number mine theirs. apart number theirs mine;
-    }
+pub both_unmade : {D : Type 0} → (store : StoreValue D) → AreReadyMakes make_stage.First make_stage.First store
+both_unmade store = record { one_ready = tt; two_ready = tt; claimed = both_in (make_claims make_stage.First) (make_claims make_stage.First) store first_claims_nothing first_claims_nothing }
 
-pub two_makes : {D : Type 0} → (one two now : MakeStage) (old new : StoreValue D) → IsReadyToMake now new → LeavesLogs two now old new → AreReadyMakes one two old → AreReadyMakes one now new
-two_makes one two now old new ready logs was =
-    let apart : HaveOtherLogs now one = makes_stay_apart two now one old new logs was.two_apart was.one_ready in record {
-      one_ready = make_stays_ready two now one old new logs was.two_apart was.one_ready;
+pub one_makes : {D : Type 0} → (one now two : MakeStage) (old new : StoreValue D) (before after : Option History) → IsReadyToMake now new → MovesClaims (make_claims one) (make_claims now) old new → LeavesOthers (make_claims one) old new before after → AreReadyMakes one two old → AreReadyMakes now two new
+one_makes one now two old new before after ready moves leaves was = record {
+  one_ready = ready;
+  two_ready = make_stable two old new before after (record { mine = make_claims one; mine_now = make_claims now; moves = moves; leaves = leaves; are = was.claimed }) was.two_ready;
+  claimed = claimed_then (make_claims one) (make_claims now) (make_claims two) old new moves was.claimed;
+}
+
+pub two_makes : {D : Type 0} → (one two now : MakeStage) (old new : StoreValue D) (before after : Option History) → IsReadyToMake now new → MovesClaims (make_claims two) (make_claims now) old new → LeavesOthers (make_claims two) old new before after → AreReadyMakes one two old → AreReadyMakes one now new
+two_makes one two now old new before after ready moves leaves was =
+    let are = other_way (make_claims one) (make_claims two) old was.claimed in record {
+      one_ready = make_stable one old new before after (record { mine = make_claims two; mine_now = make_claims now; moves = moves; leaves = leaves; are = are }) was.one_ready;
       two_ready = ready;
-      one_apart = λ number mine theirs. apart number theirs mine;
-      two_apart = apart;
+      claimed = other_way (make_claims now) (make_claims one) new (claimed_then (make_claims two) (make_claims now) (make_claims one) old new moves are);
     }

@@ -1,7 +1,7 @@
 // Two makes over one store, whose events take turns.
 use crate::tasks::race::Turn;
 use disk_model::Disk;
-use mail_ops::{MakeTask, makes_stay_ready};
+use mail_ops::MakeTask;
 use mdbox_base::{Name, Progress};
 use std::marker::Model;
 use store_core::Store;
@@ -37,7 +37,6 @@ impl<D: Disk> Makes<D> {
 
     /// Does the next event of one of them.
     pub fn turn(&mut self, turn: Turn) -> Progress {
-        makes_stay_ready::<D>();
         match turn {
             Turn::One => self.one.step(&mut self.store),
             Turn::Two => self.two.step(&mut self.store),

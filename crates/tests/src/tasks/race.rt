@@ -1,11 +1,11 @@
 // Two tasks over one store, whose events take turns.
 ghost use Rattle.std.specs.Prelude.{◌≡◌, false, true};
-ghost use Rattle.store_core.specs.Dues.{Moves, amounts_in};
-ghost use Rattle.store_core.specs.Keeping.{KeepsUids};
-ghost use Rattle.tests.specs.Tasks.{task_amounts, IsReadyRacer, HasNotStarted};
+ghost use Rattle.task_claims.specs.Claims.{MovesClaims};
+ghost use Rattle.task_claims.specs.Leaving.{LeavesOthers};
+ghost use Rattle.tests.specs.Tasks.{racer_claims, IsReadyRacer, HasNotStarted};
 
 use disk_model::Disk;
-use mail_ops::{CopyTask, ExpungeTask, MoveTask, others_stay_ready};
+use mail_ops::{CopyTask, ExpungeTask, MoveTask};
 use mdbox_base::{Name, Progress, Uid};
 use std::marker::Model;
 use store_core::Store;
@@ -42,8 +42,8 @@ impl AnyTask {
         requires ready { store.old.stopped ≡ false → IsReadyRacer self.old store.old }
         ensures ready { store.new.stopped ≡ false → IsReadyRacer self.new store.new }
         ensures still { store.old.stopped ≡ true → store.new.stopped ≡ true }
-        ensures moves { Moves (task_amounts self.old) (task_amounts self.new) (amounts_in store.old) (amounts_in store.new) }
-        ensures keeps { KeepsUids store.old store.new }
+        ensures claims { store.new.stopped ≡ false → MovesClaims (racer_claims self.old) (racer_claims self.new) store.old store.new }
+        ensures leaves { store.new.stopped ≡ false → LeavesOthers (racer_claims self.old) store.old store.new (D.history store.old.disk) (D.history store.new.disk) }
     {
         match self {
             AnyTask::Copy(task) => task.step(store),
@@ -89,7 +89,6 @@ impl<D: Disk> Race<D> {
 
     /// Does the next event of one of them.
     pub fn turn(&mut self, turn: Turn) -> Progress {
-        others_stay_ready::<D>();
         match turn {
             Turn::One => self.one.step(&mut self.store),
             Turn::Two => self.two.step(&mut self.store),

@@ -24,7 +24,8 @@ loop-preserved g c =
             omega (arith, whole, long, count, is),
             omega (arith, whole),
             h.ensures.same ∙ i.2,
-            subst F (sym is) (reads-step number c.args.offset c.loop.done h.count c.loop.into part m (g.F.Folder.modelled c.loop.folder) i.0 count i.2 i.3 h.ensures.octets),
+            h.ensures.still ∙ i.3,
+            subst F (sym is) (reads-step number c.args.offset c.loop.done h.count c.loop.into part m (g.F.Folder.modelled c.loop.folder) i.0 count i.2 i.4 h.ensures.octets),
           )
       | in-Err-Interrupted w ↦
           let h = w.in-Err-Interrupted in
@@ -32,6 +33,7 @@ loop-preserved g c =
             omega (arith, whole, is),
             omega (arith, whole),
             h.ensures.same ∙ i.2,
-            subst F (sym is) (reads-again number c.args.offset c.loop.done c.loop.into part m i.0 i.3),
+            h.ensures.still ∙ i.3,
+            subst F (sym is) (reads-again number c.args.offset c.loop.done c.loop.into part m i.0 i.4),
           )
     ]

@@ -5,6 +5,8 @@ use Rattle.disk_model.specs.Disk.{written}
 use Rattle.folder_model.specs.System.{with_content}
 use Rattle.folder_model.specs.Calls.{done_by}
 use Rattle.folder_model.proofs.WriteLemmas.{writes-begin, writes-step, writes-stop, writes-fail, length-take-drop}
+use Rattle.folder_model.proofs.PastLemmas.{since-none}
+use Rattle.folder_calls.proofs.WayLemmas.{way-goes_on}
 use Rattle.folder_calls.proofs.write.write_all.Goals as goal
 use Rattle.folder_calls.proofs.write.write_all.Goals.{in-Ok, in-Err-Interrupted}
 
@@ -18,6 +20,7 @@ loop-init g c = (
   omega arith,
   writes-begin (g.F.Folder.number c.args.file.now) c.args.offset (g.F.Folder.modelled c.args.folder.now)
       (g.met.F.Folder.is_system c.args.folder.now) c.requires.reaches,
+  since-none _ (g.F.Folder.past c.args.folder.now),
 )
 
 pub returns-then-done-from-clause-wrote : goal.returns-then-done-from-clause-wrote
@@ -40,6 +43,8 @@ loop-preserved g c =
             omega arith,
             let F : ℕ → Type 0 = λ k. g.F.Folder.modelled c.write_some.new.self ≡ done_by (with_content number (written c.args.offset (take k c.args.from.now))) (g.F.Folder.modelled c.args.folder.now) in
                 subst F (sym is) (writes-step number c.args.offset c.loop.done h.count c.args.from.now (g.F.Folder.modelled c.args.folder.now) (g.F.Folder.modelled c.loop.folder) (g.F.Folder.modelled c.write_some.new.self) i.0 c.requires.reaches i.2 h.ensures.wrote),
+            way-goes_on number c.args.offset c.loop.done c.args.from.now (g.F.Folder.modelled c.args.folder.now) (g.F.Folder.modelled c.loop.folder) (g.F.Folder.modelled c.write_some.new.self)
+                (g.F.Folder.past c.args.folder.now) (g.F.Folder.past c.loop.folder) (g.F.Folder.past c.write_some.new.self) i.0 i.2 i.3 h.ensures.passed,
           )
       | in-Err-Interrupted w ↦
           let h = w.in-Err-Interrupted in
@@ -48,6 +53,8 @@ loop-preserved g c =
             omega arith,
             let F : ℕ → Type 0 = λ k. g.F.Folder.modelled c.write_some.new.self ≡ done_by (with_content number (written c.args.offset (take k c.args.from.now))) (g.F.Folder.modelled c.args.folder.now) in
                 subst F (sym is) (h.ensures.interrupted (ap Err h.field-0-is) ∙ i.2),
+            way-goes_on number c.args.offset c.loop.done c.args.from.now (g.F.Folder.modelled c.args.folder.now) (g.F.Folder.modelled c.loop.folder) (g.F.Folder.modelled c.write_some.new.self)
+                (g.F.Folder.past c.args.folder.now) (g.F.Folder.past c.loop.folder) (g.F.Folder.past c.write_some.new.self) i.0 i.2 i.3 h.ensures.passed,
           )
     ]
 
@@ -77,3 +84,15 @@ returns-clause-failed g c =
     let fit = fitting c.args.from.now c.type_inv.from in
     writes-stop (g.F.Folder.number c.args.file.now) c.args.offset c.loop.done c.args.from.now (g.F.Folder.modelled c.args.folder.now) (g.F.Folder.modelled c.loop.folder) fit
     (g.met.F.Folder.is_system c.args.folder.now) c.requires.reaches i.2
+
+pub returns-in-Ok-eq0-clause-passed : goal.returns-in-Ok-eq0-clause-passed
+returns-in-Ok-eq0-clause-passed g c =
+    let i = c.loop.invariant in
+    way-goes_on (g.F.Folder.number c.args.file.now) c.args.offset c.loop.done c.args.from.now (g.F.Folder.modelled c.args.folder.now) (g.F.Folder.modelled c.loop.folder)
+    (g.F.Folder.modelled c.write_some.new.self) (g.F.Folder.past c.args.folder.now) (g.F.Folder.past c.loop.folder) (g.F.Folder.past c.write_some.new.self) i.0 i.2 i.3 c.in-Ok-eq0.ensures.passed
+
+pub returns-in-Err-Failed-clause-passed : goal.returns-in-Err-Failed-clause-passed
+returns-in-Err-Failed-clause-passed g c =
+    let i = c.loop.invariant in
+    way-goes_on (g.F.Folder.number c.args.file.now) c.args.offset c.loop.done c.args.from.now (g.F.Folder.modelled c.args.folder.now) (g.F.Folder.modelled c.loop.folder)
+    (g.F.Folder.modelled c.write_some.new.self) (g.F.Folder.past c.args.folder.now) (g.F.Folder.past c.loop.folder) (g.F.Folder.past c.write_some.new.self) i.0 i.2 i.3 c.in-Err-Failed.ensures.passed

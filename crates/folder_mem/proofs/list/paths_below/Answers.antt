@@ -31,7 +31,7 @@ pub returns : goal.returns
 returns c =
     let inv = c.loop-change.invariant in
     record {
-      stand = inv.0;
+      stand = λ path has. inl (inv.0 path has);
       all = λ path stands text.
           let made = stands_made c.args.changes.now c.args.folder.now path stands in
           let below : made.0 < length c.args.changes.now = made.2 in

@@ -11,7 +11,7 @@ use Rattle.store_seen.proofs.SeeingLemmas.{due_as_before}
 use Rattle.mail_ops.proofs.FlagEventLemmas.{flag_is_plain, flags_known, brings_none, flag_done, flag_broken, none_of, some_of}
 use Rattle.mail_ops.proofs.SettledFlagLemmas.{settled_by, counted_for, not_both}
 use Rattle.mail_ops.proofs.RemovalLemmas.{store_tells}
-use Rattle.mail_ops.proofs.KeptUidLemmas.{flags_left, logs_keep}
+use Rattle.mail_ops.proofs.KeptUidLemmas.{flags_left}
 use Rattle.task_claims.specs.Claims.{no_claims}
 use Rattle.mail_ops.proofs.EventLemmas.{fall}
 use Rattle.mail_ops.proofs.KeptMailLemmas.{fell_spares, spared_none, took_spares}
@@ -121,23 +121,6 @@ returns-in-Ok-clause-fault g c = λ runs. counted_for _ _ _ _ (λ e. absurd (cc 
 
 pub returns-in-Err-Stopped-clause-fault : goal.returns-in-Err-Stopped-clause-fault
 returns-in-Err-Stopped-clause-fault g c = λ runs. counted_for _ _ _ _ (λ e. ap Err c.in-Err-Stopped.field-0-is) c.in-Err-Stopped.ensures.fault
-
-pub returns-then-stopped-clause-keeps : goal.returns-then-stopped-clause-keeps
-returns-then-stopped-clause-keeps g c = λ name uid held k. k
-
-pub returns-in_default-clause-keeps : goal.returns-in_default-clause-keeps
-returns-in_default-clause-keeps g c = λ name uid held k. k
-
-pub returns-then-is_none-clause-keeps : goal.returns-then-is_none-clause-keeps
-returns-then-is_none-clause-keeps g c = λ name uid held k. k
-
-pub returns-in-Ok-clause-keeps : goal.returns-in-Ok-clause-keeps
-returns-in-Ok-clause-keeps g c =
-    flags_left c.in-Some-number_of.number.0 c.args.uid c.bits.result c.in-Some.index.now.meaning c.args.store.now c.append_box.new.self (ap (λ v. v.map) c.in-Ok.ensures.same) c.in-Ok.ensures.taken
-    (c.in-Some-number_of.ensures.some.0 ∙ (sym c.list_of.ensures ∙ ap (λ o. option_map (λ (i : BoxState). i.meaning) (option_copied o)) c.in-Some.is))
-
-pub returns-in-Err-Stopped-clause-keeps : goal.returns-in-Err-Stopped-clause-keeps
-returns-in-Err-Stopped-clause-keeps g c = logs_keep c.args.store.now c.append_box.new.self (ap (λ v. v.map.boxes) c.in-Err-Stopped.ensures.same) (c.in-Err-Stopped.ensures.untaken refl).0
 
 pub returns-in-Ok-clause-rest : goal.returns-in-Ok-clause-rest
 returns-in-Ok-clause-rest g c =

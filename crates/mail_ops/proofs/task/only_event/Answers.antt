@@ -42,9 +42,6 @@ pub returns-in-Flag-clause-settled : goal.returns-in-Flag-clause-settled
 returns-in-Flag-clause-settled g c = λ runs lists s.
     subst (λ (q : Request). IsSettledFor (lists_by_reply q c.flag.result.0 lists) (g.D.Disk.history c.flag.new.store.disk)) (sym c.in-Flag.is) (c.flag.ensures.settled runs lists s)
 
-pub returns-in-List-clause-keeps : goal.returns-in-List-clause-keeps
-returns-in-List-clause-keeps g c = λ name uid held k. k
-
 pub returns-in-List-clause-leaves : goal.returns-in-List-clause-leaves
 returns-in-List-clause-leaves g c = λ runs. same_leaves g.D.Disk.history no_claims c.args.store.now c.args.store.now refl
 

@@ -3,7 +3,7 @@ use Rattle.mdbox_base.specs.declared.requests.Request.TheVariants as request
 use Rattle.mdbox_top.specs.Alone.{IsDoneAlone}
 use Rattle.mdbox_top.proofs.FetchedLemmas.{fetch_done}
 use Rattle.mdbox_top.proofs.KnownFirstLemmas.{none_held}
-use Rattle.mdbox_top.proofs.OpenedLemmas.{none_doomed, none_pinned}
+use Rattle.script_run.proofs.OpenedLemmas.{none_doomed, none_pinned}
 use Rattle.mdbox_top.proofs.fetch.fetch_alone.Goals as goal
 
 pub take_message-reply-requires-clause-undoomed : goal.take_message-reply-requires-clause-undoomed

@@ -13,5 +13,5 @@ on_err (Err e) p = p
 pub returns-clause-failed : goal.returns-clause-failed
 returns-clause-failed c =
     let number = c.args.file.now.number in
-    let so = c.in_ok-note.ensures.ok ∙ ap (done_by (with_content number (cut_to c.args.end))) c.begin.ensures in
+    let so = c.in_ok-note.ensures.ok ∙ ap (done_by (with_content number (cut_to c.args.end))) c.begin.ensures.model in
     on_err c.finished.result (cut-part number c.args.end (mem_model c.args.self.now) (mem_model c.note.new.self) so)

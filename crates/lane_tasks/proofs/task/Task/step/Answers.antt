@@ -148,10 +148,12 @@ returns-in-Fetch-clause-undoomed g c = λ runs. doomed_as c.args.store.now c.ste
 -- ---- a delivery
 
 pub step-requires-in-Deliver : goal.step-requires-in-Deliver
-step-requires-in-Deliver g c = record { left = λ runs.
-    let t = c.in-Deliver.task in
-    let ready = subst (λ (k : Task). IsReadyTask k c.args.store.now (g.D.Disk.history c.args.store.now.disk)) c.in-Deliver.is (c.requires.ready runs) in
-    left_with_room t.stage t.name t.time t.size ready.0 c.args.store.now (g.D.Disk.history c.args.store.now.disk) ready.1 (c.requires.room runs).uses.holds }
+step-requires-in-Deliver g c = record {
+  left = λ runs.
+      let t = c.in-Deliver.task in
+      let ready = subst (λ (k : Task). IsReadyTask k c.args.store.now (g.D.Disk.history c.args.store.now.disk)) c.in-Deliver.is (c.requires.ready runs) in
+      left_with_room t.stage t.name t.time t.size ready.0 c.args.store.now (g.D.Disk.history c.args.store.now.disk) ready.1 (c.requires.room runs).uses.holds;
+}
 
 pub returns-in-Deliver-clause-ready : goal.returns-in-Deliver-clause-ready
 returns-in-Deliver-clause-ready g c = λ more runs.

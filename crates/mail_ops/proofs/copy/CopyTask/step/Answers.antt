@@ -1,7 +1,6 @@
 use Rattle.std.proofs.Common.{sym, ◌∙◌}
 use Rattle.task_steps.proofs.OneEventLemmas.{leaves_none}
 use Rattle.mail_ops.proofs.CopyStepLemmas.{copy_known_by, copy_ready, copy_stopped}
-use Rattle.mail_ops.proofs.KeepingLemmas.{copy_keeps}
 use Rattle.mail_ops.proofs.KeptMailLemmas.{spared_none, copy_mail}
 use Rattle.mail_ops.proofs.KeptRestLemmas.{copy_rest}
 use Rattle.task_claims.proofs.RestLemmas.{due_claims}
@@ -35,12 +34,6 @@ returns-clause-settled g c = (copy_known_by g.D.Disk.history g.D.Disk.faults _ _
 pub returns-clause-stopped : goal.returns-clause-stopped
 returns-clause-stopped g c = (copy_known_by g.D.Disk.history g.D.Disk.faults _ _ c.replace-now.result c.next_event-next.result.0 c.next_event-next.result.1 c.next_event-next.result.2 c.args.store.now c.next_event-next.new.store c.self.view_is (sym c.replace-now.ensures.value) c.listings_are_shown.ensures.logs c.facts.ensures.store (sym c.stopped.ensures ∙ c.if-stopped.false) (copy_ready _ _ c.replace-now.result c.args.store.now c.self.view_is (sym c.replace-now.ensures.value) (c.requires.ready (sym c.stopped.ensures ∙ c.if-stopped.false))) c.next_event-next.ensures).stopped
 
-pub returns-clause-moves : goal.returns-clause-moves
-returns-clause-moves g c = (copy_known_by g.D.Disk.history g.D.Disk.faults _ _ c.replace-now.result c.next_event-next.result.0 c.next_event-next.result.1 c.next_event-next.result.2 c.args.store.now c.next_event-next.new.store c.self.view_is (sym c.replace-now.ensures.value) c.listings_are_shown.ensures.logs c.facts.ensures.store (sym c.stopped.ensures ∙ c.if-stopped.false) (copy_ready _ _ c.replace-now.result c.args.store.now c.self.view_is (sym c.replace-now.ensures.value) (c.requires.ready (sym c.stopped.ensures ∙ c.if-stopped.false))) c.next_event-next.ensures).moves
-
-pub returns-clause-spares : goal.returns-clause-spares
-returns-clause-spares g c = (copy_known_by g.D.Disk.history g.D.Disk.faults _ _ c.replace-now.result c.next_event-next.result.0 c.next_event-next.result.1 c.next_event-next.result.2 c.args.store.now c.next_event-next.new.store c.self.view_is (sym c.replace-now.ensures.value) c.listings_are_shown.ensures.logs c.facts.ensures.store (sym c.stopped.ensures ∙ c.if-stopped.false) (copy_ready _ _ c.replace-now.result c.args.store.now c.self.view_is (sym c.replace-now.ensures.value) (c.requires.ready (sym c.stopped.ensures ∙ c.if-stopped.false))) c.next_event-next.ensures).spares
-
 pub returns-clause-unfailed : goal.returns-clause-unfailed
 returns-clause-unfailed g c = (copy_known_by g.D.Disk.history g.D.Disk.faults _ _ c.replace-now.result c.next_event-next.result.0 c.next_event-next.result.1 c.next_event-next.result.2 c.args.store.now c.next_event-next.new.store c.self.view_is (sym c.replace-now.ensures.value) c.listings_are_shown.ensures.logs c.facts.ensures.store (sym c.stopped.ensures ∙ c.if-stopped.false) (copy_ready _ _ c.replace-now.result c.args.store.now c.self.view_is (sym c.replace-now.ensures.value) (c.requires.ready (sym c.stopped.ensures ∙ c.if-stopped.false))) c.next_event-next.ensures).unfailed
 
@@ -52,12 +45,6 @@ returns-clause-fault g c = λ ran. (copy_known_by g.D.Disk.history g.D.Disk.faul
 
 pub returns-clause-replies : goal.returns-clause-replies
 returns-clause-replies g c = λ ran. (copy_known_by g.D.Disk.history g.D.Disk.faults _ _ c.replace-now.result c.next_event-next.result.0 c.next_event-next.result.1 c.next_event-next.result.2 c.args.store.now c.next_event-next.new.store c.self.view_is (sym c.replace-now.ensures.value) c.listings_are_shown.ensures.logs c.facts.ensures.store (sym c.stopped.ensures ∙ c.if-stopped.false) (copy_ready _ _ c.replace-now.result c.args.store.now c.self.view_is (sym c.replace-now.ensures.value) (c.requires.ready (sym c.stopped.ensures ∙ c.if-stopped.false))) c.next_event-next.ensures).replies
-
-pub returns-then-stopped-clause-keeps : goal.returns-then-stopped-clause-keeps
-returns-then-stopped-clause-keeps g c = λ name uid held k. k
-
-pub returns-clause-keeps : goal.returns-clause-keeps
-returns-clause-keeps g c = copy_keeps _ _ _ c.replace-now.result c.next_event-next.result.0 c.next_event-next.result.1 c.next_event-next.result.2 c.args.store.now c.next_event-next.new.store _ _ _ _ c.next_event-next.ensures
 
 pub returns-clause-rest : goal.returns-clause-rest
 returns-clause-rest g c = copy_rest _ _ _ c.replace-now.result c.next_event-next.result.0 c.next_event-next.result.1 c.next_event-next.result.2 c.args.store.now c.next_event-next.new.store _ _ _ _ c.next_event-next.ensures

@@ -1,7 +1,6 @@
 use Rattle.std.proofs.Common.{sym, ◌∙◌}
 use Rattle.task_steps.proofs.OneEventLemmas.{leaves_none}
 use Rattle.mail_ops.proofs.ExpungeStepLemmas.{expunge_known, stopped_known}
-use Rattle.mail_ops.proofs.KeepingLemmas.{expunge_keeps}
 use Rattle.mail_ops.proofs.KeptMailLemmas.{spared_none, expunge_mail}
 use Rattle.mail_ops.proofs.KeptRestLemmas.{expunge_rest}
 use Rattle.task_claims.proofs.RestLemmas.{due_claims}
@@ -32,12 +31,6 @@ returns-clause-settled g c = (expunge_known g.D.Disk.history g.D.Disk.faults _ _
 pub returns-clause-stopped : goal.returns-clause-stopped
 returns-clause-stopped g c = (expunge_known g.D.Disk.history g.D.Disk.faults _ _ c.replace-now.result c.next_event-next.result.0 c.next_event-next.result.1 c.next_event-next.result.2 c.args.store.now c.next_event-next.new.store c.self.view_is (sym c.replace-now.ensures.value) c.listings_are_shown.ensures.logs c.facts.ensures.store (sym c.stopped.ensures ∙ c.if-stopped.false) (c.requires.due (sym c.stopped.ensures ∙ c.if-stopped.false)) c.next_event-next.ensures).stopped
 
-pub returns-clause-moves : goal.returns-clause-moves
-returns-clause-moves g c = (expunge_known g.D.Disk.history g.D.Disk.faults _ _ c.replace-now.result c.next_event-next.result.0 c.next_event-next.result.1 c.next_event-next.result.2 c.args.store.now c.next_event-next.new.store c.self.view_is (sym c.replace-now.ensures.value) c.listings_are_shown.ensures.logs c.facts.ensures.store (sym c.stopped.ensures ∙ c.if-stopped.false) (c.requires.due (sym c.stopped.ensures ∙ c.if-stopped.false)) c.next_event-next.ensures).moves
-
-pub returns-clause-spares : goal.returns-clause-spares
-returns-clause-spares g c = (expunge_known g.D.Disk.history g.D.Disk.faults _ _ c.replace-now.result c.next_event-next.result.0 c.next_event-next.result.1 c.next_event-next.result.2 c.args.store.now c.next_event-next.new.store c.self.view_is (sym c.replace-now.ensures.value) c.listings_are_shown.ensures.logs c.facts.ensures.store (sym c.stopped.ensures ∙ c.if-stopped.false) (c.requires.due (sym c.stopped.ensures ∙ c.if-stopped.false)) c.next_event-next.ensures).spares
-
 pub returns-clause-fault : goal.returns-clause-fault
 returns-clause-fault g c = λ ran. (expunge_known g.D.Disk.history g.D.Disk.faults _ _ c.replace-now.result c.next_event-next.result.0 c.next_event-next.result.1 c.next_event-next.result.2 c.args.store.now c.next_event-next.new.store c.self.view_is (sym c.replace-now.ensures.value) c.listings_are_shown.ensures.logs c.facts.ensures.store (sym c.stopped.ensures ∙ c.if-stopped.false) (c.requires.due (sym c.stopped.ensures ∙ c.if-stopped.false)) c.next_event-next.ensures).fault
 
@@ -49,12 +42,6 @@ returns-clause-replies g c = λ ran. (expunge_known g.D.Disk.history g.D.Disk.fa
 
 pub returns-clause-left : goal.returns-clause-left
 returns-clause-left g c = (expunge_known g.D.Disk.history g.D.Disk.faults _ _ c.replace-now.result c.next_event-next.result.0 c.next_event-next.result.1 c.next_event-next.result.2 c.args.store.now c.next_event-next.new.store c.self.view_is (sym c.replace-now.ensures.value) c.listings_are_shown.ensures.logs c.facts.ensures.store (sym c.stopped.ensures ∙ c.if-stopped.false) (c.requires.due (sym c.stopped.ensures ∙ c.if-stopped.false)) c.next_event-next.ensures).left
-
-pub returns-then-stopped-clause-keeps : goal.returns-then-stopped-clause-keeps
-returns-then-stopped-clause-keeps g c = λ name uid held k. k
-
-pub returns-clause-keeps : goal.returns-clause-keeps
-returns-clause-keeps g c = expunge_keeps _ _ c.replace-now.result c.next_event-next.result.0 c.next_event-next.result.1 c.next_event-next.result.2 c.args.store.now c.next_event-next.new.store _ _ _ _ c.next_event-next.ensures
 
 pub returns-clause-rest : goal.returns-clause-rest
 returns-clause-rest g c = expunge_rest _ _ c.replace-now.result c.next_event-next.result.0 c.next_event-next.result.1 c.next_event-next.result.2 c.args.store.now c.next_event-next.new.store _ _ _ _ c.next_event-next.ensures

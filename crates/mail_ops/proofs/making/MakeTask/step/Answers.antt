@@ -12,9 +12,6 @@ returns-then-stopped-clause-does g c = make_stopped _ _ c.args.store.now (g.D.Di
 pub returns-then-stopped-clause-moments : goal.returns-then-stopped-clause-moments
 returns-then-stopped-clause-moments g c = λ lists s. leaves_none _ _ lists s
 
-pub returns-then-stopped-clause-keeps : goal.returns-then-stopped-clause-keeps
-returns-then-stopped-clause-keeps g c = λ name uid held k. k
-
 pub returns-clause-ready : goal.returns-clause-ready
 returns-clause-ready g c = λ runs. (make_known_by g.D.Disk.history g.D.Disk.faults _ _ c.next_event-next.result.0 c.next_event-next.result.1 c.next_event-next.result.2 c.args.store.now c.next_event-next.new.store c.self.view_is c.facts.ensures.store (sym c.stopped.ensures ∙ c.if-stopped.false) c.known_name.ensures (c.requires.ready (sym c.stopped.ensures ∙ c.if-stopped.false)) c.known_logs.ensures.made c.next_event-next.ensures).ready
 
@@ -32,18 +29,6 @@ returns-clause-stopped g c = (make_known_by g.D.Disk.history g.D.Disk.faults _ _
 
 pub returns-clause-unfailed : goal.returns-clause-unfailed
 returns-clause-unfailed g c = (make_known_by g.D.Disk.history g.D.Disk.faults _ _ c.next_event-next.result.0 c.next_event-next.result.1 c.next_event-next.result.2 c.args.store.now c.next_event-next.new.store c.self.view_is c.facts.ensures.store (sym c.stopped.ensures ∙ c.if-stopped.false) c.known_name.ensures (c.requires.ready (sym c.stopped.ensures ∙ c.if-stopped.false)) c.known_logs.ensures.made c.next_event-next.ensures).unfailed
-
-pub returns-clause-moves : goal.returns-clause-moves
-returns-clause-moves g c = (make_known_by g.D.Disk.history g.D.Disk.faults _ _ c.next_event-next.result.0 c.next_event-next.result.1 c.next_event-next.result.2 c.args.store.now c.next_event-next.new.store c.self.view_is c.facts.ensures.store (sym c.stopped.ensures ∙ c.if-stopped.false) c.known_name.ensures (c.requires.ready (sym c.stopped.ensures ∙ c.if-stopped.false)) c.known_logs.ensures.made c.next_event-next.ensures).moves
-
-pub returns-clause-spares : goal.returns-clause-spares
-returns-clause-spares g c = (make_known_by g.D.Disk.history g.D.Disk.faults _ _ c.next_event-next.result.0 c.next_event-next.result.1 c.next_event-next.result.2 c.args.store.now c.next_event-next.new.store c.self.view_is c.facts.ensures.store (sym c.stopped.ensures ∙ c.if-stopped.false) c.known_name.ensures (c.requires.ready (sym c.stopped.ensures ∙ c.if-stopped.false)) c.known_logs.ensures.made c.next_event-next.ensures).spares
-
-pub returns-clause-keeps : goal.returns-clause-keeps
-returns-clause-keeps g c = (make_known_by g.D.Disk.history g.D.Disk.faults _ _ c.next_event-next.result.0 c.next_event-next.result.1 c.next_event-next.result.2 c.args.store.now c.next_event-next.new.store c.self.view_is c.facts.ensures.store (sym c.stopped.ensures ∙ c.if-stopped.false) c.known_name.ensures (c.requires.ready (sym c.stopped.ensures ∙ c.if-stopped.false)) c.known_logs.ensures.made c.next_event-next.ensures).keeps
-
-pub returns-clause-logs : goal.returns-clause-logs
-returns-clause-logs g c = (make_known_by g.D.Disk.history g.D.Disk.faults _ _ c.next_event-next.result.0 c.next_event-next.result.1 c.next_event-next.result.2 c.args.store.now c.next_event-next.new.store c.self.view_is c.facts.ensures.store (sym c.stopped.ensures ∙ c.if-stopped.false) c.known_name.ensures (c.requires.ready (sym c.stopped.ensures ∙ c.if-stopped.false)) c.known_logs.ensures.made c.next_event-next.ensures).logs
 
 pub returns-clause-rest : goal.returns-clause-rest
 returns-clause-rest g c = (make_known_by g.D.Disk.history g.D.Disk.faults _ _ c.next_event-next.result.0 c.next_event-next.result.1 c.next_event-next.result.2 c.args.store.now c.next_event-next.new.store c.self.view_is c.facts.ensures.store (sym c.stopped.ensures ∙ c.if-stopped.false) c.known_name.ensures (c.requires.ready (sym c.stopped.ensures ∙ c.if-stopped.false)) c.known_logs.ensures.made c.next_event-next.ensures).rest

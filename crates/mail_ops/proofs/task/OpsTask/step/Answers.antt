@@ -2,7 +2,6 @@ use Rattle.std.proofs.Common.{ap, subst}
 use Rattle.mdbox_base.specs.declared.progress.Progress.TheVariants as progress
 use Rattle.mdbox_base.specs.declared.requests.Request.{Request}
 use Rattle.model_store.specs.Settled.{Leaves}
-use Rattle.store_core.proofs.DueLemmas.{moves_as, spares_kept}
 use Rattle.mail_ops.specs.Requests.{lists_after}
 use Rattle.mail_ops.proofs.SettledFlagLemmas.{settled_end, ends_same, end_counted}
 use Rattle.mail_ops.proofs.StageLemmas.{only_event}
@@ -12,12 +11,6 @@ use Rattle.mail_ops.proofs.task.OpsTask.step.Goals as goal
 
 pub returns-clause-does : goal.returns-clause-does
 returns-clause-does g c = λ around after pins. only_event _ _ around after _ _ _ _ _ _ (ap (λ v. v.request) c.self.view_is) (c.only_event-reply.ensures.does around after pins)
-
-pub returns-clause-moves : goal.returns-clause-moves
-returns-clause-moves g c = moves_as _ _ _ c.only_event-reply.ensures.due
-
-pub returns-clause-spares : goal.returns-clause-spares
-returns-clause-spares g c = λ same. spares_kept _ _ _ _ _ c.only_event-reply.ensures.map (c.only_event-reply.ensures.stored same)
 
 pub returns-clause-moments : goal.returns-clause-moments
 returns-clause-moments g c = λ lists s.

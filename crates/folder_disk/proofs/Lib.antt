@@ -1,0 +1,9 @@
+pub mod ChangeLemmas
+pub mod CutLemmas
+pub mod FileLemmas
+pub mod NameTestLemmas
+pub mod OverLemmas
+pub mod ReadLemmas
+pub mod StartLemmas
+pub mod SyncLemmas
+pub mod WideLemmas

@@ -1,0 +1,46 @@
+use Rattle.std.proofs.Common.{ℕ, List, [], ◌∷◌, Bool, true, sym, subst}
+use Rattle.std.proofs.lemmas.Bool.{false≢true}
+use Rattle.disk_model.specs.Disk.{cut_to}
+use Rattle.disk_record.specs.declared.change.Change.{Change}
+use Rattle.disk_record.specs.declared.change.Change.TheVariants.{Cut}
+use Rattle.folder_disk.specs.Over.{IsDiskOver}
+use Rattle.folder_disk.proofs.ChangeLemmas.{locked_changed}
+use Rattle.folder_disk.proofs.CutLemmas.{cut_over, half_cut_over}
+use Rattle.folder_disk.proofs.disk.FolderDisk.cut_to_end.Goals as goal
+
+pub invariant_of-self-clause-over : goal.invariant_of-self-clause-over
+invariant_of-self-clause-over g c =
+    let self = c.args.self.now in
+    let old = g.F.Folder.modelled self.folder in
+    let new = g.F.Folder.modelled c.cut_at.new.folder in
+    let before = g.F.Folder.past self.folder in
+    let after = g.F.Folder.past c.cut_at.new.folder in
+    let changes = self.record.changes in
+    let P : List (Change × List ℕ) → Type 0 = λ l. ∥ IsDiskOver new after l self.is_spoiled ∥₁ in
+    let Q : Bool → Type 0 = λ b. ∥ IsDiskOver new after ((Cut c.args.name c.args.end, []) ∷ changes) b ∥₁ in
+    let R : Bool → Type 0 = λ b. ∥ IsDiskOver old before changes b ∥₁ in
+    subst P (sym c.note.ensures) (subst Q (sym c.requires.spoiled)
+    (cut_over old new before after changes c.args.name c.args.path.now c.args.end [] c.requires.file c.requires.named c.requires.reaches
+    (subst R c.requires.spoiled self.over) c.in-Ok.ensures.ok c.cut_at.ensures.passed))
+
+pub invariant_of-self-clause-locked : goal.invariant_of-self-clause-locked
+invariant_of-self-clause-locked g c =
+    let self = c.args.self.now in
+    locked_changed (g.F.Folder.modelled self.folder) (g.F.Folder.modelled c.cut_at.new.folder) c.args.path.now (cut_to c.args.end) self.is_held self.is_spoiled self.locked c.in-Ok.ensures.ok
+
+pub invariant_of-self-in-Err-clause-over : goal.invariant_of-self-in-Err-clause-over
+invariant_of-self-in-Err-clause-over g c =
+    let self = c.args.self.now in
+    let old = g.F.Folder.modelled self.folder in
+    let new = g.F.Folder.modelled c.cut_at.new.folder in
+    let before = g.F.Folder.past self.folder in
+    let after = g.F.Folder.past c.cut_at.new.folder in
+    let changes = self.record.changes in
+    let P : List (Change × List ℕ) → Type 0 = λ l. ∥ IsDiskOver new after l true ∥₁ in
+    let R : Bool → Type 0 = λ b. ∥ IsDiskOver old before changes b ∥₁ in
+    subst P (sym c.note-in-Err.ensures)
+    (half_cut_over old new before after changes c.args.name c.args.path.now c.args.end [] c.requires.file c.requires.named
+    (subst R c.requires.spoiled self.over) c.in-Err.ensures.err c.cut_at.ensures.passed)
+
+pub invariant_of-self-in-Err-clause-locked : goal.invariant_of-self-in-Err-clause-locked
+invariant_of-self-in-Err-clause-locked g c = ∣ (λ h s. absurd (false≢true (sym s))) ∣₁

@@ -1,0 +1,16 @@
+use Rattle.std.proofs.Common.{ℕ, List, false, sym, subst}
+use Rattle.std.proofs.lemmas.Bool.{false≢true}
+use Rattle.disk_record.specs.declared.change.Change.{Change}
+use Rattle.folder_disk.specs.Over.{IsDiskOver}
+use Rattle.folder_disk.proofs.OverLemmas.{disk_begins}
+use Rattle.folder_disk.proofs.disk.FolderDisk.of.Goals as goal
+
+pub invariant_of-result-clause-over : goal.invariant_of-result-clause-over
+invariant_of-result-clause-over g c =
+    let m = g.F.Folder.modelled c.args.folder in
+    let past = g.F.Folder.past c.args.folder in
+    let P : List (Change × List ℕ) → Type 0 = λ l. ∥ IsDiskOver m past l false ∥₁ in
+    subst P (sym c.new.ensures) (disk_begins m past (g.met.F.Folder.is_system c.args.folder) c.requires.begun c.requires.store)
+
+pub invariant_of-result-clause-locked : goal.invariant_of-result-clause-locked
+invariant_of-result-clause-locked g c = ∣ (λ h. absurd (false≢true h)) ∣₁

@@ -1,0 +1,40 @@
+use Rattle.std.proofs.Common.{ℕ, List, [], ◌∷◌, Bool, true, sym, subst}
+use Rattle.std.proofs.lemmas.Bool.{false≢true}
+use Rattle.disk_record.specs.declared.change.Change.{Change}
+use Rattle.disk_record.specs.declared.change.Change.TheVariants.{Synced}
+use Rattle.folder_disk.specs.Over.{IsDiskOver}
+use Rattle.folder_disk.proofs.SyncLemmas.{synced_over, unsynced_over, locked_synced}
+use Rattle.folder_disk.proofs.disk.FolderDisk.sync_to.Goals as goal
+
+pub invariant_of-self-clause-over : goal.invariant_of-self-clause-over
+invariant_of-self-clause-over g c =
+    let self = c.args.self.now in
+    let old = g.F.Folder.modelled self.folder in
+    let new = g.F.Folder.modelled c.sync_at.new.folder in
+    let before = g.F.Folder.past self.folder in
+    let after = g.F.Folder.past c.sync_at.new.folder in
+    let changes = self.record.changes in
+    let P : List (Change × List ℕ) → Type 0 = λ l. ∥ IsDiskOver new after l self.is_spoiled ∥₁ in
+    let Q : Bool → Type 0 = λ b. ∥ IsDiskOver new after ((Synced c.args.name, []) ∷ changes) b ∥₁ in
+    let R : Bool → Type 0 = λ b. ∥ IsDiskOver old before changes b ∥₁ in
+    subst P (sym c.note.ensures) (subst Q (sym c.requires.spoiled)
+    (synced_over old new before after changes c.args.name c.args.path.now [] c.requires.file c.requires.named (subst R c.requires.spoiled self.over) c.in-Ok.ensures.ok c.sync_at.ensures.passed))
+
+pub invariant_of-self-clause-locked : goal.invariant_of-self-clause-locked
+invariant_of-self-clause-locked g c =
+    let self = c.args.self.now in
+    locked_synced (g.F.Folder.modelled self.folder) (g.F.Folder.modelled c.sync_at.new.folder) c.args.path.now self.is_held self.is_spoiled self.locked c.in-Ok.ensures.ok
+
+pub invariant_of-self-in-Err-clause-over : goal.invariant_of-self-in-Err-clause-over
+invariant_of-self-in-Err-clause-over g c =
+    let self = c.args.self.now in
+    let old = g.F.Folder.modelled self.folder in
+    let new = g.F.Folder.modelled c.sync_at.new.folder in
+    let before = g.F.Folder.past self.folder in
+    let after = g.F.Folder.past c.sync_at.new.folder in
+    let P : List (Change × List ℕ) → Type 0 = λ l. ∥ IsDiskOver new after l true ∥₁ in
+    subst P (sym c.note-in-Err.ensures)
+    (unsynced_over old new before after self.record.changes [] self.is_spoiled self.over c.in-Err.ensures.err c.sync_at.ensures.passed)
+
+pub invariant_of-self-in-Err-clause-locked : goal.invariant_of-self-in-Err-clause-locked
+invariant_of-self-in-Err-clause-locked g c = ∣ (λ h s. absurd (false≢true (sym s))) ∣₁

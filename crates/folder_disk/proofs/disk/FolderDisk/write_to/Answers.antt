@@ -1,0 +1,48 @@
+use Rattle.std.proofs.Common.{◌<◌, ℕ, List, [], ◌∷◌, Bool, true, All, Fits, w8, get_or, sym, subst, arith}
+use Rattle.std.proofs.lemmas.Bool.{false≢true}
+use Rattle.std.proofs.lemmas.List.Elements.{All-from_get_or}
+use Rattle.disk_model.specs.Disk.{written}
+use Rattle.disk_record.specs.declared.change.Change.{Change}
+use Rattle.disk_record.specs.declared.change.Change.TheVariants.{Written}
+use Rattle.folder_disk.specs.Over.{IsDiskOver}
+use Rattle.folder_disk.proofs.ChangeLemmas.{wrote_over, half_wrote_over, locked_changed}
+use Rattle.folder_disk.proofs.disk.FolderDisk.write_to.Goals as goal
+
+pub invariant_of-self-clause-over : goal.invariant_of-self-clause-over
+invariant_of-self-clause-over g c =
+    let self = c.args.self.now in
+    let old = g.F.Folder.modelled self.folder in
+    let new = g.F.Folder.modelled c.write_at.new.folder in
+    let before = g.F.Folder.past self.folder in
+    let after = g.F.Folder.past c.write_at.new.folder in
+    let changes = self.record.changes in
+    let from = c.args.from.now in
+    let P : List (Change × List ℕ) → Type 0 = λ l. ∥ IsDiskOver new after l self.is_spoiled ∥₁ in
+    let Q : Bool → Type 0 = λ b. ∥ IsDiskOver new after ((Written c.args.name c.args.offset, from) ∷ changes) b ∥₁ in
+    let R : Bool → Type 0 = λ b. ∥ IsDiskOver old before changes b ∥₁ in
+    let fit : All (λ octet. octet < 256) from = All-from_get_or (λ octet. octet < 256) from 0 (λ k below. let f : Fits w8 (get_or from k 0) = c.type_inv.from k in omega arith) in
+    subst P (sym c.note.ensures) (subst Q (sym c.requires.spoiled)
+    (wrote_over old new before after changes c.args.name c.args.path.now c.args.offset from c.requires.file c.requires.named fit c.requires.reaches
+    (subst R c.requires.spoiled self.over) c.in-Ok.ensures.ok c.write_at.ensures.passed))
+
+pub invariant_of-self-clause-locked : goal.invariant_of-self-clause-locked
+invariant_of-self-clause-locked g c =
+    let self = c.args.self.now in
+    locked_changed (g.F.Folder.modelled self.folder) (g.F.Folder.modelled c.write_at.new.folder) c.args.path.now (written c.args.offset c.args.from.now) self.is_held self.is_spoiled self.locked c.in-Ok.ensures.ok
+
+pub invariant_of-self-in-Err-clause-over : goal.invariant_of-self-in-Err-clause-over
+invariant_of-self-in-Err-clause-over g c =
+    let self = c.args.self.now in
+    let old = g.F.Folder.modelled self.folder in
+    let new = g.F.Folder.modelled c.write_at.new.folder in
+    let before = g.F.Folder.past self.folder in
+    let after = g.F.Folder.past c.write_at.new.folder in
+    let changes = self.record.changes in
+    let P : List (Change × List ℕ) → Type 0 = λ l. ∥ IsDiskOver new after l true ∥₁ in
+    let R : Bool → Type 0 = λ b. ∥ IsDiskOver old before changes b ∥₁ in
+    subst P (sym c.note-in-Err.ensures)
+    (half_wrote_over old new before after changes c.args.name c.args.path.now c.args.offset c.args.from.now [] c.requires.file c.requires.named c.requires.reaches
+    (subst R c.requires.spoiled self.over) c.in-Err.ensures.err c.write_at.ensures.passed)
+
+pub invariant_of-self-in-Err-clause-locked : goal.invariant_of-self-in-Err-clause-locked
+invariant_of-self-in-Err-clause-locked g c = ∣ (λ h s. absurd (false≢true (sym s))) ∣₁

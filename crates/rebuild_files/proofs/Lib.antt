@@ -1,0 +1,4 @@
+pub mod FindingLemmas
+pub mod ListingLemmas
+pub mod NumberLemmas
+pub mod RootLemmas

@@ -1,0 +1,4 @@
+pub mod Listing
+pub mod Places
+pub mod Refused
+pub mod Rootless

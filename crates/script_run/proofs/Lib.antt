@@ -1,0 +1,6 @@
+pub mod EndLemmas
+pub mod MailStaysLemmas
+pub mod OpenedLemmas
+pub mod RunBeginsLemmas
+pub mod ShownLemmas
+pub mod SomeListsLemmas

@@ -1,0 +1,4 @@
+pub mod Done
+pub mod Faults
+pub mod Opening
+pub mod Script

@@ -1,0 +1,59 @@
+-- What a script makes of a store.
+use Rattle.std.specs.Prelude.{◌≡◌, ℕ, List, Option, Some, Contains, map, All}
+use Rattle.disk_model.specs.Disk.{told_calls, History, Faults, EachImage}
+use Rattle.mdbox_base.specs.declared.entries.Highest.{Highest}
+use Rattle.mdbox_base.specs.declared.replies.Refusal.TheVariants as refusal
+use Rattle.mdbox_base.specs.declared.replies.Reply.{Reply}
+use Rattle.mdbox_base.specs.declared.replies.Reply.TheVariants as reply
+use Rattle.mdbox_base.specs.declared.requests.Request.{Request}
+use Rattle.mdbox_base.specs.declared.requests.Request.TheVariants as request
+use Rattle.mdbox_base.specs.declared.script.JournalEntry.{JournalEntry}
+use Rattle.model_lists.specs.Lists.{Lists}
+use Rattle.model_meaning.specs.BoxMeaning.{BoxMeaning}
+use Rattle.model_meaning.specs.MapMeaning.{MapMeaning, map_meaning}
+use Rattle.model_store.specs.Settled.{IsSettledFor}
+use Rattle.list_machine.specs.Run.{Run}
+use Rattle.journal.specs.Journal.{AreEntriesOf, Broken, JournalStep, Requests, left_by}
+use Rattle.journal.specs.Makes.{IsServed}
+use Rattle.store_open.specs.Opened.{IsOpenedAs}
+use Rattle.task_steps.specs.Serves.{AreTimely, IsReached}
+use Rattle.script_run.specs.Opening.{LogsShowLists, RunBegins, RunHasCome}
+
+-- some request was replied that the store is stopped
+abbrev pub HasStopped : List Reply → Type 0
+HasStopped given = Contains given (reply.Refused refusal.Stopped)
+
+-- The files open, and show these lists.
+abbrev pub OpensShowing : Lists → Option History → Type 0
+OpensShowing lists new = (n : MapMeaning) × (later : List BoxMeaning) × IsOpenedAs new n later × LogsShowLists n later lists
+
+-- From these lists a script was served legally, by a run that begins with the map log of the files, and each request has its reply.
+-- The run has come to where the disk is now: unless a change of it failed, to what its map log means, and its logs show what the
+-- journal leaves; and to its number of calls, so that by now every step is acknowledged. Of a disk that was settled for the lists each
+-- crash image since is safe for lists that the journal reaches; at the moment of each event it was settled for what the steps up to it
+-- left; and it is settled for the lists that the journal leaves, unless a change of it failed. The entries are those of the journal's
+-- steps, in order, of a world that was made after so many calls.
+pub record ServesScript (script : Requests) (lists : Lists) (given : List Reply) (entries : List JournalEntry) (began now : Faults) (old new : Option History) : Type 0 where
+  pub run : Run
+  pub journal : List JournalStep
+  pub broken : Broken
+  pub m : MapMeaning
+  pub drawn : Highest
+  pub made : ℕ
+  pub begins : RunBegins run old
+  pub ends : (HasStopped given → ⊥) → RunHasCome run m new
+  pub shows : (HasStopped given → ⊥) → OpensShowing (left_by lists journal) new
+  pub served : IsServed lists script run journal broken (map Some given) began now (map_meaning run.store run.start) m drawn (told_calls new)
+  pub crash : IsSettledFor lists old → EachImage (IsReached lists run journal broken) old new
+  pub timely : IsSettledFor lists old → AreTimely lists run journal new
+  pub settled : (HasStopped given → ⊥) → IsSettledFor lists old → IsSettledFor (left_by lists journal) new
+  pub entries_are : AreEntriesOf run made journal entries
+
+-- the request reads messages
+abbrev pub IsFetch : Request → Type 0
+IsFetch (request.Fetch name uid) = Unit {0}
+IsFetch other = ⊥
+
+-- a request of the script reads messages
+abbrev pub HasFetch : Requests → Type 0
+HasFetch script = (asked : ℕ × Request) × Contains script asked × IsFetch asked.1

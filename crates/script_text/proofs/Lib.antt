@@ -1,0 +1,5 @@
+pub mod AskedLemmas
+pub mod CutLemmas
+pub mod MadeLemmas
+pub mod RequestLemmas
+pub mod ScriptLemmas

@@ -1,0 +1,3 @@
+pub mod MadeScript
+pub mod Reading
+pub mod Script

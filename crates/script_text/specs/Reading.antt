@@ -1,0 +1,34 @@
+-- What is found of a request in the words of a line and what follows the line.
+use Rattle.std.specs.Prelude.{◌≡◌, ℕ, List, [], ◌∷◌, ◌++◌, codes}
+use Rattle.mdbox_base.specs.declared.requests.Request.{Request}
+use Rattle.mdbox_base.specs.declared.requests.Request.TheVariants as request
+use Rattle.script_text.specs.Script.{FitsScript, request_words, spaced, message_text}
+use Rattle.script_text.specs.declared.verb.Verb.{Verb}
+use Rattle.script_text.specs.declared.verb.Verb.TheVariants as verb
+
+-- the words behind the lane are this request's, and its message comes first in what follows the line
+pub record IsRequestOf (words rest : List ℕ) (asked : Request) (after : List ℕ) : Type 0 where
+  pub fits : FitsScript asked
+  pub words_are : words ≡ spaced (request_words asked)
+  pub message_is : rest ≡ message_text asked ++ after
+
+abbrev pub AsksNothing : List ℕ → List ℕ → Type 0
+AsksNothing words rest = (asked : Request) (after : List ℕ) → IsRequestOf words rest asked after → ⊥
+
+-- a request of one word
+abbrev pub IsOneWord : Request → Type 0
+IsOneWord request.Counts = Unit {0}
+IsOneWord request.Purge = Unit {0}
+IsOneWord request.Resync = Unit {0}
+IsOneWord other = ⊥
+
+-- the verb of a request that has further words
+abbrev pub verb_text : Verb → List ℕ
+verb_text verb.Deliver = codes "deliver"
+verb_text verb.List = codes "list"
+verb_text verb.Fetch = codes "fetch"
+verb_text verb.Flag = codes "flag"
+verb_text verb.Copy = codes "copy"
+verb_text verb.Move = codes "move"
+verb_text verb.Expunge = codes "expunge"
+verb_text verb.Make = codes "make"

@@ -1,0 +1,18 @@
+//! Scripts: the requests of several lanes as a text, read, written, and made from a number.
+#![tactic(auto)]
+
+pub use error::ScriptError;
+pub use exercise::exercise_script;
+pub use laws::{a_text_is_one_script, made_scripts_fit, written_scripts_are_read};
+pub use read::read_script;
+pub use write::push_script;
+
+mod arguments;
+mod cut;
+mod error;
+mod exercise;
+mod laws;
+mod read;
+mod request;
+mod verb;
+mod write;
