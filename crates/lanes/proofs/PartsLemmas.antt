@@ -169,10 +169,10 @@ parts_fresh script lanes requests rows from same few = record {
 pub parts_of : (script : Requests) (lanes requests : ℕ) (rows : List LaneRow) → AreRowsFrom script lanes 0 script rows → requests ≡ length script → ArePartsOf script lanes (record { rows = rows; requests = requests })
 parts_of script lanes requests rows from same = record {
   rows = λ k row there. let f = from.1 k row there in record {
-        all = f.all;
-        first = λ q is. All-head (WaitsWithTask script (k + 1)) q row.waiting (subst (λ (o : Option Queued). All (WaitsWithTask script (k + 1)) (queued_in (record row { current = o }))) is f.begin);
-        behind = behind_waits script (k + 1) row f.alone f.begin;
-      };
+    all = f.all;
+    first = λ q is. All-head (WaitsWithTask script (k + 1)) q row.waiting (subst (λ (o : Option Queued). All (WaitsWithTask script (k + 1)) (queued_in (record row { current = o }))) is f.begin);
+    behind = behind_waits script (k + 1) row f.alone f.begin;
+  };
   many = from.0;
   requests = same;
 }

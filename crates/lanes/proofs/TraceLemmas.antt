@@ -70,14 +70,14 @@ pub lane_event : {D : Type 0} → (lane : ℕ) (old new : WorldValue D) (before 
 lane_event {D} lane old new before after first second some works sound = (
   record {
     goes = λ start script run steps failed began world. let g = works_on (lane - 1) old then before after first second w sound start script run steps failed began world in (
-          g.added,
-          g.more,
-          g.broke,
-          g.lane_is ∙ lane_is,
-          g.moment_is,
-          same_world (λ v. IsWorldOf start script (and_then run g.added) (steps ++ g.more) g.broke began after second v) new (old.turns ++ turn_of lane false ∷ []) old.finished (sym works.turns_are) (sym works.finished_is)
-              (g.is old.finished (old.turns ++ turn_of lane false ∷ []) (trace start script run steps failed began world g)),
-        );
+      g.added,
+      g.more,
+      g.broke,
+      g.lane_is ∙ lane_is,
+      g.moment_is,
+      same_world (λ v. IsWorldOf start script (and_then run g.added) (steps ++ g.more) g.broke began after second v) new (old.turns ++ turn_of lane false ∷ []) old.finished (sym works.turns_are) (sym works.finished_is)
+          (g.is old.finished (old.turns ++ turn_of lane false ∷ []) (trace start script run steps failed began world g)),
+    );
     began = works.began_is;
     room = works.room_is;
     finished = works.finished_is;
@@ -128,16 +128,23 @@ as_finished world = record world { finished = true }
 
 -- no event
 pub goes_none : {D : Type 0} → (world : WorldValue D) (history : Option History) (faults : Faults) → GoesOnBy world world history history faults faults
-goes_none world history faults start script run steps failed began is =
-    ([], [], failed, subst (λ (js : List JournalStep). IsWorldOf start script (and_events run []) js failed began history faults world) (sym (append-nil steps))
-        (subst (λ (es : List RunEvent). IsWorldOf start script (record run { events = es }) steps failed began history faults world) (sym (append-nil run.events)) is))
+goes_none world history faults start script run steps failed began is = (
+  [],
+  [],
+  failed,
+  subst (λ (js : List JournalStep). IsWorldOf start script (and_events run []) js failed began history faults world) (sym (append-nil steps))
+      (subst (λ (es : List RunEvent). IsWorldOf start script (record run { events = es }) steps failed began history faults world) (sym (append-nil run.events)) is),
+)
 
 -- one event more
 pub goes_more : {D : Type 0} → (k : ℕ) (old mid new : WorldValue D) (before then after : Option History) (first next second : Faults) → GoesOnBy (as_finished old) (as_finished mid) before then first next → Works k mid new then after next second → IsSound then mid → GoesOnBy (as_finished old) (as_finished new) before after first second
-goes_more {D} k old mid new before then after first next second so_far w sound start script run steps failed began is =
-    (s.0 ++ g.added ∷ [], s.1 ++ g.more, g.broke,
-      subst (λ (js : List JournalStep). IsWorldOf start script (and_events run (s.0 ++ g.added ∷ [])) js g.broke began after second (as_finished new)) (append_assoc steps s.1 g.more)
-          (subst (λ (es : List RunEvent). IsWorldOf start script (record run { events = es }) ((steps ++ s.1) ++ g.more) g.broke began after second (as_finished new)) (append_assoc run.events s.0 (g.added ∷ [])) finished))
+goes_more {D} k old mid new before then after first next second so_far w sound start script run steps failed began is = (
+  s.0 ++ g.added ∷ [],
+  s.1 ++ g.more,
+  g.broke,
+  subst (λ (js : List JournalStep). IsWorldOf start script (and_events run (s.0 ++ g.added ∷ [])) js g.broke began after second (as_finished new)) (append_assoc steps s.1 g.more)
+      (subst (λ (es : List RunEvent). IsWorldOf start script (record run { events = es }) ((steps ++ s.1) ++ g.more) g.broke began after second (as_finished new)) (append_assoc run.events s.0 (g.added ∷ [])) finished),
+)
   where
     s : (added : List RunEvent) × (more : List JournalStep) × (broke : Broken) × IsWorldOf start script (and_events run added) (steps ++ more) broke began then next (as_finished mid)
     s = so_far start script run steps failed began is

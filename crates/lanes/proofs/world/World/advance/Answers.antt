@@ -17,7 +17,7 @@ returns-then-idle-clause-idle g c = λ is.
     let there : slice_get c.self.inside.lanes.items (c.args.lane - 1) ≡ Some c.index.result.now = slice_get-get_or c.self.inside.lanes.items (c.args.lane - 1) c.index.result.now (omega (arith, low, high)) ∙ ap (λ (r : LaneRow). Some r) (sym c.index.ensures) in
     let ok : is_ok c.push.result ≡ true = c.is_err.ensures.negation ∙ ap not c.if-is_err.false in
     let pushed : c.push.new.self.items ≡ c.self.inside.turns.items ++ turn_of c.args.lane c.is_idle-idle.result ∷ [] =
-        c.push.ensures.items ∙ ap (λ (b : Bool). if b then c.self.inside.turns.items ++ turn_of c.args.lane c.is_idle-idle.result ∷ [] else c.self.inside.turns.items) ok in
+    c.push.ensures.items ∙ ap (λ (b : Bool). if b then c.self.inside.turns.items ++ turn_of c.args.lane c.is_idle-idle.result ∷ [] else c.self.inside.turns.items) ok in
     let none = c.is_idle-idle.ensures.idle c.if-idle.true in
     let turns_are = pushed ∙ ap (λ (b : Bool). c.self.inside.turns.items ++ turn_of c.args.lane b ∷ []) c.if-idle.true in
     idle_turn c.args.lane (record { store = c.self.inside.store; rows = c.self.inside.lanes.items; replies = c.self.inside.replies.items; replied = c.self.inside.replied.items; journal = c.self.inside.journal.items; broken = c.self.inside.broken.items; began = c.self.inside.began; turns = c.self.inside.turns.items; turn_room = c.self.inside.turn_room; finished = c.self.inside.finished }) c.args.self.now c.push.new.self.items c.self.view_is turns_are (c.index.result.now, there, none.0, none.1)
@@ -33,6 +33,6 @@ pub returns-clause-worked : goal.returns-clause-worked
 returns-clause-worked g c = λ is.
     let ok : is_ok c.push.result ≡ true = c.is_err.ensures.negation ∙ ap not c.if-is_err.false in
     let pushed : c.push.new.self.items ≡ c.self.inside.turns.items ++ turn_of c.args.lane c.is_idle-idle.result ∷ [] =
-        c.push.ensures.items ∙ ap (λ (b : Bool). if b then c.self.inside.turns.items ++ turn_of c.args.lane c.is_idle-idle.result ∷ [] else c.self.inside.turns.items) ok in
+    c.push.ensures.items ∙ ap (λ (b : Bool). if b then c.self.inside.turns.items ++ turn_of c.args.lane c.is_idle-idle.result ∷ [] else c.self.inside.turns.items) ok in
     let turns_are = pushed ∙ ap (λ (b : Bool). c.self.inside.turns.items ++ turn_of c.args.lane b ∷ []) c.if-idle.false in
     lane_turn g.D.Disk.history g.D.Disk.faults c.args.lane (record { store = c.self.inside.store; rows = c.self.inside.lanes.items; replies = c.self.inside.replies.items; replied = c.self.inside.replied.items; journal = c.self.inside.journal.items; broken = c.self.inside.broken.items; began = c.self.inside.began; turns = c.self.inside.turns.items; turn_room = c.self.inside.turn_room; finished = c.self.inside.finished }) c.args.self.now c.work.new.self c.push.new.self.items c.self.view_is turns_are c.requires.lane.0 c.self.invariant.0 c.work.ensures.works

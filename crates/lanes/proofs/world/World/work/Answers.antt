@@ -59,27 +59,27 @@ returns-clause-works g c =
     let broken_many = c.self.invariant.6 in
     let broken_room = c.self.invariant.7 in
     works_from g.D.Disk.history g.D.Disk.faults (c.args.lane - 1) (record { store = c.self.inside.store; rows = c.self.inside.lanes.items; replies = c.self.inside.replies.items; replied = c.self.inside.replied.items; journal = c.self.inside.journal.items; broken = c.self.inside.broken.items; began = c.self.inside.began; turns = c.self.inside.turns.items; turn_room = c.self.inside.turn_room; finished = c.self.inside.finished }) c.args.self.now (record { store = c.advance.new.store; rows = slice_set c.self.inside.lanes.items (c.args.lane - 1) c.advance.new.self; replies = c.keep_reply.new.replies.items; replied = c.keep_count.new.counts.items; journal = c.keep_step.new.journal.items; broken = c.keep_broken.new.broken.items; began = c.self.inside.began; turns = c.self.inside.turns.items; turn_room = c.self.inside.turn_room; finished = c.self.inside.finished }) c.self.view_is (record {
-          row = c.index_mut.result.now;
-          now = c.advance.new.self;
-          event = c.in-Some.event;
-          there = there;
-          goes = c.in-Some.ensures.some;
-          rows_are = refl;
-          replies_are = c.keep_reply.ensures.replies;
-          replied_are = c.keep_count.ensures.counts;
-          earlier = c.moment-earlier.result;
-          earlier_is = c.moment-earlier.ensures;
-          later = c.moment-later.result;
-          later_is = c.moment-later.ensures;
-          unmade_is = λ none. c.keep_step.ensures.none (step ∙ none);
-          journal_is = λ short. c.keep_step.ensures.some (omega (arith, short, journal_many, journal_room)) ∙ ap (λ (es : List _). c.self.inside.journal.items ++ es) step;
-          unbroken_is = λ none. c.keep_broken.ensures.none (broke ∙ none);
-          broken_is = λ short. c.keep_broken.ensures.some (omega (arith, short, broken_many, broken_room)) ∙ ap (λ (es : List _). c.self.inside.broken.items ++ es) broke;
-          began_is = refl;
-          turns_are = refl;
-          room_is = refl;
-          finished_is = refl;
-        })
+      row = c.index_mut.result.now;
+      now = c.advance.new.self;
+      event = c.in-Some.event;
+      there = there;
+      goes = c.in-Some.ensures.some;
+      rows_are = refl;
+      replies_are = c.keep_reply.ensures.replies;
+      replied_are = c.keep_count.ensures.counts;
+      earlier = c.moment-earlier.result;
+      earlier_is = c.moment-earlier.ensures;
+      later = c.moment-later.result;
+      later_is = c.moment-later.ensures;
+      unmade_is = λ none. c.keep_step.ensures.none (step ∙ none);
+      journal_is = λ short. c.keep_step.ensures.some (omega (arith, short, journal_many, journal_room)) ∙ ap (λ (es : List _). c.self.inside.journal.items ++ es) step;
+      unbroken_is = λ none. c.keep_broken.ensures.none (broke ∙ none);
+      broken_is = λ short. c.keep_broken.ensures.some (omega (arith, short, broken_many, broken_room)) ∙ ap (λ (es : List _). c.self.inside.broken.items ++ es) broke;
+      began_is = refl;
+      turns_are = refl;
+      room_is = refl;
+      finished_is = refl;
+    })
 
 pub returns-clause-left : goal.returns-clause-left
 returns-clause-left g c =
@@ -95,27 +95,27 @@ returns-clause-left g c =
     let broken_many = c.self.invariant.6 in
     let broken_room = c.self.invariant.7 in
     let w : Works (c.args.lane - 1) (record { store = c.self.inside.store; rows = c.self.inside.lanes.items; replies = c.self.inside.replies.items; replied = c.self.inside.replied.items; journal = c.self.inside.journal.items; broken = c.self.inside.broken.items; began = c.self.inside.began; turns = c.self.inside.turns.items; turn_room = c.self.inside.turn_room; finished = c.self.inside.finished }) (record { store = c.advance.new.store; rows = slice_set c.self.inside.lanes.items (c.args.lane - 1) c.advance.new.self; replies = c.keep_reply.new.replies.items; replied = c.keep_count.new.counts.items; journal = c.keep_step.new.journal.items; broken = c.keep_broken.new.broken.items; began = c.self.inside.began; turns = c.self.inside.turns.items; turn_room = c.self.inside.turn_room; finished = c.self.inside.finished }) (g.D.Disk.history c.self.inside.store.disk) (g.D.Disk.history c.advance.new.store.disk) (g.D.Disk.faults c.self.inside.store.disk) (g.D.Disk.faults c.advance.new.store.disk) = record {
-          row = c.index_mut.result.now;
-          now = c.advance.new.self;
-          event = c.in-Some.event;
-          there = there;
-          goes = c.in-Some.ensures.some;
-          rows_are = refl;
-          replies_are = c.keep_reply.ensures.replies;
-          replied_are = c.keep_count.ensures.counts;
-          earlier = c.moment-earlier.result;
-          earlier_is = c.moment-earlier.ensures;
-          later = c.moment-later.result;
-          later_is = c.moment-later.ensures;
-          unmade_is = λ none. c.keep_step.ensures.none (step ∙ none);
-          journal_is = λ short. c.keep_step.ensures.some (omega (arith, short, journal_many, journal_room)) ∙ ap (λ (es : List _). c.self.inside.journal.items ++ es) step;
-          unbroken_is = λ none. c.keep_broken.ensures.none (broke ∙ none);
-          broken_is = λ short. c.keep_broken.ensures.some (omega (arith, short, broken_many, broken_room)) ∙ ap (λ (es : List _). c.self.inside.broken.items ++ es) broke;
-          began_is = refl;
-          turns_are = refl;
-          room_is = refl;
-          finished_is = refl;
-        } in
+      row = c.index_mut.result.now;
+      now = c.advance.new.self;
+      event = c.in-Some.event;
+      there = there;
+      goes = c.in-Some.ensures.some;
+      rows_are = refl;
+      replies_are = c.keep_reply.ensures.replies;
+      replied_are = c.keep_count.ensures.counts;
+      earlier = c.moment-earlier.result;
+      earlier_is = c.moment-earlier.ensures;
+      later = c.moment-later.result;
+      later_is = c.moment-later.ensures;
+      unmade_is = λ none. c.keep_step.ensures.none (step ∙ none);
+      journal_is = λ short. c.keep_step.ensures.some (omega (arith, short, journal_many, journal_room)) ∙ ap (λ (es : List _). c.self.inside.journal.items ++ es) step;
+      unbroken_is = λ none. c.keep_broken.ensures.none (broke ∙ none);
+      broken_is = λ short. c.keep_broken.ensures.some (omega (arith, short, broken_many, broken_room)) ∙ ap (λ (es : List _). c.self.inside.broken.items ++ es) broke;
+      began_is = refl;
+      turns_are = refl;
+      room_is = refl;
+      finished_is = refl;
+    } in
     subst (λ (v : WorldValue _). world_left (record { store = c.advance.new.store; rows = slice_set c.self.inside.lanes.items (c.args.lane - 1) c.advance.new.self; replies = c.keep_reply.new.replies.items; replied = c.keep_count.new.counts.items; journal = c.keep_step.new.journal.items; broken = c.keep_broken.new.broken.items; began = c.self.inside.began; turns = c.self.inside.turns.items; turn_room = c.self.inside.turn_room; finished = c.self.inside.finished }) < world_left v) c.self.view_is (left_falls (c.args.lane - 1) _ _ _ _ _ _ w c.self.invariant.0)
 
 pub invariant_of-self-2 : goal.invariant_of-self-2
@@ -132,27 +132,27 @@ invariant_of-self-2 g c =
     let broken_many = c.self.invariant.6 in
     let broken_room = c.self.invariant.7 in
     let w : Works (c.args.lane - 1) (record { store = c.self.inside.store; rows = c.self.inside.lanes.items; replies = c.self.inside.replies.items; replied = c.self.inside.replied.items; journal = c.self.inside.journal.items; broken = c.self.inside.broken.items; began = c.self.inside.began; turns = c.self.inside.turns.items; turn_room = c.self.inside.turn_room; finished = c.self.inside.finished }) (record { store = c.advance.new.store; rows = slice_set c.self.inside.lanes.items (c.args.lane - 1) c.advance.new.self; replies = c.keep_reply.new.replies.items; replied = c.keep_count.new.counts.items; journal = c.keep_step.new.journal.items; broken = c.keep_broken.new.broken.items; began = c.self.inside.began; turns = c.self.inside.turns.items; turn_room = c.self.inside.turn_room; finished = c.self.inside.finished }) (g.D.Disk.history c.self.inside.store.disk) (g.D.Disk.history c.advance.new.store.disk) (g.D.Disk.faults c.self.inside.store.disk) (g.D.Disk.faults c.advance.new.store.disk) = record {
-          row = c.index_mut.result.now;
-          now = c.advance.new.self;
-          event = c.in-Some.event;
-          there = there;
-          goes = c.in-Some.ensures.some;
-          rows_are = refl;
-          replies_are = c.keep_reply.ensures.replies;
-          replied_are = c.keep_count.ensures.counts;
-          earlier = c.moment-earlier.result;
-          earlier_is = c.moment-earlier.ensures;
-          later = c.moment-later.result;
-          later_is = c.moment-later.ensures;
-          unmade_is = λ none. c.keep_step.ensures.none (step ∙ none);
-          journal_is = λ short. c.keep_step.ensures.some (omega (arith, short, journal_many, journal_room)) ∙ ap (λ (es : List _). c.self.inside.journal.items ++ es) step;
-          unbroken_is = λ none. c.keep_broken.ensures.none (broke ∙ none);
-          broken_is = λ short. c.keep_broken.ensures.some (omega (arith, short, broken_many, broken_room)) ∙ ap (λ (es : List _). c.self.inside.broken.items ++ es) broke;
-          began_is = refl;
-          turns_are = refl;
-          room_is = refl;
-          finished_is = refl;
-        } in
+      row = c.index_mut.result.now;
+      now = c.advance.new.self;
+      event = c.in-Some.event;
+      there = there;
+      goes = c.in-Some.ensures.some;
+      rows_are = refl;
+      replies_are = c.keep_reply.ensures.replies;
+      replied_are = c.keep_count.ensures.counts;
+      earlier = c.moment-earlier.result;
+      earlier_is = c.moment-earlier.ensures;
+      later = c.moment-later.result;
+      later_is = c.moment-later.ensures;
+      unmade_is = λ none. c.keep_step.ensures.none (step ∙ none);
+      journal_is = λ short. c.keep_step.ensures.some (omega (arith, short, journal_many, journal_room)) ∙ ap (λ (es : List _). c.self.inside.journal.items ++ es) step;
+      unbroken_is = λ none. c.keep_broken.ensures.none (broke ∙ none);
+      broken_is = λ short. c.keep_broken.ensures.some (omega (arith, short, broken_many, broken_room)) ∙ ap (λ (es : List _). c.self.inside.broken.items ++ es) broke;
+      began_is = refl;
+      turns_are = refl;
+      room_is = refl;
+      finished_is = refl;
+    } in
     let replies_are = replies_many (ended_by c.in-Some.event.ended) c.in-Some.event.place c.self.inside.replies.items in
     let replies_is : length c.keep_reply.new.replies.items ≡ length c.self.inside.replies.items = ap (λ (rs : List (Option Reply)). length rs) c.keep_reply.ensures.replies ∙ replies_are in
     let replied_are = replied_many (ended_by c.in-Some.event.ended) (c.args.lane - 1) c.self.inside.replied.items in
