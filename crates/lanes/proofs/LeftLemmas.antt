@@ -19,7 +19,7 @@ use Rattle.lane_tasks.specs.declared.task.Task.{Task}
 use Rattle.lane_tasks.proofs.StandLemmas.{begins_ready}
 use Rattle.lane_tasks.proofs.WorkLemmas.{work_stays}
 use Rattle.lanes.specs.Rows.{LaneRow, after_event, lane_value, lanes_of}
-use Rattle.lanes.specs.Worlds.{BeginsSome, IsSound, Works, WorldValue, left_in, queued_in, world_left}
+use Rattle.lanes.specs.Worlds.{BeginsSome, IsSoundWorld, Works, WorldValue, left_in, queued_in, world_left}
 use Rattle.lanes.specs.declared.lane.Queued.{Queued}
 use Rattle.lanes.proofs.GoingLemmas.{more_by, value_at}
 use Rattle.lanes.proofs.SoundLemmas.{ran_then}
@@ -92,7 +92,7 @@ lane_done given first (next ∷ rest) store = refl
 
 -- ---- all
 
-pub left_falls : {D : Type 0} → (k : ℕ) (old new : WorldValue D) (before after : Option History) (first second : Faults) → Works k old new before after first second → IsSound before old → world_left new < world_left old
+pub left_falls : {D : Type 0} → (k : ℕ) (old new : WorldValue D) (before after : Option History) (first second : Faults) → Works k old new before after first second → IsSoundWorld before old → world_left new < world_left old
 left_falls {D} k old new before after first second w s = by_stop new.store.stopped refl
   where
     many : WorldValue D → ℕ

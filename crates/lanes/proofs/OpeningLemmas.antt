@@ -27,7 +27,7 @@ use Rattle.lane_tasks.specs.declared.task.Task.{Task}
 use Rattle.lane_tasks.proofs.StandLemmas.{begins_ready, begins_unclaimed}
 use Rattle.lanes.specs.Rows.{LaneRow, lane_value, lanes_of}
 use Rattle.lanes.specs.Going.{IsGoing}
-use Rattle.lanes.specs.Worlds.{AreCounted, AreFreshParts, ArePartsOf, BeginsSome, IsBegun, IsSound, IsWorldOf, PartsValue, WorldValue, queued_in, replied_in, turns_for}
+use Rattle.lanes.specs.Worlds.{AreCounted, AreFreshParts, ArePartsOf, BeginsSome, IsFreshWorld, IsSoundWorld, IsWorldOf, PartsValue, WorldValue, queued_in, replied_in, turns_for}
 use Rattle.lanes.proofs.PartsLemmas.{no_reply, replicated}
 use Rattle.lanes.specs.declared.lane.Queued.{Queued}
 use Rattle.lanes.proofs.BeginLemmas.{none_in_all, row_of}
@@ -75,7 +75,7 @@ lane_ready {D} row store history all task has = by_current row.current refl
 
 pub fresh_sound : {D : Type 0} → (store : StoreValue D) (rows : List LaneRow) (replies : List (Option Reply)) (replied : List ℕ) (journal broken : List JournalEntry) (moment : ℕ) (turns : List LaneTurn) (turn_room : ℕ) (history : Option History)
     → HasNoTask store → length rows ≤ 64 → AreFreshParts (record { rows = rows; requests = length replies }) → length replied ≡ length rows → turn_room ≡ turns_for (length replies) (length rows) → moment < 2 ^ 64
-    → IsSound history (record { store = store; rows = rows; replies = replies; replied = replied; journal = journal; broken = broken; began = moment; turns = turns; turn_room = turn_room; finished = false })
+    → IsSoundWorld history (record { store = store; rows = rows; replies = replies; replied = replied; journal = journal; broken = broken; began = moment; turns = turns; turn_room = turn_room; finished = false })
 fresh_sound store rows replies replied journal broken moment turns turn_room history none few fresh many room small = record {
   few = few;
   waiting = λ k row there. behind_begin row (fresh.alone k row there) (fresh.begin k row there);
@@ -109,7 +109,7 @@ count_none lane (suc n) (asked ∷ script) = by_test (asked.0 == lane) (count_no
 zeros_count : (script : Requests) (n lanes : ℕ) → AreCounted script (replicate n no_reply) (replicate lanes 0)
 zeros_count script n lanes k count there = replicated lanes k 0 count there ∙ sym (count_none (k + 1) n script)
 
-pub world_begins : {D : Type 0} → (start : Lists) (script : Requests) (run : Run) (began : Seen) (lanes : ℕ) (parts : PartsValue) (store : StoreValue D) (history : Option History) (faults : Faults) (world : WorldValue D) → IsBegun store parts history world → ArePartsOf script lanes parts → run.events ≡ []
+pub world_begins : {D : Type 0} → (start : Lists) (script : Requests) (run : Run) (began : Seen) (lanes : ℕ) (parts : PartsValue) (store : StoreValue D) (history : Option History) (faults : Faults) (world : WorldValue D) → IsFreshWorld store parts history world → ArePartsOf script lanes parts → run.events ≡ []
     → IsGoing start script run [] no_broken (unreplied script) began store history faults parts.rows → IsWorldOf start script run [] no_broken began history faults world
 world_begins {D} start script run began lanes parts store history faults world is of empty going = subst (λ (w : WorldValue D). IsWorldOf start script run [] no_broken began history faults w) (sym is.2) (record {
   going = subst (λ (rs : List (Option Reply)). IsGoing start script run [] no_broken rs began store history faults parts.rows) (sym replies) going;

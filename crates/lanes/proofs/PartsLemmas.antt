@@ -15,7 +15,7 @@ use Rattle.serving.proofs.ServingLemmas.{all_at}
 use Rattle.lane_tasks.specs.Tasks.{BeginsTask}
 use Rattle.lanes.specs.Going.{AreFreshRows, IsFreshRow, WaitsWithTask}
 use Rattle.lanes.specs.Rows.{LaneRow, queue_in}
-use Rattle.lanes.specs.Worlds.{AreFreshParts, AreGiven, AreOfLanes, ArePartsOf, AreRowsFrom, BeginsSome, IsGiven, IsRowFrom, empty_row, queued_in}
+use Rattle.lanes.specs.Worlds.{AreFreshParts, AreGiven, AreOfLanes, ArePartsOf, AreRowsFrom, BeginsSome, HasItsMessage, IsRowFrom, empty_row, queued_in}
 use Rattle.lanes.specs.declared.lane.Queued.{Queued}
 
 -- ---- lists
@@ -49,7 +49,7 @@ pub some_given : (requests : Requests) (q : ℕ × Request) → AreGiven (reques
 some_given [] q are = are
 some_given (a ∷ requests) q are = are
 
-pub given_last : (requests : Requests) (q : ℕ × Request) (given : List (Option Prepared)) (x : Option Prepared) → AreGiven (requests ++ q ∷ []) (given ++ x ∷ []) → AreGiven requests given × IsGiven q.1 x
+pub given_last : (requests : Requests) (q : ℕ × Request) (given : List (Option Prepared)) (x : Option Prepared) → AreGiven (requests ++ q ∷ []) (given ++ x ∷ []) → AreGiven requests given × HasItsMessage q.1 x
 given_last [] q [] x are = (tt, are.0)
 given_last [] q (g ∷ given) x are = absurd (none_given given x are.1)
 given_last (a ∷ requests) q [] x are = absurd (some_given requests q are.1)

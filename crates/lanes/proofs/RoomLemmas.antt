@@ -12,11 +12,11 @@ use Rattle.lane_tasks.specs.Tasks.{IsReadyTask, claims_at}
 use Rattle.lane_tasks.specs.declared.task.Task.{Task}
 use Rattle.lane_tasks.proofs.RoomLemmas.{room_left, task_claims_few}
 use Rattle.lanes.specs.Rows.{IsReadyRow, LaneRow, lane_value, lanes_of}
-use Rattle.lanes.specs.Worlds.{IsSound, WorldValue}
+use Rattle.lanes.specs.Worlds.{IsSoundWorld, WorldValue}
 use Rattle.lanes.specs.declared.lane.Queued.{Queued}
 use Rattle.lanes.proofs.GoingLemmas.{value_at}
 
-pub row_ready : {D : Type 0} → (k : ℕ) (row : LaneRow) (world : WorldValue D) (history : Option History) → IsSound history world → slice_get world.rows k ≡ Some row → world.store.stopped ≡ false → IsReadyRow row world.store history
+pub row_ready : {D : Type 0} → (k : ℕ) (row : LaneRow) (world : WorldValue D) (history : Option History) → IsSoundWorld history world → slice_get world.rows k ≡ Some row → world.store.stopped ≡ false → IsReadyRow row world.store history
 row_ready k row world history s there runs queued is = (s.accounts runs).ready k (lane_value row) (value_at world.rows k row there) queued.task (ap (option_map (λ (q : Queued). q.task)) is)
 
 lane_few : {D : Type 0} → (value : LaneValue Task) (store : StoreValue D) (history : Option History) → IsReadyLane IsReadyTask value store history → ClaimsFew (lane_claims claims_at value)
@@ -34,6 +34,6 @@ as_many : (rows : List LaneRow) → length (map (lane_claims claims_at) (lanes_o
 as_many [] = refl
 as_many (a ∷ rows) = let h = as_many rows in omega (arith, h)
 
-pub has_room : {D : Type 0} → (world : WorldValue D) (history : Option History) → IsSound history world → world.store.stopped ≡ false → HasTaskRoom world.store
+pub has_room : {D : Type 0} → (world : WorldValue D) (history : Option History) → IsSoundWorld history world → world.store.stopped ≡ false → HasTaskRoom world.store
 has_room world history s runs =
     room_left world.store (map (lane_claims claims_at) (lanes_of world.rows)) (s.accounts runs).adds_up (let n = as_many world.rows in let f = s.few in omega (arith, n, f)) (all_few (lanes_of world.rows) world.store history (s.accounts runs).ready) (s.undoomed runs)

@@ -15,7 +15,7 @@ use Rattle.lane_tasks.specs.Tasks.{IsReadyTask, claims_at}
 use Rattle.lane_tasks.specs.declared.task.Task.{Task}
 use Rattle.store_core.specs.Value.{StoreValue}
 use Rattle.lanes.specs.Rows.{LaneRow, RowGoesOn, after_event, lane_value, lanes_of, next_in_turn, queue_in}
-use Rattle.lanes.specs.Worlds.{BeginsSome, IsIdleLane, IsSound, Works, WorldValue, replied_behind}
+use Rattle.lanes.specs.Worlds.{BeginsSome, IsIdleLane, IsSoundWorld, Works, WorldValue, replied_behind}
 use Rattle.lanes.specs.declared.lane.LaneEvent.{LaneEvent}
 use Rattle.lanes.specs.declared.lane.Queued.{Queued}
 use Rattle.lanes.proofs.GoingLemmas.{accounts_row, queue_is, value_at}
@@ -64,7 +64,7 @@ ran_then k old new before after first second w runs = by_test old.store.stopped 
     by_test true is = absurd (let z : true ≡ false = sym (w.goes.goes.halted is) ∙ runs in cc z)
     by_test false is = is
 
-pub sound_on : {D : Type 0} → (k : ℕ) (old new : WorldValue D) (before after : Option History) (first second : Faults) → Works k old new before after first second → IsSound before old → IsSound after new
+pub sound_on : {D : Type 0} → (k : ℕ) (old new : WorldValue D) (before after : Option History) (first second : Faults) → Works k old new before after first second → IsSoundWorld before old → IsSoundWorld after new
 sound_on {D} k old new before after first second w s = record {
   few = let n = rows_many in let f = s.few in omega (arith, n, f);
   waiting = λ j row there. each_set (λ r. All BeginsSome r.waiting) old.rows k w.row w.now w.there (subst (λ (r : LaneRow). All BeginsSome r.waiting) (sym w.goes.now_is) (waiting_after (ended_by w.event.ended) next w.row.waiting begins)) s.waiting j row (ap (λ (rs : List LaneRow). slice_get rs j) (sym w.rows_are) ∙ there);
@@ -98,7 +98,7 @@ sound_on {D} k old new before after first second w s = record {
     as_many = ap length w.replies_are ∙ replies_many (ended_by w.event.ended) w.event.place old.replies
 
 -- the request of an event has a place among the replies
-pub place_within : {D : Type 0} → (k : ℕ) (row now : LaneRow) (event : LaneEvent) (old new : StoreValue D) (before after : Option History) (first second : Faults) (world : WorldValue D) → RowGoesOn row now event old new before after first second → (history : Option History) → IsSound history world → slice_get world.rows k ≡ Some row → event.place < length world.replies
+pub place_within : {D : Type 0} → (k : ℕ) (row now : LaneRow) (event : LaneEvent) (old new : StoreValue D) (before after : Option History) (first second : Faults) (world : WorldValue D) → RowGoesOn row now event old new before after first second → (history : Option History) → IsSoundWorld history world → slice_get world.rows k ≡ Some row → event.place < length world.replies
 place_within k row now event old new before after first second world g history s there =
     let all = subst (λ (ps : List ℕ). All (λ place. place < length world.replies) ps) (queue_is row g.queued g.was) (s.places k row there) in
     let one = All-head (λ (place : ℕ). place < length world.replies) g.queued.place (map (λ (q : Queued). q.place) row.waiting) all in

@@ -13,7 +13,7 @@ use Rattle.serving.proofs.TurnLemmas.{trace_finishing, trace_idle, trace_on}
 use Rattle.task_steps.specs.Step.{Seen}
 use Rattle.lane_tasks.specs.declared.task.Task.{Task}
 use Rattle.lanes.specs.Rows.{LaneRow, lane_value, lanes_of}
-use Rattle.lanes.specs.Worlds.{GoesOnBy, IsIdleLane, IsLaneEvent, IsSound, IsWorldOf, Works, WorldValue, and_events, turn_of}
+use Rattle.lanes.specs.Worlds.{GoesOnBy, IsIdleLane, IsLaneEvent, IsSoundWorld, IsWorldOf, Works, WorldValue, and_events, turn_of}
 use Rattle.lanes.specs.declared.lane.Queued.{Queued}
 use Rattle.lanes.proofs.GoingLemmas.{queue_is, rows_set, value_at}
 use Rattle.lanes.proofs.SoundLemmas.{busy}
@@ -51,7 +51,7 @@ was_busy : {D : Type 0} → (k : ℕ) (old new : WorldValue D) (before after : O
 was_busy k old new before after first second w none = absurd (let z : w.goes.queued.place ∷ map (λ (q : Queued). q.place) w.row.waiting ≡ [] = sym (queue_is w.row w.goes.queued w.goes.was) ∙ none in cc z)
 
 -- a world of which a lane has a request left wasn't finished
-unfinished : {D : Type 0} → (k : ℕ) (old new : WorldValue D) (before after : Option History) (first second : Faults) → Works k old new before after first second → IsSound before old → old.finished ≡ false
+unfinished : {D : Type 0} → (k : ℕ) (old new : WorldValue D) (before after : Option History) (first second : Faults) → Works k old new before after first second → IsSoundWorld before old → old.finished ≡ false
 unfinished k old new before after first second w s = by_test old.finished refl
   where
     by_test : (b : Bool) → old.finished ≡ b → b ≡ false
@@ -65,7 +65,7 @@ same_world : {D : Type 0} → (P : WorldValue D → Type 0) (new : WorldValue D)
 same_world P new turns finished same done p = subst (λ (b : Bool). P (record new { finished = b })) done (subst (λ (ts : List LaneTurn). P (record new { turns = ts; finished = finished })) same p)
 
 -- A turn of a lane that has a request left.
-pub lane_event : {D : Type 0} → (lane : ℕ) (old new : WorldValue D) (before after : Option History) (first second : Faults) → 1 ≤ lane → Works (lane - 1) (record old { turns = old.turns ++ turn_of lane false ∷ [] }) new before after first second → IsSound before old
+pub lane_event : {D : Type 0} → (lane : ℕ) (old new : WorldValue D) (before after : Option History) (first second : Faults) → 1 ≤ lane → Works (lane - 1) (record old { turns = old.turns ++ turn_of lane false ∷ [] }) new before after first second → IsSoundWorld before old
     → IsLaneEvent lane old new before after first second × (new.turns ≡ old.turns ++ turn_of lane false ∷ [])
 lane_event {D} lane old new before after first second some works sound = (
   record {
@@ -108,7 +108,7 @@ lane_event {D} lane old new before after first second some works sound = (
         (subst (λ (b : Bool). IsTraceOf b old.turns run (lanes_of old.rows)) none world.trace))))
 
 -- the same, as the world's own call has it
-pub lane_turn : {D : Type 0} → (H : D → Option History) (F : D → Faults) (lane : ℕ) (was old new : WorldValue D) (turns : List LaneTurn) → was ≡ old → turns ≡ was.turns ++ turn_of lane false ∷ [] → 1 ≤ lane → IsSound (H was.store.disk) was
+pub lane_turn : {D : Type 0} → (H : D → Option History) (F : D → Faults) (lane : ℕ) (was old new : WorldValue D) (turns : List LaneTurn) → was ≡ old → turns ≡ was.turns ++ turn_of lane false ∷ [] → 1 ≤ lane → IsSoundWorld (H was.store.disk) was
     → Works (lane - 1) (record was { turns = turns }) new (H was.store.disk) (H new.store.disk) (F was.store.disk) (F new.store.disk)
     → IsLaneEvent lane old new (H old.store.disk) (H new.store.disk) (F old.store.disk) (F new.store.disk) × (new.turns ≡ old.turns ++ turn_of lane false ∷ [])
 lane_turn H F lane was old new turns same are some sound works =
@@ -137,7 +137,7 @@ goes_none world history faults start script run steps failed began is = (
 )
 
 -- one event more
-pub goes_more : {D : Type 0} → (k : ℕ) (old mid new : WorldValue D) (before then after : Option History) (first next second : Faults) → GoesOnBy (as_finished old) (as_finished mid) before then first next → Works k mid new then after next second → IsSound then mid → GoesOnBy (as_finished old) (as_finished new) before after first second
+pub goes_more : {D : Type 0} → (k : ℕ) (old mid new : WorldValue D) (before then after : Option History) (first next second : Faults) → GoesOnBy (as_finished old) (as_finished mid) before then first next → Works k mid new then after next second → IsSoundWorld then mid → GoesOnBy (as_finished old) (as_finished new) before after first second
 goes_more {D} k old mid new before then after first next second so_far w sound start script run steps failed began is = (
   s.0 ++ g.added ∷ [],
   s.1 ++ g.more,

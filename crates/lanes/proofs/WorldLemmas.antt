@@ -31,7 +31,7 @@ use Rattle.mail_fetch.specs.Task.{seen_in}
 use Rattle.lane_tasks.specs.Tasks.{BeginsTask}
 use Rattle.lanes.specs.Going.{AddsEvent, IsGoing, IsStepOf, halves_told}
 use Rattle.lanes.specs.Rows.{LaneRow, RowGoesOn, after_event, lane_value, lanes_of, queue_in}
-use Rattle.lanes.specs.Worlds.{AreCounted, AreEntriesAt, BeginsSome, IsEntryAt, IsSound, IsWorldOf, Works, WorldValue, entries_broken, entries_made, replied_behind, replied_in}
+use Rattle.lanes.specs.Worlds.{AreCounted, AreEntriesAt, BeginsSome, IsEntryAt, IsSoundWorld, IsWorldOf, Works, WorldValue, entries_broken, entries_made, replied_behind, replied_in}
 use Rattle.lanes.specs.declared.lane.LaneEvent.{LaneEvent}
 use Rattle.lanes.specs.declared.lane.Queued.{Queued}
 use Rattle.lanes.proofs.EntryLemmas.{entries_as_many, entries_join, entries_stay, journal_short, moment_last, moment_stays}
@@ -305,7 +305,7 @@ works_by {D} k old new before after first second w clock few start script run st
         (subst (λ (cs : List ℕ). AreCounted script (replies_behind (ended_by w.event.ended) w.event.place old.replies) cs) (sym w.replied_are)
         (counted_on script old.replies old.replied k w.event.place turn.0 (ended_by w.event.ended) turn.1 turn.2 few world.counts))
 
-pub works_on : {D : Type 0} → (k : ℕ) (old new : WorldValue D) (before after : Option History) (first second : Faults) → Works k old new before after first second → IsSound before old
+pub works_on : {D : Type 0} → (k : ℕ) (old new : WorldValue D) (before after : Option History) (first second : Faults) → Works k old new before after first second → IsSoundWorld before old
     → (start : Lists) (script : Requests) (run : Run) (steps : List JournalStep) (failed : Broken) (began : Seen) → IsWorldOf start script run steps failed began before first old → GoesTo k start script run steps began after second new
 works_on k old new before after first second w sound start script run steps failed began world = works_by k old new before after first second w sound.clock sound.short start script run steps failed began world
 

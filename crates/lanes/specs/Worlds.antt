@@ -119,14 +119,14 @@ abbrev pub AreOfLanes : ℕ → Requests → Type 0
 AreOfLanes lanes script = All (λ asked. (0 < asked.0) × (asked.0 ≤ lanes)) script
 
 -- What a request is given beside: a delivery its message, prepared, of 67,108,864 octets at the most, and every other request nothing.
-abbrev pub IsGiven : Request → Option Prepared → Type 0
-IsGiven (request.Deliver name time octets) (Some prepared) = (length octets ≤ 67108864) × IsPrepared octets prepared
-IsGiven (request.Deliver name time octets) None = ⊥
-IsGiven asked given = HasTask asked × (given ≡ None)
+abbrev pub HasItsMessage : Request → Option Prepared → Type 0
+HasItsMessage (request.Deliver name time octets) (Some prepared) = (length octets ≤ 67108864) × IsPrepared octets prepared
+HasItsMessage (request.Deliver name time octets) None = ⊥
+HasItsMessage asked given = HasTask asked × (given ≡ None)
 
 abbrev pub AreGiven : Requests → List (Option Prepared) → Type 0
 AreGiven [] [] = Unit {0}
-AreGiven (asked ∷ script) (given ∷ more) = IsGiven asked.1 given × AreGiven script more
+AreGiven (asked ∷ script) (given ∷ more) = HasItsMessage asked.1 given × AreGiven script more
 AreGiven script given = ⊥
 
 -- What a world has beside its store: the lanes, each with its requests, and room for what comes of so many.
@@ -186,15 +186,15 @@ world_begun store parts moment = record {
 }
 
 -- A world begins with these parts over a store.
-abbrev pub IsBegun : {D : Type 0} → StoreValue D → PartsValue → Option History → WorldValue D → Type 0
-IsBegun store parts history world = (moment : ℕ) × IsMoment history moment × (world ≡ world_begun store parts moment)
+abbrev pub IsFreshWorld : {D : Type 0} → StoreValue D → PartsValue → Option History → WorldValue D → Type 0
+IsFreshWorld store parts history world = (moment : ℕ) × IsMoment history moment × (world ≡ world_begun store parts moment)
 
 -- ---- what every world keeps
 
 -- Whatever script it is of: it has 64 lanes at the most, the requests that wait begin, and unless the store is stopped, the lanes
 -- account for it and no storage file is doomed. There are 100,000 requests at the most. Each has a place among the replies, each lane its count, and a world that was
 -- finished has no request left.
-pub record IsSound {D : Type 0} (history : Option History) (world : WorldValue D) : Type 0 where
+pub record IsSoundWorld {D : Type 0} (history : Option History) (world : WorldValue D) : Type 0 where
   pub few : length world.rows ≤ 64
   pub waiting : (k : ℕ) (row : LaneRow) → slice_get world.rows k ≡ Some row → All BeginsSome row.waiting
   pub accounts : world.store.stopped ≡ false → LanesAccount claims_at IsReadyTask world.store history (lanes_of world.rows)

@@ -19,7 +19,7 @@ ghost use Rattle.task_steps.specs.Step.{Seen, ShowsSeen, ended_by};
 ghost use Rattle.mail_fetch.specs.Task.{seen_in};
 ghost use Rattle.lanes.specs.Going.{AddsEvent, AreFreshRows, IsGoing};
 ghost use Rattle.lanes.specs.Rows.{LaneRow, RowGoesOn, lanes_of};
-ghost use Rattle.lanes.specs.Worlds.{AreEntriesAt, ArePartsOf, IsBegun, IsWorldOf, PartsValue, WorldValue};
+ghost use Rattle.lanes.specs.Worlds.{AreEntriesAt, ArePartsOf, IsFreshWorld, IsWorldOf, PartsValue, WorldValue};
 ghost use Rattle.lanes.specs.declared.lane.LaneEvent.{LaneEvent};
 
 use disk_model::Disk;
@@ -51,7 +51,7 @@ pub fn lanes_end<D: Disk>()
 /// A world that begins with the parts of a script, over a store that lanes begin to serve it, is one of this script, whenever it was
 /// begun to be seen.
 pub fn worlds_begin<D: Disk>()
-    ensures { (start : Lists) (script : Requests) (run : Run) (began : Seen) (lanes : ℕ) (parts : PartsValue) (store : StoreValue D) (history : Option History) (faults : Faults) (world : WorldValue D) → IsBegun store parts history world → ArePartsOf script lanes parts → run.events ≡ []
+    ensures { (start : Lists) (script : Requests) (run : Run) (began : Seen) (lanes : ℕ) (parts : PartsValue) (store : StoreValue D) (history : Option History) (faults : Faults) (world : WorldValue D) → IsFreshWorld store parts history world → ArePartsOf script lanes parts → run.events ≡ []
         → IsGoing start script run [] no_broken (unreplied script) began store history faults parts.rows → IsWorldOf start script run [] no_broken began history faults world }
 {}
 

@@ -3,7 +3,7 @@ ghost use Rattle.std.specs.Prelude.{◌≡◌, ◌≤◌, ◌++◌, ◌∷◌, [
 ghost use Rattle.mdbox_base.specs.declared.requests.Request.{Request as RequestValue};
 ghost use Rattle.journal.specs.Journal.{Requests};
 ghost use Rattle.lane_tasks.specs.Tasks.{BeginsTask};
-ghost use Rattle.lanes.specs.Worlds.{AreGiven, AreOfLanes, ArePartsOf, AreRowsFrom, IsGiven, empty_row};
+ghost use Rattle.lanes.specs.Worlds.{AreGiven, AreOfLanes, ArePartsOf, AreRowsFrom, HasItsMessage, empty_row};
 
 use crate::lane::{Lane, Queued};
 use crate::turn::Turn;
@@ -94,7 +94,7 @@ fn empty_lanes(alloc: Global, count: u32) -> Result<Vec<Lane>, NoMemory>
 
 /// The task of a request that begins.
 fn task_for(request: Request, given: Option<Prepared>) -> Task
-    requires { IsGiven request given }
+    requires { HasItsMessage request given }
     ensures { BeginsTask request result }
 {
     match request {
@@ -110,7 +110,7 @@ fn task_for(request: Request, given: Option<Prepared>) -> Task
 fn last_given(prepared: &mut Vec<Option<Prepared>>) -> Option<Prepared>
     requires { vec_len prepared.old ≡ length prepared.old.items }
     ensures len { vec_len prepared.new ≡ length prepared.new.items }
-    ensures given { (requests : Requests) (lane : ℕ) (request : RequestValue) → AreGiven (requests ++ (lane, request) ∷ []) prepared.old.items → AreGiven requests prepared.new.items × IsGiven request result }
+    ensures given { (requests : Requests) (lane : ℕ) (request : RequestValue) → AreGiven (requests ++ (lane, request) ∷ []) prepared.old.items → AreGiven requests prepared.new.items × HasItsMessage request result }
 {
     match prepared.pop() {
         Some(given) => given,

@@ -5,7 +5,7 @@ ghost use Rattle.serving.specs.Serving.{AreIdle};
 ghost use Rattle.task_claims.specs.Claims.{HasNoTask};
 ghost use Rattle.task_steps.specs.Step.{ended_by};
 ghost use Rattle.lanes.specs.Rows.{LaneRow, lanes_of};
-ghost use Rattle.lanes.specs.Worlds.{AreGiven, AreOfLanes, ArePartsOf, GoesOnBy, IsBegun, IsIdleLane, IsLaneEvent, IsSound, PartsValue, Works, entries_broken, entries_made, replied_behind, turn_of, world_left};
+ghost use Rattle.lanes.specs.Worlds.{AreGiven, AreOfLanes, ArePartsOf, GoesOnBy, IsFreshWorld, IsIdleLane, IsLaneEvent, IsSoundWorld, PartsValue, Works, entries_broken, entries_made, replied_behind, turn_of, world_left};
 ghost use Rattle.lanes.specs.declared.turn.Turned.TheVariants as turned;
 
 use crate::lane::{Lane, LaneEvent};
@@ -38,14 +38,14 @@ pub struct World<D: Disk> {
 
 impl<D: Disk> Model for World<D> {
     ghost use Rattle.std.specs.Prelude.{◌≡◌, ◌≤◌, ◌*◌, length, vec_len, vec_capacity};
-    ghost use Rattle.lanes.specs.Worlds.{IsSound, WorldValue};
+    ghost use Rattle.lanes.specs.Worlds.{IsSoundWorld, WorldValue};
 
     ghost Value = { WorldValue D };
 
     ghost view = { λ w. record { store = w.store; rows = w.lanes.items; replies = w.replies.items; replied = w.replied.items; journal = w.journal.items; broken = w.broken.items; began = w.began; turns = w.turns.items; turn_room = w.turn_room; finished = w.finished } };
 
     // The lists are as long as their vectors, and there is room for two entries of each request, for 16 broken steps, and for the turns.
-    ghost invariant = { λ w. IsSound (D.history w.store.disk) (record { store = w.store; rows = w.lanes.items; replies = w.replies.items; replied = w.replied.items; journal = w.journal.items; broken = w.broken.items; began = w.began; turns = w.turns.items; turn_room = w.turn_room; finished = w.finished }) × (vec_len w.lanes ≡ length w.lanes.items) × (vec_len w.replies ≡ length w.replies.items) × (vec_len w.replied ≡ length w.replied.items) × (vec_len w.journal ≡ length w.journal.items) × (2 * length w.replies.items ≤ vec_capacity w.journal) × (vec_len w.broken ≡ length w.broken.items) × (16 ≤ vec_capacity w.broken) × (vec_len w.turns ≡ length w.turns.items) × (w.turn_room ≤ vec_capacity w.turns) };
+    ghost invariant = { λ w. IsSoundWorld (D.history w.store.disk) (record { store = w.store; rows = w.lanes.items; replies = w.replies.items; replied = w.replied.items; journal = w.journal.items; broken = w.broken.items; began = w.began; turns = w.turns.items; turn_room = w.turn_room; finished = w.finished }) × (vec_len w.lanes ≡ length w.lanes.items) × (vec_len w.replies ≡ length w.replies.items) × (vec_len w.replied ≡ length w.replied.items) × (vec_len w.journal ≡ length w.journal.items) × (2 * length w.replies.items ≤ vec_capacity w.journal) × (vec_len w.broken ≡ length w.broken.items) × (16 ≤ vec_capacity w.broken) × (vec_len w.turns ≡ length w.turns.items) × (w.turn_room ≤ vec_capacity w.turns) };
 }
 
 /// There is no memory for a world. The store is as it was.
@@ -63,7 +63,7 @@ pub fn world_of<D: Disk>(
     requires few { length script.requests ≤ 100000 }
     requires given { AreGiven script.requests prepared }
     requires unused { HasNoTask store × (store.stopped ≡ false) }
-    ensures ok { IfOk result (λ world. (parts : PartsValue) × ArePartsOf script.requests script.lanes parts × IsBegun store parts (D.history store.disk) world) }
+    ensures ok { IfOk result (λ world. (parts : PartsValue) × ArePartsOf script.requests script.lanes parts × IsFreshWorld store parts (D.history store.disk) world) }
     ensures err { IfErr result (λ refused. refused.store ≡ store) }
 {
     match WorldParts::of(store.alloc(), script, prepared) {
@@ -77,7 +77,7 @@ impl<D: Disk> World<D> {
     pub fn of(store: Store<D>, parts: WorldParts) -> World<D>
         requires lanes { length parts.rows ≤ 64 }
         requires unused { HasNoTask store × (store.stopped ≡ false) }
-        ensures { IsBegun store parts (D.history store.disk) result }
+        ensures { IsFreshWorld store parts (D.history store.disk) result }
     {
         World {
             began: store.moment(),
@@ -95,7 +95,7 @@ impl<D: Disk> World<D> {
 
     /// What every world keeps.
     pub fn known_facts(&self)
-        ensures { IsSound (D.history self.now.store.disk) self.now }
+        ensures { IsSoundWorld (D.history self.now.store.disk) self.now }
     {
         let _store = &self.store;
     }

@@ -28,6 +28,7 @@ use Rattle.store_core.specs.Value.{StoreValue, indexes_of}
 use Rattle.mail_ops.specs.SparedMail.{SparesMail}
 use Rattle.mail_ops.proofs.KeptMailLemmas.{spared_none}
 use Rattle.model_kept.proofs.KeptLemmas.{ReadsImage}
+use Rattle.script_run.proofs.MailStaysLemmas.{opening_keeps}
 use Rattle.script_run.proofs.RunBeginsLemmas.{OpenedNow, before_opening, beginning, opening_begins}
 use Rattle.mdbox_top.specs.Changed.{lists_told, OpensUnchanged, ChangeMoments, AreOneOf, SafeForAmong, MomentsAmong}
 use Rattle.mdbox_top.specs.ChangeEvents.{IsWayTo, ServesAlone, ChangesAlone}
@@ -111,7 +112,7 @@ so_far_on history faults Began Stood Stands request Among left next may told fir
   way = λ lists seen u0.
       let u = so.way lists seen u0 in
       let d = event.does nothing_found nothing_found u.run 1 0 u.said (left lists) u.goes.serves.come (way_shows Stood request lists (left lists) seen from u) u.stands in
-      let v = way_goes_on Stood Stands request lists (left lists) seen from to nothing_found nothing_found how u d.0 (d.1 refl) in
+      let v = way_goes_on Stood Stands request lists (left lists) seen from to nothing_found nothing_found how u d.0 event.reads (d.1 refl) in
       subst (λ (ls : Lists). IsUnderWay Stands request lists seen to ls) (kept u.run u.said d.0.makes.event d.0.makes.answer (left lists) d.0.left u.stands (d.1 refl) d.0.makes.made ∙ told_is lists) v;
 }
   where
@@ -139,7 +140,7 @@ so_far_serves history faults Began Stood Stands request Among tells left may tol
   served = λ lists seen u0.
       let u = so.way lists seen u0 in
       let d = event.does nothing_found nothing_found u.run 1 0 u.said (left lists) u.goes.serves.come (way_shows Stood request lists (left lists) seen from u) u.stands in
-      way_ends Stood request lists (left lists) given seen from to nothing_found nothing_found how t u k refl refl d.0 (λ e. absurd (let z : true ≡ false = sym e ∙ unread in cc z));
+      way_ends Stood request lists (left lists) given seen from to nothing_found nothing_found how t u k refl refl d.0 event.reads (λ e. absurd (let z : true ≡ false = sym e ∙ unread in cc z));
   moments = λ lists at. moments_on Among lists (left lists) (may (left lists)) (history first.disk) (history s.disk) (history t.disk) (within lists) (may_within lists) (so.moments lists at) (event.moments (left lists) (so.settled lists at));
   settled = λ runs lists at. subst (λ (ls : Lists). IsSettledFor ls (history t.disk)) (told_is runs lists) (event.settled runs (left lists) (so.settled lists at));
   mail = spares_then (Unit {0}) (t.stopped ≡ s.stopped) (t.stopped ≡ false) (history first.disk) (history s.disk) (history t.disk) event.reads (λ runs. tt) (λ runs. runs ∙ sym so.running) so.mail event.mail;
@@ -188,7 +189,7 @@ so_far_ends history faults Began Stood Stands request Among change left may told
 pub way_shown : {D : Type 0} → (Stands : Run → ℕ → List Reply → Type 0) (request : Request) (lists : Lists) (old mid : Option History) (began : Faults) (s : StoreValue D) → (o : OpenedNow old mid s) → AreWellFormed lists × ShowLists s.map.boxes (indexes_of s.boxes) lists
     → Stands (beginning s.map o.store.entries) 0 [] → IsUnderWay Stands request lists (before_opening (seen_alone s mid began) old) (seen_alone s mid began) lists
 way_shown Stands request lists old mid began s o shown stands =
-    way_begins Stands request lists s.map o.store.entries (seen_alone s mid began) old (comes old mid began s o) shown o.running o.drawn (o.safe lists) (o.settled_again lists) (opening_begins old mid s o) stands
+    way_begins Stands request lists s.map o.store.entries (seen_alone s mid began) old (comes old mid began s o) shown o.running o.drawn (o.safe lists) (o.settled_again lists) (opening_keeps old mid s.map (indexes_of s.boxes) o.opened o.stays) (opening_begins old mid s o) stands
 
 -- a store that is as it was opened
 pub opens_unchanged : {D : Type 0} → (old mid new : Option History) (s : StoreValue D) → OpenedNow old mid s → new ≡ mid → OpensUnchanged s.map (indexes_of s.boxes) old new

@@ -111,7 +111,7 @@ counts_served lists given old mid began s how w show unfaulted safe =
     let first : Seen = before_opening from old in
     let u : IsUnderWay HasNotBegun request.Counts lists first from lists = way_opens HasNotBegun request.Counts lists old mid began s w.opened show safe (refl, refl) in
     let d = (w.does nothing_found nothing_found u.run 1 0 u.said lists u.goes.serves.come (way_shows HasNotBegun request.Counts lists lists first from u) u.stands).0 in
-    way_ends HasNotBegun request.Counts lists lists given first from from nothing_found nothing_found how s u w.opened.store refl refl d (λ e. absurd (let k : true ≡ false = sym e ∙ unfaulted in cc k))
+    way_ends HasNotBegun request.Counts lists lists given first from from nothing_found nothing_found how s u w.opened.store refl refl d w.opened.reads (λ e. absurd (let k : true ≡ false = sym e ∙ unfaulted in cc k))
 
 -- no call of the disk has failed since the opening
 counts_faults : (given : Reply) (began : Faults) → is_read_fault (Some given) ≡ false → (given ≡ reply.Refused refusal.Stopped → ⊥) → FaultsByReply given began began

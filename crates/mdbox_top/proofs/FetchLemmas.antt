@@ -23,6 +23,7 @@ use Rattle.mdbox_base.specs.declared.replies.Reply.{Reply}
 use Rattle.mdbox_base.specs.declared.replies.Reply.TheVariants as reply
 use Rattle.mdbox_base.specs.declared.requests.Request.{Request}
 use Rattle.mdbox_base.specs.declared.requests.Request.TheVariants as request
+use Rattle.model_kept.proofs.KeptLemmas.{ReadsImage}
 use Rattle.model_lists.specs.Lists.{ListedMessage, Lists}
 use Rattle.model_meaning.specs.BoxMeaning.{LogRow, BoxMeaning, row_at}
 use Rattle.model_meaning.specs.MapMeaning.{MapRecord, record_at}
@@ -53,7 +54,7 @@ use Rattle.mail_fetch.specs.declared.task.FetchStage.{FetchStage}
 use Rattle.mail_fetch.specs.declared.task.FetchStage.TheVariants as stage
 use Rattle.mail_fetch.proofs.AbsentLemmas.{absent_damaged, nothing_damaged}
 use Rattle.mail_fetch.proofs.StageLemmas.{used_only}
-use Rattle.mail_fetch.proofs.StepLemmas.{absent_unsafe, store_is_sound}
+use Rattle.mail_fetch.proofs.StepLemmas.{absent_unstored, safe_fetched, store_is_sound}
 use Rattle.mail_fetch.proofs.PartLemmas.{reads_after, reads_none, reads_of_parts}
 use Rattle.mdbox_top.specs.FetchEvents.{FetchIsAt, TakesMessage, TakesServed}
 use Rattle.mdbox_top.specs.FetchRun.{message_read, IsFetchAnswer}
@@ -178,6 +179,7 @@ at_use first now = record first { disk = now.disk; files = now.files; instances 
 pub record FetchEvent {D : Type 0} (history : D → Option History) (faults : D → Faults) (name : List ℕ) (uid : Uid) (first d e : StoreValue D) (now next : FetchStage) (how : Did) (answer : Progress) : Type 0 where
   pub does : (around after : Around) → FetchSteps around after name uid now next (at_use first d) (at_use first e) (history d.disk) (history e.disk) (faults d.disk) (faults e.disk) how (ended_by answer)
   pub replies : FetchesNext name uid.0 now next answer (at_use first d) (history d.disk) (faults d.disk) (faults e.disk)
+  pub reads : IfTold (history d.disk) ReadsImage
   pub idle : IsIdle (history d.disk) (history e.disk)
   pub fault : NoChangeFault (faults d.disk) (faults e.disk)
   pub unfailed : (HasFailedRead next → ⊥) → NoFault (faults d.disk) (faults e.disk)
@@ -325,8 +327,8 @@ kept_lists : (name : List ℕ) (uid : Uid) (lists : Lists) (began now : Seen) (S
 kept_lists name uid lists began now Stands left e u = subst (λ (ls : Lists). IsUnderWay Stands (request.Fetch name uid) lists began now ls) e u
 
 pub fetching_on : {D : Type 0} → (history : D → Option History) (faults : D → Faults) (name : List ℕ) (uid : Uid) (first : StoreValue D) (d e : StoreValue D) (now next : FetchStage) (how : Did) → first.stopped ≡ false → IsFetching history faults name uid first d now → FetchEvent history faults name uid first d e now next how progress.More
-    → IsFetching history faults name uid first e next
-fetching_on history faults name uid first d e now next how running so event = record {
+    → IsStore (history d.disk) (at_use first d) → IsFetching history faults name uid first e next
+fetching_on history faults name uid first d e now next how running so event k = record {
   idle = idle-then (history first.disk) (history d.disk) (history e.disk) so.idle event.idle;
   counted = faults_on name uid.0 now next (at_use first d) (history d.disk) (faults first.disk) (faults d.disk) (faults e.disk) running so.counted event.replies event.fault event.unfailed;
   knows = knows_on history faults name uid first d e now next running event.idle so.knows event.replies;
@@ -334,9 +336,9 @@ fetching_on history faults name uid first d e now next how running so event = re
       let from : Seen = seen_in (at_use first d) (history d.disk) (faults d.disk) in
       let to : Seen = seen_in (at_use first e) (history e.disk) (faults e.disk) in
       let u = so.served lists seen u0 safe in
-      let s = event.does nothing_found nothing_found u.run 1 0 u.said lists u.goes.serves.come (way_shows (IsAtFetch now from) (request.Fetch name uid) lists lists seen from u) (λ runs. reads_on lists (history first.disk) (history d.disk) so.idle safe) u.stands in
-      let v = way_goes_on (IsAtFetch now from) (IsAtFetch next to) (request.Fetch name uid) lists lists seen from to nothing_found nothing_found how u s.0 (s.1 refl) in
-      kept_lists name uid lists seen to (IsAtFetch next to) s.0.left (fetch_leaves u.run s.0.makes.event name uid lists s.0.left s.0.makes.answer s.0.makes.made) v;
+      let s = event.does nothing_found nothing_found u.run 1 0 u.said lists u.goes.serves.come (way_shows (IsAtFetch now from.stopped from.history) (request.Fetch name uid) lists lists seen from u) (λ runs. safe_fetched now name uid (at_use first d) (history d.disk) lists k running (reads_on lists (history first.disk) (history d.disk) so.idle safe)) u.stands in
+      let v = way_goes_on (IsAtFetch now from.stopped from.history) (IsAtFetch next to.stopped to.history) (request.Fetch name uid) lists lists seen from to nothing_found nothing_found how u s.0 event.reads (s.1 refl) in
+      kept_lists name uid lists seen to (IsAtFetch next to.stopped to.history) s.0.left (fetch_leaves u.run s.0.makes.event name uid lists s.0.left s.0.makes.answer s.0.makes.made) v;
 }
 
 -- ---- the end
@@ -455,8 +457,8 @@ absent_ends history faults name uid first d e given why running so idle k (row, 
       (answer_on row entry (history d.disk) (history e.disk) (damage_at (stored_at row entry)) idle (absent_answer name uid.0 (at_use first d) row entry (history d.disk) k running stored.stored none));
   text = λ lists seen u0 safe.
       let u = so.served lists seen u0 safe in
-      let shows = way_shows (IsAtFetch stage.First (seen_in (at_use first d) (history d.disk) (faults d.disk))) (request.Fetch name uid) lists lists seen (seen_in (at_use first d) (history d.disk) (faults d.disk)) u in
-      absurd (absent_unsafe name uid (at_use first d) (history d.disk) lists why k running (row, entry, stored, none, why_is) shows.1 (reads_on lists (history first.disk) (history d.disk) so.idle safe));
+      let shows = way_shows (IsAtFetch stage.First first.stopped (history d.disk)) (request.Fetch name uid) lists lists seen (seen_in (at_use first d) (history d.disk) (faults d.disk)) u in
+      absurd (absent_unstored name uid (at_use first d) (history d.disk) lists why k running (row, entry, stored, none, why_is) shows.1 (safe_fetched stage.First name uid (at_use first d) (history d.disk) lists k running (reads_on lists (history first.disk) (history d.disk) so.idle safe)));
 }
 
 -- a message that was found
@@ -526,7 +528,7 @@ unpin_faulted from given run (inr u) f =
     let kept = count_kept is_faulted (λ (e : RunEvent). e.request == 0) run.events in
     omega (arith, own, kept)
 
-fault_seen : {D : Type 0} → (name : List ℕ) (uid : ℕ) (now next : FetchStage) (given : Reply) (store : StoreValue D) (old : Option History) (f g : Faults) (seen : Seen) (run : Run) (said : List Reply) → store.stopped ≡ false → DoneNow name uid now next given store old f g → IsAtFetch now seen run 0 said
+fault_seen : {D : Type 0} → (name : List ℕ) (uid : ℕ) (now next : FetchStage) (given : Reply) (store : StoreValue D) (old : Option History) (f g : Faults) (seen : Seen) (run : Run) (said : List Reply) → store.stopped ≡ false → DoneNow name uid now next given store old f g → IsAtFetch now seen.stopped seen.history run 0 said
     → is_read_fault (Some given) ≡ true → 1 ≤ count_by is_faulted run.events
 fault_seen name uid stage.First next given store old f g seen run said running r at fault = absurd ((first_calm name uid next given store running r).0 (read_is given fault))
 fault_seen name uid (stage.Reading region) next given store old f g seen run said running r at fault = absurd (more_done given (sym (r.1 running).0))
@@ -534,13 +536,13 @@ fault_seen name uid (stage.Unpinning from other) next given store old f g seen r
 
 -- it was served
 pub served_ends : {D : Type 0} → (history : D → Option History) (faults : D → Faults) (name : List ℕ) (uid : Uid) (first : StoreValue D) (d e : StoreValue D) (now next : FetchStage) (how : Did) (given : Reply) → first.stopped ≡ false → IsFetching history faults name uid first d now
-    → FetchEvent history faults name uid first d e now next how (progress.Done given) → IsStore (history e.disk) (at_use first e) → TakesServed name uid first (history first.disk) (history e.disk) (faults first.disk) (faults e.disk) given
-served_ends history faults name uid first d e now next how given running so event k = λ lists seen u0 safe.
+    → FetchEvent history faults name uid first d e now next how (progress.Done given) → IsStore (history d.disk) (at_use first d) → IsStore (history e.disk) (at_use first e) → TakesServed name uid first (history first.disk) (history e.disk) (faults first.disk) (faults e.disk) given
+served_ends history faults name uid first d e now next how given running so event before k = λ lists seen u0 safe.
     let from : Seen = seen_in (at_use first d) (history d.disk) (faults d.disk) in
     let to : Seen = seen_in (at_use first e) (history e.disk) (faults e.disk) in
     let u = so.served lists seen u0 safe in
-    let s = event.does nothing_found nothing_found u.run 1 0 u.said lists u.goes.serves.come (way_shows (IsAtFetch now from) (request.Fetch name uid) lists lists seen from u) (λ runs. reads_on lists (history first.disk) (history d.disk) so.idle safe) u.stands in
-    way_ends (IsAtFetch now from) (request.Fetch name uid) lists lists given seen from to nothing_found nothing_found how (at_use first e) u k refl refl s.0
+    let s = event.does nothing_found nothing_found u.run 1 0 u.said lists u.goes.serves.come (way_shows (IsAtFetch now from.stopped from.history) (request.Fetch name uid) lists lists seen from u) (λ runs. safe_fetched now name uid (at_use first d) (history d.disk) lists before running (reads_on lists (history first.disk) (history d.disk) so.idle safe)) u.stands in
+    way_ends (IsAtFetch now from.stopped from.history) (request.Fetch name uid) lists lists given seen from to nothing_found nothing_found how (at_use first e) u k refl refl s.0 event.reads
     (λ fault.
     let one = fault_seen name uid.0 now next given (at_use first d) (history d.disk) (faults d.disk) (faults e.disk) from u.run u.said running event.replies u.stands fault in
     let more = count_front is_faulted u.run.events (s.0.makes.event ∷ []) in
@@ -556,6 +558,7 @@ unpins_undoomed (stage.Reading region) s none = tt
 
 -- What a step of the task says, of the store as it was and as it is.
 pub record StepSaid {D : Type 0} (history : D → Option History) (faults : D → Faults) (s t : StoreValue D) (task next : FetchValue) (answer : Progress) : Type 0 where
+  pub reads : IfTold (history s.disk) ReadsImage
   pub does : (around after : Around) → FetchSteps around after task.name task.uid task.stage next.stage s t (history s.disk) (history t.disk) (faults s.disk) (faults t.disk) next.did (ended_by answer)
   pub alone : FetchesAlone task.name task.uid.0 task.stage next.stage next.did answer s t (history s.disk) (history t.disk) (faults s.disk) (faults t.disk)
 
@@ -581,6 +584,7 @@ event_of {D = D} history faults name uid first s t task next answer names uids s
       subst (λ (n : List ℕ). FetchesNext n uid.0 task.stage next.stage answer (at_use first s) (history s.disk) (faults s.disk) (faults t.disk)) names
       (subst (λ (u : Uid). FetchesNext task.name u.0 task.stage next.stage answer (at_use first s) (history s.disk) (faults s.disk) (faults t.disk)) uids
       (subst (λ (v : StoreValue D). FetchesNext task.name task.uid.0 task.stage next.stage answer v (history s.disk) (faults s.disk) (faults t.disk)) same step.alone.replies));
+  reads = step.reads;
   idle = step.alone.idle;
   fault = step.alone.fault;
   unfailed = step.alone.unfailed;
@@ -622,7 +626,7 @@ said_at_end history faults name uid first d e now next how answer given done run
     record {
       refused = refused_ends history faults name uid first d e now next given running so last.replies;
       found = taken_ends history faults name uid first d e now next given running so last.idle before last.replies;
-      served = served_ends history faults name uid first d e now next how given running so last k;
+      served = served_ends history faults name uid first d e now next how given running so last before k;
       idle = idle-then (history first.disk) (history d.disk) (history e.disk) so.idle last.idle;
       faults_are = faults_end history faults name uid first d e now next given running so last.replies last.fault last.unfailed;
     }

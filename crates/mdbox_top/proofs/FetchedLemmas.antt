@@ -66,8 +66,8 @@ opened_seen old mid began s o = ap (λ (pins : ℕ → ℕ). seen_of pins s mid 
 -- a fetch that has not begun is under way, behind the opening
 fetch_opens : {D : Type 0} → (name : List ℕ) (uid : Uid) (lists : Lists) (old mid : Option History) (began : Faults) (s : StoreValue D) → OpenedNow old mid s → LogsShow → AreSafeFor lists old → FetchIsAt stage.First name uid lists (before_opening (seen_alone s mid began) old) s mid began
 fetch_opens name uid lists old mid began s o show safe =
-    subst (λ (now : Seen). IsUnderWay (IsAtFetch stage.First now) (request.Fetch name uid) lists (before_opening (seen_alone s mid began) old) now lists) (sym (opened_seen old mid began s o))
-    (way_opens (IsAtFetch stage.First (seen_alone s mid began)) (request.Fetch name uid) lists old mid began s o show safe (refl, refl))
+    subst (λ (now : Seen). IsUnderWay (IsAtFetch stage.First s.stopped mid) (request.Fetch name uid) lists (before_opening (seen_alone s mid began) old) now lists) (sym (opened_seen old mid began s o))
+    (way_opens (IsAtFetch stage.First s.stopped mid) (request.Fetch name uid) lists old mid began s o show safe (refl, refl))
 
 -- What is known of a fetch alone: of the opening of the store, and of the events of its task.
 pub record Fetching {D : Type 0} (name : List ℕ) (uid : Uid) (given : Reply) (old mid new : Option History) (began now : Faults) (s t : StoreValue D) : Type 0 where

@@ -58,11 +58,13 @@ pub dumps_apart : AreApart DumpPrints DumpRefuses
 dumps_apart all text (refusal.TooLong n) p r = omega (arith, p.0, r.1)
 dumps_apart all text (refusal.File why) p r = file_not_refused all p.1.0 p.1.1 _ p.1.2 r.1
 dumps_apart all text (refusal.Log place) p r = r
+dumps_apart all text (refusal.Script place) p r = r
 
 pub log_dumps_apart : AreApart LogDumpPrints LogDumpRefuses
 log_dumps_apart all text (refusal.TooLong n) p r = omega (arith, p.0, r.1)
 log_dumps_apart all text (refusal.File why) p r = r
 log_dumps_apart all text (refusal.Log place) p r = log_not_damaged None all p.1.0 p.1.1 place p.1.2 tt r.1
+log_dumps_apart all text (refusal.Script place) p r = r
 
 refused_status : (P : List ℕ → List ℕ → Type 0) (R : List ℕ → InputRefusal → Type 0) (all : List ℕ) (h k : Option (List ℕ)) (o : Outcome) (why : InputRefusal) → AreApart P R → R all why → InputOutcome P R (Some all) h k o → IsOneOf (4 ∷ 5 ∷ 7 ∷ []) (status_of o)
 refused_status P R all h k outcome.Done why apart r e = absurd (apart all e.0 why (subst (λ (input : List ℕ). P input e.0) (sym e.1.1) e.1.2) r)

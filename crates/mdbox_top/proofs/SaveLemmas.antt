@@ -334,7 +334,7 @@ saving_by history faults name time octets prepared first s t now next how so eve
   way = λ lists seen u0.
       let u = so.way lists seen u0 in
       let d = event.does u.run 1 0 u.said lists u.goes.serves.come (way_shows (IsAtSave now) asked lists lists seen from u) (u.stands, λ runs. event.finds u.run u.said (of_one asked lists u.run u.journal u.broken seen from u.goes) u.stands) in
-      let v = way_goes_on (IsAtSave now) (IsAtSave next) asked lists lists seen from to event.around event.after how u d.0 (d.1 refl) in
+      let v = way_goes_on (IsAtSave now) (IsAtSave next) asked lists lists seen from to event.around event.after how u d.0 event.reads (d.1 refl) in
       let was : u.said ≡ [] = said_none now refusal.NoMemory u.run u.said u.stands (known_only history name time octets prepared first s now so.knows) in
       let is : and_told u.said d.0.makes.answer ≡ [] = said_none next refusal.NoMemory (and_then u.run d.0.makes.event) (and_told u.said d.0.makes.answer) (d.1 refl) (known_only history name time octets prepared first t next knows) in
       subst (λ (ls : Lists). IsUnderWay (IsAtSave next) asked lists seen to ls) (none_made u.run asked d.0.makes.event u.said d.0.makes.answer lists d.0.left was is d.0.makes.made) v;
@@ -627,7 +627,7 @@ saving_ended history faults name time octets prepared first s t now next how giv
   served = λ lists seen u0.
       let u = so.way lists seen u0 in
       let d = event.does u.run 1 0 u.said lists u.goes.serves.come (way_shows (IsAtSave now) asked lists lists seen from u) (u.stands, λ runs. event.finds u.run u.said (of_one asked lists u.run u.journal u.broken seen from u.goes) u.stands) in
-      way_ends (IsAtSave now) asked lists lists given seen from to event.around event.after how t u k refl refl d.0 (λ fault. fault_event event.around event.after u.run u.said asked from to how given d.0 fault);
+      way_ends (IsAtSave now) asked lists lists given seen from to event.around event.after how t u k refl refl d.0 event.reads (λ fault. fault_event event.around event.after u.run u.said asked from to how given d.0 fault);
   moments = λ lists at. moments_on (AreAlongSave name time octets) lists lists (save_lists now name octets lists) (history first.disk) (history s.disk) (history t.disk) (inl refl) (along history name time octets prepared first s now so.knows lists) (so.moments lists at) (event.moments lists (so.settled lists at));
   settled = λ runs lists at. subst (λ (ls : Lists). IsSettledFor ls (history t.disk)) (told lists) (event.settled runs lists (so.settled lists at));
   halts = record { 0 = λ e. event.stopped.0 (ap progress.Done e); 1 = λ e. one_done given (reply.Refused refusal.Stopped) (event.stopped.1 e) };

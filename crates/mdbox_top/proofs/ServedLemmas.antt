@@ -35,6 +35,7 @@ use Rattle.mail_ops.specs.Requests.{Replies, AppendsNothing, lists_after, lists_
 use Rattle.mail_ops.specs.Task.{TaskValue, IsAt}
 use Rattle.mail_ops.specs.declared.task.TaskStage.TheVariants as stage
 use Rattle.script_run.specs.Opening.{AreSafeFor, RunBegins, StaysSettled, barred_files}
+use Rattle.script_run.proofs.MailStaysLemmas.{opening_keeps}
 use Rattle.script_run.proofs.RunBeginsLemmas.{OpenedNow, at_opening, before_opening, beginning, first_come, opening_begins}
 use Rattle.mdbox_top.specs.Served.{ServesRequest}
 use Rattle.mdbox_top.specs.UnderWay.{IsUnderWay, seen_alone}
@@ -52,7 +53,7 @@ comes old mid began s o = comes_at_first (beginning s.map o.store.entries) s mid
 pub way_opens : {D : Type 0} → (Stands : Run → ℕ → List Reply → Type 0) (request : Request) (lists : Lists) (old mid : Option History) (began : Faults) (s : StoreValue D) → (o : OpenedNow old mid s) → LogsShow → AreSafeFor lists old → Stands (beginning s.map o.store.entries) 0 []
     → IsUnderWay Stands request lists (before_opening (seen_alone s mid began) old) (seen_alone s mid began) lists
 way_opens Stands request lists old mid began s o show safe stands =
-    way_begins Stands request lists s.map o.store.entries (seen_alone s mid began) old (comes old mid began s o) (opened_shows lists old s o.opened show safe) o.running o.drawn (o.safe lists) (o.settled_again lists) (opening_begins old mid s o) stands
+    way_begins Stands request lists s.map o.store.entries (seen_alone s mid began) old (comes old mid began s o) (opened_shows lists old s o.opened show safe) o.running o.drawn (o.safe lists) (o.settled_again lists) (opening_keeps old mid s.map (indexes_of s.boxes) o.opened o.stays) (opening_begins old mid s o) stands
 
 -- ---- the request
 
@@ -85,7 +86,7 @@ request_served request lists given old mid new began now s t how w show unfaulte
     let first : Seen = before_opening from old in
     let u : IsUnderWay HasNotBegun request lists first from lists = way_opens HasNotBegun request lists old mid began s w.opened show safe (refl, refl) in
     let d = w.did nothing_found nothing_found u.run u.said lists u.goes.serves.come (way_shows HasNotBegun request lists lists first from u) u.stands in
-    way_ends HasNotBegun request lists lists given first from (seen_alone t new now) nothing_found nothing_found how t u w.later refl refl d (λ e. absurd (let k : true ≡ false = sym e ∙ unfaulted in cc k))
+    way_ends HasNotBegun request lists lists given first from (seen_alone t new now) nothing_found nothing_found how t u w.later refl refl d w.opened.reads (λ e. absurd (let k : true ≡ false = sym e ∙ unfaulted in cc k))
 
 -- ---- the step of its task
 

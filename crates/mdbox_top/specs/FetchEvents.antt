@@ -21,7 +21,7 @@ use Rattle.mdbox_top.specs.UnderWay.{IsUnderWay}
 
 -- A fetch alone is under way, at this stage. No event of it changes the lists.
 abbrev pub FetchIsAt : {D : Type 0} → FetchStage → List ℕ → Uid → Lists → Seen → StoreValue D → Option History → Faults → Type 0
-FetchIsAt now name uid lists began store history faults = IsUnderWay (IsAtFetch now (seen_in store history faults)) (request.Fetch name uid) lists began (seen_in store history faults) lists
+FetchIsAt now name uid lists began store history faults = IsUnderWay (IsAtFetch now store.stopped history) (request.Fetch name uid) lists began (seen_in store history faults) lists
 
 -- The message was read, or a read failed, and this was replied: of files that are safe for lists, the octets of the message.
 pub record TakesMessage {D : Type 0} (name : List ℕ) (uid : Uid) (store : StoreValue D) (old new : Option History) (began : Faults) (given : Reply) : Type 0 where

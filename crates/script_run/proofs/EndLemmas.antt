@@ -7,6 +7,7 @@ use Rattle.mdbox_base.specs.declared.replies.Refusal.TheVariants as refusal
 use Rattle.mdbox_base.specs.declared.replies.Reply.{Reply}
 use Rattle.mdbox_base.specs.declared.replies.Reply.TheVariants as reply
 use Rattle.mdbox_base.specs.declared.script.JournalEntry.{JournalEntry}
+use Rattle.model_kept.specs.Kept.{MailIsKept}
 use Rattle.model_lists.specs.Lists.{Lists}
 use Rattle.model_meaning.specs.MapMeaning.{MapMeaning, map_meaning}
 use Rattle.model_store.specs.Opening.{Opens}
@@ -34,9 +35,9 @@ use Rattle.script_run.proofs.ShownLemmas.{opens_again}
 
 -- No event has happened since the opening: of a disk that was settled before it, each crash image since is safe for the lists.
 pub serves_from : (start : Lists) (script : Requests) (run : Run) (replies : List (Option Reply)) (seen : Seen) (old : Option History) → run.events ≡ [] → Serves start script run [] no_broken replies seen seen
-    → (IsSettledFor start old → EachImage (λ _ image. Safe image start) old seen.history) → (IsSettledFor start old → IsSettledFor start seen.history)
+    → (IsSettledFor start old → EachImage (λ _ image. Safe image start) old seen.history) → (IsSettledFor start old → IsSettledFor start seen.history) → MailIsKept seen.map old seen.history
     → Serves start script run [] no_broken replies (before_opening seen old) seen
-serves_from start script run replies seen old empty s safe settled = record {
+serves_from start script run replies seen old empty s safe settled mail = record {
   legal = s.legal;
   begins = s.begins;
   come = s.come;
@@ -50,6 +51,7 @@ serves_from start script run replies seen old empty s safe settled = record {
   stopped_by = s.stopped_by;
   unrefused = s.unrefused;
   settled = λ e at. settled at;
+  mail = λ none. mail;
   reads = s.reads;
   changes = s.changes;
   fell = s.fell;

@@ -30,6 +30,13 @@ needs_opened m n same = record {
   records = subst (λ (rows : List MapRecord). All (IsPlacedIn n) rows) same.records (placed_itself n.records n (λ row own. own));
 }
 
+-- and the other way
+needs_before : (m n : MapMeaning) → MeansSame m n → NeedsAllOf m n
+needs_before m n same = record {
+  sealed = λ number is. ap (λ (sealed : List ℕ). list_any (λ f. f == number) sealed) (sym same.sealed) ∙ is;
+  records = subst (λ (rows : List MapRecord). All (IsPlacedIn m) rows) (sym same.records) (placed_itself m.records m (λ row own. own));
+}
+
 -- ---- over a whole run
 
 -- from the opening on, where they stay for the map that it gave
@@ -42,3 +49,16 @@ stays_from (Some old) mid new m meanings opened reads kept stays = λ store entr
     let needs : NeedsAllOf m (map_meaning store entries) =
     subst (λ (s : List ℕ). NeedsAllOf m (map_meaning s entries)) e.0 (subst (λ (es : List MapEntry). NeedsAllOf m (map_meaning m.store es)) e.1 (needs_opened (map_meaning m.store opened.entries) m opened.means)) in
     kept_then (map_meaning store entries) (Some old) mid new reads (kept store entries logs opens) (kept_for_less m (map_meaning store entries) mid new needs stays)
+
+-- over the opening, for the map that it gave
+pub opening_keeps : (old mid : Option History) (m : MapMeaning) (meanings : List BoxMeaning) → IsOpenedAs old m meanings → KeepsOpenedMail old mid → MailIsKept m old mid
+opening_keeps old mid m meanings opened kept = kept_for_less (map_meaning m.store opened.entries) m old mid (needs_before (map_meaning m.store opened.entries) m opened.means) (kept m.store opened.entries opened.logs opened.opens)
+
+-- over the opening and a run, for whatever map the files open with
+pub run_keeps : (old new : Option History) (m : MapMeaning) (meanings : List BoxMeaning) → IsOpenedAs old m meanings → MailIsKept m old new → KeepsOpenedMail old new
+run_keeps None new m meanings opened stays = λ store entries logs opens. stays
+run_keeps (Some old) new m meanings opened stays = λ store entries logs opens.
+    let e = one_store (files_of old.now) m.store store opened.entries entries opened.logs logs opened.opens opens in
+    let needs : NeedsAllOf m (map_meaning store entries) =
+    subst (λ (s : List ℕ). NeedsAllOf m (map_meaning s entries)) e.0 (subst (λ (es : List MapEntry). NeedsAllOf m (map_meaning m.store es)) e.1 (needs_opened (map_meaning m.store opened.entries) m opened.means)) in
+    kept_for_less m (map_meaning store entries) (Some old) new needs stays

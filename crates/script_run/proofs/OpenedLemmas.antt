@@ -5,7 +5,7 @@ use Rattle.std.specs.Option.{option_map, option_map_or}
 use Rattle.std.specs.Str.{bytes_eq}
 use Rattle.std.proofs.Common.{inl, inr, refl, sym, ◌∙◌, ap, subst, arith}
 use Rattle.std.proofs.lemmas.Grind.{common_steps}
-use Rattle.std.proofs.lemmas.List.Elements.{All-contains, All-head, All-tail}
+use Rattle.std.proofs.lemmas.List.Elements.{All-contains, All-contains_itself, All-head, All-map, All-tail, All-weaker}
 use Rattle.disk_model.specs.Disk.{History}
 use Rattle.mdbox_base.specs.declared.entries.InstRow.{InstRow}
 use Rattle.mdbox_base.specs.declared.ids.InstId.{InstId}
@@ -13,8 +13,8 @@ use Rattle.model_meaning.specs.MapMeaning.{MapRecord, is_sealed, named_instances
 use Rattle.model_octets.proofs.SearchLemmas.{among, both_same, found_one, text_is, text_yes}
 use Rattle.list_machine.specs.Run.{is_one_of}
 use Rattle.journal.specs.Found.{is_same_instance}
-use Rattle.sis_store.proofs.IdLemmas.{same_id}
-use Rattle.sis_store.specs.Instances.{has_id, instance_found, instance_in}
+use Rattle.sis_store.proofs.IdLemmas.{instance-in, same_id}
+use Rattle.sis_store.specs.Instances.{AreInstances, has_id, instance_found, instance_in}
 use Rattle.sis_store.specs.declared.instance.KnownInstance.{KnownInstance}
 use Rattle.storage_files.specs.Files.{AreFilesInOrder, FilesValue, end_in, file_found, file_in, is_doomed_in, pins_in}
 use Rattle.storage_files.specs.declared.file.FileState.{FileState}
@@ -25,6 +25,7 @@ use Rattle.store_files.specs.Barred.{is_barred}
 use Rattle.store_files.specs.Found.{IsMarked, end_found, IsFoundFiles}
 use Rattle.store_files.specs.Regions.{end_of, last_end, region_numbers}
 use Rattle.store_seen.specs.Seeing.{may_be_barred}
+use Rattle.task_claims.specs.Claims.{IsUnusedFile}
 use Rattle.store_instances.specs.FoundInstances.{IsFoundInstances}
 use Rattle.store_sweep.proofs.KnownFileLemmas.{found_in}
 use Rattle.script_run.specs.Opening.{barred_files}
@@ -58,6 +59,12 @@ found_is_told s old f file there = by_seal (is_sealed s.map file) refl
     by_seal false e =
         let some : is_some (last_end s.map file) ≡ true = ap is_some (sym ((f.found.ends file).unsealed e)) ∙ (ap is_some (sym end_is) ∙ there) in
         ap (λ (b : Bool). b || is_sealed s.map file) (unsealed (list_any (λ row. row.file == file) s.map.records) refl some)
+
+-- a file in which a record has its region is there, unless it is sealed
+pub named_is_there : {D : Type 0} → (s : StoreValue D) (old : Option History) → IsFoundFiles s.map old s.files → (file : ℕ) → is_sealed s.map file ≡ false → list_any (λ row. row.file == file) s.map.records ≡ true → knows_file s file ≡ true
+named_is_there s old f file unsealed named =
+    let end_is : end_in file s.files.files ≡ end_found file f.states = ap (λ (v : FilesValue). end_in file v.files) f.is ∙ found_end file f.states in
+    ap is_some (end_is ∙ (f.found.ends file).unsealed unsealed) ∙ ap (λ (b : Bool). is_some (if b then Some (end_of s.map file) else None)) named
 
 same_number : (x y : ℕ) → (x == y) ≡ true → x ≡ y
 same_number x y k = grind (arith, common_steps, k)
@@ -182,3 +189,22 @@ named_known s f row named =
 -- a store that was opened knows what records name
 pub knows_named : {D : Type 0} → (s : StoreValue D) → IsFoundInstances s.map s.instances → (row : InstRow) → knows_instance s row ≡ list_any (is_same_instance row) (named_instances s.map)
 knows_named s f row = both_same (knows_instance s row) (list_any (is_same_instance row) (named_instances s.map)) (known_named s f row) (named_known s f row)
+
+-- ---- nothing is in use
+
+-- no task has taken a file, or pinned one
+pub none_used : {D : Type 0} → (s : StoreValue D) (old : Option History) → IsFoundFiles s.map old s.files → All IsUnusedFile s.files.files
+none_used s old f = subst (λ (v : FilesValue). All IsUnusedFile v.files) (sym f.is)
+    (All-map IsUnusedFile file_found f.states (All-weaker (λ (t : FileState). Contains f.states t) (λ (t : FileState). IsUnusedFile (file_found t)) (λ t own. record { free = record { untaken = refl; unemptied = refl; undoomed = refl }; unplaced = refl; unpinned = refl }) f.states (All-contains_itself f.states)))
+
+-- nobody holds an instance
+pub none_holds : {D : Type 0} → (s : StoreValue D) → AreInstances s.instances → IsFoundInstances s.map s.instances → All (λ k. k.holders ≡ 0) s.instances.known
+none_holds s are f = All-weaker (Contains s.instances.known) (λ (k : KnownInstance). k.holders ≡ 0) (λ k own. unheld k own) s.instances.known (All-contains_itself s.instances.known)
+  where
+    unheld : (k : KnownInstance) → Contains s.instances.known k → k.holders ≡ 0
+    unheld k own =
+        let found : instance_in k.row.id s.instances.known ≡ Some (instance_found k.row) =
+        All-contains (λ (row : InstRow). instance_in row.id s.instances.known ≡ Some (instance_found row)) (named_instances s.map) k.row f.named (All-contains (λ (x : KnownInstance). Contains (named_instances s.map) x.row) s.instances.known k f.only own) in
+        let same : Some k ≡ Some (instance_found k.row) = sym (instance-in s.instances.known k are.rising own) ∙ found in
+        let is : k ≡ instance_found k.row = cc same in
+        ap (λ (x : KnownInstance). x.holders) is

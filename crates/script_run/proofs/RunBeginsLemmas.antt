@@ -27,7 +27,7 @@ use Rattle.store_seen.specs.Seeing.{IsAtOpening}
 use Rattle.store_sweep.specs.Moments.{IdleIf}
 use Rattle.store_sweep.specs.Swept.{IsSwept}
 use Rattle.script_run.specs.Opening.{RunBegins, RunHasCome, StaysSettled, barred_files}
-use Rattle.script_run.proofs.OpenedLemmas.{bars_known, found_is_told, knows_named, none_doomed}
+use Rattle.script_run.proofs.OpenedLemmas.{bars_known, found_is_told, knows_named, named_is_there, none_doomed}
 
 -- ---- the run
 
@@ -80,6 +80,7 @@ at_opening old mid s o = record {
   free = o.free;
   undoomed = λ file. none_doomed s old o.files file;
   told = λ file e. found_is_told s old o.files file e;
+  there = λ file unsealed named. named_is_there s old o.files file unsealed named;
   named = λ instance. knows_named s o.instances instance;
   barred = λ file e. bars_known s old o.order o.files o.store.files.highest file e;
 }

@@ -29,7 +29,7 @@ loop-reply-preserved g c =
     let step = c.step.ensures in
     let runs = runs_on c.args.store.now c.loop-reply.store now.same c.requires.running in
     let event = event_of g.D.Disk.history g.D.Disk.faults c.args.name c.args.uid c.args.store.now c.loop-reply.store c.step.new.store c.loop-reply.task c.step.new.self c.step.result now.name_is now.uid_is now.same
-    (record { does = λ around after. step.does around after (unpins_undoomed c.loop-reply.task.stage c.loop-reply.store now.undoomed); alone = step.alone }) in
+    (record { reads = g.met.D.Disk.reads_image c.loop-reply.store.disk; does = λ around after. step.does around after (λ runs. unpins_undoomed c.loop-reply.task.stage c.loop-reply.store now.undoomed); alone = step.alone }) in
     let same = still_first c.args.store.now c.loop-reply.store c.step.new.store c.loop-reply.task.stage c.step.new.self.stage now.same step.alone.same in
     record {
       name_is = step.request.0 ∙ now.name_is;
@@ -40,7 +40,8 @@ loop-reply-preserved g c =
       room = room_on c.loop-reply.task.name c.loop-reply.task.uid.0 c.loop-reply.task.stage c.step.new.self.stage c.loop-reply.store c.step.new.store (g.D.Disk.history c.loop-reply.store.disk) (g.D.Disk.faults c.loop-reply.store.disk) (g.D.Disk.faults c.step.new.store.disk) runs
           (subst (λ a. FetchesNext c.loop-reply.task.name c.loop-reply.task.uid.0 c.loop-reply.task.stage c.step.new.self.stage a c.loop-reply.store (g.D.Disk.history c.loop-reply.store.disk) (g.D.Disk.faults c.loop-reply.store.disk) (g.D.Disk.faults c.step.new.store.disk)) c.in_default.is step.alone.replies);
       so_far = fetching_on g.D.Disk.history g.D.Disk.faults c.args.name c.args.uid c.args.store.now c.loop-reply.store c.step.new.store c.loop-reply.task.stage c.step.new.self.stage c.step.new.self.did c.requires.running now.so_far
-          (subst (λ a. FetchEvent g.D.Disk.history g.D.Disk.faults c.args.name c.args.uid c.args.store.now c.loop-reply.store c.step.new.store c.loop-reply.task.stage c.step.new.self.stage c.step.new.self.did a) c.in_default.is event);
+          (subst (λ a. FetchEvent g.D.Disk.history g.D.Disk.faults c.args.name c.args.uid c.args.store.now c.loop-reply.store c.step.new.store c.loop-reply.task.stage c.step.new.self.stage c.step.new.self.did a) c.in_default.is event)
+          (subst (λ v. IsStore (g.D.Disk.history c.loop-reply.store.disk) v) now.same c.facts.ensures.store);
     }
 
 pub returns-in-Done-clause-refused : goal.returns-in-Done-clause-refused
@@ -49,7 +50,7 @@ returns-in-Done-clause-refused g c =
     let step = c.step.ensures in
     let same = still_first c.args.store.now c.loop-reply.store c.step.new.store c.loop-reply.task.stage c.step.new.self.stage now.same step.alone.same in
     let event = event_of g.D.Disk.history g.D.Disk.faults c.args.name c.args.uid c.args.store.now c.loop-reply.store c.step.new.store c.loop-reply.task c.step.new.self c.step.result now.name_is now.uid_is now.same
-    (record { does = λ around after. step.does around after (unpins_undoomed c.loop-reply.task.stage c.loop-reply.store now.undoomed); alone = step.alone }) in
+    (record { reads = g.met.D.Disk.reads_image c.loop-reply.store.disk; does = λ around after. step.does around after (λ runs. unpins_undoomed c.loop-reply.task.stage c.loop-reply.store now.undoomed); alone = step.alone }) in
     let said = said_at_end g.D.Disk.history g.D.Disk.faults c.args.name c.args.uid c.args.store.now c.loop-reply.store c.step.new.store c.loop-reply.task.stage c.step.new.self.stage c.step.new.self.did c.step.result c.in-Done.reply c.in-Done.is c.requires.running now.so_far event
     (subst (λ v. IsStore (g.D.Disk.history c.loop-reply.store.disk) v) now.same c.facts.ensures.store) (subst (λ v. IsStore (g.D.Disk.history c.step.new.store.disk) v) same c.facts-in-Done.ensures.store) in
     said.refused
@@ -60,7 +61,7 @@ returns-in-Done-clause-found g c =
     let step = c.step.ensures in
     let same = still_first c.args.store.now c.loop-reply.store c.step.new.store c.loop-reply.task.stage c.step.new.self.stage now.same step.alone.same in
     let event = event_of g.D.Disk.history g.D.Disk.faults c.args.name c.args.uid c.args.store.now c.loop-reply.store c.step.new.store c.loop-reply.task c.step.new.self c.step.result now.name_is now.uid_is now.same
-    (record { does = λ around after. step.does around after (unpins_undoomed c.loop-reply.task.stage c.loop-reply.store now.undoomed); alone = step.alone }) in
+    (record { reads = g.met.D.Disk.reads_image c.loop-reply.store.disk; does = λ around after. step.does around after (λ runs. unpins_undoomed c.loop-reply.task.stage c.loop-reply.store now.undoomed); alone = step.alone }) in
     let said = said_at_end g.D.Disk.history g.D.Disk.faults c.args.name c.args.uid c.args.store.now c.loop-reply.store c.step.new.store c.loop-reply.task.stage c.step.new.self.stage c.step.new.self.did c.step.result c.in-Done.reply c.in-Done.is c.requires.running now.so_far event
     (subst (λ v. IsStore (g.D.Disk.history c.loop-reply.store.disk) v) now.same c.facts.ensures.store) (subst (λ v. IsStore (g.D.Disk.history c.step.new.store.disk) v) same c.facts-in-Done.ensures.store) in
     said.found
@@ -71,7 +72,7 @@ returns-in-Done-clause-served g c =
     let step = c.step.ensures in
     let same = still_first c.args.store.now c.loop-reply.store c.step.new.store c.loop-reply.task.stage c.step.new.self.stage now.same step.alone.same in
     let event = event_of g.D.Disk.history g.D.Disk.faults c.args.name c.args.uid c.args.store.now c.loop-reply.store c.step.new.store c.loop-reply.task c.step.new.self c.step.result now.name_is now.uid_is now.same
-    (record { does = λ around after. step.does around after (unpins_undoomed c.loop-reply.task.stage c.loop-reply.store now.undoomed); alone = step.alone }) in
+    (record { reads = g.met.D.Disk.reads_image c.loop-reply.store.disk; does = λ around after. step.does around after (λ runs. unpins_undoomed c.loop-reply.task.stage c.loop-reply.store now.undoomed); alone = step.alone }) in
     let said = said_at_end g.D.Disk.history g.D.Disk.faults c.args.name c.args.uid c.args.store.now c.loop-reply.store c.step.new.store c.loop-reply.task.stage c.step.new.self.stage c.step.new.self.did c.step.result c.in-Done.reply c.in-Done.is c.requires.running now.so_far event
     (subst (λ v. IsStore (g.D.Disk.history c.loop-reply.store.disk) v) now.same c.facts.ensures.store) (subst (λ v. IsStore (g.D.Disk.history c.step.new.store.disk) v) same c.facts-in-Done.ensures.store) in
     said.served
@@ -82,7 +83,7 @@ returns-in-Done-clause-idle g c =
     let step = c.step.ensures in
     let same = still_first c.args.store.now c.loop-reply.store c.step.new.store c.loop-reply.task.stage c.step.new.self.stage now.same step.alone.same in
     let event = event_of g.D.Disk.history g.D.Disk.faults c.args.name c.args.uid c.args.store.now c.loop-reply.store c.step.new.store c.loop-reply.task c.step.new.self c.step.result now.name_is now.uid_is now.same
-    (record { does = λ around after. step.does around after (unpins_undoomed c.loop-reply.task.stage c.loop-reply.store now.undoomed); alone = step.alone }) in
+    (record { reads = g.met.D.Disk.reads_image c.loop-reply.store.disk; does = λ around after. step.does around after (λ runs. unpins_undoomed c.loop-reply.task.stage c.loop-reply.store now.undoomed); alone = step.alone }) in
     let said = said_at_end g.D.Disk.history g.D.Disk.faults c.args.name c.args.uid c.args.store.now c.loop-reply.store c.step.new.store c.loop-reply.task.stage c.step.new.self.stage c.step.new.self.did c.step.result c.in-Done.reply c.in-Done.is c.requires.running now.so_far event
     (subst (λ v. IsStore (g.D.Disk.history c.loop-reply.store.disk) v) now.same c.facts.ensures.store) (subst (λ v. IsStore (g.D.Disk.history c.step.new.store.disk) v) same c.facts-in-Done.ensures.store) in
     said.idle
@@ -93,7 +94,7 @@ returns-in-Done-clause-faults g c =
     let step = c.step.ensures in
     let same = still_first c.args.store.now c.loop-reply.store c.step.new.store c.loop-reply.task.stage c.step.new.self.stage now.same step.alone.same in
     let event = event_of g.D.Disk.history g.D.Disk.faults c.args.name c.args.uid c.args.store.now c.loop-reply.store c.step.new.store c.loop-reply.task c.step.new.self c.step.result now.name_is now.uid_is now.same
-    (record { does = λ around after. step.does around after (unpins_undoomed c.loop-reply.task.stage c.loop-reply.store now.undoomed); alone = step.alone }) in
+    (record { reads = g.met.D.Disk.reads_image c.loop-reply.store.disk; does = λ around after. step.does around after (λ runs. unpins_undoomed c.loop-reply.task.stage c.loop-reply.store now.undoomed); alone = step.alone }) in
     let said = said_at_end g.D.Disk.history g.D.Disk.faults c.args.name c.args.uid c.args.store.now c.loop-reply.store c.step.new.store c.loop-reply.task.stage c.step.new.self.stage c.step.new.self.did c.step.result c.in-Done.reply c.in-Done.is c.requires.running now.so_far event
     (subst (λ v. IsStore (g.D.Disk.history c.loop-reply.store.disk) v) now.same c.facts.ensures.store) (subst (λ v. IsStore (g.D.Disk.history c.step.new.store.disk) v) same c.facts-in-Done.ensures.store) in
     said.faults_are
@@ -102,5 +103,4 @@ pub returns-in-Done-clause-same : goal.returns-in-Done-clause-same
 returns-in-Done-clause-same g c = still_first c.args.store.now c.loop-reply.store c.step.new.store c.loop-reply.task.stage c.step.new.self.stage c.loop-reply.invariant.same c.step.ensures.alone.same
 
 pub loop-reply-smaller : goal.loop-reply-smaller
-loop-reply-smaller g c =
-    subst (λ m. events_left m c.step.new.self.stage < events_left c.loop-reply.store.map c.loop-reply.task.stage) (same_map c.loop-reply.task.stage c.step.new.self.stage c.loop-reply.store c.step.new.store c.step.ensures.alone.same) (c.step.ensures.left c.in_default.is)
+loop-reply-smaller g c = c.step.ensures.left c.in_default.is

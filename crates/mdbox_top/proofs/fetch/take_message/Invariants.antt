@@ -17,4 +17,4 @@ invariant-loop-reply g l = record {
 }
 
 abbrev pub decreases-loop-reply : goal.decreases-loop-reply
-decreases-loop-reply g l = events_left l.store.map l.task.stage
+decreases-loop-reply g l = events_left l.task.stage

@@ -2,7 +2,7 @@ use Rattle.std.proofs.Common.{◌≡◌, ◌≤◌, ◌<◌, ◌+◌, ◌-◌, �
 use Rattle.std.proofs.lemmas.Option.{slice_get-get_or}
 use Rattle.std.proofs.lemmas.List.{length-set}
 use Rattle.lanes.specs.Rows.{LaneRow}
-use Rattle.lanes.specs.Worlds.{IsIdleLane, IsSound, Works, WorldValue, entries_broken, entries_made, world_left}
+use Rattle.lanes.specs.Worlds.{IsIdleLane, IsSoundWorld, Works, WorldValue, entries_broken, entries_made, world_left}
 use Rattle.lanes.proofs.RoomLemmas.{has_room, row_ready}
 use Rattle.mdbox_base.specs.declared.replies.Reply.{Reply}
 use Rattle.task_steps.specs.Step.{ended_by}
