@@ -1,8 +1,7 @@
 -- A request alone of one event: from the disk as it was before the opening to where its event left it.
 use Rattle.std.specs.Prelude.{◌≡◌, ◌↔◌, ℕ, false, true, List, [], Option, Some}
-use Rattle.std.proofs.Common.{refl, sym, ◌∙◌, ap, subst, append-nil}
-use Rattle.std.proofs.lemmas.List.Elements.{All-nil}
-use Rattle.disk_model.specs.Disk.{History, Faults, EachImage, IfTold}
+use Rattle.std.proofs.Common.{refl, sym, ◌∙◌, ap, subst}
+use Rattle.disk_model.specs.Disk.{History, Faults}
 use Rattle.disk_model.specs.FaultCounts.{NoFault, ChangeFaultCounted}
 use Rattle.mdbox_base.specs.declared.progress.Did.{Did}
 use Rattle.mdbox_base.specs.declared.progress.Did.TheVariants as did
@@ -13,35 +12,25 @@ use Rattle.mdbox_base.specs.declared.replies.Reply.{Reply}
 use Rattle.mdbox_base.specs.declared.replies.Reply.TheVariants as reply
 use Rattle.mdbox_base.specs.declared.requests.Request.{Request}
 use Rattle.model_lists.specs.Lists.{Lists}
-use Rattle.model_meaning.specs.MapMeaning.{MapMeaning, map_meaning}
-use Rattle.model_meaning.specs.SameMeaning.{MeansSame}
-use Rattle.model_store.specs.Safe.{Safe}
 use Rattle.model_store.specs.Settled.{IsSettledFor, Leaves}
 use Rattle.list_machine.specs.Run.{Run}
 use Rattle.journal.specs.Events.{Around}
 use Rattle.journal.specs.Journal.{is_read_fault}
 use Rattle.task_steps.specs.Step.{Seen, ShowsSeen, HasComeTo, HasNotBegun, DidEvent, Steps, ended_by}
-use Rattle.storage_files.specs.Files.{AreFilesInOrder}
 use Rattle.store_core.specs.Running.{IsStore}
-use Rattle.store_files.specs.Found.{IsFoundFiles}
-use Rattle.store_instances.specs.FoundInstances.{IsFoundInstances}
-use Rattle.store_core.specs.Value.{none_due, StoreValue, indexes_of}
+use Rattle.store_core.specs.Value.{StoreValue, indexes_of}
 use Rattle.store_seen.proofs.SeeingLemmas.{comes_at_first}
-use Rattle.store_open.specs.Opened.{IsOpenedAs, StoreCarries, KeepsOpenedMail, IsClosedWell}
-use Rattle.store_sweep.specs.Swept.{IsSwept}
 use Rattle.mail_ops.specs.SparedMail.{SparesMail}
-use Rattle.model_kept.proofs.KeptLemmas.{ReadsImage}
 use Rattle.mail_ops.specs.Requests.{Replies, AppendsNothing, lists_after, lists_by_reply}
 use Rattle.mail_ops.specs.Task.{TaskValue, IsAt}
 use Rattle.mail_ops.specs.declared.task.TaskStage.TheVariants as stage
-use Rattle.script_run.specs.Opening.{AreSafeFor, RunBegins, StaysSettled, barred_files}
+use Rattle.script_run.specs.Opening.{AreSafeFor}
 use Rattle.script_run.proofs.MailStaysLemmas.{opening_keeps}
 use Rattle.script_run.proofs.RunBeginsLemmas.{OpenedNow, at_opening, before_opening, beginning, first_come, opening_begins}
 use Rattle.mdbox_top.specs.Served.{ServesRequest}
 use Rattle.mdbox_top.specs.UnderWay.{IsUnderWay, seen_alone}
 use Rattle.script_run.proofs.ShownLemmas.{LogsShow, opened_shows}
 use Rattle.mdbox_top.proofs.UnderWayLemmas.{nothing_found, way_begins, way_shows, way_ends}
-use Rattle.store_sweep.specs.Moments.{IdleIf}
 
 -- ---- the opening
 

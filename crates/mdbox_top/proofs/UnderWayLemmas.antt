@@ -4,8 +4,6 @@ use Rattle.std.proofs.Common.{refl, sym, ◌∙◌, ap, subst, append-nil, arith
 use Rattle.std.proofs.lemmas.List.Elements.{All-nil, All-weaker}
 use Rattle.disk_model.specs.Disk.{History, EachImage, IfTold}
 use Rattle.disk_model.proofs.MomentLemmas.{each_image-map}
-use Rattle.mdbox_base.specs.declared.entries.BoxEntry.{BoxEntry}
-use Rattle.mdbox_base.specs.declared.entries.Highest.{Highest}
 use Rattle.mdbox_base.specs.declared.entries.MapEntry.{MapEntry}
 use Rattle.mdbox_base.specs.declared.progress.Did.{Did}
 use Rattle.mdbox_base.specs.declared.replies.Refusal.TheVariants as refusal
@@ -16,17 +14,15 @@ use Rattle.model_kept.specs.Kept.{MailIsKept}
 use Rattle.model_kept.proofs.KeptLemmas.{ReadsImage}
 use Rattle.model_lists.specs.Lists.{Lists}
 use Rattle.model_meaning.specs.MapMeaning.{MapMeaning, map_meaning}
-use Rattle.model_meaning.specs.SameMeaning.{MeansSame}
-use Rattle.model_meaning.proofs.SameMeaningLemmas.{means_itself}
 use Rattle.model_octets.proofs.PairLemmas.{pairs_nil, pairs_push}
 use Rattle.model_store.specs.Opening.{Opens}
 use Rattle.model_store.specs.Safe.{Safe}
 use Rattle.model_store.specs.Settled.{files_of, IsSettledFor}
-use Rattle.list_machine.specs.Run.{RunEvent, Run, before, and_then, map_of, reply_of}
+use Rattle.list_machine.specs.Run.{RunEvent, Run, and_then, reply_of}
 use Rattle.journal.specs.GoesOn.{RepliesAlso}
 use Rattle.journal.specs.Events.{Around, is_faulted}
 use Rattle.journal.specs.Journal.{JournalStep, Broken, no_broken, left_by, steps_of, HasReply, is_read_fault}
-use Rattle.journal.specs.Makes.{HasCome, StepOf, steps_made, AreReplies, StaysStopped}
+use Rattle.journal.specs.Makes.{StepOf, steps_made, AreReplies, StaysStopped}
 use Rattle.journal.proofs.ReachedLemmas.{reached_last}
 use Rattle.task_steps.specs.Serves.{IsReached, Serves, IsTurn}
 use Rattle.task_steps.specs.Step.{Seen, ShowsSeen, HasComeTo, and_told, DidEvent}
@@ -36,7 +32,7 @@ use Rattle.task_steps.proofs.OneEventLemmas.{never_more, not_true}
 use Rattle.task_steps.proofs.ReplyingLemmas.{answers_more, turn_stays, reply_on, serves_start}
 use Rattle.store_core.specs.Running.{IsStore}
 use Rattle.store_core.specs.Value.{StoreValue}
-use Rattle.script_run.specs.Opening.{RunBegins, RunHasCome, barred_files}
+use Rattle.script_run.specs.Opening.{RunBegins, RunHasCome}
 use Rattle.script_run.proofs.RunBeginsLemmas.{before_opening, beginning, first_map, run_ends}
 use Rattle.mdbox_top.specs.Served.{ServesRequest}
 use Rattle.mdbox_top.specs.UnderWay.{alone, GoesAlone, IsUnderWay}

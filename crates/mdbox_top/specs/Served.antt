@@ -1,5 +1,5 @@
 -- What a request alone makes of a store, and how it ends.
-use Rattle.std.specs.Prelude.{◌≡◌, ◌≤◌, ◌⊎◌, ℕ, not, List, [], ◌∷◌, is_some, if◌then◌else◌, Option, Some, None}
+use Rattle.std.specs.Prelude.{◌≡◌, ◌≤◌, ◌⊎◌, ℕ, List, [], ◌∷◌, is_some, if◌then◌else◌, Option, Some, None}
 use Rattle.std.specs.Option.{option_map_or}
 use Rattle.disk_model.specs.Disk.{told_calls, History, Faults, EachImage, IsIdle}
 use Rattle.disk_model.specs.FaultCounts.{NoFault}

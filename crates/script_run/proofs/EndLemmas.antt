@@ -14,7 +14,7 @@ use Rattle.model_store.specs.Opening.{Opens}
 use Rattle.model_store.specs.Safe.{Safe}
 use Rattle.model_store.specs.Settled.{files_of, IsSettledFor}
 use Rattle.list_machine.specs.Run.{Run}
-use Rattle.journal.specs.Journal.{AreEntriesOf, Broken, HasReply, JournalStep, Requests, no_broken}
+use Rattle.journal.specs.Journal.{Broken, HasReply, JournalStep, Requests, moment_of, no_broken}
 use Rattle.journal.specs.Makes.{IsServed, StaysStopped}
 use Rattle.journal.proofs.ReachedLemmas.{reached_last}
 use Rattle.serving.specs.Serving.{IsServing}
@@ -26,6 +26,7 @@ use Rattle.task_steps.proofs.OneEventLemmas.{not_true}
 use Rattle.mail_fetch.specs.Task.{seen_in}
 use Rattle.lanes.specs.Going.{IsGoing}
 use Rattle.lanes.specs.Rows.{LaneRow}
+use Rattle.lanes.specs.Worlds.{AreEntriesAt}
 use Rattle.script_run.specs.Opening.{LogsShowLists, RunBegins}
 use Rattle.script_run.specs.Script.{HasStopped, OpensShowing, ServesScript}
 use Rattle.script_run.proofs.RunBeginsLemmas.{before_opening, first_map, run_ends}
@@ -77,7 +78,7 @@ all_given (first ∷ rest) each =
 -- The script was served: its lanes have come to their end, the store is stopped only if a reply says so, and the entries are the
 -- journal's.
 pub script_served : {D : Type 0} → (start : Lists) (script : Requests) (run : Run) (journal : List JournalStep) (broken : Broken) (given : List Reply) (entries : List JournalEntry) (began : Seen) (made : ℕ) (store : StoreValue D) (history : Option History) (faults : Faults) (rows : List LaneRow)
-    → IsGoing start script run journal broken (map Some given) began store history faults rows → StaysStopped run.events → IsStore history store → began.drawn ≡ began.map.highest → RunBegins run began.history → (store.stopped ≡ true → HasStopped given) → AreEntriesOf run made journal entries
+    → IsGoing start script run journal broken (map Some given) began store history faults rows → StaysStopped run.events → IsStore history store → began.drawn ≡ began.map.highest → RunBegins run began.history → (store.stopped ≡ true → HasStopped given) → AreEntriesAt history made (moment_of run) journal entries
     → ServesScript script start given entries began.faults faults began.history history
 script_served {D} start script run journal broken given entries began made store history faults rows g stays k opened begins stopped are = record {
   run = run;

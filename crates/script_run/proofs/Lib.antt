@@ -1,6 +1,10 @@
+pub mod DoneLemmas
 pub mod EndLemmas
 pub mod MailStaysLemmas
+pub mod MovedLemmas
 pub mod OpenedLemmas
+pub mod ReadFaultLemmas
 pub mod RunBeginsLemmas
 pub mod ShownLemmas
 pub mod SomeListsLemmas
+pub mod StillLemmas

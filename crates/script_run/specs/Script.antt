@@ -1,5 +1,6 @@
 -- What a script makes of a store.
-use Rattle.std.specs.Prelude.{◌≡◌, ℕ, List, Option, Some, Contains, map, All}
+use Rattle.std.specs.Prelude.{◌≡◌, ℕ, Bool, true, false, List, Option, Some, Contains, map}
+use Rattle.std.specs.List.{list_any}
 use Rattle.disk_model.specs.Disk.{told_calls, History, Faults, EachImage}
 use Rattle.mdbox_base.specs.declared.entries.Highest.{Highest}
 use Rattle.mdbox_base.specs.declared.replies.Refusal.TheVariants as refusal
@@ -13,10 +14,11 @@ use Rattle.model_meaning.specs.BoxMeaning.{BoxMeaning}
 use Rattle.model_meaning.specs.MapMeaning.{MapMeaning, map_meaning}
 use Rattle.model_store.specs.Settled.{IsSettledFor}
 use Rattle.list_machine.specs.Run.{Run}
-use Rattle.journal.specs.Journal.{AreEntriesOf, Broken, JournalStep, Requests, left_by}
+use Rattle.journal.specs.Journal.{Broken, JournalStep, Requests, left_by, moment_of}
 use Rattle.journal.specs.Makes.{IsServed}
 use Rattle.store_open.specs.Opened.{IsOpenedAs}
 use Rattle.task_steps.specs.Serves.{AreTimely, IsReached}
+use Rattle.lanes.specs.Worlds.{AreEntriesAt}
 use Rattle.script_run.specs.Opening.{LogsShowLists, RunBegins, RunHasCome}
 
 -- some request was replied that the store is stopped
@@ -47,13 +49,12 @@ pub record ServesScript (script : Requests) (lists : Lists) (given : List Reply)
   pub crash : IsSettledFor lists old → EachImage (IsReached lists run journal broken) old new
   pub timely : IsSettledFor lists old → AreTimely lists run journal new
   pub settled : (HasStopped given → ⊥) → IsSettledFor lists old → IsSettledFor (left_by lists journal) new
-  pub entries_are : AreEntriesOf run made journal entries
+  pub entries_are : AreEntriesAt new made (moment_of run) journal entries
 
--- the request reads messages
-abbrev pub IsFetch : Request → Type 0
-IsFetch (request.Fetch name uid) = Unit {0}
-IsFetch other = ⊥
+-- the request reads a message, and a request of the script does
+abbrev pub is_fetch : Request → Bool
+is_fetch (request.Fetch name uid) = true
+is_fetch other = false
 
--- a request of the script reads messages
-abbrev pub HasFetch : Requests → Type 0
-HasFetch script = (asked : ℕ × Request) × Contains script asked × IsFetch asked.1
+abbrev pub has_fetch : Requests → Bool
+has_fetch script = list_any (λ asked. is_fetch asked.1) script

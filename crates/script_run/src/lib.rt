@@ -1,6 +1,8 @@
-//! What the run of a script promises, from the opening of the store to the last reply.
+//! The run of a script: the store is opened, lanes serve the requests to their end, and the replies are given.
 #![tactic(auto)]
 
-pub use laws::{opened_logs_show_lists, replied_scripts_are_served, safe_files_are_shown};
+pub use laws::{opened_logs_show_lists, safe_files_are_shown};
+pub use run::{ScriptRun, run_script};
 
 mod laws;
+mod run;

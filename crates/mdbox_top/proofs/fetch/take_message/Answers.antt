@@ -1,9 +1,8 @@
-use Rattle.std.proofs.Common.{◌<◌, ◌≡◌, false, refl, sym, ◌∙◌, ap, subst}
+use Rattle.std.proofs.Common.{refl, sym, ◌∙◌, ap, subst}
 use Rattle.mail_fetch.specs.Claims.{HasFetchRoom, IsReadyToFetch}
 use Rattle.mail_fetch.specs.Events.{FetchesNext}
-use Rattle.mail_fetch.specs.Task.{events_left}
 use Rattle.mail_fetch.proofs.StageLemmas.{used_doomed}
-use Rattle.mdbox_top.proofs.FetchLemmas.{IsFetching, FetchEvent, event_of, fetching_begins, fetching_on, room_on, runs_on, said_at_end, same_map, still_first, unpins_undoomed}
+use Rattle.mdbox_top.proofs.FetchLemmas.{IsFetching, FetchEvent, event_of, fetching_begins, fetching_on, room_on, runs_on, said_at_end, still_first, unpins_undoomed}
 use Rattle.store_core.specs.Running.{IsStore}
 use Rattle.mdbox_top.proofs.fetch.take_message.Goals as goal
 

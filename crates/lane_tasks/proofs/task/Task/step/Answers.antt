@@ -51,6 +51,10 @@ pub returns-in-Make-clause-leaves : goal.returns-in-Make-clause-leaves
 returns-in-Make-clause-leaves g c = λ runs.
     subst (λ (t : Task). LeavesOthers (claims_at t) c.args.store.now c.step-in-Make.new.store (g.D.Disk.history c.args.store.now.disk) (g.D.Disk.history c.step-in-Make.new.store.disk)) (sym c.in-Make.is) (c.step-in-Make.ensures.leaves runs)
 
+pub returns-in-Move-clause-leaves : goal.returns-in-Move-clause-leaves
+returns-in-Move-clause-leaves g c = λ runs.
+    subst (λ (t : Task). LeavesOthers (claims_at t) c.args.store.now c.step-in-Move.new.store (g.D.Disk.history c.args.store.now.disk) (g.D.Disk.history c.step-in-Move.new.store.disk)) (sym c.in-Move.is) (c.step-in-Move.ensures.leaves runs)
+
 pub returns-in-Expunge-clause-leaves : goal.returns-in-Expunge-clause-leaves
 returns-in-Expunge-clause-leaves g c = λ runs.
     subst (λ (t : Task). LeavesOthers (claims_at t) c.args.store.now c.step-in-Expunge.new.store (g.D.Disk.history c.args.store.now.disk) (g.D.Disk.history c.step-in-Expunge.new.store.disk)) (sym c.in-Expunge.is) (c.step-in-Expunge.ensures.leaves runs)

@@ -1,0 +1,282 @@
+-- A script is done, from the opening of the store to the end of the last lane.
+use Rattle.std.specs.Prelude.{◌≡◌, ◌≢◌, ◌<◌, ◌≤◌, ◌+◌, ◌-◌, ◌*◌, ◌==◌, ◌&&◌, ◌||◌, ◌++◌, ◌⊎◌, ℕ, zero, suc, Bool, true, false, cond, List, [], ◌∷◌, All, Contains, length, map, replicate, slice_get, is_some, count_by, Option, Some, None}
+use Rattle.std.specs.List.{list_any}
+use Rattle.std.proofs.Common.{refl, sym, ◌∙◌, ap, subst, arith, inl, inr}
+use Rattle.std.proofs.lemmas.List.{length-map}
+use Rattle.std.proofs.lemmas.Option.{slice_get_within}
+use Rattle.std.proofs.lemmas.List.Elements.{All-nil, All-weaker}
+use Rattle.disk_model.specs.Disk.{Faults, History, IsMoment, IfTold, told_calls}
+use Rattle.mdbox_base.specs.Streams.{Rose}
+use Rattle.mdbox_base.specs.declared.ids.Uid.{Uid}
+use Rattle.mdbox_base.specs.declared.replies.Refusal.TheVariants as refusal
+use Rattle.mdbox_base.specs.declared.replies.Reply.{Reply}
+use Rattle.mdbox_base.specs.declared.replies.Reply.TheVariants as reply
+use Rattle.mdbox_base.specs.declared.script.JournalEntry.{JournalEntry}
+use Rattle.mdbox_base.specs.declared.requests.Request.{Request}
+use Rattle.mdbox_base.specs.declared.requests.Request.TheVariants as request
+use Rattle.model_kept.specs.Kept.{MailIsKept}
+use Rattle.model_lists.specs.Lists.{Lists}
+use Rattle.model_store.specs.Settled.{IsSettledFor}
+use Rattle.list_machine.specs.Run.{Run, RunEvent, reply_of}
+use Rattle.journal.specs.Events.{Around, is_fault}
+use Rattle.journal.specs.Makes.{AreNextEvents, HasCome}
+use Rattle.journal.specs.Journal.{Broken, HasReply, IsLegal, JournalStep, Requests, no_broken}
+use Rattle.serving.specs.Serving.{AreIdle, HaveLanes, unreplied}
+use Rattle.sis_store.specs.Instances.{AreInstances}
+use Rattle.store_core.specs.Running.{IsStore}
+use Rattle.store_core.specs.Value.{StoreValue, indexes_of}
+use Rattle.store_seen.specs.Seeing.{IsAtOpening}
+use Rattle.task_claims.specs.Claims.{HasNoTask}
+use Rattle.task_steps.specs.Step.{Seen, ShowsSeen}
+use Rattle.task_steps.proofs.OneEventLemmas.{not_true}
+use Rattle.mail_fetch.specs.Task.{seen_in}
+use Rattle.lanes.specs.Going.{AreFreshRows, IsGoing}
+use Rattle.lanes.specs.Rows.{LaneRow, lane_value, lanes_of}
+use Rattle.lane_tasks.specs.Tasks.{HasTask}
+use Rattle.attach_detach.specs.declared.message.Prepared.{Prepared}
+use Rattle.lanes.specs.Worlds.{AreGiven, AreOfLanes, ArePartsOf, GoesOnBy, HasItsMessage, IsFreshWorld, IsWorldOf, PartsValue, WorldValue, and_events, replied_in, world_begun}
+use Rattle.script_run.specs.Done.{IsScriptDone, MayRead}
+use Rattle.script_run.specs.Faults.{FaultsByReplies, HasReadFault}
+use Rattle.script_run.specs.Opening.{AreSafeFor, LogsShowLists}
+use Rattle.script_run.specs.Script.{HasStopped, ServesScript, has_fetch, is_fetch}
+use Rattle.script_run.proofs.EndLemmas.{all_given, script_served, serves_from}
+use Rattle.script_run.proofs.MailStaysLemmas.{opening_keeps, run_keeps}
+use Rattle.script_run.proofs.MovedLemmas.{Purges, all_at, none_moved}
+use Rattle.script_run.proofs.OpenedLemmas.{none_holds, none_used}
+use Rattle.script_run.proofs.ReadFaultLemmas.{TellsFault, faults_are_told}
+use Rattle.script_run.proofs.RunBeginsLemmas.{OpenedNow, at_opening, before_opening, beginning, first_come, opening_begins}
+use Rattle.script_run.proofs.ShownLemmas.{LogsShow, opened_logs_show}
+use Rattle.script_run.proofs.SomeListsLemmas.{some_lists}
+
+-- ---- a world begins
+
+pub no_task : {D : Type 0} → (old mid : Option History) (s : StoreValue D) → OpenedNow old mid s → AreInstances s.instances → s.made ≡ [] → HasNoTask s
+no_task old mid s o are made = record { dues = o.free; files = none_used s old o.files; instances = none_holds s are o.instances; made = made }
+
+-- ---- it reads messages only from settled disks
+
+pub fetches : (script : Requests) (place lane : ℕ) (name : List ℕ) (uid : Uid) → slice_get script place ≡ Some (lane, request.Fetch name uid) → has_fetch script ≡ true
+fetches [] place lane name uid at = absurd (let e : None ≡ Some (lane, request.Fetch name uid) = at in cc e)
+fetches (asked ∷ script) zero lane name uid at =
+    let e : Some asked ≡ Some (lane, request.Fetch name uid) = at in
+    let is : asked ≡ (lane, request.Fetch name uid) = cc e in
+    ap (λ (q : ℕ × Request). is_fetch q.1 || has_fetch script) is
+fetches (asked ∷ script) (suc place) lane name uid at = ap (λ (b : Bool). is_fetch asked.1 || b) (fetches script place lane name uid at) ∙ or_yes (is_fetch asked.1)
+  where
+    or_yes : (b : Bool) → (b || true) ≡ true
+    or_yes true = refl
+    or_yes false = refl
+
+-- ---- from the opening on
+
+pub of_lanes : (script : Requests) (lanes : ℕ) (rows : List LaneRow) → length rows ≡ lanes → AreOfLanes lanes script → HaveLanes script (lanes_of rows)
+of_lanes script lanes rows many are =
+    let same : length (lanes_of rows) ≡ lanes = length-map rows lane_value ∙ many in
+    subst (λ (n : ℕ). All (λ asked. (0 < asked.0) × (asked.0 ≤ n)) script) (sym same) are
+
+-- the law of worlds that begin
+abbrev pub WorldsBegin : (D : Type 0) → Type 0
+WorldsBegin D = (start : Lists) (script : Requests) (run : Run) (began : Seen) (lanes : ℕ) (parts : PartsValue) (store : StoreValue D) (history : Option History) (faults : Faults) (world : WorldValue D) → IsFreshWorld store parts history world → ArePartsOf script lanes parts → run.events ≡ []
+    → IsGoing start script run [] no_broken (unreplied script) began store history faults parts.rows → IsWorldOf start script run [] no_broken began history faults world
+
+-- a world of the script begins, with the disk as it was before the opening
+pub begins_from : {D : Type 0} → (start : Lists) (script : Requests) (lanes : ℕ) (parts : PartsValue) (old mid : Option History) (first : Faults) (s : StoreValue D) (o : OpenedNow old mid s) (world : WorldValue D) → WorldsBegin D
+    → IsGoing start script (beginning s.map o.store.entries) [] no_broken (unreplied script) (seen_in s mid first) s mid first parts.rows → ArePartsOf script lanes parts → LogsShowLists s.map (indexes_of s.boxes) start → MayRead script start old → IsFreshWorld s parts mid world
+    → IsWorldOf start script (beginning s.map o.store.entries) [] no_broken (before_opening (seen_in s mid first) old) mid first world
+begins_from start script lanes parts old mid first s o world law g are shows may begun =
+    let run : Run = beginning s.map o.store.entries in
+    let from : Seen = before_opening (seen_in s mid first) old in
+    law start script run from lanes parts s mid first world begun are refl
+    (record {
+      serving = record {
+        serves = serves_from start script run (unreplied script) (seen_in s mid first) old refl g.serving.serves (o.safe start) (o.settled_again start) (opening_keeps old mid s.map (indexes_of s.boxes) o.opened o.stays);
+        follows = g.serving.follows;
+        told = g.serving.told;
+        given = g.serving.given;
+        would = g.serving.would;
+        stays_stopped = g.serving.stays_stopped;
+        replied_stopped = g.serving.replied_stopped;
+        lanes_at = g.serving.lanes_at;
+      };
+      lanes = g.lanes;
+      few = g.few;
+      waiting = g.waiting;
+      accounts = g.accounts;
+      undoomed = g.undoomed;
+      quiet = g.quiet;
+      fetched = λ place lane name uid at. may (fetches script place lane name uid at);
+    })
+
+-- ---- the end
+
+-- a reply that is given is among those given
+given_at : (given : List Reply) (i : ℕ) (one : Reply) → HasReply (map Some given) i one → Contains given one
+given_at [] i one at = absurd (let e : None ≡ Some (Some one) = at in cc e)
+given_at (r ∷ rest) zero one at = let e : Some (Some r) ≡ Some (Some one) = at in let f : Some r ≡ Some one = cc e in let z : r ≡ one = cc f in (0, omega arith, z)
+given_at (r ∷ rest) (suc i) one at = let c = given_at rest i one at in let l = c.1 in (suc c.0, omega (arith, l), c.2)
+
+at_given : (given : List Reply) (one : Reply) → Contains given one → (i : ℕ) × HasReply (map Some given) i one
+at_given [] one c = absurd (let k = c.1 in omega (arith, k))
+at_given (r ∷ rest) one (zero, l, c) = (0, ap (λ (x : Reply). Some (Some x)) c)
+at_given (r ∷ rest) one (suc n, l, c) = let h = at_given rest one (n, omega (arith, l), c) in (suc h.0, h.1)
+
+-- a request that is given what it wants is no purge
+not_purging : (asked : Request) (one : Option Prepared) → HasItsMessage asked one → Purges asked → ⊥
+not_purging request.Purge one h p = h.0
+not_purging request.Resync one h p = h.0
+not_purging asked one h p = p
+
+pub none_purges : (script : Requests) (prepared : List (Option Prepared)) → AreGiven script prepared → (i : ℕ) (asked : ℕ × Request) → slice_get script i ≡ Some asked → Purges asked.1 → ⊥
+none_purges [] prepared given i asked at p = absurd (let e : None ≡ Some asked = at in cc e)
+none_purges (first ∷ script) [] given i asked at p = absurd given
+none_purges (first ∷ script) (one ∷ prepared) given zero asked at p =
+    let e : Some first ≡ Some asked = at in
+    let is : first ≡ asked = cc e in
+    not_purging asked.1 one (subst (λ (q : ℕ × Request). HasItsMessage q.1 one) is given.0) p
+none_purges (first ∷ script) (one ∷ prepared) given (suc i) asked at p = none_purges script prepared given.1 i asked at p
+
+settled_safe : (lists : Lists) (old : Option History) → IsSettledFor lists old → AreSafeFor lists old
+settled_safe lists None at = absurd at
+settled_safe lists (Some h) at = record { store = at.store; entries = at.entries; by = at.safe }
+
+-- the law of lanes that have come to their end
+abbrev pub LanesEnd : (D : Type 0) → Type 0
+LanesEnd D = (start : Lists) (script : Requests) (run : Run) (journal : List JournalStep) (broken : Broken) (replies : List (Option Reply)) (began : Seen) (store : StoreValue D) (history : Option History) (faults : Faults) (rows : List LaneRow) → IsGoing start script run journal broken replies began store history faults rows
+    → AreIdle (lanes_of rows) → (i : ℕ) → i < length script → (given : Reply) × HasReply replies i given × (reply_of i run ≡ Some given)
+
+-- the law of lanes that begin
+abbrev pub LanesBegin : (D : Type 0) → Type 0
+LanesBegin D = (start : Lists) (script : Requests) (run : Run) (rows : List LaneRow) (store : StoreValue D) (history : Option History) (faults : Faults) → IsAtOpening run store → HasCome run store.map store.drawn (told_calls history) → HasNoTask store → store.stopped ≡ false → ShowsSeen (seen_in store history faults) start
+    → AreFreshRows script rows → HaveLanes script (lanes_of rows) → length rows ≤ 64
+    → ((place lane : ℕ) (name : List ℕ) (uid : Uid) → slice_get script place ≡ Some (lane, request.Fetch name uid) → IsSettledFor start history) → IsGoing start script run [] no_broken (unreplied script) (seen_in store history faults) store history faults rows
+
+-- What is known of a script's run: the opening, the world that began then, and what it came to.
+pub record ScriptRan {D : Type 0} (script : Requests) (old mid new : Option History) (first last : Faults) (s : StoreValue D) (world ended : WorldValue D) : Type 0 where
+  pub opened : OpenedNow old mid s
+  pub show : LogsShow
+  pub unpurged : (i : ℕ) (asked : ℕ × Request) → slice_get script i ≡ Some asked → Purges asked.1 → ⊥
+  pub begins : (start : Lists) → LogsShowLists s.map (indexes_of s.boxes) start → MayRead script start old → IsWorldOf start script (beginning s.map opened.store.entries) [] no_broken (before_opening (seen_in s mid first) old) mid first world
+  pub goes : GoesOnBy world ended mid new first last
+  pub idle : AreIdle (lanes_of ended.rows)
+  pub later : IsStore new ended.store
+  pub law : LanesEnd D
+
+-- Where no reply tells a fault, no event was refused by one.
+none_faulted : (around after : ℕ → Around) (script : Requests) (start : Lists) (run : Run) (journal : List JournalStep) (given : List Reply) → AreNextEvents around after script start run journal → ((i : ℕ) → i < length script → (one : Reply) × HasReply (map Some given) i one × (reply_of i run ≡ Some one))
+    → (HasReadFault given → ⊥) → (HasStopped given → ⊥) → All (λ event. event.refused ≢ Some refusal.ReadFault) run.events
+none_faulted around after script start run journal given next each unread unstopped = all_at (λ event. event.refused ≢ Some refusal.ReadFault) run.events (λ n e at why.
+    let k = next n e at in
+    let g = each e.request (slice_get_within script e.request k.asked k.request_is) in
+    by_reply g.0 (given_at given e.request g.0 g.1) (faults_are_told around after script start run journal next n e at (ap is_fault why) g.0 g.2))
+  where
+    by_reply : (one : Reply) → Contains given one → TellsFault one → ⊥
+    by_reply one c (inl e) = unread (subst (Contains given) e c)
+    by_reply one c (inr e) = unstopped (subst (Contains given) e c)
+
+-- from lists that the logs show, the replies are all there
+replies_of_run : {D : Type 0} → (script : Requests) (old mid new : Option History) (first last : Faults) (s : StoreValue D) (world ended : WorldValue D) → (r : ScriptRan script old mid new first last s world ended) → (start : Lists) → LogsShowLists s.map (indexes_of s.boxes) start → MayRead script start old
+    → (given : List Reply) × (ended.replies ≡ map Some given) × (length given ≡ length script) × FaultsByReplies given first last × MailIsKept s.map old new
+replies_of_run script old mid new first last s world ended r start shows may =
+    let w = r.goes start script (beginning s.map r.opened.store.entries) [] no_broken (before_opening (seen_in s mid first) old) (r.begins start shows may) in
+    let run : Run = and_events (beginning s.map r.opened.store.entries) w.0 in
+    let going = w.3.going in
+    let many : length ended.replies ≡ length script = going.serving.given.0 in
+    let g = all_given ended.replies (λ i l. let e = r.law start script run w.1 w.2 ended.replies _ ended.store new last ended.rows going r.idle i (subst (λ (n : ℕ). i < n) many l) in (e.0, e.1)) in
+    let legal = subst (λ (rs : List (Option Reply)). IsLegal start script run w.1 rs first last) g.1 going.serving.serves.legal in (
+      g.0,
+      g.1,
+      sym (length-map g.0 Some) ∙ (ap length (sym g.1) ∙ many),
+      record {
+        reads = legal.causes.reads;
+        changes = going.serving.serves.changes;
+        stopped = λ h. let i = at_given g.0 (reply.Refused refusal.Stopped) h in legal.causes.changes i.0 i.1;
+        quiet = λ unread unstopped.
+            going.quiet (not_true ended.store.stopped (λ e. let i = going.serving.replied_stopped e in unstopped (given_at g.0 i.0 (reply.Refused refusal.Stopped) (subst (λ (rs : List (Option Reply)). HasReply rs i.0 (reply.Refused refusal.Stopped)) g.1 i.1))))
+            (none_faulted going.serving.follows.around going.serving.follows.after script start run w.1 g.0 going.serving.follows.next
+            (λ i l. let e = r.law start script run w.1 w.2 ended.replies _ ended.store new last ended.rows going r.idle i l in (e.0, subst (λ (rs : List (Option Reply)). HasReply rs i e.0) g.1 e.1, e.2)) unread unstopped);
+      },
+      going.serving.serves.mail (none_moved going.serving.follows.around going.serving.follows.after script start _ w.1 r.unpurged going.serving.follows.next),
+    )
+
+-- it is served from them
+serves_run : {D : Type 0} → (script : Requests) (old mid new : Option History) (first last : Faults) (s : StoreValue D) (world ended : WorldValue D) → (r : ScriptRan script old mid new first last s world ended) → (given : List Reply) → ended.replies ≡ map Some given → (start : Lists) → LogsShowLists s.map (indexes_of s.boxes) start → MayRead script start old
+    → ServesScript script start given ended.journal first last old new
+serves_run script old mid new first last s world ended r given are start shows may =
+    let from : Seen = before_opening (seen_in s mid first) old in
+    let w = r.goes start script (beginning s.map r.opened.store.entries) [] no_broken from (r.begins start shows may) in
+    let run : Run = and_events (beginning s.map r.opened.store.entries) w.0 in
+    let going = subst (λ (rs : List (Option Reply)). IsGoing start script run w.1 w.2 rs from ended.store new last ended.rows) are w.3.going in
+    script_served start script run w.1 w.2 given ended.journal from ended.began ended.store new last ended.rows going going.serving.stays_stopped r.later r.opened.drawn (opening_begins old mid s r.opened)
+    (λ e. let i = going.serving.replied_stopped e in given_at given i.0 (reply.Refused refusal.Stopped) i.1) w.3.entries
+
+-- Some lists are shown from which the script may be served, if there are lists from which it may read.
+start_of : {D : Type 0} → (script : Requests) (old mid : Option History) (s : StoreValue D) → OpenedNow old mid s → LogsShow → ((lists : Lists) × MayRead script lists old) → (start : Lists) × LogsShowLists s.map (indexes_of s.boxes) start × MayRead script start old
+start_of script old mid s o show some = by_test (has_fetch script) refl
+  where
+    by_test : (b : Bool) → has_fetch script ≡ b → (start : Lists) × LogsShowLists s.map (indexes_of s.boxes) start × MayRead script start old
+    by_test true e = (some.0, opened_logs_show some.0 old s.map (indexes_of s.boxes) o.opened show (settled_safe some.0 old (some.1 e)), some.1)
+    by_test false e = let l = some_lists old s.map (indexes_of s.boxes) o.opened in (l.0, l.1, λ f. absurd (let k : true ≡ false = sym f ∙ e in cc k))
+
+pub script_done : {D : Type 0} → (script : Requests) (old mid new : Option History) (first last : Faults) (s : StoreValue D) (world ended : WorldValue D) → ScriptRan script old mid new first last s world ended → ((lists : Lists) × MayRead script lists old)
+    → (given : List Reply) × (ended.replies ≡ map Some given) × IsScriptDone script given ended.journal old new first last
+script_done script old mid new first last s world ended r some =
+    let start = start_of script old mid s r.opened r.show some in
+    let g = replies_of_run script old mid new first last s world ended r start.0 start.1 start.2 in (
+      g.0,
+      g.1,
+      record {
+        each = g.2;
+        m = s.map;
+        meanings = indexes_of s.boxes;
+        opened = r.opened.opened;
+        shown = λ lists safe. opened_logs_show lists old s.map (indexes_of s.boxes) r.opened.opened r.show safe;
+        serves = λ lists shows may. serves_run script old mid new first last s world ended r g.0 g.1 lists shows may;
+        faults = g.3;
+        stays = run_keeps old new s.map (indexes_of s.boxes) r.opened.opened g.4;
+      },
+    )
+
+-- What a script's run says of the opening, of the world and of its end: so it is done.
+pub script_ran : {D : Type 0} → (script : Requests) (lanes : ℕ) (prepared : List (Option Prepared)) (parts : PartsValue) (old mid new : Option History) (first last : Faults) (s : StoreValue D) (world ended : WorldValue D) → (o : OpenedNow old mid s) → LogsShow → AreGiven script prepared → ArePartsOf script lanes parts → IsFreshWorld s parts mid world
+    → ((start : Lists) → MayRead script start old → LogsShowLists s.map (indexes_of s.boxes) start → (run : Run) → IsAtOpening run s → HasCome run s.map s.drawn (told_calls mid) → IsGoing start script run [] no_broken (unreplied script) (seen_in s mid first) s mid first parts.rows)
+    → GoesOnBy world ended mid new first last → AreIdle (lanes_of ended.rows) → IsStore new ended.store → WorldsBegin D → LanesEnd D → ScriptRan script old mid new first last s world ended
+script_ran script lanes prepared parts old mid new first last s world ended o show given are begun going goes idle later begin law = record {
+  opened = o;
+  show = show;
+  unpurged = none_purges script prepared given;
+  begins = λ start shows may. begins_from start script lanes parts old mid first s o world begin (going start may shows (beginning s.map o.store.entries) (at_opening old mid s o) (first_come old mid (told_calls mid) s o)) are shows may begun;
+  goes = goes;
+  idle = idle;
+  later = later;
+  law = law;
+}
+
+-- So its replies are given, and it is done.
+pub run_done : {D : Type 0} → (history : D → Option History) (faults : D → Faults) (script : Requests) (lanes : ℕ) (prepared : List (Option Prepared)) (parts : PartsValue) (old : Option History) (s : StoreValue D) (world ended : WorldValue D) → (o : OpenedNow old (history s.disk) s) → LogsShow → AreGiven script prepared → AreOfLanes lanes script → lanes ≤ 64
+    → ArePartsOf script lanes parts → HasNoTask s → LanesBegin D → WorldsBegin D → LanesEnd D → IsFreshWorld s parts (history s.disk) world → GoesOnBy world ended (history world.store.disk) (history ended.store.disk) (faults world.store.disk) (faults ended.store.disk) → AreIdle (lanes_of ended.rows) → IsStore (history ended.store.disk) ended.store → ((lists : Lists) × MayRead script lists old)
+    → (given : List Reply) × (ended.replies ≡ map Some given) × IsScriptDone script given ended.journal old (history ended.store.disk) (faults s.disk) (faults ended.store.disk)
+run_done {D} history faults script lanes prepared parts old s world ended o show given in_lanes few are unused begin world_begin end begun goes idle later some =
+    script_done script old (history s.disk) (history ended.store.disk) (faults s.disk) (faults ended.store.disk) s world ended
+    (script_ran script lanes prepared parts old (history s.disk) (history ended.store.disk) (faults s.disk) (faults ended.store.disk) s world ended o show given are begun going went idle later world_begin end)
+    some
+  where
+    going : (start : Lists) → MayRead script start old → LogsShowLists s.map (indexes_of s.boxes) start → (run : Run) → IsAtOpening run s → HasCome run s.map s.drawn (told_calls (history s.disk)) → IsGoing start script run [] no_broken (unreplied script) (seen_in s (history s.disk) (faults s.disk)) s (history s.disk) (faults s.disk) parts.rows
+    going start may shows run at come =
+        begin start script run parts.rows s (history s.disk) (faults s.disk) at come unused o.running shows are.rows (of_lanes script lanes parts.rows are.many in_lanes) (subst (λ (n : ℕ). n ≤ 64) (sym are.many) few)
+        (λ place lane name uid there. o.settled_again start (may (fetches script place lane name uid there)))
+
+    went : GoesOnBy world ended (history s.disk) (history ended.store.disk) (faults s.disk) (faults ended.store.disk)
+    went = subst (λ (t : StoreValue D). GoesOnBy world ended (history t.disk) (history ended.store.disk) (faults t.disk) (faults ended.store.disk)) (ap (λ (w : WorldValue D). w.store) begun.2) goes
+
+-- what a world is taken apart into
+abbrev pub EndedParts : Type 0 → Type 0
+EndedParts D = StoreValue D × List (Option Reply) × List JournalEntry × List JournalEntry
+
+-- It is handed back so, with the disk of its store.
+pub handed_back : {D : Type 0} → (history : D → Option History) (faults : D → Faults) (script : Requests) (old : Option History) (first began : Faults) (ended : WorldValue D) (parts : EndedParts D) (disk : D) → parts ≡ (ended.store, ended.replies, ended.journal, ended.broken) → disk ≡ parts.0.disk → first ≡ began
+    → (given : List Reply) × (ended.replies ≡ map Some given) × IsScriptDone script given ended.journal old (history ended.store.disk) first (faults ended.store.disk)
+    → (given : List Reply) × (parts.1 ≡ map Some given) × IsScriptDone script given parts.2 old (history disk) began (faults disk)
+handed_back {D} history faults script old first began ended parts disk are is same done =
+    subst (λ (d : D). (given : List Reply) × (parts.1 ≡ map Some given) × IsScriptDone script given parts.2 old (history d) began (faults d)) (sym is)
+    (subst (λ (f : Faults). (given : List Reply) × (parts.1 ≡ map Some given) × IsScriptDone script given parts.2 old (history parts.0.disk) f (faults parts.0.disk)) same
+    (subst (λ (p : EndedParts D). (given : List Reply) × (p.1 ≡ map Some given) × IsScriptDone script given p.2 old (history p.0.disk) first (faults p.0.disk)) (sym are) done))

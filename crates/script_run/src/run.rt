@@ -1,0 +1,66 @@
+// The run of a script.
+ghost use Rattle.std.specs.Prelude.{◌≡◌, ◌≤◌, List, Some, length, map, IfErr, IfOk};
+ghost use Rattle.mdbox_base.specs.declared.replies.Reply.{Reply as ReplyValue};
+ghost use Rattle.model_lists.specs.Lists.{Lists};
+ghost use Rattle.lanes.specs.Worlds.{AreGiven, AreOfLanes};
+ghost use Rattle.script_run.specs.Done.{IsScriptDone, MayRead};
+ghost use Rattle.script_run.specs.Opening.{IsUnopened};
+
+use attach_detach::Prepared;
+use disk_model::Disk;
+use lanes::{World, WorldParts, lanes_begin, lanes_end, worlds_begin};
+use mdbox_base::{JournalEntry, Reply, Script, Seq};
+use std::alloc::Global;
+use store_core::listings_are_shown;
+use store_open::{OpenError, OpenRefused, open_store};
+
+/// What the run of a script gives.
+pub struct ScriptRun<D> {
+    /// The reply of each request, in script order.
+    pub replies: Seq<Option<Reply>>,
+    /// The steps that were made, in order.
+    pub journal: Seq<JournalEntry>,
+    pub disk: D,
+}
+
+/// Opens the store and does the requests of a script on its lanes, to their end. What is wanted of memory is taken before the store is
+/// opened. Each request that delivers a message has it prepared, at its place.
+pub fn run_script<D: Disk>(
+    alloc: Global,
+    disk: D,
+    script: Script,
+    prepared: Seq<Option<Prepared>>,
+) -> Result<ScriptRun<D>, OpenRefused<D>>
+    requires lanes { (1 ≤ script.lanes) × (script.lanes ≤ 64) × AreOfLanes script.lanes script.requests }
+    requires few { length script.requests ≤ 100000 }
+    requires given { AreGiven script.requests prepared }
+    ensures done { IfOk result (λ done. ((lists : Lists) × MayRead script.requests lists (D.history disk)) → (given : List ReplyValue) × (done.replies ≡ map Some given) × IsScriptDone script.requests given done.journal (D.history disk) (D.history done.disk) (D.faults disk) (D.faults done.disk)) }
+    ensures refused { IfErr result (λ refused. IsUnopened refused.error (D.history disk) (D.history refused.disk) (D.faults disk) (D.faults refused.disk)) }
+{
+    listings_are_shown();
+    lanes_begin::<D>();
+    worlds_begin::<D>();
+    lanes_end::<D>();
+    let lanes = script.lanes;
+    let Ok(parts) = WorldParts::of(alloc, script, prepared) else {
+        return Err(OpenRefused {
+            error: OpenError::NoMemory,
+            disk,
+        });
+    };
+    match open_store(alloc, disk, lanes) {
+        Ok(store) => {
+            store.facts();
+            let mut world = World::of(store, parts);
+            world.finish();
+            let (store, replies, journal, _broken) = world.into_parts();
+            store.facts();
+            Ok(ScriptRun {
+                replies,
+                journal,
+                disk: store.into_disk(),
+            })
+        }
+        Err(refused) => Err(refused),
+    }
+}
