@@ -6,6 +6,7 @@ use crate::logs::{tell_cuts, tell_log};
 use crate::mail::{tell_base64, tell_fields, tell_lines, tell_parts, tell_prepared};
 use crate::metadata::{tell_metadata, tell_refs};
 use crate::numbers::{tell_decimal, tell_hex, tell_lower};
+use crate::scripts::{tell_exercise, tell_moved, tell_script};
 use crate::storage::{tell_header, tell_message, tell_scan};
 use case_text::{CaseError, Command, Counts, Page, Taken};
 use mdbox_base::NoMemory;
@@ -86,6 +87,7 @@ impl Cases {
         self.page.report.count_run();
         match command.word {
             "rejoin" | "message" | "header" => self.of_words(command),
+            "script" | "exercise" | "moved" | "gone" => self.of_script(command),
             "lists" => self.step(command.rest),
             _ => self.of_octets(command),
         }
@@ -99,6 +101,17 @@ impl Cases {
             "rejoin" => tell_rejoined(self.alloc, out, texts, line),
             "message" => tell_message(self.alloc, out, texts, line),
             _ => tell_header(self.alloc, out, texts, line),
+        }
+    }
+
+    /// A script, or a reply of one.
+    fn of_script(&mut self, command: Command<'_>) -> Result<bool, NoMemory> {
+        let (texts, line) = (&self.page.texts, command.rest);
+        let out = self.page.report.found();
+        match command.word {
+            "script" => tell_script(self.alloc, out, texts, line),
+            "exercise" => tell_exercise(self.alloc, out, texts, line),
+            word => tell_moved(self.alloc, out, texts, line, word == "gone"),
         }
     }
 

@@ -16,6 +16,7 @@ mod logs;
 mod mail;
 mod metadata;
 mod numbers;
+mod scripts;
 mod storage;
 
 fn main(rt: HostRuntime) -> Result<()> {
