@@ -13,6 +13,7 @@ pub mod InstanceNumberLemmas
 pub mod KeptFileLemmas
 pub mod KeptMailLemmas
 pub mod KnownInstanceLemmas
+pub mod LeaveOutLemmas
 pub mod LookupLemmas
 pub mod MadeCallLemmas
 pub mod MadeLogLemmas
@@ -33,5 +34,8 @@ pub mod RemovalLemmas
 pub mod RoomLemmas
 pub mod ShownLemmas
 pub mod StoreFileLemmas
+pub mod SwitchCallLemmas
+pub mod SwitchCrashLemmas
+pub mod SwitchLemmas
 pub mod UnnamedLogLemmas
 pub mod UsedFileLemmas
