@@ -8,8 +8,10 @@ pub mod EntryRoomLemmas
 pub mod HighestFileLemmas
 pub mod HolderLemmas
 pub mod InstanceAppendLemmas
+pub mod InstanceFirmLemmas
 pub mod InstanceKeepingLemmas
 pub mod InstanceNumberLemmas
+pub mod InstanceRemovalLemmas
 pub mod KeptFileLemmas
 pub mod KeptMailLemmas
 pub mod KnownInstanceLemmas
@@ -39,3 +41,4 @@ pub mod SwitchCrashLemmas
 pub mod SwitchLemmas
 pub mod UnnamedLogLemmas
 pub mod UsedFileLemmas
+pub mod UselessLemmas

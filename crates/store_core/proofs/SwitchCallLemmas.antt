@@ -23,7 +23,7 @@ use Rattle.store_core.specs.Dues.{number_beside, due_at, leak_at, listed_at, IsS
 use Rattle.store_core.specs.MadeLogs.{KeepsMadeLogs}
 use Rattle.store_core.specs.Running.{IsStore}
 use Rattle.store_core.specs.StoreInstances.{IsNamedOrFirm, HasKnownInstances}
-use Rattle.store_core.specs.Switching.{Switches, HasPlaces, HasCopies, HasCopiesSynced, dues_switched}
+use Rattle.store_core.specs.Switching.{Switches, PlacesLieBelow, HasCopies, HasCopiesSynced, dues_switched}
 use Rattle.store_core.specs.Value.{StoreValue}
 use Rattle.store_core.proofs.BoxCrashLemmas.{ReadsImage}
 use Rattle.store_core.proofs.DueChangeLemmas.{as_many}
@@ -51,7 +51,7 @@ file_drawn fs n order is =
     let h : (f.0.file.0 ≤ fs.highest) × ((f.0.file.0 == n) ≡ true) = found_holds (λ (g : MailFile). g.file.0 == n) fs.files f.0 (λ g. g.file.0 ≤ fs.highest) f.1 order.below in
     subst (λ (k : ℕ). k ≤ fs.highest) (equal_is f.0.file.0 n h.1) h.0
 
-of_parts : {D : Type 0} → (h : Option History) (v : StoreValue D) (e : MapEntry) (n : ℕ) → IsStore h v → v.stopped ≡ false → Switches e n → MapInRange e → MapFits v.map e → n ≤ v.drawn.file → HasPlaces e v.map v.files.files v.drawn.file → HasCopies e v.map h → SwitchOf h v e n
+of_parts : {D : Type 0} → (h : Option History) (v : StoreValue D) (e : MapEntry) (n : ℕ) → IsStore h v → v.stopped ≡ false → Switches e n → MapInRange e → MapFits v.map e → n ≤ v.drawn.file → PlacesLieBelow e v.map v.files.files v.drawn.file → HasCopies e v.map h → SwitchOf h v e n
 of_parts h v (entry.P f t ms us) n s running is in_range fits drawn places copies = record {
   f = f;
   t = t;
@@ -72,7 +72,7 @@ of_parts h v (entry.E f) n s running is in_range fits drawn places copies = absu
 
 -- by what the caller sees
 pub switch_of : {D : Type 0} → (h : Option History) (v now : StoreValue D) (e : MapEntry) (n : ℕ) → IsStore h v → v ≡ now → AreFilesInOrder v.files → now.stopped ≡ false → Switches e n → MapInRange e → MapFits now.map e → is_emptied_in n now.files.files ≡ true
-    → HasPlaces e now.map now.files.files now.drawn.file → HasCopies e now.map h → SwitchOf h v e n
+    → PlacesLieBelow e now.map now.files.files now.drawn.file → HasCopies e now.map h → SwitchOf h v e n
 switch_of h v now e n s is order running switches in_range fits emptied places copies =
     let s2 : IsStore h now = subst (IsStore h) is s in
     let o2 : AreFilesInOrder now.files = subst (λ (x : StoreValue _). AreFilesInOrder x.files) is order in

@@ -18,10 +18,10 @@ Switches (map_entry.P file target moved dropped) number = file.0 ≡ number
 Switches entry number = ⊥
 
 -- The place of each record that is moved lies below the end of the target, which is drawn and isn't doomed.
-abbrev pub HasPlaces : MapEntry → MapMeaning → List MailFile → ℕ → Type 0
-HasPlaces (map_entry.P file target moved dropped) m files drawn =
+abbrev pub PlacesLieBelow : MapEntry → MapMeaning → List MailFile → ℕ → Type 0
+PlacesLieBelow (map_entry.P file target moved dropped) m files drawn =
     (target ≤ drawn) × All (λ place. HasRecord m place.uid.0 (λ row. LiesBelowEnd m.store files (record row { file = target; offset = place.offset }))) moved
-HasPlaces entry m files drawn = ⊥
+PlacesLieBelow entry m files drawn = ⊥
 
 -- what is moved stands there octet for octet, as the disk reads it
 abbrev pub HasCopies : MapEntry → MapMeaning → Option History → Type 0

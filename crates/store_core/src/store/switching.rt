@@ -18,7 +18,7 @@ ghost use Rattle.store_core.specs.Append.{AddsText};
 ghost use Rattle.store_core.specs.Dues.{due_at, leak_at, IsSpared, KeepsStored};
 ghost use Rattle.store_core.specs.Keeping.{KeepsMail};
 ghost use Rattle.store_core.specs.StoreInstances.{IsNamedOrFirm};
-ghost use Rattle.store_core.specs.Switching.{Switches, HasPlaces, HasCopies, HasCopiesSynced, dues_switched, dues_without};
+ghost use Rattle.store_core.specs.Switching.{Switches, PlacesLieBelow, HasCopies, HasCopiesSynced, dues_switched, dues_without};
 
 use super::Store;
 use crate::error::Stopped;
@@ -29,6 +29,16 @@ use map_index::MapIndex;
 use mdbox_base::{FileNo, MapEntry, MapUid, NoMemory};
 
 impl<D: Disk> Store<D> {
+    /// Of a settled disk, each known instance may be named again once the entry has switched a file: what `switch_file` asks.
+    pub fn known_firm(&self, entry: &MapEntry)
+        requires running { self.now.stopped ≡ false }
+        requires switches { (number : ℕ) × Switches entry.now number }
+        ensures { (lists : Lists) → IsSettledFor lists (D.history self.now.disk) → IfTold (D.history self.now.disk) (λ now. All (IsNamedOrFirm (map_applied entry.now self.now.map) now) self.now.instances.known) }
+    {
+        let _ = &self.map;
+        let _ = entry;
+    }
+
     /// Switches a storage file that was taken to be emptied: an entry of the map log moves its records to where they were
     /// copied, and drops those with count 0; then the file is doomed. Answers whether it has no pin. The room for the entry was
     /// made before, and `text` is where it is laid out. A change of the disk that fails stops the store.
@@ -45,7 +55,7 @@ impl<D: Disk> Store<D> {
         requires emptied { is_emptied_in file.0 self.old.files.files ≡ true }
         requires room { length (map_text entry.now) + 5 ≤ self.old.map_log.room }
         requires text { length text.old ≡ length (map_text entry.now) }
-        requires places { HasPlaces entry.now self.old.map self.old.files.files self.old.drawn.file }
+        requires places { PlacesLieBelow entry.now self.old.map self.old.files.files self.old.drawn.file }
         requires copies { HasCopies entry.now self.old.map (D.history self.old.disk) }
 
         // An instance that no record names any more may be named again.
