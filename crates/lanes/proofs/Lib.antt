@@ -6,6 +6,8 @@ pub mod LeftLemmas
 pub mod OpeningLemmas
 pub mod PartsLemmas
 pub mod RoomLemmas
+pub mod RoundLemmas
 pub mod SoundLemmas
 pub mod TraceLemmas
+pub mod WaitingLemmas
 pub mod WorldLemmas

@@ -1,7 +1,8 @@
 -- A script that lanes of tasks serve.
 use Rattle.std.specs.Prelude.{◌≡◌, ◌≢◌, ◌≤◌, ◌+◌, ◌∷◌, ℕ, false, List, [], All, length, map, slice_get, Option, Some}
-use Rattle.disk_model.specs.Disk.{History, Faults, told_calls}
+use Rattle.disk_model.specs.Disk.{History, Faults, Grows, told_calls}
 use Rattle.disk_model.specs.FaultCounts.{NoFault}
+use Rattle.mdbox_base.specs.Streams.{Rose}
 use Rattle.mdbox_base.specs.declared.progress.Did.{Did}
 use Rattle.mdbox_base.specs.declared.progress.Did.TheVariants as did
 use Rattle.mdbox_base.specs.declared.replies.Refusal.TheVariants as refusal
@@ -21,7 +22,7 @@ use Rattle.serving.specs.Lanes.{queue_of}
 use Rattle.serving.specs.Serving.{HaveLanes, IsServing}
 use Rattle.store_core.specs.Value.{StoreValue}
 use Rattle.task_steps.specs.Serves.{BreaksBy}
-use Rattle.task_steps.specs.Step.{Seen, ended_by}
+use Rattle.task_steps.specs.Step.{FaultsGrow, IsFault, Seen, ended_by}
 use Rattle.mail_fetch.specs.Task.{seen_in}
 use Rattle.lane_tasks.specs.Clause.{DoomsNothing}
 use Rattle.lane_tasks.specs.Tasks.{BeginsTask, IsReadyTask, StandsTask, claims_at}
@@ -70,8 +71,9 @@ pub record IsStepOf (lane place : ℕ) (run : Run) (step : JournalStep) : Type 0
 
 -- It is an event of this lane and of its request, with the reply that it gave, and ended at the disk's present moment; it has an entry
 -- in the journal if it was a step; and where its append failed, the step that it would have been is broken, from the moment on at which
--- the event began, and no other one is. At each moment of it storage files and instances have what the map needed as it began.
-pub record AddsEvent (lane : ℕ) (event : LaneEvent) (run : Run) (m : MapMeaning) (before after : Option History) (added : RunEvent) (steps : List JournalStep) (broken failed : Broken) : Type 0 where
+-- the event began, and no other one is. At each moment of it storage files and instances have what the map needed as it began. The counts
+-- of faults never fall; that of failed changes rose if one failed, that of failed reads if it was refused so, and else no call failed.
+pub record AddsEvent (lane : ℕ) (event : LaneEvent) (run : Run) (m : MapMeaning) (before after : Option History) (first second : Faults) (added : RunEvent) (steps : List JournalStep) (broken failed : Broken) : Type 0 where
   pub lane_is : added.lane ≡ lane
   pub request_is : added.request ≡ event.place
   pub reply_is : added.reply ≡ ended_by event.ended
@@ -80,7 +82,11 @@ pub record AddsEvent (lane : ℕ) (event : LaneEvent) (run : Run) (m : MapMeanin
   pub steps_are : All (IsStepOf lane event.place run) steps
   pub breaks : BreaksBy event.did run added (told_calls before) broken failed
   pub once : (half : Half) → event.did ≡ did.Broken half → broken ≡ no_broken
+  pub grows : Grows before after
   pub mail : MailIsKept m before after
+  pub faults : FaultsGrow (IsFault event.did) first second
+  pub reads : added.refused ≡ Some refusal.ReadFault → Rose first.reads second.reads
+  pub unfailed : added.refused ≢ Some refusal.ReadFault → (IsFault event.did → ⊥) → NoFault first second
 
 -- ---- how lanes begin
 
