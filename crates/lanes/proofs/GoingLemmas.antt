@@ -42,6 +42,7 @@ use Rattle.lanes.specs.Worlds.{BeginsSome}
 use Rattle.lanes.specs.Rows.{LaneRow, RowGoesOn, lane_value, lanes_of, next_in_turn, queue_in, after_event}
 use Rattle.lanes.specs.declared.lane.LaneEvent.{LaneEvent}
 use Rattle.lanes.specs.declared.lane.Queued.{Queued}
+use Rattle.lanes.proofs.DamageLemmas.{stands_undamaged, undamaged_on}
 use Rattle.lanes.proofs.FindingLemmas.{can_answer, finds_room, uses_taken}
 
 -- ---- rows
@@ -301,6 +302,9 @@ going_on {D} start script run journal broken replies began rows k row now event 
         accounts = λ runs. accounts_row rows k row now event old new before after first second there (begin_some script (k + 1) row.waiting are) runs g (s.accounts (ran runs));
         undoomed = λ runs. g.goes.undoomed runs (s.undoomed (ran runs));
         fetched = s.fetched;
+        undamaged = undamaged_on (around_at g.queued.task turn.0 old nothing_around) nothing_around script run replies (k + 1) g.queued.place turn.0 (left_by start journal) d.0.makes.event (ended_by event.ended) (and_told (said_by journal g.queued.place) d.0.makes.answer) turn.1.asked turn.1.unanswered d.0.makes.request_is
+            d.0.makes.ended_is d.0.makes.is_event d.0.ends.replied (λ more name uid fetch. stands_undamaged g.next new after name uid then_run g.queued.place (and_told (said_by journal g.queued.place) d.0.makes.answer)
+            (subst (λ (q : Request). StandsTask g.next new after q then_run g.queued.place (and_told (said_by journal g.queued.place) d.0.makes.answer)) fetch (d.1 more))) s.undamaged;
         quiet = λ runs unread. quiet_then ran d.0.ends.unfailed (unfaulted turn.0 run (left_by start journal) d.0.left d.0.makes.event d.0.makes.answer (seen_in old before first) (seen_in new after second) (did_of g.next) d.0.went) runs unread;
       })),
 )

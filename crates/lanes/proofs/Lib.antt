@@ -1,4 +1,5 @@
 pub mod BeginLemmas
+pub mod DamageLemmas
 pub mod EntryLemmas
 pub mod FindingLemmas
 pub mod GoingLemmas

@@ -5,6 +5,7 @@ use Rattle.disk_model.specs.FaultCounts.{NoFault}
 use Rattle.mdbox_base.specs.Streams.{Rose}
 use Rattle.mdbox_base.specs.declared.progress.Did.{Did}
 use Rattle.mdbox_base.specs.declared.progress.Did.TheVariants as did
+use Rattle.mdbox_base.specs.declared.replies.Refusal.{Refusal}
 use Rattle.mdbox_base.specs.declared.replies.Refusal.TheVariants as refusal
 use Rattle.mdbox_base.specs.declared.replies.Reply.{Reply}
 use Rattle.mdbox_base.specs.declared.requests.Request.{Request}
@@ -15,8 +16,8 @@ use Rattle.model_kept.specs.Kept.{MailIsKept}
 use Rattle.model_meaning.specs.MapMeaning.{MapMeaning}
 use Rattle.model_store.specs.Settled.{IsSettledFor}
 use Rattle.model_lists.specs.Lists.{Lists}
-use Rattle.list_machine.specs.Run.{Run, RunEvent}
-use Rattle.journal.specs.Journal.{Broken, JournalStep, Requests, no_broken}
+use Rattle.list_machine.specs.Run.{Run, RunEvent, own_events}
+use Rattle.journal.specs.Journal.{Broken, HasReply, JournalStep, Requests, no_broken, refusal_in}
 use Rattle.serving.specs.Accounts.{LanesAccount}
 use Rattle.serving.specs.Lanes.{queue_of}
 use Rattle.serving.specs.Serving.{HaveLanes, IsServing}
@@ -42,10 +43,24 @@ WaitsWithTask script lane queued = (asked : Request) × (slice_get script queued
 abbrev pub AreWaiting : Requests → ℕ → List Queued → Type 0
 AreWaiting script lane waiting = All (WaitsWithTask script lane) waiting
 
+-- a refusal says that a message is damaged
+abbrev pub TellsDamage : Option Refusal → Type 0
+TellsDamage (Some (refusal.Damaged file offset)) = Unit {0}
+TellsDamage other = ⊥
+
+abbrev pub IsUndamaged : RunEvent → Type 0
+IsUndamaged event = TellsDamage event.refused → ⊥
+
+-- No event of a fetch met damage, and no request was replied that a message is damaged.
+pub record AreUndamaged (script : Requests) (run : Run) (replies : List (Option Reply)) : Type 0 where
+  pub events : (place lane : ℕ) (name : List ℕ) (uid : Uid) → slice_get script place ≡ Some (lane, request.Fetch name uid) → All IsUndamaged (own_events place run)
+  pub none_told : (i : ℕ) (given : Reply) → HasReply replies i given → TellsDamage (refusal_in given) → ⊥
+
 -- A script is being served by lanes, of which there are 64 at most, from these lists and from a store as it was seen then, by the
 -- events of this run: with this journal, these broken steps and these replies so far, each lane's request in turn stands where its task
 -- does, those behind it begin; and unless the store is stopped, the lanes account for it, no storage file is doomed, and no call of the
--- disk has failed but for those that read faults tell. A script with a fetch is served so from a settled disk alone.
+-- disk has failed but for those that read faults tell. A script with a fetch is served so from a settled disk alone, and no message that
+-- it reads is damaged.
 pub record IsGoing {D : Type 0} (start : Lists) (script : Requests) (run : Run) (journal : List JournalStep) (broken : Broken) (replies : List (Option Reply)) (began : Seen) (store : StoreValue D) (history : Option History) (faults : Faults) (rows : List LaneRow) : Type 0 where
   pub serving : IsServing (stands_in store history) start script run journal broken replies began (seen_in store history faults) (lanes_of rows)
   pub lanes : HaveLanes script (lanes_of rows)
@@ -55,6 +70,7 @@ pub record IsGoing {D : Type 0} (start : Lists) (script : Requests) (run : Run) 
   pub undoomed : store.stopped ≡ false → DoomsNothing store
   pub quiet : store.stopped ≡ false → All (λ event. event.refused ≢ Some refusal.ReadFault) run.events → NoFault began.faults faults
   pub fetched : (place lane : ℕ) (name : List ℕ) (uid : Uid) → slice_get script place ≡ Some (lane, request.Fetch name uid) → IsSettledFor start began.history
+  pub undamaged : AreUndamaged script run replies
 
 -- ---- what an event of a lane adds to the run and to the journal
 
