@@ -33,7 +33,7 @@ pub rounds_more : {D : Type 0} → (last lane : ℕ) (lanes : List ℕ) (old mid
 rounds_more {D} last lane [] old mid new before between after first next second g busy event turns =
     subst (λ (w : WorldValue D). GoesInRounds last (lane ∷ []) w new before after first second) g.0
     (subst (λ (h : Option History). GoesInRounds last (lane ∷ []) mid new h after first second) g.1
-    (subst (λ (f : Faults). GoesInRounds last (lane ∷ []) mid new between after f second) g.2 (new, after, second, busy, event, turns, refl, refl, refl)))
+    (subst (λ (f : Faults). GoesInRounds last (lane ∷ []) mid new between after f second) g.2 (new, after, second, busy, event, turns, (refl, refl, refl))))
 rounds_more {D} last lane (a ∷ lanes) old mid new before between after first next second g busy event turns =
     (g.0, g.1, g.2, g.3, g.4, g.5, rounds_more a lane lanes g.0 mid new g.1 between after g.2 next second g.6 busy event turns)
 
@@ -188,3 +188,11 @@ next_round last lane rows some_lane within busy between behind = record {
         let o = turns_round (length rows) last other earlier in
         let l = turns_round (length rows) last lane before in
         between other (omega (arith, some)) (omega (arith, sooner, o, l, earlier, before))
+
+-- one lane more has no request left
+pub idle_more : (after place : ℕ) (rows : List LaneRow) (row : LaneRow) → AreIdleBetween after (place + 1) rows → slice_get rows place ≡ Some row → (row.current ≡ None) × (row.waiting ≡ []) → AreIdleBetween after (place + 1 + 1) rows
+idle_more after place rows row idle there none lane some most = by_case (less_cases lane (place + 1))
+  where
+    by_case : (lane < place + 1) ⊎ (place + 1 ≤ lane) → IsIdleLane lane rows
+    by_case (inl less) = idle lane some less
+    by_case (inr last) = let at : lane - 1 ≡ place = omega (arith, last, most) in (row, ap (slice_get rows) at ∙ there, none.0, none.1)
