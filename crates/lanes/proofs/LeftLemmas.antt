@@ -169,5 +169,5 @@ left_falls {D} k old new before after first second w s = by_stop new.store.stopp
         omega (arith, r, n, o)
 
 -- the same, as a world's own call has it
-pub left_from : {D : Type 0} → (was old new : WorldValue D) → was ≡ old → world_left new < world_left was → world_left new < world_left old
-left_from was old new same less = subst (λ (v : WorldValue _). world_left new < world_left v) same less
+pub left_from : {D : Type 0} → (k : ℕ) (was old new : WorldValue D) (before after : Option History) (first second : Faults) → was ≡ old → Works k was new before after first second → IsSoundWorld before was → world_left new < world_left old
+left_from k was old new before after first second same w sound = subst (λ (v : WorldValue _). world_left new < world_left v) same (left_falls k was new before after first second w sound)

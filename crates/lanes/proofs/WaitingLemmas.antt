@@ -215,4 +215,5 @@ rows_wait_once script rows lanes many all of place inside =
     let in_lanes = all_at (λ (asked : ℕ × Request). (0 < asked.0) × (asked.0 ≤ lanes)) script place a.0 of a.1 in
     let low = in_lanes.0 in
     let high = in_lanes.1 in
-    one_of_lanes (λ (r : LaneRow). times_in place (queue_in r)) rows 0 a.0.0 low (omega (arith, high, many)) (λ k row there. ap (times_in place) (all k row there) ∙ (queue_times (k + 1) 0 script place a.0 a.1 ∙ ap (λ (n : ℕ). one_if (a.0.0 == n)) (let e : k + 1 ≡ 0 + k + 1 = omega arith in e)))
+    let at : place ≡ 0 + place = omega arith in
+    one_of_lanes (λ (r : LaneRow). times_in place (queue_in r)) rows 0 a.0.0 low (omega (arith, high, many)) (λ k row there. ap (times_in place) (all k row there) ∙ (ap (λ (n : ℕ). times_in n (queue_of (k + 1) 0 script)) at ∙ queue_times (k + 1) 0 script place a.0 a.1 ∙ ap (λ (n : ℕ). one_if (a.0.0 == n)) (let e : k + 1 ≡ 0 + k + 1 = omega arith in e)))
