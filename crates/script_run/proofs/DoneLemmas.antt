@@ -34,7 +34,7 @@ use Rattle.lanes.specs.Going.{AreFreshRows, IsGoing}
 use Rattle.lanes.specs.Rows.{LaneRow, lane_value, lanes_of}
 use Rattle.lane_tasks.specs.Tasks.{HasTask}
 use Rattle.attach_detach.specs.declared.message.Prepared.{Prepared}
-use Rattle.lanes.specs.Worlds.{AreGiven, AreOfLanes, ArePartsOf, GoesOnBy, HasItsMessage, IsFreshWorld, IsWorldOf, PartsValue, WorldValue, and_events, replied_in, world_begun}
+use Rattle.lanes.specs.Worlds.{AreGiven, AreOfLanes, ArePartsOf, HasItsMessage, IsFreshWorld, IsServedOn, IsWorldOf, PartsValue, WorldValue, and_events, replied_in, world_begun}
 use Rattle.script_run.specs.Done.{IsScriptDone, MayRead}
 use Rattle.script_run.specs.Faults.{FaultsByReplies, HasReadFault}
 use Rattle.script_run.specs.Opening.{AreSafeFor, LogsShowLists}
@@ -105,6 +105,7 @@ begins_from start script lanes parts old mid first s o world law g are shows may
       undoomed = g.undoomed;
       quiet = g.quiet;
       fetched = λ place lane name uid at. may (fetches script place lane name uid at);
+      undamaged = g.undamaged;
     })
 
 -- ---- the end
@@ -156,7 +157,8 @@ pub record ScriptRan {D : Type 0} (script : Requests) (old mid new : Option Hist
   pub show : LogsShow
   pub unpurged : (i : ℕ) (asked : ℕ × Request) → slice_get script i ≡ Some asked → Purges asked.1 → ⊥
   pub begins : (start : Lists) → LogsShowLists s.map (indexes_of s.boxes) start → MayRead script start old → IsWorldOf start script (beginning s.map opened.store.entries) [] no_broken (before_opening (seen_in s mid first) old) mid first world
-  pub goes : GoesOnBy world ended mid new first last
+  pub turns : List ℕ
+  pub goes : IsServedOn turns world ended mid new first last
   pub idle : AreIdle (lanes_of ended.rows)
   pub later : IsStore new ended.store
   pub law : LanesEnd D
@@ -179,7 +181,7 @@ replies_of_run : {D : Type 0} → (script : Requests) (old mid new : Option Hist
 replies_of_run script old mid new first last s world ended r start shows may =
     let w = r.goes start script (beginning s.map r.opened.store.entries) [] no_broken (before_opening (seen_in s mid first) old) (r.begins start shows may) in
     let run : Run = and_events (beginning s.map r.opened.store.entries) w.0 in
-    let going = w.3.going in
+    let going = w.4.going in
     let many : length ended.replies ≡ length script = going.serving.given.0 in
     let g = all_given ended.replies (λ i l. let e = r.law start script run w.1 w.2 ended.replies _ ended.store new last ended.rows going r.idle i (subst (λ (n : ℕ). i < n) many l) in (e.0, e.1)) in
     let legal = subst (λ (rs : List (Option Reply)). IsLegal start script run w.1 rs first last) g.1 going.serving.serves.legal in (
@@ -205,9 +207,9 @@ serves_run script old mid new first last s world ended r given are start shows m
     let from : Seen = before_opening (seen_in s mid first) old in
     let w = r.goes start script (beginning s.map r.opened.store.entries) [] no_broken from (r.begins start shows may) in
     let run : Run = and_events (beginning s.map r.opened.store.entries) w.0 in
-    let going = subst (λ (rs : List (Option Reply)). IsGoing start script run w.1 w.2 rs from ended.store new last ended.rows) are w.3.going in
+    let going = subst (λ (rs : List (Option Reply)). IsGoing start script run w.1 w.2 rs from ended.store new last ended.rows) are w.4.going in
     script_served start script run w.1 w.2 given ended.journal from ended.began ended.store new last ended.rows going going.serving.stays_stopped r.later r.opened.drawn (opening_begins old mid s r.opened)
-    (λ e. let i = going.serving.replied_stopped e in given_at given i.0 (reply.Refused refusal.Stopped) i.1) w.3.entries
+    (λ e. let i = going.serving.replied_stopped e in given_at given i.0 (reply.Refused refusal.Stopped) i.1) w.4.entries
 
 -- Some lists are shown from which the script may be served, if there are lists from which it may read.
 start_of : {D : Type 0} → (script : Requests) (old mid : Option History) (s : StoreValue D) → OpenedNow old mid s → LogsShow → ((lists : Lists) × MayRead script lists old) → (start : Lists) × LogsShowLists s.map (indexes_of s.boxes) start × MayRead script start old
@@ -237,14 +239,15 @@ script_done script old mid new first last s world ended r some =
     )
 
 -- What a script's run says of the opening, of the world and of its end: so it is done.
-pub script_ran : {D : Type 0} → (script : Requests) (lanes : ℕ) (prepared : List (Option Prepared)) (parts : PartsValue) (old mid new : Option History) (first last : Faults) (s : StoreValue D) (world ended : WorldValue D) → (o : OpenedNow old mid s) → LogsShow → AreGiven script prepared → ArePartsOf script lanes parts → IsFreshWorld s parts mid world
+pub script_ran : {D : Type 0} → (script : Requests) (lanes : ℕ) (prepared : List (Option Prepared)) (parts : PartsValue) (old mid new : Option History) (first last : Faults) (s : StoreValue D) (world ended : WorldValue D) (turns : List ℕ) → (o : OpenedNow old mid s) → LogsShow → AreGiven script prepared → ArePartsOf script lanes parts → IsFreshWorld s parts mid world
     → ((start : Lists) → MayRead script start old → LogsShowLists s.map (indexes_of s.boxes) start → (run : Run) → IsAtOpening run s → HasCome run s.map s.drawn (told_calls mid) → IsGoing start script run [] no_broken (unreplied script) (seen_in s mid first) s mid first parts.rows)
-    → GoesOnBy world ended mid new first last → AreIdle (lanes_of ended.rows) → IsStore new ended.store → WorldsBegin D → LanesEnd D → ScriptRan script old mid new first last s world ended
-script_ran script lanes prepared parts old mid new first last s world ended o show given are begun going goes idle later begin law = record {
+    → IsServedOn turns world ended mid new first last → AreIdle (lanes_of ended.rows) → IsStore new ended.store → WorldsBegin D → LanesEnd D → ScriptRan script old mid new first last s world ended
+script_ran script lanes prepared parts old mid new first last s world ended turns o show given are begun going goes idle later begin law = record {
   opened = o;
   show = show;
   unpurged = none_purges script prepared given;
   begins = λ start shows may. begins_from start script lanes parts old mid first s o world begin (going start may shows (beginning s.map o.store.entries) (at_opening old mid s o) (first_come old mid (told_calls mid) s o)) are shows may begun;
+  turns = turns;
   goes = goes;
   idle = idle;
   later = later;
@@ -252,12 +255,12 @@ script_ran script lanes prepared parts old mid new first last s world ended o sh
 }
 
 -- So its replies are given, and it is done.
-pub run_done : {D : Type 0} → (history : D → Option History) (faults : D → Faults) (script : Requests) (lanes : ℕ) (prepared : List (Option Prepared)) (parts : PartsValue) (old : Option History) (s : StoreValue D) (world ended : WorldValue D) → (o : OpenedNow old (history s.disk) s) → LogsShow → AreGiven script prepared → AreOfLanes lanes script → lanes ≤ 64
-    → ArePartsOf script lanes parts → HasNoTask s → LanesBegin D → WorldsBegin D → LanesEnd D → IsFreshWorld s parts (history s.disk) world → GoesOnBy world ended (history world.store.disk) (history ended.store.disk) (faults world.store.disk) (faults ended.store.disk) → AreIdle (lanes_of ended.rows) → IsStore (history ended.store.disk) ended.store → ((lists : Lists) × MayRead script lists old)
+pub run_done : {D : Type 0} → (history : D → Option History) (faults : D → Faults) (script : Requests) (lanes : ℕ) (prepared : List (Option Prepared)) (parts : PartsValue) (old : Option History) (s : StoreValue D) (world ended : WorldValue D) (turns : List ℕ) → (o : OpenedNow old (history s.disk) s) → LogsShow → AreGiven script prepared → AreOfLanes lanes script → lanes ≤ 64
+    → ArePartsOf script lanes parts → HasNoTask s → LanesBegin D → WorldsBegin D → LanesEnd D → IsFreshWorld s parts (history s.disk) world → IsServedOn turns world ended (history world.store.disk) (history ended.store.disk) (faults world.store.disk) (faults ended.store.disk) → AreIdle (lanes_of ended.rows) → IsStore (history ended.store.disk) ended.store → ((lists : Lists) × MayRead script lists old)
     → (given : List Reply) × (ended.replies ≡ map Some given) × IsScriptDone script given ended.journal old (history ended.store.disk) (faults s.disk) (faults ended.store.disk)
-run_done {D} history faults script lanes prepared parts old s world ended o show given in_lanes few are unused begin world_begin end begun goes idle later some =
+run_done {D} history faults script lanes prepared parts old s world ended turns o show given in_lanes few are unused begin world_begin end begun goes idle later some =
     script_done script old (history s.disk) (history ended.store.disk) (faults s.disk) (faults ended.store.disk) s world ended
-    (script_ran script lanes prepared parts old (history s.disk) (history ended.store.disk) (faults s.disk) (faults ended.store.disk) s world ended o show given are begun going went idle later world_begin end)
+    (script_ran script lanes prepared parts old (history s.disk) (history ended.store.disk) (faults s.disk) (faults ended.store.disk) s world ended turns o show given are begun going went idle later world_begin end)
     some
   where
     going : (start : Lists) → MayRead script start old → LogsShowLists s.map (indexes_of s.boxes) start → (run : Run) → IsAtOpening run s → HasCome run s.map s.drawn (told_calls (history s.disk)) → IsGoing start script run [] no_broken (unreplied script) (seen_in s (history s.disk) (faults s.disk)) s (history s.disk) (faults s.disk) parts.rows
@@ -265,8 +268,8 @@ run_done {D} history faults script lanes prepared parts old s world ended o show
         begin start script run parts.rows s (history s.disk) (faults s.disk) at come unused o.running shows are.rows (of_lanes script lanes parts.rows are.many in_lanes) (subst (λ (n : ℕ). n ≤ 64) (sym are.many) few)
         (λ place lane name uid there. o.settled_again start (may (fetches script place lane name uid there)))
 
-    went : GoesOnBy world ended (history s.disk) (history ended.store.disk) (faults s.disk) (faults ended.store.disk)
-    went = subst (λ (t : StoreValue D). GoesOnBy world ended (history t.disk) (history ended.store.disk) (faults t.disk) (faults ended.store.disk)) (ap (λ (w : WorldValue D). w.store) begun.2) goes
+    went : IsServedOn turns world ended (history s.disk) (history ended.store.disk) (faults s.disk) (faults ended.store.disk)
+    went = subst (λ (t : StoreValue D). IsServedOn turns world ended (history t.disk) (history ended.store.disk) (faults t.disk) (faults ended.store.disk)) (ap (λ (w : WorldValue D). w.store) begun.2) goes
 
 -- what a world is taken apart into
 abbrev pub EndedParts : Type 0 → Type 0

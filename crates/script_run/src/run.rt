@@ -8,7 +8,7 @@ ghost use Rattle.script_run.specs.Opening.{IsUnopened};
 
 use attach_detach::Prepared;
 use disk_model::Disk;
-use lanes::{World, WorldParts, lanes_begin, lanes_end, worlds_begin};
+use lanes::{World, WorldParts, lanes_begin, lanes_end, worlds_begin, worlds_go_on};
 use mdbox_base::{JournalEntry, Reply, Script, Seq};
 use std::alloc::Global;
 use store_core::listings_are_shown;
@@ -41,6 +41,7 @@ pub fn run_script<D: Disk>(
     lanes_begin::<D>();
     worlds_begin::<D>();
     lanes_end::<D>();
+    worlds_go_on::<D>();
     let lanes = script.lanes;
     let Ok(parts) = WorldParts::of(alloc, script, prepared) else {
         return Err(OpenRefused {
