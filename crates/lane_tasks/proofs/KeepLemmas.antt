@@ -1,5 +1,5 @@
 -- What an event of a task keeps, by its kind.
-use Rattle.std.specs.Prelude.{◌≢◌, ◌↔◌, ◌⊎◌}
+use Rattle.std.specs.Prelude.{◌↔◌, ◌⊎◌}
 use Rattle.std.proofs.Common.{◌≡◌, ◌≤◌, ℕ, Bool, true, false, List, Option, Some, None, refl, sym, ◌∙◌, ap, subst, arith, inl, inr}
 use Rattle.disk_model.specs.Disk.{History, Faults, Grows, IsIdle, DiskState, told_calls}
 use Rattle.disk_model.specs.declared.name.FileName.TheVariants as file
@@ -47,7 +47,7 @@ use Rattle.mail_ops.specs.declared.moving.MoveStage.TheVariants as move_stage
 use Rattle.mail_save.specs.SaveEffects.{SaveEffects}
 use Rattle.mail_save.specs.declared.task.SaveStage.{SaveStage}
 use Rattle.mail_save.specs.declared.task.SaveStage.TheVariants as save_stage
-use Rattle.lane_tasks.specs.Clause.{IsBegun, IsKeptFor, IsSameKind, KeepsStore, OnlyReads, WritesTask}
+use Rattle.lane_tasks.specs.Clause.{IsBegun, IsSameKind, KeepsStore, OnlyReads, WritesTask}
 use Rattle.lane_tasks.specs.declared.task.Task.{Task}
 use Rattle.lane_tasks.specs.declared.task.Task.TheVariants as task
 use Rattle.lane_tasks.proofs.StepLemmas.{ran_before}
@@ -100,9 +100,9 @@ keeps_by history faults t next old new answer kind mail halts still fault unfail
   changes = more old.stopped refl;
   unfailed = λ runs. ap (λ (f : Faults). f.changes) (unfailed (λ e. absurd (let k : true ≡ false = sym (halts.0 e) ∙ runs in cc k)));
   idle = λ r. (
-      idle_same (reads r),
-      subst (λ (d : _). (faults d).changes ≡ (faults old.disk).changes) (sym (disk_same (reads r))) refl,
-    );
+    idle_same (reads r),
+    subst (λ (d : _). (faults d).changes ≡ (faults old.disk).changes) (sym (disk_same (reads r))) refl,
+  );
   refused = λ why begun e step. idle_same (by_stop why begun (answered answer why e) step old.stopped refl);
   left = λ runs. writes (mail.left (runs ∙ sym (ran_before old.stopped new.stopped (λ was. ap (λ (s : StoreValue _). s.stopped) (still was) ∙ was) runs)));
 }
@@ -168,6 +168,17 @@ pub keeps_saving : {D : Type 0} → (history : D → Option History) (faults : D
     → (old.stopped ≡ false → Saves t.stage next.stage t.name t.time t.size answer next.did old new (history old.disk) (history new.disk) (faults old.disk) (faults new.disk)) → Same history faults (task.Deliver t) (task.Deliver next) old new (ended_by answer)
 keeps_saving history faults t next old new answer ends saves = by_run old.stopped refl
   where
+    idle_same : new ≡ old → IsIdle (history old.disk) (history new.disk)
+    idle_same same = subst (λ (d : _). IsIdle (history old.disk) (history d)) (sym (ap (λ (s : StoreValue _). s.disk) same)) (idle-begins (history old.disk))
+
+    saving_refused : (prepared : Prepared) (now later : SaveStage) (a : Progress) (why : Refusal) → now ≡ save_stage.First prepared → ended_by a ≡ Some (reply.Refused why) → SaveEffects now later t.name t.time t.size a old new → new ≡ old
+    saving_refused prepared now later a why is e effects = first_refused later a e (subst (λ (k : SaveStage). SaveEffects k later t.name t.time t.size a old new) is effects)
+      where
+        first_refused : (later : SaveStage) (a : Progress) → ended_by a ≡ Some (reply.Refused why) → SaveEffects (save_stage.First prepared) later t.name t.time t.size a old new → new ≡ old
+        first_refused save_stage.Ended (progress.Done (reply.Refused other)) e s = s
+        first_refused later progress.More e s = absurd (let n : None ≡ Some (reply.Refused why) = e in cc n)
+        first_refused later a e s = absurd s
+
     ran : Saves t.stage next.stage t.name t.time t.size answer next.did old new (history old.disk) (history new.disk) (faults old.disk) (faults new.disk) → Same history faults (task.Deliver t) (task.Deliver next) old new (ended_by answer)
     ran s =
         let f = rose_as answer (faults old.disk) (faults new.disk) s.faults in
@@ -183,17 +194,6 @@ keeps_saving history faults t next old new answer ends saves = by_run old.stoppe
           left = λ runs. s.mail runs;
         }
 
-    idle_same : new ≡ old → IsIdle (history old.disk) (history new.disk)
-    idle_same same = subst (λ (d : _). IsIdle (history old.disk) (history d)) (sym (ap (λ (s : StoreValue _). s.disk) same)) (idle-begins (history old.disk))
-
-    saving_refused : (prepared : Prepared) (now later : SaveStage) (a : Progress) (why : Refusal) → now ≡ save_stage.First prepared → ended_by a ≡ Some (reply.Refused why) → SaveEffects now later t.name t.time t.size a old new → new ≡ old
-    saving_refused prepared now later a why is e effects = first_refused later a e (subst (λ (k : SaveStage). SaveEffects k later t.name t.time t.size a old new) is effects)
-      where
-        first_refused : (later : SaveStage) (a : Progress) → ended_by a ≡ Some (reply.Refused why) → SaveEffects (save_stage.First prepared) later t.name t.time t.size a old new → new ≡ old
-        first_refused save_stage.Ended (progress.Done (reply.Refused other)) e s = s
-        first_refused later progress.More e s = absurd (let n : None ≡ Some (reply.Refused why) = e in cc n)
-        first_refused later a e s = absurd s
-
     by_run : (b : Bool) → old.stopped ≡ b → Same history faults (task.Deliver t) (task.Deliver next) old new (ended_by answer)
     by_run true was = keeps_still history faults (task.Deliver t) (task.Deliver next) old new (ended_by answer) tt (λ runs synced. absurd (let k : false ≡ true = sym runs ∙ (ap (λ (s : StoreValue _). s.stopped) (ends.still was) ∙ was) in cc k)) (ends.still was)
     by_run false r = ran (saves r)
@@ -202,7 +202,7 @@ keeps_saving history faults t next old new answer ends saves = by_run old.stoppe
 
 -- a refusal that is a step is neither of these
 not_a_step : (why other : Refusal) → why ≡ other → is_step other ≡ false → is_step why ≡ true → ⊥
-not_a_step why other is no step = let k : true ≡ false = sym step ∙ (ap is_step is ∙ no) in cc k
+not_a_step why other is none step = let k : true ≡ false = sym step ∙ (ap is_step is ∙ none) in cc k
 
 pub copy_refused : {D : Type 0} → (name : List ℕ) (uid : Uid) (target : List ℕ) (now next : CopyStage) (old new : StoreValue D) (answer : Progress) (why : Refusal) → now ≡ copy_stage.First → answer ≡ progress.Done (reply.Refused why) → is_step why ≡ true → CopyAnswers name uid target now old new next answer → new ≡ old
 copy_refused name uid target now next old new answer why is e step said = by_next next (subst (λ (k : CopyStage). CopyAnswers name uid target k old new next (progress.Done (reply.Refused why))) is (subst (λ (a : Progress). CopyAnswers name uid target now old new next a) e said))
