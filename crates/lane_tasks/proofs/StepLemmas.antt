@@ -45,7 +45,7 @@ use Rattle.mail_save.specs.SaveSeen.{HasItsParts, IsAtSave, StepsWithRoom, aroun
 use Rattle.mail_save.specs.Task.{EndsSave, IsReadyToDeliver, SaveValue}
 use Rattle.mail_save.specs.declared.task.SaveStage.{SaveStage}
 use Rattle.mail_save.proofs.SavePartLemmas.{ready_has_parts}
-use Rattle.lane_tasks.specs.Clause.{DoomsNothing, OnlyLists, StepsTask, around_at}
+use Rattle.lane_tasks.specs.Clause.{DoomsNothing, SetsNoFlags, StepsTask, around_at}
 use Rattle.lane_tasks.specs.Tasks.{IsAtTask, IsDeliveryOf, IsMakeNumber, IsTaskOf, TookFiles, TookNoFile, did_of, work_left}
 use Rattle.lane_tasks.specs.declared.task.Task.{Task}
 use Rattle.lane_tasks.specs.declared.task.Task.TheVariants as task
@@ -153,9 +153,10 @@ pub ops_halted : {D : Type 0} → (q : Request) (old new : StoreValue D) → IsO
 ops_halted q old new is same stopped = stays_stopped old new (ops_still q old new is same) stopped
 
 -- a listing changes nothing
-pub lists_same : {D : Type 0} → (q : Request) (old new : StoreValue D) → (AppendsNothing q old → new ≡ old) → OnlyLists q → new ≡ old
-lists_same (request.List name) old new same lists = same tt
-lists_same other old new same lists = absurd lists
+pub lists_same : {D : Type 0} → (q : Request) (old new : StoreValue D) → IsOpsRequest q → (AppendsNothing q old → new ≡ old) → SetsNoFlags q → new ≡ old
+lists_same (request.List name) old new is same none = same tt
+lists_same (request.Flag name uid flags) old new is same none = absurd none
+lists_same other old new is same none = absurd is
 
 pub doomed_as : {D : Type 0} → (old new : StoreValue D) → ((file : ℕ) → is_doomed_in file new.files.files ≡ is_doomed_in file old.files.files) → DoomsNothing old → DoomsNothing new
 doomed_as old new same none file = same file ∙ none file

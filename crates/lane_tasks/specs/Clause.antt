@@ -94,13 +94,13 @@ PassesBy task old new before after = new.stopped ≡ false → (old.stopped ≡ 
 
 -- ---- what it keeps, of which run it may be
 
--- a task that reads at the most: of a listing, a count or a fetch
-abbrev pub OnlyLists : Request → Type 0
-OnlyLists (request.List name) = Unit {0}
-OnlyLists other = ⊥
+-- A task that reads at the most: of a count or a fetch, or of a listing, which has one kind of task with a setting of flags.
+abbrev pub SetsNoFlags : Request → Type 0
+SetsNoFlags (request.Flag name uid flags) = ⊥
+SetsNoFlags other = Unit {0}
 
 abbrev pub OnlyReads : Task → Type 0
-OnlyReads (task.Ops t) = OnlyLists t.request
+OnlyReads (task.Ops t) = SetsNoFlags t.request
 OnlyReads (task.Counts t) = Unit {0}
 OnlyReads (task.Fetch t) = Unit {0}
 OnlyReads other = ⊥

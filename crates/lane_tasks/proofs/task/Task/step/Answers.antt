@@ -211,7 +211,7 @@ returns-in-Ops-clause-keeps g c =
     let t = c.in-Ops.task in
     let asks = ops_asked t.request old new s.replies.0 s.replies.2 in
     subst (λ (k : Task). KeepsStore k (task.Ops c.step.new.self) old new (g.D.Disk.history old.disk) (g.D.Disk.history new.disk) (g.D.Disk.faults old.disk) (g.D.Disk.faults new.disk) (ended_by c.step.result)) (sym c.in-Ops.is)
-    (keeps_by g.D.Disk.history g.D.Disk.faults (task.Ops t) (task.Ops c.step.new.self) old new c.step.result s.request s.mail s.stopped (ops_still t.request old new asks s.same) s.fault s.unfailed (lists_same t.request old new s.same)
+    (keeps_by g.D.Disk.history g.D.Disk.faults (task.Ops t) (task.Ops c.step.new.self) old new c.step.result s.request s.mail s.stopped (ops_still t.request old new asks s.same) s.fault s.unfailed (lists_same t.request old new asks s.same)
     (λ why begun ran e step. ops_refused t.request old new s.replies.0 c.step.result why s.replies.1 e step s.replies.2 s.same) (λ synced. synced))
 
 pub returns-in-Counts-clause-keeps : goal.returns-in-Counts-clause-keeps
