@@ -47,7 +47,7 @@ use Rattle.mail_ops.specs.declared.moving.MoveStage.TheVariants as move_stage
 use Rattle.mail_save.specs.SaveEffects.{SaveEffects}
 use Rattle.mail_save.specs.declared.task.SaveStage.{SaveStage}
 use Rattle.mail_save.specs.declared.task.SaveStage.TheVariants as save_stage
-use Rattle.lane_tasks.specs.Clause.{IsBegun, IsSameKind, KeepsStore, OnlyReads, WritesTask}
+use Rattle.lane_tasks.specs.Clause.{IsYetToBegin, IsSameKind, EventKeeps, OnlyReads, WritesTask}
 use Rattle.lane_tasks.specs.declared.task.Task.{Task}
 use Rattle.lane_tasks.specs.declared.task.Task.TheVariants as task
 use Rattle.lane_tasks.proofs.StepLemmas.{ran_before}
@@ -67,11 +67,11 @@ syncs_idle (Some h) (Some g) idle = (λ number. inl (ap (λ (disk : DiskState). 
 -- ---- a store in which nothing happened
 
 abbrev Same : {D : Type 0} → (D → Option History) → (D → Faults) → Task → Task → StoreValue D → StoreValue D → Option Reply → Type 0
-Same history faults t next old new ended = KeepsStore t next old new (history old.disk) (history new.disk) (faults old.disk) (faults new.disk) ended
+Same history faults t next old new ended = EventKeeps t next old new (history old.disk) (history new.disk) (faults old.disk) (faults new.disk) ended
 
 pub keeps_still : {D : Type 0} → (history : D → Option History) (faults : D → Faults) (t next : Task) (old new : StoreValue D) (ended : Option Reply) → IsSameKind t next → (new.stopped ≡ false → SyncsMail (history old.disk) (history old.disk) → WritesTask t next old (history old.disk) (history old.disk)) → new ≡ old → Same history faults t next old new ended
 keeps_still history faults t next old new ended kind writes same =
-    subst (λ (d : _). KeepsStore t next old new (history old.disk) (history d) (faults old.disk) (faults d) ended) (sym (ap (λ (s : StoreValue _). s.disk) same))
+    subst (λ (d : _). EventKeeps t next old new (history old.disk) (history d) (faults old.disk) (faults d) ended) (sym (ap (λ (s : StoreValue _). s.disk) same))
     (record {
       kind = kind;
       grows = omega arith;
@@ -90,7 +90,7 @@ abbrev IsStoppedReply : Progress → Type 0
 IsStoppedReply answer = answer ≡ progress.Done (reply.Refused refusal.Stopped)
 
 pub keeps_by : {D : Type 0} → (history : D → Option History) (faults : D → Faults) (t next : Task) (old new : StoreValue D) (answer : Progress) → IsSameKind t next → SparesMail (new.stopped ≡ old.stopped) (history old.disk) (history new.disk) → (IsStoppedReply answer ↔ (new.stopped ≡ true)) → (old.stopped ≡ true → new ≡ old)
-    → (old.stopped ≡ false → ChangeFaultCounted (IsStoppedReply answer) (faults old.disk) (faults new.disk)) → ((IsStoppedReply answer → ⊥) → NoFault (faults old.disk) (faults new.disk)) → (OnlyReads t → new ≡ old) → ((why : Refusal) → IsBegun t → old.stopped ≡ false → answer ≡ progress.Done (reply.Refused why) → is_step why ≡ true → new ≡ old)
+    → (old.stopped ≡ false → ChangeFaultCounted (IsStoppedReply answer) (faults old.disk) (faults new.disk)) → ((IsStoppedReply answer → ⊥) → NoFault (faults old.disk) (faults new.disk)) → (OnlyReads t → new ≡ old) → ((why : Refusal) → IsYetToBegin t → old.stopped ≡ false → answer ≡ progress.Done (reply.Refused why) → is_step why ≡ true → new ≡ old)
     → (SyncsMail (history old.disk) (history new.disk) → WritesTask t next old (history old.disk) (history new.disk)) → Same history faults t next old new (ended_by answer)
 keeps_by history faults t next old new answer kind mail halts still fault unfailed reads refused writes = record {
   kind = kind;
@@ -117,7 +117,7 @@ keeps_by history faults t next old new answer kind mail halts still fault unfail
     answered progress.More why e = absurd (let n : None ≡ Some (reply.Refused why) = e in cc n)
     answered (progress.Done given) why e = (let n : Some given ≡ Some (reply.Refused why) = e in let z : given ≡ reply.Refused why = cc n in ap progress.Done z)
 
-    by_stop : (why : Refusal) → IsBegun t → answer ≡ progress.Done (reply.Refused why) → is_step why ≡ true → (b : Bool) → old.stopped ≡ b → new ≡ old
+    by_stop : (why : Refusal) → IsYetToBegin t → answer ≡ progress.Done (reply.Refused why) → is_step why ≡ true → (b : Bool) → old.stopped ≡ b → new ≡ old
     by_stop why begun e step true was = still was
     by_stop why begun e step false ran = refused why begun ran e step
 
@@ -132,7 +132,7 @@ keeps_by history faults t next old new answer kind mail halts still fault unfail
 -- ---- of a fetch
 
 pub keeps_fetching : {D : Type 0} → (t next : FetchValue) (name : List ℕ) (uid : ℕ) (old new : StoreValue D) (before after : Option History) (began now : Faults) (answer : Progress) → FetchesAlone name uid t.stage next.stage next.did answer old new before after began now
-    → KeepsStore (task.Fetch t) (task.Fetch next) old new before after began now (ended_by answer)
+    → EventKeeps (task.Fetch t) (task.Fetch next) old new before after began now (ended_by answer)
 keeps_fetching t next name uid old new before after began now answer alone = record {
   kind = tt;
   grows = grows_kept old.map before after (kept_idle old.map before after alone.idle);
