@@ -1,5 +1,5 @@
 -- No message that a script fetches is damaged, where the disk was settled for the lists from which it is served.
-use Rattle.std.proofs.Common.{◌≡◌, ◌==◌, ◌+◌, ℕ, Bool, true, false, List, [], ◌∷◌, ◌++◌, map, Option, Some, None, refl, sym, ◌∙◌, ap, subst, arith, inl, inr}
+use Rattle.std.proofs.Common.{◌≡◌, ◌==◌, ◌+◌, ℕ, Bool, true, false, List, [], ◌∷◌, ◌++◌, map, slice_set, Option, Some, None, refl, sym, ◌∙◌, ap, subst, arith, inl, inr}
 use Rattle.std.specs.Prelude.{◌≢◌, ◌⊎◌, All, slice_get}
 use Rattle.std.specs.Option.{IfSome, option_or}
 use Rattle.std.proofs.lemmas.Grind.{common_steps}
@@ -84,7 +84,7 @@ fetch_undamaged stage.First stopped history run place said at = subst (λ (es : 
 fetch_undamaged (stage.Reading region) stopped history run place said at = read_but _ _ (own_events place run) at.0
 fetch_undamaged (stage.Unpinning from given) stopped history run place said at = unpins_undamaged from given at.1.0 (own_events place run) at.0 at.1.2
 
-stands_undamaged : {D : Type 0} → (t : Task) (store : StoreValue D) (history : Option History) (name : List ℕ) (uid : Uid) (run : Run) (place : ℕ) (said : List Reply) → StandsTask t store history (request.Fetch name uid) run place said → All IsUndamaged (own_events place run)
+pub stands_undamaged : {D : Type 0} → (t : Task) (store : StoreValue D) (history : Option History) (name : List ℕ) (uid : Uid) (run : Run) (place : ℕ) (said : List Reply) → StandsTask t store history (request.Fetch name uid) run place said → All IsUndamaged (own_events place run)
 stands_undamaged (task.Ops t) store history name uid run place said s = begun t.stage s.at
   where
     begun : (at : TaskStage) → IsAt at run place said → All IsUndamaged (own_events place run)

@@ -3,7 +3,7 @@ use Rattle.std.proofs.Common.{◌≡◌, ◌<◌, ◌≤◌, ◌+◌, ◌-◌, �
 use Rattle.std.specs.Prelude.{◌≢◌, ◌⊎◌, length, nat_lt, slice_get}
 use Rattle.std.proofs.lemmas.Grind.{common_steps}
 use Rattle.std.proofs.lemmas.List.{append-nil, append_assoc, length-set}
-use Rattle.disk_model.specs.Disk.{Faults, History}
+use Rattle.disk_model.specs.Disk.{Faults, History, told_calls}
 use Rattle.mdbox_base.specs.declared.replies.Reply.{Reply}
 use Rattle.mdbox_base.specs.declared.script.JournalEntry.{JournalEntry}
 use Rattle.model_lists.specs.Lists.{Lists}
@@ -33,7 +33,7 @@ pub rounds_more : {D : Type 0} → (last lane : ℕ) (lanes : List ℕ) (old mid
 rounds_more {D} last lane [] old mid new before between after first next second g busy event turns =
     subst (λ (w : WorldValue D). GoesInRounds last (lane ∷ []) w new before after first second) g.0
     (subst (λ (h : Option History). GoesInRounds last (lane ∷ []) mid new h after first second) g.1
-    (subst (λ (f : Faults). GoesInRounds last (lane ∷ []) mid new between after f second) g.2 (new, after, second, busy, event, turns, refl, refl, refl)))
+    (subst (λ (f : Faults). GoesInRounds last (lane ∷ []) mid new between after f second) g.2 (new, after, second, busy, event, turns, (refl, refl, refl))))
 rounds_more {D} last lane (a ∷ lanes) old mid new before between after first next second g busy event turns =
     (g.0, g.1, g.2, g.3, g.4, g.5, rounds_more a lane lanes g.0 mid new g.1 between after g.2 next second g.6 busy event turns)
 
@@ -89,38 +89,66 @@ reply_stays (Some reply) place i replies given none has = by_case (nat_cases pla
     by_case (inl e) = absurd (let z : None ≡ Some given = one_some None (Some given) (sym none ∙ (ap (slice_get replies) e ∙ has)) in cc z)
     by_case (inr apart) = get_set_other replies place i (Some reply) apart ∙ has
 
-pub event_keeps : {D : Type 0} → (lane : ℕ) (old new : WorldValue D) (before after : Option History) (first second : Faults) → IsLaneEvent lane old new before after first second → KeepsWorld old new
-event_keeps lane old new before after first second e = record {
+pub event_keeps : {D : Type 0} → (lane : ℕ) (old new : WorldValue D) (before after : Option History) (first second : Faults) → IsLaneEvent lane old new before after first second → KeepsWorld old new before after first second
+event_keeps lane old new before after first second e = let keeps = e.works.goes.goes.keeps in record {
   replies = λ i given has. ap (λ (rs : List (Option Reply)). slice_get rs i) e.works.replies_are ∙ reply_stays (ended_by e.works.event.ended) e.works.event.place i old.replies given e.works.unanswered has;
   requests = ap (λ (rs : List (Option Reply)). length rs) e.works.replies_are ∙ replies_many (ended_by e.works.event.ended) e.works.event.place old.replies;
   lanes = ap (λ (rows : List LaneRow). length rows) e.works.rows_are ∙ length-set old.rows (lane - 1) e.works.now;
   journal = first_added _ _ old.journal new.journal e.works.journal;
   broken = first_added _ _ old.broken new.broken e.works.broken;
   stopped = e.works.goes.goes.halted;
+  grows = keeps.grows;
+  reads = keeps.reads;
+  changes = keeps.changes;
+  unfailed = keeps.unfailed;
   began = e.works.began_is;
   room = e.works.room_is;
 }
 
-keeps_then : {D : Type 0} → (old mid new : WorldValue D) → KeepsWorld old mid → KeepsWorld mid new → KeepsWorld old new
-keeps_then old mid new a b = record {
+-- a store that runs ran before
+ran_so : (old new : Bool) → (old ≡ true → new ≡ true) → new ≡ false → old ≡ false
+ran_so true new stays runs = absurd (let z : true ≡ false = sym (stays refl) ∙ runs in cc z)
+ran_so false new stays runs = refl
+
+keeps_then : {D : Type 0} → (old mid new : WorldValue D) (before between after : Option History) (first counted second : Faults) → KeepsWorld old mid before between first counted → KeepsWorld mid new between after counted second → KeepsWorld old new before after first second
+keeps_then old mid new before between after first counted second a b = record {
   replies = λ i given has. b.replies i given (a.replies i given has);
   requests = b.requests ∙ a.requests;
   lanes = b.lanes ∙ a.lanes;
   journal = first_then old.journal mid.journal new.journal a.journal b.journal;
   broken = first_then old.broken mid.broken new.broken a.broken b.broken;
   stopped = λ stopped. b.stopped (a.stopped stopped);
+  grows = let x : told_calls before ≤ told_calls between = a.grows in let y : told_calls between ≤ told_calls after = b.grows in omega (arith, x, y);
+  reads = let x = a.reads in let y = b.reads in omega (arith, x, y);
+  changes = let x = a.changes in let y = b.changes in omega (arith, x, y);
+  unfailed = λ runs. b.unfailed runs ∙ a.unfailed (ran_so mid.store.stopped new.store.stopped b.stopped runs);
   began = b.began ∙ a.began;
   room = b.room ∙ a.room;
 }
 
-keeps_itself : {D : Type 0} → (world : WorldValue D) → KeepsWorld world world
-keeps_itself world = record { replies = λ i given has. has; requests = refl; lanes = refl; journal = first_itself world.journal; broken = first_itself world.broken; stopped = λ stopped. stopped; began = refl; room = refl }
+keeps_itself : {D : Type 0} → (world : WorldValue D) (history : Option History) (faults : Faults) → KeepsWorld world world history history faults faults
+keeps_itself world history faults = record {
+  replies = λ i given has. has;
+  requests = refl;
+  lanes = refl;
+  journal = first_itself world.journal;
+  broken = first_itself world.broken;
+  stopped = λ stopped. stopped;
+  grows = omega arith;
+  reads = omega arith;
+  changes = omega arith;
+  unfailed = λ runs. refl;
+  began = refl;
+  room = refl;
+}
 
-rounds_keep : {D : Type 0} → (last : ℕ) (lanes : List ℕ) (old new : WorldValue D) (before after : Option History) (first second : Faults) → GoesInRounds last lanes old new before after first second → KeepsWorld old new
-rounds_keep last [] old new before after first second g = subst (λ (w : WorldValue _). KeepsWorld old w) (sym g.0) (keeps_itself old)
-rounds_keep last (lane ∷ lanes) old new before after first second g = keeps_then old g.0 new (event_keeps lane old g.0 before g.1 first g.2 g.4) (rounds_keep lane lanes g.0 new g.1 after g.2 second g.6)
+rounds_keep : {D : Type 0} → (last : ℕ) (lanes : List ℕ) (old new : WorldValue D) (before after : Option History) (first second : Faults) → GoesInRounds last lanes old new before after first second → KeepsWorld old new before after first second
+rounds_keep last [] old new before after first second g =
+    subst (λ (w : WorldValue _). KeepsWorld old w before after first second) (sym g.0)
+    (subst (λ (h : Option History). KeepsWorld old old before h first second) (sym g.1) (subst (λ (f : Faults). KeepsWorld old old before before first f) (sym g.2) (keeps_itself old before first)))
+rounds_keep last (lane ∷ lanes) old new before after first second g = keeps_then old g.0 new before g.1 after first g.2 second (event_keeps lane old g.0 before g.1 first g.2 g.4) (rounds_keep lane lanes g.0 new g.1 after g.2 second g.6)
 
-pub rounds_keep_world : {D : Type 0} → (lanes : List ℕ) (old new : WorldValue D) (before after : Option History) (first second : Faults) → GoesOnBy lanes old new before after first second → KeepsWorld old new
+pub rounds_keep_world : {D : Type 0} → (lanes : List ℕ) (old new : WorldValue D) (before after : Option History) (first second : Faults) → GoesOnBy lanes old new before after first second → KeepsWorld old new before after first second
 rounds_keep_world lanes old new before after first second g = let k = rounds_keep 0 lanes (as_finished old) new before after first second g in record {
   replies = k.replies;
   requests = k.requests;
@@ -128,6 +156,10 @@ rounds_keep_world lanes old new before after first second g = let k = rounds_kee
   journal = k.journal;
   broken = k.broken;
   stopped = k.stopped;
+  grows = k.grows;
+  reads = k.reads;
+  changes = k.changes;
+  unfailed = k.unfailed;
   began = k.began;
   room = k.room;
 }
@@ -188,3 +220,11 @@ next_round last lane rows some_lane within busy between behind = record {
         let o = turns_round (length rows) last other earlier in
         let l = turns_round (length rows) last lane before in
         between other (omega (arith, some)) (omega (arith, sooner, o, l, earlier, before))
+
+-- one lane more has no request left
+pub idle_more : (after place : ℕ) (rows : List LaneRow) (row : LaneRow) → AreIdleBetween after (place + 1) rows → slice_get rows place ≡ Some row → (row.current ≡ None) × (row.waiting ≡ []) → AreIdleBetween after (place + 1 + 1) rows
+idle_more after place rows row idle there none lane some most = by_case (less_cases lane (place + 1))
+  where
+    by_case : (lane < place + 1) ⊎ (place + 1 ≤ lane) → IsIdleLane lane rows
+    by_case (inl less) = idle lane some less
+    by_case (inr last) = let at : lane - 1 ≡ place = omega (arith, last, most) in (row, ap (slice_get rows) at ∙ there, none.0, none.1)

@@ -141,7 +141,7 @@ finishing {D} lane old new before after first second some works sound = (one_eve
     trace start script run steps failed began world added own =
         subst (λ (ts : List LaneTurn). IsTraceOf true ts (and_then run added) (lanes_of new.rows)) (sym works.turns_are)
         (subst (λ (lanes : List (LaneValue Task)). IsTraceOf true old.turns (and_then run added) lanes) (rows_are (lane - 1) old new before after first second works)
-        (trace_finishing true old.turns run (lanes_of old.rows) (lane - 1) (lane_value w.row) (lane_value w.now) added (value_at old.rows (lane - 1) w.row w.there) (was_busy (lane - 1) old new before after first second works) world.trace))
+        (trace_finishing true old.turns run (lanes_of old.rows) (lane - 1) (lane_value works.row) (lane_value works.now) added (value_at old.rows (lane - 1) works.row works.there) (was_busy (lane - 1) old new before after first second works) world.trace))
 
 -- what was made in turns is made of a world that is finished then
 made_first : (finished : Bool) (worked : List ℕ) (run : Run) → MadeEvents finished worked run → MadeEvents true worked run

@@ -161,13 +161,10 @@ queue_times lane n (a ∷ part) zero asked there = by_test (a.0 == lane) refl
         let z = before_queue lane (n + 1) part (n + 0) (omega arith) in
         let s : one_if (asked.0 == lane) ≡ 0 = ap (λ (q : ℕ × Request). one_if (q.0 == lane)) (sym (one_some a asked there)) ∙ ap one_if is in
         omega (arith, z, s)
-queue_times lane n (a ∷ part) (suc i) asked there = by_test (a.0 == lane) more
+queue_times lane n (a ∷ part) (suc i) asked there = by_test (a.0 == lane) (subst (λ (p : ℕ). times_in p (queue_of lane (n + 1) part) ≡ one_if (asked.0 == lane)) at (queue_times lane (n + 1) part i asked there))
   where
     at : n + 1 + i ≡ n + suc i
     at = omega arith
-
-    more : times_in (n + suc i) (queue_of lane (n + 1) part) ≡ one_if (asked.0 == lane)
-    more = subst (λ (p : ℕ). times_in p (queue_of lane (n + 1) part) ≡ one_if (asked.0 == lane)) at (queue_times lane (n + 1) part i asked there)
 
     by_test : (b : Bool) → times_in (n + suc i) (queue_of lane (n + 1) part) ≡ one_if (asked.0 == lane) → times_in (n + suc i) (cond b (n ∷ queue_of lane (n + 1) part) (queue_of lane (n + 1) part)) ≡ one_if (asked.0 == lane)
     by_test false rest = rest
@@ -188,27 +185,27 @@ none_of_lanes f (a ∷ rows) base lane less each =
 
 one_of_lanes : (f : LaneRow → ℕ) (rows : List LaneRow) (base lane : ℕ) → base < lane → lane ≤ base + length rows → ((k : ℕ) (row : LaneRow) → slice_get rows k ≡ Some row → f row ≡ one_if (lane == base + k + 1)) → sum_by f rows ≡ 1
 one_of_lanes f [] base lane some most each = absurd (omega (arith, some, most))
-one_of_lanes f (a ∷ rows) base lane some most each = by_case (nat_cases lane (base + 1))
+one_of_lanes f (a ∷ rows) base lane some most each = by_case (nat_cases lane (base + 1)) (λ more. one_of_lanes f rows (base + 1) lane more (omega (arith, most)) later)
   where
     later : (k : ℕ) (row : LaneRow) → slice_get rows k ≡ Some row → f row ≡ one_if (lane == base + 1 + k + 1)
     later k row there = each (suc k) row there ∙ ap (λ (n : ℕ). one_if (lane == n)) (let e : base + suc k + 1 ≡ base + 1 + k + 1 = omega arith in e)
 
-    by_case : (lane ≡ base + 1) ⊎ (lane ≢ base + 1) → sum_by f (a ∷ rows) ≡ 1
-    by_case (inl e) =
+    above : (n : ℕ) → base < n → n ≢ base + 1 → base + 1 < n
+    above n less differ = grind (arith, common_steps, less, differ)
+
+    by_case : (lane ≡ base + 1) ⊎ (lane ≢ base + 1) → (base + 1 < lane → sum_by f rows ≡ 1) → sum_by f (a ∷ rows) ≡ 1
+    by_case (inl e) rest =
         let h = none_of_lanes f rows (base + 1) lane (omega (arith, e)) later in
         let z = (equal_test lane (base + 0 + 1)).0 (omega (arith, e)) in
         let o = each 0 a refl in
         let s = sum_by-cons f a rows in
         omega (arith, h, z, o, s)
-    by_case (inr apart) =
-        let h = one_of_lanes f rows (base + 1) lane (above lane (base + 1) some apart) (omega (arith, most)) later in
+    by_case (inr apart) rest =
+        let h = rest (above lane some apart) in
         let z = (equal_test lane (base + 0 + 1)).1 (λ e. apart (omega (arith, e))) in
         let o = each 0 a refl in
         let s = sum_by-cons f a rows in
         omega (arith, h, z, o, s)
-      where
-        above : (n m : ℕ) → base < n → n ≢ base + 1 → base + 1 < n
-        above n m less differ = grind (arith, common_steps, less, differ)
 
 -- each request of a script waits once in its lane
 pub rows_wait_once : (script : Requests) (rows : List LaneRow) (lanes : ℕ) → length rows ≡ lanes → ((k : ℕ) (row : LaneRow) → slice_get rows k ≡ Some row → queue_in row ≡ queue_of (k + 1) 0 script) → All (λ (asked : ℕ × Request). (0 < asked.0) × (asked.0 ≤ lanes)) script
@@ -218,4 +215,5 @@ rows_wait_once script rows lanes many all of place inside =
     let in_lanes = all_at (λ (asked : ℕ × Request). (0 < asked.0) × (asked.0 ≤ lanes)) script place a.0 of a.1 in
     let low = in_lanes.0 in
     let high = in_lanes.1 in
-    one_of_lanes (λ (r : LaneRow). times_in place (queue_in r)) rows 0 a.0.0 low (omega (arith, high, many)) (λ k row there. ap (times_in place) (all k row there) ∙ (queue_times (k + 1) 0 script place a.0 a.1 ∙ ap (λ (n : ℕ). one_if (a.0.0 == n)) (let e : k + 1 ≡ 0 + k + 1 = omega arith in e)))
+    let at : place ≡ 0 + place = omega arith in
+    one_of_lanes (λ (r : LaneRow). times_in place (queue_in r)) rows 0 a.0.0 low (omega (arith, high, many)) (λ k row there. ap (times_in place) (all k row there) ∙ (ap (λ (n : ℕ). times_in n (queue_of (k + 1) 0 script)) at ∙ queue_times (k + 1) 0 script place a.0 a.1 ∙ ap (λ (n : ℕ). one_if (a.0.0 == n)) (let e : k + 1 ≡ 0 + k + 1 = omega arith in e)))

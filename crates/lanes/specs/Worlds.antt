@@ -2,7 +2,7 @@
 use Rattle.std.specs.Prelude.{◌≡◌, ◌≤◌, ◌<◌, ◌+◌, ◌*◌, ◌-◌, ◌^◌, ◌==◌, ◌&&◌, ◌++◌, ◌∷◌, ◌⊎◌, ℕ, Bool, true, false, List, [], All, count_by, length, map, min, nat_lt, if◌then◌else◌, is_some, replicate, slice_get, slice_index_or, slice_set, sum_by, Option, Some, None, vec_capacity, vec_len}
 use Rattle.std.specs.Global.{Vec}
 use Rattle.std.specs.Option.{option_map_or}
-use Rattle.disk_model.specs.Disk.{Faults, History, IsMoment, IsTold}
+use Rattle.disk_model.specs.Disk.{Faults, Grows, History, IsMoment, IsTold}
 use Rattle.mdbox_base.specs.declared.progress.Did.{Did}
 use Rattle.mdbox_base.specs.declared.progress.Did.TheVariants as did
 use Rattle.mdbox_base.specs.declared.replies.Reply.{Reply}
@@ -319,14 +319,19 @@ IsServedOn lanes old new before after first second =
     → (added : List RunEvent) × (more : List JournalStep) × (broke : Broken) × (map (λ event. event.lane) added ≡ lanes) × IsWorldOf start script (and_events run added) (steps ++ more) broke began after second new
 
 -- What events leave of a world, whatever its script and whatever its disk: a reply that was given stays, entries are only added behind
--- the others, and a store that is stopped stays so.
-pub record KeepsWorld {D : Type 0} (old new : WorldValue D) : Type 0 where
+-- the others, and a store that is stopped stays so. The disk goes on, no count of its faults falls, and unless the store is stopped
+-- then no change failed.
+pub record KeepsWorld {D : Type 0} (old new : WorldValue D) (before after : Option History) (first second : Faults) : Type 0 where
   pub replies : (i : ℕ) (given : Reply) → HasReply old.replies i given → HasReply new.replies i given
   pub requests : length new.replies ≡ length old.replies
   pub lanes : length new.rows ≡ length old.rows
   pub journal : IsFirstPart old.journal new.journal
   pub broken : IsFirstPart old.broken new.broken
   pub stopped : old.store.stopped ≡ true → new.store.stopped ≡ true
+  pub grows : Grows before after
+  pub reads : first.reads ≤ second.reads
+  pub changes : first.changes ≤ second.changes
+  pub unfailed : new.store.stopped ≡ false → second.changes ≡ first.changes
   pub began : new.began ≡ old.began
   pub room : new.turn_room ≡ old.turn_room
 

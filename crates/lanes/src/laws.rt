@@ -43,11 +43,11 @@ pub fn lanes_go_on<D: Disk>()
 {}
 
 /// What events in rounds make of a world. Of whatever script and run it was, it is one of the run with events of those lanes; and whatever
-/// the script and the disk, replies stay and entries are only added.
+/// the script and the disk, replies stay, entries are only added, and no count of faults falls.
 pub fn worlds_go_on<D: Disk>()
     ensures serves { (lanes : List ℕ) (old new : WorldValue D) (before after : Option History) (first second : Faults) → GoesOnBy lanes old new before after first second → IsServedOn lanes old new before after first second }
-    ensures keeps { (lanes : List ℕ) (old new : WorldValue D) (before after : Option History) (first second : Faults) → GoesOnBy lanes old new before after first second → KeepsWorld old new }
-    ensures kept { (lane : ℕ) (old new : WorldValue D) (before after : Option History) (first second : Faults) → IsLaneEvent lane old new before after first second → KeepsWorld old new }
+    ensures keeps { (lanes : List ℕ) (old new : WorldValue D) (before after : Option History) (first second : Faults) → GoesOnBy lanes old new before after first second → KeepsWorld old new before after first second }
+    ensures kept { (lane : ℕ) (old new : WorldValue D) (before after : Option History) (first second : Faults) → IsLaneEvent lane old new before after first second → KeepsWorld old new before after first second }
 {}
 
 /// A world of which no lane has a request left has a reply of each request, whatever script it is of.

@@ -4,8 +4,8 @@ use Rattle.std.proofs.lemmas.List.{length-set}
 use Rattle.mdbox_base.specs.declared.replies.Reply.{Reply}
 use Rattle.task_steps.specs.Step.{ended_by}
 use Rattle.lanes.specs.Rows.{LaneRow}
-use Rattle.lanes.specs.Worlds.{IsIdleLane, WorldValue, world_left, world_value}
-use Rattle.lanes.proofs.LeftLemmas.{left_falls}
+use Rattle.lanes.specs.Worlds.{IsIdleLane, WorldValue, world_value}
+use Rattle.lanes.proofs.LeftLemmas.{left_from}
 use Rattle.lanes.proofs.RoomLemmas.{has_room, row_ready}
 use Rattle.lanes.proofs.SoundLemmas.{place_within, replied_many, replies_many, sound_on, works_made}
 use Rattle.lanes.proofs.WorldLemmas.{works_from}
@@ -83,7 +83,7 @@ returns-clause-left g c =
     c.advance.new.store c.keep_reply.new.replies.items c.keep_count.new.counts.items c.keep_step.new.journal.items c.keep_broken.new.broken.items _ _ _ _ c.index_mut.result.now c.advance.new.self c.in-Some.event
     c.moment-earlier.result c.moment-later.result c.saturating_sub-made.result c.saturating_sub-broken.result _ _ low c.self.invariant.0 there c.in-Some.ensures.some c.keep_reply.ensures.replies c.keep_count.ensures.counts
     c.moment-earlier.ensures c.moment-later.ensures c.saturating_sub-made.ensures c.saturating_sub-broken.ensures c.keep_step.ensures.added (λ short. omega (arith, short, journal_is, journal_room)) c.keep_broken.ensures.added (λ short. omega (arith, short, broken_is, broken_room)) in
-    subst (λ (v : WorldValue _). world_left _ < world_left v) c.self.view_is (left_falls (c.args.lane - 1) _ _ _ _ _ _ w c.self.invariant.0)
+    left_from (c.args.lane - 1) _ c.args.self.now _ _ _ _ _ c.self.view_is w c.self.invariant.0
 
 pub invariant_of-self-2 : goal.invariant_of-self-2
 invariant_of-self-2 g c =
