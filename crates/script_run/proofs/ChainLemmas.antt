@@ -20,7 +20,7 @@ use Rattle.serving.proofs.LaneLemmas.{get_set_other, get_set_same, nat_cases, on
 use Rattle.store_core.specs.Value.{StoreValue}
 use Rattle.task_claims.specs.Leaving.{IsSameOrSynced, SyncsMail}
 use Rattle.task_steps.specs.Step.{ended_by}
-use Rattle.lane_tasks.specs.Clause.{IsSameKind, KeepsStore, OnlyReads, WritesTask}
+use Rattle.lane_tasks.specs.Clause.{IsSameKind, TaskKeeps, OnlyReads, SetsNoFlags, WritesTask}
 use Rattle.lane_tasks.specs.declared.task.Task.{Task}
 use Rattle.lane_tasks.specs.declared.task.Task.TheVariants as task
 use Rattle.lane_tasks.proofs.StepLemmas.{ran_before}
@@ -64,23 +64,17 @@ in_turn Holds lane old mid before between first counted e all =
 pub tasks_after : {D : Type 0} → (Holds : Task → Type 0) (lane : ℕ) (old mid : WorldValue D) (before between : Option History) (first counted : Faults) → (e : IsLaneEvent lane old mid before between first counted) → (ended_by e.works.event.ended ≡ None → Holds e.works.goes.next) → AllTasks Holds old.rows → AllTasks Holds mid.rows
 tasks_after Holds lane old mid before between first counted e next all k row at = by_lane (nat_cases (lane - 1) k)
   where
-    w : _
-    w = e.works
+    here : slice_get (slice_set old.rows (lane - 1) e.works.now) k ≡ Some row
+    here = sym (ap (λ (rows : List LaneRow). slice_get rows k) e.works.rows_are) ∙ at
 
-    after : LaneRow
-    after = after_event (ended_by w.event.ended) (record w.goes.queued { task = w.goes.next }) w.row.waiting
-
-    here : slice_get (slice_set old.rows (lane - 1) w.now) k ≡ Some row
-    here = sym (ap (λ (rows : List LaneRow). slice_get rows k) w.rows_are) ∙ at
-
-    own : All (λ q. Holds q.task) (queued_in after)
-    own = queued_after Holds (ended_by w.event.ended) (record w.goes.queued { task = w.goes.next }) w.row.waiting next (in_turn Holds lane old mid before between first counted e all).1
+    own : All (λ q. Holds q.task) (queued_in (after_event (ended_by e.works.event.ended) (record e.works.goes.queued { task = e.works.goes.next }) e.works.row.waiting))
+    own = queued_after Holds (ended_by e.works.event.ended) (record e.works.goes.queued { task = e.works.goes.next }) e.works.row.waiting next (in_turn Holds lane old mid before between first counted e all).1
 
     by_lane : (lane - 1 ≡ k) ⊎ (lane - 1 ≢ k) → All (λ q. Holds q.task) (queued_in row)
     by_lane (inl is) =
-        let same : w.now ≡ row = one_some w.now row (sym (get_set_same old.rows (lane - 1) w.now w.row w.there) ∙ (ap (slice_get (slice_set old.rows (lane - 1) w.now)) is ∙ here)) in
-        subst (λ (r : LaneRow). All (λ q. Holds q.task) (queued_in r)) (sym w.goes.now_is ∙ same) own
-    by_lane (inr apart) = all k row (sym (get_set_other old.rows (lane - 1) k w.now apart) ∙ here)
+        let same : e.works.now ≡ row = one_some e.works.now row (sym (get_set_same old.rows (lane - 1) e.works.now e.works.row e.works.there) ∙ (ap (slice_get (slice_set old.rows (lane - 1) e.works.now)) is ∙ here)) in
+        subst (λ (r : LaneRow). All (λ q. Holds q.task) (queued_in r)) (sym e.works.goes.now_is ∙ same) own
+    by_lane (inr apart) = all k row (sym (get_set_other old.rows (lane - 1) k e.works.now apart) ∙ here)
 
 -- ---- the counts of faults, and time
 
@@ -128,10 +122,17 @@ counted_first world history faults runs = record {
 -- ---- tasks that read at the most
 
 reads_next : (t next : Task) → OnlyReads t → IsSameKind t next → OnlyReads next
-reads_next (task.Ops t) (task.Ops next) reads kind = subst (λ (q : _). OnlyReads (task.Ops (record next { request = q }))) (sym kind) reads
+reads_next (task.Ops t) (task.Ops next) reads kind = subst SetsNoFlags (sym kind) reads
 reads_next (task.Counts t) (task.Counts next) reads kind = tt
 reads_next (task.Fetch t) (task.Fetch next) reads kind = tt
-reads_next t next reads kind = absurd kind
+reads_next (task.Make t) next reads kind = absurd reads
+reads_next (task.Copy t) next reads kind = absurd reads
+reads_next (task.Move t) next reads kind = absurd reads
+reads_next (task.Expunge t) next reads kind = absurd reads
+reads_next (task.Deliver t) next reads kind = absurd reads
+reads_next (task.Ops t) next reads kind = absurd kind
+reads_next (task.Counts t) next reads kind = absurd kind
+reads_next (task.Fetch t) next reads kind = absurd kind
 
 pub record HasOnlyRead {D : Type 0} (origin : Option History) (world : WorldValue D) (history : Option History) (faults : Faults) : Type 0 where
   pub tasks : AllTasks OnlyReads world.rows
@@ -192,7 +193,7 @@ syncs_event : {D : Type 0} → (t next : Task) (old : StoreValue D) (before betw
 syncs_event (task.Deliver t) next old before between none writes = absurd none
 syncs_event t next old before between none writes = writes
 
-kept_event : {D : Type 0} → (t next : Task) (old new : StoreValue D) (before between : Option History) (first counted : Faults) (ended : Option Reply) (m : MapMeaning) → NoDelivery t → KeepsStore t next old new before between first counted ended → MailIsKept m before between
+kept_event : {D : Type 0} → (t next : Task) (old new : StoreValue D) (before between : Option History) (first counted : Faults) (ended : Option Reply) (m : MapMeaning) → NoDelivery t → TaskKeeps t next old new before between first counted ended → MailIsKept m before between
 kept_event (task.Deliver t) next old new before between first counted ended m none k = absurd none
 kept_event t next old new before between first counted ended m none k = k.mail m tt
 

@@ -37,9 +37,9 @@ use Rattle.lanes.specs.Going.{AreFreshRows, IsGoing}
 use Rattle.lanes.specs.Rows.{LaneRow, lane_value, lanes_of}
 use Rattle.lane_tasks.specs.Tasks.{HasTask}
 use Rattle.attach_detach.specs.declared.message.Prepared.{Prepared}
-use Rattle.lanes.specs.Worlds.{AreGiven, AreOfLanes, ArePartsOf, GoesOnBy, HasItsMessage, IsFreshWorld, IsWorldOf, KeepsWorld, PartsValue, WorldValue, and_events}
+use Rattle.lanes.specs.Worlds.{AreGiven, AreOfLanes, ArePartsOf, GoesOnBy, HasItsMessage, IsFreshWorld, IsWorldOf, PartsValue, WorldValue, and_events}
 use Rattle.lanes.proofs.TraceLemmas.{as_finished, world_finished}
-use Rattle.lane_tasks.specs.Clause.{IsBegun, OnlyReads}
+use Rattle.lane_tasks.specs.Clause.{IsAtStart, OnlyReads}
 use Rattle.task_steps.proofs.UnmovedLemmas.{mail_still}
 use Rattle.script_run.specs.Done.{IsScriptDone, LeavesStore, MayBeKept, MayBeServed, MayRead}
 use Rattle.script_run.specs.Faults.{FaultsByReplies, HasReadFault}
@@ -254,43 +254,17 @@ idle_run script old mid new first last s world ended r none =
       idle = idle-begins mid;
     })).idle
 
--- A moment of a disk is no later than the number of its calls.
-moment_low : (mid : Option History) (moment : ℕ) → IsTold mid → IsMoment mid moment → moment ≤ told_calls mid
-moment_low None moment told is = absurd told
-moment_low (Some h) moment told is = omega (arith, is)
-
-moment_high : (old mid : Option History) (moment : ℕ) → Grows old mid → IsTold mid → IsMoment mid moment → min (told_calls old) (2 ^ 64 - 1) ≤ moment
-moment_high old None moment grown told is = absurd told
-moment_high old (Some h) moment grown told is = omega (arith, grown, is)
-
-grown_by : (m : MapMeaning) (old mid : Option History) → MailIsKept m old mid → Grows old mid
-grown_by m None mid kept = subst (λ (h : Option History). told_calls None ≤ told_calls h) (sym kept) (omega arith)
-grown_by m (Some h) None kept = absurd kept
-grown_by m (Some h) (Some g) kept = kept.later
-
-told_later : (m : MapMeaning) (old mid : Option History) → MailIsKept m old mid → IsTold old → IsTold mid
-told_later m None mid kept told = absurd told
-told_later m (Some h) None kept told = absurd kept
-told_later m (Some h) (Some g) kept told = tt
-
 -- it is served from them
 serves_run : {D : Type 0} → (script : Requests) (old mid new : Option History) (first last : Faults) (s : StoreValue D) (world ended : WorldValue D) → (r : ScriptRan script old mid new first last s world ended) → (given : List Reply) → ended.replies ≡ map Some given → (start : Lists) → LogsShowLists s.map (indexes_of s.boxes) start → MayRead script start old
-    → ServesScript script start given ended.journal first last old new
+    → ServesScript script start given ended.journal first last old mid new
 serves_run script old mid new first last s world ended r given are start shows may =
     let from : Seen = before_opening (seen_in s mid first) old in
     let w = ended_world script old mid new first last s world ended r start shows may in
     let run : Run = and_events (beginning s.map r.opened.store.entries) w.added in
     let going = subst (λ (rs : List (Option Reply)). IsGoing start script run w.more w.broke rs from ended.store new last ended.rows) are w.is.going in
-    let opened_mail = opening_keeps old mid s.map (indexes_of s.boxes) r.opened.opened r.opened.stays in
-    let made : IsMoment mid ended.began = subst (λ (n : ℕ). IsMoment mid n) (sym r.same_began) r.made_is in
-    script_served start script run w.more w.broke given ended.journal from ended.began ended.store new last ended.rows going going.serving.stays_stopped r.later r.opened.drawn (opening_begins old mid s r.opened)
-    (λ e. let i = going.serving.replied_stopped e in given_at given i.0 (reply.Refused refusal.Stopped) i.1)
-    (λ told.
-    let mid_told = told_later s.map old mid opened_mail told in
-    let low = moment_low mid ended.began mid_told made in (
-      moment_high old mid ended.began (grown_by s.map old mid opened_mail) mid_told made,
-      All-weaker (λ (event : RunEvent). told_calls mid ≤ event.moment) (λ (event : RunEvent). ended.began ≤ event.moment) (λ event at. omega (arith, at, low)) w.added w.later,
-    )) w.is.entries
+    script_served start script run w.more w.broke given ended.journal from ended.began ended.store mid new last ended.rows going going.serving.stays_stopped r.later r.opened.drawn (opening_begins old mid s r.opened)
+    (λ e. let i = going.serving.replied_stopped e in given_at given i.0 (reply.Refused refusal.Stopped) i.1) (subst (λ (n : ℕ). IsMoment mid n) (sym r.same_began) r.made_is, w.later) w.is.entries
+    (w.refused (fresh_tasks IsAtStart script world.rows (λ place lane asked t at begins. begun_first asked t begins) r.fresh))
 
 -- Some lists are shown from which the script may be served, if there are lists from which it may read.
 start_of : {D : Type 0} → (script : Requests) (old mid : Option History) (s : StoreValue D) → OpenedNow old mid s → LogsShow → MayBeServed script old → (start : Lists) × LogsShowLists s.map (indexes_of s.boxes) start × MayRead script start old
@@ -326,6 +300,7 @@ stays_run script old mid new first last s world ended r may = by_test (has_deliv
 
 pub script_done : {D : Type 0} → (script : Requests) (old mid new : Option History) (first last : Faults) (s : StoreValue D) (world ended : WorldValue D) → ScriptRan script old mid new first last s world ended
     → (given : List Reply) × (ended.replies ≡ map Some given) × IsScriptDone script given ended.journal old new first last
+unfolding leaves_run
 script_done script old mid new first last s world ended r =
     let g = all_given ended.replies r.replied in
     let counts = counts_of_run script old mid new first last s world ended r in (
@@ -346,14 +321,13 @@ script_done script old mid new first last s world ended r =
         counts = record { counted = counts.reads; changes = counts.changes; unchanged = λ unstopped. counts.unchanged (stopped_by script old mid new first last s world ended r g.0 g.1 unstopped) };
         leaves = leaves_run script old mid new first last s world ended r g.0 g.1;
         stays = λ may. stays_run script old mid new first last s world ended r may;
-        refused = λ lists shows may. (ended_world script old mid new first last s world ended r lists shows may).refused (fresh_tasks IsBegun script world.rows (λ place lane asked t at begins. begun_first asked t begins) r.fresh);
       },
     )
 
 -- What a script's run says of the opening, of the world and of its end: so it is done.
 pub script_ran : {D : Type 0} → (script : Requests) (lanes : ℕ) (prepared : List (Option Prepared)) (parts : PartsValue) (old mid new : Option History) (first last : Faults) (s : StoreValue D) (world ended : WorldValue D) (turns : List ℕ) → (o : OpenedNow old mid s) → LogsShow → AreGiven script prepared → ArePartsOf script lanes parts → IsFreshWorld s parts mid world
     → ((start : Lists) → MayRead script start old → LogsShowLists s.map (indexes_of s.boxes) start → (run : Run) → IsAtOpening run s → HasCome run s.map s.drawn (told_calls mid) → IsGoing start script run [] no_broken (unreplied script) (seen_in s mid first) s mid first parts.rows)
-    → GoesOnBy turns world ended mid new first last → KeepsWorld world ended → ((i : ℕ) → i < length ended.replies → (given : Reply) × HasReply ended.replies i given) → AreIdle (lanes_of ended.rows) → IsStore new ended.store → WorldsBegin D → LanesEnd D → ScriptRan script old mid new first last s world ended
+    → GoesOnBy turns world ended mid new first last → (ended.began ≡ world.began) × (length ended.replies ≡ length world.replies) → ((i : ℕ) → i < length ended.replies → (given : Reply) × HasReply ended.replies i given) → AreIdle (lanes_of ended.rows) → IsStore new ended.store → WorldsBegin D → LanesEnd D → ScriptRan script old mid new first last s world ended
 script_ran script lanes prepared parts old mid new first last s world ended turns o show given are begun going goes keeps replied idle later begin law = record {
   opened = o;
   show = show;
@@ -364,8 +338,8 @@ script_ran script lanes prepared parts old mid new first last s world ended turn
   begins = λ start shows may. begins_from start script lanes parts old mid first s o world begin (going start may shows (beginning s.map o.store.entries) (at_opening old mid s o) (first_come old mid (told_calls mid) s o)) are shows may begun;
   turns = turns;
   chain = goes;
-  same_began = keeps.began;
-  many = keeps.requests ∙ (ap (λ (w : WorldValue _). length w.replies) begun.2 ∙ (length_replicate parts.requests ∙ are.requests));
+  same_began = keeps.0;
+  many = keeps.1 ∙ (ap (λ (w : WorldValue _). length w.replies) begun.2 ∙ (length_replicate parts.requests ∙ are.requests));
   replied = replied;
   idle = idle;
   later = later;
@@ -378,7 +352,7 @@ script_ran script lanes prepared parts old mid new first last s world ended turn
 
 -- So its replies are given, and it is done.
 pub run_done : {D : Type 0} → (history : D → Option History) (faults : D → Faults) (script : Requests) (lanes : ℕ) (prepared : List (Option Prepared)) (parts : PartsValue) (old : Option History) (s : StoreValue D) (world ended : WorldValue D) (turns : List ℕ) → (o : OpenedNow old (history s.disk) s) → LogsShow → AreGiven script prepared → AreOfLanes lanes script → lanes ≤ 64
-    → ArePartsOf script lanes parts → HasNoTask s → LanesBegin D → WorldsBegin D → LanesEnd D → IsFreshWorld s parts (history s.disk) world → GoesOnBy turns world ended (history world.store.disk) (history ended.store.disk) (faults world.store.disk) (faults ended.store.disk) → KeepsWorld world ended
+    → ArePartsOf script lanes parts → HasNoTask s → LanesBegin D → WorldsBegin D → LanesEnd D → IsFreshWorld s parts (history s.disk) world → GoesOnBy turns world ended (history world.store.disk) (history ended.store.disk) (faults world.store.disk) (faults ended.store.disk) → (ended.began ≡ world.began) × (length ended.replies ≡ length world.replies)
     → ((i : ℕ) → i < length ended.replies → (given : Reply) × HasReply ended.replies i given) → AreIdle (lanes_of ended.rows) → IsStore (history ended.store.disk) ended.store
     → (given : List Reply) × (ended.replies ≡ map Some given) × IsScriptDone script given ended.journal old (history ended.store.disk) (faults s.disk) (faults ended.store.disk)
 run_done {D} history faults script lanes prepared parts old s world ended turns o show given in_lanes few are unused begin world_begin end begun goes keeps replied idle later =

@@ -2,7 +2,7 @@
 use Rattle.std.specs.Prelude.{◌≡◌, ◌<◌, ◌+◌, ℕ, zero, suc, false, true, List, [], ◌∷◌, All, length, map, slice_get, Option, Some, None, Contains}
 use Rattle.std.proofs.Common.{refl, sym, ◌∙◌, ap, subst, arith, inl, inr}
 use Rattle.std.proofs.lemmas.List.Elements.{All-cons, All-nil}
-use Rattle.disk_model.specs.Disk.{History, Faults, EachImage, IfTold}
+use Rattle.disk_model.specs.Disk.{History, Faults, EachImage, IfTold, IsIdle}
 use Rattle.disk_model.proofs.MomentLemmas.{each_image-map}
 use Rattle.mdbox_base.specs.declared.replies.Refusal.TheVariants as refusal
 use Rattle.mdbox_base.specs.declared.replies.Reply.{Reply}
@@ -29,7 +29,7 @@ use Rattle.lanes.specs.Going.{IsGoing, TellsDamage}
 use Rattle.lanes.specs.Rows.{LaneRow}
 use Rattle.lanes.specs.Worlds.{AreEntriesAt}
 use Rattle.script_run.specs.Opening.{LogsShowLists, RunBegins}
-use Rattle.script_run.specs.Script.{HasStopped, IsMadeBefore, OpensShowing, ServesScript}
+use Rattle.script_run.specs.Script.{HasStopped, IsMadeBefore, IsRefusedAtOnce, OpensShowing, ServesScript}
 use Rattle.script_run.proofs.RunBeginsLemmas.{before_opening, first_map, run_ends}
 use Rattle.script_run.proofs.ShownLemmas.{opens_again}
 
@@ -83,10 +83,10 @@ unharmed (one ∷ rest) none = All-cons (λ (x : Reply). TellsDamage (refusal_in
 
 -- The script was served: its lanes have come to their end, the store is stopped only if a reply says so, and the entries are the
 -- journal's.
-pub script_served : {D : Type 0} → (start : Lists) (script : Requests) (run : Run) (journal : List JournalStep) (broken : Broken) (given : List Reply) (entries : List JournalEntry) (began : Seen) (made : ℕ) (store : StoreValue D) (history : Option History) (faults : Faults) (rows : List LaneRow)
-    → IsGoing start script run journal broken (map Some given) began store history faults rows → StaysStopped run.events → IsStore history store → began.drawn ≡ began.map.highest → RunBegins run began.history → (store.stopped ≡ true → HasStopped given) → IsMadeBefore began.history made run → AreEntriesAt history made (moment_of run) journal entries
-    → ServesScript script start given entries began.faults faults began.history history
-script_served {D} start script run journal broken given entries began made store history faults rows g stays k opened begins stopped made_is are = record {
+pub script_served : {D : Type 0} → (start : Lists) (script : Requests) (run : Run) (journal : List JournalStep) (broken : Broken) (given : List Reply) (entries : List JournalEntry) (began : Seen) (made : ℕ) (store : StoreValue D) (opened history : Option History) (faults : Faults) (rows : List LaneRow)
+    → IsGoing start script run journal broken (map Some given) began store history faults rows → StaysStopped run.events → IsStore history store → began.drawn ≡ began.map.highest → RunBegins run began.history → (store.stopped ≡ true → HasStopped given) → IsMadeBefore opened made run → AreEntriesAt history made (moment_of run) journal entries
+    → (All IsRefusedAtOnce run.events → IsIdle opened history) → ServesScript script start given entries began.faults faults began.history opened history
+script_served {D} start script run journal broken given entries began made store opened history faults rows g stays k drawn begins stopped made_is are refused = record {
   run = run;
   journal = journal;
   broken = broken;
@@ -100,7 +100,7 @@ script_served {D} start script run journal broken given entries began made store
   served = record {
     around = g.serving.follows.around;
     after = g.serving.follows.after;
-    begins = first_map run began.map began.drawn s.begins opened;
+    begins = first_map run began.map began.drawn s.begins drawn;
     next = g.serving.follows.next;
     found = g.serving.follows.found;
     told = g.serving.told;
@@ -117,6 +117,7 @@ script_served {D} start script run journal broken given entries began made store
   settled = λ unstopped. s.settled (runs unstopped);
   made_is = made_is;
   entries_are = are;
+  refused = refused;
 }
   where
     s : Serves start script run journal broken (map Some given) began (seen_in store history faults)

@@ -1,5 +1,5 @@
 -- The world of a script after its events: of which run it is, and what these left of the disk.
-use Rattle.std.specs.Prelude.{◌||◌, not, ◌++◌, slice_get}
+use Rattle.std.specs.Prelude.{◌||◌, ◌+◌, not, ◌++◌, slice_get}
 use Rattle.std.specs.List.{list_any}
 use Rattle.std.proofs.Common.{◌≡◌, ◌≤◌, ℕ, zero, suc, Bool, true, false, List, [], ◌∷◌, All, Option, Some, None, refl, sym, ◌∙◌, ap, subst, arith}
 use Rattle.std.proofs.lemmas.List.{append-nil, append_assoc}
@@ -14,7 +14,7 @@ use Rattle.model_lists.specs.Lists.{Lists}
 use Rattle.list_machine.specs.Run.{Run, RunEvent, and_then}
 use Rattle.journal.specs.Journal.{Broken, JournalStep, Requests}
 use Rattle.task_steps.specs.Step.{Seen, ended_by}
-use Rattle.lane_tasks.specs.Clause.{IsBegun, OnlyReads, SetsNoFlags}
+use Rattle.lane_tasks.specs.Clause.{IsAtStart, OnlyReads, SetsNoFlags}
 use Rattle.lane_tasks.specs.Tasks.{BeginsTask, IsTaskOf}
 use Rattle.lane_tasks.specs.declared.task.Task.{Task}
 use Rattle.lane_tasks.specs.declared.task.Task.TheVariants as task
@@ -22,8 +22,7 @@ use Rattle.lanes.specs.Going.{AreFreshRows, IsFreshRow, WaitsWithTask}
 use Rattle.lanes.specs.Rows.{LaneRow}
 use Rattle.lanes.specs.Worlds.{GoesInRounds, IsLaneEvent, IsWorldOf, WorldValue, and_events, queued_in}
 use Rattle.lanes.specs.declared.lane.Queued.{Queued}
-use Rattle.script_run.specs.Done.{IsRefusedAtOnce}
-use Rattle.script_run.specs.Script.{has_change, has_delivery, is_delivery, only_reads}
+use Rattle.script_run.specs.Script.{IsRefusedAtOnce, has_change, has_delivery, is_delivery, only_reads}
 use Rattle.script_run.proofs.ChainLemmas.{AllTasks, NoDelivery, in_turn, tasks_after}
 
 -- ---- the tasks with which requests begin
@@ -58,7 +57,7 @@ fresh_tasks Holds script rows holds are k row at = by_current row.current refl (
         subst (λ (c : Option Queued). All (λ q. Holds q.task) (queued_in (record { current = c; waiting = row.waiting }))) (sym is)
         (All-cons (λ (q : Queued). Holds q.task) queued row.waiting (one queued (f.first queued is)) (All-weaker (WaitsWithTask script (k + 1)) (λ (q : Queued). Holds q.task) one row.waiting f.behind))
 
-pub begun_first : (asked : Request) (t : Task) → BeginsTask asked t → IsBegun t
+pub begun_first : (asked : Request) (t : Task) → BeginsTask asked t → IsAtStart t
 begun_first asked (task.Ops t) b = tt
 begun_first asked (task.Counts t) b = tt
 begun_first asked (task.Make t) b = b.at
@@ -109,7 +108,7 @@ pub record ServedSince {D : Type 0} (start : Lists) (script : Requests) (run : R
   pub broke : Broken
   pub is : IsWorldOf start script (and_events run added) (steps ++ more) broke began after second new
   pub later : All (λ event. told_calls before ≤ event.moment) added
-  pub refused : AllTasks IsBegun old.rows → All IsRefusedAtOnce added → IsIdle before after
+  pub refused : AllTasks IsAtStart old.rows → All IsRefusedAtOnce added → IsIdle before after
 
 pub served_since : {D : Type 0} → (last : ℕ) (lanes : List ℕ) (old new : WorldValue D) (before after : Option History) (first second : Faults) → GoesInRounds last lanes old new before after first second
     → (start : Lists) (script : Requests) (run : Run) (steps : List JournalStep) (failed : Broken) (began : Seen) → IsWorldOf start script run steps failed began before first old → ServedSince start script run steps began old new before after second
@@ -143,7 +142,7 @@ served_since {D} last (lane ∷ lanes) old new before after first second g start
       refused = λ begun all.
           let at_once = All-head IsRefusedAtOnce e.0 r.added all in
           let answered : ended_by g.4.works.event.ended ≡ Some (reply.Refused at_once.0) = sym e.3.reply_is ∙ at_once.1 in
-          let own = (in_turn IsBegun lane old g.0 before g.1 first g.2 g.4 begun).0 in
-          let rest = tasks_after IsBegun lane old g.0 before g.1 first g.2 g.4 (λ more. absurd (let k : None ≡ Some (reply.Refused at_once.0) = sym more ∙ answered in cc k)) begun in
+          let own = (in_turn IsAtStart lane old g.0 before g.1 first g.2 g.4 begun).0 in
+          let rest = tasks_after IsAtStart lane old g.0 before g.1 first g.2 g.4 (λ more. absurd (let k : None ≡ Some (reply.Refused at_once.0) = sym more ∙ answered in cc k)) begun in
           idle-then before g.1 after (g.4.works.goes.goes.keeps.refused at_once.0 own answered at_once.2) (r.refused rest (All-tail IsRefusedAtOnce e.0 r.added all));
     }

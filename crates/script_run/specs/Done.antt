@@ -1,16 +1,12 @@
 -- How the run of a script ends.
-use Rattle.std.specs.Prelude.{◌≡◌, ℕ, true, false, List, All, Option, Some, length}
+use Rattle.std.specs.Prelude.{◌≡◌, ℕ, true, false, List, All, Option, length}
 use Rattle.disk_model.specs.Disk.{History, Faults, Grows, IsIdle}
-use Rattle.mdbox_base.specs.declared.replies.Refusal.{Refusal}
 use Rattle.mdbox_base.specs.declared.replies.Reply.{Reply}
-use Rattle.mdbox_base.specs.declared.replies.Reply.TheVariants as reply
 use Rattle.mdbox_base.specs.declared.script.JournalEntry.{JournalEntry}
 use Rattle.model_lists.specs.Lists.{Lists}
 use Rattle.model_meaning.specs.BoxMeaning.{BoxMeaning}
 use Rattle.model_meaning.specs.MapMeaning.{MapMeaning}
 use Rattle.model_store.specs.Settled.{IsSettledFor}
-use Rattle.list_machine.specs.Machine.{is_step}
-use Rattle.list_machine.specs.Run.{RunEvent}
 use Rattle.journal.specs.Journal.{Requests, refusal_in}
 use Rattle.lanes.specs.Going.{TellsDamage}
 use Rattle.store_open.specs.Opened.{IsClosedWell, IsOpenedAs, KeepsOpenedMail, StoreCarries}
@@ -33,10 +29,6 @@ MayBeServed script old = (lists : Lists) × MayRead script lists old
 abbrev pub MayBeKept : Requests → Option History → Type 0
 MayBeKept script old = has_delivery script ≡ true → MayBeServed script old
 
--- the event answered its request, with a refusal that one of its checks gave
-abbrev pub IsRefusedAtOnce : RunEvent → Type 0
-IsRefusedAtOnce event = (why : Refusal) × (event.reply ≡ Some (reply.Refused why)) × (is_step why ≡ true)
-
 -- The opening swept the disk, and carried over all that the store reads; a store that was closed well it left as it was. A script that
 -- only lists, counts and fetches changes nothing since; and one without a delivery leaves storage files and instances as the opening
 -- left them, but that names may be synced, unless a change of the disk failed.
@@ -53,18 +45,16 @@ pub record LeavesStore (script : Requests) (m : MapMeaning) (given : List Reply)
 -- The store was opened, and each request of the script has its reply. The script was served from any lists that the logs show with
 -- which the store opened, if it reads a message only from those for which the disk was settled; whenever the files are safe for lists,
 -- the logs show them. No reply says that a message is damaged, if the script may be served from any lists. Which calls of the disk failed follows from the replies; of a script that can't be served so, how the counts of
--- faults stay. At each moment storage files and instances stayed. Where each event of the run answered its request with a refusal, but
--- for want of memory or by a failed call, nothing has changed since the opening.
+-- faults stay. At each moment storage files and instances stayed.
 pub record IsScriptDone (script : Requests) (given : List Reply) (entries : List JournalEntry) (old new : Option History) (began now : Faults) : Type 0 where
   pub each : length given ≡ length script
   pub m : MapMeaning
   pub meanings : List BoxMeaning
   pub opened : IsOpenedAs old m meanings
   pub shown : (lists : Lists) → AreSafeFor lists old → LogsShowLists m meanings lists
-  pub serves : (lists : Lists) → LogsShowLists m meanings lists → MayRead script lists old → ServesScript script lists given entries began now old new
+  pub leaves : LeavesStore script m given old new
+  pub serves : (lists : Lists) → LogsShowLists m meanings lists → MayRead script lists old → ServesScript script lists given entries began now old leaves.opened new
   pub undamaged : MayBeServed script old → All (λ one. TellsDamage (refusal_in one) → ⊥) given
   pub faults : MayBeServed script old → FaultsByReplies given began now
   pub counts : CountsStay given began now
-  pub leaves : LeavesStore script m given old new
   pub stays : MayBeKept script old → KeepsOpenedMail old new
-  pub refused : (lists : Lists) (shows : LogsShowLists m meanings lists) (may : MayRead script lists old) → let served = serves lists shows may in All IsRefusedAtOnce served.run.events → IsIdle leaves.opened new
