@@ -47,7 +47,7 @@ use Rattle.mail_ops.specs.declared.moving.MoveStage.TheVariants as move_stage
 use Rattle.mail_save.specs.SaveEffects.{SaveEffects}
 use Rattle.mail_save.specs.declared.task.SaveStage.{SaveStage}
 use Rattle.mail_save.specs.declared.task.SaveStage.TheVariants as save_stage
-use Rattle.lane_tasks.specs.Clause.{IsYetToBegin, IsSameKind, EventKeeps, OnlyReads, WritesTask}
+use Rattle.lane_tasks.specs.Clause.{IsAtStart, IsSameKind, TaskKeeps, OnlyReads, WritesTask}
 use Rattle.lane_tasks.specs.declared.task.Task.{Task}
 use Rattle.lane_tasks.specs.declared.task.Task.TheVariants as task
 use Rattle.lane_tasks.proofs.StepLemmas.{ran_before}
@@ -67,11 +67,11 @@ syncs_idle (Some h) (Some g) idle = (λ number. inl (ap (λ (disk : DiskState). 
 -- ---- a store in which nothing happened
 
 abbrev Same : {D : Type 0} → (D → Option History) → (D → Faults) → Task → Task → StoreValue D → StoreValue D → Option Reply → Type 0
-Same history faults t next old new ended = EventKeeps t next old new (history old.disk) (history new.disk) (faults old.disk) (faults new.disk) ended
+Same history faults t next old new ended = TaskKeeps t next old new (history old.disk) (history new.disk) (faults old.disk) (faults new.disk) ended
 
 pub keeps_still : {D : Type 0} → (history : D → Option History) (faults : D → Faults) (t next : Task) (old new : StoreValue D) (ended : Option Reply) → IsSameKind t next → (new.stopped ≡ false → SyncsMail (history old.disk) (history old.disk) → WritesTask t next old (history old.disk) (history old.disk)) → new ≡ old → Same history faults t next old new ended
 keeps_still history faults t next old new ended kind writes same =
-    subst (λ (d : _). EventKeeps t next old new (history old.disk) (history d) (faults old.disk) (faults d) ended) (sym (ap (λ (s : StoreValue _). s.disk) same))
+    subst (λ (d : _). TaskKeeps t next old new (history old.disk) (history d) (faults old.disk) (faults d) ended) (sym (ap (λ (s : StoreValue _). s.disk) same))
     (record {
       kind = kind;
       grows = omega arith;
@@ -79,7 +79,8 @@ keeps_still history faults t next old new ended kind writes same =
       reads = omega arith;
       changes = omega arith;
       unfailed = λ runs. refl;
-      idle = λ reads. (idle-begins (history old.disk), refl);
+      fell = λ ran stops. absurd (let k : true ≡ false = sym stops ∙ (ap (λ (s : StoreValue _). s.stopped) same ∙ ran) in cc k);
+      idle = λ reads. (idle-begins (history old.disk), refl, ap (λ (s : StoreValue _). s.stopped) same);
       refused = λ why begun e step. idle-begins (history old.disk);
       left = λ runs. writes runs (syncs_idle (history old.disk) (history old.disk) (idle-begins (history old.disk)));
     })
@@ -90,7 +91,7 @@ abbrev IsStoppedReply : Progress → Type 0
 IsStoppedReply answer = answer ≡ progress.Done (reply.Refused refusal.Stopped)
 
 pub keeps_by : {D : Type 0} → (history : D → Option History) (faults : D → Faults) (t next : Task) (old new : StoreValue D) (answer : Progress) → IsSameKind t next → SparesMail (new.stopped ≡ old.stopped) (history old.disk) (history new.disk) → (IsStoppedReply answer ↔ (new.stopped ≡ true)) → (old.stopped ≡ true → new ≡ old)
-    → (old.stopped ≡ false → ChangeFaultCounted (IsStoppedReply answer) (faults old.disk) (faults new.disk)) → ((IsStoppedReply answer → ⊥) → NoFault (faults old.disk) (faults new.disk)) → (OnlyReads t → new ≡ old) → ((why : Refusal) → IsYetToBegin t → old.stopped ≡ false → answer ≡ progress.Done (reply.Refused why) → is_step why ≡ true → new ≡ old)
+    → (old.stopped ≡ false → ChangeFaultCounted (IsStoppedReply answer) (faults old.disk) (faults new.disk)) → ((IsStoppedReply answer → ⊥) → NoFault (faults old.disk) (faults new.disk)) → (OnlyReads t → new ≡ old) → ((why : Refusal) → IsAtStart t → old.stopped ≡ false → answer ≡ progress.Done (reply.Refused why) → is_step why ≡ true → new ≡ old)
     → (SyncsMail (history old.disk) (history new.disk) → WritesTask t next old (history old.disk) (history new.disk)) → Same history faults t next old new (ended_by answer)
 keeps_by history faults t next old new answer kind mail halts still fault unfailed reads refused writes = record {
   kind = kind;
@@ -99,9 +100,11 @@ keeps_by history faults t next old new answer kind mail halts still fault unfail
   reads = by_run old.stopped refl;
   changes = more old.stopped refl;
   unfailed = λ runs. ap (λ (f : Faults). f.changes) (unfailed (λ e. absurd (let k : true ≡ false = sym (halts.0 e) ∙ runs in cc k)));
+  fell = λ ran stops. ((fault ran).rose (halts.1 stops), (fault ran).reads);
   idle = λ r. (
     idle_same (reads r),
     subst (λ (d : _). (faults d).changes ≡ (faults old.disk).changes) (sym (disk_same (reads r))) refl,
+    ap (λ (s : StoreValue _). s.stopped) (reads r),
   );
   refused = λ why begun e step. idle_same (by_stop why begun (answered answer why e) step old.stopped refl);
   left = λ runs. writes (mail.left (runs ∙ sym (ran_before old.stopped new.stopped (λ was. ap (λ (s : StoreValue _). s.stopped) (still was) ∙ was) runs)));
@@ -117,7 +120,7 @@ keeps_by history faults t next old new answer kind mail halts still fault unfail
     answered progress.More why e = absurd (let n : None ≡ Some (reply.Refused why) = e in cc n)
     answered (progress.Done given) why e = (let n : Some given ≡ Some (reply.Refused why) = e in let z : given ≡ reply.Refused why = cc n in ap progress.Done z)
 
-    by_stop : (why : Refusal) → IsYetToBegin t → answer ≡ progress.Done (reply.Refused why) → is_step why ≡ true → (b : Bool) → old.stopped ≡ b → new ≡ old
+    by_stop : (why : Refusal) → IsAtStart t → answer ≡ progress.Done (reply.Refused why) → is_step why ≡ true → (b : Bool) → old.stopped ≡ b → new ≡ old
     by_stop why begun e step true was = still was
     by_stop why begun e step false ran = refused why begun ran e step
 
@@ -131,16 +134,17 @@ keeps_by history faults t next old new answer kind mail halts still fault unfail
 
 -- ---- of a fetch
 
-pub keeps_fetching : {D : Type 0} → (t next : FetchValue) (name : List ℕ) (uid : ℕ) (old new : StoreValue D) (before after : Option History) (began now : Faults) (answer : Progress) → FetchesAlone name uid t.stage next.stage next.did answer old new before after began now
-    → EventKeeps (task.Fetch t) (task.Fetch next) old new before after began now (ended_by answer)
-keeps_fetching t next name uid old new before after began now answer alone = record {
+pub keeps_fetching : {D : Type 0} → (t next : FetchValue) (name : List ℕ) (uid : ℕ) (old new : StoreValue D) (before after : Option History) (began now : Faults) (answer : Progress) → FetchesAlone name uid t.stage next.stage next.did answer old new before after began now → new.stopped ≡ old.stopped
+    → TaskKeeps (task.Fetch t) (task.Fetch next) old new before after began now (ended_by answer)
+keeps_fetching t next name uid old new before after began now answer alone same = record {
   kind = tt;
   grows = grows_kept old.map before after (kept_idle old.map before after alone.idle);
   mail = λ m kept. kept_idle m before after alone.idle;
   reads = alone.fault.reads;
   changes = (let same = alone.fault.changes in omega (arith, same));
   unfailed = λ runs. alone.fault.changes;
-  idle = λ reads. (alone.idle, alone.fault.changes);
+  fell = λ ran stops. absurd (let k : true ≡ false = sym stops ∙ (same ∙ ran) in cc k);
+  idle = λ reads. (alone.idle, alone.fault.changes, same);
   refused = λ why begun e step. alone.idle;
   left = λ runs. syncs_idle before after alone.idle;
 }
@@ -189,6 +193,7 @@ keeps_saving history faults t next old new answer ends saves = by_run old.stoppe
           reads = f.reads;
           changes = f.changes;
           unfailed = λ runs. f.unfailed (λ e. absurd (let k : true ≡ false = sym (s.stopped.0 e) ∙ runs in cc k));
+          fell = λ ran stops. let f = subst (λ (a : Progress). FaultsAt a (faults old.disk) (faults new.disk)) (s.stopped.1 stops) s.faults in (f.rose tt, f.reads);
           idle = λ reads. absurd reads;
           refused = λ why begun e step. idle_same (saving_refused begun.0 t.stage next.stage answer why begun.1 e s.effects);
           left = λ runs. s.mail runs;

@@ -8,6 +8,7 @@ use Rattle.mdbox_base.specs.declared.replies.Reply.TheVariants as reply
 use Rattle.mdbox_base.specs.declared.ids.InstId.{InstId}
 use Rattle.mdbox_base.specs.declared.requests.Request.{Request}
 use Rattle.mdbox_base.specs.declared.requests.Request.TheVariants as request
+use Rattle.mdbox_base.specs.Streams.{Rose}
 use Rattle.model_kept.specs.Kept.{MailIsKept}
 use Rattle.model_lists.specs.Lists.{Lists}
 use Rattle.model_meaning.specs.MapMeaning.{MapMeaning}
@@ -116,14 +117,14 @@ WritesTask (task.Deliver t) (task.Deliver next) old before after = WritesMail t.
 WritesTask t next old before after = SyncsMail before after
 
 -- its next event is its first: a task of one event is always so
-abbrev pub IsYetToBegin : Task → Type 0
-IsYetToBegin (task.Make t) = t.stage ≡ make_stage.First
-IsYetToBegin (task.Copy t) = t.stage ≡ copy_stage.First
-IsYetToBegin (task.Move t) = t.stage ≡ move_stage.First
-IsYetToBegin (task.Expunge t) = t.stage ≡ expunge_stage.First
-IsYetToBegin (task.Fetch t) = t.stage ≡ fetch_stage.First
-IsYetToBegin (task.Deliver t) = (prepared : Prepared) × (t.stage ≡ save_stage.First prepared)
-IsYetToBegin other = Unit {0}
+abbrev pub IsAtStart : Task → Type 0
+IsAtStart (task.Make t) = t.stage ≡ make_stage.First
+IsAtStart (task.Copy t) = t.stage ≡ copy_stage.First
+IsAtStart (task.Move t) = t.stage ≡ move_stage.First
+IsAtStart (task.Expunge t) = t.stage ≡ expunge_stage.First
+IsAtStart (task.Fetch t) = t.stage ≡ fetch_stage.First
+IsAtStart (task.Deliver t) = (prepared : Prepared) × (t.stage ≡ save_stage.First prepared)
+IsAtStart other = Unit {0}
 
 -- It is of the same kind, and of the same request if there are several of the kind.
 abbrev pub IsSameKind : Task → Task → Type 0
@@ -138,15 +139,17 @@ IsSameKind (task.Deliver t) (task.Deliver next) = Unit {0}
 IsSameKind t next = ⊥
 
 -- Whatever the disk is and fails: time goes on, and at each moment storage files and instances have what the map needs. No count of
--- faults falls, and unless the store is stopped then no change failed. A task that reads at the most changes nothing, nor does a first
+-- faults falls; unless the store is stopped then no change failed, and an event that stops it is one in which a change failed and no read.
+-- A task that reads at the most changes nothing, nor does a first
 -- event that is refused, but for want of memory or by a failed call. It stays a task of its kind.
-pub record EventKeeps {D : Type 0} (t next : Task) (old new : StoreValue D) (before after : Option History) (began now : Faults) (ended : Option Reply) : Type 0 where
+pub record TaskKeeps {D : Type 0} (t next : Task) (old new : StoreValue D) (before after : Option History) (began now : Faults) (ended : Option Reply) : Type 0 where
   pub kind : IsSameKind t next
   pub grows : Grows before after
   pub mail : (m : MapMeaning) → IsKeptFor t old m → MailIsKept m before after
   pub reads : began.reads ≤ now.reads
   pub changes : began.changes ≤ now.changes
   pub unfailed : new.stopped ≡ false → now.changes ≡ began.changes
-  pub idle : OnlyReads t → IsIdle before after × (now.changes ≡ began.changes)
-  pub refused : (why : Refusal) → IsYetToBegin t → ended ≡ Some (reply.Refused why) → is_step why ≡ true → IsIdle before after
+  pub fell : old.stopped ≡ false → new.stopped ≡ true → Rose began.changes now.changes × (now.reads ≡ began.reads)
+  pub idle : OnlyReads t → IsIdle before after × (now.changes ≡ began.changes) × (new.stopped ≡ old.stopped)
+  pub refused : (why : Refusal) → IsAtStart t → ended ≡ Some (reply.Refused why) → is_step why ≡ true → IsIdle before after
   pub left : new.stopped ≡ false → WritesTask t next old before after

@@ -13,7 +13,7 @@ use Rattle.store_core.specs.Value.{StoreValue}
 use Rattle.task_claims.specs.Claims.{ClaimsNothing, MovesClaims}
 use Rattle.task_claims.specs.Leaving.{LeavesOthers}
 use Rattle.task_steps.specs.Step.{ended_by}
-use Rattle.lane_tasks.specs.Clause.{DoomsNothing, EventKeeps, StepsTask}
+use Rattle.lane_tasks.specs.Clause.{DoomsNothing, TaskKeeps, StepsTask}
 use Rattle.lane_tasks.specs.Tasks.{IsReadyTask, claims_at, did_of, work_left}
 use Rattle.lane_tasks.specs.declared.task.Task.{Task}
 use Rattle.lanes.specs.declared.lane.LaneEvent.{LaneEvent}
@@ -61,7 +61,7 @@ pub record TaskGoesOn {D : Type 0} (queued : Queued) (next : Task) (event : Lane
   pub stopped : new.stopped ≡ true → event.ended ≡ progress.Done (reply.Refused refusal.Stopped)
   pub halted : old.stopped ≡ true → new.stopped ≡ true
   pub undoomed : new.stopped ≡ false → DoomsNothing old → DoomsNothing new
-  pub keeps : EventKeeps queued.task next old new before after first second (ended_by event.ended)
+  pub keeps : TaskKeeps queued.task next old new before after first second (ended_by event.ended)
   pub store : IsStore before old
   pub ordered : AreFilesInOrder old.files
   pub image : IfTold before (λ disk. IsImage disk (λ name. reading (disk name)))
