@@ -13,40 +13,36 @@ use std::alloc::Global;
 #[derive(Drop)]
 pub struct BareFolder {
     folder: MemFolder,
+    /// The numbers of the calls that read or write, and so may do less.
+    partial: Vec<u64>,
+    /// The numbers of the calls that may change something.
+    changing: Vec<u64>,
 }
 
 impl BareFolder {
     pub fn empty(alloc: Global) -> BareFolder {
-        BareFolder {
-            folder: MemFolder::empty(alloc),
-        }
+        BareFolder::of(MemFolder::empty(alloc))
     }
 
     /// The same folder, whose calls go so, by their numbers, counted from 1 after this call. All from `end` on are refused, as if the
     /// process had ended; 0 for none.
     pub fn going(self, turns: Seq<(u64, Turn)>, end: u64) -> BareFolder {
-        BareFolder {
-            folder: self.folder.going(turns).ending(end),
-        }
+        BareFolder::of(self.folder.going(turns).ending(end))
     }
 
-    /// How many calls were made since these were counted from 1.
+    /// How many calls were made since they were counted from 1.
     pub fn calls(&self) -> u64 {
         self.folder.calls()
     }
 
     /// The same folder, of which another process has the lock, or none.
     pub fn held(self, is_held: bool) -> BareFolder {
-        BareFolder {
-            folder: self.folder.held(is_held),
-        }
+        BareFolder::of(self.folder.held(is_held))
     }
 
     /// What a new process finds after this one has ended.
     pub fn kill(self) -> Result<BareFolder, NoMemory> {
-        Ok(BareFolder {
-            folder: self.folder.kill()?,
-        })
+        Ok(BareFolder::of(self.folder.kill()?))
     }
 
     /// What a new process finds after a crash, by what the crash leaves of each change that isn't durable.
@@ -72,8 +68,33 @@ impl BareFolder {
             .any(|change| matches!(change, Change::SyncFailed))
     }
 
+    /// The numbers of the calls since then that read or wrote, and so may do less.
+    pub fn partial(&self) -> &[u64] {
+        &self.partial
+    }
+
+    /// The numbers of the calls since then that may have changed something.
+    pub fn changing(&self) -> &[u64] {
+        &self.changing
+    }
+
     pub(crate) fn of(folder: MemFolder) -> BareFolder {
-        BareFolder { folder }
+        let alloc = folder.alloc;
+        BareFolder {
+            folder,
+            partial: Vec::new(alloc),
+            changing: Vec::new(alloc),
+        }
+    }
+
+    /// Notes that the next call may change something.
+    fn changes(&mut self) -> Result<(), CallError> {
+        noted(&mut self.changing, self.folder.calls())
+    }
+
+    /// Notes that the next call may do less.
+    fn parts(&mut self) -> Result<(), CallError> {
+        noted(&mut self.partial, self.folder.calls())
     }
 }
 
@@ -87,6 +108,7 @@ impl Folder for BareFolder {
     ghost number = { λ _. 0 };
 
     fn try_lock(&mut self) -> Result<bool, CallError> {
+        self.changes()?;
         self.folder.try_lock()
     }
 
@@ -107,6 +129,7 @@ impl Folder for BareFolder {
     }
 
     fn make_new(&mut self, path: &str) -> Result<MemFile, CallError> {
+        self.changes()?;
         self.folder.make_new(path)
     }
 
@@ -120,11 +143,14 @@ impl Folder for BareFolder {
         offset: u64,
         into: &mut [u8],
     ) -> Result<usize, CallError> {
+        self.parts()?;
         self.folder.read_some(file, offset, into)
     }
 
     /// A write past the file's end fails.
     fn write_some(&mut self, file: &MemFile, offset: u64, from: &[u8]) -> Result<usize, CallError> {
+        self.parts()?;
+        self.changes()?;
         if self.folder.reaches(file, offset)? {
             self.folder.write_some(file, offset, from)
         } else {
@@ -133,24 +159,37 @@ impl Folder for BareFolder {
     }
 
     fn set_length(&mut self, file: &MemFile, end: u64) -> Result<(), CallError> {
+        self.changes()?;
         self.folder.set_length(file, end)
     }
 
     fn sync(&mut self, file: &MemFile) -> Result<(), CallError> {
+        self.changes()?;
         self.folder.sync(file)
     }
 
     fn remove(&mut self, path: &str) -> Result<(), CallError> {
+        self.changes()?;
         self.folder.remove(path)
     }
 
     fn make_folder(&mut self, path: &str) -> Result<bool, CallError> {
+        self.changes()?;
         self.folder.make_folder(path)
     }
 
     fn sync_folder(&mut self, path: &str) -> Result<(), CallError> {
+        self.changes()?;
         self.folder.sync_folder(path)
     }
 
     ghost is_system = { λ _. tt };
+}
+
+/// Notes the call after so many.
+fn noted(list: &mut Vec<u64>, calls: u64) -> Result<(), CallError> {
+    match list.push(calls.saturating_add(1)) {
+        Ok(()) => Ok(()),
+        Err(_) => Err(CallError::Failed),
+    }
 }
