@@ -1,12 +1,8 @@
-//! The real outside: standard input, output and error, and files in the current folder. Trusted: no clause tells what the
-//! system gives or takes.
+//! A disk over the files of the current folder. Trusted: no clause tells what the system gives or keeps.
 #![tactic(auto)]
 
-pub use clock::StdClock;
 pub use disk::RealDisk;
-pub use streams::{StdSink, StdSource};
 
-mod clock;
 mod disk;
 mod files;
 mod folder;
@@ -14,4 +10,3 @@ mod folders;
 mod lock;
 mod names;
 mod open_files;
-mod streams;

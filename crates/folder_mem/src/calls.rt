@@ -1,5 +1,9 @@
 // The calls of a folder.
-ghost use Rattle.std.specs.Prelude.{◌<◌, ◌≤◌};
+ghost use Rattle.std.specs.Prelude.{◌≡◌, ◌↔◌, ◌<◌, ◌≤◌, ℕ, true, false, length, take, drop, map, string_bytes, IfOk, IsErrOf, OnOk, OnErr};
+ghost use Rattle.disk_model.specs.Disk.{written, cut_to};
+ghost use Rattle.folder_model.specs.System.{ArePathsIn, IsHalfWritten, IsHalfCut, Nothing, PlainFile, AFolder, with_node, with_content, with_new_file, with_synced_file, with_synced_names, with_failed_sync, with_lock};
+ghost use Rattle.folder_model.specs.Calls.{IfModelled, IfSound, IsDoneOrNot, IsPartlyDone, HasPassed, kind_of_node, done_by};
+ghost use Rattle.folder_model.specs.declared.folder.CallError.TheVariants.{Interrupted};
 ghost use Rattle.folder_mem.specs.Mem.{mem_model, mem_past};
 ghost use Rattle.folder_mem.specs.SystemLaw.{system_is};
 
@@ -20,7 +24,12 @@ impl Folder for MemFolder {
 
     ghost number = { λ file. file.number };
 
-    fn try_lock(&mut self) -> Result<bool, CallError> {
+    fn try_lock(&mut self) -> Result<bool, CallError>
+        ensures locked { IfOk result (λ locked. locked ≡ true → mem_model self.new ≡ done_by with_lock (mem_model self.old)) }
+        ensures refused { IfOk result (λ locked. locked ≡ false → mem_model self.new ≡ mem_model self.old) }
+        ensures failed { OnErr result (mem_model self.new ≡ mem_model self.old) }
+        ensures passed { HasPassed (mem_model self.old) (mem_past self.old) (mem_model self.new) (mem_past self.new) }
+    {
         if let Turn::Broken = self.begin()? {
             return Err(CallError::Failed);
         }
@@ -32,9 +41,16 @@ impl Folder for MemFolder {
     }
 
     /// It passes no time.
-    fn pause(&mut self) {}
+    fn pause(&mut self)
+        ensures same { mem_model self.new ≡ mem_model self.old }
+        ensures still { mem_past self.new ≡ mem_past self.old }
+    {}
 
-    fn look(&mut self, path: &str) -> Result<Kind, CallError> {
+    fn look(&mut self, path: &str) -> Result<Kind, CallError>
+        ensures kind { IfOk result (λ kind. IfSound (mem_model self.old) (λ s. kind ≡ kind_of_node (s.node path.now))) }
+        ensures same { mem_model self.new ≡ mem_model self.old }
+        ensures still { mem_past self.new ≡ mem_past self.old }
+    {
         if let Turn::Broken = self.begin()? {
             return Err(CallError::Failed);
         }
@@ -45,14 +61,22 @@ impl Folder for MemFolder {
         })
     }
 
-    fn paths_in(&mut self, path: &str) -> Result<Vec<String>, CallError> {
+    fn paths_in(&mut self, path: &str) -> Result<Vec<String>, CallError>
+        ensures paths { IfOk result (λ paths. IfSound (mem_model self.old) (λ s. ArePathsIn s path.now (map string_bytes paths.items))) }
+        ensures same { mem_model self.new ≡ mem_model self.old }
+        ensures still { mem_past self.new ≡ mem_past self.old }
+    {
         if let Turn::Broken = self.begin()? {
             return Err(CallError::Failed);
         }
         Ok(paths_below(self.alloc, &self.changes, path)?)
     }
 
-    fn open(&mut self, path: &str, to_write: bool) -> Result<MemFile, CallError> {
+    fn open(&mut self, path: &str, to_write: bool) -> Result<MemFile, CallError>
+        ensures file { IfOk result (λ file. IfSound (mem_model self.old) (λ s. (n : ℕ) → s.node path.now ≡ PlainFile n → file.number ≡ n)) }
+        ensures same { mem_model self.new ≡ mem_model self.old }
+        ensures still { mem_past self.new ≡ mem_past self.old }
+    {
         if let Turn::Broken = self.begin()? {
             return Err(CallError::Failed);
         }
@@ -62,7 +86,13 @@ impl Folder for MemFolder {
         }
     }
 
-    fn make_new(&mut self, path: &str) -> Result<MemFile, CallError> {
+    fn make_new(&mut self, path: &str) -> Result<MemFile, CallError>
+        ensures there { OnOk result (IfSound (mem_model self.old) (λ s. s.node path.now ≡ Nothing)) }
+        ensures number { IfOk result (λ file. IfModelled (mem_model self.old) (λ s. file.number ≡ s.count)) }
+        ensures made { OnOk result (mem_model self.new ≡ done_by (with_new_file path.now) (mem_model self.old)) }
+        ensures failed { OnErr result (IsDoneOrNot (with_new_file path.now) (mem_model self.old) (mem_model self.new)) }
+        ensures passed { HasPassed (mem_model self.old) (mem_past self.old) (mem_model self.new) (mem_past self.new) }
+    {
         let turn = self.begin()?;
         let seen = seen_path(&self.changes, path);
         if seen.thing != Thing::Nothing {
@@ -76,7 +106,11 @@ impl Folder for MemFolder {
         }
     }
 
-    fn length(&mut self, file: &MemFile) -> Result<u64, CallError> {
+    fn length(&mut self, file: &MemFile) -> Result<u64, CallError>
+        ensures length { IfOk result (λ n. IfSound (mem_model self.old) (λ s. n ≡ length (s.content file.now.number).octets)) }
+        ensures same { mem_model self.new ≡ mem_model self.old }
+        ensures still { mem_past self.new ≡ mem_past self.old }
+    {
         if let Turn::Broken = self.begin()? {
             return Err(CallError::Failed);
         }
@@ -89,7 +123,13 @@ impl Folder for MemFolder {
         file: &MemFile,
         offset: u64,
         into: &mut [u8],
-    ) -> Result<usize, CallError> {
+    ) -> Result<usize, CallError>
+        ensures count { IfOk result (λ n. n ≤ length into.new) }
+        ensures octets { IfOk result (λ n. IfSound (mem_model self.old) (λ s. take n into.new ≡ take n (drop offset (s.content file.now.number).octets))) }
+        ensures some { IfOk result (λ n. IfSound (mem_model self.old) (λ s. 0 < length into.old → offset < length (s.content file.now.number).octets → 0 < n)) }
+        ensures same { mem_model self.new ≡ mem_model self.old }
+        ensures still { mem_past self.new ≡ mem_past self.old }
+    {
         let count = match self.begin()? {
             Turn::Broken => return Err(CallError::Failed),
             Turn::Half => half_of(into.len()),
@@ -99,7 +139,14 @@ impl Folder for MemFolder {
         Ok(seen.text.read(offset, count, into))
     }
 
-    fn write_some(&mut self, file: &MemFile, offset: u64, from: &[u8]) -> Result<usize, CallError> {
+    fn write_some(&mut self, file: &MemFile, offset: u64, from: &[u8]) -> Result<usize, CallError>
+        requires reaches { IfModelled (mem_model self.old) (λ s. offset ≤ length (s.content file.now.number).octets) }
+        ensures count { IfOk result (λ n. n ≤ length from.now) }
+        ensures wrote { IfOk result (λ n. mem_model self.new ≡ done_by (with_content file.now.number (written offset (take n from.now))) (mem_model self.old)) }
+        ensures interrupted { IsErrOf result Interrupted → mem_model self.new ≡ mem_model self.old }
+        ensures failed { OnErr result (IsPartlyDone file.now.number (IsHalfWritten offset (length from.now)) (mem_model self.old) (mem_model self.new)) }
+        ensures passed { HasPassed (mem_model self.old) (mem_past self.old) (mem_model self.new) (mem_past self.new) }
+    {
         let turn = self.begin()?;
         let count = match turn {
             Turn::Whole => from.len(),
@@ -113,13 +160,21 @@ impl Folder for MemFolder {
         }
     }
 
-    fn set_length(&mut self, file: &MemFile, end: u64) -> Result<(), CallError> {
+    fn set_length(&mut self, file: &MemFile, end: u64) -> Result<(), CallError>
+        ensures cut { OnOk result (mem_model self.new ≡ done_by (with_content file.now.number (cut_to end)) (mem_model self.old)) }
+        ensures failed { OnErr result (IsPartlyDone file.now.number (IsHalfCut end) (mem_model self.old) (mem_model self.new)) }
+        ensures passed { HasPassed (mem_model self.old) (mem_past self.old) (mem_model self.new) (mem_past self.new) }
+    {
         let turn = self.begin()?;
         self.note(Change::Cut(file.number, end))?;
         finished(turn)
     }
 
-    fn sync(&mut self, file: &MemFile) -> Result<(), CallError> {
+    fn sync(&mut self, file: &MemFile) -> Result<(), CallError>
+        ensures synced { OnOk result (mem_model self.new ≡ done_by (with_synced_file file.now.number) (mem_model self.old)) }
+        ensures failed { OnErr result (IsDoneOrNot with_failed_sync (mem_model self.old) (mem_model self.new)) }
+        ensures passed { HasPassed (mem_model self.old) (mem_past self.old) (mem_model self.new) (mem_past self.new) }
+    {
         if let Turn::Broken = self.begin()? {
             self.note(Change::SyncFailed)?;
             return Err(CallError::Failed);
@@ -128,14 +183,24 @@ impl Folder for MemFolder {
         Ok(())
     }
 
-    fn remove(&mut self, path: &str) -> Result<(), CallError> {
+    fn remove(&mut self, path: &str) -> Result<(), CallError>
+        ensures removed { OnOk result (mem_model self.new ≡ done_by (with_node path.now Nothing) (mem_model self.old)) }
+        ensures failed { OnErr result (IsDoneOrNot (with_node path.now Nothing) (mem_model self.old) (mem_model self.new)) }
+        ensures passed { HasPassed (mem_model self.old) (mem_past self.old) (mem_model self.new) (mem_past self.new) }
+    {
         let turn = self.begin()?;
         let path = self.text_of(path)?;
         self.note(Change::Removed(path))?;
         finished(turn)
     }
 
-    fn make_folder(&mut self, path: &str) -> Result<bool, CallError> {
+    fn make_folder(&mut self, path: &str) -> Result<bool, CallError>
+        ensures made { IfOk result (λ made. made ≡ true → mem_model self.new ≡ done_by (with_node path.now AFolder) (mem_model self.old)) }
+        ensures there { IfOk result (λ made. IfSound (mem_model self.old) (λ s. made ≡ true ↔ (s.node path.now ≡ Nothing))) }
+        ensures kept { IfOk result (λ made. made ≡ false → mem_model self.new ≡ mem_model self.old) }
+        ensures failed { OnErr result (IsDoneOrNot (with_node path.now AFolder) (mem_model self.old) (mem_model self.new)) }
+        ensures passed { HasPassed (mem_model self.old) (mem_past self.old) (mem_model self.new) (mem_past self.new) }
+    {
         let turn = self.begin()?;
         if seen_path(&self.changes, path).thing != Thing::Nothing {
             return Ok(false);
@@ -148,7 +213,12 @@ impl Folder for MemFolder {
         }
     }
 
-    fn sync_folder(&mut self, path: &str) -> Result<(), CallError> {
+    fn sync_folder(&mut self, path: &str) -> Result<(), CallError>
+        ensures there { OnOk result (IfSound (mem_model self.old) (λ s. s.node path.now ≡ AFolder)) }
+        ensures synced { OnOk result (mem_model self.new ≡ done_by (with_synced_names path.now) (mem_model self.old)) }
+        ensures failed { OnErr result (IsDoneOrNot with_failed_sync (mem_model self.old) (mem_model self.new)) }
+        ensures passed { HasPassed (mem_model self.old) (mem_past self.old) (mem_model self.new) (mem_past self.new) }
+    {
         if let Turn::Broken = self.begin()? {
             self.note(Change::SyncFailed)?;
             return Err(CallError::Failed);

@@ -3,6 +3,7 @@ ghost use Rattle.std.specs.Prelude.{◌≡◌, ◌≤◌, length};
 
 use crate::note::Change;
 use crate::plan::{Plan, Turn};
+use crate::seen::seen_file;
 use folder_model::CallError;
 use mdbox_base::{NoMemory, Seq};
 use std::alloc::Global;
@@ -29,9 +30,9 @@ pub struct MemFolder {
 }
 
 impl MemFolder {
-    ghost use Rattle.std.specs.Prelude.{[], Some, IfOk, OnOk, OnErr, string_bytes};
+    ghost use Rattle.std.specs.Prelude.{[], Some, IfOk, IsTrue, OnOk, OnErr, string_bytes};
     ghost use Rattle.folder_model.specs.System.{after_end};
-    ghost use Rattle.folder_model.specs.Calls.{done_by, passed};
+    ghost use Rattle.folder_model.specs.Calls.{IfModelled, done_by, passed};
     ghost use Rattle.folder_mem.specs.Notes.{empty_system, changes_to, system_after};
     ghost use Rattle.folder_mem.specs.Mem.{mem_model, mem_past};
 
@@ -44,10 +45,22 @@ impl MemFolder {
             alloc,
             changes: Vec::new(alloc),
             from: 0,
-            plan: Plan {
-                turns: Seq::empty(alloc),
-                call: 0,
-            },
+            plan: Plan::none(alloc),
+            is_held: false,
+        }
+    }
+
+    /// The folder after these changes, as a new process finds it.
+    pub(crate) fn begun(alloc: Global, changes: Vec<Change>) -> MemFolder
+        ensures changes { result.changes.items ≡ changes.items }
+        ensures from { result.from ≡ length changes.items }
+    {
+        let from = changes.len();
+        MemFolder {
+            alloc,
+            changes,
+            from,
+            plan: Plan::none(alloc),
             is_held: false,
         }
     }
@@ -56,12 +69,41 @@ impl MemFolder {
     pub fn going(self, turns: Seq<(u64, Turn)>) -> MemFolder
         ensures model { mem_model result ≡ mem_model self }
         ensures past { mem_past result ≡ mem_past self }
-        ensures plan { result.plan ≡ record { turns = turns; call = 0 } }
+        ensures plan { result.plan ≡ record { turns = turns; call = 0; end = 0 } }
     {
         let mut folder = self;
-        folder.plan.turns = turns;
-        folder.plan.call = 0;
+        folder.plan = Plan {
+            turns,
+            call: 0,
+            end: 0,
+        };
         folder
+    }
+
+    /// The same folder, whose calls are refused from this one on, as if the process had ended. 0 for none.
+    pub fn ending(self, end: u64) -> MemFolder
+        ensures model { mem_model result ≡ mem_model self }
+        ensures past { mem_past result ≡ mem_past self }
+        ensures plan { result.plan ≡ record self.plan { end = end } }
+    {
+        let mut folder = self;
+        folder.plan.end = end;
+        folder
+    }
+
+    /// How many calls were made since they were counted from 1.
+    pub fn calls(&self) -> u64
+        ensures { result ≡ self.now.plan.call }
+    {
+        self.plan.call
+    }
+
+    /// Whether an offset lies within a file or at its end.
+    pub(crate) fn reaches(&self, file: &MemFile, offset: u64) -> Result<bool, NoMemory>
+        ensures { IfOk result (λ within. IsTrue within → IfModelled (mem_model self.now) (λ s. offset ≤ length (s.content file.now.number).octets)) }
+    {
+        let seen = seen_file(self.alloc, &self.changes, file.number)?;
+        Ok(offset <= seen.text.octets.len() as u64)
     }
 
     /// The same folder, of which another process has the lock, or none.

@@ -4,7 +4,8 @@ ghost use Rattle.std.specs.Process.{exit_status};
 
 use crate::exits::run;
 use crate::words::words_of;
-use disk_real::{RealDisk, StdClock, StdSink, StdSource};
+use disk_real::RealDisk;
+use os_folder::{StdClock, StdSink, StdSource};
 use std::env;
 use std::process::ExitCode;
 

@@ -8,7 +8,7 @@ ghost use Rattle.attach_detach.specs.Prepared.{IsPrepared, NameParts};
 use anyhow::{Result, bail};
 use attach_detach::{Detached, Prepared, prepare, prepared_is_detached};
 use attach_join::rejoin_detached;
-use disk_real::StdSource;
+use os_folder::StdSource;
 use mdbox_base::{ExtRef, InstId, NoMemory, Octets, Seq, read_all};
 use std::alloc::Global;
 use std::env;

@@ -1,0 +1,12 @@
+//! The real outside: the system's files of the current folder, standard input, output and error, and the clock. Trusted: no clause
+//! tells what the system gives, takes or keeps.
+#![tactic(auto)]
+
+pub use clock::StdClock;
+pub use folder::OsFolder;
+pub use streams::{StdSink, StdSource};
+
+mod answers;
+mod clock;
+mod folder;
+mod streams;
