@@ -12,6 +12,7 @@ ghost use Rattle.mdbox_top.specs.DeliverRun.{IsReadWhole};
 ghost use Rattle.mdbox_top.specs.Run.{Ends, RunOutcome, Moments, Rests, HasStatus, MayHaveFailed, reads_input, uses_disk, asks_clock};
 
 use crate::alone::serve;
+use crate::batch::batch;
 use crate::copy::copy;
 use crate::counts::counts;
 use crate::deliver::deliver;
@@ -156,6 +157,7 @@ fn perform<D: Disk, I: Source, O: Sink, C: Clock>(
         Command::Copy { name, uid, target } => copy(alloc, name, uid, target, disk, output),
         Command::Move { name, uid, target } => move_to(alloc, name, uid, target, disk, output),
         Command::Make { name } => make(alloc, name, disk, output),
+        Command::Batch { lanes } => batch(alloc, lanes, disk, input, output),
         Command::Dump => (dump(alloc, input, output), disk),
         Command::LogDump => (logdump(alloc, input, output), disk),
         Command::Help => (show(output, HELP), disk),
