@@ -1,7 +1,8 @@
 -- How `batch` ends: by what was read, and by the script.
-use Rattle.std.specs.Prelude.{◌≡◌, ◌≤◌, ◌<◌, ◌+◌, ◌⊎◌, ◌++◌, ℕ, suc, Bool, true, false, cond, if◌then◌else◌, List, [], ◌∷◌, All, Contains, count_by, length, map, Option, Some, None, Result, Ok, Err, IfOk}
+use Rattle.std.specs.Prelude.{◌≡◌, ◌≤◌, ◌<◌, ◌+◌, ◌⊎◌, ◌++◌, ℕ, suc, Bool, true, false, cond, if◌then◌else◌, List, [], ◌∷◌, All, Contains, count_by, get_or, length, map, take, Option, Some, None, Result, Ok, Err, IfOk}
 use Rattle.std.specs.List.{AllByRecursion, list_any}
 use Rattle.std.proofs.Common.{refl, sym, ◌∙◌, ap, subst, inl, inr, append-nil, arith}
+use Rattle.std.proofs.lemmas.List.{take_more}
 use Rattle.std.proofs.lemmas.List.Elements.{All-nil, All-cons}
 use Rattle.std.proofs.lemmas.List.Folds.{list_any_at}
 use Rattle.std.proofs.lemmas.List.Sums.{sum_by-cons}
@@ -25,6 +26,7 @@ use Rattle.model_store.specs.Safe.{Safe}
 use Rattle.model_store.specs.Settled.{IsSettledFor}
 use Rattle.store_open.specs.declared.error.OpenError.{OpenError}
 use Rattle.store_open.specs.declared.error.OpenError.TheVariants as error
+use Rattle.request_text.specs.BatchText.{batch_text}
 use Rattle.request_text.specs.Outcomes.{status_of, is_disk_no, is_lack, is_no, replies_outcome}
 use Rattle.request_text.specs.declared.outcome.InputRefusal.{InputRefusal}
 use Rattle.request_text.specs.declared.outcome.InputRefusal.TheVariants as refusal
@@ -105,36 +107,47 @@ given_more [] (x ∷ rest) asked one g h = absurd g
 given_more (x ∷ requests) [] asked one g h = absurd g
 given_more (x ∷ requests) (y ∷ rest) asked one g h = (g.0, given_more requests rest asked one g.1 h)
 
+-- one request more in a walk over them
+pub given_next : (requests : Requests) (given more : List (Option Prepared)) (k : ℕ) (asked : ℕ × Request) (one : Option Prepared) → k < length requests → asked ≡ get_or requests k asked → AreGiven (take k requests) given → HasItsMessage asked.1 one → more ≡ given ++ one ∷ [] → AreGiven (take (k + 1) requests) more
+given_next requests given more k asked one lt is g h e =
+    let next : take (k + 1) requests ≡ take k requests ++ asked ∷ [] = take_more requests k asked lt ∙ ap (λ (x : ℕ × Request). take k requests ++ x ∷ []) (sym is) in
+    subst (λ (x : Requests). AreGiven x more) (sym next) (subst (λ (x : List (Option Prepared)). AreGiven (take k requests ++ asked ∷ []) x) (sym e) (given_more (take k requests) given asked one g h))
+
 pub nothing_given : (asked : Request) → FitsScript asked → ((name : List ℕ) (time : ℕ) (message : List ℕ) → asked ≡ request.Deliver name time message → ⊥) → HasItsMessage asked None
-nothing_given (request.Deliver name time message) f no = absurd (no name time message refl)
-nothing_given (request.List name) f no = (tt, refl)
-nothing_given (request.Fetch name uid) f no = (tt, refl)
-nothing_given (request.Flag name uid flags) f no = (tt, refl)
-nothing_given (request.Copy name uid target) f no = (tt, refl)
-nothing_given (request.Move name uid target) f no = (tt, refl)
-nothing_given (request.Expunge name uid) f no = (tt, refl)
-nothing_given (request.Make name) f no = (tt, refl)
-nothing_given request.Counts f no = (tt, refl)
-nothing_given request.Purge f no = absurd f
-nothing_given request.Resync f no = absurd f
+nothing_given (request.Deliver name time message) f unlike = absurd (unlike name time message refl)
+nothing_given (request.List name) f unlike = (tt, refl)
+nothing_given (request.Fetch name uid) f unlike = (tt, refl)
+nothing_given (request.Flag name uid flags) f unlike = (tt, refl)
+nothing_given (request.Copy name uid target) f unlike = (tt, refl)
+nothing_given (request.Move name uid target) f unlike = (tt, refl)
+nothing_given (request.Expunge name uid) f unlike = (tt, refl)
+nothing_given (request.Make name) f unlike = (tt, refl)
+nothing_given request.Counts f unlike = (tt, refl)
+nothing_given request.Purge f unlike = absurd f
+nothing_given request.Resync f unlike = absurd f
 
 -- ---- how replies are printed
 
 -- by the tests of an end
 outcome_by : (P : Outcome → Type 0) → (b c d : Bool) → (b ≡ true → P outcome.DiskFault) → P outcome.NoMemory → P outcome.No → P outcome.Done → P (if b then outcome.DiskFault else (if c then outcome.NoMemory else (if d then outcome.No else outcome.Done)))
-outcome_by P true c d disk memory no done = disk refl
-outcome_by P false true d disk memory no done = memory
-outcome_by P false false true disk memory no done = no
-outcome_by P false false false disk memory no done = done
+outcome_by P true c d w x y z = w refl
+outcome_by P false true d w x y z = x
+outcome_by P false false true w x y z = y
+outcome_by P false false false w x y z = z
 
 by_outcome : (P : Outcome → Type 0) (replies : List (Option Reply)) → (list_any is_disk_no replies ≡ true → P outcome.DiskFault) → P outcome.NoMemory → P outcome.No → P outcome.Done → P (replies_outcome replies)
-by_outcome P replies disk memory no done = outcome_by P (list_any is_disk_no replies) (list_any is_lack replies) (list_any is_no replies) disk memory no done
+by_outcome P replies w x y z = outcome_by P (list_any is_disk_no replies) (list_any is_lack replies) (list_any is_no replies) w x y z
 
 abbrev ShowsAs : List ℕ → List (Option Reply) → Option (List ℕ) → Option (List ℕ) → Outcome → Type 0
 ShowsAs text replies h k o = o ≡ replies_outcome replies → ShowsReplies text replies h k o
 
 pub replies_whole : (text : List ℕ) (replies : List (Option Reply)) (h k : Option (List ℕ)) → Appended h text k → ShowsReplies text replies h k (replies_outcome replies)
 replies_whole text replies h k a = by_outcome (ShowsAs text replies h k) replies (λ any e. (e, a)) (λ e. (text, [], sym (append-nil text), a)) (λ e. (e, a)) (λ e. (e, a)) refl
+
+-- the same replies and the same journal
+pub shown_as : (journal j : List JournalEntry) (replies r : List (Option Reply)) (given : List Reply) (h k : Option (List ℕ)) (o : Outcome) → j ≡ journal → r ≡ replies → replies ≡ map Some given → ShowsReplies (batch_text j r) r h k o → ShowsReplies (batch_text journal (map Some given)) (map Some given) h k o
+shown_as journal j replies r given h k o e f g s =
+    subst (λ (x : List (Option Reply)). ShowsReplies (batch_text journal x) x h k o) (f ∙ g) (subst (λ (x : List JournalEntry). ShowsReplies (batch_text x r) r h k o) e s)
 
 outcome_number : (replies : List (Option Reply)) → IsOneOf (0 ∷ 1 ∷ 5 ∷ 6 ∷ []) (status_of (replies_outcome replies))
 outcome_number replies = by_outcome (λ (o : Outcome). IsOneOf (0 ∷ 1 ∷ 5 ∷ 6 ∷ []) (status_of o)) replies (λ any. inr (inr (inr (inl refl)))) (inr (inr (inl refl))) (inr (inl refl)) (inl refl)
@@ -221,9 +234,9 @@ script_quiet text given h k began now o f s none = f.quiet
 
 safe_at : (lists : Lists) (old : Option History) → IsSettledFor lists old → AreSafeFor lists old
 safe_at lists None s = absurd s
-safe_at lists (Some h) s = s.safe
+safe_at lists (Some h) s = record { store = s.store; entries = s.entries; by = s.safe }
 
-served_from : (script : Requests) (given : List Reply) (entries : List JournalEntry) (old new : Option History) (began now : Faults) (lists : Lists) → IsScriptDone script given entries old new began now → IsSettledFor lists old → WasServed script lists old new
+abbrev served_from : (script : Requests) (given : List Reply) (entries : List JournalEntry) (old new : Option History) (began now : Faults) (lists : Lists) → IsScriptDone script given entries old new began now → IsSettledFor lists old → WasServed script lists old new
 served_from script given entries old new began now lists d s = record { given = given; entries = entries; began = began; now = now; served = d.serves lists (d.shown lists (safe_at lists old s)) (λ reads. s) }
 
 pub script_moments : (script : Requests) (given : List Reply) (entries : List JournalEntry) (old new : Option History) (began now : Faults) → IsScriptDone script given entries old new began now → ScriptMoments script old new
@@ -233,7 +246,7 @@ pub script_rests : (script : Requests) (text : List ℕ) (given : List Reply) (e
     → ScriptRests script (IsOneOf (5 ∷ 6 ∷ 8 ∷ []) (status_of o)) began now old new
 script_rests script text given entries h k old new began now o d shows = λ none lists s.
     let was = served_from script given entries old new began now lists d s in
-    inr (was, was.served.settled (λ (c : HasStopped given). none (failed_printing text (map Some given) h k o shows (stopped_outcome given c)) (d.faults.stopped c)) s)
+    inr (was, was.served.settled (λ (c : HasStopped given). none (failed_printing text (map Some given) h k o shows (stopped_outcome given c)) ((d.faults (lists, λ reads. s)).stopped c)) s)
 
 -- ---- a store that was not opened
 

@@ -49,15 +49,15 @@ FoundAt es m r n = (k : ℕ) × (n ≡ m + k) × (entry : JournalEntry) × (slic
 
 found_at : (es : List JournalEntry) (m r n : ℕ) (h : Half) → place_from m es r h ≡ Some n → FoundAt es m r n
 found_at [] m r n h e = absurd (cc e)
-found_at (entry ∷ es) m r n h e = by_test (entry.request == r && same_half entry.half h) refl e
+found_at (entry ∷ es) m r n h e = by_test (λ f. found_at es (m + 1) r n h f) (entry.request == r && same_half entry.half h) refl e
   where
-    by_test : (b : Bool) → (entry.request == r && same_half entry.half h) ≡ b → (if b then Some m else place_from (m + 1) es r h) ≡ Some n → FoundAt (entry ∷ es) m r n
-    by_test true t f =
+    by_test : (place_from (m + 1) es r h ≡ Some n → FoundAt es (m + 1) r n) → (b : Bool) → (entry.request == r && same_half entry.half h) ≡ b → (if b then Some m else place_from (m + 1) es r h) ≡ Some n → FoundAt (entry ∷ es) m r n
+    by_test on true t f =
         let same : m ≡ n = cc f in
         let parts = and_parts (entry.request == r) (same_half entry.half h) t in
         (0, omega (arith, same), entry, refl, eqb-true entry.request r parts.0)
-    by_test false t f =
-        let later = found_at es (m + 1) r n h f in
+    by_test on false t f =
+        let later = on f in
         (suc later.0, (let is = later.1 in omega (arith, is)), later.2, later.3, later.4)
 
 -- of the places of a request each was found
@@ -76,7 +76,7 @@ among_found es r n given among = by_copy (place_from 1 es r half.CopyHalf) refl 
 
 -- ---- the halves of a request
 
-halves_in : ℕ → List JournalEntry → List Half
+abbrev halves_in : ℕ → List JournalEntry → List Half
 halves_in r [] = []
 halves_in r (entry ∷ es) = if entry.request == r then entry.half ∷ halves_in r es else halves_in r es
 
@@ -91,11 +91,11 @@ AreDistinct (x ∷ xs) = Lacks x xs × AreDistinct xs
 -- a half that the request lacks has no place
 place_none : (es : List JournalEntry) (m r : ℕ) (h : Half) → Lacks h (halves_in r es) → place_from m es r h ≡ None
 place_none [] m r h l = refl
-place_none (entry ∷ es) m r h l = by_test (entry.request == r) l
+place_none (entry ∷ es) m r h l = by_test (λ k. place_none es (m + 1) r h k) (entry.request == r) l
   where
-    by_test : (b : Bool) → Lacks h (if b then entry.half ∷ halves_in r es else halves_in r es) → (if b && same_half entry.half h then Some m else place_from (m + 1) es r h) ≡ None
-    by_test true k = rw k.0 (place_none es (m + 1) r h k.1)
-    by_test false k = place_none es (m + 1) r h k
+    by_test : (Lacks h (halves_in r es) → place_from (m + 1) es r h ≡ None) → (b : Bool) → Lacks h (if b then entry.half ∷ halves_in r es else halves_in r es) → (if b && same_half entry.half h then Some m else place_from (m + 1) es r h) ≡ None
+    by_test on true k = rw k.0 (on k.1)
+    by_test on false k = on k
 
 -- a half that the request has isn't lacking
 not_lacking : (es : List JournalEntry) (r k : ℕ) (entry : JournalEntry) (h : Half) → slice_get es k ≡ Some entry → entry.request ≡ r → Lacks h (halves_in r es) → same_half entry.half h ≡ false
@@ -105,11 +105,11 @@ not_lacking (x ∷ es) r zero entry h at is l =
     let test : (x.request == r) ≡ true = eq-eqb x.request r (ap (λ (e : JournalEntry). e.request) same ∙ is) in
     let first : Lacks h (x.half ∷ halves_in r es) = rw test at l in
     subst (λ (e : JournalEntry). same_half e.half h ≡ false) same first.0
-not_lacking (x ∷ es) r (suc k) entry h at is l = by_test (x.request == r) l
+not_lacking (x ∷ es) r (suc k) entry h at is l = by_test (λ m. not_lacking es r k entry h at is m) (x.request == r) l
   where
-    by_test : (b : Bool) → Lacks h (if b then x.half ∷ halves_in r es else halves_in r es) → same_half entry.half h ≡ false
-    by_test true m = not_lacking es r k entry h at is m.1
-    by_test false m = not_lacking es r k entry h at is m
+    by_test : (Lacks h (halves_in r es) → same_half entry.half h ≡ false) → (b : Bool) → Lacks h (if b then x.half ∷ halves_in r es else halves_in r es) → same_half entry.half h ≡ false
+    by_test on true m = on m.1
+    by_test on false m = on m
 
 -- one that it has once has its place
 place_some : (es : List JournalEntry) (m r k : ℕ) (entry : JournalEntry) → slice_get es k ≡ Some entry → entry.request ≡ r → AreDistinct (halves_in r es) → place_from m es r entry.half ≡ Some (m + k)
@@ -119,26 +119,23 @@ place_some (x ∷ es) m r zero entry at is d =
     let test : (x.request == r) ≡ true = eq-eqb x.request r (ap (λ (e : JournalEntry). e.request) same ∙ is) in
     let self : same_half x.half entry.half ≡ true = subst (λ (e : JournalEntry). same_half x.half e.half ≡ true) same (same_self x.half) in
     rw (test, self) (ap (λ (n : ℕ). Some n) (omega arith))
-place_some (x ∷ es) m r (suc k) entry at is d = by_test (x.request == r) d
+place_some (x ∷ es) m r (suc k) entry at is d = by_test (λ f. place_some es (m + 1) r k entry at is f ∙ ap (λ (n : ℕ). Some n) (omega arith)) (x.request == r) d
   where
-    on : AreDistinct (halves_in r es) → place_from (m + 1) es r entry.half ≡ Some (m + suc k)
-    on f = place_some es (m + 1) r k entry at is f ∙ ap (λ (n : ℕ). Some n) (omega arith)
-
-    by_test : (b : Bool) → AreDistinct (if b then x.half ∷ halves_in r es else halves_in r es) → (if b && same_half x.half entry.half then Some m else place_from (m + 1) es r entry.half) ≡ Some (m + suc k)
-    by_test true f = rw (same_turned x.half entry.half ∙ not_lacking es r k entry x.half at is f.0) (on f.1)
-    by_test false f = on f
+    by_test : (AreDistinct (halves_in r es) → place_from (m + 1) es r entry.half ≡ Some (m + suc k)) → (b : Bool) → AreDistinct (if b then x.half ∷ halves_in r es else halves_in r es) → (if b && same_half x.half entry.half then Some m else place_from (m + 1) es r entry.half) ≡ Some (m + suc k)
+    by_test on true f = rw (same_turned x.half entry.half ∙ not_lacking es r k entry x.half at is f.0) (on f.1)
+    by_test on false f = on f
 
 -- a half that is the request's first has a place
 place_first : (es : List JournalEntry) (m r : ℕ) (h : Half) (rest : List Half) → halves_in r es ≡ h ∷ rest → (n : ℕ) × (place_from m es r h ≡ Some n)
 place_first [] m r h rest e = absurd (cc e)
-place_first (x ∷ es) m r h rest e = by_test (x.request == r) e
+place_first (x ∷ es) m r h rest e = by_test (λ f. place_first es (m + 1) r h rest f) (x.request == r) e
   where
-    by_test : (b : Bool) → (if b then x.half ∷ halves_in r es else halves_in r es) ≡ h ∷ rest → (n : ℕ) × ((if b && same_half x.half h then Some m else place_from (m + 1) es r h) ≡ Some n)
-    by_test true f =
+    by_test : (halves_in r es ≡ h ∷ rest → (n : ℕ) × (place_from (m + 1) es r h ≡ Some n)) → (b : Bool) → (if b then x.half ∷ halves_in r es else halves_in r es) ≡ h ∷ rest → (n : ℕ) × ((if b && same_half x.half h then Some m else place_from (m + 1) es r h) ≡ Some n)
+    by_test on true f =
         let same : x.half ≡ h = cc f in
         let self : same_half x.half h ≡ true = subst (λ (g : Half). same_half x.half g ≡ true) same (same_self x.half) in
         (m, rw self refl)
-    by_test false f = place_first es (m + 1) r h rest f
+    by_test on false f = on f
 
 -- ---- the halves of its steps
 
@@ -166,7 +163,7 @@ entry_asked history made moment run script start (s ∷ steps) (e ∷ es) (suc k
 -- ---- each entry has its place
 
 -- a move, or a request of one step
-Kind : Request → Type 0
+abbrev Kind : Request → Type 0
 Kind asked = (halves_of asked ≡ half.Whole ∷ []) ⊎ ((name : List ℕ) × (uid : Uid) × (target : List ℕ) × (asked ≡ request.Move name uid target))
 
 kind_of : (asked : Request) → Kind asked
@@ -218,8 +215,8 @@ among_copy whole (Some place) removed given n e = by_test (refuses_copy given)
     by_test false = inl e
 
 among_removed : (whole copied removed : Option ℕ) (given : Reply) (n m : ℕ) → copied ≡ Some m → removed ≡ Some n → refuses_copy given ≡ false → IsAmong n (places_by whole copied removed given)
-among_removed whole None removed given n m c e no = absurd (cc c)
-among_removed whole (Some place) removed given n m c e no = by_test (refuses_copy given) no
+among_removed whole None removed given n m c e unlike = absurd (cc c)
+among_removed whole (Some place) removed given n m c e unlike = by_test (refuses_copy given) unlike
   where
     by_test : (b : Bool) → b ≡ false → IsAmong n (if b then places.One (Some place) else places.Two (Some place) removed)
     by_test true f = absurd (cc f)
@@ -228,9 +225,9 @@ among_removed whole (Some place) removed given n m c e no = by_test (refuses_cop
 -- an entry of a request that has no such half
 never : (es : List JournalEntry) (r k : ℕ) (entry : JournalEntry) (h : Half) → slice_get es k ≡ Some entry → entry.request ≡ r → Lacks h (halves_in r es) → entry.half ≡ h → ⊥
 never es r k entry h at is l e =
-    let no : same_half entry.half h ≡ false = not_lacking es r k entry h at is l in
-    let yes : same_half entry.half h ≡ true = subst (λ (g : Half). same_half entry.half g ≡ true) e (same_self entry.half) in
-    let both : true ≡ false = sym yes ∙ no in
+    let unlike : same_half entry.half h ≡ false = not_lacking es r k entry h at is l in
+    let same : same_half entry.half h ≡ true = subst (λ (g : Half). same_half entry.half g ≡ true) e (same_self entry.half) in
+    let both : true ≡ false = sym same ∙ unlike in
     cc both
 
 whole_place : (es : List JournalEntry) (r k : ℕ) (entry : JournalEntry) (given : Reply) → slice_get es k ≡ Some entry → entry.request ≡ r → halves_in r es ≡ half.Whole ∷ [] → IsAmong (1 + k) (places_told (request_steps es r) given)
@@ -256,7 +253,7 @@ half_place es r k entry given at is e = by_half entry.half refl
     by_half half.ExpungeHalf f = absurd (never es r k entry half.ExpungeHalf at is (subst (Lacks half.ExpungeHalf) (sym e) (refl, tt)) f)
 
 move_place : (es : List JournalEntry) (r k : ℕ) (entry : JournalEntry) (given : Reply) → slice_get es k ≡ Some entry → entry.request ≡ r → halves_in r es ≡ half.CopyHalf ∷ half.ExpungeHalf ∷ [] → refuses_copy given ≡ false → IsAmong (1 + k) (places_told (request_steps es r) given)
-move_place es r k entry given at is e no = by_half entry.half refl
+move_place es r k entry given at is e unlike = by_half entry.half refl
   where
     once : AreDistinct (halves_in r es)
     once = subst AreDistinct (sym e) ((refl, tt), (tt, tt))
@@ -265,7 +262,7 @@ move_place es r k entry given at is e no = by_half entry.half refl
     by_half half.CopyHalf f = copy_place es r k entry given at is once f
     by_half half.ExpungeHalf f =
         let copied = place_first es 1 r half.CopyHalf (half.ExpungeHalf ∷ []) e in
-        among_removed (place_from 1 es r half.Whole) (place_from 1 es r half.CopyHalf) (place_from 1 es r half.ExpungeHalf) given (1 + k) copied.0 copied.1 (subst (λ (h : Half). place_from 1 es r h ≡ Some (1 + k)) f (place_some es 1 r k entry at is once)) no
+        among_removed (place_from 1 es r half.Whole) (place_from 1 es r half.CopyHalf) (place_from 1 es r half.ExpungeHalf) given (1 + k) copied.0 copied.1 (subst (λ (h : Half). place_from 1 es r h ≡ Some (1 + k)) f (place_some es 1 r k entry at is once)) unlike
     by_half half.Whole f = absurd (never es r k entry half.Whole at is (subst (Lacks half.Whole) (sym e) (refl, (refl, tt))) f)
 
 -- by what the request is
@@ -290,7 +287,7 @@ entry_place es r k entry asked steps given at is are part replied = by_kind (kin
           | inl none ↦ absurd (some none)
           | inr (inl one) ↦ half_place es r k entry given at is (are ∙ one)
           | inr (inr all) ↦
-              let two : length (map (λ (s : JournalStep). s.answer) steps) ≡ 2 = length-map (λ (s : JournalStep). s.answer) steps ∙ sym (length-map (λ (s : JournalStep). s.half) steps) ∙ ap (λ (x : List Half). length x) all in
+              let two : length (map (λ (s : JournalStep). s.answer) steps) ≡ 2 = length-map steps (λ (s : JournalStep). s.answer) ∙ sym (length-map steps (λ (s : JournalStep). s.half)) ∙ ap (λ (x : List Half). length x) all in
               move_place es r k entry given at is (are ∙ all) (not_refused m.0 m.1 m.2 (map (λ (s : JournalStep). s.answer) steps) given two (subst (λ (a : Request). IsReplyOf a (map (λ (s : JournalStep). s.answer) steps) given) m.3 replied))
         ]
 
@@ -298,6 +295,9 @@ entry_place es r k entry asked steps given at is are part replied = by_kind (kin
 
 some_at : {X : Type 0} → (xs : List X) (k : ℕ) → k < length xs → (x : X) × (slice_get xs k ≡ Some x)
 some_at xs k lt = elim (slice_get_cases xs k).1 [ inl x ↦ (x.0, x.2) | inr past ↦ absurd (let le = past.0 in omega (arith, lt, le)) ]
+
+some_given : (given : List Reply) (r : ℕ) (answer : Reply) → slice_get given r ≡ Some answer → slice_get (map Some given) r ≡ Some (Some answer)
+some_given given r answer e = slice_get-map Some given r ∙ ap (option_map Some) e
 
 one_request : (es : List JournalEntry) (a b n : ℕ) → FoundAt es 1 a n → FoundAt es 1 b n → a ≡ b
 one_request es a b n f g =
@@ -314,9 +314,9 @@ served_places script lists given entries began now old new many s = record {
       let asked = entry_asked new s.made (moment_of s.run) s.run script lists s.journal entries (n - 1) at.0 s.entries_are s.served.legal.steps at.1 in
       let within = slice_get_within script r asked.0 asked.1 in
       let answer = some_at given r (omega (arith, many, within)) in
-      let has : slice_get (map Some given) r ≡ Some (Some answer.0) = slice_get-map Some given r ∙ ap (option_map Some) answer.1 in
+      let has : slice_get (map Some given) r ≡ Some (Some answer.0) = some_given given r answer.0 answer.1 in
       let place = entry_place entries r (n - 1) at.0 asked.0.1 (steps_of r s.journal) answer.0 at.1 refl (halves_are new s.made (moment_of s.run) r s.journal entries s.entries_are) (s.served.legal.order.halves r asked.0 asked.1) (s.served.legal.replied r asked.0 answer.0 asked.1 has) in
-      (r, answer.0, answer.1, subst (λ (m : ℕ). IsAmong m (places_told (request_steps entries r) answer.0)) (omega (arith, low)) place);
+      (r, (answer.0, answer.1, subst (λ (m : ℕ). IsAmong m (places_told (request_steps entries r) answer.0)) (omega (arith, low)) place));
   once = λ n a b p q. one_request entries a b n (among_found entries a n p.0 p.2) (among_found entries b n q.0 q.2);
   within = λ n r p.
       let f = among_found entries r n p.0 p.2 in

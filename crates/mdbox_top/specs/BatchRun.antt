@@ -17,7 +17,7 @@ use Rattle.request_text.specs.declared.outcome.InputRefusal.{InputRefusal}
 use Rattle.request_text.specs.declared.outcome.InputRefusal.TheVariants as refusal
 use Rattle.request_text.specs.declared.outcome.Outcome.{Outcome}
 use Rattle.request_text.specs.declared.outcome.Outcome.TheVariants as outcome
-use Rattle.script_run.specs.Done.{IsScriptDone}
+use Rattle.script_run.specs.Done.{IsScriptDone, MayBeServed}
 use Rattle.script_run.specs.Script.{ServesScript}
 use Rattle.script_text.specs.Script.{IsScript, IsBadAt}
 use Rattle.mdbox_top.specs.InputRun.{OfInput, IsOneOf}
@@ -98,6 +98,11 @@ BatchMoments lanes left old new = (new ≡ old) ⊎ OfScript lanes left (λ scri
 
 abbrev pub BatchRests : ℕ → Option (List ℕ) → Type 0 → Faults → Faults → Option History → Option History → Type 0
 BatchRests lanes left failed began now old new = (new ≡ old) ⊎ OfScript lanes left (λ script. ScriptRests script failed began now old new)
+
+-- Whatever script the input is, there are lists from which it may be served: if it reads a message, the disk was settled for them. Of such
+-- a script it is said which calls of the disk failed.
+abbrev pub TellsScriptFaults : ℕ → Option (List ℕ) → Option History → Type 0
+TellsScriptFaults lanes left old = (script : Script) → OfInput left (λ input. ReadsScript lanes input script) → MayBeServed script.requests old
 
 -- An input that is no script is refused, but for out of memory and faults of the source; with a script no file of a settled disk refuses
 -- it.

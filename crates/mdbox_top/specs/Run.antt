@@ -11,7 +11,7 @@ use Rattle.request_text.specs.declared.command.TheConstants.{HELP, VERSION}
 use Rattle.request_text.specs.declared.outcome.Outcome.{Outcome}
 use Rattle.mdbox_base.specs.declared.requests.Request.TheVariants as request
 use Rattle.mdbox_top.specs.Alone.{MayFail}
-use Rattle.mdbox_top.specs.BatchRun.{BatchOutcome, BatchMoments, BatchRests, BatchStatus}
+use Rattle.mdbox_top.specs.BatchRun.{BatchOutcome, BatchMoments, BatchRests, BatchStatus, TellsScriptFaults}
 use Rattle.mdbox_top.specs.InputRun.{DumpPrints, DumpRefuses, LogDumpPrints, LogDumpRefuses, InputOutcome, InputStatus, ShowsText, IsOneOf}
 use Rattle.mdbox_top.specs.InitRun.{InitOutcome, InitMoments, MayMakeStore}
 use Rattle.mdbox_top.specs.ListRun.{ListOutcome, ListMoments, ListRests}
@@ -110,6 +110,11 @@ MayHaveFailed (command.Move name uid target) status = MayFail (request.Move name
 MayHaveFailed (command.Make name) status = MayFail (request.Make name) status
 MayHaveFailed (command.Batch lanes) status = IsOneOf (5 ∷ 6 ∷ 8 ∷ []) status
 MayHaveFailed other status = status ≡ 6
+
+-- It is said of the command which calls of the disk failed: always, but of a script that reads messages only if the disk was settled.
+abbrev pub TellsFaults : Command → Option (List ℕ) → Option History → Type 0
+TellsFaults (command.Batch lanes) left old = TellsScriptFaults lanes left old
+TellsFaults other left old = Unit {0}
 
 -- the command reads standard input
 abbrev pub reads_input : Command → Bool

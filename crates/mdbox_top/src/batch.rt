@@ -6,8 +6,9 @@ ghost use Rattle.mdbox_base.specs.Streams.{Rose};
 ghost use Rattle.request_text.specs.BatchText.{batch_text};
 ghost use Rattle.request_text.specs.Outcomes.{status_of};
 ghost use Rattle.request_text.specs.declared.outcome.Outcome.TheVariants as outcome;
+ghost use Rattle.script_run.specs.Done.{MayBeServed};
 ghost use Rattle.script_text.specs.Script.{FitsScript, IsForLanes};
-ghost use Rattle.mdbox_top.specs.BatchRun.{BatchOutcome, BatchMoments, BatchRests, HasNoScript, ReadsScript, ScriptOutcome, ScriptMoments, ScriptRests, ShowsReplies};
+ghost use Rattle.mdbox_top.specs.BatchRun.{BatchOutcome, BatchMoments, BatchRests, HasNoScript, ReadsScript, ScriptOutcome, ScriptMoments, ScriptRests, ShowsReplies, TellsScriptFaults};
 ghost use Rattle.mdbox_top.specs.InputRun.{OfInput, IsOneOf};
 
 use crate::deliver::unread;
@@ -41,10 +42,10 @@ pub fn batch<D: Disk, I: Source, O: Sink>(
     ensures ends { BatchOutcome lanes (I.left input.old) (O.held output.old) (O.held output.new) (D.history disk) (D.history result.1) (D.faults disk) (D.faults result.1) result.0 }
     ensures moments { BatchMoments lanes (I.left input.old) (D.history disk) (D.history result.1) }
     ensures rests { BatchRests lanes (I.left input.old) (IsOneOf (5 ∷ 6 ∷ 8 ∷ []) (status_of result.0)) (D.faults disk) (D.faults result.1) (D.history disk) (D.history result.1) }
-    ensures disk_fault { AnyFaultCounted (result.0 ≡ outcome.DiskFault) (D.faults disk) (D.faults result.1) }
+    ensures disk_fault { TellsScriptFaults lanes (I.left input.old) (D.history disk) → AnyFaultCounted (result.0 ≡ outcome.DiskFault) (D.faults disk) (D.faults result.1) }
     ensures read_fault { result.0 ≡ outcome.ReadFault → Rose (I.faults input.old) (I.faults input.new) }
     ensures write_fault { result.0 ≡ outcome.WriteFault → Rose (O.faults output.old) (O.faults output.new) }
-    ensures disk_quiet { (IsOneOf (5 ∷ 6 ∷ 8 ∷ []) (status_of result.0) → ⊥) → NoFault (D.faults disk) (D.faults result.1) }
+    ensures disk_quiet { TellsScriptFaults lanes (I.left input.old) (D.history disk) → (IsOneOf (5 ∷ 6 ∷ 8 ∷ []) (status_of result.0) → ⊥) → NoFault (D.faults disk) (D.faults result.1) }
     ensures read_quiet { result.0 ≢ outcome.ReadFault → I.faults input.new ≡ I.faults input.old }
     ensures write_quiet { result.0 ≢ outcome.WriteFault → O.faults output.new ≡ O.faults output.old }
     ensures counted { (I.faults input.old ≤ I.faults input.new) × (O.faults output.old ≤ O.faults output.new) }
@@ -134,8 +135,8 @@ fn run_requests<D: Disk, O: Sink>(
     ensures ends { ScriptOutcome script.requests (O.held output.old) (O.held output.new) (D.history disk) (D.history result.1) (D.faults disk) (D.faults result.1) result.0 }
     ensures moments { ScriptMoments script.requests (D.history disk) (D.history result.1) }
     ensures rests { ScriptRests script.requests (IsOneOf (5 ∷ 6 ∷ 8 ∷ []) (status_of result.0)) (D.faults disk) (D.faults result.1) (D.history disk) (D.history result.1) }
-    ensures disk_fault { AnyFaultCounted (result.0 ≡ outcome.DiskFault) (D.faults disk) (D.faults result.1) }
-    ensures disk_quiet { (IsOneOf (5 ∷ 6 ∷ 8 ∷ []) (status_of result.0) → ⊥) → NoFault (D.faults disk) (D.faults result.1) }
+    ensures disk_fault { MayBeServed script.requests (D.history disk) → AnyFaultCounted (result.0 ≡ outcome.DiskFault) (D.faults disk) (D.faults result.1) }
+    ensures disk_quiet { MayBeServed script.requests (D.history disk) → (IsOneOf (5 ∷ 6 ∷ 8 ∷ []) (status_of result.0) → ⊥) → NoFault (D.faults disk) (D.faults result.1) }
     ensures write_fault { result.0 ≡ outcome.WriteFault → Rose (O.faults output.old) (O.faults output.new) }
     ensures write_quiet { result.0 ≢ outcome.WriteFault → O.faults output.new ≡ O.faults output.old }
     ensures counted { O.faults output.old ≤ O.faults output.new }

@@ -24,10 +24,16 @@ pub returns-in-Err-clause-rests : goal.returns-in-Err-clause-rests
 returns-in-Err-clause-rests g c = inl refl
 
 pub returns-in-Err-clause-disk_fault : goal.returns-in-Err-clause-disk_fault
-returns-in-Err-clause-disk_fault g c = record { reads = omega arith; changes = omega arith; rose = λ e. absurd (no_script_apart c.args.lanes _ c.in-Err.ended c.in-Err.ensures.none (inl e)) }
+returns-in-Err-clause-disk_fault g c = λ tells. record { reads = omega arith; changes = omega arith; rose = λ e. absurd (no_script_apart c.args.lanes _ c.in-Err.ended c.in-Err.ensures.none (inl e)) }
 
 pub returns-in-Err-clause-write_fault : goal.returns-in-Err-clause-write_fault
 returns-in-Err-clause-write_fault g c = λ e. absurd (no_script_apart c.args.lanes _ c.in-Err.ended c.in-Err.ensures.none (inr e))
 
 pub returns-in-Err-clause-disk_quiet : goal.returns-in-Err-clause-disk_quiet
-returns-in-Err-clause-disk_quiet g c = λ other. refl
+returns-in-Err-clause-disk_quiet g c = λ tells other. refl
+
+pub returns-in-Ok-clause-disk_fault : goal.returns-in-Ok-clause-disk_fault
+returns-in-Ok-clause-disk_fault g c = λ tells. c.run_requests.ensures.disk_fault (tells c.in-Ok.script c.in-Ok.ensures.script)
+
+pub returns-in-Ok-clause-disk_quiet : goal.returns-in-Ok-clause-disk_quiet
+returns-in-Ok-clause-disk_quiet g c = λ tells. c.run_requests.ensures.disk_quiet (tells c.in-Ok.script c.in-Ok.ensures.script)

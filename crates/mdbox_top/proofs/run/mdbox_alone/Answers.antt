@@ -20,9 +20,9 @@ returns-clause-rests g c =
     rw told.2 (rests_last c.args.command _ _ (MayHaveFailed c.args.command (status_of c.perform-outcome.result.0)) (MayHaveFailed c.args.command (status_of told.0)) _ _ _ _ (fails_last c.args.command c.perform-outcome.result.0 told.0 told.1) c.perform-outcome.ensures.rests)
 
 pub returns-clause-disk_quiet : goal.returns-clause-disk_quiet
-returns-clause-disk_quiet g c = λ no.
+returns-clause-disk_quiet g c = λ tells no.
     let told = c.report.ensures.told in
-    c.perform-outcome.ensures.disk_quiet (λ failed. no (subst (λ (n : ℕ). MayHaveFailed c.args.command n) (sym told.2) (fails_last c.args.command c.perform-outcome.result.0 told.0 told.1 failed)))
+    c.perform-outcome.ensures.disk_quiet tells (λ failed. no (subst (λ (n : ℕ). MayHaveFailed c.args.command n) (sym told.2) (fails_last c.args.command c.perform-outcome.result.0 told.0 told.1 failed)))
 
 pub returns-clause-refused : goal.returns-clause-refused
 returns-clause-refused g c = λ four.
