@@ -1,4 +1,5 @@
 pub mod FilesLemmas
+pub mod KeepLemmas
 pub mod RoomLemmas
 pub mod StandLemmas
 pub mod StepLemmas

@@ -45,7 +45,7 @@ use Rattle.mail_save.specs.SaveSeen.{HasItsParts, IsAtSave, StepsWithRoom, aroun
 use Rattle.mail_save.specs.Task.{EndsSave, IsReadyToDeliver, SaveValue}
 use Rattle.mail_save.specs.declared.task.SaveStage.{SaveStage}
 use Rattle.mail_save.proofs.SavePartLemmas.{ready_has_parts}
-use Rattle.lane_tasks.specs.Clause.{DoomsNothing, StepsTask, around_at}
+use Rattle.lane_tasks.specs.Clause.{DoomsNothing, SetsNoFlags, StepsTask, around_at}
 use Rattle.lane_tasks.specs.Tasks.{IsAtTask, IsDeliveryOf, IsMakeNumber, IsTaskOf, TookFiles, TookNoFile, did_of, work_left}
 use Rattle.lane_tasks.specs.declared.task.Task.{Task}
 use Rattle.lane_tasks.specs.declared.task.Task.TheVariants as task
@@ -144,10 +144,19 @@ stays_stopped old new still stopped = ap (λ (s : StoreValue _). s.stopped) (sti
 refuses_flags : {D : Type 0} → (name : List ℕ) (uid : ℕ) (store : StoreValue D) → store.stopped ≡ true → flag_refusal name uid store ≡ Some refusal.Stopped
 refuses_flags name uid store stopped = ap (λ (b : Bool). if b then Some refusal.Stopped else flag_refusal name uid (record store { stopped = false })) stopped
 
+pub ops_still : {D : Type 0} → (q : Request) (old new : StoreValue D) → IsOpsRequest q → (AppendsNothing q old → new ≡ old) → old.stopped ≡ true → new ≡ old
+ops_still (request.List name) old new is same stopped = same tt
+ops_still (request.Flag name uid flags) old new is same stopped = same (refusal.Stopped, refuses_flags name uid.0 old stopped)
+ops_still other old new is same stopped = absurd is
+
 pub ops_halted : {D : Type 0} → (q : Request) (old new : StoreValue D) → IsOpsRequest q → (AppendsNothing q old → new ≡ old) → old.stopped ≡ true → new.stopped ≡ true
-ops_halted (request.List name) old new is same stopped = stays_stopped old new (λ t. same tt) stopped
-ops_halted (request.Flag name uid flags) old new is same stopped = stays_stopped old new (λ t. same (refusal.Stopped, refuses_flags name uid.0 old t)) stopped
-ops_halted other old new is same stopped = absurd is
+ops_halted q old new is same stopped = stays_stopped old new (ops_still q old new is same) stopped
+
+-- a listing changes nothing
+pub lists_same : {D : Type 0} → (q : Request) (old new : StoreValue D) → IsOpsRequest q → (AppendsNothing q old → new ≡ old) → SetsNoFlags q → new ≡ old
+lists_same (request.List name) old new is same none = same tt
+lists_same (request.Flag name uid flags) old new is same none = absurd none
+lists_same other old new is same none = absurd is
 
 pub doomed_as : {D : Type 0} → (old new : StoreValue D) → ((file : ℕ) → is_doomed_in file new.files.files ≡ is_doomed_in file old.files.files) → DoomsNothing old → DoomsNothing new
 doomed_as old new same none file = same file ∙ none file

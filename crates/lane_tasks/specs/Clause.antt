@@ -1,23 +1,38 @@
 -- The clause of a task's step, for tasks of any kind.
-use Rattle.std.specs.Prelude.{◌≡◌, ◌≤◌, ℕ, false, List, Option, None}
-use Rattle.disk_model.specs.Disk.{History, Faults}
+use Rattle.std.specs.Prelude.{◌≡◌, ◌≤◌, ℕ, true, false, List, Option, Some, None}
+use Rattle.disk_model.specs.Disk.{History, Faults, Grows, IsIdle}
+use Rattle.attach_detach.specs.declared.message.Prepared.{Prepared}
+use Rattle.mdbox_base.specs.declared.replies.Refusal.{Refusal}
 use Rattle.mdbox_base.specs.declared.replies.Reply.{Reply}
+use Rattle.mdbox_base.specs.declared.replies.Reply.TheVariants as reply
 use Rattle.mdbox_base.specs.declared.ids.InstId.{InstId}
 use Rattle.mdbox_base.specs.declared.requests.Request.{Request}
 use Rattle.mdbox_base.specs.declared.requests.Request.TheVariants as request
+use Rattle.mdbox_base.specs.Streams.{Rose}
+use Rattle.model_kept.specs.Kept.{MailIsKept}
 use Rattle.model_lists.specs.Lists.{Lists}
+use Rattle.model_meaning.specs.MapMeaning.{MapMeaning}
+use Rattle.list_machine.specs.Machine.{is_step}
 use Rattle.list_machine.specs.Run.{Run, and_then}
 use Rattle.journal.specs.Events.{Around}
 use Rattle.store_core.specs.Value.{StoreValue}
 use Rattle.storage_files.specs.Files.{is_doomed_in, is_emptied_in, is_taken_in}
 use Rattle.task_claims.specs.Claims.{Claims, Held, Pinned}
+use Rattle.task_claims.specs.Leaving.{SyncsMail}
 use Rattle.task_claims.specs.Stable.{Beside}
 use Rattle.task_steps.specs.Step.{ShowsSeen, HasComeTo, FindsRoom, DidEvent, and_told}
 use Rattle.mail_fetch.specs.Claims.{HasUseRoom}
 use Rattle.mail_fetch.specs.Clause.{CanFetch}
 use Rattle.mail_fetch.specs.Task.{seen_in}
+use Rattle.mail_fetch.specs.declared.task.FetchStage.TheVariants as fetch_stage
+use Rattle.mail_ops.specs.declared.copy.CopyStage.TheVariants as copy_stage
+use Rattle.mail_ops.specs.declared.expunging.ExpungeStage.TheVariants as expunge_stage
+use Rattle.mail_ops.specs.declared.making.MakeStage.TheVariants as make_stage
+use Rattle.mail_ops.specs.declared.moving.MoveStage.TheVariants as move_stage
+use Rattle.mail_save.specs.MailFiles.{WritesMail}
 use Rattle.mail_save.specs.SaveSeen.{around_saving}
 use Rattle.mail_save.specs.Task.{SaveValue}
+use Rattle.mail_save.specs.declared.task.SaveStage.TheVariants as save_stage
 use Rattle.lane_tasks.specs.Tasks.{IsReadyTask, StandsTask, claims_at, did_of}
 use Rattle.lane_tasks.specs.declared.task.Task.{Task}
 use Rattle.lane_tasks.specs.declared.task.Task.TheVariants as task
@@ -77,3 +92,64 @@ StepsTask task next old new before after began now ended =
 -- only its own task's claims and left to the others what is theirs.
 abbrev pub PassesBy : {D : Type 0} → Task → StoreValue D → StoreValue D → Option History → Option History → Type 0
 PassesBy task old new before after = new.stopped ≡ false → (old.stopped ≡ false) × IsReadyTask task old before × Beside (claims_at task) old new before after
+
+-- ---- what it keeps, of which run it may be
+
+-- A task that reads at the most: of a count or a fetch, or of a listing, which has one kind of task with a setting of flags.
+abbrev pub SetsNoFlags : Request → Type 0
+SetsNoFlags (request.Flag name uid flags) = ⊥
+SetsNoFlags other = Unit {0}
+
+abbrev pub OnlyReads : Task → Type 0
+OnlyReads (task.Ops t) = SetsNoFlags t.request
+OnlyReads (task.Counts t) = Unit {0}
+OnlyReads (task.Fetch t) = Unit {0}
+OnlyReads other = ⊥
+
+-- For which maps storage files and instances stay: of a delivery for that of its store, of every other task for each.
+abbrev pub IsKeptFor : {D : Type 0} → Task → StoreValue D → MapMeaning → Type 0
+IsKeptFor (task.Deliver t) store m = m ≡ store.map
+IsKeptFor other store m = Unit {0}
+
+-- What an event made of storage files and instances: of a delivery what its stage says; else each is as it was, or its name was synced.
+abbrev pub WritesTask : {D : Type 0} → Task → Task → StoreValue D → Option History → Option History → Type 0
+WritesTask (task.Deliver t) (task.Deliver next) old before after = WritesMail t.stage next.stage t.name t.time old before after
+WritesTask t next old before after = SyncsMail before after
+
+-- its next event is its first: a task of one event is always so
+abbrev pub IsAtStart : Task → Type 0
+IsAtStart (task.Make t) = t.stage ≡ make_stage.First
+IsAtStart (task.Copy t) = t.stage ≡ copy_stage.First
+IsAtStart (task.Move t) = t.stage ≡ move_stage.First
+IsAtStart (task.Expunge t) = t.stage ≡ expunge_stage.First
+IsAtStart (task.Fetch t) = t.stage ≡ fetch_stage.First
+IsAtStart (task.Deliver t) = (prepared : Prepared) × (t.stage ≡ save_stage.First prepared)
+IsAtStart other = Unit {0}
+
+-- It is of the same kind, and of the same request if there are several of the kind.
+abbrev pub IsSameKind : Task → Task → Type 0
+IsSameKind (task.Ops t) (task.Ops next) = next.request ≡ t.request
+IsSameKind (task.Counts t) (task.Counts next) = Unit {0}
+IsSameKind (task.Make t) (task.Make next) = Unit {0}
+IsSameKind (task.Copy t) (task.Copy next) = Unit {0}
+IsSameKind (task.Move t) (task.Move next) = Unit {0}
+IsSameKind (task.Expunge t) (task.Expunge next) = Unit {0}
+IsSameKind (task.Fetch t) (task.Fetch next) = Unit {0}
+IsSameKind (task.Deliver t) (task.Deliver next) = Unit {0}
+IsSameKind t next = ⊥
+
+-- Whatever the disk is and fails: time goes on, and at each moment storage files and instances have what the map needs. No count of
+-- faults falls; unless the store is stopped then no change failed, and an event that stops it is one in which a change failed and no read.
+-- A task that reads at the most changes nothing, nor does a first
+-- event that is refused, but for want of memory or by a failed call. It stays a task of its kind.
+pub record TaskKeeps {D : Type 0} (t next : Task) (old new : StoreValue D) (before after : Option History) (began now : Faults) (ended : Option Reply) : Type 0 where
+  pub kind : IsSameKind t next
+  pub grows : Grows before after
+  pub mail : (m : MapMeaning) → IsKeptFor t old m → MailIsKept m before after
+  pub reads : began.reads ≤ now.reads
+  pub changes : began.changes ≤ now.changes
+  pub unfailed : new.stopped ≡ false → now.changes ≡ began.changes
+  pub fell : old.stopped ≡ false → new.stopped ≡ true → Rose began.changes now.changes × (now.reads ≡ began.reads)
+  pub idle : OnlyReads t → IsIdle before after × (now.changes ≡ began.changes) × (new.stopped ≡ old.stopped)
+  pub refused : (why : Refusal) → IsAtStart t → ended ≡ Some (reply.Refused why) → is_step why ≡ true → IsIdle before after
+  pub left : new.stopped ≡ false → WritesTask t next old before after

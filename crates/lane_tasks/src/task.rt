@@ -10,7 +10,7 @@ ghost use Rattle.mdbox_base.specs.declared.requests.Request.TheVariants as reque
 ghost use Rattle.task_claims.specs.Claims.{ClaimsNothing, MovesClaims};
 ghost use Rattle.task_claims.specs.Leaving.{LeavesOthers};
 ghost use Rattle.task_steps.specs.Step.{ended_by};
-ghost use Rattle.lane_tasks.specs.Clause.{DoomsNothing, HasTaskRoom, StepsTask};
+ghost use Rattle.lane_tasks.specs.Clause.{DoomsNothing, HasTaskRoom, TaskKeeps, StepsTask};
 ghost use Rattle.lane_tasks.specs.Tasks.{BeginsTask, HasTask, IsReadyTask, IsTaskOf, claims_at, did_of, work_left};
 
 use attach_detach::Prepared;
@@ -107,6 +107,9 @@ impl Task {
         ensures stopped { store.new.stopped ≡ true → result ≡ progress.Done (reply.Refused refusal.Stopped) }
         ensures halted { store.old.stopped ≡ true → store.new.stopped ≡ true }
         ensures undoomed { store.new.stopped ≡ false → DoomsNothing store.old → DoomsNothing store.new }
+
+        // What it keeps of the store and its disk, whatever run it is of.
+        ensures keeps { TaskKeeps self.old self.new store.old store.new (D.history store.old.disk) (D.history store.new.disk) (D.faults store.old.disk) (D.faults store.new.disk) (ended_by result) }
 
         // So it ends. It stays of its request.
         ensures left { result ≡ progress.More → work_left self.new store.new < work_left self.old store.old }

@@ -1,16 +1,18 @@
 -- Lanes begin to serve a script over a store as it was opened.
 use Rattle.std.proofs.Common.{◌≡◌, ◌≤◌, ◌+◌, ℕ, zero, suc, false, List, [], ◌∷◌, map, Option, Some, None, refl, sym, ◌∙◌, ap, subst, arith}
-use Rattle.std.specs.Prelude.{length, slice_get, option_map}
+use Rattle.std.specs.Prelude.{All, length, slice_get, option_map}
+use Rattle.std.proofs.lemmas.List.Elements.{All-nil}
 use Rattle.std.proofs.lemmas.List.Sums.{sum_by-cons}
 use Rattle.std.proofs.lemmas.Option.{slice_get-map}
 use Rattle.disk_model.specs.Disk.{History, Faults, told_calls}
 use Rattle.mdbox_base.specs.declared.ids.Uid.{Uid}
+use Rattle.mdbox_base.specs.declared.replies.Reply.{Reply}
 use Rattle.mdbox_base.specs.declared.requests.Request.{Request}
 use Rattle.mdbox_base.specs.declared.requests.Request.TheVariants as request
 use Rattle.model_store.specs.Settled.{IsSettledFor}
 use Rattle.model_lists.specs.Lists.{Lists}
-use Rattle.list_machine.specs.Run.{Run}
-use Rattle.journal.specs.Journal.{Requests, no_broken}
+use Rattle.list_machine.specs.Run.{Run, RunEvent, own_events}
+use Rattle.journal.specs.Journal.{HasReply, Requests, no_broken}
 use Rattle.journal.specs.Makes.{HasCome}
 use Rattle.storage_files.specs.Files.{pins_in}
 use Rattle.store_core.specs.Value.{StoreValue}
@@ -29,7 +31,7 @@ use Rattle.mail_fetch.specs.Task.{seen_in}
 use Rattle.lane_tasks.specs.Tasks.{BeginsTask, IsReadyTask, claims_at}
 use Rattle.lane_tasks.specs.declared.task.Task.{Task}
 use Rattle.lane_tasks.proofs.StandLemmas.{begins_ready, begins_standing, begins_unclaimed}
-use Rattle.lanes.specs.Going.{AreFreshRows, IsFreshRow, IsGoing, stands_in}
+use Rattle.lanes.specs.Going.{AreFreshRows, AreUndamaged, IsFreshRow, IsGoing, IsUndamaged, stands_in}
 use Rattle.lanes.specs.Rows.{LaneRow, lane_value, lanes_of, queue_in}
 use Rattle.lanes.specs.declared.lane.Queued.{Queued}
 use Rattle.lanes.proofs.GoingLemmas.{queue_is}
@@ -136,6 +138,18 @@ none_in_all claims (a ∷ more) thing none =
     let s = sum_by-cons (λ (c : Claims). c thing) (lane_claims claims a) (map (lane_claims claims) more) in
     omega (arith, first, rest, s)
 
+-- where no event was made, none met damage
+none_undamaged : (script : Requests) (run : Run) → run.events ≡ [] → AreUndamaged script run (unreplied script)
+none_undamaged script run empty = record {
+  events = λ place lane name uid at. subst (λ (es : List RunEvent). All IsUndamaged (own_events place (record run { events = es }))) (sym empty) (All-nil IsUndamaged);
+  none_told = λ i given has. absurd (no_reply script i given has);
+}
+  where
+    no_reply : (script : Requests) (i : ℕ) (given : Reply) → HasReply (unreplied script) i given → ⊥
+    no_reply [] i given has = let z : None ≡ Some (Some given) = has in cc z
+    no_reply (asked ∷ script) zero given has = let z : Some None ≡ Some (Some given) = has in cc z
+    no_reply (asked ∷ script) (suc i) given has = no_reply script i given has
+
 pub all_begin : {D : Type 0} → (start : Lists) (script : Requests) (run : Run) (rows : List LaneRow) (store : StoreValue D) (history : Option History) (faults : Faults) → IsAtOpening run store → HasCome run store.map store.drawn (told_calls history) → HasNoTask store → store.stopped ≡ false → ShowsSeen (seen_in store history faults) start
     → AreFreshRows script rows → HaveLanes script (lanes_of rows) → length rows ≤ 64 → ((place lane : ℕ) (name : List ℕ) (uid : Uid) → slice_get script place ≡ Some (lane, request.Fetch name uid) → IsSettledFor start history)
     → IsGoing start script run [] no_broken (unreplied script) (seen_in store history faults) store history faults rows
@@ -146,6 +160,7 @@ all_begin {D} start script run rows store history faults at come none runs shows
   waiting = λ k row there. (fresh k row there).behind;
   undoomed = λ still. at.undoomed;
   fetched = settled;
+  undamaged = none_undamaged script run at.empty;
   quiet = λ still unread. refl;
   accounts = λ still. record {
     adds_up = λ thing. none_claimed store none thing ∙ none_in_all claims_at (lanes_of rows) thing unclaimed;

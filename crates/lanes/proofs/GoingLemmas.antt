@@ -31,7 +31,7 @@ use Rattle.store_core.specs.Value.{StoreValue}
 use Rattle.task_claims.specs.Claims.{Claims, ClaimsNothing, MovesClaims, amount_in}
 use Rattle.task_claims.specs.Leaving.{LeavesOthers}
 use Rattle.task_steps.specs.Serves.{BreaksBy, IsTurn}
-use Rattle.task_steps.specs.Step.{DidEvent, FindsRoom, IsFault, Seen, Went, and_told, ended_by}
+use Rattle.task_steps.specs.Step.{DidEvent, FaultsGrow, FindsRoom, IsFault, Seen, Went, and_told, ended_by}
 use Rattle.mail_fetch.specs.Task.{seen_in}
 use Rattle.lane_tasks.specs.Clause.{CanAnswer, PassesBy, around_at}
 use Rattle.lane_tasks.specs.Tasks.{BeginsTask, IsReadyTask, StandsTask, claims_at, did_of}
@@ -42,6 +42,7 @@ use Rattle.lanes.specs.Worlds.{BeginsSome}
 use Rattle.lanes.specs.Rows.{LaneRow, RowGoesOn, lane_value, lanes_of, next_in_turn, queue_in, after_event}
 use Rattle.lanes.specs.declared.lane.LaneEvent.{LaneEvent}
 use Rattle.lanes.specs.declared.lane.Queued.{Queued}
+use Rattle.lanes.proofs.DamageLemmas.{stands_undamaged, undamaged_on}
 use Rattle.lanes.proofs.FindingLemmas.{can_answer, finds_room, uses_taken}
 
 -- ---- rows
@@ -272,7 +273,7 @@ made_of lane place run request event (Some answer) left on at =
 
 pub going_on : {D : Type 0} → (start : Lists) (script : Requests) (run : Run) (journal : List JournalStep) (broken : Broken) (replies : List (Option Reply)) (began : Seen) (rows : List LaneRow) (k : ℕ) (row now : LaneRow) (event : LaneEvent) (old new : StoreValue D) (before after : Option History) (first second : Faults) → slice_get rows k ≡ Some row
     → RowGoesOn row now event old new before after first second → IsGoing start script run journal broken replies began old before first rows
-    → (added : RunEvent) × (steps : List JournalStep) × (failed : Broken) × AddsEvent (k + 1) event run old.map before after added steps broken failed × IsGoing start script (and_then run added) (journal ++ steps) failed (replies_behind (ended_by event.ended) event.place replies) began new after second (slice_set rows k now)
+    → (added : RunEvent) × (steps : List JournalStep) × (failed : Broken) × AddsEvent (k + 1) event run old.map before after first second added steps broken failed × IsGoing start script (and_then run added) (journal ++ steps) failed (replies_behind (ended_by event.ended) event.place replies) began new after second (slice_set rows k now)
 going_on {D} start script run journal broken replies began rows k row now event old new before after first second there g s = (
   d.0.makes.event,
   steps_made run turn.0 d.0.makes.event d.0.makes.answer d.0.left,
@@ -285,7 +286,11 @@ going_on {D} start script run journal broken replies began rows k row now event 
     halves_are = halves_made (did_of g.next) turn.0 run (left_by start journal) d.0.left d.0.makes.event d.0.makes.answer (seen_in old before first) (seen_in new after second) d.0.went ∙ ap halves_told (sym g.goes.did_is);
     steps_are = made_of (k + 1) event.place run turn.0 d.0.makes.event d.0.makes.answer d.0.left d.0.makes.lane_is (d.0.makes.request_is ∙ sym g.goes.place_is);
     breaks = subst (λ (how : Did). BreaksBy how run d.0.makes.event (told_calls before) broken goes.0) (sym g.goes.did_is) goes.2;
+    grows = d.0.grows;
     mail = d.0.mail;
+    faults = subst (λ (how : Did). FaultsGrow (IsFault how) first second) (sym g.goes.did_is) d.0.ends.faults;
+    reads = d.0.ends.reads;
+    unfailed = λ unread none. d.0.ends.unfailed unread (subst (λ (how : Did). IsFault how → ⊥) g.goes.did_is none);
     once = λ half is. s.serving.serves.unbroken (broken_ran half turn.0 run (left_by start journal) d.0.left d.0.makes.event d.0.makes.answer (seen_in old before first) (seen_in new after second) (did_of g.next) (sym g.goes.did_is ∙ is) d.0.went);
   },
   subst (λ (r : LaneRow). IsGoing start script then_run then_journal goes.0 (replies_behind (ended_by event.ended) event.place replies) began new after second (slice_set rows k r)) (sym g.now_is)
@@ -297,6 +302,9 @@ going_on {D} start script run journal broken replies began rows k row now event 
         accounts = λ runs. accounts_row rows k row now event old new before after first second there (begin_some script (k + 1) row.waiting are) runs g (s.accounts (ran runs));
         undoomed = λ runs. g.goes.undoomed runs (s.undoomed (ran runs));
         fetched = s.fetched;
+        undamaged = undamaged_on (around_at g.queued.task turn.0 old nothing_around) nothing_around script run replies (k + 1) g.queued.place turn.0 (left_by start journal) d.0.makes.event (ended_by event.ended) (and_told (said_by journal g.queued.place) d.0.makes.answer) turn.1.asked turn.1.unanswered d.0.makes.request_is
+            d.0.makes.ended_is d.0.makes.is_event d.0.ends.replied (λ more name uid fetch. stands_undamaged g.next new after name uid then_run g.queued.place (and_told (said_by journal g.queued.place) d.0.makes.answer)
+            (subst (λ (q : Request). StandsTask g.next new after q then_run g.queued.place (and_told (said_by journal g.queued.place) d.0.makes.answer)) fetch (d.1 more))) s.undamaged;
         quiet = λ runs unread. quiet_then ran d.0.ends.unfailed (unfaulted turn.0 run (left_by start journal) d.0.left d.0.makes.event d.0.makes.answer (seen_in old before first) (seen_in new after second) (did_of g.next) d.0.went) runs unread;
       })),
 )

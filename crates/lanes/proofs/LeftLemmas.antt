@@ -167,3 +167,7 @@ left_falls {D} k old new before after first second w s = by_stop new.store.stopp
         let n : world_left new ≡ many new + (1 + sum_by (left_in new.store) new.rows) = ap (λ (b : Bool). many new + cond b 0 (1 + sum_by (left_in new.store) new.rows)) is in
         let o : world_left old ≡ many old + (1 + sum_by (left_in old.store) old.rows) = ap (λ (b : Bool). many old + cond b 0 (1 + sum_by (left_in old.store) old.rows)) (ran_then k old new before after first second w is) in
         omega (arith, r, n, o)
+
+-- the same, as a world's own call has it
+pub left_from : {D : Type 0} → (k : ℕ) (was old new : WorldValue D) (before after : Option History) (first second : Faults) → was ≡ old → Works k was new before after first second → IsSoundWorld before was → world_left new < world_left old
+left_from k was old new before after first second same w sound = subst (λ (v : WorldValue _). world_left new < world_left v) same (left_falls k was new before after first second w sound)

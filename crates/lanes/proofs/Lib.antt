@@ -1,4 +1,5 @@
 pub mod BeginLemmas
+pub mod DamageLemmas
 pub mod EntryLemmas
 pub mod FindingLemmas
 pub mod GoingLemmas
@@ -6,6 +7,8 @@ pub mod LeftLemmas
 pub mod OpeningLemmas
 pub mod PartsLemmas
 pub mod RoomLemmas
+pub mod RoundLemmas
 pub mod SoundLemmas
 pub mod TraceLemmas
+pub mod WaitingLemmas
 pub mod WorldLemmas

@@ -1,8 +1,9 @@
 -- A world begins over a store that no task has claimed anything of.
 use Rattle.std.proofs.Common.{◌≡◌, ◌≤◌, ◌<◌, ◌+◌, ◌-◌, ◌^◌, ◌==◌, ℕ, zero, suc, Bool, true, false, cond, List, [], ◌∷◌, map, Option, Some, None, refl, sym, ◌∙◌, ap, subst, arith}
-use Rattle.std.specs.Prelude.{◌&&◌, All, length, option_map, replicate, slice_get}
+use Rattle.std.specs.Prelude.{◌&&◌, All, is_some, length, option_map, replicate, slice_get}
 use Rattle.std.specs.Option.{option_map_or}
 use Rattle.std.proofs.lemmas.List.Elements.{All-head, All-nil, All-tail}
+use Rattle.std.proofs.lemmas.Option.{slice_get_within}
 use Rattle.disk_model.specs.Disk.{Faults, History}
 use Rattle.model_lists.specs.Lists.{Lists}
 use Rattle.list_machine.specs.Run.{Run}
@@ -74,9 +75,9 @@ lane_ready {D} row store history all task has = by_current row.current refl
 -- ---- the world
 
 pub fresh_sound : {D : Type 0} → (store : StoreValue D) (rows : List LaneRow) (replies : List (Option Reply)) (replied : List ℕ) (journal broken : List JournalEntry) (moment : ℕ) (turns : List LaneTurn) (turn_room : ℕ) (history : Option History)
-    → HasNoTask store → length rows ≤ 64 → AreFreshParts (record { rows = rows; requests = length replies }) → length replied ≡ length rows → turn_room ≡ turns_for (length replies) (length rows) → moment < 2 ^ 64
+    → HasNoTask store → length rows ≤ 64 → AreFreshParts (record { rows = rows; requests = length replies }) → replies ≡ replicate (length replies) no_reply → length replied ≡ length rows → turn_room ≡ turns_for (length replies) (length rows) → moment < 2 ^ 64
     → IsSoundWorld history (record { store = store; rows = rows; replies = replies; replied = replied; journal = journal; broken = broken; began = moment; turns = turns; turn_room = turn_room; finished = false })
-fresh_sound store rows replies replied journal broken moment turns turn_room history none few fresh many room small = record {
+fresh_sound store rows replies replied journal broken moment turns turn_room history none few fresh unreplied many room small = record {
   few = few;
   waiting = λ k row there. behind_begin row (fresh.alone k row there) (fresh.begin k row there);
   accounts = λ runs. record {
@@ -85,6 +86,9 @@ fresh_sound store rows replies replied journal broken moment turns turn_room his
   };
   undoomed = λ runs file. dooms_none file store.files.files none.files;
   places = fresh.places;
+  once = λ place given there.
+      let gave : given ≡ no_reply = replicated (length replies) place no_reply given (ap (λ (rs : List (Option Reply)). slice_get rs place) (sym unreplied) ∙ there) in
+      fresh.once place (slice_get_within replies place given there) ∙ sym (ap (λ (o : Option Reply). cond (is_some o) 0 1) gave);
   short = fresh.few;
   clock = omega (arith, small);
   many = many;

@@ -17,6 +17,7 @@ use Rattle.lanes.specs.Going.{AreFreshRows, IsFreshRow, WaitsWithTask}
 use Rattle.lanes.specs.Rows.{LaneRow, queue_in}
 use Rattle.lanes.specs.Worlds.{AreFreshParts, AreGiven, AreOfLanes, ArePartsOf, AreRowsFrom, BeginsSome, HasItsMessage, IsRowFrom, empty_row, queued_in}
 use Rattle.lanes.specs.declared.lane.Queued.{Queued}
+use Rattle.lanes.proofs.WaitingLemmas.{rows_wait_once}
 
 -- ---- lists
 
@@ -158,11 +159,12 @@ queue_places row = by_current row.current refl
     by_current None is = ap (λ (o : Option Queued). map (λ (q : Queued). q.place) (queued_in (record row { current = o }))) is ∙ sym (ap (λ (o : Option Queued). queue_in (record row { current = o })) is)
     by_current (Some first) is = ap (λ (o : Option Queued). map (λ (q : Queued). q.place) (queued_in (record row { current = o }))) is ∙ sym (ap (λ (o : Option Queued). queue_in (record row { current = o })) is)
 
-pub parts_fresh : (script : Requests) (lanes requests : ℕ) (rows : List LaneRow) → AreRowsFrom script lanes 0 script rows → requests ≡ length script → length script ≤ 100000 → AreFreshParts (record { rows = rows; requests = requests })
-parts_fresh script lanes requests rows from same few = record {
+pub parts_fresh : (script : Requests) (lanes requests : ℕ) (rows : List LaneRow) → AreRowsFrom script lanes 0 script rows → AreOfLanes lanes script → requests ≡ length script → length script ≤ 100000 → AreFreshParts (record { rows = rows; requests = requests })
+parts_fresh script lanes requests rows from of same few = record {
   few = omega (arith, same, few);
   begin = λ k row there. (begins_in script (k + 1) (queued_in row) (from.1 k row there).begin).0;
   places = λ k row there. subst (λ (n : ℕ). All (λ place. place < n) (queue_in row)) (sym same) (subst (λ (ps : List ℕ). All (λ place. place < length script) ps) (queue_places row) (places_in (length script) (queued_in row) (begins_in script (k + 1) (queued_in row) (from.1 k row there).begin).1));
+  once = λ place inside. rows_wait_once script rows lanes from.0 (λ k row there. (from.1 k row there).all) of place (omega (arith, inside, same));
   alone = λ k row there. (from.1 k row there).alone;
 }
 

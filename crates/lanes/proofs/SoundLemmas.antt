@@ -1,10 +1,12 @@
 -- What every world keeps stays with an event of a lane.
-use Rattle.std.proofs.Common.{◌≡◌, ◌<◌, ◌≤◌, ◌+◌, ◌-◌, ◌*◌, ◌^◌, ℕ, zero, suc, Bool, true, false, List, [], ◌∷◌, map, slice_set, Option, Some, None, refl, sym, ◌∙◌, ap, subst, arith, inl, inr}
-use Rattle.std.specs.Prelude.{◌≢◌, ◌⊎◌, All, length, slice_get}
+use Rattle.std.proofs.Common.{◌≡◌, ◌<◌, ◌≤◌, ◌+◌, ◌-◌, ◌*◌, ◌^◌, ℕ, zero, suc, Bool, true, false, cond, List, [], ◌∷◌, map, slice_set, Option, Some, None, refl, sym, ◌∙◌, ap, subst, arith, inl, inr}
+use Rattle.std.specs.Prelude.{◌≢◌, ◌⊎◌, All, is_some, length, slice_get}
 use Rattle.std.proofs.lemmas.List.{length-set}
+use Rattle.std.proofs.lemmas.Option.{slice_get_within}
 use Rattle.std.proofs.lemmas.List.Elements.{All-cons, All-head, All-tail, All-nil}
-use Rattle.disk_model.specs.Disk.{Faults, History}
+use Rattle.disk_model.specs.Disk.{Faults, History, IsMoment}
 use Rattle.mdbox_base.specs.declared.replies.Reply.{Reply}
+use Rattle.mdbox_base.specs.declared.script.JournalEntry.{JournalEntry}
 use Rattle.serving.specs.Accounts.{LanesAccount}
 use Rattle.serving.specs.Lanes.{LaneValue, replies_behind}
 use Rattle.serving.specs.Serving.{AreIdle}
@@ -15,10 +17,12 @@ use Rattle.lane_tasks.specs.Tasks.{IsReadyTask, claims_at}
 use Rattle.lane_tasks.specs.declared.task.Task.{Task}
 use Rattle.store_core.specs.Value.{StoreValue}
 use Rattle.lanes.specs.Rows.{LaneRow, RowGoesOn, after_event, lane_value, lanes_of, next_in_turn, queue_in}
-use Rattle.lanes.specs.Worlds.{BeginsSome, IsIdleLane, IsSoundWorld, Works, WorldValue, replied_behind}
+use Rattle.lanes.specs.Worlds.{AreAdded, AreIdleBetween, BeginsSome, IsIdleLane, IsSoundWorld, Works, WorldValue, entries_broken, entries_made, replied_behind, times_waiting}
 use Rattle.lanes.specs.declared.lane.LaneEvent.{LaneEvent}
 use Rattle.lanes.specs.declared.lane.Queued.{Queued}
 use Rattle.lanes.proofs.GoingLemmas.{accounts_row, queue_is, value_at}
+use Rattle.lanes.proofs.WaitingLemmas.{in_turn_unanswered, wait_once_on}
+use Rattle.lanes.proofs.WorldLemmas.{added_as, broken_at, entries_at}
 
 -- ---- rows
 
@@ -75,6 +79,9 @@ sound_on {D} k old new before after first second w s = record {
       (each_set (λ r. All (λ place. place < length old.replies) (queue_in r)) old.rows k w.row w.now w.there
       (subst (λ (r : LaneRow). All (λ place. place < length old.replies) (queue_in r)) (sym w.goes.now_is) (queue_after (λ place. place < length old.replies) (ended_by w.event.ended) next w.goes.queued.place w.row.waiting refl
       (subst (λ (ps : List ℕ). All (λ place. place < length old.replies) ps) (queue_is w.row w.goes.queued w.goes.was) (s.places k w.row w.there)))) s.places j row (ap (λ (rs : List LaneRow). slice_get rs j) (sym w.rows_are) ∙ there));
+  once = λ place given there. subst (λ (rows : List LaneRow). times_waiting place rows ≡ cond (is_some given) 0 1) (ap (slice_set old.rows k) (sym w.goes.now_is) ∙ sym w.rows_are)
+      (wait_once_on old.rows old.replies k w.row w.goes.queued next (ended_by w.event.ended) w.there w.goes.was refl none s.once place given
+      (subst (λ (n : ℕ). slice_get (replies_behind (ended_by w.event.ended) n old.replies) place ≡ Some given) w.goes.goes.place_is (ap (λ (rs : List (Option Reply)). slice_get rs place) (sym w.replies_are) ∙ there)));
   short = let n = as_many in let f = s.short in omega (arith, n, f);
   clock = subst (λ (n : ℕ). n ≤ 2 ^ 64 - 1) (sym w.began_is) s.clock;
   many = ap length w.replied_are ∙ (replied_many (ended_by w.event.ended) k old.replied ∙ (s.many ∙ sym rows_many));
@@ -94,6 +101,9 @@ sound_on {D} k old new before after first second w s = record {
     rows_many : length new.rows ≡ length old.rows
     rows_many = ap length w.rows_are ∙ length-set old.rows k w.now
 
+    none : slice_get old.replies w.goes.queued.place ≡ Some None
+    none = ap (slice_get old.replies) (sym w.goes.goes.place_is) ∙ w.unanswered
+
     as_many : length new.replies ≡ length old.replies
     as_many = ap length w.replies_are ∙ replies_many (ended_by w.event.ended) w.event.place old.replies
 
@@ -105,6 +115,13 @@ place_within k row now event old new before after first second world g history s
     let same = g.goes.place_is in
     omega (arith, one, same)
 
+-- and no reply
+pub event_unanswered : {D : Type 0} → (k : ℕ) (row now : LaneRow) (event : LaneEvent) (old new : StoreValue D) (before after : Option History) (first second : Faults) (world : WorldValue D) → RowGoesOn row now event old new before after first second → (history : Option History) → IsSoundWorld history world → slice_get world.rows k ≡ Some row → slice_get world.replies event.place ≡ Some None
+event_unanswered k row now event old new before after first second world g history s there =
+    let inside = place_within k row now event old new before after first second world g history s there in
+    let same = g.goes.place_is in
+    ap (slice_get world.replies) same ∙ in_turn_unanswered world.rows world.replies k row g.queued there g.was (omega (arith, inside, same)) s.once
+
 -- a lane with a request in turn isn't idle
 pub not_idle : (lane : ℕ) (rows : List LaneRow) (row : LaneRow) → slice_get rows (lane - 1) ≡ Some row → (row.current ≢ None) → IsIdleLane lane rows → ⊥
 not_idle lane rows row there some idle = some (ap (λ (r : LaneRow). r.current) (one_some row idle.0 (sym there ∙ idle.1)) ∙ idle.2)
@@ -114,3 +131,40 @@ pub all_idle : (rows : List LaneRow) → ((k : ℕ) (row : LaneRow) → slice_ge
 all_idle [] none = All-nil (λ (value : LaneValue Task). value.queue ≡ [])
 all_idle (row ∷ rows) none =
     All-cons (λ (value : LaneValue Task). value.queue ≡ []) (lane_value row) (lanes_of rows) (ap (λ (o : Option Queued). queue_in (record row { current = o })) (none 0 row refl)) (all_idle rows (λ k r there. none (suc k) r there))
+
+pub idle_between : (rows : List LaneRow) → AreIdleBetween 0 (length rows + 1) rows → AreIdle (lanes_of rows)
+idle_between rows idle = all_idle rows (λ k row there.
+    let inside = slice_get_within rows k row there in
+    let i = idle (k + 1) (omega arith) (omega (arith, inside)) in
+    let at : k ≡ k + 1 - 1 = omega arith in
+    ap (λ (r : LaneRow). r.current) (one_some row i.0 (sym there ∙ (ap (slice_get rows) at ∙ i.1))) ∙ i.2)
+
+-- ---- what a world makes of an event
+
+-- from what its call does for it
+pub works_made : {D : Type 0} → (lane : ℕ) (old : WorldValue D) (store : StoreValue D) (replies : List (Option Reply)) (replied : List ℕ) (journal broken : List JournalEntry) (before after : Option History) (first second : Faults) (row now : LaneRow) (event : LaneEvent) (earlier later made broke : ℕ) (journal_room broken_room : Type 0)
+    → 1 ≤ lane → IsSoundWorld before old → slice_get old.rows (lane - 1) ≡ Some row → RowGoesOn row now event old.store store before after first second → replies ≡ replies_behind (ended_by event.ended) event.place old.replies → replied ≡ replied_behind (ended_by event.ended) (lane - 1) old.replied
+    → IsMoment before earlier → IsMoment after later → made ≡ later - old.began → broke ≡ earlier - old.began
+    → AreAdded journal_room (entries_made event.did lane event.place made) old.journal journal → (length old.journal < 2 * length old.replies → journal_room) → AreAdded broken_room (entries_broken event.did lane event.place broke) old.broken broken → (length old.broken < 16 → broken_room)
+    → Works (lane - 1) old (record old { store = store; rows = slice_set old.rows (lane - 1) now; replies = replies; replied = replied; journal = journal; broken = broken }) before after first second
+works_made lane old store replies replied journal broken before after first second row now event earlier later made broke journal_room broken_room some sound there goes replies_are replied_are earlier_is later_is made_is broke_is kept kept_room lost lost_room = record {
+  row = row;
+  now = now;
+  event = event;
+  there = there;
+  goes = goes;
+  rows_are = refl;
+  unanswered = event_unanswered (lane - 1) row now event old.store store before after first second old goes before sound there;
+  replies_are = replies_are;
+  replied_are = replied_are;
+  earlier = earlier;
+  earlier_is = earlier_is;
+  later = later;
+  later_is = later_is;
+  journal = added_as journal_room _ _ _ old.journal journal (entries_at event.did lane event.place made later old.began some made_is) kept_room kept;
+  broken = added_as broken_room _ _ _ old.broken broken (broken_at event.did lane event.place broke earlier old.began some broke_is) lost_room lost;
+  began_is = refl;
+  turns_are = refl;
+  room_is = refl;
+  finished_is = refl;
+}

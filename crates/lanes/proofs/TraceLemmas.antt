@@ -1,8 +1,8 @@
 -- The trace of a world as its lanes take turns, and as they are finished.
-use Rattle.std.proofs.Common.{◌≡◌, ◌≤◌, ◌+◌, ◌-◌, ℕ, zero, suc, Bool, true, false, List, [], ◌∷◌, ◌++◌, map, slice_set, Option, Some, None, refl, sym, ◌∙◌, ap, subst, arith}
+use Rattle.std.proofs.Common.{◌≡◌, ◌≤◌, ◌+◌, ◌-◌, ◌^◌, ℕ, zero, suc, Bool, true, false, List, [], ◌∷◌, ◌++◌, map, slice_set, Option, Some, None, refl, sym, ◌∙◌, ap, subst, arith}
 use Rattle.std.specs.Prelude.{◌≢◌, length, slice_get}
-use Rattle.std.proofs.lemmas.List.{append-nil, append_assoc, length-set}
-use Rattle.disk_model.specs.Disk.{Faults, History, told_calls}
+use Rattle.std.proofs.lemmas.List.{append-nil}
+use Rattle.disk_model.specs.Disk.{Faults, History}
 use Rattle.model_lists.specs.Lists.{Lists}
 use Rattle.list_machine.specs.Run.{Run, RunEvent, and_then}
 use Rattle.journal.specs.Journal.{Broken, JournalStep, Requests}
@@ -13,38 +13,39 @@ use Rattle.serving.proofs.TurnLemmas.{trace_finishing, trace_idle, trace_on}
 use Rattle.task_steps.specs.Step.{Seen}
 use Rattle.lane_tasks.specs.declared.task.Task.{Task}
 use Rattle.lanes.specs.Rows.{LaneRow, lane_value, lanes_of}
-use Rattle.lanes.specs.Worlds.{GoesOnBy, IsIdleLane, IsLaneEvent, IsSoundWorld, IsWorldOf, Works, WorldValue, and_events, turn_of}
+use Rattle.lanes.specs.Going.{AddsEvent}
+use Rattle.lanes.specs.Worlds.{IsIdleLane, IsLaneEvent, IsSoundWorld, IsWorldOf, Works, WorldValue, turn_of}
 use Rattle.lanes.specs.declared.lane.Queued.{Queued}
 use Rattle.lanes.proofs.GoingLemmas.{queue_is, rows_set, value_at}
-use Rattle.lanes.proofs.SoundLemmas.{busy}
-use Rattle.lanes.proofs.WorldLemmas.{GoesTo, works_by, works_on}
+use Rattle.lanes.proofs.SoundLemmas.{busy, not_idle}
+use Rattle.lanes.proofs.WorldLemmas.{works_by}
 
 -- ---- turns
 
--- an event of a lane is one of the world whatever turns that has
-pub other_turns : {D : Type 0} → (k : ℕ) (old new : WorldValue D) (turns : List LaneTurn) (before after : Option History) (first second : Faults) → Works k (record old { turns = turns }) new before after first second → Works k old (record new { turns = old.turns }) before after first second
-other_turns k old new turns before after first second w = record {
+-- an event of a lane is one of the world whatever turns that has, and whether it is finished
+pub other_turns : {D : Type 0} → (k : ℕ) (old new now : WorldValue D) (turns : List LaneTurn) (finished : Bool) (before after : Option History) (first second : Faults) → Works k (record old { turns = turns; finished = finished }) new before after first second → now ≡ record new { turns = old.turns; finished = old.finished }
+    → Works k old now before after first second
+other_turns k old new now turns finished before after first second w is = subst (λ (v : WorldValue _). Works k old v before after first second) (sym is) (record {
   row = w.row;
   now = w.now;
   event = w.event;
   there = w.there;
   goes = w.goes;
   rows_are = w.rows_are;
+  unanswered = w.unanswered;
   replies_are = w.replies_are;
   replied_are = w.replied_are;
   earlier = w.earlier;
   earlier_is = w.earlier_is;
   later = w.later;
   later_is = w.later_is;
-  unmade_is = w.unmade_is;
-  journal_is = w.journal_is;
-  unbroken_is = w.unbroken_is;
-  broken_is = w.broken_is;
+  journal = w.journal;
+  broken = w.broken;
   began_is = w.began_is;
   turns_are = refl;
   room_is = w.room_is;
-  finished_is = w.finished_is;
-}
+  finished_is = refl;
+})
 
 -- a lane that has a request in turn has some, before its event
 was_busy : {D : Type 0} → (k : ℕ) (old new : WorldValue D) (before after : Option History) (first second : Faults) → (w : Works k old new before after first second) → (lane_value w.row).queue ≡ [] → (lane_value w.now).queue ≡ []
@@ -61,51 +62,53 @@ unfinished k old new before after first second w s = by_test old.finished refl
 rows_are : {D : Type 0} → (k : ℕ) (old new : WorldValue D) (before after : Option History) (first second : Faults) → (w : Works k old new before after first second) → slice_set (lanes_of old.rows) k (lane_value w.now) ≡ lanes_of new.rows
 rows_are k old new before after first second w = sym (rows_set old.rows k w.now) ∙ ap lanes_of (sym w.rows_are)
 
-same_world : {D : Type 0} → (P : WorldValue D → Type 0) (new : WorldValue D) (turns : List LaneTurn) (finished : Bool) → turns ≡ new.turns → finished ≡ new.finished → P (record new { turns = turns; finished = finished }) → P new
-same_world P new turns finished same done p = subst (λ (b : Bool). P (record new { finished = b })) done (subst (λ (ts : List LaneTurn). P (record new { turns = ts; finished = finished })) same p)
+-- the lane of an event wasn't idle
+busy_lane : {D : Type 0} → (lane : ℕ) (old new : WorldValue D) (before after : Option History) (first second : Faults) → Works (lane - 1) old new before after first second → IsIdleLane lane old.rows → ⊥
+busy_lane lane old new before after first second w =
+    not_idle lane old.rows w.row w.there (λ none. let z : Some w.goes.queued ≡ None = sym w.goes.was ∙ none in cc z)
+
+-- What a world makes of an event makes it one of the lane, if its turns are a trace of the run with the event.
+one_event : {D : Type 0} → (lane : ℕ) (old new : WorldValue D) (before after : Option History) (first second : Faults) → 1 ≤ lane → old.began ≤ 2 ^ 64 - 1 → length old.replies ≤ 100000 → (w : Works (lane - 1) old (record new { turns = old.turns }) before after first second)
+    → ((start : Lists) (script : Requests) (run : Run) (steps : List JournalStep) (failed : Broken) (began : Seen) → IsWorldOf start script run steps failed began before first old → (added : RunEvent) → added.lane ≡ lane - 1 + 1 → IsTraceOf new.finished new.turns (and_then run added) (lanes_of new.rows))
+    → IsLaneEvent lane old new before after first second
+one_event {D} lane old new before after first second some clock few w trace = record {
+  busy = busy_lane lane old (record new { turns = old.turns }) before after first second w;
+  works = w;
+  goes = λ start script run steps failed began world.
+      let g = works_by (lane - 1) old (record new { turns = old.turns }) before after first second w clock few start script run steps failed began world in (
+        g.added,
+        g.more,
+        g.broke,
+        subst (λ (n : ℕ). AddsEvent n w.event run old.store.map before after first second g.added g.more failed g.broke) lane_is g.adds,
+        g.is new.finished new.turns (trace start script run steps failed began world g.added g.adds.lane_is),
+      );
+}
+  where
+    lane_is : lane - 1 + 1 ≡ lane
+    lane_is = omega (arith, some)
 
 -- A turn of a lane that has a request left.
-pub lane_event : {D : Type 0} → (lane : ℕ) (old new : WorldValue D) (before after : Option History) (first second : Faults) → 1 ≤ lane → Works (lane - 1) (record old { turns = old.turns ++ turn_of lane false ∷ [] }) new before after first second → IsSoundWorld before old
+lane_event : {D : Type 0} → (lane : ℕ) (old new : WorldValue D) (before after : Option History) (first second : Faults) → 1 ≤ lane → Works (lane - 1) (record old { turns = old.turns ++ turn_of lane false ∷ [] }) new before after first second → IsSoundWorld before old
     → IsLaneEvent lane old new before after first second × (new.turns ≡ old.turns ++ turn_of lane false ∷ [])
-lane_event {D} lane old new before after first second some works sound = (
-  record {
-    goes = λ start script run steps failed began world. let g = works_on (lane - 1) old then before after first second w sound start script run steps failed began world in (
-      g.added,
-      g.more,
-      g.broke,
-      g.lane_is ∙ lane_is,
-      g.moment_is,
-      same_world (λ v. IsWorldOf start script (and_then run g.added) (steps ++ g.more) g.broke began after second v) new (old.turns ++ turn_of lane false ∷ []) old.finished (sym works.turns_are) (sym works.finished_is)
-          (g.is old.finished (old.turns ++ turn_of lane false ∷ []) (trace start script run steps failed began world g)),
-    );
-    began = works.began_is;
-    room = works.room_is;
-    finished = works.finished_is;
-    lanes = ap (λ (rows : List LaneRow). length rows) works.rows_are ∙ length-set old.rows (lane - 1) works.now;
-  },
-  works.turns_are,
-)
+lane_event {D} lane old new before after first second some works sound = (one_event lane old new before after first second some sound.clock sound.short w trace, works.turns_are)
   where
-    then : WorldValue D
-    then = record new { turns = old.turns }
-
-    w : Works (lane - 1) old then before after first second
-    w = other_turns (lane - 1) old new (old.turns ++ turn_of lane false ∷ []) before after first second works
+    w : Works (lane - 1) old (record new { turns = old.turns }) before after first second
+    w = other_turns (lane - 1) old new (record new { turns = old.turns }) (old.turns ++ turn_of lane false ∷ []) old.finished before after first second works (ap (λ (b : Bool). record new { turns = old.turns; finished = b }) works.finished_is)
 
     lane_is : lane - 1 + 1 ≡ lane
     lane_is = omega (arith, some)
 
     none : old.finished ≡ false
-    none = unfinished (lane - 1) old then before after first second w sound
+    none = unfinished (lane - 1) old (record new { turns = old.turns }) before after first second w sound
 
-    trace : (start : Lists) (script : Requests) (run : Run) (steps : List JournalStep) (failed : Broken) (began : Seen) → IsWorldOf start script run steps failed began before first old → (g : GoesTo (lane - 1) start script run steps began after second then)
-        → IsTraceOf old.finished (old.turns ++ turn_of lane false ∷ []) (and_then run g.added) (lanes_of new.rows)
-    trace start script run steps failed began world g =
-        subst (λ (b : Bool). IsTraceOf b (old.turns ++ turn_of lane false ∷ []) (and_then run g.added) (lanes_of new.rows)) (sym none)
-        (subst (λ (n : ℕ). IsTraceOf false (old.turns ++ turn_of n false ∷ []) (and_then run g.added) (lanes_of new.rows)) lane_is
-        (subst (λ (lanes : List (LaneValue Task)). IsTraceOf false (old.turns ++ turn_of (lane - 1 + 1) false ∷ []) (and_then run g.added) lanes) (rows_are (lane - 1) old then before after first second w)
-        (trace_on old.turns run (lanes_of old.rows) (lane - 1) (lane_value w.row) (lane_value w.now) g.added (value_at old.rows (lane - 1) w.row w.there) (was_busy (lane - 1) old then before after first second w) g.lane_is
-        (subst (λ (b : Bool). IsTraceOf b old.turns run (lanes_of old.rows)) none world.trace))))
+    trace : (start : Lists) (script : Requests) (run : Run) (steps : List JournalStep) (failed : Broken) (began : Seen) → IsWorldOf start script run steps failed began before first old → (added : RunEvent) → added.lane ≡ lane - 1 + 1 → IsTraceOf new.finished new.turns (and_then run added) (lanes_of new.rows)
+    trace start script run steps failed began world added own =
+        subst (λ (b : Bool). IsTraceOf b new.turns (and_then run added) (lanes_of new.rows)) (sym (works.finished_is ∙ none))
+        (subst (λ (ts : List LaneTurn). IsTraceOf false ts (and_then run added) (lanes_of new.rows)) (sym works.turns_are)
+        (subst (λ (n : ℕ). IsTraceOf false (old.turns ++ turn_of n false ∷ []) (and_then run added) (lanes_of new.rows)) lane_is
+        (subst (λ (lanes : List (LaneValue Task)). IsTraceOf false (old.turns ++ turn_of (lane - 1 + 1) false ∷ []) (and_then run added) lanes) (rows_are (lane - 1) old (record new { turns = old.turns }) before after first second w)
+        (trace_on old.turns run (lanes_of old.rows) (lane - 1) (lane_value w.row) (lane_value w.now) added (value_at old.rows (lane - 1) w.row w.there) (was_busy (lane - 1) old (record new { turns = old.turns }) before after first second w) own
+        (subst (λ (b : Bool). IsTraceOf b old.turns run (lanes_of old.rows)) none world.trace)))))
 
 -- the same, as the world's own call has it
 pub lane_turn : {D : Type 0} → (H : D → Option History) (F : D → Faults) (lane : ℕ) (was old new : WorldValue D) (turns : List LaneTurn) → was ≡ old → turns ≡ was.turns ++ turn_of lane false ∷ [] → 1 ≤ lane → IsSoundWorld (H was.store.disk) was
@@ -126,64 +129,19 @@ idle_turn lane was old turns same are idle =
 abbrev pub as_finished : {D : Type 0} → WorldValue D → WorldValue D
 as_finished world = record world { finished = true }
 
--- no event
-pub goes_none : {D : Type 0} → (world : WorldValue D) (history : Option History) (faults : Faults) → GoesOnBy world world history history faults faults
-goes_none world history faults start script run steps failed began is = (
-  [],
-  [],
-  failed,
-  subst (λ (js : List JournalStep). IsWorldOf start script (and_events run []) js failed began history faults world) (sym (append-nil steps))
-      (subst (λ (es : List RunEvent). IsWorldOf start script (record run { events = es }) steps failed began history faults world) (sym (append-nil run.events)) is),
-)
-
--- one event more
-pub goes_more : {D : Type 0} → (k : ℕ) (old mid new : WorldValue D) (before then after : Option History) (first next second : Faults) → GoesOnBy (as_finished old) (as_finished mid) before then first next → Works k mid new then after next second → IsSoundWorld then mid → GoesOnBy (as_finished old) (as_finished new) before after first second
-goes_more {D} k old mid new before then after first next second so_far w sound start script run steps failed began is = (
-  s.0 ++ g.added ∷ [],
-  s.1 ++ g.more,
-  g.broke,
-  subst (λ (js : List JournalStep). IsWorldOf start script (and_events run (s.0 ++ g.added ∷ [])) js g.broke began after second (as_finished new)) (append_assoc steps s.1 g.more)
-      (subst (λ (es : List RunEvent). IsWorldOf start script (record run { events = es }) ((steps ++ s.1) ++ g.more) g.broke began after second (as_finished new)) (append_assoc run.events s.0 (g.added ∷ [])) finished),
-)
+-- an event that finishes the lanes is one of the world as it is finished
+pub finishing : {D : Type 0} → (lane : ℕ) (old new : WorldValue D) (before after : Option History) (first second : Faults) → 1 ≤ lane → Works (lane - 1) old new before after first second → IsSoundWorld before old
+    → IsLaneEvent lane (as_finished old) (as_finished new) before after first second × (new.turns ≡ old.turns)
+finishing {D} lane old new before after first second some works sound = (one_event lane (as_finished old) (as_finished new) before after first second some sound.clock sound.short w trace, works.turns_are)
   where
-    s : (added : List RunEvent) × (more : List JournalStep) × (broke : Broken) × IsWorldOf start script (and_events run added) (steps ++ more) broke began then next (as_finished mid)
-    s = so_far start script run steps failed began is
+    w : Works (lane - 1) (as_finished old) (record (as_finished new) { turns = old.turns }) before after first second
+    w = other_turns (lane - 1) (as_finished old) new (record (as_finished new) { turns = old.turns }) old.turns old.finished before after first second works refl
 
-    there : Run
-    there = and_events run s.0
-
-    -- the lane worked in the world as it was not yet finished
-    works : Works k (as_finished mid) (as_finished new) then after next second
-    works = record {
-      row = w.row;
-      now = w.now;
-      event = w.event;
-      there = w.there;
-      goes = w.goes;
-      rows_are = w.rows_are;
-      replies_are = w.replies_are;
-      replied_are = w.replied_are;
-      earlier = w.earlier;
-      earlier_is = w.earlier_is;
-      later = w.later;
-      later_is = w.later_is;
-      unmade_is = w.unmade_is;
-      journal_is = w.journal_is;
-      unbroken_is = w.unbroken_is;
-      broken_is = w.broken_is;
-      began_is = w.began_is;
-      turns_are = w.turns_are;
-      room_is = w.room_is;
-      finished_is = refl;
-    }
-
-    g : GoesTo k start script there (steps ++ s.1) began after second (as_finished new)
-    g = works_by k (as_finished mid) (as_finished new) then after next second works sound.clock sound.short start script there (steps ++ s.1) s.2 began s.3
-
-    finished : IsWorldOf start script (and_then there g.added) ((steps ++ s.1) ++ g.more) g.broke began after second (as_finished new)
-    finished = subst (λ (ts : List LaneTurn). IsWorldOf start script (and_then there g.added) ((steps ++ s.1) ++ g.more) g.broke began after second (record (as_finished new) { turns = ts })) (sym w.turns_are)
-        (g.is true mid.turns (subst (λ (lanes : List (LaneValue Task)). IsTraceOf true mid.turns (and_then there g.added) lanes) (rows_are k mid new then after next second w)
-        (trace_finishing true mid.turns there (lanes_of mid.rows) k (lane_value w.row) (lane_value w.now) g.added (value_at mid.rows k w.row w.there) (was_busy k mid new then after next second w) s.3.trace)))
+    trace : (start : Lists) (script : Requests) (run : Run) (steps : List JournalStep) (failed : Broken) (began : Seen) → IsWorldOf start script run steps failed began before first (as_finished old) → (added : RunEvent) → added.lane ≡ lane - 1 + 1 → IsTraceOf true new.turns (and_then run added) (lanes_of new.rows)
+    trace start script run steps failed began world added own =
+        subst (λ (ts : List LaneTurn). IsTraceOf true ts (and_then run added) (lanes_of new.rows)) (sym works.turns_are)
+        (subst (λ (lanes : List (LaneValue Task)). IsTraceOf true old.turns (and_then run added) lanes) (rows_are (lane - 1) old new before after first second works)
+        (trace_finishing true old.turns run (lanes_of old.rows) (lane - 1) (lane_value works.row) (lane_value works.now) added (value_at old.rows (lane - 1) works.row works.there) (was_busy (lane - 1) old new before after first second works) world.trace))
 
 -- what was made in turns is made of a world that is finished then
 made_first : (finished : Bool) (worked : List ℕ) (run : Run) → MadeEvents finished worked run → MadeEvents true worked run
@@ -193,13 +151,6 @@ made_first true worked run is = is
 trace_done : (finished : Bool) (turns : List LaneTurn) (run : Run) (rows : List LaneRow) → IsTraceOf finished turns run (lanes_of rows) → IsTraceOf true turns run (lanes_of rows)
 trace_done finished turns run rows t = record { worked = made_first finished (lanes_worked turns) run t.worked; idle = t.idle }
 
-pub goes_finished : {D : Type 0} → (old new : WorldValue D) (before after : Option History) (first second : Faults) → GoesOnBy (as_finished old) (as_finished new) before after first second → GoesOnBy old (as_finished new) before after first second
-goes_finished old new before after first second goes start script run steps failed began is =
-    goes start script run steps failed began (record { going = is.going; entries = is.entries; broken = is.broken; counts = is.counts; trace = trace_done old.finished old.turns run old.rows is.trace })
-
--- the same, as the world's own call has it as it ends
-pub goes_ended : {D : Type 0} → (H : D → Option History) (F : D → Faults) (old was new : WorldValue D) → was ≡ new → GoesOnBy (as_finished old) (as_finished new) (H old.store.disk) (H new.store.disk) (F old.store.disk) (F new.store.disk)
-    → GoesOnBy old (as_finished was) (H old.store.disk) (H was.store.disk) (F old.store.disk) (F was.store.disk)
-goes_ended H F old was new same goes =
-    goes_finished old was (H old.store.disk) (H was.store.disk) (F old.store.disk) (F was.store.disk)
-    (subst (λ (v : WorldValue _). GoesOnBy (as_finished old) (as_finished v) (H old.store.disk) (H v.store.disk) (F old.store.disk) (F v.store.disk)) (sym same) goes)
+-- a world is of its script as it is finished, too
+pub world_finished : {D : Type 0} → (start : Lists) (script : Requests) (run : Run) (steps : List JournalStep) (failed : Broken) (began : Seen) (history : Option History) (faults : Faults) (world : WorldValue D) → IsWorldOf start script run steps failed began history faults world → IsWorldOf start script run steps failed began history faults (as_finished world)
+world_finished start script run steps failed began history faults world is = record { going = is.going; entries = is.entries; broken = is.broken; counts = is.counts; trace = trace_done world.finished world.turns run world.rows is.trace }

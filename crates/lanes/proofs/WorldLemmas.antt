@@ -31,7 +31,7 @@ use Rattle.mail_fetch.specs.Task.{seen_in}
 use Rattle.lane_tasks.specs.Tasks.{BeginsTask}
 use Rattle.lanes.specs.Going.{AddsEvent, IsGoing, IsStepOf, halves_told}
 use Rattle.lanes.specs.Rows.{LaneRow, RowGoesOn, after_event, lane_value, lanes_of, queue_in}
-use Rattle.lanes.specs.Worlds.{AreCounted, AreEntriesAt, BeginsSome, IsEntryAt, IsSoundWorld, IsWorldOf, Works, WorldValue, entries_broken, entries_made, replied_behind, replied_in}
+use Rattle.lanes.specs.Worlds.{AreAdded, AreCounted, AreEntriesAt, IsEntryAt, IsWorldOf, Works, WorldValue, entries_broken, entries_made, replied_behind, replied_in}
 use Rattle.lanes.specs.declared.lane.LaneEvent.{LaneEvent}
 use Rattle.lanes.specs.declared.lane.Queued.{Queued}
 use Rattle.lanes.proofs.EntryLemmas.{entries_as_many, entries_join, entries_stay, journal_short, moment_last, moment_stays}
@@ -232,23 +232,21 @@ counted_on script replies counts k place request (Some given) asked none short a
 
 -- ---- an event
 
--- the world but for its turns
-pub record GoesTo {D : Type 0} (k : ℕ) (start : Lists) (script : Requests) (run : Run) (steps : List JournalStep) (began : Seen) (after : Option History) (second : Faults) (new : WorldValue D) : Type 0 where
+-- what a run is with an event more, and the world but for its turns
+pub record GoesTo {D : Type 0} (k : ℕ) (event : LaneEvent) (m : MapMeaning) (start : Lists) (script : Requests) (run : Run) (steps : List JournalStep) (failed : Broken) (began : Seen) (before after : Option History) (first second : Faults) (new : WorldValue D) : Type 0 where
   pub added : RunEvent
   pub more : List JournalStep
   pub broke : Broken
-  pub lane_is : added.lane ≡ k + 1
-  pub moment_is : added.moment ≡ told_calls after
+  pub adds : AddsEvent (k + 1) event run m before after first second added more failed broke
   pub is : (finished : Bool) (turns : List LaneTurn) → IsTraceOf finished turns (and_then run added) (lanes_of new.rows) → IsWorldOf start script (and_then run added) (steps ++ more) broke began after second (record new { turns = turns; finished = finished })
 
-pub works_by : {D : Type 0} → (k : ℕ) (old new : WorldValue D) (before after : Option History) (first second : Faults) → Works k old new before after first second → old.began ≤ 2 ^ 64 - 1 → length old.replies ≤ 100000
-    → (start : Lists) (script : Requests) (run : Run) (steps : List JournalStep) (failed : Broken) (began : Seen) → IsWorldOf start script run steps failed began before first old → GoesTo k start script run steps began after second new
+pub works_by : {D : Type 0} → (k : ℕ) (old new : WorldValue D) (before after : Option History) (first second : Faults) → (w : Works k old new before after first second) → old.began ≤ 2 ^ 64 - 1 → length old.replies ≤ 100000
+    → (start : Lists) (script : Requests) (run : Run) (steps : List JournalStep) (failed : Broken) (began : Seen) → IsWorldOf start script run steps failed began before first old → GoesTo k w.event old.store.map start script run steps failed began before after first second new
 works_by {D} k old new before after first second w clock few start script run steps failed began world = record {
   added = added;
   more = more;
   broke = broke;
-  lane_is = adds.lane_is;
-  moment_is = adds.moment_is;
+  adds = adds;
   is = λ finished turns trace. record {
     going = going;
     entries = entries;
@@ -258,7 +256,7 @@ works_by {D} k old new before after first second w clock few start script run st
   };
 }
   where
-    g : (added : RunEvent) × (steps_made : List JournalStep) × (broke : Broken) × AddsEvent (k + 1) w.event run old.store.map before after added steps_made failed broke
+    g : (added : RunEvent) × (steps_made : List JournalStep) × (broke : Broken) × AddsEvent (k + 1) w.event run old.store.map before after first second added steps_made failed broke
         × IsGoing start script (and_then run added) (steps ++ steps_made) broke (replies_behind (ended_by w.event.ended) w.event.place old.replies) began new.store after second (slice_set old.rows k w.now)
     g = going_on start script run steps failed old.replies began old.rows k w.row w.now w.event old.store new.store before after first second w.there w.goes world.going
 
@@ -271,7 +269,7 @@ works_by {D} k old new before after first second w clock few start script run st
     broke : Broken
     broke = g.2
 
-    adds : AddsEvent (k + 1) w.event run old.store.map before after added more failed broke
+    adds : AddsEvent (k + 1) w.event run old.store.map before after first second added more failed broke
     adds = g.3
 
     going : IsGoing start script (and_then run added) (steps ++ more) broke new.replies began new.store after second new.rows
@@ -290,11 +288,11 @@ works_by {D} k old new before after first second w clock few start script run st
     entries : AreEntriesAt after new.began (moment_of (and_then run added)) (steps ++ more) new.journal
     entries = subst (λ (b : ℕ). AreEntriesAt after b (moment_of (and_then run added)) (steps ++ more) new.journal) (sym w.began_is)
         (journal_on before after old.began w.later (k + 1) w.event.place w.event.did run added steps more old.journal new.journal (2 * length old.replies) clock w.later_is adds.moment_is adds.halves_are adds.steps_are told
-        (steps_within run script start steps world.going.serving.serves.legal.steps) world.entries short w.unmade_is w.journal_is)
+        (steps_within run script start steps world.going.serving.serves.legal.steps) world.entries short w.journal.none w.journal.all)
 
     broken : AreEntriesAt after new.began (λ s. broke.began) broke.steps new.broken
     broken = subst (λ (b : ℕ). AreEntriesAt after b (λ s. broke.began) broke.steps new.broken) (sym w.began_is)
-        (broken_on before after old.began w.earlier (k + 1) w.event.place w.event.did run added failed broke old.broken new.broken clock w.earlier_is adds.lane_is adds.request_is told adds.breaks adds.once world.broken w.unbroken_is w.broken_is)
+        (broken_on before after old.began w.earlier (k + 1) w.event.place w.event.did run added failed broke old.broken new.broken clock w.earlier_is adds.lane_is adds.request_is told adds.breaks adds.once world.broken w.broken.none w.broken.all)
 
     turn : (request : Request) × (slice_get script w.event.place ≡ Some (k + 1, request)) × (slice_get old.replies w.event.place ≡ Some None)
     turn = let t = in_turn start script run steps failed old.replies began (seen_in old.store before first) old.rows k w.row w.goes.queued old.store before w.there w.goes.was world.going.serving in
@@ -304,10 +302,6 @@ works_by {D} k old new before after first second w clock few start script run st
     counts = subst (λ (rs : List (Option Reply)). AreCounted script rs new.replied) (sym w.replies_are)
         (subst (λ (cs : List ℕ). AreCounted script (replies_behind (ended_by w.event.ended) w.event.place old.replies) cs) (sym w.replied_are)
         (counted_on script old.replies old.replied k w.event.place turn.0 (ended_by w.event.ended) turn.1 turn.2 few world.counts))
-
-pub works_on : {D : Type 0} → (k : ℕ) (old new : WorldValue D) (before after : Option History) (first second : Faults) → Works k old new before after first second → IsSoundWorld before old
-    → (start : Lists) (script : Requests) (run : Run) (steps : List JournalStep) (failed : Broken) (began : Seen) → IsWorldOf start script run steps failed began before first old → GoesTo k start script run steps began after second new
-works_on k old new before after first second w sound start script run steps failed began world = works_by k old new before after first second w sound.clock sound.short start script run steps failed began world
 
 -- ---- what a world's own calls make of it
 
@@ -323,6 +317,10 @@ broken_at how lane place calls moment began some is = ap (λ (n : ℕ). entries_
   where
     one_less : (n : ℕ) → 1 ≤ n → n ≡ n - 1 + 1
     one_less n some = omega (arith, some)
+
+-- the same entries, with room for them where there is room for as many
+pub added_as : (room less : Type 0) (made added entries now : List JournalEntry) → made ≡ added → (less → room) → AreAdded room made entries now → AreAdded less added entries now
+added_as room less made added entries now same more are = subst (λ (es : List JournalEntry). AreAdded less es entries now) same (record { all = λ short. are.all (more short); none = are.none; some = are.some })
 
 -- a world as its own call has it, and as the caller has it
 pub works_from : {D : Type 0} → (H : D → Option History) (F : D → Faults) (k : ℕ) (was old new : WorldValue D) → was ≡ old → Works k was new (H was.store.disk) (H new.store.disk) (F was.store.disk) (F new.store.disk) → Works k old new (H old.store.disk) (H new.store.disk) (F old.store.disk) (F new.store.disk)

@@ -19,7 +19,7 @@ ghost use Rattle.task_steps.specs.Step.{Seen, ShowsSeen, ended_by};
 ghost use Rattle.mail_fetch.specs.Task.{seen_in};
 ghost use Rattle.lanes.specs.Going.{AddsEvent, AreFreshRows, IsGoing};
 ghost use Rattle.lanes.specs.Rows.{LaneRow, RowGoesOn, lanes_of};
-ghost use Rattle.lanes.specs.Worlds.{AreEntriesAt, ArePartsOf, IsFreshWorld, IsWorldOf, PartsValue, WorldValue};
+ghost use Rattle.lanes.specs.Worlds.{AreEntriesAt, ArePartsOf, GoesOnBy, IsFreshWorld, IsLaneEvent, IsServedOn, IsSoundWorld, IsWorldOf, KeepsWorld, PartsValue, WorldValue};
 ghost use Rattle.lanes.specs.declared.lane.LaneEvent.{LaneEvent};
 
 use disk_model::Disk;
@@ -38,8 +38,21 @@ pub fn lanes_begin<D: Disk>()
 pub fn lanes_go_on<D: Disk>()
     ensures { (start : Lists) (script : Requests) (run : Run) (journal : List JournalStep) (broken : Broken) (replies : List (Option Reply)) (began : Seen) (rows : List LaneRow) (k : ℕ) (row now : LaneRow) (event : LaneEvent) (old new : StoreValue D) (before after : Option History) (first second : Faults)
         → slice_get rows k ≡ Some row → RowGoesOn row now event old new before after first second → IsGoing start script run journal broken replies began old before first rows
-        → (added : RunEvent) × (steps : List JournalStep) × (failed : Broken) × AddsEvent (k + 1) event run old.map before after added steps broken failed
+        → (added : RunEvent) × (steps : List JournalStep) × (failed : Broken) × AddsEvent (k + 1) event run old.map before after first second added steps broken failed
         × IsGoing start script (and_then run added) (journal ++ steps) failed (replies_behind (ended_by event.ended) event.place replies) began new after second (slice_set rows k now) }
+{}
+
+/// What events in rounds make of a world. Of whatever script and run it was, it is one of the run with events of those lanes; and whatever
+/// the script and the disk, replies stay, entries are only added, and no count of faults falls.
+pub fn worlds_go_on<D: Disk>()
+    ensures serves { (lanes : List ℕ) (old new : WorldValue D) (before after : Option History) (first second : Faults) → GoesOnBy lanes old new before after first second → IsServedOn lanes old new before after first second }
+    ensures keeps { (lanes : List ℕ) (old new : WorldValue D) (before after : Option History) (first second : Faults) → GoesOnBy lanes old new before after first second → KeepsWorld old new before after first second }
+    ensures kept { (lane : ℕ) (old new : WorldValue D) (before after : Option History) (first second : Faults) → IsLaneEvent lane old new before after first second → KeepsWorld old new before after first second }
+{}
+
+/// A world of which no lane has a request left has a reply of each request, whatever script it is of.
+pub fn idle_worlds_have_replied<D: Disk>()
+    ensures { (world : WorldValue D) (history : Option History) → IsSoundWorld history world → AreIdle (lanes_of world.rows) → (i : ℕ) → i < length world.replies → (given : Reply) × HasReply world.replies i given }
 {}
 
 /// No lane has a request left: every request of the script has its reply, which is that of its events.

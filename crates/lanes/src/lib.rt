@@ -2,7 +2,10 @@
 #![tactic(auto)]
 
 pub use lane::{Lane, LaneEvent, Queued};
-pub use laws::{entries_are_told, lanes_begin, lanes_end, lanes_go_on, worlds_begin};
+pub use laws::{
+    entries_are_told, idle_worlds_have_replied, lanes_begin, lanes_end, lanes_go_on, worlds_begin,
+    worlds_go_on,
+};
 pub use parts::WorldParts;
 pub use turn::{Turn, Turned};
 pub use world::{World, WorldRefused, world_of};

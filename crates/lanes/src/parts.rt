@@ -34,14 +34,14 @@ pub struct WorldParts {
 }
 
 impl Model for WorldParts {
-    ghost use Rattle.std.specs.Prelude.{◌≡◌, ◌≤◌, ◌*◌, [], None, length, replicate, vec_len, vec_capacity};
-    ghost use Rattle.lanes.specs.Worlds.{AreFreshParts, PartsValue, turns_for};
+    ghost use Rattle.std.specs.Prelude.{length};
+    ghost use Rattle.lanes.specs.Worlds.{AreFreshParts, HasRoomOf, HaveNoneYet, PartsValue};
 
     ghost Value = { PartsValue };
 
     ghost view = { λ parts. record { rows = parts.lanes.items; requests = length parts.replies.items } };
 
-    ghost invariant = { λ parts. AreFreshParts (record { rows = parts.lanes.items; requests = length parts.replies.items }) × (vec_len parts.lanes ≡ length parts.lanes.items) × (vec_len parts.replies ≡ length parts.replies.items) × (parts.replies.items ≡ replicate (length parts.replies.items) None) × (parts.replied.items ≡ replicate (length parts.lanes.items) 0) × (vec_len parts.replied ≡ length parts.replied.items) × (parts.journal.items ≡ []) × (vec_len parts.journal ≡ 0) × (2 * length parts.replies.items ≤ vec_capacity parts.journal) × (parts.broken.items ≡ []) × (vec_len parts.broken ≡ 0) × (16 ≤ vec_capacity parts.broken) × (parts.turns.items ≡ []) × (vec_len parts.turns ≡ 0) × (parts.turn_room ≤ vec_capacity parts.turns) × (parts.turn_room ≡ turns_for (length parts.replies.items) (length parts.lanes.items)) };
+    ghost invariant = { λ parts. AreFreshParts (record { rows = parts.lanes.items; requests = length parts.replies.items }) × HasRoomOf parts.lanes parts.replies parts.replied parts.journal parts.broken parts.turns parts.turn_room × HaveNoneYet (length parts.replies.items) (length parts.lanes.items) parts.replies parts.replied parts.journal parts.broken parts.turns parts.turn_room };
 }
 
 impl WorldParts {

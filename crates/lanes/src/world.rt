@@ -1,11 +1,11 @@
 // A world: lanes over one store, which do the requests of a script.
-ghost use Rattle.std.specs.Prelude.{◌≡◌, ◌≤◌, ◌<◌, ◌+◌, ◌-◌, ◌++◌, ◌∷◌, [], ℕ, false, true, length, slice_get, Some, None, IfErr, IfOk, IfSome, IsNone, vec_len, vec_capacity};
+ghost use Rattle.std.specs.Prelude.{◌≡◌, ◌≤◌, ◌<◌, ◌+◌, ◌-◌, ◌++◌, ◌∷◌, [], ℕ, false, true, List, length, slice_get, Some, IfErr, IfOk, IfSome, IsNone, vec_len, vec_capacity};
 ghost use Rattle.serving.specs.Lanes.{replies_behind};
 ghost use Rattle.serving.specs.Serving.{AreIdle};
 ghost use Rattle.task_claims.specs.Claims.{HasNoTask};
 ghost use Rattle.task_steps.specs.Step.{ended_by};
-ghost use Rattle.lanes.specs.Rows.{LaneRow, lanes_of};
-ghost use Rattle.lanes.specs.Worlds.{AreGiven, AreOfLanes, ArePartsOf, GoesOnBy, IsFreshWorld, IsIdleLane, IsLaneEvent, IsSoundWorld, PartsValue, Works, entries_broken, entries_made, replied_behind, turn_of, world_left};
+ghost use Rattle.lanes.specs.Rows.{lanes_of};
+ghost use Rattle.lanes.specs.Worlds.{AreAdded, AreGiven, AreIdleBetween, AreOfLanes, ArePartsOf, GoesOnBy, IsFreshWorld, IsIdleLane, IsLaneEvent, IsNextBusy, IsSoundWorld, PartsValue, Works, entries_broken, entries_made, replied_behind, turn_of, world_left};
 ghost use Rattle.lanes.specs.declared.turn.Turned.TheVariants as turned;
 
 use crate::lane::{Lane, LaneEvent};
@@ -37,15 +37,13 @@ pub struct World<D: Disk> {
 }
 
 impl<D: Disk> Model for World<D> {
-    ghost use Rattle.std.specs.Prelude.{◌≡◌, ◌≤◌, ◌*◌, length, vec_len, vec_capacity};
-    ghost use Rattle.lanes.specs.Worlds.{IsSoundWorld, WorldValue};
+    ghost use Rattle.lanes.specs.Worlds.{HasRoomOf, IsSoundWorld, WorldValue, world_value};
 
     ghost Value = { WorldValue D };
 
-    ghost view = { λ w. record { store = w.store; rows = w.lanes.items; replies = w.replies.items; replied = w.replied.items; journal = w.journal.items; broken = w.broken.items; began = w.began; turns = w.turns.items; turn_room = w.turn_room; finished = w.finished } };
+    ghost view = { λ w. world_value w.store w.lanes.items w.replies.items w.replied.items w.journal.items w.broken.items w.began w.turns.items w.turn_room w.finished };
 
-    // The lists are as long as their vectors, and there is room for two entries of each request, for 16 broken steps, and for the turns.
-    ghost invariant = { λ w. IsSoundWorld (D.history w.store.disk) (record { store = w.store; rows = w.lanes.items; replies = w.replies.items; replied = w.replied.items; journal = w.journal.items; broken = w.broken.items; began = w.began; turns = w.turns.items; turn_room = w.turn_room; finished = w.finished }) × (vec_len w.lanes ≡ length w.lanes.items) × (vec_len w.replies ≡ length w.replies.items) × (vec_len w.replied ≡ length w.replied.items) × (vec_len w.journal ≡ length w.journal.items) × (2 * length w.replies.items ≤ vec_capacity w.journal) × (vec_len w.broken ≡ length w.broken.items) × (16 ≤ vec_capacity w.broken) × (vec_len w.turns ≡ length w.turns.items) × (w.turn_room ≤ vec_capacity w.turns) };
+    ghost invariant = { λ w. IsSoundWorld (D.history w.store.disk) (world_value w.store w.lanes.items w.replies.items w.replied.items w.journal.items w.broken.items w.began w.turns.items w.turn_room w.finished) × HasRoomOf w.lanes w.replies w.replied w.journal w.broken w.turns w.turn_room };
 }
 
 /// There is no memory for a world. The store is as it was.
@@ -122,12 +120,12 @@ impl<D: Disk> World<D> {
         Turned::Worked
     }
 
-    /// Does events of the lanes in turn, from the first to the last, until none has a request left. It adds no turn to the trace.
+    /// Does events of the lanes in rounds, one of each lane that has a request left, from the first lane to the last, until none has one
+    /// left. It adds no turn to the trace.
     pub fn finish(&mut self)
-        ensures goes { GoesOnBy self.old self.new (D.history self.old.store.disk) (D.history self.new.store.disk) (D.faults self.old.store.disk) (D.faults self.new.store.disk) }
+        ensures goes { (lanes : List ℕ) × GoesOnBy lanes self.old self.new (D.history self.old.store.disk) (D.history self.new.store.disk) (D.faults self.old.store.disk) (D.faults self.new.store.disk) }
         ensures idle { AreIdle (lanes_of self.new.rows) }
-        ensures finished { self.new.finished ≡ true }
-        ensures same { (self.new.turns ≡ self.old.turns) × (self.new.turn_room ≡ self.old.turn_room) × (self.new.began ≡ self.old.began) }
+        ensures same { (self.new.finished ≡ true) × (self.new.turns ≡ self.old.turns) }
     {
         let mut last = 0;
         while let Some(lane) = self.next_busy(last) {
@@ -138,12 +136,12 @@ impl<D: Disk> World<D> {
         self.finished = true;
     }
 
-    /// The lane that is in turn after this one, of those that have a request left.
-    fn next_busy(&self, after: u32) -> Option<u32>
-        ensures some { IfSome result (λ lane. (1 ≤ lane) × (lane ≤ length self.now.rows) × (IsIdleLane lane self.now.rows → ⊥)) }
+    /// The lane that is in turn behind this one, of those that have a request left.
+    fn next_busy(&self, last: u32) -> Option<u32>
+        ensures some { IfSome result (λ lane. IsNextBusy last lane self.now.rows) }
         ensures none { IsNone result → AreIdle (lanes_of self.now.rows) }
     {
-        let next = first_busy(self.lanes.as_slice(), after);
+        let next = first_busy(self.lanes.as_slice(), last);
         if next.is_some() {
             return next;
         }
@@ -244,8 +242,8 @@ impl<D: Disk> World<D> {
 /// The first lane after this one that has a request left.
 fn first_busy(lanes: &[Lane], after: u32) -> Option<u32>
     requires { length lanes.now ≤ 64 }
-    ensures some { IfSome result (λ lane. (1 ≤ lane) × (lane ≤ length lanes.now) × (IsIdleLane lane lanes.now → ⊥)) }
-    ensures none { IsNone result → (k : ℕ) (row : LaneRow) → after ≤ k → slice_get lanes.now k ≡ Some row → row.current ≡ None }
+    ensures some { IfSome result (λ lane. (after < lane) × (lane ≤ length lanes.now) × (IsIdleLane lane lanes.now → ⊥) × AreIdleBetween after lane lanes.now) }
+    ensures none { IsNone result → AreIdleBetween after (length lanes.now + 1) lanes.now }
 {
     for place in after as usize..lanes.len() {
         if !lanes[place].is_idle() {
@@ -257,8 +255,7 @@ fn first_busy(lanes: &[Lane], after: u32) -> Option<u32>
 
 /// Adds the entry of an event to the journal, if it made a step and there is room.
 fn keep_step(journal: &mut Vec<JournalEntry>, lane: u32, event: &LaneEvent, calls: u64)
-    ensures none { entries_made event.now.did lane event.now.place calls ≡ [] → journal.new.items ≡ journal.old.items }
-    ensures some { vec_len journal.old < vec_capacity journal.old → journal.new.items ≡ journal.old.items ++ entries_made event.now.did lane event.now.place calls }
+    ensures added { AreAdded (vec_len journal.old < vec_capacity journal.old) (entries_made event.now.did lane event.now.place calls) journal.old.items journal.new.items }
     ensures room { (vec_capacity journal.old ≤ vec_capacity journal.new) × (vec_len journal.old ≡ length journal.old.items → vec_len journal.new ≡ length journal.new.items) }
 {
     if let Did::Step(half) = event.did {
@@ -268,8 +265,7 @@ fn keep_step(journal: &mut Vec<JournalEntry>, lane: u32, event: &LaneEvent, call
 
 /// Adds the entry of an event to the broken steps, if a failed append would have made it and there is room.
 fn keep_broken(broken: &mut Vec<JournalEntry>, lane: u32, event: &LaneEvent, calls: u64)
-    ensures none { entries_broken event.now.did lane event.now.place calls ≡ [] → broken.new.items ≡ broken.old.items }
-    ensures some { vec_len broken.old < vec_capacity broken.old → broken.new.items ≡ broken.old.items ++ entries_broken event.now.did lane event.now.place calls }
+    ensures added { AreAdded (vec_len broken.old < vec_capacity broken.old) (entries_broken event.now.did lane event.now.place calls) broken.old.items broken.new.items }
     ensures room { (vec_capacity broken.old ≤ vec_capacity broken.new) × (vec_len broken.old ≡ length broken.old.items → vec_len broken.new ≡ length broken.new.items) }
 {
     if let Did::Broken(half) = event.did {
@@ -291,7 +287,7 @@ fn entry_of(lane: u32, request: u32, half: Half, calls: u64) -> JournalEntry
 
 /// Adds an entry, if there is room.
 fn put_entry(entries: &mut Vec<JournalEntry>, entry: JournalEntry)
-    ensures some { vec_len entries.old < vec_capacity entries.old → entries.new.items ≡ entries.old.items ++ entry ∷ [] }
+    ensures added { AreAdded (vec_len entries.old < vec_capacity entries.old) (entry ∷ []) entries.old.items entries.new.items }
     ensures room { (vec_capacity entries.old ≤ vec_capacity entries.new) × (vec_len entries.old ≡ length entries.old.items → vec_len entries.new ≡ length entries.new.items) }
 {
     if entries.push(entry).is_err() {}

@@ -25,8 +25,9 @@ use Rattle.request_text.specs.ReplyText.{reply_text, single_text}
 use Rattle.request_text.specs.declared.outcome.Outcome.{Outcome}
 use Rattle.request_text.specs.declared.outcome.Outcome.TheVariants as outcome
 use Rattle.script_run.specs.Opening.{IsUnopened}
+use Rattle.script_run.specs.One.{moved_lists}
 use Rattle.mdbox_top.specs.FetchRun.{FetchRests}
-use Rattle.mdbox_top.specs.Changed.{moved_lists, ChangeMoments, ChangeRests}
+use Rattle.mdbox_top.specs.Changed.{ChangeMoments, ChangeRests}
 use Rattle.mdbox_top.specs.MoveRun.{MoveMoments, MoveRests}
 use Rattle.mdbox_top.specs.OpeningOutcome.{opening_outcome}
 use Rattle.mdbox_top.specs.Served.{FaultsByReply, ShowsReply, RequestOutcome}

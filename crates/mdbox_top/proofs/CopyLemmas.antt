@@ -38,8 +38,9 @@ use Rattle.mail_ops.specs.declared.copy.CopyStage.TheVariants as stage
 use Rattle.mail_ops.proofs.CopyFirstLemmas.{no_room, place_free, too_many, few_copies, raise_steps}
 use Rattle.store_open.specs.Opened.{IsOpenedAs}
 use Rattle.script_run.proofs.RunBeginsLemmas.{OpenedNow, before_opening}
+use Rattle.script_run.specs.One.{lists_told}
 use Rattle.mdbox_top.specs.Alone.{IsDoneAlone}
-use Rattle.mdbox_top.specs.Changed.{lists_told, AreOneOf, OpensAsBefore}
+use Rattle.mdbox_top.specs.Changed.{AreOneOf, OpensAsBefore}
 use Rattle.mdbox_top.specs.ChangeEvents.{ChangesAlone, CopiesAlone, IsAsBefore}
 use Rattle.mdbox_top.specs.CopyRun.{uncopied_cause, IsCopiedAs, IsCopyAnswer, IsCopyReply, CopyRests}
 use Rattle.mdbox_top.proofs.AloneLemmas.{alone_faults}

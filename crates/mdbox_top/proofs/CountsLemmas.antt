@@ -26,11 +26,12 @@ use Rattle.request_text.specs.declared.outcome.Outcome.{Outcome}
 use Rattle.request_text.specs.declared.outcome.Outcome.TheVariants as outcome
 use Rattle.script_run.specs.Opening.{AreSafeFor}
 use Rattle.script_run.proofs.RunBeginsLemmas.{OpenedNow, before_opening}
+use Rattle.script_run.specs.One.{ServesRequest}
 use Rattle.mdbox_top.specs.Alone.{IsDoneAlone}
 use Rattle.mdbox_top.specs.CountsRun.{counts_of, IsCountsReply, CountsOutcome}
 use Rattle.mdbox_top.specs.InputRun.{IsOneOf}
 use Rattle.mdbox_top.specs.OpeningOutcome.{opening_outcome}
-use Rattle.mdbox_top.specs.Served.{ServesRequest, FaultsByReply, ShowsReply}
+use Rattle.mdbox_top.specs.Served.{FaultsByReply, ShowsReply}
 use Rattle.mdbox_top.specs.UnderWay.{IsUnderWay, seen_alone}
 use Rattle.mdbox_top.proofs.RequestLemmas.{opening_number, request_status}
 use Rattle.mdbox_top.proofs.ServedLemmas.{way_opens}

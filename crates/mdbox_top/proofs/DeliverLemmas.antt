@@ -43,7 +43,7 @@ use Rattle.script_run.specs.Opening.{IsUnopened}
 use Rattle.script_run.proofs.MailStaysLemmas.{stays_from}
 use Rattle.script_run.proofs.RunBeginsLemmas.{OpenedNow, before_opening}
 use Rattle.mdbox_top.specs.Alone.{IsDoneAlone}
-use Rattle.mdbox_top.specs.Changed.{saved_lists, lists_told}
+use Rattle.script_run.specs.One.{lists_told, saved_lists}
 use Rattle.mdbox_top.specs.ChangeEvents.{IsAlike, AreAlongSave, ShowsChanged, StoresAlone, SavesAlone}
 use Rattle.mdbox_top.specs.DeliverRun.{undelivered_cause, region_length, HasRecordLeft, HasRecordMore, IsDeliverAnswer, OpensAlike, OpensSaved, IsDeliverReply, SaveOutcome, AreSaved, SaveMoments, SaveRests, unread_outcome, IsUnread, DeliverOutcome, DeliverRests, DeliverStatus}
 use Rattle.mdbox_top.specs.InputRun.{IsOneOf}

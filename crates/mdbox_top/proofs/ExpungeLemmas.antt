@@ -29,8 +29,9 @@ use Rattle.mail_ops.specs.declared.expunging.ExpungeStage.{ExpungeStage}
 use Rattle.mail_ops.specs.declared.expunging.ExpungeStage.TheVariants as stage
 use Rattle.mail_ops.proofs.MessageLemmas.{not_missing}
 use Rattle.script_run.proofs.RunBeginsLemmas.{OpenedNow, before_opening}
+use Rattle.script_run.specs.One.{lists_told}
 use Rattle.mdbox_top.specs.Alone.{IsDoneAlone}
-use Rattle.mdbox_top.specs.Changed.{IsChangeAnswer, lists_told, AreOneOf}
+use Rattle.mdbox_top.specs.Changed.{IsChangeAnswer, AreOneOf}
 use Rattle.mdbox_top.specs.ChangeEvents.{ChangesAlone, RemovesAlone}
 use Rattle.mdbox_top.specs.ExpungeRun.{lists_without, IsExpungeReply, ExpungeRests}
 use Rattle.mdbox_top.specs.Served.{missing_cause}

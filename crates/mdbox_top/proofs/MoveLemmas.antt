@@ -35,7 +35,7 @@ use Rattle.mail_ops.specs.declared.moving.MoveStage.TheVariants as stage
 use Rattle.mail_ops.proofs.CopyFirstLemmas.{raise_steps}
 use Rattle.script_run.proofs.RunBeginsLemmas.{OpenedNow, before_opening}
 use Rattle.mdbox_top.specs.Alone.{IsDoneAlone}
-use Rattle.mdbox_top.specs.Changed.{moved_lists, lists_behind, lists_told}
+use Rattle.script_run.specs.One.{lists_behind, lists_told, moved_lists}
 use Rattle.mdbox_top.specs.ChangeEvents.{IsWayTo, ChangesAlone, MovesAlone, IsAsBefore}
 use Rattle.mdbox_top.specs.MoveRun.{IsMovedAs, AreAlongMove, IsMoveAnswer, IsMoveReply, MoveRests}
 use Rattle.mdbox_top.proofs.AloneLemmas.{alone_faults}

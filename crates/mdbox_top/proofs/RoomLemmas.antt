@@ -17,7 +17,8 @@ use Rattle.mail_save.specs.SaveStages.{AreAttachedSoFar, HasAttached}
 use Rattle.mail_save.specs.declared.task.SaveStage.{SaveStage}
 use Rattle.mail_save.specs.declared.task.SaveStage.TheVariants as stage
 use Rattle.store_core.specs.Value.{StoreValue}
-use Rattle.mdbox_top.specs.UnderWay.{GoesAlone, alone}
+use Rattle.script_run.specs.One.{alone}
+use Rattle.mdbox_top.specs.UnderWay.{GoesAlone}
 
 -- all events are of the only request
 pub of_one : (request : Request) (lists : Lists) (run : Run) (journal : List JournalStep) (broken : Broken) (began now : Seen) → GoesAlone request lists run journal broken began now → All (λ e. e.request ≡ 0) run.events

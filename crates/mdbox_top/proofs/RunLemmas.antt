@@ -31,7 +31,7 @@ use Rattle.mdbox_top.proofs.InitLemmas.{init_status}
 use Rattle.mdbox_top.specs.ListRun.{IsListReply, ListMoments}
 use Rattle.mdbox_top.specs.FetchRun.{IsFetchReply}
 use Rattle.mdbox_top.specs.FlagRun.{IsFlagReply}
-use Rattle.mdbox_top.specs.Changed.{moved_lists}
+use Rattle.script_run.specs.One.{moved_lists}
 use Rattle.mdbox_top.specs.CopyRun.{IsCopyReply}
 use Rattle.mdbox_top.specs.MakeRun.{IsMakeReply, AreMade}
 use Rattle.mdbox_top.specs.MoveRun.{IsMoveReply}

@@ -76,11 +76,12 @@ use Rattle.mail_save.specs.declared.place.SavedAt.{SavedAt}
 use Rattle.mail_save.specs.declared.task.SaveStage.{SaveStage}
 use Rattle.mail_save.specs.declared.task.SaveStage.TheVariants as stage
 use Rattle.script_run.proofs.MailStaysLemmas.{needs_same}
-use Rattle.mdbox_top.specs.Changed.{saved_lists, lists_told, MomentsAmong}
+use Rattle.script_run.specs.One.{ServesRequest, lists_told, saved_lists}
+use Rattle.mdbox_top.specs.Changed.{MomentsAmong}
 use Rattle.mdbox_top.specs.ChangeEvents.{IsAlike, ShowsChanged, AreAlongSave, IsWayTo, StoresAlone, SavesAlone}
 use Rattle.mdbox_top.specs.DeliverRun.{attachment_octets, region_length, IsFileFor, IsSavedAs, IsSavedPlace, IsOutOfFiles, IsOutOfInstances, IsUncompared, IsDeliverAnswer, HasRecordMore, HasRecordLeft}
 use Rattle.mdbox_top.specs.SavedMail.{AddedMail, LeftMail, TookMail, WroteMail}
-use Rattle.mdbox_top.specs.Served.{FaultsByReply, ServesRequest}
+use Rattle.mdbox_top.specs.Served.{FaultsByReply}
 use Rattle.mdbox_top.specs.UnderWay.{IsUnderWay, seen_alone}
 use Rattle.mdbox_top.proofs.ChangeLemmas.{more_done, one_done, still_among, moments_on}
 use Rattle.mdbox_top.proofs.CopyLemmas.{one_refusal, memory_runs, none_made}

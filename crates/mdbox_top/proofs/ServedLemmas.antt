@@ -27,7 +27,7 @@ use Rattle.mail_ops.specs.declared.task.TaskStage.TheVariants as stage
 use Rattle.script_run.specs.Opening.{AreSafeFor}
 use Rattle.script_run.proofs.MailStaysLemmas.{opening_keeps}
 use Rattle.script_run.proofs.RunBeginsLemmas.{OpenedNow, at_opening, before_opening, beginning, first_come, opening_begins}
-use Rattle.mdbox_top.specs.Served.{ServesRequest}
+use Rattle.script_run.specs.One.{ServesRequest}
 use Rattle.mdbox_top.specs.UnderWay.{IsUnderWay, seen_alone}
 use Rattle.script_run.proofs.ShownLemmas.{LogsShow, opened_shows}
 use Rattle.mdbox_top.proofs.UnderWayLemmas.{nothing_found, way_begins, way_shows, way_ends}

@@ -34,8 +34,8 @@ use Rattle.store_core.specs.Running.{IsStore}
 use Rattle.store_core.specs.Value.{StoreValue}
 use Rattle.script_run.specs.Opening.{RunBegins, RunHasCome}
 use Rattle.script_run.proofs.RunBeginsLemmas.{before_opening, beginning, first_map, run_ends}
-use Rattle.mdbox_top.specs.Served.{ServesRequest}
-use Rattle.mdbox_top.specs.UnderWay.{alone, GoesAlone, IsUnderWay}
+use Rattle.script_run.specs.One.{ServesRequest, alone}
+use Rattle.mdbox_top.specs.UnderWay.{GoesAlone, IsUnderWay}
 
 -- ---- one request
 

@@ -22,26 +22,6 @@ use Rattle.store_open.specs.Opened.{IsOpenedAs, StoreCarries, KeepsOpenedMail}
 use Rattle.store_sweep.specs.Moments.{NoFailedChange}
 use Rattle.store_sweep.specs.Swept.{IsSwept}
 
--- the lists with a message that is saved: last in its mailbox, whose next UID it gets, and without flags
-abbrev pub saved_lists : List ℕ → ℕ → List ℕ → Guid → Lists → Lists
-saved_lists name time octets guid lists = add_message name (record { uid = 0; flags = 0; time = time; guid = guid.0; octets = octets }) lists
-
--- the lists with the copy of a moved message and without the message, and those that the move leaves, by whether the message had
--- gone before it was removed
-abbrev pub moved_lists : List ℕ → Uid → List ℕ → Lists → Lists
-moved_lists name uid target lists = expunge name uid.0 (copied_lists name uid target lists)
-
-abbrev pub lists_behind : List ℕ → Uid → List ℕ → Bool → Lists → Lists
-lists_behind name uid target gone lists = if gone then copied_lists name uid target lists else moved_lists name uid target lists
-
--- the lists that a request leaves which had this reply: the same unless it is done
-abbrev pub lists_told : Request → Reply → Lists → Lists
-lists_told (request.Deliver name time octets) (reply.Saved uid guid) lists = saved_lists name time octets guid lists
-lists_told (request.Expunge name uid) reply.Done lists = expunge name uid.0 lists
-lists_told (request.Copy name uid target) (reply.Copied given) lists = copied_lists name uid target lists
-lists_told (request.Move name uid target) (reply.Moved given gone) lists = lists_behind name uid target gone lists
-lists_told asked given lists = lists
-
 -- What a request replies that is done or isn't: its cause, if there is one. Else it is done; or there was no memory; or a change of
 -- the disk failed, and the store is stopped.
 abbrev pub IsChangeAnswer : Option Refusal → Reply → Type 0

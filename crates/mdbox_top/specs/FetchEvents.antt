@@ -16,7 +16,7 @@ use Rattle.mail_fetch.specs.Task.{seen_in}
 use Rattle.mail_fetch.specs.declared.task.FetchStage.{FetchStage}
 use Rattle.mail_fetch.specs.declared.task.FetchStage.TheVariants as stage
 use Rattle.mdbox_top.specs.FetchRun.{IsFetchAnswer, IsTextOf}
-use Rattle.mdbox_top.specs.Served.{ServesRequest}
+use Rattle.script_run.specs.One.{ServesRequest}
 use Rattle.mdbox_top.specs.UnderWay.{IsUnderWay}
 
 -- A fetch alone is under way, at this stage. No event of it changes the lists.

@@ -27,27 +27,9 @@ use Rattle.request_text.specs.ReplyText.{single_text}
 use Rattle.request_text.specs.declared.outcome.Outcome.{Outcome}
 use Rattle.request_text.specs.declared.outcome.Outcome.TheVariants as outcome
 use Rattle.script_run.specs.Opening.{AreSafeFor, RunBegins, RunHasCome}
+use Rattle.script_run.specs.One.{ServesRequest}
 use Rattle.mdbox_top.specs.OpeningOutcome.{opening_outcome}
 use Rattle.task_steps.specs.Serves.{AreTimely, IsReached}
-
--- The request is a script of its own, on one lane. From these lists, for which the files were safe, it was served legally,
--- by a run that begins with the map log of the files, and was replied this. The run has come to where the disk is now: to what
--- its map log means, unless a change of it failed, and to its number of calls, so that by now every step is acknowledged. Of a
--- disk that was settled for the lists each crash image since is safe for lists that the journal reaches; at the moment of each
--- event it was settled for what the steps up to it left; and it is settled for the lists that the journal leaves, unless a change
--- of it failed.
-pub record ServesRequest (request : Request) (lists : Lists) (given : Reply) (began now : Faults) (old new : Option History) : Type 0 where
-  pub run : Run
-  pub journal : List JournalStep
-  pub broken : Broken
-  pub m : MapMeaning
-  pub drawn : Highest
-  pub begins : RunBegins run old
-  pub ends : (given ≡ reply.Refused refusal.Stopped → ⊥) → RunHasCome run m new
-  pub served : IsServed lists ((1, request) ∷ []) run journal broken (Some given ∷ []) began now (map_meaning run.store run.start) m drawn (told_calls new)
-  pub crash : IsSettledFor lists old → EachImage (IsReached lists run journal broken) old new
-  pub timely : IsSettledFor lists old → AreTimely lists run journal new
-  pub settled : (given ≡ reply.Refused refusal.Stopped → ⊥) → IsSettledFor lists old → IsSettledFor (left_by lists journal) new
 
 -- The counts of the disk's faults, by what was replied: they never fall, a read fault is replied only if that of failed reads alone
 -- rose, and that the store is stopped only if that of failed changes alone did. With any other reply no call failed.

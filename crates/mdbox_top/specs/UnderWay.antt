@@ -11,15 +11,12 @@ use Rattle.store_core.specs.Value.{StoreValue}
 use Rattle.store_seen.specs.Seeing.{seen_of}
 use Rattle.task_steps.specs.Serves.{Serves, IsTurn, Follows}
 use Rattle.task_steps.specs.Step.{Seen}
+use Rattle.script_run.specs.One.{alone}
 use Rattle.script_run.specs.Opening.{RunBegins}
 
 -- a store as the events of a request alone see it, which pins no storage file
 abbrev pub seen_alone : {D : Type 0} → StoreValue D → Option History → Faults → Seen
 seen_alone store history faults = seen_of (λ file. 0) store history faults
-
--- the script of a request alone
-abbrev pub alone : Request → Requests
-alone request = (1, request) ∷ []
 
 -- A request alone, from these lists and from a store as it was seen then, that isn't answered yet: what its events have made of
 -- the store, and that it is its turn. No reply was given, each event was the next of its lane and has its entry, and the store

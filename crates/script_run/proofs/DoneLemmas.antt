@@ -1,11 +1,12 @@
 -- A script is done, from the opening of the store to the end of the last lane.
-use Rattle.std.specs.Prelude.{◌≡◌, ◌≢◌, ◌<◌, ◌≤◌, ◌+◌, ◌-◌, ◌*◌, ◌==◌, ◌&&◌, ◌||◌, ◌++◌, ◌⊎◌, ℕ, zero, suc, Bool, true, false, cond, List, [], ◌∷◌, All, Contains, length, map, replicate, slice_get, is_some, count_by, Option, Some, None}
+use Rattle.std.specs.Prelude.{◌≡◌, ◌≢◌, ◌<◌, ◌≤◌, ◌+◌, ◌-◌, ◌*◌, ◌==◌, ◌&&◌, ◌||◌, ◌++◌, ◌⊎◌, ◌^◌, ℕ, min, zero, suc, Bool, true, false, cond, List, [], ◌∷◌, All, Contains, length, map, replicate, slice_get, is_some, count_by, Option, Some, None}
 use Rattle.std.specs.List.{list_any}
 use Rattle.std.proofs.Common.{refl, sym, ◌∙◌, ap, subst, arith, inl, inr}
 use Rattle.std.proofs.lemmas.List.{length-map}
 use Rattle.std.proofs.lemmas.Option.{slice_get_within}
 use Rattle.std.proofs.lemmas.List.Elements.{All-nil, All-weaker}
-use Rattle.disk_model.specs.Disk.{Faults, History, IsMoment, IfTold, told_calls}
+use Rattle.disk_model.specs.Disk.{Faults, Grows, History, IsIdle, IsMoment, IsTold, IfTold, told_calls}
+use Rattle.disk_model.proofs.IdleLemmas.{idle-begins}
 use Rattle.mdbox_base.specs.Streams.{Rose}
 use Rattle.mdbox_base.specs.declared.ids.Uid.{Uid}
 use Rattle.mdbox_base.specs.declared.replies.Refusal.TheVariants as refusal
@@ -16,6 +17,7 @@ use Rattle.mdbox_base.specs.declared.requests.Request.{Request}
 use Rattle.mdbox_base.specs.declared.requests.Request.TheVariants as request
 use Rattle.model_kept.specs.Kept.{MailIsKept}
 use Rattle.model_lists.specs.Lists.{Lists}
+use Rattle.model_meaning.specs.MapMeaning.{MapMeaning}
 use Rattle.model_store.specs.Settled.{IsSettledFor}
 use Rattle.list_machine.specs.Run.{Run, RunEvent, reply_of}
 use Rattle.journal.specs.Events.{Around, is_fault}
@@ -25,6 +27,7 @@ use Rattle.serving.specs.Serving.{AreIdle, HaveLanes, unreplied}
 use Rattle.sis_store.specs.Instances.{AreInstances}
 use Rattle.store_core.specs.Running.{IsStore}
 use Rattle.store_core.specs.Value.{StoreValue, indexes_of}
+use Rattle.store_open.specs.Opened.{KeepsOpenedMail}
 use Rattle.store_seen.specs.Seeing.{IsAtOpening}
 use Rattle.task_claims.specs.Claims.{HasNoTask}
 use Rattle.task_steps.specs.Step.{Seen, ShowsSeen}
@@ -34,13 +37,18 @@ use Rattle.lanes.specs.Going.{AreFreshRows, IsGoing}
 use Rattle.lanes.specs.Rows.{LaneRow, lane_value, lanes_of}
 use Rattle.lane_tasks.specs.Tasks.{HasTask}
 use Rattle.attach_detach.specs.declared.message.Prepared.{Prepared}
-use Rattle.lanes.specs.Worlds.{AreGiven, AreOfLanes, ArePartsOf, GoesOnBy, HasItsMessage, IsFreshWorld, IsWorldOf, PartsValue, WorldValue, and_events, replied_in, world_begun}
-use Rattle.script_run.specs.Done.{IsScriptDone, MayRead}
+use Rattle.lanes.specs.Worlds.{AreGiven, AreOfLanes, ArePartsOf, GoesOnBy, HasItsMessage, IsFreshWorld, IsWorldOf, PartsValue, WorldValue, and_events}
+use Rattle.lanes.proofs.TraceLemmas.{as_finished, world_finished}
+use Rattle.lane_tasks.specs.Clause.{IsAtStart, OnlyReads}
+use Rattle.task_steps.proofs.UnmovedLemmas.{mail_still}
+use Rattle.script_run.specs.Done.{IsScriptDone, LeavesStore, MayBeKept, MayBeServed, MayRead}
 use Rattle.script_run.specs.Faults.{FaultsByReplies, HasReadFault}
 use Rattle.script_run.specs.Opening.{AreSafeFor, LogsShowLists}
-use Rattle.script_run.specs.Script.{HasStopped, ServesScript, has_fetch, is_fetch}
-use Rattle.script_run.proofs.EndLemmas.{all_given, script_served, serves_from}
-use Rattle.script_run.proofs.MailStaysLemmas.{opening_keeps, run_keeps}
+use Rattle.script_run.specs.Script.{HasStopped, ServesScript, has_change, has_delivery, has_fetch, is_fetch}
+use Rattle.script_run.proofs.EndLemmas.{all_given, script_served, serves_from, unharmed}
+use Rattle.script_run.proofs.MailStaysLemmas.{opening_keeps, run_keeps, stays_from}
+use Rattle.script_run.proofs.ChainLemmas.{HasCounted, HasNotDelivered, HasOnlyRead, NoDelivery, counted_first, counted_on, reads_on, stays_over, syncs_first, undelivered_on}
+use Rattle.script_run.proofs.SinceLemmas.{ServedSince, begun_first, fresh_tasks, reads_first, served_since, undelivered_first}
 use Rattle.script_run.proofs.MovedLemmas.{Purges, all_at, none_moved}
 use Rattle.script_run.proofs.OpenedLemmas.{none_holds, none_used}
 use Rattle.script_run.proofs.ReadFaultLemmas.{TellsFault, faults_are_told}
@@ -105,6 +113,7 @@ begins_from start script lanes parts old mid first s o world law g are shows may
       undoomed = g.undoomed;
       quiet = g.quiet;
       fetched = λ place lane name uid at. may (fetches script place lane name uid at);
+      undamaged = g.undamaged;
     })
 
 -- ---- the end
@@ -155,8 +164,15 @@ pub record ScriptRan {D : Type 0} (script : Requests) (old mid new : Option Hist
   pub opened : OpenedNow old mid s
   pub show : LogsShow
   pub unpurged : (i : ℕ) (asked : ℕ × Request) → slice_get script i ≡ Some asked → Purges asked.1 → ⊥
+  pub fresh : AreFreshRows script world.rows
+  pub runs : world.store.stopped ≡ false
+  pub made_is : IsMoment mid world.began
   pub begins : (start : Lists) → LogsShowLists s.map (indexes_of s.boxes) start → MayRead script start old → IsWorldOf start script (beginning s.map opened.store.entries) [] no_broken (before_opening (seen_in s mid first) old) mid first world
-  pub goes : GoesOnBy world ended mid new first last
+  pub turns : List ℕ
+  pub chain : GoesOnBy turns world ended mid new first last
+  pub same_began : ended.began ≡ world.began
+  pub many : length ended.replies ≡ length script
+  pub replied : (i : ℕ) → i < length ended.replies → (given : Reply) × HasReply ended.replies i given
   pub idle : AreIdle (lanes_of ended.rows)
   pub later : IsStore new ended.store
   pub law : LanesEnd D
@@ -173,100 +189,183 @@ none_faulted around after script start run journal given next each unread unstop
     by_reply one c (inl e) = unread (subst (Contains given) e c)
     by_reply one c (inr e) = unstopped (subst (Contains given) e c)
 
--- from lists that the logs show, the replies are all there
-replies_of_run : {D : Type 0} → (script : Requests) (old mid new : Option History) (first last : Faults) (s : StoreValue D) (world ended : WorldValue D) → (r : ScriptRan script old mid new first last s world ended) → (start : Lists) → LogsShowLists s.map (indexes_of s.boxes) start → MayRead script start old
-    → (given : List Reply) × (ended.replies ≡ map Some given) × (length given ≡ length script) × FaultsByReplies given first last × MailIsKept s.map old new
-replies_of_run script old mid new first last s world ended r start shows may =
-    let w = r.goes start script (beginning s.map r.opened.store.entries) [] no_broken (before_opening (seen_in s mid first) old) (r.begins start shows may) in
-    let run : Run = and_events (beginning s.map r.opened.store.entries) w.0 in
-    let going = w.3.going in
-    let many : length ended.replies ≡ length script = going.serving.given.0 in
-    let g = all_given ended.replies (λ i l. let e = r.law start script run w.1 w.2 ended.replies _ ended.store new last ended.rows going r.idle i (subst (λ (n : ℕ). i < n) many l) in (e.0, e.1)) in
-    let legal = subst (λ (rs : List (Option Reply)). IsLegal start script run w.1 rs first last) g.1 going.serving.serves.legal in (
-      g.0,
-      g.1,
-      sym (length-map g.0 Some) ∙ (ap length (sym g.1) ∙ many),
-      record {
-        reads = legal.causes.reads;
-        changes = going.serving.serves.changes;
-        stopped = λ h. let i = at_given g.0 (reply.Refused refusal.Stopped) h in legal.causes.changes i.0 i.1;
-        quiet = λ unread unstopped.
-            going.quiet (not_true ended.store.stopped (λ e. let i = going.serving.replied_stopped e in unstopped (given_at g.0 i.0 (reply.Refused refusal.Stopped) (subst (λ (rs : List (Option Reply)). HasReply rs i.0 (reply.Refused refusal.Stopped)) g.1 i.1))))
-            (none_faulted going.serving.follows.around going.serving.follows.after script start run w.1 g.0 going.serving.follows.next
-            (λ i l. let e = r.law start script run w.1 w.2 ended.replies _ ended.store new last ended.rows going r.idle i l in (e.0, subst (λ (rs : List (Option Reply)). HasReply rs i e.0) g.1 e.1, e.2)) unread unstopped);
-      },
-      going.serving.serves.mail (none_moved going.serving.follows.around going.serving.follows.after script start _ w.1 r.unpurged going.serving.follows.next),
-    )
+-- the world of the run with all events
+ended_world : {D : Type 0} → (script : Requests) (old mid new : Option History) (first last : Faults) (s : StoreValue D) (world ended : WorldValue D) → (r : ScriptRan script old mid new first last s world ended) → (start : Lists) → LogsShowLists s.map (indexes_of s.boxes) start → MayRead script start old
+    → ServedSince start script (beginning s.map r.opened.store.entries) [] (before_opening (seen_in s mid first) old) (as_finished world) ended mid new last
+ended_world script old mid new first last s world ended r start shows may =
+    let run : Run = beginning s.map r.opened.store.entries in
+    let from : Seen = before_opening (seen_in s mid first) old in
+    served_since 0 r.turns (as_finished world) ended mid new first last r.chain start script run [] no_broken from (world_finished start script run [] no_broken from mid first world (r.begins start shows may))
+
+-- what came of the counts of faults
+counts_of_run : {D : Type 0} → (script : Requests) (old mid new : Option History) (first last : Faults) (s : StoreValue D) (world ended : WorldValue D) → ScriptRan script old mid new first last s world ended → HasCounted mid first ended new last
+counts_of_run script old mid new first last s world ended r = stays_over (HasCounted mid first) (counted_on mid first) 0 r.turns (as_finished world) ended mid new first last r.chain (counted_first (as_finished world) mid first r.runs)
+
+-- a store that is stopped in the end replied so
+stopped_by : {D : Type 0} → (script : Requests) (old mid new : Option History) (first last : Faults) (s : StoreValue D) (world ended : WorldValue D) → ScriptRan script old mid new first last s world ended → (given : List Reply) → ended.replies ≡ map Some given → (HasStopped given → ⊥) → ended.store.stopped ≡ false
+stopped_by script old mid new first last s world ended r given are unstopped =
+    let c = counts_of_run script old mid new first last s world ended r in
+    not_true ended.store.stopped (λ e. let i = c.replied e in unstopped (given_at given i.0 (reply.Refused refusal.Stopped) (subst (λ (rs : List (Option Reply)). HasReply rs i.0 (reply.Refused refusal.Stopped)) are i.1)))
+
+-- from lists that the logs show, the replies tell the faults
+faults_of_run : {D : Type 0} → (script : Requests) (old mid new : Option History) (first last : Faults) (s : StoreValue D) (world ended : WorldValue D) → (r : ScriptRan script old mid new first last s world ended) → (given : List Reply) → ended.replies ≡ map Some given → (start : Lists) → LogsShowLists s.map (indexes_of s.boxes) start → MayRead script start old
+    → FaultsByReplies given first last
+faults_of_run script old mid new first last s world ended r given are start shows may =
+    let w = ended_world script old mid new first last s world ended r start shows may in
+    let run : Run = and_events (beginning s.map r.opened.store.entries) w.added in
+    let going = w.is.going in
+    let counts = counts_of_run script old mid new first last s world ended r in
+    let runs = stopped_by script old mid new first last s world ended r given are in
+    let legal = subst (λ (rs : List (Option Reply)). IsLegal start script run w.more rs first last) are going.serving.serves.legal in
+    record {
+      counted = counts.reads;
+      reads = legal.causes.reads;
+      changes = counts.changes;
+      stopped = λ h. let i = at_given given (reply.Refused refusal.Stopped) h in legal.causes.changes i.0 i.1;
+      unchanged = λ unstopped. counts.unchanged (runs unstopped);
+      quiet = λ unread unstopped.
+          going.quiet (runs unstopped)
+          (none_faulted going.serving.follows.around going.serving.follows.after script start run w.more given going.serving.follows.next
+          (λ i l. let e = r.law start script run w.more w.broke ended.replies _ ended.store new last ended.rows going r.idle i l in (e.0, subst (λ (rs : List (Option Reply)). HasReply rs i e.0) are e.1, e.2)) unread unstopped);
+    }
+
+-- and storage files and instances stayed
+mail_of_run : {D : Type 0} → (script : Requests) (old mid new : Option History) (first last : Faults) (s : StoreValue D) (world ended : WorldValue D) → (r : ScriptRan script old mid new first last s world ended) → (start : Lists) → LogsShowLists s.map (indexes_of s.boxes) start → MayRead script start old → MailIsKept s.map old new
+mail_of_run script old mid new first last s world ended r start shows may =
+    let w = ended_world script old mid new first last s world ended r start shows may in
+    let going = w.is.going in
+    going.serving.serves.mail (none_moved going.serving.follows.around going.serving.follows.after script start _ w.more r.unpurged going.serving.follows.next)
+
+-- A script without a delivery leaves them as the opening left them.
+undelivered_run : {D : Type 0} → (script : Requests) (old mid new : Option History) (first last : Faults) (s : StoreValue D) (world ended : WorldValue D) → ScriptRan script old mid new first last s world ended → has_delivery script ≡ false → HasNotDelivered mid ended new last
+undelivered_run script old mid new first last s world ended r none =
+    stays_over (HasNotDelivered mid) (undelivered_on mid) 0 r.turns (as_finished world) ended mid new first last r.chain
+    (record {
+      tasks = fresh_tasks NoDelivery script world.rows (λ place lane asked t at begins. undelivered_first script place lane asked t none at begins) r.fresh;
+      synced = λ runs. syncs_first mid;
+      kept = λ m. mail_still m mid;
+    })
+
+idle_run : {D : Type 0} → (script : Requests) (old mid new : Option History) (first last : Faults) (s : StoreValue D) (world ended : WorldValue D) → ScriptRan script old mid new first last s world ended → has_change script ≡ false → IsIdle mid new
+idle_run script old mid new first last s world ended r none =
+    (stays_over (HasOnlyRead mid) (reads_on mid) 0 r.turns (as_finished world) ended mid new first last r.chain
+    (record {
+      tasks = fresh_tasks OnlyReads script world.rows (λ place lane asked t at begins. reads_first script place lane asked t none at begins) r.fresh;
+      idle = idle-begins mid;
+    })).idle
 
 -- it is served from them
 serves_run : {D : Type 0} → (script : Requests) (old mid new : Option History) (first last : Faults) (s : StoreValue D) (world ended : WorldValue D) → (r : ScriptRan script old mid new first last s world ended) → (given : List Reply) → ended.replies ≡ map Some given → (start : Lists) → LogsShowLists s.map (indexes_of s.boxes) start → MayRead script start old
-    → ServesScript script start given ended.journal first last old new
+    → ServesScript script start given ended.journal first last old mid new
 serves_run script old mid new first last s world ended r given are start shows may =
     let from : Seen = before_opening (seen_in s mid first) old in
-    let w = r.goes start script (beginning s.map r.opened.store.entries) [] no_broken from (r.begins start shows may) in
-    let run : Run = and_events (beginning s.map r.opened.store.entries) w.0 in
-    let going = subst (λ (rs : List (Option Reply)). IsGoing start script run w.1 w.2 rs from ended.store new last ended.rows) are w.3.going in
-    script_served start script run w.1 w.2 given ended.journal from ended.began ended.store new last ended.rows going going.serving.stays_stopped r.later r.opened.drawn (opening_begins old mid s r.opened)
-    (λ e. let i = going.serving.replied_stopped e in given_at given i.0 (reply.Refused refusal.Stopped) i.1) w.3.entries
+    let w = ended_world script old mid new first last s world ended r start shows may in
+    let run : Run = and_events (beginning s.map r.opened.store.entries) w.added in
+    let going = subst (λ (rs : List (Option Reply)). IsGoing start script run w.more w.broke rs from ended.store new last ended.rows) are w.is.going in
+    script_served start script run w.more w.broke given ended.journal from ended.began ended.store mid new last ended.rows going going.serving.stays_stopped r.later r.opened.drawn (opening_begins old mid s r.opened)
+    (λ e. let i = going.serving.replied_stopped e in given_at given i.0 (reply.Refused refusal.Stopped) i.1) (subst (λ (n : ℕ). IsMoment mid n) (sym r.same_began) r.made_is, w.later) w.is.entries
+    (w.refused (fresh_tasks IsAtStart script world.rows (λ place lane asked t at begins. begun_first asked t begins) r.fresh))
 
 -- Some lists are shown from which the script may be served, if there are lists from which it may read.
-start_of : {D : Type 0} → (script : Requests) (old mid : Option History) (s : StoreValue D) → OpenedNow old mid s → LogsShow → ((lists : Lists) × MayRead script lists old) → (start : Lists) × LogsShowLists s.map (indexes_of s.boxes) start × MayRead script start old
+start_of : {D : Type 0} → (script : Requests) (old mid : Option History) (s : StoreValue D) → OpenedNow old mid s → LogsShow → MayBeServed script old → (start : Lists) × LogsShowLists s.map (indexes_of s.boxes) start × MayRead script start old
 start_of script old mid s o show some = by_test (has_fetch script) refl
   where
     by_test : (b : Bool) → has_fetch script ≡ b → (start : Lists) × LogsShowLists s.map (indexes_of s.boxes) start × MayRead script start old
     by_test true e = (some.0, opened_logs_show some.0 old s.map (indexes_of s.boxes) o.opened show (settled_safe some.0 old (some.1 e)), some.1)
     by_test false e = let l = some_lists old s.map (indexes_of s.boxes) o.opened in (l.0, l.1, λ f. absurd (let k : true ≡ false = sym f ∙ e in cc k))
 
-pub script_done : {D : Type 0} → (script : Requests) (old mid new : Option History) (first last : Faults) (s : StoreValue D) (world ended : WorldValue D) → ScriptRan script old mid new first last s world ended → ((lists : Lists) × MayRead script lists old)
+-- what it left of the store
+leaves_run : {D : Type 0} → (script : Requests) (old mid new : Option History) (first last : Faults) (s : StoreValue D) (world ended : WorldValue D) → ScriptRan script old mid new first last s world ended → (given : List Reply) → ended.replies ≡ map Some given → LeavesStore script s.map given old new
+leaves_run script old mid new first last s world ended r given are = record {
+  generation = r.opened.swept.0;
+  opened = mid;
+  swept = r.opened.swept.1;
+  carried = r.opened.carried;
+  closed_well = r.opened.closed_well;
+  grows = (counts_of_run script old mid new first last s world ended r).grows;
+  idle = λ none. idle_run script old mid new first last s world ended r none;
+  mail = λ none unstopped. (undelivered_run script old mid new first last s world ended r none).synced (stopped_by script old mid new first last s world ended r given are unstopped);
+}
+
+stays_run : {D : Type 0} → (script : Requests) (old mid new : Option History) (first last : Faults) (s : StoreValue D) (world ended : WorldValue D) → ScriptRan script old mid new first last s world ended → MayBeKept script old → KeepsOpenedMail old new
+stays_run script old mid new first last s world ended r may = by_test (has_delivery script) refl
+  where
+    by_test : (b : Bool) → has_delivery script ≡ b → KeepsOpenedMail old new
+    by_test true e =
+        let start = start_of script old mid s r.opened r.show (may e) in
+        run_keeps old new s.map (indexes_of s.boxes) r.opened.opened (mail_of_run script old mid new first last s world ended r start.0 start.1 start.2)
+    by_test false e =
+        let kept = (undelivered_run script old mid new first last s world ended r e).kept s.map in
+        stays_from old mid new s.map (indexes_of s.boxes) r.opened.opened r.opened.reads r.opened.stays kept
+
+pub script_done : {D : Type 0} → (script : Requests) (old mid new : Option History) (first last : Faults) (s : StoreValue D) (world ended : WorldValue D) → ScriptRan script old mid new first last s world ended
     → (given : List Reply) × (ended.replies ≡ map Some given) × IsScriptDone script given ended.journal old new first last
-script_done script old mid new first last s world ended r some =
-    let start = start_of script old mid s r.opened r.show some in
-    let g = replies_of_run script old mid new first last s world ended r start.0 start.1 start.2 in (
+unfolding leaves_run
+script_done script old mid new first last s world ended r =
+    let g = all_given ended.replies r.replied in
+    let counts = counts_of_run script old mid new first last s world ended r in (
       g.0,
       g.1,
       record {
-        each = g.2;
+        each = sym (length-map g.0 Some) ∙ (ap length (sym g.1) ∙ r.many);
         m = s.map;
         meanings = indexes_of s.boxes;
         opened = r.opened.opened;
         shown = λ lists safe. opened_logs_show lists old s.map (indexes_of s.boxes) r.opened.opened r.show safe;
         serves = λ lists shows may. serves_run script old mid new first last s world ended r g.0 g.1 lists shows may;
-        faults = g.3;
-        stays = run_keeps old new s.map (indexes_of s.boxes) r.opened.opened g.4;
+        undamaged = λ may.
+            let start = start_of script old mid s r.opened r.show may in
+            let w = ended_world script old mid new first last s world ended r start.0 start.1 start.2 in
+            unharmed g.0 (λ i one at. w.is.going.undamaged.none_told i one (subst (λ (rs : List (Option Reply)). HasReply rs i one) (sym g.1) at));
+        faults = λ may. let start = start_of script old mid s r.opened r.show may in faults_of_run script old mid new first last s world ended r g.0 g.1 start.0 start.1 start.2;
+        counts = record { counted = counts.reads; changes = counts.changes; unchanged = λ unstopped. counts.unchanged (stopped_by script old mid new first last s world ended r g.0 g.1 unstopped) };
+        leaves = leaves_run script old mid new first last s world ended r g.0 g.1;
+        stays = λ may. stays_run script old mid new first last s world ended r may;
       },
     )
 
 -- What a script's run says of the opening, of the world and of its end: so it is done.
-pub script_ran : {D : Type 0} → (script : Requests) (lanes : ℕ) (prepared : List (Option Prepared)) (parts : PartsValue) (old mid new : Option History) (first last : Faults) (s : StoreValue D) (world ended : WorldValue D) → (o : OpenedNow old mid s) → LogsShow → AreGiven script prepared → ArePartsOf script lanes parts → IsFreshWorld s parts mid world
+pub script_ran : {D : Type 0} → (script : Requests) (lanes : ℕ) (prepared : List (Option Prepared)) (parts : PartsValue) (old mid new : Option History) (first last : Faults) (s : StoreValue D) (world ended : WorldValue D) (turns : List ℕ) → (o : OpenedNow old mid s) → LogsShow → AreGiven script prepared → ArePartsOf script lanes parts → IsFreshWorld s parts mid world
     → ((start : Lists) → MayRead script start old → LogsShowLists s.map (indexes_of s.boxes) start → (run : Run) → IsAtOpening run s → HasCome run s.map s.drawn (told_calls mid) → IsGoing start script run [] no_broken (unreplied script) (seen_in s mid first) s mid first parts.rows)
-    → GoesOnBy world ended mid new first last → AreIdle (lanes_of ended.rows) → IsStore new ended.store → WorldsBegin D → LanesEnd D → ScriptRan script old mid new first last s world ended
-script_ran script lanes prepared parts old mid new first last s world ended o show given are begun going goes idle later begin law = record {
+    → GoesOnBy turns world ended mid new first last → (ended.began ≡ world.began) × (length ended.replies ≡ length world.replies) → ((i : ℕ) → i < length ended.replies → (given : Reply) × HasReply ended.replies i given) → AreIdle (lanes_of ended.rows) → IsStore new ended.store → WorldsBegin D → LanesEnd D → ScriptRan script old mid new first last s world ended
+script_ran script lanes prepared parts old mid new first last s world ended turns o show given are begun going goes keeps replied idle later begin law = record {
   opened = o;
   show = show;
   unpurged = none_purges script prepared given;
+  fresh = subst (λ (rows : List LaneRow). AreFreshRows script rows) (sym (ap (λ (w : WorldValue _). w.rows) begun.2)) are.rows;
+  runs = ap (λ (w : WorldValue _). w.store.stopped) begun.2 ∙ o.running;
+  made_is = subst (λ (n : ℕ). IsMoment mid n) (sym (ap (λ (w : WorldValue _). w.began) begun.2)) begun.1;
   begins = λ start shows may. begins_from start script lanes parts old mid first s o world begin (going start may shows (beginning s.map o.store.entries) (at_opening old mid s o) (first_come old mid (told_calls mid) s o)) are shows may begun;
-  goes = goes;
+  turns = turns;
+  chain = goes;
+  same_began = keeps.0;
+  many = keeps.1 ∙ (ap (λ (w : WorldValue _). length w.replies) begun.2 ∙ (length_replicate parts.requests ∙ are.requests));
+  replied = replied;
   idle = idle;
   later = later;
   law = law;
 }
+  where
+    length_replicate : (n : ℕ) → length {A = Option Reply} (replicate n None) ≡ n
+    length_replicate zero = refl
+    length_replicate (suc n) = ap suc (length_replicate n)
 
 -- So its replies are given, and it is done.
-pub run_done : {D : Type 0} → (history : D → Option History) (faults : D → Faults) (script : Requests) (lanes : ℕ) (prepared : List (Option Prepared)) (parts : PartsValue) (old : Option History) (s : StoreValue D) (world ended : WorldValue D) → (o : OpenedNow old (history s.disk) s) → LogsShow → AreGiven script prepared → AreOfLanes lanes script → lanes ≤ 64
-    → ArePartsOf script lanes parts → HasNoTask s → LanesBegin D → WorldsBegin D → LanesEnd D → IsFreshWorld s parts (history s.disk) world → GoesOnBy world ended (history world.store.disk) (history ended.store.disk) (faults world.store.disk) (faults ended.store.disk) → AreIdle (lanes_of ended.rows) → IsStore (history ended.store.disk) ended.store → ((lists : Lists) × MayRead script lists old)
+pub run_done : {D : Type 0} → (history : D → Option History) (faults : D → Faults) (script : Requests) (lanes : ℕ) (prepared : List (Option Prepared)) (parts : PartsValue) (old : Option History) (s : StoreValue D) (world ended : WorldValue D) (turns : List ℕ) → (o : OpenedNow old (history s.disk) s) → LogsShow → AreGiven script prepared → AreOfLanes lanes script → lanes ≤ 64
+    → ArePartsOf script lanes parts → HasNoTask s → LanesBegin D → WorldsBegin D → LanesEnd D → IsFreshWorld s parts (history s.disk) world → GoesOnBy turns world ended (history world.store.disk) (history ended.store.disk) (faults world.store.disk) (faults ended.store.disk) → (ended.began ≡ world.began) × (length ended.replies ≡ length world.replies)
+    → ((i : ℕ) → i < length ended.replies → (given : Reply) × HasReply ended.replies i given) → AreIdle (lanes_of ended.rows) → IsStore (history ended.store.disk) ended.store
     → (given : List Reply) × (ended.replies ≡ map Some given) × IsScriptDone script given ended.journal old (history ended.store.disk) (faults s.disk) (faults ended.store.disk)
-run_done {D} history faults script lanes prepared parts old s world ended o show given in_lanes few are unused begin world_begin end begun goes idle later some =
+run_done {D} history faults script lanes prepared parts old s world ended turns o show given in_lanes few are unused begin world_begin end begun goes keeps replied idle later =
     script_done script old (history s.disk) (history ended.store.disk) (faults s.disk) (faults ended.store.disk) s world ended
-    (script_ran script lanes prepared parts old (history s.disk) (history ended.store.disk) (faults s.disk) (faults ended.store.disk) s world ended o show given are begun going went idle later world_begin end)
-    some
+    (script_ran script lanes prepared parts old (history s.disk) (history ended.store.disk) (faults s.disk) (faults ended.store.disk) s world ended turns o show given are begun going went keeps replied idle later world_begin end)
   where
     going : (start : Lists) → MayRead script start old → LogsShowLists s.map (indexes_of s.boxes) start → (run : Run) → IsAtOpening run s → HasCome run s.map s.drawn (told_calls (history s.disk)) → IsGoing start script run [] no_broken (unreplied script) (seen_in s (history s.disk) (faults s.disk)) s (history s.disk) (faults s.disk) parts.rows
     going start may shows run at come =
         begin start script run parts.rows s (history s.disk) (faults s.disk) at come unused o.running shows are.rows (of_lanes script lanes parts.rows are.many in_lanes) (subst (λ (n : ℕ). n ≤ 64) (sym are.many) few)
         (λ place lane name uid there. o.settled_again start (may (fetches script place lane name uid there)))
 
-    went : GoesOnBy world ended (history s.disk) (history ended.store.disk) (faults s.disk) (faults ended.store.disk)
-    went = subst (λ (t : StoreValue D). GoesOnBy world ended (history t.disk) (history ended.store.disk) (faults t.disk) (faults ended.store.disk)) (ap (λ (w : WorldValue D). w.store) begun.2) goes
+    went : GoesOnBy turns world ended (history s.disk) (history ended.store.disk) (faults s.disk) (faults ended.store.disk)
+    went = subst (λ (t : StoreValue D). GoesOnBy turns world ended (history t.disk) (history ended.store.disk) (faults t.disk) (faults ended.store.disk)) (ap (λ (w : WorldValue D). w.store) begun.2) goes
 
 -- what a world is taken apart into
 abbrev pub EndedParts : Type 0 → Type 0

@@ -1,7 +1,8 @@
 -- A script that lanes have served to its end, from the disk as it was before the store was opened.
-use Rattle.std.specs.Prelude.{◌≡◌, ◌<◌, ◌+◌, ℕ, zero, suc, false, true, List, [], ◌∷◌, length, map, slice_get, Option, Some, None, Contains}
+use Rattle.std.specs.Prelude.{◌≡◌, ◌<◌, ◌+◌, ℕ, zero, suc, false, true, List, [], ◌∷◌, All, length, map, slice_get, Option, Some, None, Contains}
 use Rattle.std.proofs.Common.{refl, sym, ◌∙◌, ap, subst, arith, inl, inr}
-use Rattle.disk_model.specs.Disk.{History, Faults, EachImage, IfTold}
+use Rattle.std.proofs.lemmas.List.Elements.{All-cons, All-nil}
+use Rattle.disk_model.specs.Disk.{History, Faults, EachImage, IfTold, IsIdle}
 use Rattle.disk_model.proofs.MomentLemmas.{each_image-map}
 use Rattle.mdbox_base.specs.declared.replies.Refusal.TheVariants as refusal
 use Rattle.mdbox_base.specs.declared.replies.Reply.{Reply}
@@ -14,7 +15,7 @@ use Rattle.model_store.specs.Opening.{Opens}
 use Rattle.model_store.specs.Safe.{Safe}
 use Rattle.model_store.specs.Settled.{files_of, IsSettledFor}
 use Rattle.list_machine.specs.Run.{Run}
-use Rattle.journal.specs.Journal.{Broken, HasReply, JournalStep, Requests, moment_of, no_broken}
+use Rattle.journal.specs.Journal.{Broken, HasReply, JournalStep, Requests, moment_of, no_broken, refusal_in}
 use Rattle.journal.specs.Makes.{IsServed, StaysStopped}
 use Rattle.journal.proofs.ReachedLemmas.{reached_last}
 use Rattle.serving.specs.Serving.{IsServing}
@@ -24,11 +25,11 @@ use Rattle.task_steps.specs.Serves.{IsReached, Serves}
 use Rattle.task_steps.specs.Step.{Seen}
 use Rattle.task_steps.proofs.OneEventLemmas.{not_true}
 use Rattle.mail_fetch.specs.Task.{seen_in}
-use Rattle.lanes.specs.Going.{IsGoing}
+use Rattle.lanes.specs.Going.{IsGoing, TellsDamage}
 use Rattle.lanes.specs.Rows.{LaneRow}
 use Rattle.lanes.specs.Worlds.{AreEntriesAt}
 use Rattle.script_run.specs.Opening.{LogsShowLists, RunBegins}
-use Rattle.script_run.specs.Script.{HasStopped, OpensShowing, ServesScript}
+use Rattle.script_run.specs.Script.{HasStopped, IsMadeBefore, IsRefusedAtOnce, OpensShowing, ServesScript}
 use Rattle.script_run.proofs.RunBeginsLemmas.{before_opening, first_map, run_ends}
 use Rattle.script_run.proofs.ShownLemmas.{opens_again}
 
@@ -73,14 +74,19 @@ all_given (first ∷ rest) each =
     let is : first ≡ Some h.0 = cc h.1 in
     (h.0 ∷ t.0, ap (λ (o : Option Reply). o ∷ rest) is ∙ ap (λ (rs : List (Option Reply)). Some h.0 ∷ rs) t.1)
 
+-- no reply says that a message is damaged
+pub unharmed : (given : List Reply) → ((i : ℕ) (one : Reply) → HasReply (map Some given) i one → TellsDamage (refusal_in one) → ⊥) → All (λ one. TellsDamage (refusal_in one) → ⊥) given
+unharmed [] none = All-nil (λ (one : Reply). TellsDamage (refusal_in one) → ⊥)
+unharmed (one ∷ rest) none = All-cons (λ (x : Reply). TellsDamage (refusal_in x) → ⊥) one rest (none 0 one refl) (unharmed rest (λ i x at. none (suc i) x at))
+
 -- ---- it ends
 
 -- The script was served: its lanes have come to their end, the store is stopped only if a reply says so, and the entries are the
 -- journal's.
-pub script_served : {D : Type 0} → (start : Lists) (script : Requests) (run : Run) (journal : List JournalStep) (broken : Broken) (given : List Reply) (entries : List JournalEntry) (began : Seen) (made : ℕ) (store : StoreValue D) (history : Option History) (faults : Faults) (rows : List LaneRow)
-    → IsGoing start script run journal broken (map Some given) began store history faults rows → StaysStopped run.events → IsStore history store → began.drawn ≡ began.map.highest → RunBegins run began.history → (store.stopped ≡ true → HasStopped given) → AreEntriesAt history made (moment_of run) journal entries
-    → ServesScript script start given entries began.faults faults began.history history
-script_served {D} start script run journal broken given entries began made store history faults rows g stays k opened begins stopped are = record {
+pub script_served : {D : Type 0} → (start : Lists) (script : Requests) (run : Run) (journal : List JournalStep) (broken : Broken) (given : List Reply) (entries : List JournalEntry) (began : Seen) (made : ℕ) (store : StoreValue D) (opened history : Option History) (faults : Faults) (rows : List LaneRow)
+    → IsGoing start script run journal broken (map Some given) began store history faults rows → StaysStopped run.events → IsStore history store → began.drawn ≡ began.map.highest → RunBegins run began.history → (store.stopped ≡ true → HasStopped given) → IsMadeBefore opened made run → AreEntriesAt history made (moment_of run) journal entries
+    → (All IsRefusedAtOnce run.events → IsIdle opened history) → ServesScript script start given entries began.faults faults began.history opened history
+script_served {D} start script run journal broken given entries began made store opened history faults rows g stays k drawn begins stopped made_is are refused = record {
   run = run;
   journal = journal;
   broken = broken;
@@ -90,11 +96,11 @@ script_served {D} start script run journal broken given entries began made store
   begins = begins;
   ends = λ unstopped. run_ends run store.map history k.entries k.logs (subst (λ (id : List ℕ). IfTold history (λ disk. Opens (files_of disk) id k.entries k.logs)) same (k.running (runs unstopped)).opens)
       (k.map_is ∙ ap (λ (id : List ℕ). map_meaning id k.entries) same);
-  shows = λ unstopped. (store.map, indexes_of store.boxes, opens_again history store k (runs unstopped), s.shown);
+  shows = λ unstopped. (indexes_of store.boxes, opens_again history store k (runs unstopped), s.shown);
   served = record {
     around = g.serving.follows.around;
     after = g.serving.follows.after;
-    begins = first_map run began.map began.drawn s.begins opened;
+    begins = first_map run began.map began.drawn s.begins drawn;
     next = g.serving.follows.next;
     found = g.serving.follows.found;
     told = g.serving.told;
@@ -109,7 +115,9 @@ script_served {D} start script run journal broken given entries began made store
   crash = s.crash;
   timely = s.timely;
   settled = λ unstopped. s.settled (runs unstopped);
+  made_is = made_is;
   entries_are = are;
+  refused = refused;
 }
   where
     s : Serves start script run journal broken (map Some given) began (seen_in store history faults)

@@ -1,3 +1,4 @@
+pub mod ChainLemmas
 pub mod DoneLemmas
 pub mod EndLemmas
 pub mod MailStaysLemmas
@@ -6,5 +7,7 @@ pub mod OpenedLemmas
 pub mod ReadFaultLemmas
 pub mod RunBeginsLemmas
 pub mod ShownLemmas
+pub mod SinceLemmas
 pub mod SomeListsLemmas
 pub mod StillLemmas
+pub mod ToldLemmas

@@ -1,5 +1,5 @@
 -- The counts of a disk's faults, by the replies of a script.
-use Rattle.std.specs.Prelude.{◌≤◌, List, Contains, count_by, map, Some}
+use Rattle.std.specs.Prelude.{◌≡◌, ◌≤◌, List, Contains, count_by, map, Some}
 use Rattle.disk_model.specs.Disk.{Faults}
 use Rattle.disk_model.specs.FaultCounts.{NoFault}
 use Rattle.mdbox_base.specs.Streams.{Rose}
@@ -14,9 +14,17 @@ abbrev pub HasReadFault : List Reply → Type 0
 HasReadFault given = Contains given (reply.Refused refusal.ReadFault)
 
 -- They never fall. That of failed reads rose by as many at least as replies say that a read failed, and that of failed changes rose if
--- a reply says that the store is stopped. Where no reply says either, no call failed.
+-- a reply says that the store is stopped, and else stayed. Where no reply says either, no call failed.
 pub record FaultsByReplies (given : List Reply) (began now : Faults) : Type 0 where
+  pub counted : began.reads ≤ now.reads
   pub reads : RoseBy (count_by is_read_fault (map Some given)) began.reads now.reads
   pub changes : began.changes ≤ now.changes
   pub stopped : HasStopped given → Rose began.changes now.changes
+  pub unchanged : (HasStopped given → ⊥) → now.changes ≡ began.changes
   pub quiet : (HasReadFault given → ⊥) → (HasStopped given → ⊥) → NoFault began now
+
+-- What is said of them of every script, whatever the disk.
+pub record CountsStay (given : List Reply) (began now : Faults) : Type 0 where
+  pub counted : began.reads ≤ now.reads
+  pub changes : began.changes ≤ now.changes
+  pub unchanged : (HasStopped given → ⊥) → now.changes ≡ began.changes

@@ -1,4 +1,5 @@
 pub mod Done
 pub mod Faults
+pub mod One
 pub mod Opening
 pub mod Script

@@ -1,10 +1,18 @@
-// What the logs show of files that are safe.
-ghost use Rattle.disk_model.specs.Disk.{History};
-ghost use Rattle.std.specs.Prelude.{ℕ, List, Option};
+// What the logs show of files that are safe, and what a script of one request makes of them.
+ghost use Rattle.disk_model.specs.Disk.{Faults, History};
+ghost use Rattle.std.specs.Prelude.{◌≡◌, ◌≤◌, ◌∷◌, [], ℕ, List, length, Option, Some};
+ghost use Rattle.mdbox_base.specs.declared.replies.Reply.{Reply};
+ghost use Rattle.mdbox_base.specs.declared.requests.Request.{Request};
+ghost use Rattle.mdbox_base.specs.declared.script.JournalEntry.{JournalEntry};
 ghost use Rattle.model_lists.specs.Lists.{Lists};
 ghost use Rattle.model_meaning.specs.BoxMeaning.{BoxMeaning};
 ghost use Rattle.model_meaning.specs.MapMeaning.{MapMeaning};
+ghost use Rattle.model_store.specs.Settled.{IsSettledFor};
+ghost use Rattle.list_machine.specs.Run.{Run};
+ghost use Rattle.journal.specs.Journal.{IsLegal, JournalStep, left_by};
 ghost use Rattle.store_open.specs.Opened.{IsOpenedAs};
+ghost use Rattle.script_run.specs.Done.{IsScriptDone, MayRead};
+ghost use Rattle.script_run.specs.One.{AreListsTold, IsUnfailed, ServesRequest, alone};
 ghost use Rattle.script_run.specs.Opening.{AreSafeFor, LogsShowLists};
 
 use store_core::listings_are_shown;
@@ -19,4 +27,13 @@ pub fn safe_files_are_shown()
 /// Whatever logs a store opens with show some lists.
 pub fn opened_logs_show_lists()
     ensures { (old : Option History) (m : MapMeaning) (meanings : List BoxMeaning) → IsOpenedAs old m meanings → (lists : Lists) × LogsShowLists m meanings lists }
+{}
+
+/// A script of one request was served, as one request is, from any lists for which the files were safe. Its journal has two steps at the
+/// most; and unless a call of the disk failed, it leaves the lists that the reply tells.
+pub fn one_request()
+    ensures serves { (asked : Request) (given : Reply) (entries : List JournalEntry) (old new : Option History) (began now : Faults) → IsScriptDone (alone asked) (given ∷ []) entries old new began now → (lists : Lists) → AreSafeFor lists old → MayRead (alone asked) lists old → ServesRequest asked lists given began now old new }
+    ensures few { (start : Lists) (asked : Request) (run : Run) (journal : List JournalStep) (given : Reply) (old new : Faults) → IsLegal start (alone asked) run journal (Some given ∷ []) old new → length journal ≤ 2 }
+    ensures left { (start : Lists) (asked : Request) (run : Run) (journal : List JournalStep) (given : Reply) (old new : Faults) → IsLegal start (alone asked) run journal (Some given ∷ []) old new → IsUnfailed given → AreListsTold asked given start (left_by start journal) }
+    ensures settled { (asked : Request) (given : Reply) (lists : Lists) (began now : Faults) (old new : Option History) → ServesRequest asked lists given began now old new → IsUnfailed given → IsSettledFor lists old → (later : Lists) × AreListsTold asked given lists later × IsSettledFor later new }
 {}

@@ -1,7 +1,7 @@
 //! The run of a script: the store is opened, lanes serve the requests to their end, and the replies are given.
 #![tactic(auto)]
 
-pub use laws::{opened_logs_show_lists, safe_files_are_shown};
+pub use laws::{one_request, opened_logs_show_lists, safe_files_are_shown};
 pub use run::{ScriptRun, run_script};
 
 mod laws;

@@ -1,14 +1,15 @@
 // The run of a script.
 ghost use Rattle.std.specs.Prelude.{◌≡◌, ◌≤◌, List, Some, length, map, IfErr, IfOk};
 ghost use Rattle.mdbox_base.specs.declared.replies.Reply.{Reply as ReplyValue};
-ghost use Rattle.model_lists.specs.Lists.{Lists};
 ghost use Rattle.lanes.specs.Worlds.{AreGiven, AreOfLanes};
-ghost use Rattle.script_run.specs.Done.{IsScriptDone, MayRead};
+ghost use Rattle.script_run.specs.Done.{IsScriptDone};
 ghost use Rattle.script_run.specs.Opening.{IsUnopened};
 
 use attach_detach::Prepared;
 use disk_model::Disk;
-use lanes::{World, WorldParts, lanes_begin, lanes_end, worlds_begin};
+use lanes::{
+    World, WorldParts, idle_worlds_have_replied, lanes_begin, lanes_end, worlds_begin, worlds_go_on,
+};
 use mdbox_base::{JournalEntry, Reply, Script, Seq};
 use std::alloc::Global;
 use store_core::listings_are_shown;
@@ -34,13 +35,15 @@ pub fn run_script<D: Disk>(
     requires lanes { (1 ≤ script.lanes) × (script.lanes ≤ 64) × AreOfLanes script.lanes script.requests }
     requires few { length script.requests ≤ 100000 }
     requires given { AreGiven script.requests prepared }
-    ensures done { IfOk result (λ done. ((lists : Lists) × MayRead script.requests lists (D.history disk)) → (given : List ReplyValue) × (done.replies ≡ map Some given) × IsScriptDone script.requests given done.journal (D.history disk) (D.history done.disk) (D.faults disk) (D.faults done.disk)) }
+    ensures done { IfOk result (λ done. (given : List ReplyValue) × (done.replies ≡ map Some given) × IsScriptDone script.requests given done.journal (D.history disk) (D.history done.disk) (D.faults disk) (D.faults done.disk)) }
     ensures refused { IfErr result (λ refused. IsUnopened refused.error (D.history disk) (D.history refused.disk) (D.faults disk) (D.faults refused.disk)) }
 {
     listings_are_shown();
     lanes_begin::<D>();
     worlds_begin::<D>();
     lanes_end::<D>();
+    worlds_go_on::<D>();
+    idle_worlds_have_replied::<D>();
     let lanes = script.lanes;
     let Ok(parts) = WorldParts::of(alloc, script, prepared) else {
         return Err(OpenRefused {
@@ -53,6 +56,7 @@ pub fn run_script<D: Disk>(
             store.facts();
             let mut world = World::of(store, parts);
             world.finish();
+            world.known_facts();
             let (store, replies, journal, _broken) = world.into_parts();
             store.facts();
             Ok(ScriptRun {

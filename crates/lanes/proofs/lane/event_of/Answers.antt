@@ -19,6 +19,7 @@ returns g c = (
     stopped = c.step-ended.ensures.stopped;
     halted = c.step-ended.ensures.halted;
     undoomed = c.step-ended.ensures.undoomed;
+    keeps = c.step-ended.ensures.keeps;
     store = c.facts.ensures.store;
     ordered = c.facts.ensures.files;
     image = g.met.D.Disk.reads_image c.args.store.now.disk;

@@ -1,7 +1,7 @@
-use Rattle.std.proofs.Common.{◌≡◌, ◌≤◌, ◌<◌, ℕ, Some, None, slice_get}
-use Rattle.lanes.specs.Rows.{LaneRow}
+use Rattle.std.proofs.Common.{◌+◌}
+use Rattle.lanes.specs.Worlds.{AreIdleBetween}
 use Rattle.lanes.proofs.world.first_busy.Given as goal
 
--- the lanes before this place have no request left
+-- the lanes up to this place have no request left
 abbrev pub invariant-loop-place : goal.invariant-loop-place
-invariant-loop-place l = (k : ℕ) (row : LaneRow) → l.fn.after ≤ k → k < l.place → slice_get l.lanes k ≡ Some row → row.current ≡ None
+invariant-loop-place l = AreIdleBetween l.fn.after (l.place + 1) l.lanes

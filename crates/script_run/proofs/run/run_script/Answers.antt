@@ -56,7 +56,10 @@ returns-in-Ok-open_store-clause-done g c =
       reads = g.met.D.Disk.reads_image s.disk;
       closed_well = o.closed_well;
     } in
+    let kept = c.worlds_go_on.ensures.keeps c.finish.ensures.goes.0 c.of-world.result ended _ _ _ _ c.finish.ensures.goes.1 in
     let later = subst (λ (p : EndedParts _). IsStore (history p.0.disk) p.0) c.into_parts-store.ensures c.facts-in-Ok-open_store.ensures.store in
-    λ some. handed_back history faults c.args.script.requests (history c.args.disk) (faults s.disk) (faults c.args.disk) ended c.into_parts-store.result c.into_disk.result c.into_parts-store.ensures c.into_disk.ensures (o.unfailed (λ f. f))
-    (run_done history faults c.args.script.requests c.args.script.lanes c.args.prepared c.in-Ok.parts (history c.args.disk) s c.of-world.result ended opened c.listings_are_shown.ensures.logs c.requires.given c.requires.lanes.2 c.requires.lanes.1 c.in-Ok.ensures
-    (no_task (history c.args.disk) (history s.disk) s opened c.facts.ensures.ids o.made) c.lanes_begin.ensures c.worlds_begin.ensures c.lanes_end.ensures c.of-world.ensures c.finish.ensures.goes c.finish.ensures.idle later some)
+    handed_back history faults c.args.script.requests (history c.args.disk) (faults s.disk) (faults c.args.disk) ended c.into_parts-store.result c.into_disk.result c.into_parts-store.ensures c.into_disk.ensures (o.unfailed (λ f. f))
+    (run_done history faults c.args.script.requests c.args.script.lanes c.args.prepared c.in-Ok.parts (history c.args.disk) s c.of-world.result ended c.finish.ensures.goes.0 opened c.listings_are_shown.ensures.logs c.requires.given c.requires.lanes.2 c.requires.lanes.1 c.in-Ok.ensures
+    (no_task (history c.args.disk) (history s.disk) s opened c.facts.ensures.ids o.made) c.lanes_begin.ensures c.worlds_begin.ensures c.lanes_end.ensures c.of-world.ensures c.finish.ensures.goes.1
+    (kept.began, kept.requests)
+    (c.idle_worlds_have_replied.ensures ended _ c.known_facts.ensures c.finish.ensures.idle) c.finish.ensures.idle later)

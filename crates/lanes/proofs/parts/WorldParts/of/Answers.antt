@@ -1,5 +1,7 @@
 use Rattle.std.proofs.Common.{rules, ◌≡◌, ◌≤◌, ◌+◌, ◌*◌, [], ℕ, List, Option, None, length, replicate, vec_len, refl, sym, ◌∙◌, ap, subst, arith}
 use Rattle.mdbox_base.specs.declared.replies.Reply.{Reply}
+use Rattle.mdbox_base.specs.declared.script.JournalEntry.{JournalEntry}
+use Rattle.serving.specs.Turns.{LaneTurn}
 use Rattle.lanes.specs.Worlds.{AreRowsFrom}
 use Rattle.lanes.proofs.PartsLemmas.{parts_fresh, parts_of, replies_many}
 use Rattle.lanes.proofs.parts.WorldParts.of.Goals as goal
@@ -14,22 +16,26 @@ invariant_of-result c =
     let zeros : c.in_ok-vec.field-0.items ≡ replicate c.args.script.lanes 0 = search rules in
     let journal_room = c.in_ok-with_capacity.ensures.capacity in
     let turns_room = c.in_ok-with_capacity-3.ensures.capacity in (
-      parts_fresh c.args.script.requests c.args.script.lanes (length c.in_ok-no_replies.field-0.items) c.in_ok-lanes_for.field-0.items from (many ∙ requests) c.requires.few,
-      c.in_ok-lanes_for.ensures.0,
-      c.in_ok-no_replies.field-0.ok.0,
-      items ∙ ap (λ (n : ℕ). replicate n None) (sym many),
-      zeros ∙ ap (λ (n : ℕ). replicate n 0) (sym lanes),
-      c.in_ok-vec.field-0.ok.0,
-      c.in_ok-with_capacity.ensures.items,
-      c.in_ok-with_capacity.ensures.len,
-      omega (arith, many, journal_room),
-      c.in_ok-with_capacity-2.ensures.items,
-      c.in_ok-with_capacity-2.ensures.len,
-      c.in_ok-with_capacity-2.ensures.capacity,
-      c.in_ok-with_capacity-3.ensures.items,
-      c.in_ok-with_capacity-3.ensures.len,
-      turns_room,
-      omega (arith, many, lanes),
+      parts_fresh c.args.script.requests c.args.script.lanes (length c.in_ok-no_replies.field-0.items) c.in_ok-lanes_for.field-0.items from c.requires.lanes.2 (many ∙ requests) c.requires.few,
+      record {
+        lanes_are = c.in_ok-lanes_for.ensures.0;
+        replies_are = c.in_ok-no_replies.field-0.ok.0;
+        replied_are = c.in_ok-vec.field-0.ok.0;
+        journal_is = c.in_ok-with_capacity.ensures.len ∙ sym (ap (λ (es : List JournalEntry). length es) c.in_ok-with_capacity.ensures.items);
+        journal_room = omega (arith, many, journal_room);
+        broken_is = c.in_ok-with_capacity-2.ensures.len ∙ sym (ap (λ (es : List JournalEntry). length es) c.in_ok-with_capacity-2.ensures.items);
+        broken_room = c.in_ok-with_capacity-2.ensures.capacity;
+        turns_are = c.in_ok-with_capacity-3.ensures.len ∙ sym (ap (λ (ts : List LaneTurn). length ts) c.in_ok-with_capacity-3.ensures.items);
+        turns_room = turns_room;
+      },
+      record {
+        unreplied = items ∙ ap (λ (n : ℕ). replicate n None) (sym many);
+        none_replied = zeros ∙ ap (λ (n : ℕ). replicate n 0) (sym lanes);
+        no_entries = c.in_ok-with_capacity.ensures.items;
+        none_broken = c.in_ok-with_capacity-2.ensures.items;
+        no_turns = c.in_ok-with_capacity-3.ensures.items;
+        room_is = omega (arith, many, lanes);
+      },
     )
 
 pub returns : goal.returns

@@ -4,7 +4,7 @@ use Rattle.std.specs.Result.{is_ok}
 use Rattle.std.proofs.lemmas.Option.{slice_get-get_or}
 use Rattle.serving.specs.Turns.{LaneTurn}
 use Rattle.lanes.specs.Rows.{LaneRow}
-use Rattle.lanes.specs.Worlds.{IsIdleLane, IsLaneEvent, WorldValue, turn_of}
+use Rattle.lanes.specs.Worlds.{IsIdleLane, IsLaneEvent, WorldValue, turn_of, world_value}
 use Rattle.lanes.specs.declared.lane.Queued.{Queued}
 use Rattle.lanes.proofs.SoundLemmas.{not_idle}
 use Rattle.lanes.proofs.TraceLemmas.{idle_turn, lane_turn}
@@ -20,7 +20,9 @@ returns-then-idle-clause-idle g c = λ is.
     c.push.ensures.items ∙ ap (λ (b : Bool). if b then c.self.inside.turns.items ++ turn_of c.args.lane c.is_idle-idle.result ∷ [] else c.self.inside.turns.items) ok in
     let none = c.is_idle-idle.ensures.idle c.if-idle.true in
     let turns_are = pushed ∙ ap (λ (b : Bool). c.self.inside.turns.items ++ turn_of c.args.lane b ∷ []) c.if-idle.true in
-    idle_turn c.args.lane (record { store = c.self.inside.store; rows = c.self.inside.lanes.items; replies = c.self.inside.replies.items; replied = c.self.inside.replied.items; journal = c.self.inside.journal.items; broken = c.self.inside.broken.items; began = c.self.inside.began; turns = c.self.inside.turns.items; turn_room = c.self.inside.turn_room; finished = c.self.inside.finished }) c.args.self.now c.push.new.self.items c.self.view_is turns_are (c.index.result.now, there, none.0, none.1)
+    idle_turn c.args.lane
+    (world_value c.self.inside.store c.self.inside.lanes.items c.self.inside.replies.items c.self.inside.replied.items c.self.inside.journal.items c.self.inside.broken.items c.self.inside.began c.self.inside.turns.items c.self.inside.turn_room c.self.inside.finished)
+    c.args.self.now c.push.new.self.items c.self.view_is turns_are (c.index.result.now, there, none.0, none.1)
 
 pub work-requires-clause-busy : goal.work-requires-clause-busy
 work-requires-clause-busy g c =
@@ -35,4 +37,6 @@ returns-clause-worked g c = λ is.
     let pushed : c.push.new.self.items ≡ c.self.inside.turns.items ++ turn_of c.args.lane c.is_idle-idle.result ∷ [] =
     c.push.ensures.items ∙ ap (λ (b : Bool). if b then c.self.inside.turns.items ++ turn_of c.args.lane c.is_idle-idle.result ∷ [] else c.self.inside.turns.items) ok in
     let turns_are = pushed ∙ ap (λ (b : Bool). c.self.inside.turns.items ++ turn_of c.args.lane b ∷ []) c.if-idle.false in
-    lane_turn g.D.Disk.history g.D.Disk.faults c.args.lane (record { store = c.self.inside.store; rows = c.self.inside.lanes.items; replies = c.self.inside.replies.items; replied = c.self.inside.replied.items; journal = c.self.inside.journal.items; broken = c.self.inside.broken.items; began = c.self.inside.began; turns = c.self.inside.turns.items; turn_room = c.self.inside.turn_room; finished = c.self.inside.finished }) c.args.self.now c.work.new.self c.push.new.self.items c.self.view_is turns_are c.requires.lane.0 c.self.invariant.0 c.work.ensures.works
+    lane_turn g.D.Disk.history g.D.Disk.faults c.args.lane
+    (world_value c.self.inside.store c.self.inside.lanes.items c.self.inside.replies.items c.self.inside.replied.items c.self.inside.journal.items c.self.inside.broken.items c.self.inside.began c.self.inside.turns.items c.self.inside.turn_room c.self.inside.finished)
+    c.args.self.now c.work.new.self c.push.new.self.items c.self.view_is turns_are c.requires.lane.0 c.self.invariant.0 c.work.ensures.works

@@ -1,18 +1,35 @@
-use Rattle.std.proofs.Common.{◌-◌, refl, ◌∙◌}
-use Rattle.lanes.proofs.TraceLemmas.{as_finished, goes_ended, goes_more, goes_none}
+use Rattle.std.proofs.Common.{◌++◌, ◌∷◌, [], ℕ, refl, sym, ◌∙◌, ap, subst}
+use Rattle.lanes.specs.Worlds.{GoesInRounds, IsNextBusy, WorldValue, world_value}
+use Rattle.lanes.proofs.RoundLemmas.{last_more, last_of, rounds_more}
+use Rattle.lanes.proofs.TraceLemmas.{as_finished, finishing}
 use Rattle.lanes.proofs.world.World.finish.Goals as goal
 
 pub loop-lane-init : goal.loop-lane-init
-loop-lane-init g c = record { goes = goes_none (as_finished c.args.self.now) (g.D.Disk.history c.args.self.now.store.disk) (g.D.Disk.faults c.args.self.now.store.disk); turns = refl; room = refl; began = refl }
+loop-lane-init g c = record { lanes = []; goes = (refl, refl, refl); last = refl; turns = refl }
+
+-- it is a lane, and has a request left
+pub work-requires-clause-lane : goal.work-requires-clause-lane
+work-requires-clause-lane g c = c.in-Some.ensures.some.is_lane
+
+pub work-requires-clause-busy : goal.work-requires-clause-busy
+work-requires-clause-busy g c = c.in-Some.ensures.some.busy
 
 pub loop-lane-preserved : goal.loop-lane-preserved
 loop-lane-preserved g c =
-    let w = c.work.ensures.works in record {
-      goes = goes_more (c.in-Some.lane - 1) c.args.self.now c.loop-lane.self c.work.new.self _ _ _ _ _ _ c.loop-lane.invariant.goes w c.known_facts.ensures;
-      turns = w.turns_are ∙ c.loop-lane.invariant.turns;
-      room = w.room_is ∙ c.loop-lane.invariant.room;
-      began = w.began_is ∙ c.loop-lane.invariant.began;
+    let i = c.loop-lane.invariant in
+    let busy = c.in-Some.ensures.some in
+    let e = finishing c.in-Some.lane c.loop-lane.self c.work.new.self _ _ _ _ busy.is_lane.0 c.work.ensures.works c.known_facts.ensures in record {
+      lanes = i.lanes ++ c.in-Some.lane ∷ [];
+      goes = rounds_more 0 c.in-Some.lane i.lanes (as_finished c.args.self.now) (as_finished c.loop-lane.self) (as_finished c.work.new.self) _ _ _ _ _ _ i.goes (subst (λ (n : ℕ). IsNextBusy n c.in-Some.lane c.loop-lane.self.rows) i.last busy) e.0 e.1;
+      last = sym (last_more 0 c.in-Some.lane i.lanes);
+      turns = e.1 ∙ i.turns;
     }
 
 pub returns-clause-goes : goal.returns-clause-goes
-returns-clause-goes g c = goes_ended g.D.Disk.history g.D.Disk.faults c.args.self.now (record { store = c.self.inside.store; rows = c.self.inside.lanes.items; replies = c.self.inside.replies.items; replied = c.self.inside.replied.items; journal = c.self.inside.journal.items; broken = c.self.inside.broken.items; began = c.self.inside.began; turns = c.self.inside.turns.items; turn_room = c.self.inside.turn_room; finished = c.self.inside.finished }) c.loop-lane.self c.self.view_is c.loop-lane.invariant.goes
+returns-clause-goes g c =
+    let i = c.loop-lane.invariant in
+    let H = g.D.Disk.history in
+    let F = g.D.Disk.faults in (
+      i.lanes,
+      subst (λ (v : WorldValue _). GoesInRounds 0 i.lanes (as_finished c.args.self.now) (as_finished v) (H c.args.self.now.store.disk) (H v.store.disk) (F c.args.self.now.store.disk) (F v.store.disk)) (sym c.self.view_is) i.goes,
+    )

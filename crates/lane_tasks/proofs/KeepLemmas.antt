@@ -1,0 +1,266 @@
+-- What an event of a task keeps, by its kind.
+use Rattle.std.specs.Prelude.{◌↔◌, ◌⊎◌}
+use Rattle.std.proofs.Common.{◌≡◌, ◌≤◌, ℕ, Bool, true, false, List, Option, Some, None, refl, sym, ◌∙◌, ap, subst, arith, inl, inr}
+use Rattle.disk_model.specs.Disk.{History, Faults, Grows, IsIdle, DiskState, told_calls}
+use Rattle.disk_model.specs.declared.name.FileName.TheVariants as file
+use Rattle.disk_model.specs.FaultCounts.{NoFault, ChangeFaultCounted}
+use Rattle.disk_model.proofs.IdleLemmas.{idle-begins}
+use Rattle.mdbox_base.specs.declared.progress.Progress.{Progress}
+use Rattle.mdbox_base.specs.declared.progress.Progress.TheVariants as progress
+use Rattle.mdbox_base.specs.declared.replies.Refusal.TheVariants as refusal
+use Rattle.mdbox_base.specs.declared.replies.Reply.TheVariants as reply
+use Rattle.model_kept.specs.Kept.{MailIsKept}
+use Rattle.model_kept.proofs.KeptLemmas.{kept_idle}
+use Rattle.model_meaning.specs.MapMeaning.{MapMeaning}
+use Rattle.store_core.specs.Value.{StoreValue}
+use Rattle.task_claims.specs.Leaving.{SyncsMail}
+use Rattle.task_steps.proofs.UnmovedLemmas.{mail_still}
+use Rattle.mail_ops.specs.SparedMail.{SparesMail}
+use Rattle.mail_fetch.specs.Clause.{FetchesAlone}
+use Rattle.mail_fetch.specs.Task.{FetchValue}
+use Rattle.mail_save.specs.Task.{EndsSave, FaultsAt, SaveValue, Saves}
+use Rattle.attach_detach.specs.declared.message.Prepared.{Prepared}
+use Rattle.list_machine.specs.Machine.{is_step}
+use Rattle.mdbox_base.specs.declared.ids.Uid.{Uid}
+use Rattle.mdbox_base.specs.declared.replies.Refusal.{Refusal}
+use Rattle.mdbox_base.specs.declared.replies.Reply.{Reply}
+use Rattle.mdbox_base.specs.declared.requests.Request.{Request}
+use Rattle.mdbox_base.specs.declared.requests.Request.TheVariants as request
+use Rattle.task_steps.specs.Step.{ended_by}
+use Rattle.mail_ops.specs.Copy.{CopyAnswers}
+use Rattle.mail_ops.specs.Event.{refusal_told}
+use Rattle.mail_ops.specs.Expunging.{ExpungeAnswers}
+use Rattle.mail_ops.specs.Flagging.{flag_refusal}
+use Rattle.mail_ops.specs.Making.{IsLogNotMade, MakeAnswers}
+use Rattle.mail_ops.specs.Moving.{MoveAnswers}
+use Rattle.mail_ops.specs.Requests.{AppendsNothing, Replies}
+use Rattle.mail_ops.specs.declared.copy.CopyStage.{CopyStage}
+use Rattle.mail_ops.specs.declared.copy.CopyStage.TheVariants as copy_stage
+use Rattle.mail_ops.specs.declared.event.NotDone.{NotDone}
+use Rattle.mail_ops.specs.declared.event.NotDone.TheVariants as not_done
+use Rattle.mail_ops.specs.declared.expunging.ExpungeStage.{ExpungeStage}
+use Rattle.mail_ops.specs.declared.expunging.ExpungeStage.TheVariants as expunge_stage
+use Rattle.mail_ops.specs.declared.making.MakeStage.{MakeStage}
+use Rattle.mail_ops.specs.declared.making.MakeStage.TheVariants as make_stage
+use Rattle.mail_ops.specs.declared.moving.MoveStage.{MoveStage}
+use Rattle.mail_ops.specs.declared.moving.MoveStage.TheVariants as move_stage
+use Rattle.mail_save.specs.SaveEffects.{SaveEffects}
+use Rattle.mail_save.specs.declared.task.SaveStage.{SaveStage}
+use Rattle.mail_save.specs.declared.task.SaveStage.TheVariants as save_stage
+use Rattle.lane_tasks.specs.Clause.{IsAtStart, IsSameKind, TaskKeeps, OnlyReads, WritesTask}
+use Rattle.lane_tasks.specs.declared.task.Task.{Task}
+use Rattle.lane_tasks.specs.declared.task.Task.TheVariants as task
+use Rattle.lane_tasks.proofs.StepLemmas.{ran_before}
+
+-- ---- the disk
+
+grows_kept : (m : MapMeaning) (before after : Option History) → MailIsKept m before after → Grows before after
+grows_kept m None after kept = subst (λ (h : Option History). told_calls None ≤ told_calls h) (sym kept) (omega arith)
+grows_kept m (Some h) None kept = absurd kept
+grows_kept m (Some h) (Some g) kept = kept.later
+
+syncs_idle : (before after : Option History) → IsIdle before after → SyncsMail before after
+syncs_idle None after idle = idle.same
+syncs_idle (Some h) None idle = absurd idle.same
+syncs_idle (Some h) (Some g) idle = (λ number. inl (ap (λ (disk : DiskState). disk (file.Mail number)) idle.same), λ hash id. inl (ap (λ (disk : DiskState). disk (file.Inst hash id)) idle.same))
+
+-- ---- a store in which nothing happened
+
+abbrev Same : {D : Type 0} → (D → Option History) → (D → Faults) → Task → Task → StoreValue D → StoreValue D → Option Reply → Type 0
+Same history faults t next old new ended = TaskKeeps t next old new (history old.disk) (history new.disk) (faults old.disk) (faults new.disk) ended
+
+pub keeps_still : {D : Type 0} → (history : D → Option History) (faults : D → Faults) (t next : Task) (old new : StoreValue D) (ended : Option Reply) → IsSameKind t next → (new.stopped ≡ false → SyncsMail (history old.disk) (history old.disk) → WritesTask t next old (history old.disk) (history old.disk)) → new ≡ old → Same history faults t next old new ended
+keeps_still history faults t next old new ended kind writes same =
+    subst (λ (d : _). TaskKeeps t next old new (history old.disk) (history d) (faults old.disk) (faults d) ended) (sym (ap (λ (s : StoreValue _). s.disk) same))
+    (record {
+      kind = kind;
+      grows = omega arith;
+      mail = λ m kept. mail_still m (history old.disk);
+      reads = omega arith;
+      changes = omega arith;
+      unfailed = λ runs. refl;
+      fell = λ ran stops. absurd (let k : true ≡ false = sym stops ∙ (ap (λ (s : StoreValue _). s.stopped) same ∙ ran) in cc k);
+      idle = λ reads. (idle-begins (history old.disk), refl, ap (λ (s : StoreValue _). s.stopped) same);
+      refused = λ why begun e step. idle-begins (history old.disk);
+      left = λ runs. writes runs (syncs_idle (history old.disk) (history old.disk) (idle-begins (history old.disk)));
+    })
+
+-- ---- of a task that changes logs at the most
+
+abbrev IsStoppedReply : Progress → Type 0
+IsStoppedReply answer = answer ≡ progress.Done (reply.Refused refusal.Stopped)
+
+pub keeps_by : {D : Type 0} → (history : D → Option History) (faults : D → Faults) (t next : Task) (old new : StoreValue D) (answer : Progress) → IsSameKind t next → SparesMail (new.stopped ≡ old.stopped) (history old.disk) (history new.disk) → (IsStoppedReply answer ↔ (new.stopped ≡ true)) → (old.stopped ≡ true → new ≡ old)
+    → (old.stopped ≡ false → ChangeFaultCounted (IsStoppedReply answer) (faults old.disk) (faults new.disk)) → ((IsStoppedReply answer → ⊥) → NoFault (faults old.disk) (faults new.disk)) → (OnlyReads t → new ≡ old) → ((why : Refusal) → IsAtStart t → old.stopped ≡ false → answer ≡ progress.Done (reply.Refused why) → is_step why ≡ true → new ≡ old)
+    → (SyncsMail (history old.disk) (history new.disk) → WritesTask t next old (history old.disk) (history new.disk)) → Same history faults t next old new (ended_by answer)
+keeps_by history faults t next old new answer kind mail halts still fault unfailed reads refused writes = record {
+  kind = kind;
+  grows = grows_kept old.map (history old.disk) (history new.disk) (mail.stays old.map);
+  mail = λ m kept. mail.stays m;
+  reads = by_run old.stopped refl;
+  changes = more old.stopped refl;
+  unfailed = λ runs. ap (λ (f : Faults). f.changes) (unfailed (λ e. absurd (let k : true ≡ false = sym (halts.0 e) ∙ runs in cc k)));
+  fell = λ ran stops. ((fault ran).rose (halts.1 stops), (fault ran).reads);
+  idle = λ r. (
+    idle_same (reads r),
+    subst (λ (d : _). (faults d).changes ≡ (faults old.disk).changes) (sym (disk_same (reads r))) refl,
+    ap (λ (s : StoreValue _). s.stopped) (reads r),
+  );
+  refused = λ why begun e step. idle_same (by_stop why begun (answered answer why e) step old.stopped refl);
+  left = λ runs. writes (mail.left (runs ∙ sym (ran_before old.stopped new.stopped (λ was. ap (λ (s : StoreValue _). s.stopped) (still was) ∙ was) runs)));
+}
+  where
+    disk_same : new ≡ old → new.disk ≡ old.disk
+    disk_same same = ap (λ (s : StoreValue _). s.disk) same
+
+    idle_same : new ≡ old → IsIdle (history old.disk) (history new.disk)
+    idle_same same = subst (λ (d : _). IsIdle (history old.disk) (history d)) (sym (disk_same same)) (idle-begins (history old.disk))
+
+    answered : (a : Progress) (why : Refusal) → ended_by a ≡ Some (reply.Refused why) → a ≡ progress.Done (reply.Refused why)
+    answered progress.More why e = absurd (let n : None ≡ Some (reply.Refused why) = e in cc n)
+    answered (progress.Done given) why e = (let n : Some given ≡ Some (reply.Refused why) = e in let z : given ≡ reply.Refused why = cc n in ap progress.Done z)
+
+    by_stop : (why : Refusal) → IsAtStart t → answer ≡ progress.Done (reply.Refused why) → is_step why ≡ true → (b : Bool) → old.stopped ≡ b → new ≡ old
+    by_stop why begun e step true was = still was
+    by_stop why begun e step false ran = refused why begun ran e step
+
+    by_run : (b : Bool) → old.stopped ≡ b → (faults old.disk).reads ≤ (faults new.disk).reads
+    by_run true was = subst (λ (d : _). (faults old.disk).reads ≤ (faults d).reads) (sym (disk_same (still was))) (omega arith)
+    by_run false ran = let same = (fault ran).reads in omega (arith, same)
+
+    more : (b : Bool) → old.stopped ≡ b → (faults old.disk).changes ≤ (faults new.disk).changes
+    more true was = subst (λ (d : _). (faults old.disk).changes ≤ (faults d).changes) (sym (disk_same (still was))) (omega arith)
+    more false ran = (fault ran).changes
+
+-- ---- of a fetch
+
+pub keeps_fetching : {D : Type 0} → (t next : FetchValue) (name : List ℕ) (uid : ℕ) (old new : StoreValue D) (before after : Option History) (began now : Faults) (answer : Progress) → FetchesAlone name uid t.stage next.stage next.did answer old new before after began now → new.stopped ≡ old.stopped
+    → TaskKeeps (task.Fetch t) (task.Fetch next) old new before after began now (ended_by answer)
+keeps_fetching t next name uid old new before after began now answer alone same = record {
+  kind = tt;
+  grows = grows_kept old.map before after (kept_idle old.map before after alone.idle);
+  mail = λ m kept. kept_idle m before after alone.idle;
+  reads = alone.fault.reads;
+  changes = (let same = alone.fault.changes in omega (arith, same));
+  unfailed = λ runs. alone.fault.changes;
+  fell = λ ran stops. absurd (let k : true ≡ false = sym stops ∙ (same ∙ ran) in cc k);
+  idle = λ reads. (alone.idle, alone.fault.changes, same);
+  refused = λ why begun e step. alone.idle;
+  left = λ runs. syncs_idle before after alone.idle;
+}
+
+-- ---- of a delivery
+
+-- the counts that rose
+record RoseAs (answer : Progress) (began now : Faults) : Type 0 where
+  reads : began.reads ≤ now.reads
+  changes : began.changes ≤ now.changes
+  unfailed : (IsStoppedReply answer → ⊥) → now.changes ≡ began.changes
+
+rose_none : (answer : Progress) (began now : Faults) → NoFault began now → RoseAs answer began now
+rose_none answer began now same =
+    let reads = ap (λ (f : Faults). f.reads) same in
+    let changes = ap (λ (f : Faults). f.changes) same in
+    record { reads = omega (arith, reads); changes = omega (arith, changes); unfailed = λ no. changes }
+
+rose_as : (answer : Progress) (began now : Faults) → FaultsAt answer began now → RoseAs answer began now
+rose_as (progress.Done (reply.Refused refusal.Stopped)) began now f = let same = f.reads in record { reads = omega (arith, same); changes = f.changes; unfailed = λ no. absurd (no refl) }
+rose_as (progress.Done (reply.Refused refusal.ReadFault)) began now f = let same = f.changes in record { reads = f.reads; changes = omega (arith, same); unfailed = λ no. f.changes }
+rose_as answer began now f = rose_none answer began now f
+
+pub keeps_saving : {D : Type 0} → (history : D → Option History) (faults : D → Faults) (t next : SaveValue) (old new : StoreValue D) (answer : Progress) → EndsSave next.stage answer old new
+    → (old.stopped ≡ false → Saves t.stage next.stage t.name t.time t.size answer next.did old new (history old.disk) (history new.disk) (faults old.disk) (faults new.disk)) → Same history faults (task.Deliver t) (task.Deliver next) old new (ended_by answer)
+keeps_saving history faults t next old new answer ends saves = by_run old.stopped refl
+  where
+    idle_same : new ≡ old → IsIdle (history old.disk) (history new.disk)
+    idle_same same = subst (λ (d : _). IsIdle (history old.disk) (history d)) (sym (ap (λ (s : StoreValue _). s.disk) same)) (idle-begins (history old.disk))
+
+    saving_refused : (prepared : Prepared) (now later : SaveStage) (a : Progress) (why : Refusal) → now ≡ save_stage.First prepared → ended_by a ≡ Some (reply.Refused why) → SaveEffects now later t.name t.time t.size a old new → new ≡ old
+    saving_refused prepared now later a why is e effects = first_refused later a e (subst (λ (k : SaveStage). SaveEffects k later t.name t.time t.size a old new) is effects)
+      where
+        first_refused : (later : SaveStage) (a : Progress) → ended_by a ≡ Some (reply.Refused why) → SaveEffects (save_stage.First prepared) later t.name t.time t.size a old new → new ≡ old
+        first_refused save_stage.Ended (progress.Done (reply.Refused other)) e s = s
+        first_refused later progress.More e s = absurd (let n : None ≡ Some (reply.Refused why) = e in cc n)
+        first_refused later a e s = absurd s
+
+    ran : Saves t.stage next.stage t.name t.time t.size answer next.did old new (history old.disk) (history new.disk) (faults old.disk) (faults new.disk) → Same history faults (task.Deliver t) (task.Deliver next) old new (ended_by answer)
+    ran s =
+        let f = rose_as answer (faults old.disk) (faults new.disk) s.faults in
+        record {
+          kind = tt;
+          grows = s.grows;
+          mail = λ m is. subst (λ (n : MapMeaning). MailIsKept n (history old.disk) (history new.disk)) (sym is) s.stays;
+          reads = f.reads;
+          changes = f.changes;
+          unfailed = λ runs. f.unfailed (λ e. absurd (let k : true ≡ false = sym (s.stopped.0 e) ∙ runs in cc k));
+          fell = λ ran stops. let f = subst (λ (a : Progress). FaultsAt a (faults old.disk) (faults new.disk)) (s.stopped.1 stops) s.faults in (f.rose tt, f.reads);
+          idle = λ reads. absurd reads;
+          refused = λ why begun e step. idle_same (saving_refused begun.0 t.stage next.stage answer why begun.1 e s.effects);
+          left = λ runs. s.mail runs;
+        }
+
+    by_run : (b : Bool) → old.stopped ≡ b → Same history faults (task.Deliver t) (task.Deliver next) old new (ended_by answer)
+    by_run true was = keeps_still history faults (task.Deliver t) (task.Deliver next) old new (ended_by answer) tt (λ runs synced. absurd (let k : false ≡ true = sym runs ∙ (ap (λ (s : StoreValue _). s.stopped) (ends.still was) ∙ was) in cc k)) (ends.still was)
+    by_run false r = ran (saves r)
+
+-- ---- a first event that is refused
+
+-- a refusal that is a step is neither of these
+not_a_step : (why other : Refusal) → why ≡ other → is_step other ≡ false → is_step why ≡ true → ⊥
+not_a_step why other is none step = let k : true ≡ false = sym step ∙ (ap is_step is ∙ none) in cc k
+
+pub copy_refused : {D : Type 0} → (name : List ℕ) (uid : Uid) (target : List ℕ) (now next : CopyStage) (old new : StoreValue D) (answer : Progress) (why : Refusal) → now ≡ copy_stage.First → answer ≡ progress.Done (reply.Refused why) → is_step why ≡ true → CopyAnswers name uid target now old new next answer → new ≡ old
+copy_refused name uid target now next old new answer why is e step said = by_next next (subst (λ (k : CopyStage). CopyAnswers name uid target k old new next (progress.Done (reply.Refused why))) is (subst (λ (a : Progress). CopyAnswers name uid target now old new next a) e said))
+  where
+    by_next : (next : CopyStage) → CopyAnswers name uid target copy_stage.First old new next (progress.Done (reply.Refused why)) → new ≡ old
+    by_next copy_stage.First (inl s) = absurd (not_a_step why refusal.Stopped s.0 refl step)
+    by_next copy_stage.First (inr s) = s.0
+    by_next (copy_stage.Adding held) s = absurd s
+    by_next (copy_stage.GivingBack held cause) s = absurd s
+
+pub move_refused : {D : Type 0} → (name : List ℕ) (uid : Uid) (target : List ℕ) (now next : MoveStage) (old new : StoreValue D) (answer : Progress) (why : Refusal) → now ≡ move_stage.First → answer ≡ progress.Done (reply.Refused why) → is_step why ≡ true → MoveAnswers name uid target now old new next answer → new ≡ old
+move_refused name uid target now next old new answer why is e step said = by_next next (subst (λ (k : MoveStage). MoveAnswers name uid target k old new next (progress.Done (reply.Refused why))) is (subst (λ (a : Progress). MoveAnswers name uid target now old new next a) e said))
+  where
+    by_next : (next : MoveStage) → MoveAnswers name uid target move_stage.First old new next (progress.Done (reply.Refused why)) → new ≡ old
+    by_next move_stage.First (inl s) = absurd (not_a_step why refusal.Stopped s.0 refl step)
+    by_next move_stage.First (inr s) = s.0
+    by_next next s = absurd s
+
+pub expunge_refused : {D : Type 0} → (name : List ℕ) (uid : Uid) (now next : ExpungeStage) (old new : StoreValue D) (answer : Progress) (why : Refusal) → now ≡ expunge_stage.First → answer ≡ progress.Done (reply.Refused why) → is_step why ≡ true → ExpungeAnswers name uid now old new next answer → new ≡ old
+expunge_refused name uid now next old new answer why is e step said = by_next next why step (subst (λ (k : ExpungeStage). ExpungeAnswers name uid k old new next (progress.Done (reply.Refused why))) is (subst (λ (a : Progress). ExpungeAnswers name uid now old new next a) e said))
+  where
+    by_next : (next : ExpungeStage) (why : Refusal) → is_step why ≡ true → ExpungeAnswers name uid expunge_stage.First old new next (progress.Done (reply.Refused why)) → new ≡ old
+    by_next expunge_stage.First refusal.Stopped step s = absurd (not_a_step refusal.Stopped refusal.Stopped refl refl step)
+    by_next expunge_stage.First why step s = s.0
+    by_next (expunge_stage.Owing owed) why step s = absurd s
+
+unmade : {D : Type 0} → (name : List ℕ) (old new : StoreValue D) (why : Refusal) → is_step why ≡ true → (e : NotDone) → why ≡ refusal_told e → IsLogNotMade name e old new → new ≡ old
+unmade name old new why step (not_done.Refused other) is s = s.0
+unmade name old new why step not_done.NoMemory is s = absurd (not_a_step why refusal.NoMemory is refl step)
+unmade name old new why step not_done.Stopped is s = absurd (not_a_step why refusal.Stopped is refl step)
+
+pub make_refused : {D : Type 0} → (name : List ℕ) (now next : MakeStage) (old new : StoreValue D) (before after : Option History) (answer : Progress) (why : Refusal) → now ≡ make_stage.First → answer ≡ progress.Done (reply.Refused why) → is_step why ≡ true → MakeAnswers name now old new before after next answer → new ≡ old
+make_refused name now next old new before after answer why is e step said = by_next next (subst (λ (k : MakeStage). MakeAnswers name k old new before after next (progress.Done (reply.Refused why))) is (subst (λ (a : Progress). MakeAnswers name now old new before after next a) e said))
+  where
+    by_next : (next : MakeStage) → MakeAnswers name make_stage.First old new before after next (progress.Done (reply.Refused why)) → new ≡ old
+    by_next make_stage.First s = unmade name old new why step s.0 s.1 s.2
+    by_next (make_stage.Naming number) s = absurd s
+
+done_one : (a b : Reply) → progress.Done a ≡ progress.Done b → a ≡ b
+done_one a b e = cc e
+
+pub ops_refused : {D : Type 0} → (q : Request) (old new : StoreValue D) (given : Reply) (answer : Progress) (why : Refusal) → answer ≡ progress.Done given → answer ≡ progress.Done (reply.Refused why) → is_step why ≡ true → Replies q old new given → (AppendsNothing q old → new ≡ old) → new ≡ old
+ops_refused (request.List name) old new given answer why is e step said same = same tt
+ops_refused (request.Flag name uid flags) old new given answer why is e step said same = by_check (flag_refusal name uid.0 old) refl
+  where
+    told : given ≡ reply.Refused why
+    told = done_one given (reply.Refused why) (sym is ∙ e)
+
+    by_reply : (given ≡ reply.Done) ⊎ ((given ≡ reply.Refused refusal.Stopped) × (new.stopped ≡ true)) → new ≡ old
+    by_reply (inl done) = absurd (let k : reply.Done ≡ reply.Refused why = sym done ∙ told in cc k)
+    by_reply (inr fell) = absurd (not_a_step why refusal.Stopped (let k : reply.Refused why ≡ reply.Refused refusal.Stopped = sym told ∙ fell.0 in cc k) refl step)
+
+    by_check : (o : Option Refusal) → flag_refusal name uid.0 old ≡ o → new ≡ old
+    by_check None free = by_reply (said.1 free)
+    by_check (Some cause) check = same (cause, check)
+ops_refused other old new given answer why is e step said same = absurd said

@@ -1,0 +1,148 @@
+-- The world of a script after its events: of which run it is, and what these left of the disk.
+use Rattle.std.specs.Prelude.{◌||◌, ◌+◌, not, ◌++◌, slice_get}
+use Rattle.std.specs.List.{list_any}
+use Rattle.std.proofs.Common.{◌≡◌, ◌≤◌, ℕ, zero, suc, Bool, true, false, List, [], ◌∷◌, All, Option, Some, None, refl, sym, ◌∙◌, ap, subst, arith}
+use Rattle.std.proofs.lemmas.List.{append-nil, append_assoc}
+use Rattle.std.proofs.lemmas.List.Elements.{All-cons, All-head, All-nil, All-tail, All-weaker}
+use Rattle.disk_model.specs.Disk.{Faults, Grows, History, IsIdle, told_calls}
+use Rattle.disk_model.proofs.IdleLemmas.{idle-begins, idle-then}
+use Rattle.mdbox_base.specs.declared.replies.Reply.{Reply}
+use Rattle.mdbox_base.specs.declared.replies.Reply.TheVariants as reply
+use Rattle.mdbox_base.specs.declared.requests.Request.{Request}
+use Rattle.mdbox_base.specs.declared.requests.Request.TheVariants as request
+use Rattle.model_lists.specs.Lists.{Lists}
+use Rattle.list_machine.specs.Run.{Run, RunEvent, and_then}
+use Rattle.journal.specs.Journal.{Broken, JournalStep, Requests}
+use Rattle.task_steps.specs.Step.{Seen, ended_by}
+use Rattle.lane_tasks.specs.Clause.{IsAtStart, OnlyReads, SetsNoFlags}
+use Rattle.lane_tasks.specs.Tasks.{BeginsTask, IsTaskOf}
+use Rattle.lane_tasks.specs.declared.task.Task.{Task}
+use Rattle.lane_tasks.specs.declared.task.Task.TheVariants as task
+use Rattle.lanes.specs.Going.{AreFreshRows, IsFreshRow, WaitsWithTask}
+use Rattle.lanes.specs.Rows.{LaneRow}
+use Rattle.lanes.specs.Worlds.{GoesInRounds, IsLaneEvent, IsWorldOf, WorldValue, and_events, queued_in}
+use Rattle.lanes.specs.declared.lane.Queued.{Queued}
+use Rattle.script_run.specs.Script.{IsRefusedAtOnce, has_change, has_delivery, is_delivery, only_reads}
+use Rattle.script_run.proofs.ChainLemmas.{AllTasks, NoDelivery, in_turn, tasks_after}
+
+-- ---- the tasks with which requests begin
+
+any_false : {X : Type 0} → (p : X → Bool) (xs : List X) (k : ℕ) (x : X) → list_any p xs ≡ false → slice_get xs k ≡ Some x → p x ≡ false
+any_false p [] k x none at = absurd (let e : None ≡ Some x = at in cc e)
+any_false {X} p (y ∷ ys) zero x none at = (let e : Some y ≡ Some x = at in let is : y ≡ x = cc e in sym (ap p is) ∙ first (p y) none)
+  where
+    first : (b : Bool) → (b || list_any p ys) ≡ false → b ≡ false
+    first true e = e
+    first false e = refl
+any_false p (y ∷ ys) (suc k) x none at = any_false p ys k x (rest (p y) none) at
+  where
+    rest : (b : Bool) → (b || list_any p ys) ≡ false → list_any p ys ≡ false
+    rest true e = absurd (cc e)
+    rest false e = e
+
+yes_by : (b : Bool) → not b ≡ false → b ≡ true
+yes_by true e = refl
+yes_by false e = absurd (cc e)
+
+-- Each request that isn't answered has a task of which this holds, if it holds of those with which the script's requests begin.
+pub fresh_tasks : (Holds : Task → Type 0) (script : Requests) (rows : List LaneRow) → ((place lane : ℕ) (asked : Request) (t : Task) → slice_get script place ≡ Some (lane, asked) → BeginsTask asked t → Holds t) → AreFreshRows script rows → AllTasks Holds rows
+fresh_tasks Holds script rows holds are k row at = by_current row.current refl (are k row at)
+  where
+    one : (queued : Queued) → WaitsWithTask script (k + 1) queued → Holds queued.task
+    one queued w = holds queued.place (k + 1) w.0 queued.task w.1 w.2
+
+    by_current : (o : Option Queued) → row.current ≡ o → IsFreshRow script (k + 1) row → All (λ q. Holds q.task) (queued_in row)
+    by_current None is f = subst (λ (c : Option Queued). All (λ q. Holds q.task) (queued_in (record { current = c; waiting = row.waiting }))) (sym is) (All-nil (λ (q : Queued). Holds q.task))
+    by_current (Some queued) is f =
+        subst (λ (c : Option Queued). All (λ q. Holds q.task) (queued_in (record { current = c; waiting = row.waiting }))) (sym is)
+        (All-cons (λ (q : Queued). Holds q.task) queued row.waiting (one queued (f.first queued is)) (All-weaker (WaitsWithTask script (k + 1)) (λ (q : Queued). Holds q.task) one row.waiting f.behind))
+
+pub begun_first : (asked : Request) (t : Task) → BeginsTask asked t → IsAtStart t
+begun_first asked (task.Ops t) b = tt
+begun_first asked (task.Counts t) b = tt
+begun_first asked (task.Make t) b = b.at
+begun_first asked (task.Copy t) b = b.at
+begun_first asked (task.Move t) b = b.at
+begun_first asked (task.Expunge t) b = b.at
+begun_first asked (task.Fetch t) b = b.at
+begun_first (request.Deliver name time octets) (task.Deliver t) b = (b.at.0, b.at.1)
+begun_first asked (task.Deliver t) b = absurd b.at
+
+sets_none : (asked : Request) → only_reads asked ≡ true → SetsNoFlags asked
+sets_none (request.Flag name uid flags) reads = absurd (let k : false ≡ true = reads in cc k)
+sets_none asked reads = tt
+
+-- a request that reads at the most begins with such a task
+reads_as : (asked kind : Request) → only_reads kind ≡ false → asked ≡ kind → only_reads asked ≡ true → ⊥
+reads_as asked kind changes is reads = let k : true ≡ false = sym reads ∙ (ap only_reads is ∙ changes) in cc k
+
+reads_task : (asked : Request) (t : Task) → only_reads asked ≡ true → IsTaskOf t asked → OnlyReads t
+reads_task asked (task.Ops t) reads of = subst SetsNoFlags of (sets_none asked reads)
+reads_task asked (task.Counts t) reads of = tt
+reads_task asked (task.Make t) reads of = absurd (reads_as asked (request.Make t.name) refl of reads)
+reads_task asked (task.Copy t) reads of = absurd (reads_as asked (request.Copy t.name t.uid t.target) refl of reads)
+reads_task asked (task.Move t) reads of = absurd (reads_as asked (request.Move t.name t.uid t.target) refl of reads)
+reads_task asked (task.Expunge t) reads of = absurd (reads_as asked (request.Expunge t.name t.uid) refl of reads)
+reads_task asked (task.Fetch t) reads of = tt
+reads_task (request.Deliver name time octets) (task.Deliver t) reads of = absurd (let k : false ≡ true = reads in cc k)
+reads_task asked (task.Deliver t) reads of = absurd of
+
+pub reads_first : (script : Requests) (place lane : ℕ) (asked : Request) (t : Task) → has_change script ≡ false → slice_get script place ≡ Some (lane, asked) → BeginsTask asked t → OnlyReads t
+reads_first script place lane asked t none at begins = reads_task asked t (yes_by (only_reads asked) (any_false (λ (q : ℕ × Request). not (only_reads q.1)) script place (lane, asked) none at)) begins.is_of
+
+no_delivery : (asked : Request) (t : Task) → is_delivery asked ≡ false → IsTaskOf t asked → NoDelivery t
+no_delivery (request.Deliver name time octets) (task.Deliver t) none of = absurd (let k : true ≡ false = none in cc k)
+no_delivery asked (task.Deliver t) none of = absurd of
+no_delivery asked t none of = tt
+
+pub undelivered_first : (script : Requests) (place lane : ℕ) (asked : Request) (t : Task) → has_delivery script ≡ false → slice_get script place ≡ Some (lane, asked) → BeginsTask asked t → NoDelivery t
+undelivered_first script place lane asked t none at begins = no_delivery asked t (any_false (λ (q : ℕ × Request). is_delivery q.1) script place (lane, asked) none at) begins.is_of
+
+-- ---- the run
+
+-- The world is one of the run with these events, none of which ended before this time; and where each answered its request with a
+-- refusal that a check gave, nothing has changed.
+pub record ServedSince {D : Type 0} (start : Lists) (script : Requests) (run : Run) (steps : List JournalStep) (began : Seen) (old new : WorldValue D) (before after : Option History) (second : Faults) : Type 0 where
+  pub added : List RunEvent
+  pub more : List JournalStep
+  pub broke : Broken
+  pub is : IsWorldOf start script (and_events run added) (steps ++ more) broke began after second new
+  pub later : All (λ event. told_calls before ≤ event.moment) added
+  pub refused : AllTasks IsAtStart old.rows → All IsRefusedAtOnce added → IsIdle before after
+
+pub served_since : {D : Type 0} → (last : ℕ) (lanes : List ℕ) (old new : WorldValue D) (before after : Option History) (first second : Faults) → GoesInRounds last lanes old new before after first second
+    → (start : Lists) (script : Requests) (run : Run) (steps : List JournalStep) (failed : Broken) (began : Seen) → IsWorldOf start script run steps failed began before first old → ServedSince start script run steps began old new before after second
+served_since {D} last [] old new before after first second g start script run steps failed began is = record {
+  added = [];
+  more = [];
+  broke = failed;
+  is =
+      subst (λ (w : WorldValue D). IsWorldOf start script (and_events run []) (steps ++ []) failed began after second w) (sym g.0)
+      (subst (λ (h : Option History). IsWorldOf start script (and_events run []) (steps ++ []) failed began h second old) (sym g.1)
+      (subst (λ (f : Faults). IsWorldOf start script (and_events run []) (steps ++ []) failed began before f old) (sym g.2)
+      (subst (λ (js : List JournalStep). IsWorldOf start script (and_events run []) js failed began before first old) (sym (append-nil steps))
+      (subst (λ (es : List RunEvent). IsWorldOf start script (record run { events = es }) steps failed began before first old) (sym (append-nil run.events)) is))));
+  later = All-nil (λ (event : RunEvent). told_calls before ≤ event.moment);
+  refused = λ begun all. subst (λ (h : Option History). IsIdle before h) (sym g.1) (idle-begins before);
+}
+served_since {D} last (lane ∷ lanes) old new before after first second g start script run steps failed began is =
+    let e = g.4.goes start script run steps failed began is in
+    let r = served_since lane lanes g.0 new g.1 after g.2 second g.6 start script (and_then run e.0) (steps ++ e.1) e.2 began e.4 in
+    let grown = g.4.works.goes.goes.keeps.grows in
+    record {
+      added = e.0 ∷ r.added;
+      more = e.1 ++ r.more;
+      broke = r.broke;
+      is =
+          subst (λ (js : List JournalStep). IsWorldOf start script (and_events run (e.0 ∷ r.added)) js r.broke began after second new) (append_assoc steps e.1 r.more)
+          (subst (λ (es : List RunEvent). IsWorldOf start script (record run { events = es }) ((steps ++ e.1) ++ r.more) r.broke began after second new) (append_assoc run.events (e.0 ∷ []) r.added) r.is);
+      later =
+          All-cons (λ (event : RunEvent). told_calls before ≤ event.moment) e.0 r.added (let at = e.3.moment_is in omega (arith, at, grown))
+          (All-weaker (λ (event : RunEvent). told_calls g.1 ≤ event.moment) (λ (event : RunEvent). told_calls before ≤ event.moment) (λ event at. omega (arith, at, grown)) r.added r.later);
+      refused = λ begun all.
+          let at_once = All-head IsRefusedAtOnce e.0 r.added all in
+          let answered : ended_by g.4.works.event.ended ≡ Some (reply.Refused at_once.0) = sym e.3.reply_is ∙ at_once.1 in
+          let own = (in_turn IsAtStart lane old g.0 before g.1 first g.2 g.4 begun).0 in
+          let rest = tasks_after IsAtStart lane old g.0 before g.1 first g.2 g.4 (λ more. absurd (let k : None ≡ Some (reply.Refused at_once.0) = sym more ∙ answered in cc k)) begun in
+          idle-then before g.1 after (g.4.works.goes.goes.keeps.refused at_once.0 own answered at_once.2) (r.refused rest (All-tail IsRefusedAtOnce e.0 r.added all));
+    }

@@ -1,0 +1,82 @@
+-- A script of one request, and the lists that it leaves.
+use Rattle.std.specs.Prelude.{◌≡◌, ◌<◌, ℕ, Bool, List, [], ◌∷◌, All, if◌then◌else◌, Option, Some}
+use Rattle.disk_model.specs.Disk.{told_calls, History, Faults, EachImage}
+use Rattle.mdbox_base.specs.declared.entries.Highest.{Highest}
+use Rattle.mdbox_base.specs.declared.ids.Guid.{Guid}
+use Rattle.mdbox_base.specs.declared.ids.Uid.{Uid}
+use Rattle.mdbox_base.specs.declared.replies.Refusal.TheVariants as refusal
+use Rattle.mdbox_base.specs.declared.replies.Reply.{Reply}
+use Rattle.mdbox_base.specs.declared.replies.Reply.TheVariants as reply
+use Rattle.mdbox_base.specs.declared.requests.Request.{Request}
+use Rattle.mdbox_base.specs.declared.requests.Request.TheVariants as request
+use Rattle.model_lists.specs.Lists.{Lists}
+use Rattle.model_meaning.specs.MapMeaning.{MapMeaning, map_meaning}
+use Rattle.model_store.specs.Settled.{IsSettledFor}
+use Rattle.list_machine.specs.Machine.{add_message, expunge, set_flags}
+use Rattle.list_machine.specs.Run.{Run}
+use Rattle.journal.specs.Journal.{JournalStep, Broken, Requests, left_by}
+use Rattle.journal.specs.Makes.{IsServed}
+use Rattle.mail_ops.specs.Copy.{copied_lists}
+use Rattle.mail_ops.specs.Making.{with_mailbox}
+use Rattle.task_steps.specs.Serves.{AreTimely, IsReached}
+use Rattle.script_run.specs.Opening.{RunBegins, RunHasCome}
+
+-- ---- the lists
+
+-- the lists with a message that is saved: last in its mailbox, whose next UID it gets, and without flags
+abbrev pub saved_lists : List ℕ → ℕ → List ℕ → Guid → Lists → Lists
+saved_lists name time octets guid lists = add_message name (record { uid = 0; flags = 0; time = time; guid = guid.0; octets = octets }) lists
+
+-- the lists with the copy of a moved message and without the message, and those that the move leaves, by whether the message had
+-- gone before it was removed
+abbrev pub moved_lists : List ℕ → Uid → List ℕ → Lists → Lists
+moved_lists name uid target lists = expunge name uid.0 (copied_lists name uid target lists)
+
+abbrev pub lists_behind : List ℕ → Uid → List ℕ → Bool → Lists → Lists
+lists_behind name uid target gone lists = if gone then copied_lists name uid target lists else moved_lists name uid target lists
+
+-- the lists that a request leaves which had this reply: the same unless it is done. A make adds a mailbox, whose number the reply
+-- doesn't tell.
+abbrev pub lists_told : Request → Reply → Lists → Lists
+lists_told (request.Deliver name time octets) (reply.Saved uid guid) lists = saved_lists name time octets guid lists
+lists_told (request.Flag name uid flags) reply.Done lists = set_flags name uid.0 flags lists
+lists_told (request.Expunge name uid) reply.Done lists = expunge name uid.0 lists
+lists_told (request.Copy name uid target) (reply.Copied given) lists = copied_lists name uid target lists
+lists_told (request.Move name uid target) (reply.Moved given gone) lists = lists_behind name uid target gone lists
+lists_told asked given lists = lists
+
+-- These lists were left, of a make with a number above those of all mailboxes.
+abbrev pub AreListsTold : Request → Reply → Lists → Lists → Type 0
+AreListsTold (request.Make name) reply.Done old new = (number : ℕ) × All (λ mailbox. mailbox.number < number) old × (new ≡ with_mailbox number name old)
+AreListsTold asked given old new = new ≡ lists_told asked given old
+
+-- a reply that isn't of a failed call of the disk
+abbrev pub IsUnfailed : Reply → Type 0
+IsUnfailed (reply.Refused refusal.ReadFault) = ⊥
+IsUnfailed (reply.Refused refusal.Stopped) = ⊥
+IsUnfailed given = Unit {0}
+
+-- ---- the script
+
+-- the script of a request alone
+abbrev pub alone : Request → Requests
+alone request = (1, request) ∷ []
+
+-- The request is a script of its own, on one lane. From these lists, for which the files were safe, it was served legally,
+-- by a run that begins with the map log of the files, and was replied this. The run has come to where the disk is now: to what
+-- its map log means, unless a change of it failed, and to its number of calls, so that by now every step is acknowledged. Of a
+-- disk that was settled for the lists each crash image since is safe for lists that the journal reaches; at the moment of each
+-- event it was settled for what the steps up to it left; and it is settled for the lists that the journal leaves, unless a change
+-- of it failed.
+pub record ServesRequest (request : Request) (lists : Lists) (given : Reply) (began now : Faults) (old new : Option History) : Type 0 where
+  pub run : Run
+  pub journal : List JournalStep
+  pub broken : Broken
+  pub m : MapMeaning
+  pub drawn : Highest
+  pub begins : RunBegins run old
+  pub ends : (given ≡ reply.Refused refusal.Stopped → ⊥) → RunHasCome run m new
+  pub served : IsServed lists (alone request) run journal broken (Some given ∷ []) began now (map_meaning run.store run.start) m drawn (told_calls new)
+  pub crash : IsSettledFor lists old → EachImage (IsReached lists run journal broken) old new
+  pub timely : IsSettledFor lists old → AreTimely lists run journal new
+  pub settled : (given ≡ reply.Refused refusal.Stopped → ⊥) → IsSettledFor lists old → IsSettledFor (left_by lists journal) new
