@@ -306,8 +306,8 @@ one_request es a b n f g =
     let entry : f.2 ≡ g.2 = cc both in
     sym f.4 ∙ ap (λ (e : JournalEntry). e.request) entry ∙ g.4
 
-pub served_places : (script : Requests) (lists : Lists) (given : List Reply) (entries : List JournalEntry) (began now : Faults) (old new : Option History) → length given ≡ length script → ServesScript script lists given entries began now old new → NumberJournal entries given
-served_places script lists given entries began now old new many s = record {
+pub served_places : (script : Requests) (lists : Lists) (given : List Reply) (entries : List JournalEntry) (began now : Faults) (old opened new : Option History) → length given ≡ length script → ServesScript script lists given entries began now old opened new → NumberJournal entries given
+served_places script lists given entries began now old opened new many s = record {
   all = λ n low high.
       let at = some_at entries (n - 1) (omega (arith, low, high)) in
       let r = at.0.request in

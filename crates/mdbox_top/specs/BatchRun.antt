@@ -68,7 +68,8 @@ pub record WasServed (script : Requests) (lists : Lists) (old new : Option Histo
   pub entries : List JournalEntry
   pub began : Faults
   pub now : Faults
-  pub served : ServesScript script lists given entries began now old new
+  pub opened : Option History
+  pub served : ServesScript script lists given entries began now old opened new
 
 -- A crash at any moment leaves of a disk that was settled for lists one that is safe for these; or the script was served from them, and
 -- each image is safe for lists that its journal reaches (`crash` of `ServesScript`).

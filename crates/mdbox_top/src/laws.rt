@@ -10,5 +10,5 @@ ghost use Rattle.mdbox_top.specs.PrintedPlaces.{NumberJournal};
 
 /// The places that are printed of a script's replies number its journal, from 1 and without gaps.
 pub fn printed_places_number_the_journal()
-    ensures { (script : Requests) (lists : Lists) (given : List Reply) (entries : List JournalEntry) (began now : Faults) (old new : Option History) → length given ≡ length script → ServesScript script lists given entries began now old new → NumberJournal entries given }
+    ensures { (script : Requests) (lists : Lists) (given : List Reply) (entries : List JournalEntry) (began now : Faults) (old opened new : Option History) → length given ≡ length script → ServesScript script lists given entries began now old opened new → NumberJournal entries given }
 {}
