@@ -1,7 +1,7 @@
 use Rattle.std.proofs.Common.{ℕ, sym, subst}
 use Rattle.request_text.specs.Outcomes.{status_of}
 use Rattle.mdbox_top.specs.Run.{MayHaveFailed}
-use Rattle.mdbox_top.proofs.RunLemmas.{last_ends, has_status, fails_last, rests_last, uninput}
+use Rattle.mdbox_top.proofs.RunLemmas.{last_ends, has_status, fails_last, faulted, rests_last, uninput}
 use Rattle.mdbox_top.proofs.run.mdbox_alone.Goals as goal
 
 pub returns-clause-run : goal.returns-clause-run
@@ -29,3 +29,9 @@ returns-clause-refused g c = λ four.
     let told = c.report.ensures.told in
     let o = uninput c.perform-outcome.result.0 told.0 _ told.1 told.2 four in
     c.perform-outcome.ensures.refused o.0 o.1
+
+pub returns-clause-disk_fault : goal.returns-clause-disk_fault
+returns-clause-disk_fault g c = λ tells.
+    let told = c.report.ensures.told in
+    let fault = c.perform-outcome.ensures.disk_fault tells in
+    record { reads = fault.reads; changes = fault.changes; rose = λ six. fault.rose (faulted c.perform-outcome.result.0 told.0 _ told.1 told.2 six) }
