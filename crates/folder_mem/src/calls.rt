@@ -31,6 +31,9 @@ impl Folder for MemFolder {
         Ok(true)
     }
 
+    /// It passes no time.
+    fn pause(&mut self) {}
+
     fn look(&mut self, path: &str) -> Result<Kind, CallError> {
         if let Turn::Broken = self.begin()? {
             return Err(CallError::Failed);

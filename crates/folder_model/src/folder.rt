@@ -64,6 +64,11 @@ pub trait Folder {
         ensures failed { OnErr result (modelled self.new ≡ modelled self.old) }
         ensures passed { HasPassed (modelled self.old) (past self.old) (modelled self.new) (past self.new) };
 
+    /// Passes a short time, until the lock is asked for again.
+    fn pause(&mut self)
+        ensures same { modelled self.new ≡ modelled self.old }
+        ensures still { past self.new ≡ past self.old };
+
     /// What stands at a path.
     fn look(&mut self, path: &str) -> Result<Kind, CallError>
         requires locked { IsLocked (modelled self.old) }

@@ -7,22 +7,15 @@ use Rattle.std.proofs.lemmas.List.Elements.{All-head, All-tail}
 use Rattle.model_octets.proofs.PairLemmas.{pairs_head, pairs_tail}
 use Rattle.mdbox_base.specs.declared.ids.MapUid.{MapUid}
 use Rattle.mdbox_base.specs.declared.entries.MapCount.{MapCount}
-use Rattle.mdbox_base.specs.declared.entries.MapPlace.{MapPlace}
 use Rattle.mdbox_base.specs.declared.entries.MapEntry.TheVariants as entry
-use Rattle.model_meaning.specs.MapMeaning.{MapRecord, record_changed, has_map_uid, place_given, moved_record}
+use Rattle.model_meaning.specs.MapMeaning.{MapRecord, record_changed, has_map_uid}
 use Rattle.model_meaning.proofs.MapPlaceLemmas.{equal_is}
-use Rattle.map_rows.specs.TableKept.{FitsMoved}
 use Rattle.map_rows.specs.TableValue.{TableValue}
-use Rattle.map_index.specs.Needs.{CanMoveEach}
 
 -- ---- one item more
 
 drop_first : {X : Type 0} → (xs : List X) (k : ℕ) (x d : X) → k < length xs → x ≡ get_or xs k d → drop k xs ≡ x ∷ drop (k + 1) xs
 drop_first xs k x d lt e = rw (add-one, e) (drop-cons xs k d lt)
-
-pub from_start : {X : Type 0} → (xs : List X) → drop 0 xs ≡ xs
-from_start [] = refl
-from_start (x ∷ xs) = refl
 
 pub fold_step : {X Y : Type 0} → (F : Y → X → Y) (rows : Y) (xs : List X) (k : ℕ) (x d : X) → k < length xs → x ≡ get_or xs k d → fold F (F rows x) (drop (k + 1) xs) ≡ fold F rows (drop k xs)
 fold_step F rows xs k x d lt e = ap (fold F rows) (sym (drop_first xs k x d lt e))
@@ -91,55 +84,6 @@ set_each [] rows rise = sym (map_same (record_changed (entry.T [])) (λ row. ref
 set_each (given ∷ counts) rows rise =
     set_each counts (map (record_changed (entry.T (given ∷ []))) rows) (pairs_tail (λ a b. a < b) given.uid.0 (map (λ (c : MapCount). c.uid.0) counts) rise)
     ∙ map_twice (record_changed (entry.T counts)) (record_changed (entry.T (given ∷ []))) (record_changed (entry.T (given ∷ counts))) (λ row. set_step given counts row (given.uid.0 == row.uid) refl (pairs_head (λ a b. a < b) given.uid.0 (map (λ (c : MapCount). c.uid.0) counts) rise)) rows
-
--- ---- records that are moved
-
-abbrev moves : ℕ → List MapPlace → MapRecord → MapRecord
-moves target places row = moved_record row target (place_given row.uid places)
-
-not_moved : (given : MapPlace) (places : List MapPlace) (uid : ℕ) → uid ≡ given.uid.0 → All (λ n. given.uid.0 < n) (map (λ (p : MapPlace). p.uid.0) places) → place_given uid places ≡ None
-not_moved given [] uid e a = refl
-not_moved given (v ∷ places) uid e a =
-    let l : given.uid.0 < v.uid.0 = All-head (λ n. given.uid.0 < n) v.uid.0 (map (λ (p : MapPlace). p.uid.0) places) a in
-    rw (unequal v.uid.0 uid (λ s. omega (arith, s, e, l))) (not_moved given places uid e (All-tail (λ n. given.uid.0 < n) v.uid.0 (map (λ (p : MapPlace). p.uid.0) places) a))
-
-move_step : (target : ℕ) (given : MapPlace) (places : List MapPlace) (row : MapRecord) (hit : Bool) → (given.uid.0 == row.uid) ≡ hit → All (λ n. given.uid.0 < n) (map (λ (p : MapPlace). p.uid.0) places)
-    → moves target places (moved_record row target (cond hit (Some given) None)) ≡ moved_record row target (cond hit (Some given) (place_given row.uid places))
-move_step target given places row true e a = let n = not_moved given places row.uid (sym (equal_is given.uid.0 row.uid e)) a in rw n refl
-move_step target given places row false e a = refl
-
-pub moved_each : (target : ℕ) (places : List MapPlace) (rows : List MapRecord) → AllPairs (λ a b. a < b) (map (λ (p : MapPlace). p.uid.0) places) → fold (λ (rs : List MapRecord) (p : MapPlace). map (λ row. moved_record row target (place_given row.uid (p ∷ []))) rs) rows places ≡ map (λ row. moved_record row target (place_given row.uid places)) rows
-moved_each target [] rows rise = sym (map_same (moves target []) (λ row. refl) rows)
-moved_each target (given ∷ places) rows rise =
-    moved_each target places (map (moves target (given ∷ [])) rows) (pairs_tail (λ a b. a < b) given.uid.0 (map (λ (p : MapPlace). p.uid.0) places) rise)
-    ∙ map_twice (moves target places) (moves target (given ∷ [])) (moves target (given ∷ places)) (λ row. move_step target given places row (given.uid.0 == row.uid) refl (pairs_head (λ a b. a < b) given.uid.0 (map (λ (p : MapPlace). p.uid.0) places) rise)) rows
-
--- the next place is free, and so are the others behind it
-pub next_move : (rows : List MapRecord) (target : ℕ) (places : List MapPlace) (k : ℕ) (given d : MapPlace) → k < length places → given ≡ get_or places k d → CanMoveEach rows target (drop k places)
-    → FitsMoved rows target given × CanMoveEach (map (λ row. moved_record row target (place_given row.uid (given ∷ []))) rows) target (drop (k + 1) places)
-next_move rows target places k given d lt e can = subst (CanMoveEach rows target) (drop_first places k given d lt e) can
-
--- ---- records that are dropped
-
-abbrev keeps : MapUid → MapRecord → Bool
-keeps uid row = not (has_map_uid row.uid (uid ∷ []))
-
-keep_step : (hit rest : Bool) (row : MapRecord) (kept all : List MapRecord) (p : MapRecord → Bool) → p row ≡ not rest → filter p kept ≡ all → filter p (cond (not (hit || false)) (row ∷ kept) kept) ≡ cond (not (hit || rest)) (row ∷ all) all
-keep_step true rest row kept all p e f = f
-keep_step false true row kept all p e f = rw e f
-keep_step false false row kept all p e f = rw e (ap (λ (rows : List MapRecord). row ∷ rows) f)
-
-kept_twice : (uid : MapUid) (uids : List MapUid) (rows : List MapRecord) → filter (λ row. not (has_map_uid row.uid uids)) (filter (keeps uid) rows) ≡ filter (λ row. not (has_map_uid row.uid (uid ∷ uids))) rows
-kept_twice uid uids [] = refl
-kept_twice uid uids (row ∷ rows) = keep_step (uid.0 == row.uid) (has_map_uid row.uid uids) row (filter (keeps uid) rows) _ (λ r. not (has_map_uid r.uid uids)) refl (kept_twice uid uids rows)
-
-none_dropped : (rows : List MapRecord) → rows ≡ filter (λ row. not (has_map_uid row.uid [])) rows
-none_dropped [] = refl
-none_dropped (row ∷ rows) = ap (λ (rest : List MapRecord). row ∷ rest) (none_dropped rows)
-
-pub dropped_each : (uids : List MapUid) (rows : List MapRecord) → fold (λ (rs : List MapRecord) (u : MapUid). filter (λ row. not (has_map_uid row.uid (u ∷ []))) rs) rows uids ≡ filter (λ row. not (has_map_uid row.uid uids)) rows
-dropped_each [] rows = none_dropped rows
-dropped_each (uid ∷ uids) rows = dropped_each uids (filter (keeps uid) rows) ∙ kept_twice uid uids rows
 
 -- ---- for the calls
 

@@ -11,12 +11,12 @@ use Rattle.mdbox_base.specs.declared.ids.MapUid.{MapUid}
 use Rattle.mdbox_base.specs.declared.entries.MapPlace.{MapPlace}
 use Rattle.mdbox_base.specs.declared.entries.MapEntry.{MapEntry}
 use Rattle.mdbox_base.specs.declared.entries.MapEntry.TheVariants as entry
-use Rattle.model_meaning.specs.MapMeaning.{MapRecord, MapMeaning, moved_record, place_given, has_map_uid}
+use Rattle.model_meaning.specs.MapMeaning.{MapRecord, MapMeaning, moved_record, place_given}
 use Rattle.model_meaning.specs.MapFits.{MapFits, FitsTarget, IsApart}
 use Rattle.model_meaning.proofs.MapPlaceLemmas.{equal_is}
-use Rattle.map_rows.specs.TableKept.{FitsMoved}
+use Rattle.map_rows.specs.TableKept.{FitsMoved, CanMoveEach}
 use Rattle.map_index.specs.Kept.{IsMapInOrder}
-use Rattle.map_index.specs.Needs.{FitsTable, CanMoveEach}
+use Rattle.map_index.specs.Needs.{FitsTable}
 use Rattle.map_index.proofs.DerivedListLemmas.{find-map, All-unmap}
 use Rattle.map_index.proofs.MapOrderLemmas.{can_rise}
 
@@ -153,24 +153,5 @@ fits_table m (entry.S o c u file a z g is) k f = stored_fits m o c u file a z g 
 fits_table m (entry.U u) k f = can_rise m u k f
 fits_table m (entry.D us) k f = f.0
 fits_table m (entry.T cs) k f = f.0
-fits_table m (entry.P file t ms us) k f = (f.moved_rising, target_fits m file.0 t ms k.records.rising (AllPairs-from_increasing _ f.moved_rising) f.target_fits)
+fits_table m (entry.P file t ms us) k f = (f.moved_rising, f.dropped_rising, target_fits m file.0 t ms k.records.rising (AllPairs-from_increasing _ f.moved_rising) f.target_fits)
 fits_table m (entry.E file) k f = tt
-
--- ---- a purge
-
-filter_step : {X : Type 0} → (b c : Bool) (x : X) (xs ys : List X) → b ≡ c → xs ≡ ys → cond b (x ∷ xs) xs ≡ cond c (x ∷ ys) ys
-filter_step b c x xs ys e f = cc (e, f)
-
-map_filter_step : {X Y : Type 0} → (f : X → Y) (b c : Bool) (x : X) (xs : List X) (ys : List Y) → b ≡ c → map f xs ≡ ys → cond b (f x ∷ ys) ys ≡ map f (cond c (x ∷ xs) xs)
-map_filter_step f true true x xs ys e g = ap (λ (t : List _). f x ∷ t) (sym g)
-map_filter_step f true false x xs ys e g = absurd (let w : true ≡ false = e in cc w)
-map_filter_step f false true x xs ys e g = absurd (let w : false ≡ true = e in cc w)
-map_filter_step f false false x xs ys e g = sym g
-
--- records are moved and then dropped, or dropped and then moved
-pub moved_then_dropped : (target : ℕ) (moved : List MapPlace) (dropped : List MapUid) (rows : List MapRecord)
-    → filter (λ row. not (has_map_uid row.uid dropped)) (map (λ row. moved_record row target (place_given row.uid moved)) rows) ≡ map (λ row. moved_record row target (place_given row.uid moved)) (filter (λ row. not (has_map_uid row.uid dropped)) rows)
-moved_then_dropped target moved dropped [] = refl
-moved_then_dropped target moved dropped (row ∷ rows) =
-    map_filter_step (λ r. moved_record r target (place_given r.uid moved)) _ _ row (filter (λ r. not (has_map_uid r.uid dropped)) rows) _
-    (ap (λ (n : ℕ). not (has_map_uid n dropped)) (uid_given target row (place_given row.uid moved))) (sym (moved_then_dropped target moved dropped rows))

@@ -1,17 +1,10 @@
 -- What the records need so that an entry can be taken in.
-use Rattle.std.specs.Prelude.{◌≡◌, ◌≤◌, ℕ, List, [], ◌∷◌, map, All}
+use Rattle.std.specs.Prelude.{◌≡◌, ◌≤◌, List, map, All}
 use Rattle.std.specs.List.Sorted.{IsStrictlyIncreasing}
-use Rattle.mdbox_base.specs.declared.entries.MapPlace.{MapPlace}
 use Rattle.mdbox_base.specs.declared.entries.MapEntry.{MapEntry}
 use Rattle.mdbox_base.specs.declared.entries.MapEntry.TheVariants as entry
-use Rattle.model_meaning.specs.MapMeaning.{MapRecord, moved_record, place_given}
-use Rattle.map_rows.specs.TableKept.{FitsBehind, FitsMoved}
-
--- the places are free, one after another
-abbrev pub CanMoveEach : List MapRecord → ℕ → List MapPlace → Type 0
-CanMoveEach rows target [] = Unit {0}
-CanMoveEach rows target (place ∷ places) =
-    FitsMoved rows target place × CanMoveEach (map (λ row. moved_record row target (place_given row.uid (place ∷ []))) rows) target places
+use Rattle.model_meaning.specs.MapMeaning.{MapRecord}
+use Rattle.map_rows.specs.TableKept.{FitsBehind, CanMoveEach}
 
 -- A record that is stored fits behind the others, a count that rises stays in its range, lists name their records in order
 -- of map uid, and the places of moved records are free.
@@ -21,7 +14,7 @@ FitsTable (entry.S origin count uid file offset size guid instances) rows =
 FitsTable (entry.U uid) rows = All (λ row. uid.0 ≡ row.uid → row.count ≤ 65534) rows
 FitsTable (entry.D uids) rows = IsStrictlyIncreasing (map (λ u. u.0) uids)
 FitsTable (entry.T counts) rows = IsStrictlyIncreasing (map (λ c. c.uid.0) counts)
-FitsTable (entry.P file target moved dropped) rows = IsStrictlyIncreasing (map (λ p. p.uid.0) moved) × CanMoveEach rows target moved
+FitsTable (entry.P file target moved dropped) rows = IsStrictlyIncreasing (map (λ p. p.uid.0) moved) × IsStrictlyIncreasing (map (λ u. u.0) dropped) × CanMoveEach rows target moved
 FitsTable other rows = Unit {0}
 
 -- the entry makes a mailbox, stores a message or seals a file

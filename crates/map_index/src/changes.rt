@@ -7,7 +7,7 @@ ghost use Rattle.map_index.specs.Shown.{box_of};
 ghost use Rattle.map_index.specs.Needs.{FitsTable, TakesMemory};
 ghost use Rattle.map_index.specs.Value.{room_for};
 
-use crate::listed::{drop_each, lower_each, move_each, set_counts};
+use crate::listed::{lower_each, set_counts};
 use crate::rows::{BoxAt, Mailbox, place_with_number};
 use map_rows::{MapRow, Record, Table};
 use mdbox_base::{BoxNo, FileNo, InstRow, MapEntry, Name, NoMemory, Seq, name_of};
@@ -137,14 +137,11 @@ fn change_records(records: &mut Table, entry: &MapEntry)
 {
     match entry {
         MapEntry::P {
+            file,
             target,
             moved,
             dropped,
-            ..
-        } => {
-            move_each(records, *target, moved.as_slice());
-            drop_each(records, dropped.as_slice());
-        }
+        } => records.switch(*file, *target, moved.as_slice(), dropped.as_slice()),
         MapEntry::U { uid } => records.raise(*uid),
         MapEntry::D { uids } => lower_each(records, uids.as_slice()),
         MapEntry::T { counts } => set_counts(records, counts.as_slice()),

@@ -1,24 +1,20 @@
 -- Changes of one record among those in order of map uid.
-use Rattle.std.specs.Prelude.{AllPairs, remove, slice_get}
-use Rattle.std.proofs.Common.{◌≡◌, ◌≢◌, ℕ, zero, suc, ◌+◌, ◌-◌, ◌<◌, ◌≤◌, ◌==◌, Bool, true, false, not, List, [], ◌∷◌, length, get_or, set, map, filter, find, drop, Some, None, All, refl, sym, ◌∙◌, ap, subst, arith}
+use Rattle.std.specs.Prelude.{AllPairs}
+use Rattle.std.proofs.Common.{◌≡◌, ◌≢◌, ℕ, zero, suc, ◌+◌, ◌-◌, ◌<◌, ◌≤◌, ◌==◌, true, false, List, [], ◌∷◌, length, get_or, set, map, All, refl, sym, ◌∙◌, ap, subst, arith}
 use Rattle.std.specs.List.{position_or_len}
-use Rattle.std.specs.Option.{option_map}
 use Rattle.std.proofs.lemmas.Bool.Decides.{nat_tests}
 use Rattle.std.proofs.lemmas.List.{get_or_default}
 use Rattle.std.proofs.lemmas.List.Elements.{All-head, All-tail, All-weaker}
-use Rattle.std.proofs.lemmas.List.Folds.{find_at}
-use Rattle.std.proofs.lemmas.Option.{slice_get-get_or, slice_get_past}
 use Rattle.std.proofs.lemmas.List.Sums.{passes_at_first, fails_before_first}
 use Rattle.model_octets.proofs.PairLemmas.{pairs_head, pairs_tail}
 use Rattle.mdbox_base.specs.declared.ids.MapUid.{MapUid}
 use Rattle.mdbox_base.specs.declared.entries.MapCount.{MapCount}
-use Rattle.mdbox_base.specs.declared.entries.MapPlace.{MapPlace}
 use Rattle.mdbox_base.specs.declared.entries.MapEntry.TheVariants as entry
-use Rattle.model_meaning.specs.MapMeaning.{MapRecord, record_changed, has_map_uid, place_given, moved_record}
+use Rattle.model_meaning.specs.MapMeaning.{MapRecord, record_changed}
 use Rattle.model_meaning.proofs.MapPlaceLemmas.{equal_is}
 use Rattle.map_rows.specs.declared.rows.Record.{Record}
 use Rattle.map_rows.specs.Lookups.{meant_record}
-use Rattle.map_rows.proofs.DerivedListLemmas.{All-unmap, find-map}
+use Rattle.map_rows.proofs.DerivedListLemmas.{All-unmap}
 
 abbrev pub Rise : List Record → Type 0
 Rise records = AllPairs (λ a b. a.row.uid.0 < b.row.uid.0) records
@@ -87,84 +83,6 @@ sets_only given row apart = rw (unequal given.uid.0 row.uid (λ e. apart (sym e)
 
 pub given_count : (given : MapCount) (row : MapRecord) → row.uid ≡ given.uid.0 → record_changed (entry.T (given ∷ [])) row ≡ record row { count = given.count }
 given_count given row e = rw (equal given.uid.0 row.uid (sym e)) refl
-
--- ---- records that are dropped
-
-abbrev keeps : MapUid → MapRecord → Bool
-keeps uid row = not (has_map_uid row.uid (uid ∷ []))
-
-keeps_other : (uid : MapUid) (row : MapRecord) → row.uid ≢ uid.0 → keeps uid row ≡ true
-keeps_other uid row apart = rw (unequal uid.0 row.uid (λ e. apart (sym e))) refl
-
-drops_it : (uid : MapUid) (row : MapRecord) → row.uid ≡ uid.0 → keeps uid row ≡ false
-drops_it uid row e = rw (equal uid.0 row.uid (sym e)) refl
-
-all_kept : (uid : MapUid) (records : List Record) → All (λ r. r.row.uid.0 ≢ uid.0) records → filter (keeps uid) (map meant_record records) ≡ map meant_record records
-all_kept uid [] a = refl
-all_kept uid (r ∷ records) a =
-    let e = keeps_other uid (meant_record r) (All-head (λ x. x.row.uid.0 ≢ uid.0) r records a) in
-    rw e (ap (λ (rows : List MapRecord). meant_record r ∷ rows) (all_kept uid records (All-tail (λ x. x.row.uid.0 ≢ uid.0) r records a)))
-
-from_start : (records : List Record) → map meant_record (drop 0 records) ≡ map meant_record records
-from_start [] = refl
-from_start (r ∷ records) = refl
-
-one_dropped : (uid : MapUid) (records : List Record) (at : ℕ) → Rise records → at < length records → ((d : Record) → (get_or records at d).row.uid.0 ≡ uid.0) → map meant_record (remove records at) ≡ filter (keeps uid) (map meant_record records)
-one_dropped uid [] at rise within hit = absurd (omega (arith, within))
-one_dropped uid (r ∷ records) zero rise within hit =
-    let e = drops_it uid (meant_record r) (hit r) in
-    let it : r.row.uid.0 ≡ uid.0 = hit r in
-    rw e (from_start records ∙ sym (all_kept uid records (All-weaker (λ x. r.row.uid.0 < x.row.uid.0) (λ x. x.row.uid.0 ≢ uid.0) (λ x l s. omega (arith, l, s, it)) records (pairs_head (λ a b. a.row.uid.0 < b.row.uid.0) r records rise))))
-one_dropped uid (r ∷ records) (suc at) rise within hit =
-    let it : (get_or records at r).row.uid.0 ≡ uid.0 = hit r in
-    let less : r.row.uid.0 < (get_or records at r).row.uid.0 = rise 0 (suc at) r (omega arith) within in
-    let e = keeps_other uid (meant_record r) (λ s. omega (arith, it, less, s)) in
-    rw e (ap (λ (rows : List MapRecord). meant_record r ∷ rows) (one_dropped uid records at (pairs_tail (λ a b. a.row.uid.0 < b.row.uid.0) r records rise) (omega (arith, within)) (λ d. hit d)))
-
-pub dropped_at : (uid : MapUid) (records : List Record) (at : ℕ) → Rise records → at ≡ position_or_len (λ (r : Record). r.row.uid.0 == uid.0) records → at < length records → map meant_record (remove records at) ≡ filter (λ row. not (has_map_uid row.uid (uid ∷ []))) (map meant_record records)
-dropped_at uid records at rise e within = one_dropped uid records at rise within (here uid.0 records at e within)
-
-pub dropped_nowhere : (uid : MapUid) (records : List Record) (at : ℕ) → at ≡ position_or_len (λ (r : Record). r.row.uid.0 == uid.0) records → length records ≤ at → map meant_record records ≡ filter (λ row. not (has_map_uid row.uid (uid ∷ []))) (map meant_record records)
-dropped_nowhere uid records at e past =
-    sym (all_kept uid records (λ k d lt same. differs _ uid.0 (fails_before_first (λ (r : Record). r.row.uid.0 == uid.0) records k d (omega (arith, e, past, lt))) same))
-  where
-    differs : (a b : ℕ) → (a == b) ≡ false → a ≡ b → ⊥
-    differs a b h e = grind (arith, nat_tests, h, e)
-
--- the record that was taken out
-pub taken_at : (uid : ℕ) (records : List Record) (at : ℕ) (r : Record) → at ≡ position_or_len (λ (r : Record). r.row.uid.0 == uid) records → at < length records → r ≡ get_or records at r → Some (meant_record r) ≡ find (λ row. row.uid == uid) (map meant_record records)
-taken_at uid records at r e within is =
-    ap (option_map meant_record) (ap Some is ∙ sym (slice_get-get_or records at r within) ∙ ap (slice_get records) e ∙ sym (find_at (λ (x : Record). x.row.uid.0 == uid) records))
-    ∙ sym (find-map (λ (row : MapRecord). row.uid == uid) meant_record records)
-
-pub not_taken : (uid : ℕ) (records : List Record) (at : ℕ) → at ≡ position_or_len (λ (r : Record). r.row.uid.0 == uid) records → length records ≤ at → None ≡ find (λ row. row.uid == uid) (map meant_record records)
-not_taken uid records at e past =
-    ap (option_map meant_record) (sym (slice_get_past records at past) ∙ ap (slice_get records) e ∙ sym (find_at (λ (x : Record). x.row.uid.0 == uid) records))
-    ∙ sym (find-map (λ (row : MapRecord). row.uid == uid) meant_record records)
-
--- ---- records that are moved
-
-abbrev moves : ℕ → List MapPlace → MapRecord → MapRecord
-moves target places row = moved_record row target (place_given row.uid places)
-
-pub moves_only : (target : ℕ) (given : MapPlace) → ChangesOnly given.uid.0 (moves target (given ∷ []))
-moves_only target given row apart = rw (unequal given.uid.0 row.uid (λ e. apart (sym e))) refl
-
-moved_to : (target : ℕ) (given : MapPlace) (row : MapRecord) → row.uid ≡ given.uid.0 → moves target (given ∷ []) row ≡ record row { file = target; offset = given.offset }
-moved_to target given row e = rw (equal given.uid.0 row.uid (sym e)) refl
-
-abbrev with_place : Record → Record → ℕ → ℕ → Record
-with_place old new target offset = record { row = record old.row { file = record { 0 = target }; offset = offset }; instances = new.instances }
-
--- the record stands at its place, with its new place in the files
-pub moved_at : (target : ℕ) (given : MapPlace) (records : List Record) (at : ℕ) (old new : Record) → Rise records → at ≡ position_or_len (λ (r : Record). r.row.uid.0 == given.uid.0) records → at < length records → old ≡ get_or records at old → new ≡ get_or records at new
-    → map meant_record (set records at (with_place old new target given.offset)) ≡ map (λ row. moved_record row target (place_given row.uid (given ∷ []))) (map meant_record records)
-moved_at target given records at old new rise e within old_is new_is =
-    let got : get_or records at (with_place old new target given.offset) ≡ old = get_or_default records at (with_place old new target given.offset) old within ∙ sym old_is in
-    let same : new ≡ old = new_is ∙ get_or_default records at new old within ∙ sym old_is in
-    let hit : old.row.uid.0 ≡ given.uid.0 = ap (λ (r : Record). r.row.uid.0) old_is ∙ here given.uid.0 records at e within old in
-    let is : meant_record (with_place old new target given.offset) ≡ moves target (given ∷ []) (meant_record old) = ap (λ (r : Record). meant_record (with_place old r target given.offset)) same ∙ sym (moved_to target given (meant_record old) hit) in
-    changed_at (moves target (given ∷ [])) given.uid.0 records at (with_place old new target given.offset) (moves_only target given) rise e within (is ∙ ap (λ (r : Record). moves target (given ∷ []) (meant_record r)) (sym got))
 
 -- ---- for the calls
 

@@ -9,4 +9,5 @@ pub mod NearLemmas
 pub mod OrderLemmas
 pub mod RegionLemmas
 pub mod SearchLemmas
+pub mod SwitchLemmas
 pub mod TableLemmas

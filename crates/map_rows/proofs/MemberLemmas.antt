@@ -5,7 +5,7 @@ use Rattle.std.proofs.lemmas.Bool.Decides.{nat_tests}
 use Rattle.std.proofs.lemmas.List.Elements.{All-head, All-tail, All-weaker}
 use Rattle.model_octets.proofs.PairLemmas.{pairs_head, pairs_tail, found_holds}
 use Rattle.map_rows.specs.declared.order.OrderKey.{OrderKey}
-use Rattle.map_rows.specs.Orders.{NumbersRise, with_key, without_number, times, AreKeysOf}
+use Rattle.map_rows.specs.Orders.{NumbersRise, with_key, times, AreKeysOf}
 
 -- ---- counts and searches
 
@@ -169,18 +169,6 @@ count_filter p q (x ∷ xs) = step (q x) (p x) refl (count_filter p q xs)
     step true true e h = rw e (ap (λ (n : ℕ). 1 + n) h)
     step true false e h = rw e h
     step false c e h = h
-
-pub keys_removed : {R : Type 0} → (key : R → OrderKey) (keys : List OrderKey) (rows : List R) (u : ℕ) (r : R) → AreKeysOf key keys rows → NumbersRise keys → times (λ x. (key x).uid.0 == u) rows ≤ 1 → find (λ x. (key x).uid.0 == u) rows ≡ Some r
-    → AreKeysOf key (without_number (key r).number keys) (filter (λ x. not ((key x).uid.0 == u)) rows)
-keys_removed key keys rows u r are rise once e p =
-    let n = (key r).number in
-    let hit = (found_holds (λ x. (key x).uid.0 == u) rows r (λ x. Unit {0}) e (λ i d lt. tt)).1 in
-    let few : times (λ x. (key x).number == n) rows ≤ 1 = subst (λ (c : ℕ). c ≤ 1) (are (λ (x : OrderKey). x.number == n)) (rise_once n keys rise) in
-    let left = count_filter p (λ (x : OrderKey). not (x.number == n)) keys ∙ are (λ (x : OrderKey). not (x.number == n) && p x) in
-    let right = count_filter (λ x. p (key x)) (λ x. not ((key x).uid.0 == u)) rows in
-    let a = without_one (λ x. (key x).uid.0 == u) (λ x. (key x).number == n) (λ x. p (key x)) rows r few e (same_number n) in
-    let b = without_one (λ x. (key x).uid.0 == u) (λ x. (key x).uid.0 == u) (λ x. p (key x)) rows r once e hit in
-    omega (arith, left, right, a, b)
 
 mapped_step : (b c : Bool) (m n : ℕ) → b ≡ c → m ≡ n → cond b (1 + m) m ≡ cond c (1 + n) n
 mapped_step b c m n e g = cc (e, g)

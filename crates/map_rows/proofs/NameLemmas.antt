@@ -1,23 +1,24 @@
 -- Namings of instances: how many there are after a change, and what is named.
-use Rattle.std.specs.Prelude.{AllPairs, insert, remove, flat_map, is_some, ◌↔◌, IsTrue}
+use Rattle.std.specs.Prelude.{AllPairs, ◌⊎◌, insert, remove, nat_le, flat_map, is_some, ◌↔◌, IsTrue}
 use Rattle.std.specs.Borrow.{Bor}
 use Rattle.std.specs.List.{list_any}
 use Rattle.std.specs.Option.{option_map, option_copied}
 use Rattle.std.specs.Str.{bytes_eq}
 use Rattle.std.specs.Prelude.{IfOk, IfErr}
-use Rattle.std.specs.List.Sorted.{IsSearchInRange, IsBinarySearchResult}
+use Rattle.std.specs.List.Sorted.{IsSearchInRange, IsBinarySearchResult, IsStrictlyIncreasing}
 use Rattle.std.specs.Ordering.{nat_cmp}
 use Rattle.std.proofs.lemmas.Cmp.{ranked}
 use Rattle.mdbox_base.specs.Words.{IsOctets}
 use Rattle.std.proofs.Common.{Result, Ok, Err, ◌≡◌, ◌+◌, ◌<◌, ◌≤◌, ◌==◌, ◌&&◌, ◌||◌, ◌++◌, ℕ, zero, suc, Bool, true, false, not, cond, Option, Some, None, List, [], ◌∷◌, length, get_or, set, take, drop, find, filter, map, All, refl, sym, ◌∙◌, ap, subst, inl, inr, arith, add-one}
 use Rattle.std.proofs.lemmas.Bool.{cases_lt}
-use Rattle.std.proofs.lemmas.List.Elements.{All-nil, All-cons, All-head, All-tail, All-weaker, All-append, All-take, All-drop, Contains-get_or, filter_agree}
+use Rattle.std.proofs.lemmas.Bool.Decides.{nat_tests}
+use Rattle.std.proofs.lemmas.List.Elements.{All-nil, All-cons, All-head, All-tail, All-weaker, All-append, All-take, All-drop, All-filter, filter_passes, Contains-get_or}
 use Rattle.std.proofs.lemmas.List.Folds.{list_any_none}
-use Rattle.std.proofs.lemmas.List.Kept.{AllPairs-cons}
+use Rattle.std.proofs.lemmas.List.Kept.{AllPairs-cons, AllPairs-filter, AllPairs-from_increasing}
 use Rattle.mdbox_base.specs.declared.ids.Hash.{Hash}
 use Rattle.mdbox_base.specs.declared.ids.InstId.{InstId}
 use Rattle.mdbox_base.specs.declared.entries.InstRow.{InstRow}
-use Rattle.model_octets.proofs.PairLemmas.{NotBoth, pairs_head, pairs_tail, pairs_nil, found_among, found_holds, found_only}
+use Rattle.model_octets.proofs.PairLemmas.{NotBoth, pairs_head, pairs_map, pairs_tail, pairs_nil, found_among, found_holds, found_only}
 use Rattle.model_octets.proofs.SearchLemmas.{found_is, found_none, text_is, text_yes}
 use Rattle.model_meaning.specs.MapMeaning.{MapRecord}
 use Rattle.model_meaning.specs.MapFits.{AgreesOn}
@@ -25,16 +26,15 @@ use Rattle.mdbox_base.specs.declared.ids.MapUid.{MapUid}
 use Rattle.model_meaning.specs.MapMeaning.{has_map_uid}
 use Rattle.map_rows.specs.declared.rows.Record.{Record}
 use Rattle.map_rows.specs.Lookups.{meant_record}
-use Rattle.map_rows.proofs.DerivedListLemmas.{list_any-flat_map}
+use Rattle.map_rows.proofs.DerivedListLemmas.{list_any-flat_map, find-map}
 use Rattle.map_rows.proofs.LookupLemmas.{uid_once}
-use Rattle.map_rows.proofs.TableLemmas.{kept_same}
 use Rattle.map_rows.specs.declared.names.NamedInstance.{NamedInstance}
 use Rattle.map_rows.specs.Keys.{guid_number}
-use Rattle.map_rows.specs.Named.{namings_of, all_namings, AreNamesOf, is_instance, IsOnlyNaming, IsNaming, AreNamings, IsNamedAt, IsGapFor, instances_of}
+use Rattle.map_rows.specs.Named.{namings_of, all_namings, AreNamesOf, is_instance, IsOnlyNaming, IsNumbered, AreNumbered, IsNaming, AreNamings, IsNamedAt, IsGapFor, instances_of}
 use Rattle.map_rows.specs.Orders.{times}
 use Rattle.map_rows.proofs.KeyLemmas.{guid_only}
 use Rattle.map_rows.proofs.NearLemmas.{none_found}
-use Rattle.map_rows.proofs.SearchLemmas.{answers_rise}
+use Rattle.map_rows.proofs.SearchLemmas.{answers_rise, pairs_unmap}
 use Rattle.map_rows.proofs.MemberLemmas.{find_counted, none_counted, count_append, both, equal_is, same_number}
 
 -- ---- one instance
@@ -164,24 +164,28 @@ all_instances P named xs are a =
 
 -- ---- the naming of an id
 
-ids_apart : (named : List NamedInstance) (id : List ℕ) → AreNamings named → AllPairs (NotBoth (λ n. bytes_eq n.row.id.0 id)) named
+-- without how often they are named
+pub numbered : (named : List NamedInstance) → AreNamings named → AreNumbered named
+numbered named are = record { rising = are.rising; each = All-weaker IsNaming IsNumbered (λ n h. h.is) named are.each }
+
+ids_apart : (named : List NamedInstance) (id : List ℕ) → AreNumbered named → AllPairs (NotBoth (λ n. bytes_eq n.row.id.0 id)) named
 ids_apart named id are i j d lt le = apart _ _ (are.rising i j d lt le) (are.each i d (omega (arith, lt, le))) (are.each j d le)
   where
-    apart : (a b : NamedInstance) → a.number < b.number → IsNaming a → IsNaming b → NotBoth (λ n. bytes_eq n.row.id.0 id) a b
+    apart : (a b : NamedInstance) → a.number < b.number → IsNumbered a → IsNumbered b → NotBoth (λ n. bytes_eq n.row.id.0 id) a b
     apart a b l ka kb p q =
         let same : guid_number a.row.id.0 ≡ guid_number b.row.id.0 = ap guid_number (text_is a.row.id.0 id p ∙ sym (text_is b.row.id.0 id q)) in
         let m = ka.number in
         let n = kb.number in
         omega (arith, l, same, m, n)
 
-pub only_naming : (named : List NamedInstance) (id : List ℕ) (n : NamedInstance) → AreNamings named → find (λ m. bytes_eq m.row.id.0 id) named ≡ Some n → All (λ m. bytes_eq m.row.id.0 id ≡ true → m ≡ n) named
+pub only_naming : (named : List NamedInstance) (id : List ℕ) (n : NamedInstance) → AreNumbered named → find (λ m. bytes_eq m.row.id.0 id) named ≡ Some n → All (λ m. bytes_eq m.row.id.0 id ≡ true → m ≡ n) named
 only_naming named id n are e = found_only (λ m. bytes_eq m.row.id.0 id) named n e (ids_apart named id are)
 
 -- the instances of the id that was found are the one that was found
 pub only_instance : (named : List NamedInstance) (xs : List InstRow) (id : List ℕ) (n : NamedInstance) → AreNamings named → AreNamesOf named xs → find (λ m. bytes_eq m.row.id.0 id) named ≡ Some n → All (λ i. bytes_eq i.id.0 id ≡ true → i ≡ n.row) xs
 only_instance named xs id n are names e =
     all_instances (λ i. bytes_eq i.id.0 id ≡ true → i ≡ n.row) named xs names
-    (All-weaker (λ m. bytes_eq m.row.id.0 id ≡ true → m ≡ n) (λ m. bytes_eq m.row.id.0 id ≡ true → m.row ≡ n.row) (λ m h p. ap (λ (x : NamedInstance). x.row) (h p)) named (only_naming named id n are e))
+    (All-weaker (λ m. bytes_eq m.row.id.0 id ≡ true → m ≡ n) (λ m. bytes_eq m.row.id.0 id ≡ true → m.row ≡ n.row) (λ m h p. ap (λ (x : NamedInstance). x.row) (h p)) named (only_naming named id n (numbered named are) e))
 
 pub no_instance : (named : List NamedInstance) (xs : List InstRow) (id : List ℕ) → AreNamesOf named xs → find (λ m. bytes_eq m.row.id.0 id) named ≡ None → All (λ i. bytes_eq i.id.0 id ≡ false) xs
 no_instance named xs id names e = all_instances (λ i. bytes_eq i.id.0 id ≡ false) named xs names (found_none (λ m. bytes_eq m.row.id.0 id) named e)
@@ -389,16 +393,16 @@ searched_names named n rise (Err at) within parted = (
 )
 
 -- the naming at the place of an id has this id
-id_at : (id : List ℕ) (n : NamedInstance) → IsNaming n → length id ≡ 16 → IsOctets id → n.number ≡ guid_number id → n.row.id.0 ≡ id
+id_at : (id : List ℕ) (n : NamedInstance) → IsNumbered n → length id ≡ 16 → IsOctets id → n.number ≡ guid_number id → n.row.id.0 ≡ id
 id_at id n k long octets e = guid_only n.row.id.0 id k.long k.octets long octets (sym k.number ∙ e)
 
-pub named_at : (named : List NamedInstance) (id : List ℕ) (at : ℕ) (d : NamedInstance) → AreNamings named → length id ≡ 16 → IsOctets id → IsNamedAt named (guid_number id) at → find (λ m. bytes_eq m.row.id.0 id) named ≡ Some (get_or named at d)
+pub named_at : (named : List NamedInstance) (id : List ℕ) (at : ℕ) (d : NamedInstance) → AreNumbered named → length id ≡ 16 → IsOctets id → IsNamedAt named (guid_number id) at → find (λ m. bytes_eq m.row.id.0 id) named ≡ Some (get_or named at d)
 named_at named id at d are long octets there =
     found_is (λ m. bytes_eq m.row.id.0 id) named (get_or named at d) (Contains-get_or named at d there.within)
     (text_yes (get_or named at d).row.id.0 id (id_at id (get_or named at d) (are.each at d there.within) long octets (there.is d)))
     (ids_apart named id are)
 
-pub named_gap : (named : List NamedInstance) (id : List ℕ) (at : ℕ) → AreNamings named → IsGapFor named (guid_number id) at → find (λ m. bytes_eq m.row.id.0 id) named ≡ None
+pub named_gap : (named : List NamedInstance) (id : List ℕ) (at : ℕ) → AreNumbered named → IsGapFor named (guid_number id) at → find (λ m. bytes_eq m.row.id.0 id) named ≡ None
 named_gap named id at are gap =
     none_found (λ m. bytes_eq m.row.id.0 id) named
     (λ k d lt. not_true (bytes_eq (get_or named k d).row.id.0 id) (λ e.
@@ -412,16 +416,7 @@ named_gap named id at are gap =
     not_true true h = absurd (h refl)
     not_true false h = refl
 
--- an instance that is named stands at the place of its id
-pub row_at : (named : List NamedInstance) (row : InstRow) (at : ℕ) (d : NamedInstance) → AreNamings named → 1 ≤ namings_of (is_instance row) named → length row.id.0 ≡ 16 → IsOctets row.id.0 → IsNamedAt named (guid_number row.id.0) at → (get_or named at d).row ≡ row
-row_at named row at d are some long octets there =
-    let m = naming_found (is_instance row) named some in
-    let is : m.0.row ≡ row = instance_is row m.0.row m.2 in
-    let one = found_among (λ x. is_instance row x.row) named m.0 (λ x. bytes_eq x.row.id.0 row.id.0 ≡ true → x ≡ get_or named at d) m.1
-    (only_naming named row.id.0 (get_or named at d) are (named_at named row.id.0 at d are long octets there)) in
-    ap (λ (x : NamedInstance). x.row) (sym (one (text_yes m.0.row.id.0 row.id.0 (ap (λ (r : InstRow). r.id.0) is)))) ∙ is
-
-pub row_there : (named : List NamedInstance) (row : InstRow) (at : ℕ) → AreNamings named → 1 ≤ namings_of (is_instance row) named → IsGapFor named (guid_number row.id.0) at → ⊥
+pub row_there : (named : List NamedInstance) (row : InstRow) (at : ℕ) → AreNumbered named → 1 ≤ namings_of (is_instance row) named → IsGapFor named (guid_number row.id.0) at → ⊥
 row_there named row at are some gap =
     let m = naming_found (is_instance row) named some in
     let is : m.0.row ≡ row = instance_is row m.0.row m.2 in
@@ -488,17 +483,6 @@ one_less p named at old new row lt is same kept less =
     joined true x y w v m n h i j k = omega (arith, h, i, j, k)
     joined false x y w v m n h i j k = omega (arith, h, i, j, k)
 
-pub last_naming : (p : InstRow → Bool) (named : List NamedInstance) (at : ℕ) (old : NamedInstance) (row : InstRow) → at < length named → old ≡ get_or named at old → old.row ≡ row → old.namings ≡ 1 → namings_of p (remove named at) + times p (row ∷ []) ≡ namings_of p named
-last_naming p named at old row lt is same one =
-    let h = namings_remove p named at old lt in
-    let a : worth p (get_or named at old) ≡ worth p old = ap (worth p) (sym is) in
-    let b : worth p old ≡ cond (p row) old.namings 0 = ap (λ (r : InstRow). cond (p r) old.namings 0) same in
-    joined (p row) _ _ _ old.namings h (a ∙ b) one
-  where
-    joined : (b : Bool) (x y w n : ℕ) → x + w ≡ y → w ≡ cond b n 0 → n ≡ 1 → x + cond b (1 + 0) 0 ≡ y
-    joined true x y w n h i j = omega (arith, h, i, j)
-    joined false x y w n h i j = omega (arith, h, i, j)
-
 some_worth : (p : InstRow → Bool) (named : List NamedInstance) (at : ℕ) (d : NamedInstance) → at < length named → worth p (get_or named at d) ≤ namings_of p named
 some_worth p [] at d lt = absurd (omega (arith, lt))
 some_worth p (x ∷ named) zero d lt = omega arith
@@ -510,7 +494,7 @@ namings_within named at old lt is = let h = some_worth (λ row. true) named at o
 
 pub same_at : (named : List NamedInstance) (row : InstRow) (at : ℕ) (old : NamedInstance) → AreNamings named → All (IsOnlyNaming row) named → length row.id.0 ≡ 16 → IsOctets row.id.0 → IsNamedAt named (guid_number row.id.0) at → old ≡ get_or named at old → old.row ≡ row
 same_at named row at old are only long octets there is =
-    ap (λ (n : NamedInstance). n.row) is ∙ only at old there.within (id_at row.id.0 (get_or named at old) (are.each at old there.within) long octets (there.is old))
+    ap (λ (n : NamedInstance). n.row) is ∙ only at old there.within (id_at row.id.0 (get_or named at old) (are.each at old there.within).is long octets (there.is old))
 
 -- ---- one after another
 
@@ -590,8 +574,194 @@ no_file_in_records named rows ms hash id view names e =
     no_file_named named (instances_of rows) id hash names e ∙ list_any-flat_map (λ (i : InstRow). bytes_eq i.hash.0 hash && bytes_eq i.id.0 id) (λ (row : MapRecord). row.instances) rows
     ∙ ap (list_any (λ (row : MapRecord). list_any (λ (i : InstRow). bytes_eq i.hash.0 hash && bytes_eq i.id.0 id) row.instances)) view
 
-pub dropped_names : (named new : List NamedInstance) (rows left : List MapRecord) (uid : MapUid) (r : MapRecord) → AreNamesOf named (instances_of rows) → AllPairs (λ a b. a.uid < b.uid) rows → find (λ x. x.uid == uid.0) rows ≡ Some r → ((p : InstRow → Bool) → namings_of p new + times p r.instances ≡ namings_of p named)
-    → left ≡ filter (λ x. not (has_map_uid x.uid (uid ∷ []))) rows → AreNamesOf new (instances_of left)
-dropped_names named new rows left uid r names rising e less is =
-    subst (λ (ms : List MapRecord). AreNamesOf new (instances_of ms)) (filter_agree (λ x. not (x.uid == uid.0)) (λ x. not (has_map_uid x.uid (uid ∷ []))) (kept_same uid) rows ∙ sym is)
-    (names_dropped named new rows uid.0 r names (uid_once uid.0 rows rising) e less)
+-- ---- namings of the records that a list names
+
+times_all : (xs : List InstRow) → times (λ i. true) xs ≡ length xs
+times_all [] = refl
+times_all (x ∷ xs) = let e = times_all xs in omega (arith, e)
+
+-- so many namings are fewer
+pub fewer : (named old : List NamedInstance) (rows : List InstRow) → ((p : InstRow → Bool) → namings_of p named + times p rows ≡ namings_of p old) → all_namings named + length rows ≡ all_namings old
+fewer named old rows names = let a = names (λ i. true) in let b = times_all rows in omega (arith, a, b)
+
+nothing_named : (m : ℕ) → nat_le 1 m ≡ false → m ≡ 0
+nothing_named m h = grind (arith, nat_tests, h)
+
+swept_step : (p : InstRow → Bool) (n : NamedInstance) (kept named : List NamedInstance) (b : Bool) → nat_le 1 n.namings ≡ b → namings_of p kept ≡ namings_of p named → namings_of p (cond b (n ∷ kept) kept) ≡ namings_of p (n ∷ named)
+swept_step p n kept named true e h = ap (λ (k : ℕ). worth p n + k) h
+swept_step p n kept named false e h = h ∙ none (p n.row) n.namings (namings_of p named) (nothing_named n.namings e)
+  where
+    none : (b : Bool) (m k : ℕ) → m ≡ 0 → k ≡ cond b m 0 + k
+    none true m k z = omega (arith, z)
+    none false m k z = omega arith
+
+-- instances that are named no more are left out
+pub swept_names : (p : InstRow → Bool) (named : List NamedInstance) → namings_of p (filter (λ n. nat_le 1 n.namings) named) ≡ namings_of p named
+swept_names p [] = refl
+swept_names p (n ∷ named) = swept_step p n (filter (λ m. nat_le 1 m.namings) named) named (nat_le 1 n.namings) refl (swept_names p named)
+
+pub swept_are : (named : List NamedInstance) → AreNumbered named → AreNamings (filter (λ n. nat_le 1 n.namings) named)
+swept_are named are = record {
+  rising = AllPairs-filter (λ a b. a.number < b.number) (λ n. nat_le 1 n.namings) named are.rising;
+  each = both_all (filter (λ n. nat_le 1 n.namings) named) (All-filter (λ n. nat_le 1 n.namings) IsNumbered named are.each) (filter_passes (λ n. nat_le 1 n.namings) named);
+}
+  where
+    at_least : (m : ℕ) → nat_le 1 m ≡ true → 1 ≤ m
+    at_least m h = grind (arith, nat_tests, h)
+
+    both_all : (ns : List NamedInstance) → All IsNumbered ns → All (λ n. nat_le 1 n.namings ≡ true) ns → All IsNaming ns
+    both_all ns a b = λ k d lt. record { is = a k d lt; some = at_least _ (b k d lt) }
+
+abbrev named_in : List MapUid → MapRecord → Bool
+named_in uids row = has_map_uid row.uid uids
+
+has_more : (u : ℕ) (uids : List MapUid) (k : ℕ) (d : MapUid) → k < length uids → has_map_uid u (take (suc k) uids) ≡ (has_map_uid u (take k uids) || ((get_or uids k d).0 == u))
+has_more u [] k d lt = absurd (omega (arith, lt))
+has_more u (v ∷ uids) zero d lt = at_end (v.0 == u)
+  where
+    at_end : (b : Bool) → (b || false) ≡ (false || b)
+    at_end true = refl
+    at_end false = refl
+has_more u (v ∷ uids) (suc k) d lt = ap (λ (b : Bool). (v.0 == u) || b) (has_more u uids k d (omega (arith, lt))) ∙ turned (v.0 == u) _ _
+  where
+    turned : (a b c : Bool) → (a || (b || c)) ≡ ((a || b) || c)
+    turned true b c = refl
+    turned false b c = refl
+
+-- a record that no list names so far
+not_before : (uids : List MapUid) (k : ℕ) (d : MapUid) → AllPairs (λ a b. a.0 < b.0) uids → k < length uids → has_map_uid (get_or uids k d).0 (take k uids) ≡ false
+not_before [] k d rise lt = absurd (omega (arith, lt))
+not_before (v ∷ uids) zero d rise lt = refl
+not_before (v ∷ uids) (suc k) d rise lt =
+    let less = pairs_head (λ a b. a.0 < b.0) v uids rise k d (omega (arith, lt)) in
+    rw (unequal v.0 (get_or uids k d).0 less) (not_before uids k d (pairs_tail (λ a b. a.0 < b.0) v uids rise) (omega (arith, lt)))
+  where
+    unequal : (a b : ℕ) → a < b → (a == b) ≡ false
+    unequal a b h = grind (arith, nat_tests, h)
+
+left_step : (q : MapRecord → Bool) (row : MapRecord) (kept all : List MapRecord) (now before hit : Bool) → now ≡ (before || hit) → q row ≡ not hit → filter q kept ≡ all → filter q (cond (not before) (row ∷ kept) kept) ≡ cond (not now) (row ∷ all) all
+left_step q row kept all now true hit e h f = rw e f
+left_step q row kept all now false true e h f = rw (e, h) f
+left_step q row kept all now false false e h f = rw (e, h) (ap (λ (rows : List MapRecord). row ∷ rows) f)
+
+turned : (a b : ℕ) → (b == a) ≡ (a == b)
+turned a b = grind (arith, nat_tests)
+
+left_twice : (uids : List MapUid) (k : ℕ) (d : MapUid) (rows : List MapRecord) → k < length uids
+    → filter (λ x. not (x.uid == (get_or uids k d).0)) (filter (λ x. not (named_in (take k uids) x)) rows) ≡ filter (λ x. not (named_in (take (suc k) uids) x)) rows
+left_twice uids k d [] lt = refl
+left_twice uids k d (row ∷ rows) lt =
+    left_step (λ x. not (x.uid == (get_or uids k d).0)) row (filter (λ x. not (named_in (take k uids) x)) rows) (filter (λ x. not (named_in (take (suc k) uids) x)) rows) (has_map_uid row.uid (take (suc k) uids)) (has_map_uid row.uid (take k uids)) ((get_or uids k d).0 == row.uid)
+    (has_more row.uid uids k d lt) (ap not (turned (get_or uids k d).0 row.uid)) (left_twice uids k d rows lt)
+
+-- a look-up among records that pass, where all that it finds pass
+passing_step : (p q : MapRecord → Bool) (row : MapRecord) (kept rows : List MapRecord) (b c : Bool) → p row ≡ b → q row ≡ c → (q row ≡ true → p row ≡ true) → find q kept ≡ find q rows → find q (cond b (row ∷ kept) kept) ≡ cond c (Some row) (find q rows)
+passing_step p q row kept rows true true e f h g = rw f refl
+passing_step p q row kept rows true false e f h g = rw f g
+passing_step p q row kept rows false true e f h g = absurd (let w : false ≡ true = sym e ∙ h f in cc w)
+passing_step p q row kept rows false false e f h g = g
+
+find_passing : (p q : MapRecord → Bool) (rows : List MapRecord) → ((r : MapRecord) → q r ≡ true → p r ≡ true) → find q (filter p rows) ≡ find q rows
+find_passing p q [] h = refl
+find_passing p q (row ∷ rows) h = passing_step p q row (filter p rows) rows (p row) (q row) refl refl (h row) (find_passing p q rows h)
+
+-- the records of the map uids so far are left out, and the next one is there if and only if it was
+found_left : (uids : List MapUid) (k : ℕ) (d : MapUid) (rows : List MapRecord) → AllPairs (λ a b. a.0 < b.0) uids → k < length uids
+    → find (λ x. x.uid == (get_or uids k d).0) (filter (λ x. not (named_in (take k uids) x)) rows) ≡ find (λ x. x.uid == (get_or uids k d).0) rows
+found_left uids k d rows rise lt =
+    find_passing (λ x. not (named_in (take k uids) x)) (λ x. x.uid == (get_or uids k d).0) rows
+    (λ r e. ap not (ap (λ (u : ℕ). has_map_uid u (take k uids)) (equal_is r.uid (get_or uids k d).0 e) ∙ not_before uids k d rise lt))
+
+abbrev pub left_of : List MapUid → ℕ → List MapRecord → List MapRecord
+left_of uids k rows = filter (λ row. not (has_map_uid row.uid (take k uids))) rows
+
+nothing_taken : (uids : List MapUid) → take 0 uids ≡ []
+nothing_taken [] = refl
+nothing_taken (u ∷ uids) = refl
+
+none_left_out : (rows : List MapRecord) → filter (λ row. not (has_map_uid row.uid [])) rows ≡ rows
+none_left_out [] = refl
+none_left_out (row ∷ rows) = ap (λ (rs : List MapRecord). row ∷ rs) (none_left_out rows)
+
+pub left_first : (uids : List MapUid) (rows : List MapRecord) → left_of uids 0 rows ≡ rows
+left_first uids rows = ap (λ (us : List MapUid). filter (λ row. not (has_map_uid row.uid us)) rows) (nothing_taken uids) ∙ none_left_out rows
+
+whole_taken : (uids : List MapUid) (k : ℕ) → length uids ≤ k → take k uids ≡ uids
+whole_taken [] zero le = refl
+whole_taken [] (suc k) le = refl
+whole_taken (u ∷ uids) zero le = absurd (omega (arith, le))
+whole_taken (u ∷ uids) (suc k) le = ap (λ (us : List MapUid). u ∷ us) (whole_taken uids k (omega (arith, le)))
+
+pub left_last : (uids : List MapUid) (k : ℕ) (rows : List MapRecord) → length uids ≤ k → left_of uids k rows ≡ filter (λ row. not (has_map_uid row.uid uids)) rows
+left_last uids k rows le = ap (λ (us : List MapUid). filter (λ row. not (has_map_uid row.uid us)) rows) (whole_taken uids k le)
+
+abbrev Rise : List Record → Type 0
+Rise records = AllPairs (λ a b. a.row.uid.0 < b.row.uid.0) records
+
+rows_rise : (records : List Record) → Rise records → AllPairs (λ a b. a.uid < b.uid) (map meant_record records)
+rows_rise records rise = pairs_map (λ a b. a.row.uid.0 < b.row.uid.0) (λ a b. a.uid < b.uid) meant_record (λ a b l. l) records rise
+
+left_rise : (uids : List MapUid) (k : ℕ) (records : List Record) → Rise records → AllPairs (λ a b. a.uid < b.uid) (left_of uids k (map meant_record records))
+left_rise uids k records rise = AllPairs-filter (λ a b. a.uid < b.uid) (λ x. not (named_in (take k uids) x)) (map meant_record records) (rows_rise records rise)
+
+uids_rise : (uids : List MapUid) → IsStrictlyIncreasing (map (λ (u : MapUid). u.0) uids) → AllPairs (λ a b. a.0 < b.0) uids
+uids_rise uids rise = pairs_unmap (λ (a b : ℕ). a < b) (λ (u : MapUid). u.0) uids (AllPairs-from_increasing _ rise)
+
+-- the record of the next map uid is among those that are left
+next_found : (uids : List MapUid) (k : ℕ) (d : MapUid) (records : List Record) (o : Option Record) → IsStrictlyIncreasing (map (λ (u : MapUid). u.0) uids) → k < length uids → o ≡ find (λ r. r.row.uid.0 == (get_or uids k d).0) records
+    → find (λ x. x.uid == (get_or uids k d).0) (left_of uids k (map meant_record records)) ≡ option_map meant_record o
+next_found uids k d records o rise lt e =
+    found_left uids k d (map meant_record records) (uids_rise uids rise) lt ∙ find-map (λ (row : MapRecord). row.uid == (get_or uids k d).0) meant_record records ∙ sym (ap (option_map meant_record) e)
+
+pub next_named : (named : List NamedInstance) (uids : List MapUid) (k : ℕ) (d : MapUid) (records : List Record) (r : Record) → Rise records → IsStrictlyIncreasing (map (λ (u : MapUid). u.0) uids) → k < length uids
+    → AreNamesOf named (instances_of (left_of uids k (map meant_record records))) → Some r ≡ find (λ x. x.row.uid.0 == (get_or uids k d).0) records → (p : InstRow → Bool) → times p r.instances ≤ namings_of p named
+next_named named uids k d records r rising rise lt names e =
+    names_there named (left_of uids k (map meant_record records)) (get_or uids k d).0 (meant_record r) names (uid_once (get_or uids k d).0 (left_of uids k (map meant_record records)) (left_rise uids k records rising)) (next_found uids k d records (Some r) rise lt e)
+
+pub next_dropped : (named new : List NamedInstance) (uids : List MapUid) (k : ℕ) (d : MapUid) (records : List Record) (r : Record) → Rise records → IsStrictlyIncreasing (map (λ (u : MapUid). u.0) uids) → k < length uids
+    → AreNamesOf named (instances_of (left_of uids k (map meant_record records))) → Some r ≡ find (λ x. x.row.uid.0 == (get_or uids k d).0) records → ((p : InstRow → Bool) → namings_of p new + times p r.instances ≡ namings_of p named)
+    → AreNamesOf new (instances_of (left_of uids (k + 1) (map meant_record records)))
+next_dropped named new uids k d records r rising rise lt names e less =
+    rw add-one
+    (subst (λ (ms : List MapRecord). AreNamesOf new (instances_of ms)) (left_twice uids k d (map meant_record records) lt)
+    (names_dropped named new (left_of uids k (map meant_record records)) (get_or uids k d).0 (meant_record r) names (uid_once (get_or uids k d).0 (left_of uids k (map meant_record records)) (left_rise uids k records rising)) (next_found uids k d records (Some r) rise lt e) less))
+
+pub next_missing : (named : List NamedInstance) (uids : List MapUid) (k : ℕ) (d : MapUid) (records : List Record) → IsStrictlyIncreasing (map (λ (u : MapUid). u.0) uids) → k < length uids
+    → AreNamesOf named (instances_of (left_of uids k (map meant_record records))) → None ≡ find (λ x. x.row.uid.0 == (get_or uids k d).0) records → AreNamesOf named (instances_of (left_of uids (k + 1) (map meant_record records)))
+next_missing named uids k d records rise lt names e =
+    let left = left_of uids k (map meant_record records) in
+    let whole = kept_whole (λ x. x.uid == (get_or uids k d).0) left (found_none (λ x. x.uid == (get_or uids k d).0) left (next_found uids k d records None rise lt e)) in
+    rw add-one (subst (λ (ms : List MapRecord). AreNamesOf named (instances_of ms)) (sym whole ∙ left_twice uids k d (map meant_record records) lt) names)
+
+-- ---- an instance that is named
+
+abbrev IsSomewhere : (InstRow → Bool) → List NamedInstance → Type 0
+IsSomewhere p named = (k : ℕ) × (k < length named) × ((d : NamedInstance) → (p (get_or named k d).row ≡ true) × (1 ≤ (get_or named k d).namings))
+
+somewhere_step : (p : InstRow → Bool) (n : NamedInstance) (named : List NamedInstance) (b : Bool) → p n.row ≡ b → (0 < n.namings) ⊎ (n.namings ≤ 0) → (1 ≤ namings_of p named → IsSomewhere p named) → 1 ≤ cond b n.namings 0 + namings_of p named → IsSomewhere p (n ∷ named)
+somewhere_step p n named true e (inl l) rest some = (0, omega arith, λ d. (e, omega (arith, l)))
+somewhere_step p n named true e (inr z) rest some = let r = rest (omega (arith, some, z)) in (suc r.0, (let w = r.1 in omega (arith, w)), λ d. r.2 d)
+somewhere_step p n named false e c rest some = let r = rest (omega (arith, some)) in (suc r.0, (let w = r.1 in omega (arith, w)), λ d. r.2 d)
+
+somewhere : (p : InstRow → Bool) (named : List NamedInstance) → 1 ≤ namings_of p named → IsSomewhere p named
+somewhere p [] some = absurd (omega (arith, some))
+somewhere p (n ∷ named) some = somewhere_step p n named (p n.row) refl (cases_lt 0 n.namings) (somewhere p named) some
+
+one_place : (named : List NamedInstance) (i j : ℕ) (d : NamedInstance) → AllPairs (λ a b. a.number < b.number) named → i < length named → j < length named → (get_or named i d).number ≡ (get_or named j d).number → i ≡ j
+one_place named i j d rise li lj e =
+    elim (cases_lt i j) [
+      | inl l ↦ absurd (let h : (get_or named i d).number < (get_or named j d).number = rise i j d l lj in omega (arith, h, e))
+      | inr ge ↦ elim (cases_lt j i) [
+        | inl l ↦ absurd (let h : (get_or named j d).number < (get_or named i d).number = rise j i d l li in omega (arith, h, e))
+        | inr le ↦ omega (arith, ge, le)
+      ]
+    ]
+
+-- an instance that is named stands at the place of its id
+pub named_there : (named : List NamedInstance) (row : InstRow) (at : ℕ) (d : NamedInstance) → AreNumbered named → 1 ≤ namings_of (is_instance row) named → IsNamedAt named (guid_number row.id.0) at → ((get_or named at d).row ≡ row) × (1 ≤ (get_or named at d).namings)
+named_there named row at d are some there =
+    let s = somewhere (is_instance row) named some in
+    let is : (get_or named s.0 d).row ≡ row = instance_is row (get_or named s.0 d).row (s.2 d).0 in
+    let here : (get_or named s.0 d).number ≡ guid_number (get_or named s.0 d).row.id.0 = (are.each s.0 d s.1).number in
+    let same : (get_or named s.0 d).number ≡ (get_or named at d).number = here ∙ ap (λ (r : InstRow). guid_number r.id.0) is ∙ sym (there.is d) in
+    subst (λ (k : ℕ). ((get_or named k d).row ≡ row) × (1 ≤ (get_or named k d).namings)) (one_place named s.0 at d are.rising s.1 there.within same) (is, (s.2 d).1)

@@ -1,8 +1,7 @@
 -- What a search finds among keys in order of number.
-use Rattle.std.specs.Prelude.{insert, remove}
-use Rattle.std.proofs.Common.{◌≡◌, ◌≢◌, inl, inr, ℕ, zero, suc, ◌-◌, ◌<◌, ◌≤◌, ◌==◌, Bool, true, false, not, List, [], ◌∷◌, ◌++◌, length, take, drop, slice_get, get_or, filter, find, fold, Option, Some, None, Result, Ok, Err, IfOk, IfErr, All, refl, sym, ◌∙◌, ap, subst, arith}
-use Rattle.std.specs.Prelude.{nat_lt, nat_le, IsSome}
-use Rattle.std.specs.Option.{is_some}
+use Rattle.std.specs.Prelude.{insert}
+use Rattle.std.proofs.Common.{◌≡◌, ◌≢◌, inl, inr, ℕ, zero, suc, ◌-◌, ◌<◌, ◌≤◌, ◌==◌, Bool, true, false, List, [], ◌∷◌, ◌++◌, length, take, drop, slice_get, get_or, filter, find, fold, Option, Some, None, Result, Ok, Err, IfOk, IfErr, All, refl, sym, ◌∙◌, ap, arith}
+use Rattle.std.specs.Prelude.{nat_lt, nat_le}
 use Rattle.std.specs.List.Sorted.{IsSearchInRange, IsBinarySearchResult, IsNonDecreasingBy}
 use Rattle.std.specs.Ordering.{nat_cmp, ordering_index}
 use Rattle.std.proofs.lemmas.Cmp.{ranked}
@@ -16,7 +15,7 @@ use Rattle.std.proofs.lemmas.List.Sums.{position_or_len_is}
 use Rattle.model_octets.proofs.PairLemmas.{pairs_head, pairs_tail}
 use Rattle.map_rows.specs.declared.order.OrderKey.{OrderKey}
 use Rattle.map_rows.specs.Value.{OrderValue}
-use Rattle.map_rows.specs.Orders.{NumbersRise, IsFoundAt, IsPlaceFor, IsFirstFrom, last_of, with_key, without_number}
+use Rattle.map_rows.specs.Orders.{NumbersRise, IsFoundAt, IsPlaceFor, IsFirstFrom, last_of, with_key}
 
 -- the answers of a search rise along the keys
 answers_rise : (keys : List OrderKey) (n : ℕ) → NumbersRise keys → IsNonDecreasingBy (λ k. ordering_index (nat_cmp k.number n)) keys
@@ -113,16 +112,6 @@ filter_back p (x ∷ keys) (suc at) miss hits =
     let h : p x ≡ false = miss 0 x (omega arith) (omega arith) in
     rw h (filter_back p keys at (λ k d lt le. miss (suc k) d (omega (arith, lt)) (omega (arith, le))) (λ k d le lt. hits (suc k) d (omega (arith, le)) (omega (arith, lt))))
 
--- what passes is all but what stands at a place
-filter_but : (p : OrderKey → Bool) (keys : List OrderKey) (at : ℕ) → at < length keys → ((k : ℕ) (d : OrderKey) → k ≢ at → k < length keys → p (get_or keys k d) ≡ true) → ((d : OrderKey) → p (get_or keys at d) ≡ false) → filter p keys ≡ remove keys at
-filter_but p [] at within hits miss = absurd (omega (arith, within))
-filter_but p (x ∷ keys) zero within hits miss =
-    let h : p x ≡ false = miss x in
-    rw h (filter_back p keys zero (λ k d lt le. absurd (omega (arith, lt))) (λ k d le lt. hits (suc k) d (λ e. absurd (omega (arith, e))) (omega (arith, lt))))
-filter_but p (x ∷ keys) (suc at) within hits miss =
-    let h : p x ≡ true = hits 0 x (λ e. absurd (omega (arith, e))) (omega arith) in
-    rw h (ap (λ (ys : List OrderKey). x ∷ ys) (filter_but p keys at (omega (arith, within)) (λ k d apart lt. hits (suc k) d (λ e. apart (omega (arith, e))) (omega (arith, lt))) (λ d. miss d)))
-
 -- ---- look-ups
 
 find_first : (p : OrderKey → Bool) (keys : List OrderKey) (at : ℕ) → at ≤ length keys → ((k : ℕ) → k < at → p (get_or keys k nowhere) ≡ false) → (at < length keys → p (get_or keys at nowhere) ≡ true) → find p keys ≡ slice_get keys at
@@ -183,15 +172,6 @@ inserted_is key keys at p =
     let back : filter (λ k. nat_lt key.number k.number) keys ≡ drop at keys = filter_back (λ k. nat_lt key.number k.number) keys at (λ k d lt le. let l = p.before k d lt in not_less key.number _ (omega (arith, l))) (λ k d le lt. less key.number _ (p.behind k d le lt)) in
     sym (ap (λ (ys : List OrderKey). ys ++ key ∷ filter (λ k. nat_lt key.number k.number) keys) front ∙ ap (λ (ys : List OrderKey). take at keys ++ key ∷ ys) back)
 
-pub removed_is : (keys : List OrderKey) (n at : ℕ) → NumbersRise keys → IsFoundAt keys n at → remove keys at ≡ without_number n keys
-removed_is keys n at rise f =
-    sym (filter_but (λ k. not (k.number == n)) keys at f.within
-    (λ k d apart lt. ap not (unequal _ n (λ e. let s = f.is d in elim (cases_lt k at) [
-      | inl before ↦ let l : (get_or keys k d).number < (get_or keys at d).number = rise k at d before f.within in omega (arith, l, s, e)
-      | inr behind ↦ let l : (get_or keys at d).number < (get_or keys k d).number = rise at k d (omega (arith, behind, apart)) lt in omega (arith, l, s, e)
-    ])))
-    (λ d. ap not (equal _ n (f.is d))))
-
 rises_between : (A : List OrderKey) (key : OrderKey) (B : List OrderKey) → NumbersRise A → All (λ a. a.number < key.number) A → NumbersRise B → All (λ b. key.number < b.number) B → NumbersRise (A ++ key ∷ B)
 rises_between [] key B p a q b = AllPairs-cons (λ x y. x.number < y.number) key B b q
 rises_between (x ∷ A) key B p a q b =
@@ -211,9 +191,6 @@ with_rises key keys rise =
     (AllPairs-filter (λ x y. x.number < y.number) (λ k. nat_lt key.number k.number) keys rise)
     (All-weaker (λ k. nat_lt key.number k.number ≡ true) (λ k. key.number < k.number) (λ k h. less_is _ _ h) _ (filter_passes (λ k. nat_lt key.number k.number) keys))
 
-pub without_rises : (n : ℕ) (keys : List OrderKey) → NumbersRise keys → NumbersRise (without_number n keys)
-without_rises n keys rise = AllPairs-filter (λ x y. x.number < y.number) (λ k. not (k.number == n)) keys rise
-
 -- ---- for the calls
 
 abbrev of_order : List OrderKey → ℕ → OrderValue
@@ -230,7 +207,3 @@ some_there (x ∷ keys) (suc at) lt e = some_there keys at (omega (arith, lt)) e
 -- a number that was found isn't new
 pub not_new : (keys : List OrderKey) (n at : ℕ) → NumbersRise keys → IsFoundAt keys n at → find (λ k. k.number == n) keys ≡ None → ⊥
 not_new keys n at rise f e = some_there keys at f.within (sym (found_is keys n at rise f) ∙ e)
-
--- a number that wasn't found isn't there
-pub not_there : (keys : List OrderKey) (n at : ℕ) → IsPlaceFor keys n at → IsSome (find (λ k. k.number == n) keys) → ⊥
-not_there keys n at p h = let w : false ≡ true = subst (λ (o : Option OrderKey). is_some o ≡ true) (absent_is keys n at p) h in cc w

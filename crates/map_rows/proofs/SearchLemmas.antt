@@ -1,17 +1,18 @@
 -- What a search finds among records in order of map uid.
 use Rattle.std.specs.Prelude.{AllPairs, nat_lt, position, slice_get}
-use Rattle.std.proofs.Common.{◌≡◌, ◌≢◌, inl, inr, ℕ, ◌<◌, ◌≤◌, ◌==◌, Bool, true, false, not, cond, Some, None, List, [], ◌∷◌, length, find, get_or, map, Result, Ok, Err, refl, sym, ◌∙◌, ap, ◌+◌, arith}
+use Rattle.std.proofs.Common.{◌≡◌, ◌≢◌, inl, inr, ℕ, ◌<◌, ◌≤◌, ◌==◌, Bool, true, false, not, cond, Some, None, List, [], ◌∷◌, length, find, get_or, map, Result, Ok, Err, refl, sym, ◌∙◌, ap, subst, ◌+◌, arith}
 use Rattle.std.specs.Prelude.{MatchResult}
-use Rattle.std.specs.List.{position_or_len}
+use Rattle.std.specs.Result.{is_ok}
+use Rattle.std.specs.List.{list_any, position_or_len}
 use Rattle.std.specs.List.Sorted.{IsSearchInRange, IsBinarySearchResult, IsNonDecreasingBy}
 use Rattle.std.specs.Ordering.{nat_cmp, ordering_index}
 use Rattle.std.proofs.lemmas.Cmp.{ranked}
 use Rattle.std.proofs.lemmas.Bool.{cases_lt, cases_eq}
 use Rattle.std.proofs.lemmas.Bool.Decides.{nat_tests}
 use Rattle.std.proofs.lemmas.List.{length-map}
-use Rattle.std.proofs.lemmas.List.Folds.{find_at}
-use Rattle.std.proofs.lemmas.Option.{slice_get_past}
-use Rattle.std.proofs.lemmas.List.Sums.{position_or_len_is}
+use Rattle.std.proofs.lemmas.List.Folds.{find_at, list_any_at, list_any_none}
+use Rattle.std.proofs.lemmas.Option.{slice_get-get_or, slice_get_past}
+use Rattle.std.proofs.lemmas.List.Sums.{fails_before_first, passes_at_first, position_or_len_is}
 use Rattle.std.proofs.lemmas.List.Kept.{AllPairs-cons}
 use Rattle.model_octets.proofs.PairLemmas.{pairs_head, pairs_tail, pairs_nil}
 use Rattle.model_meaning.specs.MapMeaning.{MapRecord}
@@ -96,3 +97,23 @@ place_missing uid rs xs ms n e same view le =
     let size : length ms ≡ length xs = ap (λ (zs : List MapRecord). length zs) (sym view) ∙ length-map xs meant_record in
     let past : length ms ≤ n = omega (arith, size, long, le) in
     (unplaced p ms n here past, sym (find_at p ms ∙ ap (slice_get ms) (sym here) ∙ slice_get_past ms n past))
+
+one_passes : {X : Type 0} → (p : X → Bool) (xs : List X) → position_or_len p xs < length xs → list_any p xs ≡ true
+one_passes p [] lt = absurd (omega (arith, lt))
+one_passes p (x ∷ xs) lt = list_any_at p (x ∷ xs) (position_or_len p (x ∷ xs)) x lt (passes_at_first p (x ∷ xs) x lt)
+
+-- whether one was found
+pub any_searched : {X : Type 0} → (f : X → ℕ) (xs : List X) (n : ℕ) → AllPairs (λ a b. f a < f b) xs → (r : Result ℕ ℕ) → IsSearchInRange r (length xs) → IsBinarySearchResult (λ x. nat_cmp (f x) n) xs r → is_ok r ≡ list_any (λ x. f x == n) xs
+any_searched f xs n rise (Ok at) within equal_at =
+    let place = searched f xs n rise (Ok at) within equal_at in
+    sym (one_passes (λ x. f x == n) xs (subst (λ (k : ℕ). k < length xs) place within))
+any_searched f xs n rise (Err at) within parted =
+    let past = searched f xs n rise (Err at) within parted in
+    sym (list_any_none (λ x. f x == n) xs (λ k d lt. fails_before_first (λ x. f x == n) xs k d (omega (arith, past, lt))))
+
+-- what was found, and that none was
+pub found_at : {X : Type 0} → (f : X → ℕ) (xs : List X) (n at : ℕ) (d : X) → at < length xs → at ≡ position_or_len (λ y. f y == n) xs → Some (get_or xs at d) ≡ find (λ y. f y == n) xs
+found_at f xs n at d lt e = sym (slice_get-get_or xs at d lt) ∙ ap (slice_get xs) e ∙ sym (find_at (λ y. f y == n) xs)
+
+pub found_nowhere : {X : Type 0} → (f : X → ℕ) (xs : List X) (n : ℕ) → length xs ≡ position_or_len (λ y. f y == n) xs → None ≡ find (λ y. f y == n) xs
+found_nowhere f xs n e = sym (slice_get_past xs (length xs) (omega arith)) ∙ ap (slice_get xs) e ∙ sym (find_at (λ y. f y == n) xs)

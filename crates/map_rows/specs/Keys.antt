@@ -1,7 +1,8 @@
 -- The keys of records: their GUIDs and their places as numbers.
-use Rattle.std.specs.Prelude.{◌+◌, ◌*◌, ℕ, List}
+use Rattle.std.specs.Prelude.{◌+◌, ◌*◌, ℕ, List, Option, Some, None}
 use Rattle.std.specs.Int.{w128, from_be_bytes}
-use Rattle.model_meaning.specs.MapMeaning.{MapRecord}
+use Rattle.mdbox_base.specs.declared.entries.MapPlace.{MapPlace}
+use Rattle.model_meaning.specs.MapMeaning.{MapRecord, place_given}
 use Rattle.map_rows.specs.declared.order.OrderKey.{OrderKey}
 
 -- a GUID as a number
@@ -17,3 +18,11 @@ place_number file offset = file * 4294967296 + offset
 
 abbrev pub place_key : MapRecord → OrderKey
 place_key row = record { number = place_number row.file row.offset; uid = record { 0 = row.uid } }
+
+-- a key with the number of the place that a list gives its record in this file
+abbrev pub key_at : OrderKey → ℕ → Option MapPlace → OrderKey
+key_at key target None = key
+key_at key target (Some place) = record { number = place_number target place.offset; uid = key.uid }
+
+abbrev pub moved_key : ℕ → List MapPlace → OrderKey → OrderKey
+moved_key target moved key = key_at key target (place_given key.uid.0 moved)

@@ -29,11 +29,20 @@ is_instance a b = bytes_eq b.id.0 a.id.0 && (bytes_eq b.hash.0 a.hash.0 && (b.si
 abbrev pub IsOnlyNaming : InstRow → NamedInstance → Type 0
 IsOnlyNaming row n = n.row.id.0 ≡ row.id.0 → n.row ≡ row
 
--- an instance that is named once at least, with its id as a number
-pub record IsNaming (n : NamedInstance) : Type 0 where
+-- an instance with its id as a number
+pub record IsNumbered (n : NamedInstance) : Type 0 where
   pub number : n.number ≡ guid_number n.row.id.0
   pub long : length n.row.id.0 ≡ 16
   pub octets : IsOctets n.row.id.0
+
+-- in order of id
+pub record AreNumbered (named : List NamedInstance) : Type 0 where
+  pub rising : AllPairs (λ a b. a.number < b.number) named
+  pub each : All IsNumbered named
+
+-- an instance that is named once at least, with its id as a number
+pub record IsNaming (n : NamedInstance) : Type 0 where
+  pub is : IsNumbered n
   pub some : 1 ≤ n.namings
 
 -- in order of id

@@ -1,5 +1,5 @@
 -- Keys in order of their numbers.
-use Rattle.std.specs.Prelude.{◌≡◌, ◌+◌, ◌<◌, ◌≤◌, ◌==◌, ◌++◌, [], ◌∷◌, if◌then◌else◌, ℕ, Bool, List, length, filter, fold, not, nat_lt, slice_index_or, AllPairs, Option, Some, None}
+use Rattle.std.specs.Prelude.{◌≡◌, ◌+◌, ◌<◌, ◌≤◌, ◌++◌, [], ◌∷◌, if◌then◌else◌, ℕ, Bool, List, length, filter, fold, nat_lt, slice_index_or, AllPairs, Option, Some, None}
 use Rattle.map_rows.specs.declared.order.OrderKey.{OrderKey}
 
 abbrev pub NumbersRise : List OrderKey → Type 0
@@ -28,10 +28,6 @@ last_of keys = fold (λ last key. Some key) None keys
 -- one key more, at its place
 abbrev pub with_key : OrderKey → List OrderKey → List OrderKey
 with_key key keys = filter (λ k. nat_lt k.number key.number) keys ++ key ∷ filter (λ k. nat_lt key.number k.number) keys
-
--- without the key of this number
-abbrev pub without_number : ℕ → List OrderKey → List OrderKey
-without_number number keys = filter (λ k. not (k.number == number)) keys
 
 -- how many items pass
 abbrev pub times : {X : Type 0} → (X → Bool) → List X → ℕ

@@ -1,8 +1,8 @@
 -- What every table of records keeps, and what a record needs that is added or moved.
-use Rattle.std.specs.Prelude.{◌≡◌, ◌≢◌, ◌≤◌, ◌<◌, ◌+◌, ◌==◌, ℕ, List, length, find, Some, All, AllPairs}
+use Rattle.std.specs.Prelude.{◌≡◌, ◌≢◌, ◌≤◌, ◌<◌, ◌+◌, ◌==◌, ℕ, List, [], ◌∷◌, length, map, find, Some, All, AllPairs}
 use Rattle.mdbox_base.specs.Words.{IsOctets}
 use Rattle.mdbox_base.specs.declared.entries.MapPlace.{MapPlace}
-use Rattle.model_meaning.specs.MapMeaning.{MapRecord}
+use Rattle.model_meaning.specs.MapMeaning.{MapRecord, moved_record, place_given}
 use Rattle.model_meaning.specs.MapFits.{IsApart, AgreesOn}
 use Rattle.map_rows.specs.declared.order.OrderKey.{OrderKey}
 use Rattle.map_rows.specs.Keys.{guid_key, place_key}
@@ -48,6 +48,12 @@ pub record FitsBehind (rows : List MapRecord) (row : MapRecord) : Type 0 where
 abbrev pub FitsMoved : List MapRecord → ℕ → MapPlace → Type 0
 FitsMoved rows target place =
     (row : MapRecord) × (find (λ other. other.uid == place.uid.0) rows ≡ Some row) × (place.offset + row.size ≤ 4294967295) × All (λ other. other.file ≡ target → IsApart place.offset row.size other) rows
+
+-- the places are free, one after another
+abbrev pub CanMoveEach : List MapRecord → ℕ → List MapPlace → Type 0
+CanMoveEach rows target [] = Unit {0}
+CanMoveEach rows target (place ∷ places) =
+    FitsMoved rows target place × CanMoveEach (map (λ row. moved_record row target (place_given row.uid (place ∷ []))) rows) target places
 
 -- the orders by GUID and by place have the keys of these records
 pub record AreIndexed (rows : List MapRecord) (guids places : List OrderKey) : Type 0 where

@@ -7,6 +7,7 @@ pub use table::Table;
 
 mod edits;
 mod keys;
+mod listed;
 mod names;
 mod order;
 mod rows;

@@ -1,16 +1,20 @@
 // The instances that records name.
-ghost use Rattle.std.specs.Prelude.{◌≡◌, ◌+◌, ◌-◌, ◌^◌, ◌<◌, ◌≤◌, ◌↔◌, Bool, [], ◌∷◌, length, insert, max, find, All, AllPairs, IsTrue, IfOk, IfErr, OnOk, OnErr, vec_len, vec_capacity};
+ghost use Rattle.std.specs.Prelude.{◌≡◌, ◌+◌, ◌-◌, ◌^◌, ◌<◌, ◌≤◌, ◌↔◌, Bool, [], ◌∷◌, length, insert, max, map, filter, find, not, All, AllPairs, IsTrue, IfOk, IfErr, OnOk, OnErr, vec_len, vec_capacity};
 ghost use Rattle.std.specs.Option.{option_copied, option_map};
 ghost use Rattle.std.specs.Str.{bytes_eq};
+ghost use Rattle.std.specs.List.Sorted.{IsStrictlyIncreasing};
 ghost use Rattle.mdbox_base.specs.Words.{IsOctets};
 ghost use Rattle.mdbox_base.specs.declared.entries.InstRow.{InstRow};
 ghost use Rattle.model_meaning.specs.MapFits.{AgreesOn};
+ghost use Rattle.model_meaning.specs.MapMeaning.{has_map_uid};
+ghost use Rattle.map_rows.specs.Lookups.{meant_record};
 ghost use Rattle.map_rows.specs.Keys.{guid_number};
-ghost use Rattle.map_rows.specs.Named.{AreNamings, IsOnlyNaming, IsNamedAt, IsGapFor, namings_of, all_namings, is_instance};
+ghost use Rattle.map_rows.specs.Named.{AreNumbered, AreNamings, AreNamesOf, IsOnlyNaming, IsNamedAt, IsGapFor, namings_of, all_namings, instances_of, is_instance};
 ghost use Rattle.map_rows.specs.Orders.{times};
 
 use crate::keys::guid_number;
-use mdbox_base::{Guid, InstId, InstRow, NoMemory};
+use crate::rows::{Record, with_uid};
+use mdbox_base::{Guid, InstId, InstRow, MapUid, NoMemory};
 use std::alloc::Global;
 use std::marker::Model;
 
@@ -109,16 +113,6 @@ impl InstanceNames {
         self.room -= 1;
     }
 
-    /// Removes a naming.
-    pub fn remove(&mut self, row: &InstRow)
-        requires { 1 ≤ namings_of (is_instance row.now) self.old.named }
-        ensures names { (p : InstRow → Bool) → namings_of p self.new.named + times p (row.now ∷ []) ≡ namings_of p self.old.named }
-        ensures room { self.new.room ≡ self.old.room }
-    {
-        remove_naming(&mut self.named, row);
-        self.total -= 1;
-    }
-
     /// Adds a naming of each of these instances.
     pub fn add_each(&mut self, rows: &[InstRow])
         requires only { All (λ row. All (IsOnlyNaming row) self.old.named) rows.now }
@@ -133,15 +127,16 @@ impl InstanceNames {
         }
     }
 
-    /// Removes a naming of each of these instances.
-    pub fn remove_each(&mut self, rows: &[InstRow])
-        requires { (p : InstRow → Bool) → times p rows.now ≤ namings_of p self.old.named }
-        ensures names { (p : InstRow → Bool) → namings_of p self.new.named + times p rows.now ≡ namings_of p self.old.named }
+    /// Removes the namings of the records that the list names, in one pass. Room stays.
+    pub fn remove_each(&mut self, records: &[Record], uids: &[MapUid])
+        requires rising { AllPairs (λ a b. a.row.uid.0 < b.row.uid.0) records.now }
+        requires uids { IsStrictlyIncreasing (map (λ u. u.0) uids.now) }
+        requires names { AreNamesOf self.old.named (instances_of (map meant_record records.now)) }
+        ensures names { AreNamesOf self.new.named (instances_of (filter (λ row. not (has_map_uid row.uid uids.now)) (map meant_record records.now))) }
         ensures room { self.new.room ≡ self.old.room }
     {
-        for row in rows {
-            self.remove(row);
-        }
+        self.total -= lower_records(&mut self.named, records, uids);
+        self.named.retain(|name| 1 <= name.namings);
     }
 }
 
@@ -207,24 +202,58 @@ fn insert_naming(named: &mut Vec<NamedInstance>, place: usize, name: NamedInstan
     }
 }
 
-/// Removes a naming of this instance, which is there.
-fn remove_naming(named: &mut Vec<NamedInstance>, row: &InstRow)
-    requires are { AreNamings named.old.items }
+/// Removes the namings of the records that the list names, and says how many they were. An instance that is named no more
+/// stays where it stood.
+fn lower_records(named: &mut Vec<NamedInstance>, records: &[Record], uids: &[MapUid]) -> u64
+    requires are { AreNumbered named.old.items }
+    requires rising { AllPairs (λ a b. a.row.uid.0 < b.row.uid.0) records.now }
+    requires uids { IsStrictlyIncreasing (map (λ u. u.0) uids.now) }
+    requires names { AreNamesOf named.old.items (instances_of (map meant_record records.now)) }
+    requires count { all_namings named.old.items < 2 ^ 64 }
+    ensures are { AreNumbered named.new.items }
+    ensures names { AreNamesOf named.new.items (instances_of (filter (λ row. not (has_map_uid row.uid uids.now)) (map meant_record records.now))) }
+    ensures space { (vec_len named.new ≡ vec_len named.old) × (vec_capacity named.new ≡ vec_capacity named.old) }
+    ensures count { all_namings named.new.items + result ≡ all_namings named.old.items }
+{
+    let mut count = 0;
+    for uid in uids {
+        match with_uid(records, *uid) {
+            Some(record) => count += lower_each(named, record.instances.as_slice()),
+            None => {}
+        }
+    }
+    count
+}
+
+/// Removes a naming of each of these instances, which are there, and says how many they are. An instance that is named no
+/// more stays where it stood.
+fn lower_each(named: &mut Vec<NamedInstance>, rows: &[InstRow]) -> u64
+    requires are { AreNumbered named.old.items }
+    requires there { (p : InstRow → Bool) → times p rows.now ≤ namings_of p named.old.items }
+    ensures are { AreNumbered named.new.items }
+    ensures names { (p : InstRow → Bool) → namings_of p named.new.items + times p rows.now ≡ namings_of p named.old.items }
+    ensures space { (vec_len named.new ≡ vec_len named.old) × (vec_capacity named.new ≡ vec_capacity named.old) }
+    ensures count { result ≡ length rows.now }
+{
+    for row in rows {
+        lower_naming(named, row);
+    }
+    rows.len() as u64
+}
+
+/// Removes a naming of this instance, which is there. An instance that is named no more stays where it stood.
+fn lower_naming(named: &mut Vec<NamedInstance>, row: &InstRow)
+    requires are { AreNumbered named.old.items }
     requires there { 1 ≤ namings_of (is_instance row.now) named.old.items }
-    ensures are { AreNamings named.new.items }
+    ensures are { AreNumbered named.new.items }
     ensures names { (p : InstRow → Bool) → namings_of p named.new.items + times p (row.now ∷ []) ≡ namings_of p named.old.items }
-    ensures len { vec_len named.new ≤ vec_len named.old }
-    ensures capacity { vec_capacity named.new ≡ vec_capacity named.old }
+    ensures space { (vec_len named.new ≡ vec_len named.old) × (vec_capacity named.new ≡ vec_capacity named.old) }
 {
     match place_of(named, id_number(row.id)) {
         Ok(place) => {
             let old = named[place];
-            if old.namings == 1 {
-                let _ = named.remove(place);
-            } else {
-                let namings = old.namings - 1;
-                named[place] = NamedInstance { namings, ..old };
-            }
+            let namings = old.namings - 1;
+            named[place] = NamedInstance { namings, ..old };
         }
         Err(_) => unreachable!(),
     }

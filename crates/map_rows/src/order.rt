@@ -1,11 +1,13 @@
 // An order of records, in a vector.
 ghost use Rattle.std.specs.Prelude.{◌≡◌, ◌==◌, ◌+◌, ◌-◌, ◌<◌, ◌≤◌, [], length, max, find, filter, insert, slice_get, nat_le, nat_lt, None, IsSome, OnOk, OnErr, IfOk, IfErr, vec_len, vec_capacity};
 ghost use Rattle.std.specs.Option.{option_map};
-ghost use Rattle.map_rows.specs.Orders.{NumbersRise, IsFoundAt, IsPlaceFor, IsFirstFrom, last_of, with_key, without_number};
+ghost use Rattle.map_rows.specs.Orders.{NumbersRise, IsFoundAt, IsPlaceFor, IsFirstFrom, last_of, with_key};
 
 use mdbox_base::{MapUid, NoMemory};
 use std::alloc::Global;
 use std::marker::Model;
+
+mod switching;
 
 /// The number of a record in the order, and its map uid.
 #[derive(Clone, Copy, Debug, PartialEq, Eq)]
@@ -36,7 +38,7 @@ impl Model for Order {
 }
 
 impl Order {
-    ghost use Rattle.map_rows.specs.Orders.{NumbersRise, last_of, with_key, without_number};
+    ghost use Rattle.map_rows.specs.Orders.{NumbersRise, last_of, with_key};
 
     /// An order of no records, without room.
     pub fn empty(alloc: Global) -> Order
@@ -113,20 +115,6 @@ impl Order {
                 insert_key(&mut self.keys, place, key);
                 self.room -= 1;
             }
-        }
-    }
-
-    /// Removes the record of a number, which leaves room for another.
-    pub fn remove(&mut self, number: u128)
-        requires { IsSome (find (λ k. k.number == number) self.old.keys) }
-        ensures { self.new ≡ record { keys = without_number number self.old.keys; room = self.old.room + 1 } }
-    {
-        match place_of(&self.keys, number) {
-            Ok(place) => {
-                let _ = self.keys.remove(place);
-                self.room += 1;
-            }
-            Err(_) => unreachable!(),
         }
     }
 }

@@ -118,7 +118,7 @@ other_octets known disk a b octets whole ka kb other in_a in_b same less =
     (less_lt (slice_cmp nat_cmp b.id.0 a.id.0) less) (in_b ∙ sym in_a)
 
 -- what a named instance is named by
-named_by : (files : Files) (m : MapMeaning) (inst : InstRow) (octets : List ℕ) → Contains (named_instances m) inst → files (instance_file inst) ≡ Some octets → NamesAny files m inst octets
+pub named_by : (files : Files) (m : MapMeaning) (inst : InstRow) (octets : List ℕ) → Contains (named_instances m) inst → files (instance_file inst) ≡ Some octets → NamesAny files m inst octets
 named_by files m inst octets c there =
     All-contains (λ (i : InstRow). files (instance_file i) ≡ Some octets → NamesAny files m i octets) (named_instances m) inst
     (of_named (λ (i : InstRow). files (instance_file i) ≡ Some octets → NamesAny files m i octets) m.records

@@ -4,14 +4,14 @@ use Rattle.std.proofs.Common.{inl, inr, ◌≡◌, ◌≢◌, ◌<◌, ◌≤◌
 use Rattle.std.specs.Prelude.{is_some, if◌then◌else◌, ◌==◌}
 use Rattle.std.specs.List.{list_any}
 use Rattle.std.specs.Option.{option_map, option_map_or, option_and_then}
-use Rattle.std.proofs.lemmas.Bool.{cases_eq, false≢true}
+use Rattle.std.proofs.lemmas.Bool.{cases_eq, false≢true, true≢false}
 use Rattle.std.proofs.lemmas.Option.{same_Some, slice_get-get_or}
 use Rattle.std.proofs.lemmas.List.Elements.{All-weaker}
 use Rattle.mdbox_base.specs.declared.entries.Highest.{Highest}
 use Rattle.mdbox_base.specs.declared.ids.FileNo.{FileNo}
-use Rattle.model_meaning.specs.MapMeaning.{MapRecord, MapMeaning, number_at, guid_file}
+use Rattle.model_meaning.specs.MapMeaning.{MapRecord, MapMeaning, number_at, guid_file, is_sealed}
 use Rattle.storage_files.specs.declared.file.MailFile.{MailFile}
-use Rattle.storage_files.specs.Files.{FilesValue, AreFilesInOrder, MayBeTakenFor, file_in, end_in, is_taken_in, is_doomed_in, changed_in, without_file, released_in, ending_at, with_taken, given_back, file_begun}
+use Rattle.storage_files.specs.Files.{FilesValue, AreFilesInOrder, MayBeTakenFor, file_in, end_in, is_taken_in, is_doomed_in, changed_in, without_file, released_in, ending_at, with_taken, given_back, file_begun, made_doomed}
 use Rattle.storage_files.proofs.FileListLemmas.{KeepsNumber, file-none, file-found, file-here, file-other, file-gone, file-without, file-begun, file-before_begun, ends-here}
 use Rattle.storage_files.proofs.KnownLemmas.{taken-there}
 use Rattle.store_core.specs.Files.{MayGrow, EndsBehind, LiesBelowEnd, ArePinsOfRecords, AreFilesKept}
@@ -295,3 +295,66 @@ pub ends_made : (n end : ℕ) (old new : FilesValue) → is_taken_in n old.files
 ends_made n end old new taken is =
     let there = taken-there old.files n taken in
     ap (λ (v : FilesValue). end_in n v.files) is ∙ ends-here n end old.files there.0 there.1
+
+-- ---- a file that is doomed
+
+doomed_now : (o : Option MailFile) (f : MailFile) → option_map made_doomed o ≡ Some f → f.doomed ≡ true
+doomed_now o f is = let was = stepped made_doomed o f is in ap (λ (g : MailFile). g.doomed) (sym was.2)
+
+untaken_now : (o : Option MailFile) (f : MailFile) → option_map made_doomed o ≡ Some f → f.taken ≡ false
+untaken_now o f is = let was = stepped made_doomed o f is in ap (λ (g : MailFile). g.taken) (sym was.2)
+
+behind_doomed : (n : ℕ) (files : List MailFile) (number place : ℕ) → EndsBehind number place files → EndsBehind number place (changed_in n made_doomed files)
+behind_doomed n files number place b = λ f found grows. elim (cases_eq number n) [
+  | inl same ↦
+      let here : option_map made_doomed (file_in n files) ≡ Some f = sym (file-here n made_doomed files (λ g. refl)) ∙ ap (λ (k : ℕ). file_in k (changed_in n made_doomed files)) (sym same) ∙ found in
+      absurd (true≢false (sym (doomed_now (file_in n files) f here) ∙ grows.undoomed))
+  | inr apart ↦ b f (sym (file-other n number made_doomed files (λ g. refl) apart) ∙ found) grows
+]
+
+-- what is kept of the files where one of them is left without a record: another one that is pinned has a region or is doomed
+pub record AreKeptBut (n : ℕ) (files : FilesValue) (drawn : Highest) (m : MapMeaning) : Type 0 where
+  pub highest : files.highest ≡ drawn.file
+  pub numbered : (number : ℕ) (f : MailFile) → file_in number files.files ≡ Some f → 1 ≤ number
+  pub taken : (number : ℕ) (f : MailFile) → file_in number files.files ≡ Some f → f.taken ≡ true → MayGrow f
+  pub sealed : (number : ℕ) (f : MailFile) → file_in number files.files ≡ Some f → is_sealed m number ≡ true → f.sealed ≡ true
+  pub pinned : (number : ℕ) (f : MailFile) → number ≢ n → file_in number files.files ≡ Some f → 1 ≤ f.pins → (f.doomed ≡ true) ⊎ (list_any (λ row. row.file == number) m.records ≡ true)
+  pub below : All (LiesBelowEnd m.store files.files) m.records
+  pub none : All (λ row. row.file ≢ n) m.records
+
+-- that one may be doomed
+pub kept_doomed : (n : ℕ) (old new : FilesValue) (drawn : Highest) (m : MapMeaning) → new ≡ with_change n made_doomed old → AreKeptBut n old drawn m → AreFilesKept new drawn m
+kept_doomed n old new drawn m is k = subst (λ (v : FilesValue). AreFilesKept v drawn m) (sym is) (record {
+  highest = k.highest;
+  numbered = λ number f found. elim (cases_eq number n) [
+    | inl same ↦
+        let was = stepped made_doomed (file_in n old.files) f (here number f same found) in
+        subst (λ (i : ℕ). 1 ≤ i) (sym same) (k.numbered n was.0 was.1)
+    | inr apart ↦ k.numbered number f (sym (file-other n number made_doomed old.files (λ g. refl) apart) ∙ found)
+  ];
+  taken = λ number f found is. elim (cases_eq number n) [
+    | inl same ↦ absurd (true≢false (sym is ∙ untaken_now (file_in n old.files) f (here number f same found)))
+    | inr apart ↦ k.taken number f (sym (file-other n number made_doomed old.files (λ g. refl) apart) ∙ found) is
+  ];
+  sealed = λ number f found is. elim (cases_eq number n) [
+    | inl same ↦
+        let was = stepped made_doomed (file_in n old.files) f (here number f same found) in
+        ap (λ (g : MailFile). g.sealed) (sym was.2) ∙ k.sealed n was.0 was.1 (ap (λ (i : ℕ). is_sealed m i) (sym same) ∙ is)
+    | inr apart ↦ k.sealed number f (sym (file-other n number made_doomed old.files (λ g. refl) apart) ∙ found) is
+  ];
+  pinned = λ number f found is. elim (cases_eq number n) [
+    | inl same ↦ inl (doomed_now (file_in n old.files) f (here number f same found))
+    | inr apart ↦ k.pinned number f apart (sym (file-other n number made_doomed old.files (λ g. refl) apart) ∙ found) is
+  ];
+  below = λ at d lt.
+      let row : MapRecord = slice_index_or m.records at d in
+      let b : LiesBelowEnd m.store old.files row = k.below at d lt in
+      record {
+        region = behind_doomed n old.files row.file (row.offset + row.size) b.region;
+        guid = λ own. behind_doomed n old.files (number_at 8 row.guid) (number_at 12 row.guid + 1) (b.guid own);
+        undoomed = ap (λ (o : Option MailFile). option_map_or (λ f. f.doomed) o false) (file-other n row.file made_doomed old.files (λ g. refl) (k.none at d lt)) ∙ b.undoomed;
+      };
+})
+  where
+    here : (number : ℕ) (f : MailFile) → number ≡ n → file_in number (changed_in n made_doomed old.files) ≡ Some f → option_map made_doomed (file_in n old.files) ≡ Some f
+    here number f same found = sym (file-here n made_doomed old.files (λ g. refl)) ∙ ap (λ (i : ℕ). file_in i (changed_in n made_doomed old.files)) (sym same) ∙ found

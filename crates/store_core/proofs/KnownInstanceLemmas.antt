@@ -19,6 +19,10 @@ use Rattle.mdbox_base.specs.declared.entries.MapEntry.TheVariants as entry
 use Rattle.mdbox_base.specs.declared.ids.InstId.{InstId}
 use Rattle.model_appends.specs.MapAppending.{stored_row}
 use Rattle.model_meaning.specs.MapMeaning.{MapRecord, MapMeaning, map_applied, record_made, record_changed, record_dropped, record_rules, named_instances}
+use Rattle.mdbox_base.specs.declared.ids.FileNo.{FileNo}
+use Rattle.mdbox_base.specs.declared.ids.MapUid.{MapUid}
+use Rattle.mdbox_base.specs.declared.entries.MapPlace.{MapPlace}
+use Rattle.model_meaning.proofs.AppliedLemmas.{records_by_purged}
 use Rattle.model_meaning.proofs.KeptRowLemmas.{kept_all, kept_rows}
 use Rattle.model_meaning.proofs.MapPlaceLemmas.{changed_same}
 use Rattle.model_store.specs.Safe.{IsThereWhole}
@@ -28,12 +32,12 @@ use Rattle.sis_store.specs.declared.instance.KnownInstance.{KnownInstance}
 use Rattle.storage_files.specs.OnDisk.{OthersAreNamed}
 use Rattle.store_core.specs.MapAppend.{IsAppendable, NamesKnown, NamesFirst, drawn_by}
 use Rattle.store_core.specs.Running.{IsStore}
-use Rattle.store_core.specs.StoreInstances.{IsOtherThan, IsFirstKnown, IsFirmInstance, IsKnownRow, AreInstancesKept, AreInstancesThere, HasKnownInstances}
+use Rattle.store_core.specs.StoreInstances.{IsOtherThan, IsFirstKnown, IsFirmInstance, IsNamedOrFirm, IsKnownRow, AreInstancesKept, AreInstancesThere, HasKnownInstances}
 use Rattle.store_core.specs.Value.{StoreValue}
 use Rattle.store_core.specs.declared.store.OpenBox.{OpenBox}
 use Rattle.store_core.proofs.BoxAppendLemmas.{Placed, own_box}
 use Rattle.store_core.proofs.EntryFileLemmas.{LeavesPlaces, none_dropped}
-use Rattle.store_core.proofs.InstanceAppendLemmas.{names_made}
+use Rattle.store_core.proofs.InstanceAppendLemmas.{names_made, of_named, parts_of}
 use Rattle.store_core.proofs.MailChangeLemmas.{named_reads}
 use Rattle.store_core.proofs.MapAppendLemmas.{leaves_places}
 
@@ -346,4 +350,45 @@ instances_naming name generation old new v w k is same instances drawn store rec
   running = λ on. subst (λ (i : InstancesValue). IfTold new (AreInstancesThere i.known w.map)) (sym instances)
       (between-on SameInstances (AreInstancesThere v.instances.known v.map) (AreInstancesThere v.instances.known w.map) old new
       (λ a b c t. there_on v.instances.known v.map w.map a b (λ row in_it. subst (λ (rows : List MapRecord). Contains (names_of rows) row) (sym records) in_it) (other_named v.instances.known v.map w.map a records) c t) (instances_beside name old new (map_is_none name generation is) same) (k.running (runs on)));
+}
+
+-- ---- a storage file is switched
+
+names_switched : (f : FileNo) (t : ℕ) (ms : List MapPlace) (us : List MapUid) (known : List KnownInstance) (rows : List MapRecord) → All (IsKnownRow known) (names_of rows) → All (IsKnownRow known) (names_of (kept_rows record_rules (entry.P f t ms us) rows))
+names_switched f t ms us known rows all =
+    of_named (IsKnownRow known) (kept_rows record_rules (entry.P f t ms us) rows)
+    (kept_all record_rules (entry.P f t ms us) rows (λ row. All (IsKnownRow known) row.instances) (λ row. All (IsKnownRow known) row.instances)
+    (λ row a. subst (All (IsKnownRow known)) (sym (changed_same (entry.P f t ms us) row).instances) a) (parts_of (IsKnownRow known) rows all))
+
+firm_there : (known : List KnownInstance) (m n : MapMeaning) (a b : DiskState) → SameInstances a b → AreInstancesThere known m a → All (IsNamedOrFirm n a) known → AreInstancesThere known n b
+firm_there known m n a b c t firm = record {
+  whole = All-weaker (λ (k : KnownInstance). IsThereWhole (files_of a) k.row) (λ (k : KnownInstance). IsThereWhole (files_of b) k.row)
+      (λ k w. record { octets = w.octets; there = c.reads k.row.hash.0 k.row.id.0 ∙ w.there; size = w.size }) known t.whole;
+  firm = λ i d lt. elim (firm i d lt) [
+    | inl is ↦ inl is
+    | inr g ↦ inr (record {
+      left = λ left may. g.left left (c.leaves (get_or known i d).row.hash.0 (get_or known i d).row.id.0 left may) ∙ sym (c.reads (get_or known i d).row.hash.0 (get_or known i d).row.id.0);
+      other = other_on n a b (get_or known i d).row c g.other;
+    })
+  ];
+  only = λ hash id octets e. t.only hash id octets (sym (c.reads hash id) ∙ e);
+}
+
+firm_on : (known : List KnownInstance) (m n : MapMeaning) (old new : Option History) → Between SameInstances old new → IfTold old (λ now. All (IsNamedOrFirm n now) known) → IfTold old (AreInstancesThere known m) → IfTold new (AreInstancesThere known n)
+firm_on known m n None new change firm t = subst (λ (h : Option History). IfTold h (AreInstancesThere known n)) (sym change) tt
+firm_on known m n (Some old) None change firm t = absurd change
+firm_on known m n (Some old) (Some new) change firm t = firm_there known m n old.now new.now change t firm
+
+pub instances_switched : {D : Type 0} → (old new : Option History) (v w : StoreValue D) (generation : ℕ) → v.map_log.name ≡ file.Map generation → (f : FileNo) (t : ℕ) (ms : List MapPlace) (us : List MapUid) → w.map ≡ map_applied (entry.P f t ms us) v.map → w.instances ≡ v.instances → w.drawn ≡ v.drawn → w.stopped ≡ v.stopped
+    → IfTold old (λ now. All (IsNamedOrFirm (map_applied (entry.P f t ms us) v.map) now) v.instances.known) → SameButFor v.map_log.name old new → HasKnownInstances old v → HasKnownInstances new w
+instances_switched old new v w generation name f t ms us m instances drawn stopped firm same k = record {
+  kept = subst (λ (i : InstancesValue). AreInstancesKept i w.drawn w.map) (sym instances)
+      (subst (λ (n : MapMeaning). AreInstancesKept v.instances w.drawn n) (sym m) (record {
+        store = k.kept.store;
+        highest = k.kept.highest ∙ ap (λ (d : Highest). d.instance) (sym drawn);
+        named = subst (λ (rows : List MapRecord). All (IsKnownRow v.instances.known) (names_of rows)) (sym (records_by_purged f t ms us v.map.records)) (names_switched f t ms us v.instances.known v.map.records k.kept.named);
+      }));
+  running = λ on. subst (λ (i : InstancesValue). IfTold new (AreInstancesThere i.known w.map)) (sym instances)
+      (subst (λ (n : MapMeaning). IfTold new (AreInstancesThere v.instances.known n)) (sym m)
+      (firm_on v.instances.known v.map (map_applied (entry.P f t ms us) v.map) old new (instances_beside v.map_log.name old new (map_is_none v.map_log.name generation name) same) firm (k.running (sym stopped ∙ on))));
 }

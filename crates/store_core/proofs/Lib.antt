@@ -8,11 +8,14 @@ pub mod EntryRoomLemmas
 pub mod HighestFileLemmas
 pub mod HolderLemmas
 pub mod InstanceAppendLemmas
+pub mod InstanceFirmLemmas
 pub mod InstanceKeepingLemmas
 pub mod InstanceNumberLemmas
+pub mod InstanceRemovalLemmas
 pub mod KeptFileLemmas
 pub mod KeptMailLemmas
 pub mod KnownInstanceLemmas
+pub mod LeaveOutLemmas
 pub mod LookupLemmas
 pub mod MadeCallLemmas
 pub mod MadeLogLemmas
@@ -33,5 +36,9 @@ pub mod RemovalLemmas
 pub mod RoomLemmas
 pub mod ShownLemmas
 pub mod StoreFileLemmas
+pub mod SwitchCallLemmas
+pub mod SwitchCrashLemmas
+pub mod SwitchLemmas
 pub mod UnnamedLogLemmas
 pub mod UsedFileLemmas
+pub mod UselessLemmas

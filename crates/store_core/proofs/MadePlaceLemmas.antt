@@ -49,3 +49,12 @@ made_with_entry old new v ready w e r applied drew same made stopped others kept
     (λ runs. held_beside ready.map_log.name old new v.made others
     (apart_from v.map v.drawn ready.map_log.name v.made (λ number q. absurd (let p : file.Box number 1 ≡ file.Map r.store.generation = q ∙ r.store.map_name in cc p)) kept.are_made)
     (kept.held (sym stopped ∙ runs))) kept
+
+-- the map log has an entry more that makes no mailbox
+pub made_with_map : {D : Type 0} → (old new : Option History) (v w : StoreValue D) (generation : ℕ) → v.map_log.name ≡ file.Map generation → w.map.boxes ≡ v.map.boxes → w.map.store ≡ v.map.store → w.drawn ≡ v.drawn → w.made ≡ v.made → w.stopped ≡ v.stopped → SameButFor v.map_log.name old new
+    → KeepsMadeLogs old v → KeepsMadeLogs new w
+made_with_map old new v w generation name boxes store drawn made stopped others kept =
+    made_kept old new v w made boxes store (let d : w.drawn.mailbox ≡ v.drawn.mailbox = ap (λ (x : Highest). x.mailbox) drawn in omega (arith, d))
+    (λ runs. held_beside v.map_log.name old new v.made others
+    (apart_from v.map v.drawn v.map_log.name v.made (λ number q. absurd (let p : file.Box number 1 ≡ file.Map generation = q ∙ name in cc p)) kept.are_made)
+    (kept.held (sym stopped ∙ runs))) kept

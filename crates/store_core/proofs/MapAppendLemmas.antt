@@ -171,7 +171,7 @@ there_made h v e r =
 
 -- ---- good logs
 
-listed_there : {D : Type 0} → (h : Option History) (v : StoreValue D) → (s : IsStore h v) → (uid : ℕ) → listed_at uid v ≡ listed_of s.logs uid
+pub listed_there : {D : Type 0} → (h : Option History) (v : StoreValue D) → (s : IsStore h v) → (uid : ℕ) → listed_at uid v ≡ listed_of s.logs uid
 listed_there h v s uid = ap (λ (ms : List BoxMeaning). sum_by (λ m. count_by (λ row. row.map_uid == uid) m.rows) ms) s.boxes_are ∙ listed_meant uid s.logs
 
 abbrev leaks_of : {D : Type 0} → StoreValue D → ℕ → ℕ

@@ -152,7 +152,7 @@ held_map disk lists s log texts own name r = record {
     as_read = subst (λ (n : FileName). LeavesAsRead n disk) (sym name) (holds_map disk lists s own)
 
 -- what is known of the append, of a disk that is settled for these lists
-record MapAppends (old : History) (lists : Lists) (s : IsSettled old.now lists) (log : LogState) (e : MapEntry) : Type 0 where
+pub record MapAppends (old : History) (lists : Lists) (s : IsSettled old.now lists) (log : LogState) (e : MapEntry) : Type 0 where
   pub texts : List (List ℕ)
   pub append : IsMapAppend (files_of old.now) s.store s.entries lists lists e
   pub alike : LeavesAlike s.safe.stands.map_log.generation (map_meaning s.store (s.entries ++ e ∷ [])) old.now
@@ -183,7 +183,7 @@ map_appends old v e lists s r own synced =
 
 -- ---- each image at every moment
 
-image_safe : (disk : DiskState) (lists : Lists) (s : IsSettled disk lists) (e : MapEntry) (head : LogHead) (texts : List (List ℕ)) (image : Files) → ReadsImage disk → IsMapAppend (files_of disk) s.store s.entries lists lists e
+pub image_safe : (disk : DiskState) (lists : Lists) (s : IsSettled disk lists) (e : MapEntry) (head : LogHead) (texts : List (List ℕ)) (image : Files) → ReadsImage disk → IsMapAppend (files_of disk) s.store s.entries lists lists e
     → LeavesAlike s.safe.stands.map_log.generation (map_meaning s.store (s.entries ++ e ∷ [])) disk → IsLogFile (reading (disk (file.Map s.safe.stands.map_log.generation))) head texts
     → IsLogWithOrWithout head texts (map_text e) (image (file.Map s.safe.stands.map_log.generation)) → LeftBut (file.Map s.safe.stands.map_log.generation) disk image → Safe image lists
 image_safe disk lists s e head texts image own a alike is (inl without) left =

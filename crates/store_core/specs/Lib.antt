@@ -9,4 +9,5 @@ pub mod PlaceStops
 pub mod Removing
 pub mod Running
 pub mod StoreInstances
+pub mod Switching
 pub mod Value

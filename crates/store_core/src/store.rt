@@ -43,6 +43,7 @@ mod append_map;
 mod boxes;
 mod files;
 mod instances;
+mod switching;
 mod using;
 
 /// A mailbox of an open store: its log, and what that means.

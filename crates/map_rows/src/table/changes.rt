@@ -1,18 +1,19 @@
 // Changes of the records, none of which can fail.
-ghost use Rattle.std.specs.Prelude.{◌≡◌, ◌-◌, ◌≤◌, ◌∷◌, ◌++◌, [], length, map, filter, not, All};
-ghost use Rattle.model_meaning.specs.MapMeaning.{record_changed, has_map_uid, moved_record, place_given};
+ghost use Rattle.std.specs.Prelude.{◌≡◌, ◌-◌, ◌≤◌, ◌∷◌, ◌++◌, [], length, map, All};
+ghost use Rattle.std.specs.List.Sorted.{IsStrictlyIncreasing};
+ghost use Rattle.model_meaning.specs.Rows.{rows_by};
+ghost use Rattle.model_meaning.specs.MapMeaning.{record_changed, record_rules};
 ghost use Rattle.mdbox_base.specs.declared.entries.MapEntry.TheVariants as entry;
 ghost use Rattle.map_rows.specs.Lookups.{meant_record};
 
 use super::Table;
 use crate::edits;
-use crate::keys::{guid_key, place_key, place_number};
-use crate::order::OrderKey;
+use crate::keys::{guid_key, place_key};
 use crate::rows::Record;
-use mdbox_base::{MapCount, MapPlace, MapUid};
+use mdbox_base::{FileNo, MapCount, MapPlace, MapUid};
 
 impl Table {
-    ghost use Rattle.map_rows.specs.TableKept.{FitsBehind, FitsMoved};
+    ghost use Rattle.map_rows.specs.TableKept.{FitsBehind, CanMoveEach};
 
     /// Adds a record behind the others.
     pub fn add(&mut self, added: Record)
@@ -51,37 +52,17 @@ impl Table {
         edits::set_count(&mut self.records, given);
     }
 
-    /// Removes a record, if there is one of this map uid. Room stays.
-    pub fn drop_one(&mut self, uid: MapUid)
-        ensures { self.new ≡ record self.old { records = filter (λ row. not (has_map_uid row.uid (uid ∷ []))) self.old.records } }
+    /// Moves the records that one list names to their new places in the target, and removes those that the other names,
+    /// as an entry says that empties `file`. It takes no memory, and room stays.
+    pub fn switch(&mut self, file: FileNo, target: u32, moved: &[MapPlace], dropped: &[MapUid])
+        requires moved { IsStrictlyIncreasing (map (λ p. p.uid.0) moved.now) }
+        requires dropped { IsStrictlyIncreasing (map (λ u. u.0) dropped.now) }
+        requires places { CanMoveEach self.old.records target moved.now }
+        ensures { self.new ≡ record self.old { records = rows_by record_rules (entry.P file target moved.now dropped.now) self.old.records } }
     {
-        self.by_guid.known_facts();
-        self.by_place.known_facts();
-        match edits::take_out(&mut self.records, uid) {
-            Some(record) => {
-                self.by_guid.remove(guid_key(&record).number);
-                self.by_place.remove(place_key(&record).number);
-                self.names.remove_each(record.instances.as_slice());
-            }
-            None => {}
-        }
-    }
-
-    /// Moves a record to its new place in this file, which takes no memory.
-    pub fn move_one(&mut self, target: u32, given: MapPlace)
-        requires { FitsMoved self.old.records target given }
-        ensures { self.new ≡ record self.old { records = map (λ row. moved_record row target (place_given row.uid (given ∷ []))) self.old.records } }
-    {
-        if let Some(record) = self.find(given.uid) {
-            let old = place_key(record).number;
-            let new = OrderKey {
-                number: place_number(target, u64::from(given.offset)),
-                uid: given.uid,
-            };
-            self.by_place.known_facts();
-            self.by_place.remove(old);
-            self.by_place.add(new);
-            edits::move_one(&mut self.records, target, given);
-        }
+        self.by_guid.remove_each(dropped);
+        self.by_place.switch(file, target, moved, dropped);
+        self.names.remove_each(&self.records, dropped);
+        edits::switch_each(&mut self.records, target, moved, dropped);
     }
 }

@@ -1,21 +1,23 @@
-// The instances of a store: which are known and who holds them, what is read of them, and how one is placed.
-ghost use Rattle.std.specs.Prelude.{◌≡◌, ◌≢◌, ◌↔◌, ◌<◌, ◌≤◌, ◌+◌, ◌-◌, nat_lt, false, ℕ, List, ◌∷◌, length, take, drop, Some, IfOk, IfErr, OnOk, IsErr, IsErrOf, IsTrue};
-ghost use Rattle.disk_model.specs.Disk.{Grows, IfTold, IsIdle, Keeps, reading};
+// The instances of a store: which are known and who holds them, what is read of them, and how one is placed or removed.
+ghost use Rattle.std.specs.Prelude.{◌≡◌, ◌≢◌, ◌↔◌, ◌<◌, ◌≤◌, ◌+◌, ◌-◌, nat_lt, true, false, ℕ, List, ◌∷◌, length, take, drop, Some, None, IfOk, IfErr, OnOk, OnErr, IsErr, IsErrOf, IsTrue};
+ghost use Rattle.disk_model.specs.Disk.{Grows, IfTold, IsIdle, Keeps, SameButFor, reading};
 ghost use Rattle.disk_model.specs.FaultCounts.{NoFault, ChangeFaultCounted, ReadFaultCounted};
+ghost use Rattle.map_index.specs.Shown.{is_instance_named};
 ghost use Rattle.mdbox_base.specs.declared.entries.InstRow.{InstRow};
 ghost use Rattle.model_kept.specs.Kept.{MailIsKept};
 ghost use Rattle.model_lists.specs.Lists.{Lists};
 ghost use Rattle.model_store.specs.Settled.{IsSettledFor, Leaves};
-ghost use Rattle.sis_store.specs.Instances.{IsInstanceKnown, after_placing, candidate_in, holders_in, instance_past, next_id, with_holders};
+ghost use Rattle.sis_store.specs.Instances.{IsInstanceKnown, after_placing, candidate_in, holders_in, instance_past, next_id, with_holders, without_instance};
 ghost use Rattle.sis_store.specs.OnDisk.{IsUnlikeKnown, OnlyNamesSynced, file_of, next_instance_file, octets_read};
 ghost use Rattle.store_core.specs.Dues.{KeepsStored};
 ghost use Rattle.store_core.specs.Keeping.{KeepsInstances, MovesHolds, holds_of};
 ghost use Rattle.store_core.specs.PlaceStops.{IsPlaceStop};
+ghost use Rattle.store_core.specs.Removing.{KeepsStoredBeside, useless_past};
 ghost use Rattle.store_core.specs.StoreInstances.{IsFirstWith, with_placed};
 ghost use Rattle.store_core.specs.declared.error.PlaceStop.TheVariants as place_stop;
 
 use super::Store;
-use crate::error::PlaceStop;
+use crate::error::{PlaceStop, Stopped};
 use disk_model::Disk;
 use mdbox_base::{Hash, InstId};
 use sis_store::{DiskFault, PlaceFault};
@@ -154,5 +156,53 @@ impl<D: Disk> Store<D> {
                 Err(PlaceStop::Stopped)
             }
         }
+    }
+
+    /// The known instance with the least id greater than `after`, or with the least of all, that nobody holds and no record
+    /// names. None if and only if there is none. It passes over the others, one by one.
+    pub fn next_useless(&self, after: Option<InstId>) -> Option<InstId>
+        ensures { result ≡ useless_past after self.now.map self.now.instances.known }
+    {
+        self.instances.known_facts();
+        let mut last = after;
+        while let Some(id) = self.instances.next_unheld(last) {
+            if !self.map.is_instance_named(id) {
+                return Some(id);
+            }
+            last = Some(id);
+        }
+        None
+    }
+
+    /// Removes an instance that nobody holds and no record names. It is known no more. A change of the disk that fails stops the
+    /// store. Its name isn't synced: a crash may bring the file back, which the next opening removes.
+    pub fn remove_instance(&mut self, id: InstId) -> Result<(), Stopped>
+        requires running { self.old.stopped ≡ false }
+        requires known { IsInstanceKnown id self.old.instances.known }
+        requires unheld { holders_in id self.old.instances.known ≡ 0 }
+        requires unnamed { is_instance_named self.old.map id.0 ≡ false }
+
+        // Of a settled disk each image at every moment is safe for its lists, whichever call fails; and after Ok the disk is
+        // settled for them again.
+        ensures any_moment { (lists : Lists) → IsSettledFor lists (D.history self.old.disk) → Leaves lists lists (D.history self.old.disk) (D.history self.new.disk) }
+        ensures mail_stays { MailIsKept self.old.map (D.history self.old.disk) (D.history self.new.disk) }
+        ensures settled { OnOk result ((lists : Lists) → IsSettledFor lists (D.history self.old.disk) → IsSettledFor lists (D.history self.new.disk)) }
+
+        ensures gone { OnOk result (IfTold (D.history self.new.disk) (λ now. reading (now (file_of id self.old.instances.known)) ≡ None)) }
+        ensures others { OnOk result (SameButFor (file_of id self.old.instances.known) (D.history self.old.disk) (D.history self.new.disk)) }
+        ensures stored { OnOk result (KeepsStoredBeside id.0 (D.history self.old.disk) (D.history self.new.disk)) }
+
+        ensures ok { OnOk result (self.new ≡ record self.old { disk = self.new.disk; instances = record self.old.instances { known = without_instance id self.old.instances.known } }) }
+        ensures err { OnErr result (self.new ≡ record self.old { disk = self.new.disk; stopped = true }) }
+        ensures grows { Grows (D.history self.old.disk) (D.history self.new.disk) }
+        ensures fault { ChangeFaultCounted (IsErr result) (D.faults self.old.disk) (D.faults self.new.disk) }
+        ensures unfailed { OnOk result (NoFault (D.faults self.old.disk) (D.faults self.new.disk)) }
+    {
+        self.instances.known_facts();
+        if let Err(_fault) = self.instances.remove_instance(&mut self.disk, id) {
+            self.stopped = true;
+            return Err(Stopped);
+        }
+        Ok(())
     }
 }

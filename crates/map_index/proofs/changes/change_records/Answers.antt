@@ -1,21 +1,21 @@
 use Rattle.std.proofs.Common.{◌≡◌, ◌∙◌, sym, ap, List, map, filter, not}
 use Rattle.model_meaning.specs.MapMeaning.{MapRecord, has_map_uid, moved_record, place_given}
-use Rattle.model_meaning.proofs.AppliedLemmas.{records_by_purged, records_by_raised, records_by_lowered, records_by_counted}
+use Rattle.model_meaning.proofs.AppliedLemmas.{records_by_raised, records_by_lowered, records_by_counted}
 use Rattle.map_rows.specs.TableValue.{TableValue}
 use Rattle.map_index.proofs.MapAppliedLemmas.{records_stay}
-use Rattle.map_index.proofs.NeedLemmas.{moved_then_dropped}
 use Rattle.map_index.proofs.changes.change_records.Goals as goal
 
-pub move_each-requires : goal.move_each-requires
-move_each-requires c = let fits = rw (c.in-P.is, ← c.as_slice.ensures) at c.requires.fits in record { list = fits.0; places = fits.1 }
+pub switch-requires-clause-moved : goal.switch-requires-clause-moved
+switch-requires-clause-moved c = (rw (c.in-P.is, ← c.as_slice.ensures) at c.requires.fits).0
+
+pub switch-requires-clause-dropped : goal.switch-requires-clause-dropped
+switch-requires-clause-dropped c = (rw (c.in-P.is, ← c.as_slice-in-P.ensures) at c.requires.fits).1
+
+pub switch-requires-clause-places : goal.switch-requires-clause-places
+switch-requires-clause-places c = (rw (c.in-P.is, ← c.as_slice.ensures) at c.requires.fits).2
 
 pub returns-in-P : goal.returns-in-P
-returns-in-P c =
-    let placed : c.move_each.new.records ≡ record c.args.records.now { records = map (λ (row : MapRecord). moved_record row c.in-P.target (place_given row.uid c.in-P.moved)) c.args.records.now.records } = rw c.as_slice.ensures at c.move_each.ensures in
-    let kept : c.drop_each.new.records ≡ record c.move_each.new.records { records = filter (λ (row : MapRecord). not (has_map_uid row.uid c.in-P.dropped)) c.move_each.new.records.records } = rw c.as_slice-in-P.ensures at c.drop_each.ensures in
-    rw c.in-P.is
-    (kept ∙ ap (λ (t : TableValue). record t { records = filter (λ (row : MapRecord). not (has_map_uid row.uid c.in-P.dropped)) t.records }) placed
-    ∙ ap (λ (rs : List MapRecord). record c.args.records.now { records = rs }) (moved_then_dropped c.in-P.target c.in-P.moved c.in-P.dropped c.args.records.now.records ∙ sym (records_by_purged c.in-P.file c.in-P.target c.in-P.moved c.in-P.dropped c.args.records.now.records)))
+returns-in-P c = rw c.in-P.is (rw (c.as_slice.ensures, c.as_slice-in-P.ensures) at c.switch.ensures)
 
 pub raise-requires : goal.raise-requires
 raise-requires c = rw c.in-U.is at c.requires.fits

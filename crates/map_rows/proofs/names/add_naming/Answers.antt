@@ -21,7 +21,7 @@ pub returns-in-Err-clause-are : goal.returns-in-Err-clause-are
 returns-in-Err-clause-are c =
     let gap = rw c.deref.ensures.value at c.in-Err.ensures.absent in
     subst AreNamings (sym c.insert_naming.ensures.items)
-    (insert_are c.args.named.now.items c.in-Err.place _ c.requires.are gap (record { number = c.id_number-number.ensures.number; long = c.id_number-number.ensures.long; octets = c.id_number-number.ensures.octets; some = omega arith }))
+    (insert_are c.args.named.now.items c.in-Err.place _ c.requires.are gap (record { is = record { number = c.id_number-number.ensures.number; long = c.id_number-number.ensures.long; octets = c.id_number-number.ensures.octets }; some = omega arith }))
 
 pub returns-in-Err-clause-names : goal.returns-in-Err-clause-names
 returns-in-Err-clause-names c = λ p. ap (λ (named : List NamedInstance). namings_of p named) c.insert_naming.ensures.items ∙ first_naming p c.args.named.now.items c.in-Err.place _ refl

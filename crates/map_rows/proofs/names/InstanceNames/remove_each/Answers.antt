@@ -1,26 +1,31 @@
-use Rattle.std.proofs.Common.{List, ap, ◌∙◌, arith}
-use Rattle.mdbox_base.specs.declared.entries.InstRow.{InstRow}
-use Rattle.map_rows.specs.Orders.{times}
-use Rattle.map_rows.proofs.NameLemmas.{next_there, one_further, all_taken, no_row}
+use Rattle.std.specs.Prelude.{nat_le}
+use Rattle.std.proofs.Common.{◌≡◌, ◌∙◌, true, ap, sym, subst, arith, rules}
+use Rattle.std.proofs.lemmas.Fn.{filter_same}
+use Rattle.map_rows.specs.declared.names.NamedInstance.{NamedInstance}
+use Rattle.map_rows.specs.Named.{AreNamings, all_namings, namings_of}
+use Rattle.map_rows.proofs.NameLemmas.{swept_names, swept_are}
 use Rattle.map_rows.proofs.names.InstanceNames.remove_each.Goals as goal
 
-pub remove-requires : goal.remove-requires
-remove-requires c = next_there c.loop-row.self.named c.args.self.now.named c.args.rows.now c.loop-row.row-index _ c.loop-row.invariant.names c.requires c.loop-row-test.true
+pub invariant_of-self : goal.invariant_of-self
+invariant_of-self c =
+    let swept = filter_same _ (λ (n : NamedInstance). nat_le 1 n.namings) _ (λ x b f' k. search rules) _ _ c.retain.ensures.filtered in
+    let left : all_namings c.retain.new.self.items ≡ all_namings c.lower_records.new.named.items = ap all_namings swept ∙ swept_names (λ row. true) c.lower_records.new.named.items in
+    let i = c.self.invariant in
+    let total = i.1 in
+    let most = i.2 in
+    let space = i.3 in
+    let count = c.lower_records.ensures.count in
+    let len = c.lower_records.ensures.space.0 in
+    let capacity = c.lower_records.ensures.space.1 in
+    let bound = c.retain.ensures.bound in
+    let same = c.retain.ensures.capacity in (
+      subst AreNamings (sym swept) (swept_are c.lower_records.new.named.items c.lower_records.ensures.are),
+      omega (arith, left, total, count),
+      omega (arith, most, total, count),
+      omega (arith, space, len, capacity, bound, same),
+    )
 
-pub loop-row-preserved : goal.loop-row-preserved
-loop-row-preserved c = record {
-  names = λ p.
-      let a = c.remove.ensures.names p in
-      let b = c.loop-row.invariant.names p in
-      let m = one_further p c.args.rows.now c.loop-row.row-index no_row c.loop-row-test.true in
-      omega (arith, a, b, m);
-  room = c.remove.ensures.room ∙ c.loop-row.invariant.room;
-}
-
-pub returns : goal.returns
-returns c =
-    let all = all_taken c.args.rows.now c.loop-row.row-index c.loop-row-test.false in
-    record {
-      names = λ p. let a = c.loop-row.invariant.names p in let b = ap (λ (xs : List InstRow). times p xs) all in omega (arith, a, b);
-      room = c.loop-row.invariant.room;
-    }
+pub returns-clause-names : goal.returns-clause-names
+returns-clause-names c = λ p.
+    let swept = filter_same _ (λ (n : NamedInstance). nat_le 1 n.namings) _ (λ x b f' k. search rules) _ _ c.retain.ensures.filtered in
+    ap (namings_of p) swept ∙ swept_names p c.lower_records.new.named.items ∙ c.lower_records.ensures.names p

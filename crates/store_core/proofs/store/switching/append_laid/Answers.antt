@@ -1,0 +1,7 @@
+use Rattle.std.proofs.Common.{ℕ, List, subst}
+use Rattle.store_core.specs.Append.{AddsText}
+use Rattle.store_core.proofs.store.switching.append_laid.Goals as goal
+
+pub returns-clause-any_moment : goal.returns-clause-any_moment
+returns-clause-any_moment g c =
+    subst (λ (text : List ℕ). AddsText c.args.log.now text (g.D.Disk.history c.args.disk.now) (g.D.Disk.history c.append.new.disk)) c.put_map_entry.ensures c.append.ensures.any_moment
