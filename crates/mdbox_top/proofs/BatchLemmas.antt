@@ -46,6 +46,7 @@ use Rattle.mdbox_top.specs.DeliverRun.{unread_outcome}
 use Rattle.mdbox_top.specs.InputRun.{IsOneOf, OfInput}
 use Rattle.mdbox_top.specs.OpeningOutcome.{opening_outcome}
 use Rattle.mdbox_top.specs.Served.{IsNotOpened}
+use Rattle.mdbox_top.proofs.InitLemmas.{counted_as, opening_fault}
 use Rattle.mdbox_top.proofs.InputLemmas.{Told, long_told, of_told}
 use Rattle.mdbox_top.proofs.RequestLemmas.{fault_number, one_of_shown, opening_number, refused_by, settled_opens, shown_by}
 
@@ -254,7 +255,7 @@ unopened_may : (why : OpenError) → why ≡ error.DiskFault → IsOneOf (5 ∷ 
 unopened_may why e = inr (inl (ap (λ (w : OpenError). status_of (opening_outcome w)) e))
 
 pub unopened_script : (script : Requests) (h : Option (List ℕ)) (old new : Option History) (began now : Faults) (why : OpenError) → IsUnopened why old new began now → ScriptOutcome script h h old new began now (opening_outcome why)
-unopened_script script h old new began now why u = inl (record { why = why; ended_is = refl; unprinted = refl; cause = u.cause; idle = u.idle; untouched = u.untouched; stays = u.stays; unfailed = u.unfailed })
+unopened_script script h old new began now why u = inl (record { why = why; ended_is = refl; unprinted = refl; cause = u.cause; idle = u.idle; untouched = u.untouched; stays = u.stays; unfailed = u.unfailed }, counted_as (why ≡ error.DiskFault) (opening_outcome why ≡ outcome.DiskFault) began now (λ e. opening_fault why e) u.fault)
 
 pub unopened_script_rests : (script : Requests) (old new : Option History) (began now : Faults) (why : OpenError) → IsUnopened why old new began now → ScriptRests script (IsOneOf (5 ∷ 6 ∷ 8 ∷ []) (status_of (opening_outcome why))) began now old new
 unopened_script_rests script old new began now why u = λ none lists s. inl (u.settled_again (λ f. none (unopened_may why f)) lists s)
@@ -268,26 +269,29 @@ unopened_script_quiet old new began now why u none = u.unfailed (λ f. none (uno
 -- ---- the end of a run
 
 script_refuses : (script : Requests) (h k : Option (List ℕ)) (old new : Option History) (f g : Faults) (why : InputRefusal) → ScriptOutcome script h k old new f g (outcome.InputRefused why) → ⊥
-script_refuses script h k old new f g why (inl n) = refused_by 4 _ (opening_number n.why) (ap status_of n.ended_is) (inr refl)
+script_refuses script h k old new f g why (inl n) = refused_by 4 _ (opening_number n.0.why) (ap status_of n.0.ended_is) (inr refl)
 script_refuses script h k old new f g why (inr d) = shown_by 4 (replies_number _ (map Some d.given) h k (outcome.InputRefused why) d.printed) (inr (inr refl))
 
 script_damage : (script : Requests) (h k : Option (List ℕ)) (old new : Option History) (f g : Faults) (s : StoreRefusal) → ScriptOutcome script h k old new f g (outcome.StoreRefused s) → ScriptOutcome script h k old new f g outcome.NoMemory
-script_damage script h k old new f g s (inl n) = inl (record { why = error.NoMemory; ended_is = refl; unprinted = n.unprinted; cause = tt; idle = λ other. n.idle (fault_number s n.why n.ended_is); untouched = n.untouched; stays = n.stays; unfailed = λ other. n.unfailed (fault_number s n.why n.ended_is) })
+script_damage script h k old new f g s (inl n) = inl (
+  record { why = error.NoMemory; ended_is = refl; unprinted = n.0.unprinted; cause = tt; idle = λ other. n.0.idle (fault_number s n.0.why n.0.ended_is); untouched = n.0.untouched; stays = n.0.stays; unfailed = λ other. n.0.unfailed (fault_number s n.0.why n.0.ended_is) },
+  record { reads = n.1.reads; changes = n.1.changes; rose = λ e. absurd (cc e) },
+)
 script_damage script h k old new f g s (inr d) = absurd (shown_by 3 (replies_number _ (map Some d.given) h k (outcome.StoreRefused s) d.printed) (inr (inl refl)))
 
 script_used : (script : Requests) (h k : Option (List ℕ)) (old new : Option History) (f g : Faults) → ScriptOutcome script h k old new f g outcome.Usage → ⊥
-script_used script h k old new f g (inl n) = refused_by 2 _ (opening_number n.why) (ap status_of n.ended_is) (inl refl)
+script_used script h k old new f g (inl n) = refused_by 2 _ (opening_number n.0.why) (ap status_of n.0.ended_is) (inl refl)
 script_used script h k old new f g (inr d) = shown_by 2 (replies_number _ (map Some d.given) h k outcome.Usage d.printed) (inl refl)
 
 script_status : (script : Requests) (h k : Option (List ℕ)) (old new : Option History) (f g : Faults) (o : Outcome) → ScriptOutcome script h k old new f g o → (lists : Lists) → IsSettledFor lists old → IsOneOf (0 ∷ 1 ∷ 5 ∷ 6 ∷ 8 ∷ []) (status_of o)
-script_status script h k old new f g o (inl n) lists s = elim (settled_opens lists old n.why s n.cause) [
-  | inl fault ↦ inr (inr (inr (inl (ap status_of n.ended_is ∙ ap (λ (w : OpenError). status_of (opening_outcome w)) fault))))
-  | inr memory ↦ inr (inr (inl (ap status_of n.ended_is ∙ ap (λ (w : OpenError). status_of (opening_outcome w)) memory)))
+script_status script h k old new f g o (inl n) lists s = elim (settled_opens lists old n.0.why s n.0.cause) [
+  | inl fault ↦ inr (inr (inr (inl (ap status_of n.0.ended_is ∙ ap (λ (w : OpenError). status_of (opening_outcome w)) fault))))
+  | inr memory ↦ inr (inr (inl (ap status_of n.0.ended_is ∙ ap (λ (w : OpenError). status_of (opening_outcome w)) memory)))
 ]
 script_status script h k old new f g o (inr d) lists s = replies_number _ (map Some d.given) h k o d.printed
 
 pub script_ended : (script : Requests) (h k : Option (List ℕ)) (old new : Option History) (f g : Faults) (o : Outcome) → ScriptOutcome script h k old new f g o → (o ≡ outcome.ReadFault) ⊎ ((why : InputRefusal) × (o ≡ outcome.InputRefused why)) → ⊥
-script_ended script h k old new f g o (inl n) (inl e) = read_end (status_of (opening_outcome n.why)) (opening_number n.why) (sym (ap status_of n.ended_is) ∙ ap status_of e)
+script_ended script h k old new f g o (inl n) (inl e) = read_end (status_of (opening_outcome n.0.why)) (opening_number n.0.why) (sym (ap status_of n.0.ended_is) ∙ ap status_of e)
   where
     read_end : (n : ℕ) → IsOneOf (3 ∷ 5 ∷ 6 ∷ []) n → n ≡ 7 → ⊥
     read_end n (inl a) e = omega (arith, a, e)

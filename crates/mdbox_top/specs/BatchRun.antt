@@ -1,6 +1,7 @@
 -- How `batch` ends.
 use Rattle.std.specs.Prelude.{◌≡◌, ◌≤◌, ◌<◌, ◌⊎◌, ℕ, List, [], ◌∷◌, length, map, Option, Some, IfSome}
 use Rattle.disk_model.specs.Disk.{History, Faults, EachImage}
+use Rattle.disk_model.specs.FaultCounts.{AnyFaultCounted, NoFault}
 use Rattle.mdbox_base.specs.declared.replies.Reply.{Reply}
 use Rattle.mdbox_base.specs.declared.script.JournalEntry.{JournalEntry}
 use Rattle.mdbox_base.specs.declared.script.Script.{Script}
@@ -12,7 +13,7 @@ use Rattle.journal.specs.Journal.{Requests, left_by}
 use Rattle.store_sweep.specs.Moments.{NoFailedChange}
 use Rattle.piece_writer.specs.Pieces.{WritesPrefix}
 use Rattle.request_text.specs.BatchText.{batch_text}
-use Rattle.request_text.specs.Outcomes.{replies_outcome}
+use Rattle.request_text.specs.Outcomes.{replies_outcome, status_of}
 use Rattle.request_text.specs.declared.outcome.InputRefusal.{InputRefusal}
 use Rattle.request_text.specs.declared.outcome.InputRefusal.TheVariants as refusal
 use Rattle.request_text.specs.declared.outcome.Outcome.{Outcome}
@@ -52,15 +53,19 @@ ShowsReplies text replies held later outcome.NoMemory = WritesPrefix held [] tex
 ShowsReplies text replies held later ended = (ended ≡ replies_outcome replies) × Appended held text later
 
 -- The store was opened and the script done. Each request has its reply, and the replies are printed in the script's order, each with
--- the places of its steps in the journal.
+-- the places of its steps in the journal. It ends as a fault of the disk only if a call of it failed, and no call failed but where it may
+-- have: so it is said of every script that reads no message, and of others if the disk was settled.
 pub record IsBatchDone (script : Requests) (held later : Option (List ℕ)) (old new : Option History) (began now : Faults) (ended : Outcome) : Type 0 where
   pub given : List Reply
   pub journal : List JournalEntry
   pub done : IsScriptDone script given journal old new began now
   pub printed : ShowsReplies (batch_text journal (map Some given)) (map Some given) held later ended
+  pub fault : MayBeServed script old → AnyFaultCounted (ended ≡ outcome.DiskFault) began now
+  pub quiet : MayBeServed script old → (IsOneOf (5 ∷ 6 ∷ 8 ∷ []) (status_of ended) → ⊥) → NoFault began now
 
+-- So a script ends; or the store was not opened, and then too a fault is told only if a call failed.
 abbrev pub ScriptOutcome : Requests → Option (List ℕ) → Option (List ℕ) → Option History → Option History → Faults → Faults → Outcome → Type 0
-ScriptOutcome script held later old new began now ended = IsNotOpened held later old new began now ended ⊎ IsBatchDone script held later old new began now ended
+ScriptOutcome script held later old new began now ended = (IsNotOpened held later old new began now ended × AnyFaultCounted (ended ≡ outcome.DiskFault) began now) ⊎ IsBatchDone script held later old new began now ended
 
 -- From these lists the script was served, with some replies and some faults.
 pub record WasServed (script : Requests) (lists : Lists) (old new : Option History) : Type 0 where
