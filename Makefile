@@ -10,14 +10,15 @@ all:
 	cp crates/mdbox/out/mdbox mdbox
 
 # Prints the messages of a storage file that Dovecot 2.3.19 wrote; then makes a store in a folder of its own, delivers the message
-# in demo/hello.eml, lists INBOX, fetches the message and compares it, makes a mailbox and moves the message there, counts what the
-# store has, and prints the entries of its root log and of its map log.
+# in demo/hello.eml, lists INBOX, fetches the message and compares it, makes a mailbox and moves the message there, does the script in
+# demo/script on two lanes, counts what the store has, and prints the entries of its root log and of its map log.
 demo: all
 	./mdbox dump < demo/plain.m
 	folder=$$(mktemp -d) && cd $$folder && $(CURDIR)/mdbox init 0011223344556677 && \
 	$(CURDIR)/mdbox deliver INBOX < $(CURDIR)/demo/hello.eml && $(CURDIR)/mdbox list INBOX && \
 	$(CURDIR)/mdbox fetch INBOX 1 | cmp - $(CURDIR)/demo/hello.eml && \
 	$(CURDIR)/mdbox make Archive && $(CURDIR)/mdbox move INBOX 1 Archive && \
+	$(CURDIR)/mdbox batch 2 < $(CURDIR)/demo/script && \
 	$(CURDIR)/mdbox counts && \
 	$(CURDIR)/mdbox logdump < storage/root.log && $(CURDIR)/mdbox logdump < storage/map.1.log && rm -r $$folder
 

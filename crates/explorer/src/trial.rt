@@ -110,15 +110,15 @@ fn ended(alloc: Global, status: u8, streams: &Streams, seen: Seen) -> Result<Str
     Ok(format!(in alloc; "{status} {text}{name}")?)
 }
 
-/// Adds a text of one line, and a mark after it.
+/// Adds the lines of a text, a mark after each.
 fn push_text(out: &mut String, octets: &[u8]) -> Result<(), NoMemory> {
-    if octets.is_empty() {
+    let Ok(text) = str::from_utf8(octets) else {
+        out.push_str("octets; ")?;
         return Ok(());
+    };
+    for line in text.lines() {
+        out.push_str(line)?;
+        out.push_str("; ")?;
     }
-    match str::from_utf8(octets) {
-        Ok(text) => out.push_str(text.trim_end())?,
-        Err(_) => out.push_str("octets")?,
-    }
-    out.push_str("; ")?;
     Ok(())
 }

@@ -32,7 +32,7 @@ pub long_told : (old new : Option (List ℕ)) (text : List ℕ) (limit : ℕ) �
 long_told old None text limit t n = (text, subst (λ (o : Option (List ℕ)). Told o text) (sym t) tt, omega (arith, n))
 long_told old (Some rest) text limit t n = (text ++ rest, subst (λ (o : Option (List ℕ)). Told o (text ++ rest)) (sym t) refl, omega (arith, n, length-append text rest))
 
-of_told : (P : List ℕ → Type 0) (left : Option (List ℕ)) (file : List ℕ) → Told left file → OfInput (Some file) P → OfInput left P
+pub of_told : (P : List ℕ → Type 0) (left : Option (List ℕ)) (file : List ℕ) → Told left file → OfInput (Some file) P → OfInput left P
 of_told P left file t a = (a.0, subst (Told left) a.1 t, a.2)
 
 -- the end of a run on a known input is that of one on a source that held it

@@ -1,4 +1,5 @@
 pub mod AloneLemmas
+pub mod BatchLemmas
 pub mod CountsLemmas
 pub mod ChangeLemmas
 pub mod CopyLemmas
@@ -16,6 +17,7 @@ pub mod MailLemmas
 pub mod MakeFileLemmas
 pub mod MakeLemmas
 pub mod MoveLemmas
+pub mod PlaceLemmas
 pub mod ReplyFaultLemmas
 pub mod RequestLemmas
 pub mod RoomLemmas

@@ -52,12 +52,12 @@ reply_number (reply.Refused refusal.Stopped) = inr (inr (inr (inl refl)))
 reply_number (reply.Refused other) = inr (inl refl)
 reply_number other = inl refl
 
-one_more : (n m : ℕ) → IsOneOf (0 ∷ 1 ∷ 5 ∷ 6 ∷ []) m → n ≡ m → IsOneOf (0 ∷ 1 ∷ 5 ∷ 6 ∷ 8 ∷ []) n
-one_more n m (inl a) e = inl (e ∙ a)
-one_more n m (inr (inl a)) e = inr (inl (e ∙ a))
-one_more n m (inr (inr (inl a))) e = inr (inr (inl (e ∙ a)))
-one_more n m (inr (inr (inr (inl a)))) e = inr (inr (inr (inl (e ∙ a))))
-one_more n m (inr (inr (inr (inr a)))) e = absurd a
+pub one_of_shown : (n m : ℕ) → IsOneOf (0 ∷ 1 ∷ 5 ∷ 6 ∷ []) m → n ≡ m → IsOneOf (0 ∷ 1 ∷ 5 ∷ 6 ∷ 8 ∷ []) n
+one_of_shown n m (inl a) e = inl (e ∙ a)
+one_of_shown n m (inr (inl a)) e = inr (inl (e ∙ a))
+one_of_shown n m (inr (inr (inl a))) e = inr (inr (inl (e ∙ a)))
+one_of_shown n m (inr (inr (inr (inl a)))) e = inr (inr (inr (inl (e ∙ a))))
+one_of_shown n m (inr (inr (inr (inr a)))) e = absurd a
 
 pub shown_number : (text : List ℕ) (given : Reply) (h k : Option (List ℕ)) (o : Outcome) → ShowsReply text given h k o → IsOneOf (0 ∷ 1 ∷ 5 ∷ 6 ∷ 8 ∷ []) (status_of o)
 shown_number text given h k outcome.WriteFault s = inr (inr (inr (inr (inl refl))))
@@ -65,13 +65,13 @@ shown_number text given h k outcome.NoMemory s = inr (inr (inl refl))
 shown_number text given h k outcome.Done s = inl refl
 shown_number text given h k outcome.No s = inr (inl refl)
 shown_number text given h k outcome.DiskFault s = inr (inr (inr (inl refl)))
-shown_number text given h k outcome.ReadFault s = one_more 7 _ (reply_number given) (ap status_of s.0)
-shown_number text given h k outcome.Usage s = one_more 2 _ (reply_number given) (ap status_of s.0)
-shown_number text given h k (outcome.StoreRefused why) s = one_more 3 _ (reply_number given) (ap status_of s.0)
-shown_number text given h k (outcome.InputRefused why) s = one_more 4 _ (reply_number given) (ap status_of s.0)
+shown_number text given h k outcome.ReadFault s = one_of_shown 7 _ (reply_number given) (ap status_of s.0)
+shown_number text given h k outcome.Usage s = one_of_shown 2 _ (reply_number given) (ap status_of s.0)
+shown_number text given h k (outcome.StoreRefused why) s = one_of_shown 3 _ (reply_number given) (ap status_of s.0)
+shown_number text given h k (outcome.InputRefused why) s = one_of_shown 4 _ (reply_number given) (ap status_of s.0)
 
 -- a request is not refused as words or as an input
-refused_by : (n m : ℕ) → IsOneOf (3 ∷ 5 ∷ 6 ∷ []) m → n ≡ m → (n ≡ 2) ⊎ (n ≡ 4) → ⊥
+pub refused_by : (n m : ℕ) → IsOneOf (3 ∷ 5 ∷ 6 ∷ []) m → n ≡ m → (n ≡ 2) ⊎ (n ≡ 4) → ⊥
 refused_by n m (inl a) e (inl b) = omega (arith, a, e, b)
 refused_by n m (inl a) e (inr b) = omega (arith, a, e, b)
 refused_by n m (inr (inl a)) e (inl b) = omega (arith, a, e, b)
@@ -80,7 +80,7 @@ refused_by n m (inr (inr (inl a))) e (inl b) = omega (arith, a, e, b)
 refused_by n m (inr (inr (inl a))) e (inr b) = omega (arith, a, e, b)
 refused_by n m (inr (inr (inr a))) e b = a
 
-shown_by : (n : ℕ) → IsOneOf (0 ∷ 1 ∷ 5 ∷ 6 ∷ 8 ∷ []) n → (n ≡ 2) ⊎ ((n ≡ 3) ⊎ (n ≡ 4)) → ⊥
+pub shown_by : (n : ℕ) → IsOneOf (0 ∷ 1 ∷ 5 ∷ 6 ∷ 8 ∷ []) n → (n ≡ 2) ⊎ ((n ≡ 3) ⊎ (n ≡ 4)) → ⊥
 shown_by n (inl a) (inl b) = omega (arith, a, b)
 shown_by n (inl a) (inr (inl b)) = omega (arith, a, b)
 shown_by n (inl a) (inr (inr b)) = omega (arith, a, b)
@@ -107,7 +107,7 @@ request_input Tells request h k old new f g why (inl n) = refused_by 4 _ (openin
 request_input Tells request h k old new f g why (inr l) = shown_by 4 (shown_number _ l.given h k (outcome.InputRefused why) l.printed) (inr (inr refl))
 
 -- damage that finds no memory for its text
-fault_number : (s : StoreRefusal) (why : OpenError) → outcome.StoreRefused s ≡ opening_outcome why → why ≡ error.DiskFault → ⊥
+pub fault_number : (s : StoreRefusal) (why : OpenError) → outcome.StoreRefused s ≡ opening_outcome why → why ≡ error.DiskFault → ⊥
 fault_number s why e d = let f : 3 ≡ 6 = ap status_of e ∙ ap (λ (w : OpenError). status_of (opening_outcome w)) d in omega (arith, f)
 
 pub request_damage : (Tells : Option History → Option History → Reply → Type 0) (request : Request) (h k : Option (List ℕ)) (old new : Option History) (f g : Faults) (s : StoreRefusal) → RequestOutcome Tells request h k old new f g (outcome.StoreRefused s) → RequestOutcome Tells request h k old new f g outcome.NoMemory
@@ -115,7 +115,7 @@ request_damage Tells request h k old new f g s (inl n) = inl (record { why = err
 request_damage Tells request h k old new f g s (inr l) = absurd (shown_by 3 (shown_number _ l.given h k (outcome.StoreRefused s) l.printed) (inr (inl refl)))
 
 -- a settled disk has a store, which is damaged nowhere
-settled_opens : (lists : Lists) (old : Option History) (why : OpenError) → IsSettledFor lists old → IsOpeningError old why → (why ≡ error.DiskFault) ⊎ (why ≡ error.NoMemory)
+pub settled_opens : (lists : Lists) (old : Option History) (why : OpenError) → IsSettledFor lists old → IsOpeningError old why → (why ≡ error.DiskFault) ⊎ (why ≡ error.NoMemory)
 settled_opens lists None why s cause = absurd s
 settled_opens lists (Some h) error.NoStore s cause =
     let o = safe_opens (files_of h.now) s.store s.entries lists s.safe in absurd (no_store_or_opens (files_of h.now) s.store s.entries o.0 cause o.1)

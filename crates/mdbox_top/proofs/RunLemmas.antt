@@ -15,7 +15,7 @@ use Rattle.model_store.specs.Settled.{IsSettledFor}
 use Rattle.model_store.proofs.SettledLemmas.{settled_safe}
 use Rattle.list_machine.specs.Machine.{set_flags}
 use Rattle.mail_ops.specs.Copy.{copied_lists}
-use Rattle.request_text.specs.Commands.{NamesMailbox}
+use Rattle.request_text.specs.Commands.{IsInRange, NamesMailbox}
 use Rattle.disk_model.specs.declared.name.FileName.{FileName}
 use Rattle.request_text.specs.Outcomes.{status_of, EndsAs}
 use Rattle.request_text.specs.declared.command.Command.{Command}
@@ -37,6 +37,7 @@ use Rattle.mdbox_top.specs.MakeRun.{IsMakeReply, AreMade}
 use Rattle.mdbox_top.specs.MoveRun.{IsMoveReply}
 use Rattle.mdbox_top.specs.ExpungeRun.{IsExpungeReply, lists_without}
 use Rattle.mdbox_top.specs.CountsRun.{IsCountsReply}
+use Rattle.mdbox_top.proofs.BatchLemmas.{batch_damage, batch_input, batch_rests_as, batch_status, batch_used}
 use Rattle.mdbox_top.proofs.CountsLemmas.{counts_status}
 use Rattle.mdbox_top.proofs.DeliverLemmas.{deliver_input, deliver_damage, deliver_status, deliver_used, deliver_rests_as}
 use Rattle.mdbox_top.proofs.RequestLemmas.{request_status, request_used, request_input, request_damage, unasked}
@@ -55,6 +56,7 @@ input_memory (command.Copy name uid target) left told h k old new f g why e = ab
 input_memory (command.Move name uid target) left told h k old new f g why e = absurd (request_input (IsMoveReply name uid target) (request.Move name uid target) h k old new f g why e)
 input_memory (command.Make name) left told h k old new f g why e = absurd (request_input (IsMakeReply name) (request.Make name) h k old new f g why e)
 input_memory command.Counts left told h k old new f g why e = absurd (request_input IsCountsReply request.Counts h k old new f g why e)
+input_memory (command.Batch lanes) left told h k old new f g why e = batch_input lanes left h k old new f g why e
 input_memory command.Help left told h k old new f g why e = absurd e
 input_memory command.Version left told h k old new f g why e = absurd e
 
@@ -70,6 +72,7 @@ damage_memory (command.Copy box uid target) left told h k old new f g name place
 damage_memory (command.Move box uid target) left told h k old new f g name place e = request_damage (IsMoveReply box uid target) (request.Move box uid target) h k old new f g (store.Damaged name place) e
 damage_memory (command.Make box) left told h k old new f g name place e = request_damage (IsMakeReply box) (request.Make box) h k old new f g (store.Damaged name place) e
 damage_memory command.Counts left told h k old new f g name place e = request_damage IsCountsReply request.Counts h k old new f g (store.Damaged name place) e
+damage_memory (command.Batch lanes) left told h k old new f g name place e = batch_damage lanes left h k old new f g (store.Damaged name place) e
 damage_memory command.Dump left told h k old new f g name place e = absurd e
 damage_memory command.LogDump left told h k old new f g name place e = absurd e
 damage_memory command.Help left told h k old new f g name place e = absurd e
@@ -96,21 +99,22 @@ last_ends c left told h k old new f g outcome.DiskFault last y e = subst (Ends c
 last_ends c left told h k old new f g outcome.ReadFault last y e = subst (Ends c left told h k old new f g) (sym y) e
 last_ends c left told h k old new f g outcome.WriteFault last y e = subst (Ends c left told h k old new f g) (sym y) e
 
-pub has_status : (c : Command) (left : Option (List ℕ)) (told : Option ℕ) (h k : Option (List ℕ)) (old new : Option History) (f g : Faults) (o : Outcome) → Ends c left told h k old new f g o → HasStatus c left old (status_of o)
-has_status (command.Init id) left told h k old new f g o e = λ free. init_status id.0 h k old new o e free
-has_status (command.Deliver name) left told h k old new f g o e = deliver_status name left told h k old new f g o e
-has_status (command.List name) left told h k old new f g o e = λ lists s. request_status (IsListReply name) (request.List name) h k old new f g o e lists s
-has_status (command.Fetch name uid) left told h k old new f g o e = λ lists s. request_status (IsFetchReply name uid) (request.Fetch name uid) h k old new f g o e lists s
-has_status (command.Flag name uid flags) left told h k old new f g o e = λ lists s. request_status (IsFlagReply name uid flags) (request.Flag name uid flags) h k old new f g o e lists s
-has_status (command.Expunge name uid) left told h k old new f g o e = λ lists s. request_status (IsExpungeReply name uid) (request.Expunge name uid) h k old new f g o e lists s
-has_status (command.Copy name uid target) left told h k old new f g o e = λ lists s. request_status (IsCopyReply name uid target) (request.Copy name uid target) h k old new f g o e lists s
-has_status (command.Move name uid target) left told h k old new f g o e = λ lists s. request_status (IsMoveReply name uid target) (request.Move name uid target) h k old new f g o e lists s
-has_status (command.Make name) left told h k old new f g o e = λ lists s. request_status (IsMakeReply name) (request.Make name) h k old new f g o e lists s
-has_status command.Counts left told h k old new f g o e = λ lists s. counts_status h k old new f g o e lists s
-has_status command.Dump left told h k old new f g o e = input_status DumpPrints DumpRefuses left h k o dumps_apart e
-has_status command.LogDump left told h k old new f g o e = input_status LogDumpPrints LogDumpRefuses left h k o log_dumps_apart e
-has_status command.Help left told h k old new f g o e = shows_status _ h k o e
-has_status command.Version left told h k old new f g o e = shows_status _ h k o e
+pub has_status : (c : Command) → IsInRange c → (left : Option (List ℕ)) (told : Option ℕ) (h k : Option (List ℕ)) (old new : Option History) (f g : Faults) (o : Outcome) → Ends c left told h k old new f g o → HasStatus c left old (status_of o)
+has_status (command.Init id) r left told h k old new f g o e = λ free. init_status id.0 h k old new o e free
+has_status (command.Deliver name) r left told h k old new f g o e = deliver_status name left told h k old new f g o e
+has_status (command.List name) r left told h k old new f g o e = λ lists s. request_status (IsListReply name) (request.List name) h k old new f g o e lists s
+has_status (command.Fetch name uid) r left told h k old new f g o e = λ lists s. request_status (IsFetchReply name uid) (request.Fetch name uid) h k old new f g o e lists s
+has_status (command.Flag name uid flags) r left told h k old new f g o e = λ lists s. request_status (IsFlagReply name uid flags) (request.Flag name uid flags) h k old new f g o e lists s
+has_status (command.Expunge name uid) r left told h k old new f g o e = λ lists s. request_status (IsExpungeReply name uid) (request.Expunge name uid) h k old new f g o e lists s
+has_status (command.Copy name uid target) r left told h k old new f g o e = λ lists s. request_status (IsCopyReply name uid target) (request.Copy name uid target) h k old new f g o e lists s
+has_status (command.Move name uid target) r left told h k old new f g o e = λ lists s. request_status (IsMoveReply name uid target) (request.Move name uid target) h k old new f g o e lists s
+has_status (command.Make name) r left told h k old new f g o e = λ lists s. request_status (IsMakeReply name) (request.Make name) h k old new f g o e lists s
+has_status command.Counts r left told h k old new f g o e = λ lists s. counts_status h k old new f g o e lists s
+has_status (command.Batch lanes) r left told h k old new f g o e = batch_status lanes left h k old new f g o (omega (arith, r.1)) e
+has_status command.Dump r left told h k old new f g o e = input_status DumpPrints DumpRefuses left h k o dumps_apart e
+has_status command.LogDump r left told h k old new f g o e = input_status LogDumpPrints LogDumpRefuses left h k o log_dumps_apart e
+has_status command.Help r left told h k old new f g o e = shows_status _ h k o e
+has_status command.Version r left told h k old new f g o e = shows_status _ h k o e
 
 -- no command ends as unknown words
 used : (c : Command) (left : Option (List ℕ)) (told : Option ℕ) (h k : Option (List ℕ)) (old new : Option History) (f g : Faults) → Ends c left told h k old new f g outcome.Usage → ⊥
@@ -124,6 +128,7 @@ used (command.Copy name uid target) left told h k old new f g e = request_used (
 used (command.Move name uid target) left told h k old new f g e = request_used (IsMoveReply name uid target) (request.Move name uid target) h k old new f g e
 used (command.Make name) left told h k old new f g e = request_used (IsMakeReply name) (request.Make name) h k old new f g e
 used command.Counts left told h k old new f g e = request_used IsCountsReply request.Counts h k old new f g e
+used (command.Batch lanes) left told h k old new f g e = batch_used lanes left h k old new f g e
 used command.Dump left told h k old new f g e = e
 used command.LogDump left told h k old new f g e = e
 used command.Help left told h k old new f g e = e
@@ -245,6 +250,7 @@ fails_last (command.Expunge name uid) o last y e = one_last o last y e
 fails_last (command.Copy name uid target) o last y e = one_last o last y e
 fails_last (command.Move name uid target) o last y e = one_last o last y e
 fails_last (command.Make name) o last y e = one_last o last y e
+fails_last (command.Batch lanes) o last y e = one_last o last y e
 fails_last other o last y e = six_last o last y e
 
 pub rests_last : (c : Command) (left : Option (List ℕ)) (told : Option ℕ) (F G : Type 0) (f g : Faults) (old new : Option History) → (F → G) → Rests c left told F f g old new → Rests c left told G f g old new
@@ -257,6 +263,7 @@ rests_last (command.Copy name uid target) left told F G f g old new h r = λ non
 rests_last (command.Move name uid target) left told F G f g old new h r = λ none. r (λ failed. none (h failed))
 rests_last (command.Make name) left told F G f g old new h r = λ none. r (λ failed. none (h failed))
 rests_last command.Counts left told F G f g old new h r = λ none. r (λ failed. none (h failed))
+rests_last (command.Batch lanes) left told F G f g old new h r = batch_rests_as lanes left F G f g old new h r
 rests_last other left told F G f g old new h r = tt
 
 -- ---- words that name a mailbox, whose name finds no memory

@@ -1,4 +1,5 @@
 pub mod Alone
+pub mod BatchRun
 pub mod CountsRun
 pub mod DeliverRun
 pub mod ChangeEvents
@@ -14,6 +15,7 @@ pub mod ListRun
 pub mod MakeRun
 pub mod MoveRun
 pub mod OpeningOutcome
+pub mod PrintedPlaces
 pub mod Run
 pub mod SavedMail
 pub mod Served

@@ -11,6 +11,7 @@ use Rattle.request_text.specs.declared.command.TheConstants.{HELP, VERSION}
 use Rattle.request_text.specs.declared.outcome.Outcome.{Outcome}
 use Rattle.mdbox_base.specs.declared.requests.Request.TheVariants as request
 use Rattle.mdbox_top.specs.Alone.{MayFail}
+use Rattle.mdbox_top.specs.BatchRun.{BatchOutcome, BatchMoments, BatchRests, BatchStatus, TellsScriptFaults}
 use Rattle.mdbox_top.specs.InputRun.{DumpPrints, DumpRefuses, LogDumpPrints, LogDumpRefuses, InputOutcome, InputStatus, ShowsText, IsOneOf}
 use Rattle.mdbox_top.specs.InitRun.{InitOutcome, InitMoments, MayMakeStore}
 use Rattle.mdbox_top.specs.ListRun.{ListOutcome, ListMoments, ListRests}
@@ -36,6 +37,7 @@ Ends (command.Copy name uid target) left told held later old new began now outco
 Ends (command.Move name uid target) left told held later old new began now outcome = MoveOutcome name uid target held later old new began now outcome
 Ends (command.Make name) left told held later old new began now outcome = MakeOutcome name held later old new began now outcome
 Ends command.Counts left told held later old new began now outcome = CountsOutcome held later old new began now outcome
+Ends (command.Batch lanes) left told held later old new began now outcome = BatchOutcome lanes left held later old new began now outcome
 Ends command.Dump left told held later old new began now outcome = InputOutcome DumpPrints DumpRefuses left held later outcome
 Ends command.LogDump left told held later old new began now outcome = InputOutcome LogDumpPrints LogDumpRefuses left held later outcome
 Ends command.Help left told held later old new began now outcome = ShowsText HELP.now held later outcome
@@ -60,6 +62,7 @@ Moments (command.Copy name uid target) left told old new = CopyMoments name uid 
 Moments (command.Move name uid target) left told old new = MoveMoments name uid target old new
 Moments (command.Make name) left told old new = MakeMoments name old new
 Moments command.Counts left told old new = CountsMoments old new
+Moments (command.Batch lanes) left told old new = BatchMoments lanes left old new
 Moments other left told old new = new ≡ old
 
 -- What the command leaves of the disk when it ends, by whether it failed and the counts of the disk's faults.
@@ -73,6 +76,7 @@ Rests (command.Copy name uid target) left told failed began now old new = CopyRe
 Rests (command.Move name uid target) left told failed began now old new = MoveRests name uid target failed began now old new
 Rests (command.Make name) left told failed began now old new = MakeRests name failed began now old new
 Rests command.Counts left told failed began now old new = CountsRests failed began now old new
+Rests (command.Batch lanes) left told failed began now old new = BatchRests lanes left failed began now old new
 Rests other left told failed began now old new = Unit {0}
 
 -- The statuses that may come, by what was left of the input and what the disk was: no file refuses a store that can be made,
@@ -88,6 +92,7 @@ HasStatus (command.Copy name uid target) left old status = (lists : Lists) → I
 HasStatus (command.Move name uid target) left old status = (lists : Lists) → IsSettledFor lists old → IsOneOf (0 ∷ 1 ∷ 5 ∷ 6 ∷ 8 ∷ []) status
 HasStatus (command.Make name) left old status = (lists : Lists) → IsSettledFor lists old → IsOneOf (0 ∷ 1 ∷ 5 ∷ 6 ∷ 8 ∷ []) status
 HasStatus command.Counts left old status = (lists : Lists) → IsSettledFor lists old → IsOneOf (0 ∷ 5 ∷ 6 ∷ 8 ∷ []) status
+HasStatus (command.Batch lanes) left old status = BatchStatus lanes left old status
 HasStatus command.Dump left old status = InputStatus DumpPrints DumpRefuses left status
 HasStatus command.LogDump left old status = InputStatus LogDumpPrints LogDumpRefuses left status
 HasStatus command.Help left old status = IsOneOf (0 ∷ 8 ∷ []) status
@@ -103,11 +108,18 @@ MayHaveFailed (command.Expunge name uid) status = MayFail (request.Expunge name 
 MayHaveFailed (command.Copy name uid target) status = MayFail (request.Copy name uid target) status
 MayHaveFailed (command.Move name uid target) status = MayFail (request.Move name uid target) status
 MayHaveFailed (command.Make name) status = MayFail (request.Make name) status
+MayHaveFailed (command.Batch lanes) status = IsOneOf (5 ∷ 6 ∷ 8 ∷ []) status
 MayHaveFailed other status = status ≡ 6
+
+-- It is said of the command which calls of the disk failed: always, but of a script that reads messages only if the disk was settled.
+abbrev pub TellsFaults : Command → Option (List ℕ) → Option History → Type 0
+TellsFaults (command.Batch lanes) left old = TellsScriptFaults lanes left old
+TellsFaults other left old = Unit {0}
 
 -- the command reads standard input
 abbrev pub reads_input : Command → Bool
 reads_input (command.Deliver name) = true
+reads_input (command.Batch lanes) = true
 reads_input command.Dump = true
 reads_input command.LogDump = true
 reads_input other = false
@@ -124,6 +136,7 @@ uses_disk (command.Copy name uid target) = true
 uses_disk (command.Move name uid target) = true
 uses_disk (command.Make name) = true
 uses_disk command.Counts = true
+uses_disk (command.Batch lanes) = true
 uses_disk other = false
 
 -- the command asks the clock

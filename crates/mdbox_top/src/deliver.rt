@@ -90,7 +90,7 @@ fn read_message<I: Source, C: Clock>(
 }
 
 /// The end of a run whose input was not read.
-fn unread(error: InputError) -> Outcome
+pub(crate) fn unread(error: InputError) -> Outcome
     ensures { result ≡ unread_outcome error }
 {
     match error {

@@ -1,10 +1,12 @@
 //! What the program does: the words, the input, the store, what is printed, and the status.
 #![tactic(auto)]
 
+pub use laws::printed_places_number_the_journal;
 pub use request_text::Status;
 pub use run::{mdbox_alone, mdbox_run};
 
 mod alone;
+mod batch;
 mod copy;
 mod counts;
 mod deliver;
@@ -12,6 +14,7 @@ mod expunge;
 mod fetch;
 mod init;
 mod input_commands;
+mod laws;
 mod making;
 mod moving;
 mod opening;

@@ -9,9 +9,10 @@ ghost use Rattle.request_text.specs.declared.command.Command.{Command};
 ghost use Rattle.request_text.specs.declared.outcome.Outcome.TheVariants as outcome;
 ghost use Rattle.request_text.specs.declared.outcome.InputRefusal.{InputRefusal};
 ghost use Rattle.mdbox_top.specs.DeliverRun.{IsReadWhole};
-ghost use Rattle.mdbox_top.specs.Run.{Ends, RunOutcome, Moments, Rests, HasStatus, MayHaveFailed, reads_input, uses_disk, asks_clock};
+ghost use Rattle.mdbox_top.specs.Run.{Ends, RunOutcome, Moments, Rests, HasStatus, MayHaveFailed, TellsFaults, reads_input, uses_disk, asks_clock};
 
 use crate::alone::serve;
+use crate::batch::batch;
 use crate::copy::copy;
 use crate::counts::counts;
 use crate::deliver::deliver;
@@ -67,10 +68,10 @@ pub fn mdbox_run<D: Disk, I: Source, O: Sink, E: Sink, C: Clock>(
 
     // A fault only if that object's count of faults rose, and else it stayed: none is made up, and none hidden but by a
     // command that can't print that a read failed, or that the store is stopped. The counts never fall.
-    ensures disk_fault { AnyFaultCounted (result.0.0 ≡ 6) (D.faults disk) (D.faults result.1) }
+    ensures disk_fault { ((command : Command) → Says (map string_bytes words.now) command → TellsFaults command (I.left input.old) (D.history disk)) → AnyFaultCounted (result.0.0 ≡ 6) (D.faults disk) (D.faults result.1) }
     ensures read_fault { result.0.0 ≡ 7 → Rose (I.faults input.old) (I.faults input.new) ⊎ (Rose (C.faults clock.old) (C.faults clock.new) × IsReadWhole (I.left input.old) (I.left input.new)) }
     ensures write_fault { result.0.0 ≡ 8 → Rose (O.faults output.old) (O.faults output.new) }
-    ensures disk_quiet { (command : Command) → Says (map string_bytes words.now) command → (MayHaveFailed command result.0.0 → ⊥) → NoFault (D.faults disk) (D.faults result.1) }
+    ensures disk_quiet { (command : Command) → Says (map string_bytes words.now) command → TellsFaults command (I.left input.old) (D.history disk) → (MayHaveFailed command result.0.0 → ⊥) → NoFault (D.faults disk) (D.faults result.1) }
     ensures read_quiet { result.0.0 ≢ 7 → I.faults input.new ≡ I.faults input.old }
     ensures clock_quiet { result.0.0 ≢ 7 → C.faults clock.new ≡ C.faults clock.old }
     ensures write_quiet { result.0.0 ≢ 8 → O.faults output.new ≡ O.faults output.old }
@@ -101,10 +102,10 @@ pub fn mdbox_alone<D: Disk, I: Source, O: Sink, E: Sink, C: Clock>(
     ensures unread { reads_input command ≡ false → input.new ≡ input.old }
     ensures untouched { uses_disk command ≡ false → result.1 ≡ disk }
     ensures unasked { asks_clock command ≡ false → clock.new ≡ clock.old }
-    ensures disk_fault { AnyFaultCounted (result.0.0 ≡ 6) (D.faults disk) (D.faults result.1) }
+    ensures disk_fault { TellsFaults command (I.left input.old) (D.history disk) → AnyFaultCounted (result.0.0 ≡ 6) (D.faults disk) (D.faults result.1) }
     ensures read_fault { result.0.0 ≡ 7 → Rose (I.faults input.old) (I.faults input.new) ⊎ (Rose (C.faults clock.old) (C.faults clock.new) × IsReadWhole (I.left input.old) (I.left input.new)) }
     ensures write_fault { result.0.0 ≡ 8 → Rose (O.faults output.old) (O.faults output.new) }
-    ensures disk_quiet { (MayHaveFailed command result.0.0 → ⊥) → NoFault (D.faults disk) (D.faults result.1) }
+    ensures disk_quiet { TellsFaults command (I.left input.old) (D.history disk) → (MayHaveFailed command result.0.0 → ⊥) → NoFault (D.faults disk) (D.faults result.1) }
     ensures read_quiet { result.0.0 ≢ 7 → I.faults input.new ≡ I.faults input.old }
     ensures clock_quiet { result.0.0 ≢ 7 → C.faults clock.new ≡ C.faults clock.old }
     ensures asked { (clock.new ≡ clock.old) ⊎ (IsReadWhole (I.left input.old) (I.left input.new) × (I.faults input.new ≡ I.faults input.old)) }
@@ -132,10 +133,10 @@ fn perform<D: Disk, I: Source, O: Sink, C: Clock>(
     ensures untouched { uses_disk command ≡ false → result.1 ≡ disk }
     ensures unasked { asks_clock command ≡ false → clock.new ≡ clock.old }
     ensures rests { Rests command (I.left input.old) (C.time clock.old) (MayHaveFailed command (status_of result.0)) (D.faults disk) (D.faults result.1) (D.history disk) (D.history result.1) }
-    ensures disk_fault { AnyFaultCounted (result.0 ≡ outcome.DiskFault) (D.faults disk) (D.faults result.1) }
+    ensures disk_fault { TellsFaults command (I.left input.old) (D.history disk) → AnyFaultCounted (result.0 ≡ outcome.DiskFault) (D.faults disk) (D.faults result.1) }
     ensures read_fault { result.0 ≡ outcome.ReadFault → Rose (I.faults input.old) (I.faults input.new) ⊎ (Rose (C.faults clock.old) (C.faults clock.new) × IsReadWhole (I.left input.old) (I.left input.new)) }
     ensures write_fault { result.0 ≡ outcome.WriteFault → Rose (O.faults output.old) (O.faults output.new) }
-    ensures disk_quiet { (MayHaveFailed command (status_of result.0) → ⊥) → NoFault (D.faults disk) (D.faults result.1) }
+    ensures disk_quiet { TellsFaults command (I.left input.old) (D.history disk) → (MayHaveFailed command (status_of result.0) → ⊥) → NoFault (D.faults disk) (D.faults result.1) }
     ensures read_quiet { result.0 ≢ outcome.ReadFault → I.faults input.new ≡ I.faults input.old }
     ensures clock_quiet { result.0 ≢ outcome.ReadFault → C.faults clock.new ≡ C.faults clock.old }
     ensures asked { (clock.new ≡ clock.old) ⊎ (IsReadWhole (I.left input.old) (I.left input.new) × (I.faults input.new ≡ I.faults input.old)) }
@@ -156,6 +157,7 @@ fn perform<D: Disk, I: Source, O: Sink, C: Clock>(
         Command::Copy { name, uid, target } => copy(alloc, name, uid, target, disk, output),
         Command::Move { name, uid, target } => move_to(alloc, name, uid, target, disk, output),
         Command::Make { name } => make(alloc, name, disk, output),
+        Command::Batch { lanes } => batch(alloc, lanes, disk, input, output),
         Command::Dump => (dump(alloc, input, output), disk),
         Command::LogDump => (logdump(alloc, input, output), disk),
         Command::Help => (show(output, HELP), disk),

@@ -155,6 +155,13 @@ move_same a b u v t w p q e =
     let uid : u.0 ≡ v.0 = decimal_injective u.0 v.0 (omega (arith, p.1.high)) (omega (arith, q.1.high)) uids in
     ap (λ (n : List ℕ). command.Move n u t) name ∙ ap (λ (n : ℕ). command.Move b (record { 0 = n }) t) uid ∙ ap (λ (n : List ℕ). command.Move b v n) target
 
+batch_same : (a b : ℕ) → IsInRange (command.Batch a) → IsInRange (command.Batch b) → words_of (command.Batch a) ≡ words_of (command.Batch b) → command.Batch a ≡ command.Batch b
+batch_same a b p q e =
+    let words : decimal_text a ∷ [] ≡ decimal_text b ∷ [] = cc e in
+    let numbers : decimal_text a ≡ decimal_text b = cc words in
+    let lanes : a ≡ b = decimal_injective a b (omega (arith, p.1)) (omega (arith, q.1)) numbers in
+    ap (λ (n : ℕ). command.Batch n) lanes
+
 same_words : (a b : Command) → IsInRange a → IsInRange b → words_of a ≡ words_of b → a ≡ b
 same_words (command.Init a) (command.Init b) p q e = ap (λ (i : StoreId). command.Init i) (id_same a b p q e)
 same_words (command.List a) (command.List b) p q e = ap (λ (n : List ℕ). command.List n) (name_same a b e)
@@ -165,6 +172,7 @@ same_words (command.Expunge a u) (command.Expunge b v) p q e = expunge_same a b 
 same_words (command.Copy a u t) (command.Copy b v w) p q e = copy_same a b u v t w p q e
 same_words (command.Move a u t) (command.Move b v w) p q e = move_same a b u v t w p q e
 same_words (command.Make a) (command.Make b) p q e = ap (λ (n : List ℕ). command.Make n) (make_same a b e)
+same_words (command.Batch a) (command.Batch b) p q e = batch_same a b p q e
 same_words command.Counts command.Counts p q e = refl
 same_words command.Dump command.Dump p q e = refl
 same_words command.LogDump command.LogDump p q e = refl

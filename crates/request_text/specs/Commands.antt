@@ -18,12 +18,14 @@ words_of (command.Copy name uid target) = codes "copy" ∷ name ∷ decimal_text
 words_of (command.Move name uid target) = codes "move" ∷ name ∷ decimal_text uid.0 ∷ target ∷ []
 words_of (command.Make name) = codes "make" ∷ name ∷ []
 words_of command.Counts = codes "counts" ∷ []
+words_of (command.Batch lanes) = codes "batch" ∷ decimal_text lanes ∷ []
 words_of command.Dump = codes "dump" ∷ []
 words_of command.LogDump = codes "logdump" ∷ []
 words_of command.Help = codes "--help" ∷ []
 words_of command.Version = codes "--version" ∷ []
 
--- An id has 8 octets, a name is that of a mailbox, a UID is from 1 to 4,294,967,294, and flags are a sum of bits up to 16.
+-- An id has 8 octets, a name is that of a mailbox, a UID is from 1 to 4,294,967,294, flags are a sum of bits up to 16, and there are 64 lanes at
+-- the most.
 abbrev pub IsInRange : Command → Type 0
 IsInRange (command.Init id) = (length id.0 ≡ 8) × IsOctets id.0
 IsInRange (command.Deliver name) = IsName name
@@ -35,6 +37,7 @@ IsInRange (command.Copy name uid target) = IsName name × IsNumber uid.0 × IsNa
 IsInRange (command.Move name uid target) = IsName name × IsNumber uid.0 × IsName target
 IsInRange (command.Make name) = IsName name
 IsInRange command.Counts = Unit {0}
+IsInRange (command.Batch lanes) = (1 ≤ lanes) × (lanes ≤ 64)
 IsInRange command.Dump = Unit {0}
 IsInRange command.LogDump = Unit {0}
 IsInRange command.Help = Unit {0}

@@ -24,6 +24,8 @@ pub enum Command {
     Move { name: Name, uid: Uid, target: Name },
     /// Makes an empty mailbox with this name.
     Make { name: Name },
+    /// Does the requests of the script that the input is, on so many lanes.
+    Batch { lanes: u32 },
     /// Prints the messages of a storage file.
     Dump,
     /// Prints the entries of a log.
@@ -67,6 +69,10 @@ move BOX UID TO
             there; or prints NO with a number and the cause, as copy does
 make BOX    adds an empty mailbox with this name to the store and prints OK; or prints NO 11 exists,
             NO 15 too many mailboxes 1024, or NO 16 store full 4294967294
+batch LANES reads a script from standard input, of at most 268435456 octets and 100000 requests, does its requests on
+            so many lanes (1 to 64) over the store in the current folder, opened once, and prints a line for each, in
+            the script's order: its number, the place of its step in the order in which the steps were made or -, and
+            what it replies
 dump        reads a storage file (m.N) of mdbox from standard input and prints, for each message,
             MESSAGE, its offset and the size of its body, and then its metadata lines, each after two spaces
 logdump     reads a log of mdbox from standard input and prints LOG, its kind (R, M or B), its number and its

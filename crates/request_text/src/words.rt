@@ -1,5 +1,5 @@
 // The command that words say.
-ghost use Rattle.std.specs.Prelude.{◌≡◌, ◌≢◌, ◌≤◌, ◌∷◌, [], ℕ, map, codes, string_bytes, IsErr, IsErrOf, IfOk, IfSome, IfNone};
+ghost use Rattle.std.specs.Prelude.{◌≡◌, ◌≢◌, ◌≤◌, ◌↔◌, ◌∷◌, [], ℕ, map, codes, string_bytes, IsErr, IsErrOf, IfOk, IfSome, IfNone, IsTrue};
 ghost use Rattle.mdbox_base.specs.Numbers.{decimal_text};
 ghost use Rattle.mdbox_base.specs.Words.{IsName, IsNumber};
 ghost use Rattle.request_text.specs.Commands.{Says, SaysOnly, SayNothing, NamesMailbox};
@@ -68,6 +68,7 @@ fn read_two(alloc: Global, verb: &str, word: &[u8]) -> Result<Command, WordsErro
         "deliver" => read_deliver(alloc, word),
         "list" => read_list(alloc, word),
         "make" => read_make(alloc, word),
+        "batch" => read_batch(word),
         _ => Err(WordsError::Usage),
     }
 }
@@ -112,6 +113,18 @@ fn read_make(alloc: Global, word: &[u8]) -> Result<Command, WordsError>
 {
     let name = read_name(alloc, word)?;
     Ok(Command::Make { name })
+}
+
+/// The script for as many lanes as this word says.
+fn read_batch(word: &[u8]) -> Result<Command, WordsError>
+    ensures says { IfOk result (Says (codes "batch" ∷ word.now ∷ [])) }
+    ensures usage { IsErr result → SayNothing (codes "batch" ∷ word.now ∷ []) }
+    ensures memory { IsErrOf result words_error.NoMemory → ⊥ }
+{
+    match read_lanes(word) {
+        Some(lanes) => Ok(Command::Batch { lanes }),
+        None => Err(WordsError::Usage),
+    }
 }
 
 /// The command that three words say.
@@ -237,6 +250,22 @@ fn read_uid(word: &[u8]) -> Option<Uid>
 {
     let number = u32::try_from(read_decimal(word)?).ok()?;
     is_number(number).then_some(Uid(number))
+}
+
+/// The number of lanes that this word names, 1 to 64.
+fn read_lanes(word: &[u8]) -> Option<u32>
+    ensures some { IfSome result (λ lanes. (1 ≤ lanes) × (lanes ≤ 64) × (word.now ≡ decimal_text lanes)) }
+    ensures none { IfNone result ((lanes : ℕ) → 1 ≤ lanes → lanes ≤ 64 → word.now ≢ decimal_text lanes) }
+{
+    let lanes = u32::try_from(read_decimal(word)?).ok()?;
+    are_lanes(lanes).then_some(lanes)
+}
+
+/// Whether there can be so many lanes.
+fn are_lanes(number: u32) -> bool
+    ensures { IsTrue result ↔ ((1 ≤ number) × (number ≤ 64)) }
+{
+    1 <= number && number <= 64
 }
 
 /// The flags whose bits this word names, 0 to 31.

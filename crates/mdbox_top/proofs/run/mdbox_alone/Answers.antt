@@ -1,7 +1,7 @@
 use Rattle.std.proofs.Common.{ℕ, sym, subst}
 use Rattle.request_text.specs.Outcomes.{status_of}
 use Rattle.mdbox_top.specs.Run.{MayHaveFailed}
-use Rattle.mdbox_top.proofs.RunLemmas.{last_ends, has_status, fails_last, rests_last, uninput}
+use Rattle.mdbox_top.proofs.RunLemmas.{last_ends, has_status, fails_last, faulted, rests_last, uninput}
 use Rattle.mdbox_top.proofs.run.mdbox_alone.Goals as goal
 
 pub returns-clause-run : goal.returns-clause-run
@@ -12,7 +12,7 @@ returns-clause-run g c =
 pub returns-clause-status : goal.returns-clause-status
 returns-clause-status g c =
     let told = c.report.ensures.told in
-    rw told.2 (has_status c.args.command _ _ _ _ _ _ _ _ told.0 (last_ends c.args.command _ _ _ _ _ _ _ _ c.perform-outcome.result.0 told.0 told.1 c.perform-outcome.ensures.ends))
+    rw told.2 (has_status c.args.command c.requires.range _ _ _ _ _ _ _ _ told.0 (last_ends c.args.command _ _ _ _ _ _ _ _ c.perform-outcome.result.0 told.0 told.1 c.perform-outcome.ensures.ends))
 
 pub returns-clause-rests : goal.returns-clause-rests
 returns-clause-rests g c =
@@ -20,12 +20,18 @@ returns-clause-rests g c =
     rw told.2 (rests_last c.args.command _ _ (MayHaveFailed c.args.command (status_of c.perform-outcome.result.0)) (MayHaveFailed c.args.command (status_of told.0)) _ _ _ _ (fails_last c.args.command c.perform-outcome.result.0 told.0 told.1) c.perform-outcome.ensures.rests)
 
 pub returns-clause-disk_quiet : goal.returns-clause-disk_quiet
-returns-clause-disk_quiet g c = λ no.
+returns-clause-disk_quiet g c = λ tells no.
     let told = c.report.ensures.told in
-    c.perform-outcome.ensures.disk_quiet (λ failed. no (subst (λ (n : ℕ). MayHaveFailed c.args.command n) (sym told.2) (fails_last c.args.command c.perform-outcome.result.0 told.0 told.1 failed)))
+    c.perform-outcome.ensures.disk_quiet tells (λ failed. no (subst (λ (n : ℕ). MayHaveFailed c.args.command n) (sym told.2) (fails_last c.args.command c.perform-outcome.result.0 told.0 told.1 failed)))
 
 pub returns-clause-refused : goal.returns-clause-refused
 returns-clause-refused g c = λ four.
     let told = c.report.ensures.told in
     let o = uninput c.perform-outcome.result.0 told.0 _ told.1 told.2 four in
     c.perform-outcome.ensures.refused o.0 o.1
+
+pub returns-clause-disk_fault : goal.returns-clause-disk_fault
+returns-clause-disk_fault g c = λ tells.
+    let told = c.report.ensures.told in
+    let fault = c.perform-outcome.ensures.disk_fault tells in
+    record { reads = fault.reads; changes = fault.changes; rose = λ six. fault.rose (faulted c.perform-outcome.result.0 told.0 _ told.1 told.2 six) }

@@ -30,3 +30,6 @@ pub returns-in-Err-NoMemory-clause-unknown : goal.returns-in-Err-NoMemory-clause
 returns-in-Err-NoMemory-clause-unknown g c = λ none.
     let found = (rw c.in-Err-NoMemory.field-0-is at c.in-Err-NoMemory.ensures.memory) refl in
     absurd (none found.0 found.2.says)
+
+pub returns-in-Ok-clause-disk_fault : goal.returns-in-Ok-clause-disk_fault
+returns-in-Ok-clause-disk_fault g c = λ tells. c.mdbox_alone.ensures.disk_fault (tells c.in-Ok.command c.in-Ok.ensures.says.says)

@@ -20,3 +20,12 @@ returns-in-Copy-clause-rests g c = rw c.in-Copy.is c.copy.ensures.rests
 
 pub returns-in-Deliver-clause-rests : goal.returns-in-Deliver-clause-rests
 returns-in-Deliver-clause-rests g c = rw c.in-Deliver.is c.deliver.ensures.rests
+
+pub returns-in-Batch-clause-rests : goal.returns-in-Batch-clause-rests
+returns-in-Batch-clause-rests g c = rw c.in-Batch.is c.batch.ensures.rests
+
+pub returns-in-Batch-clause-disk_fault : goal.returns-in-Batch-clause-disk_fault
+returns-in-Batch-clause-disk_fault g c = rw c.in-Batch.is c.batch.ensures.disk_fault
+
+pub returns-in-Batch-clause-disk_quiet : goal.returns-in-Batch-clause-disk_quiet
+returns-in-Batch-clause-disk_quiet g c = rw c.in-Batch.is c.batch.ensures.disk_quiet
