@@ -8,8 +8,8 @@ ghost use Rattle.attach_detach.specs.Prepared.{IsPrepared, NameParts};
 use anyhow::{Result, bail};
 use attach_detach::{Detached, Prepared, prepare, prepared_is_detached};
 use attach_join::rejoin_detached;
-use os_folder::StdSource;
 use mdbox_base::{ExtRef, InstId, NoMemory, Octets, Seq, read_all};
+use os_folder::StdSource;
 use std::alloc::Global;
 use std::env;
 
