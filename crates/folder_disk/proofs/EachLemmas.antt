@@ -21,3 +21,7 @@ each_more P Q xs i x goes within is so_far here k d below = elim (cases_lt k i) 
 
 pub each_all : {A : Type 0} (P : A → Type 0) (xs : List A) (i : ℕ) → length xs ≤ i → EachSoFar P xs i → All P xs
 each_all P xs i done so_far k d below = so_far k d (omega (arith, below, done))
+
+-- an element, read with any default
+pub each_at : {A : Type 0} (P Q : A → Type 0) (xs : List A) (i : ℕ) (e : A) → ((y : A) → P y → Q y) → i < length xs → EachSoFar P xs i → Q (get_or xs i e) → EachSoFar Q xs (i + 1)
+each_at P Q xs i e goes within so_far here = each_more P Q xs i (get_or xs i e) goes within (get_or_default xs i e (get_or xs i e) within) so_far here

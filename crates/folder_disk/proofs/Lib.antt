@@ -12,6 +12,7 @@ pub mod OverLemmas
 pub mod PlaceLemmas
 pub mod ReadLemmas
 pub mod SeenLemmas
+pub mod SettleLemmas
 pub mod StartLemmas
 pub mod SyncLemmas
 pub mod SystemLemmas

@@ -3,6 +3,9 @@ use Rattle.std.proofs.Common.{◌≡◌, ◌≢◌, ◌⊎◌, inl, inr, ℕ, �
 use Rattle.std.proofs.lemmas.List.{length-append, length-map, get_or-map}
 use Rattle.std.proofs.lemmas.List.Elements.{Contains-append_left, Contains-append_right}
 use Rattle.hex.specs.Hex.{encode_lower}
+use Rattle.file_paths.proofs.InstLemmas.{one_octet}
+use Rattle.model_octets.proofs.PiecesLemmas.{split_same}
+use Rattle.model_storage.proofs.ReferenceLemmas.{hex_same}
 use Rattle.folder_model.specs.Paths.{folder_at}
 use Rattle.folder_model.specs.System.{Node, Nothing, PlainFile, AFolder, Another, System, StandsIn, ArePathsIn}
 use Rattle.folder_model.specs.Calls.{Modelled, IfModelled, IfSound, kind_of_node}
@@ -35,27 +38,31 @@ below_top above octet e =
     let l = ap length e in
     omega (arith, long, two, l)
 
+-- the octet that this path spells in this folder is among these
+abbrev pub ListsOctet : {S : Type 0} → (S → List ℕ) → List ℕ → List ℕ → S → Type 0
+ListsOctet view above octets path = (octet : ℕ) → octet < 256 → view path ≡ above ++ (codes "/" ++ encode_lower (octet ∷ [])) → Contains octets octet
+
 -- each octet that names what stands in a folder was listed
 has_octets : {S : Type 0} (view : S → List ℕ) (s : System) (above : List ℕ) (paths : List S) (i : ℕ) (d : S) (octets : List ℕ) → IsUtf8 above → length paths ≤ i
     → ArePathsIn s above (map view paths)
-    → EachSoFar (λ path. (octet : ℕ) → octet < 256 → view path ≡ above ++ (codes "/" ++ encode_lower (octet ∷ [])) → Contains octets octet) paths i → HasOctets s above octets
+    → EachSoFar (ListsOctet view above octets) paths i → HasOctets s above octets
 has_octets view s above paths i d octets text done listed each octet fits stands =
     let p = above ++ (codes "/" ++ encode_lower (octet ∷ [])) in
-    let x = found_in view _ paths i d p done each
+    let x = found_in view (ListsOctet view above octets) paths i d p done each
         (listed.all p (record { in_folder = folder_apart above (encode_lower (octet ∷ [])) (octet_name octet fits).no_slash; below = below_top above octet; there = stands })
         (below_text above octet fits text)) in
     x.2 octet fits x.1
 
 pub octets_told : {S : Type 0} (view : S → List ℕ) (m : Option Modelled) (above name : List ℕ) (paths : List S) (i : ℕ) (d : S) (octets : List ℕ) → IsUtf8 above → above ≡ name → length paths ≤ i
     → IsSoundSystem m → IfSound m (λ s. ArePathsIn s above (map view paths))
-    → EachSoFar (λ path. (octet : ℕ) → octet < 256 → view path ≡ above ++ (codes "/" ++ encode_lower (octet ∷ [])) → Contains octets octet) paths i → IfModelled m (λ s. HasOctets s name octets)
+    → EachSoFar (ListsOctet view above octets) paths i → IfModelled m (λ s. HasOctets s name octets)
 octets_told view None above name paths i d octets text at done sound listed each = tt
 octets_told view (Some m) above name paths i d octets text at done sound listed each =
     let F : List ℕ → Type 0 = λ p. HasOctets m.now p octets in
     subst F at (has_octets view m.now above paths i d octets text done (listed sound) each)
 
 -- a list that grows at its end
-pub keeps_more : (xs : List FolderName) (x : FolderName) → KeepsAll xs (xs ++ x ∷ [])
+pub keeps_more : {A : Type 0} (xs : List A) (x : A) → KeepsAll xs (xs ++ x ∷ [])
 keeps_more xs x name has = Contains-append_left xs (x ∷ []) name has
 
 pub has_last : {A : Type 0} (xs : List A) (x : A) → Contains (xs ++ x ∷ []) x
@@ -89,8 +96,8 @@ outer_told None first octets i names outer has done each = tt
 outer_told (Some m) first octets i names outer has done each = record {
   outer = outer;
   inner = λ second fits there.
-      let stands = λ e. no_folder (sym there ∙ ap (λ p. m.now.node p) (inner_as first second) ∙ e) in
-      among _ octets i second done each (has second fits stands) there;
+      let stands : m.now.node (folder_text (folder.Outer first) ++ (codes "/" ++ encode_lower (second ∷ []))) ≢ Nothing = λ e. no_folder (sym there ∙ ap (λ p. m.now.node p) (inner_as first second) ∙ e) in
+      among (λ second. m.now.node (folder_text (folder.Inner first second)) ≡ AFolder → Contains names (folder.Inner first second)) octets i second done each (has second fits stands) there;
 }
   where
     no_folder : AFolder ≢ Nothing
@@ -116,7 +123,7 @@ all_told (Some m) octets i names top storage mailboxes attachments has done each
     no_folder e = let d : AFolder ≡ Nothing = e in cc
 
     outer : (first : ℕ) → first < 256 → m.now.node (folder_text (folder.Outer first)) ≡ AFolder → HasFoldersOf m.now first names
-    outer first fits there = among _ octets i first done each (has first fits (λ e. no_folder (sym there ∙ e)))
+    outer first fits there = among (λ first. HasFoldersOf m.now first names) octets i first done each (has first fits (λ e. no_folder (sym there ∙ e)))
 
     all : StandInFolders m.now → (name : FolderName) → IsFolderName name → m.now.node (folder_text name) ≡ AFolder → Contains names name
     all folders folder.Top is there = top
@@ -131,3 +138,11 @@ all_told (Some m) octets i names top storage mailboxes attachments has done each
           | inr none ↦ absurd (no_folder (sym there ∙ none))
         ] in
         (outer first is.0 up).inner second is.1 there
+
+-- no octet but this one is spelled so
+pub one_octet_spelled : (path above : List ℕ) (a b : ℕ) → a < 256 → b < 256 → path ≡ above ++ (codes "/" ++ encode_lower (a ∷ [])) → path ≡ above ++ (codes "/" ++ encode_lower (b ∷ [])) → a ≡ b
+one_octet_spelled path above a b fits_a fits_b p q =
+    let e = (split_same above above _ _ refl (sym p ∙ q)).1 in
+    let d = (split_same (codes "/") (codes "/") _ _ refl e).1 in
+    let same = hex_same (a ∷ []) (b ∷ []) (one_octet a fits_a) (one_octet b fits_b) d in
+    cc same

@@ -73,7 +73,6 @@ unfolding change
 change_same name step other disk same = fun_ext (λ n. at n (cases_Bool (same_name n name)))
   where
     at : (n : FileName) → (same_name n name ≡ true) ⊎ (same_name n name ≡ false) → change name step disk n ≡ change name other disk n
-    unfolding change
     at n (inl is) =
         let F : FileName → Type 0 = λ k. step (disk k) ≡ other (disk k) in
         cond-true (same_name n name) (step (disk n)) (disk n) is ∙ subst F (sym (same_name-true n name is)) same ∙ sym (cond-true (same_name n name) (other (disk n)) (disk n) is)
@@ -84,7 +83,6 @@ unfolding change
 unchanged_by name step disk same = fun_ext (λ n. at n (cases_Bool (same_name n name)))
   where
     at : (n : FileName) → (same_name n name ≡ true) ⊎ (same_name n name ≡ false) → change name step disk n ≡ disk n
-    unfolding change
     at n (inl is) =
         let F : FileName → Type 0 = λ k. step (disk k) ≡ disk k in
         cond-true (same_name n name) (step (disk n)) (disk n) is ∙ subst F (sym (same_name-true n name is)) same

@@ -1,5 +1,5 @@
 -- The names that a walk over folders adds.
-use Rattle.std.proofs.Common.{◌≡◌, ◌≢◌, ◌⊎◌, inl, inr, ℕ, ◌≤◌, Bool, true, false, cond, List, [], length, map, Option, Some, None, IfSome, IfNone, IsTrue, Contains, codes, refl, sym, ◌∙◌, ap, subst}
+use Rattle.std.proofs.Common.{◌≡◌, ◌≢◌, ◌⊎◌, inl, inr, ℕ, ◌≤◌, Bool, true, false, cond, List, [], length, map, Option, Some, None, IsTrue, Contains, codes, refl, sym, ◌∙◌, ap, subst}
 use Rattle.std.specs.BTreeSet.{BTreeSet, contains, Updates}
 use Rattle.std.specs.BTreeMap.{is_at}
 use Rattle.std.specs.Ordering.{is_eq}
@@ -37,12 +37,9 @@ adds_none at None names none = tt
 adds_none at (Some m) names none = record { keeps = λ name has. has; only = λ name has. inl has; all = λ name there is. absurd (none name there is) }
 
 -- no path of a file
-pub no_name : (m : Option Modelled) (path : List ℕ) (found : Option FileName) → IfNone found ((name : FileName) → IsStoreFile name → path ≡ path_text name → ⊥) → found ≡ None
-    → IfModelled m (λ s. (name : FileName) → IsFileThere s name → path_text name ≡ path → ⊥)
-no_name None path found none is = tt
-no_name (Some m) path found none is = λ name there at.
-    let F : Option FileName → Type 0 = λ o. IfNone o ((name : FileName) → IsStoreFile name → path ≡ path_text name → ⊥) in
-    subst F is none name there.file (sym at)
+pub no_name : (m : Option Modelled) (path : List ℕ) → ((name : FileName) → IsStoreFile name → path ≡ path_text name → ⊥) → IfModelled m (λ s. (name : FileName) → IsFileThere s name → path_text name ≡ path → ⊥)
+no_name None path none = tt
+no_name (Some m) path none = λ name there at. none name there.file (sym at)
 
 file_kind : (number : ℕ) (k : Kind) → k ≡ kind_of_node (PlainFile number) → k ≡ kind.File
 file_kind number k e = e
@@ -94,9 +91,22 @@ adds_one (Some m) path name old new is file at updates = record {
       subst F e updates.1.0;
 }
 
+pub adds_named : (m : Option Modelled) (k : Kind) (path : List ℕ) (name : FileName) (old new : BTreeSet FileName) → k ≡ kind.File → IfModelled m (λ s. k ≡ kind_of_node (s.node path)) → IsStoreFile name → path ≡ path_text name
+    → Updates ghosts.cmp old new name true → IfModelled m (λ s. AddsFiles ghosts.cmp (λ p. p ≡ path) s old new)
+adds_named m k path name old new is found file at updates =
+    let F : Kind → Type 0 = λ j. IfModelled m (λ s. j ≡ kind_of_node (s.node path)) in
+    adds_one m path name old new (subst F is found) file at updates
+
 -- No path counts yet.
 abbrev pub NoPath : List ℕ → Type 0
 NoPath path = ⊥
+
+pub none_so_far : (m : Option Modelled) (names : BTreeSet FileName) → IfModelled m (λ s. AddsFiles ghosts.cmp NoPath s names names)
+none_so_far m names = adds_none NoPath m names (go m)
+  where
+    go : (m : Option Modelled) → IfModelled m (λ s. (name : FileName) → IsFileThere s name → NoPath (path_text name) → ⊥)
+    go None = tt
+    go (Some m) = λ name there none. none
 
 pub adds_so_far : (at : List ℕ → Type 0) (m : Option Modelled) (first old new : BTreeSet FileName) → IfModelled m (λ s. AddsFiles ghosts.cmp NoPath s first old) → IfModelled m (λ s. AddsFiles ghosts.cmp at s old new)
     → IfModelled m (λ s. AddsFiles ghosts.cmp NoPath s first new)
@@ -106,6 +116,10 @@ adds_so_far at (Some m) first old new so_far more = record {
   only = λ name has. elim (more.only name has) [ inl before ↦ so_far.only name before | inr there ↦ inr there ];
   all = λ name there none. absurd none;
 }
+
+-- the same system at another moment
+pub adds_at : (at : List ℕ → Type 0) (m n : Option Modelled) (old new : BTreeSet FileName) → m ≡ n → IfModelled m (λ s. AddsFiles ghosts.cmp at s old new) → IfModelled n (λ s. AddsFiles ghosts.cmp at s old new)
+adds_at at m n old new same adds = let F : Option Modelled → Type 0 = λ k. IfModelled k (λ s. AddsFiles ghosts.cmp at s old new) in subst F same adds
 
 pub files_stay : (at other : List ℕ → Type 0) (m : Option Modelled) (old new : BTreeSet FileName) → IfModelled m (λ s. AddsFiles ghosts.cmp other s old new) → IfModelled m (HasFilesAt at old) → IfModelled m (HasFilesAt at new)
 files_stay at other None old new more has = tt

@@ -121,7 +121,7 @@ since_covered m n before after changes now (inl e) earlier s has =
 since_covered m n before after changes now (inr e) earlier s has = let F : List System → Type 0 = λ l. Contains l s in earlier s (subst F e.0 has)
 
 -- the lock was asked for
-over_locked : (m : Modelled) (before after : List System) (changes : List (Change × List ℕ)) (spoiled : Bool) → IsOver m before changes spoiled
+pub over_locked : (m : Modelled) (before after : List System) (changes : List (Change × List ℕ)) (spoiled : Bool) → IsOver m before changes spoiled
     → HasPassed (Some m) before (Some (record m { now = with_lock m.now })) after → IsOver (record m { now = with_lock m.now }) after changes spoiled
 over_locked m before after changes spoiled over has = record {
   covered = since_covered m (record m { now = with_lock m.now }) before after changes over.now has over.covered;
@@ -135,47 +135,9 @@ over_locked m before after changes spoiled over has = record {
       };
 }
 
-over_refused : (m : Modelled) (before after : List System) (changes : List (Change × List ℕ)) (spoiled : Bool) → IsOver m before changes spoiled
+pub over_refused : (m : Modelled) (before after : List System) (changes : List (Change × List ℕ)) (spoiled : Bool) → IsOver m before changes spoiled
     → HasPassed (Some m) before (Some m) after → IsOver m after changes spoiled
 over_refused m before after changes spoiled over has = record { covered = since_covered m m before after changes over.now has over.covered; now = over.now; disk = over.disk; is = over.is }
-
-pub over_asked : (held : Bool) (old new : Option Modelled) (before after : List System) (changes : List (Change × List ℕ)) (spoiled : Bool)
-    → ∥ IsDiskOver old before changes spoiled ∥₁ → (held ≡ true → new ≡ done_by with_lock old) → (held ≡ false → new ≡ old) → HasPassed old before new after
-    → ∥ IsDiskOver new after changes spoiled ∥₁
-over_asked true old new before after changes spoiled over locked refused has =
-    let F : Option Modelled → Type 0 = λ n. HasPassed old before n after in
-    let G : Option Modelled → Type 0 = λ n. ∥ IsDiskOver n after changes spoiled ∥₁ in
-    subst G (sym (locked refl)) (go old over (subst F (locked refl) has))
-  where
-    go : (m : Option Modelled) → ∥ IsDiskOver m before changes spoiled ∥₁ → HasPassed m before (done_by with_lock m) after → ∥ IsDiskOver (done_by with_lock m) after changes spoiled ∥₁
-    go None over has = ∣ tt ∣₁
-    go (Some m) over has = ∥∥₁_map over (λ o. over_locked m before after changes spoiled o has)
-over_asked false old new before after changes spoiled over locked refused has =
-    let F : Option Modelled → Type 0 = λ n. HasPassed old before n after in
-    let G : Option Modelled → Type 0 = λ n. ∥ IsDiskOver n after changes spoiled ∥₁ in
-    subst G (sym (refused refl)) (go old over (subst F (refused refl) has))
-  where
-    go : (m : Option Modelled) → ∥ IsDiskOver m before changes spoiled ∥₁ → HasPassed m before m after → ∥ IsDiskOver m after changes spoiled ∥₁
-    go None over has = ∣ tt ∣₁
-    go (Some m) over has = ∥∥₁_map over (λ o. over_refused m before after changes spoiled o has)
-
-pub locked_asked : (held : Bool) (old new : Option Modelled) (spoiled : Bool) → (held ≡ true → new ≡ done_by with_lock old) → ∥ (held ≡ true → spoiled ≡ false → IsLocked new) ∥₁
-locked_asked held old new spoiled locked = ∣ (λ h s.
-    let F : Option Modelled → Type 0 = IsLocked in
-    subst F (sym (locked h)) (go old)) ∣₁
-  where
-    go : (m : Option Modelled) → IsLocked (done_by with_lock m)
-    go None = tt
-    go (Some m) = refl
-
-pub told_asked : (held : Bool) (old new : Option Modelled) (changes : List (Change × List ℕ)) → (held ≡ true → new ≡ done_by with_lock old) → (held ≡ false → new ≡ old)
-    → told_history new changes ≡ told_history old changes
-told_asked true old new changes locked refused = ap (λ n. told_history n changes) (locked refl) ∙ go old
-  where
-    go : (m : Option Modelled) → told_history (done_by with_lock m) changes ≡ told_history m changes
-    go None = refl
-    go (Some m) = refl
-told_asked false old new changes locked refused = ap (λ n. told_history n changes) (refused refl)
 
 pub locked_of : (held spoiled : Bool) (m : Option Modelled) → ∥ (held ≡ true → spoiled ≡ false → IsLocked m) ∥₁ → held ≡ true → spoiled ≡ false → IsLocked m
 locked_of held spoiled None locked h s = tt

@@ -11,7 +11,7 @@ use Rattle.disk_model.specs.declared.name.FileName.TheVariants as file
 use Rattle.file_paths.specs.Paths.{path_text, IsStoreFile}
 use Rattle.file_paths.proofs.InstLemmas.{inst_text}
 use Rattle.folder_model.specs.Paths.{put_before_slash, before_slash, or_current, folder_at, IsPathName, IsPath, Within, IsFolderPath}
-use Rattle.disk_files.proofs.SpelledLemmas.{HasNo, none_in, no_slash_in_number, storage, mailboxes, attachments, digits_of, two_digits, octet_name, outer_path, regroup, inst_name}
+use Rattle.disk_files.proofs.SpelledLemmas.{HasNo, spelled, none_in, no_slash_in_number, storage, mailboxes, attachments, digits_of, two_digits, octet_name, outer_path, regroup, inst_name}
 use Rattle.folder_disk.specs.Folders.{folder_text, folder_for, upper_of, IsFolderName}
 use Rattle.folder_disk.specs.declared.folder_name.FolderName.{FolderName}
 use Rattle.folder_disk.specs.declared.folder_name.FolderName.TheVariants as folder
@@ -147,3 +147,6 @@ folder_path_is name path is at = let F : List ℕ → Type 0 = IsFolderPath in s
 
 pub folder_spelled_is : (name : FolderName) (path : List ℕ) → name ≢ folder.Top → IsFolderName name → path ≡ folder_text name → IsPath path
 folder_spelled_is name path below is at = let F : List ℕ → Type 0 = IsPath in subst F (sym at) (folder_spelled name below is)
+
+pub file_path_is : (name : FileName) (path : List ℕ) → IsStoreFile name → path ≡ path_text name → IsFolderPath path
+file_path_is name path file at = let F : List ℕ → Type 0 = IsFolderPath in subst F (sym at) (inr (spelled name file))

@@ -127,7 +127,7 @@ emptied_seen name path (Some m) (Some n) before past file at becomes has = recor
 
 partly_locked : (path : List ℕ) (b s : System) → IsPartlyChanged path (IsHalfCut 0) b s → b.is_locked ≡ true → s.is_locked ≡ true
 partly_locked path b s (inl same) l = let F : System → Type 0 = λ t. t.is_locked ≡ true in subst F (sym same) l
-partly_locked path b s (inr part) l = let F : System → Type 0 = λ t. t.is_locked ≡ true in subst F (sym part.2.2.2.1) l
+partly_locked path b s (inr part) l = let F : System → Type 0 = λ t. t.is_locked ≡ true in subst F (sym part.2.3) l
 
 pub unemptied_seen : (name : FileName) (path : List ℕ) (old new : Option Modelled) (before past : List System) → IsStoreFile name → path ≡ path_text name
     → Becomes (IsPartlyChanged path (IsHalfCut 0)) old new → HasPassed old before new past → IsSeenAs (change.HalfMade name) old before new past true

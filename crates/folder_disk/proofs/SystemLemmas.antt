@@ -1,5 +1,5 @@
 -- A system's folders and their names, one call on.
-use Rattle.std.proofs.Common.{◌≡◌, ◌≢◌, ◌⊎◌, inl, inr, ℕ, Bool, true, false, if◌then◌else◌, List, [], ◌∷◌, Option, Some, None, All, Contains, codes, refl, sym, ◌∙◌, ap, subst}
+use Rattle.std.proofs.Common.{◌≡◌, ◌≢◌, ◌⊎◌, inl, inr, ℕ, ◌≤◌, length, Bool, true, false, if◌then◌else◌, List, [], ◌∷◌, Option, Some, None, All, Contains, codes, refl, sym, ◌∙◌, ap, subst}
 use Rattle.std.proofs.lemmas.Bool.{cases_Bool, cond-true, cond-false}
 use Rattle.disk_model.specs.Disk.{DiskState}
 use Rattle.disk_model.specs.Name.{same_octets}
@@ -21,6 +21,7 @@ use Rattle.folder_disk.specs.Over.{HasFolders, IsDiskOf}
 use Rattle.folder_disk.specs.declared.folder_name.FolderName.{FolderName}
 use Rattle.folder_disk.specs.declared.folder_name.FolderName.TheVariants as folder
 use Rattle.folder_disk.proofs.DurableLemmas.{durable}
+use Rattle.folder_disk.proofs.EachLemmas.{EachSoFar, each_all}
 use Rattle.folder_disk.proofs.FileLemmas.{both_told}
 use Rattle.folder_disk.proofs.PlaceLemmas.{upper_at, no_file_at}
 use Rattle.folder_disk.proofs.UnseenLemmas.{unseen_step, unseen_failed}
@@ -235,3 +236,9 @@ file_found path k old new same is found =
 pub no_file_found : (path : List ℕ) (k : Kind) (m : Option Modelled) → k ≢ kind.File → IfModelled m (λ s. k ≡ kind_of_node (s.node path)) → IfModelled m (λ s. HasNoFile s path)
 no_file_found path k None other found = tt
 no_file_found path k (Some m) other found = λ number stands. other (found ∙ ap kind_of_node stands)
+
+-- a walk over all folders has synced each
+pub all_told_of : (m : Option Modelled) (names : List FolderName) (i : ℕ) → length names ≤ i → EachSoFar (λ name. IfModelled m (λ s. IsSyncedFolder s (folder_text name))) names i
+    → IfModelled m (λ s. All (λ name. IsSyncedFolder s (folder_text name)) names)
+all_told_of None names i done each = tt
+all_told_of (Some m) names i done each = each_all (λ name. IsSyncedFolder m.now (folder_text name)) names i done each

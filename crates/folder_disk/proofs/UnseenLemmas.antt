@@ -4,14 +4,14 @@ use Rattle.std.proofs.Math.Logic.{∥∥₁_map}
 use Rattle.std.proofs.lemmas.Bool.{false≢true}
 use Rattle.disk_model.specs.Disk.{DiskState}
 use Rattle.disk_record.specs.declared.change.Change.{Change}
-use Rattle.folder_model.specs.System.{System}
+use Rattle.folder_model.specs.System.{System, with_lock}
 use Rattle.folder_model.specs.Calls.{Modelled, IfModelled, IsLocked, IsDoneOrNot, HasPassed, done_by}
 use Rattle.disk_files.specs.Follows.{CoversSystem}
 use Rattle.disk_files.proofs.ImageLemmas.{covered}
 use Rattle.folder_disk.specs.Files.{IsSoundSystem}
 use Rattle.folder_disk.specs.Folders.{IsUnseen}
 use Rattle.folder_disk.specs.Over.{IsDiskOf, IsOver, IsDiskOver, told_history}
-use Rattle.folder_disk.proofs.OverLemmas.{so_far, over_same, since_covered}
+use Rattle.folder_disk.proofs.OverLemmas.{so_far, over_same, over_locked, over_refused, since_covered}
 
 -- a disk whose next change is refused
 pub spoiled_over : (m : Option Modelled) (past : List System) (changes : List (Change × List ℕ)) → ∥ IsDiskOver m past changes false ∥₁ → ∥ IsDiskOver m past changes true ∥₁
@@ -139,3 +139,29 @@ on_err_map (Err e) f a = f a
 pub on_ok_both : {T E : Type 0} (r : Result T E) {A B C : Type 0} → (A → B → C) → OnOk r A → OnOk r B → OnOk r C
 on_ok_both (Ok v) f a b = f a b
 on_ok_both (Err e) f a b = tt
+
+-- the lock was had
+pub locked_unseen : (old new : Option Modelled) (before after : List System) → new ≡ done_by with_lock old → HasPassed old before new after → IsUnseen old before new after false
+locked_unseen None new before after is has =
+    let F : Option Modelled → Type 0 = λ n. IsUnseen None before n after false in
+    subst F (sym is) (record { told = λ changes. refl; over = λ changes over. ∣ tt ∣₁; locked = λ l. tt })
+locked_unseen (Some m) new before after is has =
+    let F : Option Modelled → Type 0 = λ n. IsUnseen (Some m) before n after false in
+    let G : Option Modelled → Type 0 = λ n. HasPassed (Some m) before n after in
+    let has_passed = subst G is has in
+    subst F (sym is) (record { told = λ changes. refl; over = λ changes over. ∥∥₁_map over (λ o. over_locked m before after changes false o has_passed); locked = λ l. refl })
+
+pub lock_had : (old new : Option Modelled) → new ≡ done_by with_lock old → IsLocked new
+lock_had None new is = let F : Option Modelled → Type 0 = IsLocked in subst F (sym is) tt
+lock_had (Some m) new is = let F : Option Modelled → Type 0 = IsLocked in subst F (sym is) refl
+
+-- it was not
+pub refused_unseen : (old new : Option Modelled) (before after : List System) → new ≡ old → HasPassed old before new after → IsUnseen old before new after false
+refused_unseen old new before after same has =
+    let F : Option Modelled → Type 0 = λ n. IsUnseen old before n after false in
+    let G : Option Modelled → Type 0 = λ n. HasPassed old before n after in
+    subst F (sym same) (go old (subst G same has))
+  where
+    go : (m : Option Modelled) → HasPassed m before m after → IsUnseen m before m after false
+    go None has = record { told = λ changes. refl; over = λ changes over. ∣ tt ∣₁; locked = λ l. l }
+    go (Some m) has = record { told = λ changes. refl; over = λ changes over. ∥∥₁_map over (λ o. over_refused m before after changes false o has); locked = λ l. l }

@@ -85,8 +85,8 @@ abbrev pub StandInFolders : System → Type 0
 StandInFolders s = (path : List ℕ) → path ≢ codes "." → (s.node (folder_at path) ≡ AFolder) ⊎ (s.node path ≡ Nothing)
 
 -- what one list has the other has
-abbrev pub KeepsAll : List FolderName → List FolderName → Type 0
-KeepsAll old new = (name : FolderName) → Contains old name → Contains new name
+abbrev pub KeepsAll : {A : Type 0} → List A → List A → Type 0
+KeepsAll {A} old new = (x : A) → Contains old x → Contains new x
 
 -- an outer folder of instances and each in it that is there is one of these
 pub record HasFoldersOf (s : System) (first : ℕ) (names : List FolderName) : Type 0 where

@@ -153,7 +153,7 @@ impl<F: Folder + Drop> FolderDisk<F> {
     }
 
     /// The path of a file that is to be used, once this process has the store. A log is synced at its first use.
-    fn path_to_use(&mut self, name: FileName) -> Result<Option<String>, CallError>
+    pub(crate) fn path_to_use(&mut self, name: FileName) -> Result<Option<String>, CallError>
         ensures locked { OnOk result (IsLocked (F.Folder.modelled self.new.folder)) }
         ensures sound { OnOk result (IsSoundSystem (F.Folder.modelled self.new.folder)) }
         ensures spoiled { OnOk result (self.new.is_spoiled ≡ false) }

@@ -27,7 +27,18 @@ fn octet_at(path: &[u8], above: &[u8]) -> Option<u8>
     ensures some { IfSome result (λ octet. path.now ≡ above.now ++ (codes "/" ++ encode_lower (octet ∷ []))) }
     ensures none { IfNone result ((octet : ℕ) → octet < 256 → path.now ≡ above.now ++ (codes "/" ++ encode_lower (octet ∷ [])) → ⊥) }
 {
-    octet_of(path.strip_prefix(above)?.strip_prefix(b"/".as_slice())?)
+    octet_of(path.strip_prefix(above)?.strip_prefix(b"/")?)
+}
+
+/// Adds the octet that the last part of a path in this folder spells, if it spells one.
+fn add_octet(octets: &mut Vec<u8>, path: &[u8], above: &[u8]) -> Result<(), CallError>
+    ensures keeps { OnOk result (KeepsAll octets.old.items octets.new.items) }
+    ensures added { OnOk result ((octet : ℕ) → octet < 256 → path.now ≡ above.now ++ (codes "/" ++ encode_lower (octet ∷ [])) → Contains octets.new.items octet) }
+{
+    match octet_at(path, above) {
+        Some(octet) => add(octets, octet),
+        None => Ok(()),
+    }
 }
 
 /// The octets that names in a folder spell.
@@ -47,9 +58,7 @@ fn octets_in<F: Folder>(
     let paths = folder.paths_in(above.as_str())?;
     let mut octets = Vec::new(alloc);
     for path in &paths {
-        if let Some(octet) = octet_at(path.as_bytes(), above.as_bytes()) {
-            add(&mut octets, octet)?;
-        }
+        add_octet(&mut octets, path.as_bytes(), above.as_bytes())?;
     }
     Ok(octets)
 }

@@ -1,6 +1,7 @@
 // The names of a store's files that are there.
-ghost use Rattle.std.specs.Prelude.{◌≡◌, ◌∷◌, Some, IfOk, IfSome, OnOk, string_bytes};
-ghost use Rattle.disk_model.specs.Disk.{IsPast};
+ghost use Rattle.std.specs.Prelude.{◌≡◌, true, IfOk, OnOk};
+ghost use Rattle.std.specs.BTreeSet.{Updates};
+ghost use Rattle.file_paths.specs.Paths.{path_text, IsStoreFile};
 ghost use Rattle.folder_model.specs.Paths.{folder_at};
 ghost use Rattle.folder_model.specs.Calls.{IfModelled, IsLocked};
 ghost use Rattle.folder_disk.specs.Files.{IsSoundSystem};
@@ -11,11 +12,42 @@ ghost use Rattle.folder_disk.specs.Over.{HasFolders};
 use crate::folder_name::{FolderName, known_folder};
 use crate::listing::folders_there;
 use disk_model::FileName;
-use file_paths::{files_have_own_paths, name_of_path};
+use file_paths::name_of_path;
 use folder_model::{CallError, Folder, Kind};
 use std::alloc::Global;
 use std::collections::BTreeSet;
 use std::ops::Bound;
+
+/// Adds a name to a set.
+fn insert(names: &mut BTreeSet<FileName>, name: FileName) -> Result<(), CallError>
+    ensures { OnOk result (Updates ⟦<FileName as Ord>⟧.cmp names.old names.new name true) }
+{
+    match names.insert(name) {
+        Ok(_) => Ok(()),
+        Err(_) => Err(CallError::Failed),
+    }
+}
+
+/// Adds the name of a store's file, if one stands at its path.
+fn add_named<F: Folder>(
+    folder: &mut F,
+    names: &mut BTreeSet<FileName>,
+    path: &str,
+    name: FileName,
+) -> Result<(), CallError>
+    requires locked { IsLocked (F.modelled folder.old) }
+    requires sound { IsSoundSystem (F.modelled folder.old) }
+    requires file { IsStoreFile name }
+    requires named { path.now ≡ path_text name }
+    ensures added { OnOk result (IfModelled (F.modelled folder.old) (λ s. AddsFiles ⟦<FileName as Ord>⟧.cmp (λ p. p ≡ path.now) s names.old names.new)) }
+    ensures same { F.modelled folder.new ≡ F.modelled folder.old }
+    ensures still { F.past folder.new ≡ F.past folder.old }
+{
+    match folder.look(path)? {
+        Kind::File => insert(names, name),
+        _ => Ok(()),
+    }
+}
 
 /// Adds the name of the file at a path, if a store's file stands there.
 fn add_file<F: Folder>(
@@ -29,16 +61,9 @@ fn add_file<F: Folder>(
     ensures same { F.modelled folder.new ≡ F.modelled folder.old }
     ensures still { F.past folder.new ≡ F.past folder.old }
 {
-    files_have_own_paths();
-    let Some(name) = name_of_path(path.as_bytes()) else {
-        return Ok(());
-    };
-    match folder.look(path)? {
-        Kind::File => match names.insert(name) {
-            Ok(_) => Ok(()),
-            Err(_) => Err(CallError::Failed),
-        },
-        _ => Ok(()),
+    match name_of_path(path.as_bytes()) {
+        Some(name) => add_named(folder, names, path, name),
+        None => Ok(()),
     }
 }
 

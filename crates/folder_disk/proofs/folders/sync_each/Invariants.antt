@@ -1,3 +1,4 @@
+use Rattle.std.proofs.Common.{false}
 use Rattle.folder_model.specs.Calls.{IfModelled, IsLocked, Becomes}
 use Rattle.folder_disk.specs.Files.{IsSoundSystem}
 use Rattle.folder_disk.specs.Folders.{folder_text, IsSyncedFolder, HasSameNodes, IsUnseen}

@@ -11,6 +11,6 @@ use Rattle.folder_disk.proofs.names.names_there.Given as goal
 abbrev pub invariant-loop-within : goal.invariant-loop-within
 invariant-loop-within g l =
     IfModelled (g.F.Folder.modelled l.fn.folder) (λ s. AddsFiles ghosts.cmp NoPath s l.initial.names l.names)
-    × EachSoFar (λ within. IfModelled (g.F.Folder.modelled l.fn.folder) (HasFilesAt (λ p. folder_at p ≡ folder_text within) l.names)) l.folders.items l.within-index
+    × EachSoFar (λ within. IfModelled (g.F.Folder.modelled l.fn.folder) (HasFilesAt (λ p. folder_at p ≡ folder_text within) l.names)) l.within-items l.within-index
     × (g.F.Folder.modelled l.folder ≡ g.F.Folder.modelled l.fn.folder)
     × (g.F.Folder.past l.folder ≡ g.F.Folder.past l.fn.folder)
