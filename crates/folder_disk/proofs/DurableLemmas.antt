@@ -41,7 +41,6 @@ upper_there s name below is folders there = elim (folders (folder_text name) (fo
   | inr none ↦ absurd (let e : Nothing ≡ AFolder = sym none.0 ∙ there in cc)
 ]
 
-
 outer_stays : (s : System) (first : ℕ) → first < 256 → HasFolders s → AreSynced s → s.node (folder_text (folder.Outer first)) ≡ AFolder → StaysFolder s (folder_text (folder.Outer first))
 outer_stays s first is folders synced there =
     let up = upper_there s (folder.Outer first) (λ e. let d : folder.Outer first ≡ folder.Top = e in cc) is folders there in

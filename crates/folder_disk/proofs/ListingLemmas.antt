@@ -13,7 +13,7 @@ use Rattle.folder_model.specs.declared.folder.Kind.{Kind}
 use Rattle.folder_model.specs.declared.folder.Kind.TheVariants as kind
 use Rattle.disk_files.proofs.SpelledLemmas.{two_digits, octet_name}
 use Rattle.folder_disk.specs.Files.{IsSoundSystem}
-use Rattle.folder_disk.specs.Folders.{folder_text, upper_of, IsFolderName, StandInFolders, KeepsAll, HasFoldersOf, HasAllFolders, HasOctets}
+use Rattle.folder_disk.specs.Folders.{folder_text, upper_of, IsFolderName, StandInFolders, KeepsAll, HasFoldersOf, HasAllFolders, HasOctetNames}
 use Rattle.folder_disk.specs.declared.folder_name.FolderName.{FolderName}
 use Rattle.folder_disk.specs.declared.folder_name.FolderName.TheVariants as folder
 use Rattle.folder_disk.proofs.EachLemmas.{EachSoFar}
@@ -45,20 +45,20 @@ ListsOctet view above octets path = (octet : ℕ) → octet < 256 → view path 
 -- each octet that names what stands in a folder was listed
 has_octets : {S : Type 0} (view : S → List ℕ) (s : System) (above : List ℕ) (paths : List S) (i : ℕ) (d : S) (octets : List ℕ) → IsUtf8 above → length paths ≤ i
     → ArePathsIn s above (map view paths)
-    → EachSoFar (ListsOctet view above octets) paths i → HasOctets s above octets
+    → EachSoFar (ListsOctet view above octets) paths i → HasOctetNames s above octets
 has_octets view s above paths i d octets text done listed each octet fits stands =
     let p = above ++ (codes "/" ++ encode_lower (octet ∷ [])) in
     let x = found_in view (ListsOctet view above octets) paths i d p done each
-        (listed.all p (record { in_folder = folder_apart above (encode_lower (octet ∷ [])) (octet_name octet fits).no_slash; below = below_top above octet; there = stands })
-        (below_text above octet fits text)) in
+    (listed.all p (record { in_folder = folder_apart above (encode_lower (octet ∷ [])) (octet_name octet fits).no_slash; below = below_top above octet; there = stands })
+    (below_text above octet fits text)) in
     x.2 octet fits x.1
 
 pub octets_told : {S : Type 0} (view : S → List ℕ) (m : Option Modelled) (above name : List ℕ) (paths : List S) (i : ℕ) (d : S) (octets : List ℕ) → IsUtf8 above → above ≡ name → length paths ≤ i
     → IsSoundSystem m → IfSound m (λ s. ArePathsIn s above (map view paths))
-    → EachSoFar (ListsOctet view above octets) paths i → IfModelled m (λ s. HasOctets s name octets)
+    → EachSoFar (ListsOctet view above octets) paths i → IfModelled m (λ s. HasOctetNames s name octets)
 octets_told view None above name paths i d octets text at done sound listed each = tt
 octets_told view (Some m) above name paths i d octets text at done sound listed each =
-    let F : List ℕ → Type 0 = λ p. HasOctets m.now p octets in
+    let F : List ℕ → Type 0 = λ p. HasOctetNames m.now p octets in
     subst F at (has_octets view m.now above paths i d octets text done (listed sound) each)
 
 -- a list that grows at its end
@@ -89,7 +89,7 @@ told_more (Some m) name old new keeps has = λ there. keeps name (has there)
 
 -- an outer folder and those in it were added
 pub outer_told : (m : Option Modelled) (first : ℕ) (octets : List ℕ) (i : ℕ) (names : List FolderName) → IfModelled m (λ s. s.node (folder_text (folder.Outer first)) ≡ AFolder → Contains names (folder.Outer first))
-    → IfModelled m (λ s. HasOctets s (folder_text (folder.Outer first)) octets) → length octets ≤ i
+    → IfModelled m (λ s. HasOctetNames s (folder_text (folder.Outer first)) octets) → length octets ≤ i
     → EachSoFar (λ second. IfModelled m (λ s. s.node (folder_text (folder.Inner first second)) ≡ AFolder → Contains names (folder.Inner first second))) octets i
     → IfModelled m (λ s. HasFoldersOf s first names)
 outer_told None first octets i names outer has done each = tt
@@ -114,7 +114,7 @@ pub all_told : (m : Option Modelled) (octets : List ℕ) (i : ℕ) (names : List
     → IfModelled m (λ s. s.node (folder_text folder.Storage) ≡ AFolder → Contains names folder.Storage)
     → IfModelled m (λ s. s.node (folder_text folder.Mailboxes) ≡ AFolder → Contains names folder.Mailboxes)
     → IfModelled m (λ s. s.node (folder_text folder.Attachments) ≡ AFolder → Contains names folder.Attachments)
-    → IfModelled m (λ s. HasOctets s (folder_text folder.Attachments) octets) → length octets ≤ i
+    → IfModelled m (λ s. HasOctetNames s (folder_text folder.Attachments) octets) → length octets ≤ i
     → EachSoFar (λ first. IfModelled m (λ s. HasFoldersOf s first names)) octets i → IfModelled m (λ s. StandInFolders s → HasAllFolders s names)
 all_told None octets i names top storage mailboxes attachments has done each = tt
 all_told (Some m) octets i names top storage mailboxes attachments has done each = λ folders. record { top = top; all = all folders }
@@ -146,3 +146,22 @@ one_octet_spelled path above a b fits_a fits_b p q =
     let d = (split_same (codes "/") (codes "/") _ _ refl e).1 in
     let same = hex_same (a ∷ []) (b ∷ []) (one_octet a fits_a) (one_octet b fits_b) d in
     cc same
+
+-- an octet that was added at the end, of a list of octets
+pub added_octet : (path above old new : List ℕ) (o : ℕ) → ((i d : ℕ) → i < length new → get_or new i d < 256) → new ≡ old ++ o ∷ [] → path ≡ above ++ (codes "/" ++ encode_lower (o ∷ []))
+    → (octet : ℕ) → octet < 256 → path ≡ above ++ (codes "/" ++ encode_lower (octet ∷ [])) → Contains new octet
+added_octet path above old new o are is spelled octet fits also =
+    let F : List ℕ → Type 0 = λ l. Contains l o in
+    let has : Contains new o = subst F (sym is) (has_last old o) in
+    let G : ℕ → Type 0 = λ n. n < 256 in
+    let own : o < 256 = subst G has.2 (are has.0 o has.1) in
+    let H : ℕ → Type 0 = λ n. Contains new n in
+    subst H (one_octet_spelled path above o octet own fits spelled also) has
+
+-- the same system at another moment
+pub told_at : (m n : Option Modelled) (name : FolderName) (names : List FolderName) → m ≡ n → IfModelled m (λ s. s.node (folder_text name) ≡ AFolder → Contains names name)
+    → IfModelled n (λ s. s.node (folder_text name) ≡ AFolder → Contains names name)
+told_at m n name names same told = let F : Option Modelled → Type 0 = λ k. IfModelled k (λ s. s.node (folder_text name) ≡ AFolder → Contains names name) in subst F same told
+
+pub outer_at : (m n : Option Modelled) (first : ℕ) (names : List FolderName) → m ≡ n → IfModelled m (λ s. HasFoldersOf s first names) → IfModelled n (λ s. HasFoldersOf s first names)
+outer_at m n first names same told = let F : Option Modelled → Type 0 = λ k. IfModelled k (λ s. HasFoldersOf s first names) in subst F same told

@@ -12,7 +12,7 @@ use Rattle.disk_model.proofs.NameOrderLemmas.{same_order}
 use Rattle.file_paths.specs.Paths.{path_text, IsStoreFile}
 use Rattle.file_paths.proofs.OneFileLemmas.{own_paths}
 use Rattle.folder_model.specs.Paths.{folder_at}
-use Rattle.folder_model.specs.System.{Node, Nothing, PlainFile, AFolder, Another, System, ArePathsIn}
+use Rattle.folder_model.specs.System.{Node, Nothing, PlainFile, AFolder, Another, System, StandsIn, ArePathsIn}
 use Rattle.folder_model.specs.Calls.{Modelled, IfModelled, IfSound, kind_of_node}
 use Rattle.folder_model.specs.declared.folder.Kind.{Kind}
 use Rattle.folder_model.specs.declared.folder.Kind.TheVariants as kind
@@ -88,7 +88,7 @@ adds_one (Some m) path name old new is file at updates = record {
   all = λ q there p.
       let e : name ≡ q = own_paths name q file there.file (sym at ∙ sym p) in
       let F : FileName → Type 0 = λ n. IsTrue (contains ghosts.cmp new n) in
-      subst F e updates.1.0;
+      subst F e updates.1;
 }
 
 pub adds_named : (m : Option Modelled) (k : Kind) (path : List ℕ) (name : FileName) (old new : BTreeSet FileName) → k ≡ kind.File → IfModelled m (λ s. k ≡ kind_of_node (s.node path)) → IsStoreFile name → path ≡ path_text name
@@ -140,12 +140,12 @@ adds_folder view (Some m) above within paths i d old new at done sound listed so
   only = so_far.only;
   all = λ name there is.
       let path = path_text name in
-      let stands = record {
+      let stands : StandsIn m.now above path = record {
         in_folder = is ∙ sym at;
         below = no_file_at folder.Top tt name there.file;
         there = λ e. let p : PlainFile there.number ≡ Nothing = sym there.stands ∙ e in cc;
       } in
-      let x = found_in view _ paths i d path done each ((listed sound).all path stands (path_is_text name there.file)) in
+      let x = found_in view (λ q. HasFilesAt (λ p. p ≡ view q) new m.now) paths i d path done each ((listed sound).all path stands (path_is_text name there.file)) in
       x.2 name there (sym x.1);
 }
 
@@ -169,5 +169,5 @@ adds_all (Some m) folders i none new empty done are so_far each = λ stand. reco
         | inr gone ↦ absurd (let e : PlainFile there.number ≡ Nothing = sym there.stands ∙ gone.0 in cc)
       ] in
       let has = (are (λ path below. elim (stand path below) [ inl up ↦ inl up | inr gone ↦ inr gone.0 ])).all (folder_for name) (file_folder_name name there.file) (ap (λ p. m.now.node p) (sym at) ∙ up) in
-      among _ folders i (folder_for name) done each has name there at;
+      among (λ within. HasFilesAt (λ p. folder_at p ≡ folder_text within) new m.now) folders i (folder_for name) done each has name there at;
 }

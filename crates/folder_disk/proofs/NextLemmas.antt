@@ -46,7 +46,7 @@ not_before a b least e =
 
 next_over : (m : Modelled) (past : List System) (changes : List (Change × List ℕ)) (names : BTreeSet FileName) (from next : Option FileName) → IsOver m past changes false → AreFileNames ghosts.cmp m.now names
     → IsNextName ghosts.cmp from next names → IsNext ghosts.cmp from next (so_far m changes).now
-next_over m past changes names from None over are is name there later = is name (are.all name (there_stands m past changes name over there)) later
+next_over m past changes names from None over are is = λ name there later. is name (are.all name (there_stands m past changes name over there)) later
 next_over m past changes names from (Some next) over are is =
     (stands_there m past changes next over (are.only next is.0), λ name there later. not_before next name (is.2 name (are.all name (there_stands m past changes name over there)) later))
 
@@ -59,15 +59,16 @@ next_told (Some m) past changes spoiled names from None over un are is = λ name
     let F : Bool → Type 0 = IsOver m past changes in
     let p = subst F un o in
     next_over m past changes names from None p (are (p.is refl).system.folders) is name there later)
-next_told (Some m) past changes spoiled names from (Some next) over un are is =
-    (∥∥₁_elim over (hlevel props) (λ o.
-    let F : Bool → Type 0 = IsOver m past changes in
-    let p = subst F un o in
-    (next_over m past changes names from (Some next) p (are (p.is refl).system.folders) is).0),
-    λ name there later before. ∥∥₁_elim over (hlevel props) (λ o.
-    let F : Bool → Type 0 = IsOver m past changes in
-    let p = subst F un o in
-    (next_over m past changes names from (Some next) p (are (p.is refl).system.folders) is).1 name there later before))
+next_told (Some m) past changes spoiled names from (Some next) over un are is = (
+  ∥∥₁_elim over (hlevel props) (λ o.
+      let F : Bool → Type 0 = IsOver m past changes in
+      let p = subst F un o in
+      (next_over m past changes names from (Some next) p (are (p.is refl).system.folders) is).0),
+  λ name there later before. ∥∥₁_elim over (hlevel props) (λ o.
+      let F : Bool → Type 0 = IsOver m past changes in
+      let p = subst F un o in
+      (next_over m past changes names from (Some next) p (are (p.is refl).system.folders) is).1 name there later before),
+)
 
 -- what is past a name is so by the names that are there
 pub next_past : (names : BTreeSet FileName) (from next : Option FileName) → IsNextName ghosts.cmp from next names → IfSome next (IsPast ghosts.cmp from)

@@ -49,7 +49,7 @@ seen_then c spoiled old mid new before between past first second = record {
 -- a call that did this
 seen_done : (c : Change) (spoiled : Bool) (step : System → System) (old new : Option Modelled) (before past : List System) → ((s : System) → (step s).is_locked ≡ s.is_locked)
     → ((m : Modelled) → old ≡ Some m → HasPassed (Some m) before (Some (record m { now = step m.now })) past → (changes : List (Change × List ℕ)) → IsOver m before changes false
-       → IsOver (record m { now = step m.now }) past ((c, []) ∷ changes) spoiled)
+    → IsOver (record m { now = step m.now }) past ((c, []) ∷ changes) spoiled)
     → new ≡ done_by step old → HasPassed old before new past → IsSeenAs c old before new past spoiled
 seen_done c spoiled step None new before past lock goes is has =
     let F : Option Modelled → Type 0 = λ n. IsSeenAs c None before n past spoiled in
@@ -67,7 +67,7 @@ seen_done c spoiled step (Some m) new before past lock goes is has =
 -- a call that failed and did this or nothing
 seen_or_not : (c : Change) (step : System → System) (old new : Option Modelled) (before past : List System) → IsFailedChange c → ((s : System) → (step s).is_locked ≡ s.is_locked)
     → ((m : Modelled) → old ≡ Some m → HasPassed (Some m) before (Some (record m { now = step m.now })) past → (changes : List (Change × List ℕ)) → IsOver m before changes false
-       → IsOver (record m { now = step m.now }) past ((c, []) ∷ changes) true)
+    → IsOver (record m { now = step m.now }) past ((c, []) ∷ changes) true)
     → IsDoneOrNot step old new → HasPassed old before new past → IsSeenAs c old before new past true
 seen_or_not c step old new before past failed lock goes (inr is) has = seen_done c true step old new before past lock goes is has
 seen_or_not c step old new before past failed lock goes (inl same) has =

@@ -70,7 +70,7 @@ path_is_text (file.Inst hash id) is =
     let slash = plain_text (codes "/") refl in
     let text = encode_lower hash ++ (codes "-" ++ encode_lower id) in
     let in_folder = then_text (encode_lower hash) (codes "-" ++ encode_lower id) (digits_text hash is.1)
-        (then_text (codes "-") (encode_lower id) (plain_text (codes "-") refl) (digits_text id is.3)) in
+    (then_text (codes "-") (encode_lower id) (plain_text (codes "-") refl) (digits_text id is.3)) in
     subst IsUtf8 (sym (inst_text hash id (omega (arith, is.0))))
     (then_text (codes "attachments/") _ (plain_text (codes "attachments/") refl)
     (then_text (encode_lower (first ∷ [])) _ (digits_text (first ∷ []) (one_octet first first_fits))

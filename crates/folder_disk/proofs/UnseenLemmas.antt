@@ -165,3 +165,7 @@ refused_unseen old new before after same has =
     go : (m : Option Modelled) → HasPassed m before m after → IsUnseen m before m after false
     go None has = record { told = λ changes. refl; over = λ changes over. ∣ tt ∣₁; locked = λ l. l }
     go (Some m) has = record { told = λ changes. refl; over = λ changes over. ∥∥₁_map over (λ o. over_refused m before after changes false o has); locked = λ l. l }
+
+pub on_ok_three : {T E : Type 0} (r : Result T E) {A B C D : Type 0} → (A → B → C → D) → OnOk r A → OnOk r B → OnOk r C → OnOk r D
+on_ok_three (Ok v) f a b c = f a b c
+on_ok_three (Err e) f a b c = tt

@@ -94,6 +94,6 @@ pub record HasFoldersOf (s : System) (first : ℕ) (names : List FolderName) : T
   pub inner : (second : ℕ) → second < 256 → s.node (folder_text (folder.Inner first second)) ≡ AFolder → Contains names (folder.Inner first second)
 
 -- each octet that names what stands in a folder, in two hexadecimal digits, is one of these
-abbrev pub HasOctets : System → List ℕ → List ℕ → Type 0
-HasOctets s above octets =
+abbrev pub HasOctetNames : System → List ℕ → List ℕ → Type 0
+HasOctetNames s above octets =
     (octet : ℕ) → octet < 256 → s.node (above ++ (codes "/" ++ encode_lower (octet ∷ []))) ≢ Nothing → Contains octets octet

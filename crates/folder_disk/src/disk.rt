@@ -3,7 +3,9 @@ ghost use Rattle.std.specs.Prelude.{◌≡◌, ◌+◌, ◌-◌, ◌^◌, ◌<�
 ghost use Rattle.folder_model.specs.Calls.{IfModelled, IsLocked};
 ghost use Rattle.folder_disk.specs.Over.{IsDiskOver};
 
-use crate::files::{cut_at, length_at, make_file, read_at, remove_file, settle_at, sync_at, write_at};
+use crate::files::{
+    cut_at, length_at, make_file, read_at, remove_file, settle_at, sync_at, write_at,
+};
 use crate::folders::sync_all;
 use crate::lock::{TRIES, has_lock};
 use crate::names::{names_there, next_in};
@@ -222,7 +224,10 @@ impl<F: Folder + Drop> FolderDisk<F> {
 
     /// What an answer of the system to a read means, None being that there is no such file. Errors are counted, and so is the
     /// call.
-    pub(crate) fn read<T: Drop>(&mut self, answer: Result<Option<T>, CallError>) -> Result<T, DiskError>
+    pub(crate) fn read<T: Drop>(
+        &mut self,
+        answer: Result<Option<T>, CallError>,
+    ) -> Result<T, DiskError>
         ensures value { IfOk result (λ value. answer ≡ Ok (Some value)) }
         ensures absent { IsErrOf result Absent ↔ (answer ≡ Ok None) }
         ensures told { told_history (F.Folder.modelled self.new.folder) self.new.record.changes ≡ after (λ disk. disk) (told_history (F.Folder.modelled self.old.folder) self.old.record.changes) }
@@ -302,7 +307,12 @@ impl<F: Folder + Drop> FolderDisk<F> {
     }
 
     /// Shortens a file at its path, once this process has the store.
-    pub(crate) fn cut_to_end(&mut self, path: &str, name: FileName, end: u64) -> Result<(), DiskError>
+    pub(crate) fn cut_to_end(
+        &mut self,
+        path: &str,
+        name: FileName,
+        end: u64,
+    ) -> Result<(), DiskError>
         requires locked { IsLocked (F.Folder.modelled self.old.folder) }
         requires sound { IsSoundSystem (F.Folder.modelled self.old.folder) }
         requires spoiled { self.old.is_spoiled ≡ false }

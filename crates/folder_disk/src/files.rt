@@ -149,11 +149,7 @@ pub(crate) fn settle_at<F: Folder>(folder: &mut F, path: &str) -> Result<(), Cal
 }
 
 /// Makes a file in a folder whose names are synced. One that stands there is emptied, and what else stands there is an error.
-fn make_within<F: Folder>(
-    folder: &mut F,
-    path: &str,
-    name: FileName,
-) -> Result<(), CallError>
+fn make_within<F: Folder>(folder: &mut F, path: &str, name: FileName) -> Result<(), CallError>
     requires locked { IsLocked (F.modelled folder.old) }
     requires sound { IsSoundSystem (F.modelled folder.old) }
     requires file { IsStoreFile name }

@@ -75,10 +75,8 @@ pub(crate) fn known_folder(name: FolderName)
     ensures { IsFolderName name }
 {
     match name {
-        FolderName::Top
-        | FolderName::Storage
-        | FolderName::Mailboxes
-        | FolderName::Attachments => (),
+        FolderName::Top | FolderName::Storage | FolderName::Mailboxes | FolderName::Attachments =>
+            (),
         FolderName::Outer(_first) => (),
         FolderName::Inner(_first, _second) => (),
     }

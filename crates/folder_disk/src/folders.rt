@@ -55,11 +55,7 @@ fn make_new_folder<F: Folder>(
 }
 
 /// Makes a folder where it isn't there, in one that is there.
-fn make_one<F: Folder>(
-    folder: &mut F,
-    alloc: Global,
-    name: FolderName,
-) -> Result<(), CallError>
+fn make_one<F: Folder>(folder: &mut F, alloc: Global, name: FolderName) -> Result<(), CallError>
     requires locked { IsLocked (F.modelled folder.old) }
     requires sound { IsSoundSystem (F.modelled folder.old) }
     requires below { name ≢ Top }
@@ -92,11 +88,7 @@ fn check_top<F: Folder>(folder: &mut F, alloc: Global) -> Result<(), CallError>
 }
 
 /// Makes a folder in the current one, where it isn't there.
-fn make_first<F: Folder>(
-    folder: &mut F,
-    alloc: Global,
-    name: FolderName,
-) -> Result<(), CallError>
+fn make_first<F: Folder>(folder: &mut F, alloc: Global, name: FolderName) -> Result<(), CallError>
     requires locked { IsLocked (F.modelled folder.old) }
     requires sound { IsSoundSystem (F.modelled folder.old) }
     requires below { name ≢ Top }

@@ -4,7 +4,7 @@ ghost use Rattle.hex.specs.Hex.{encode_lower};
 ghost use Rattle.folder_model.specs.System.{AFolder};
 ghost use Rattle.folder_model.specs.Calls.{IfModelled, IsLocked};
 ghost use Rattle.folder_disk.specs.Files.{IsSoundSystem};
-ghost use Rattle.folder_disk.specs.Folders.{folder_text, KeepsAll, HasFoldersOf, HasAllFolders, HasOctets, StandInFolders};
+ghost use Rattle.folder_disk.specs.Folders.{folder_text, KeepsAll, HasFoldersOf, HasAllFolders, HasOctetNames, StandInFolders};
 
 use crate::folder_name::{FolderName, known_folder};
 use crate::folders::kind_of;
@@ -49,7 +49,7 @@ fn octets_in<F: Folder>(
 ) -> Result<Vec<u8>, CallError>
     requires locked { IsLocked (F.modelled folder.old) }
     requires sound { IsSoundSystem (F.modelled folder.old) }
-    ensures all { IfOk result (λ octets. IfModelled (F.modelled folder.old) (λ s. HasOctets s (folder_text name) octets.items)) }
+    ensures all { IfOk result (λ octets. IfModelled (F.modelled folder.old) (λ s. HasOctetNames s (folder_text name) octets.items)) }
     ensures same { F.modelled folder.new ≡ F.modelled folder.old }
     ensures still { F.past folder.new ≡ F.past folder.old }
 {
@@ -78,9 +78,7 @@ fn add_there<F: Folder>(
     ensures still { F.past folder.new ≡ F.past folder.old }
 {
     match kind_of(folder, alloc, name)? {
-        Kind::Folder => {
-            add(names, name)
-        }
+        Kind::Folder => { add(names, name) }
         _ => Ok(()),
     }
 }

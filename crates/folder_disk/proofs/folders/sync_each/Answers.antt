@@ -15,11 +15,12 @@ pub loop-name-preserved : goal.loop-name-preserved
 loop-name-preserved g c =
     let synced = c.in_ok-sync_one.ensures.synced in
     let Pn : FolderName → Type 0 = λ name. IfModelled (g.F.Folder.modelled c.loop-name.folder) (λ s. IsSyncedFolder s (folder_text name)) in
-    let Qn : FolderName → Type 0 = λ name. IfModelled (g.F.Folder.modelled c.sync_one.new.folder) (λ s. IsSyncedFolder s (folder_text name)) in
-    (each_at Pn Qn c.args.names.now c.loop-name.name-index _ (λ name is. synced_stays_told (folder_text name) _ (g.F.Folder.modelled c.loop-name.folder) (g.F.Folder.modelled c.sync_one.new.folder) synced is) c.loop-name-test.true c.loop-name.invariant.0 c.in_ok-sync_one.ensures.done,
-    same_nodes_then _ (g.F.Folder.modelled c.args.folder.now) (g.F.Folder.modelled c.loop-name.folder) (g.F.Folder.modelled c.sync_one.new.folder) synced c.loop-name.invariant.1,
-    unseen_then false (g.F.Folder.modelled c.args.folder.now) (g.F.Folder.modelled c.loop-name.folder) (g.F.Folder.modelled c.sync_one.new.folder) (g.F.Folder.past c.args.folder.now) (g.F.Folder.past c.loop-name.folder) (g.F.Folder.past c.sync_one.new.folder) c.loop-name.invariant.2 c.in_ok-sync_one.ensures.unseen,
-    c.in_ok-sync_one.ensures.sound)
+    let Qn : FolderName → Type 0 = λ name. IfModelled (g.F.Folder.modelled c.sync_one.new.folder) (λ s. IsSyncedFolder s (folder_text name)) in (
+      each_at Pn Qn c.args.names.now c.loop-name.name-index _ (λ name is. synced_stays_told (folder_text name) _ (g.F.Folder.modelled c.loop-name.folder) (g.F.Folder.modelled c.sync_one.new.folder) synced is) c.loop-name-test.true c.loop-name.invariant.0 c.in_ok-sync_one.ensures.done,
+      same_nodes_then _ (g.F.Folder.modelled c.args.folder.now) (g.F.Folder.modelled c.loop-name.folder) (g.F.Folder.modelled c.sync_one.new.folder) synced c.loop-name.invariant.1,
+      unseen_then false (g.F.Folder.modelled c.args.folder.now) (g.F.Folder.modelled c.loop-name.folder) (g.F.Folder.modelled c.sync_one.new.folder) (g.F.Folder.past c.args.folder.now) (g.F.Folder.past c.loop-name.folder) (g.F.Folder.past c.sync_one.new.folder) c.loop-name.invariant.2 c.in_ok-sync_one.ensures.unseen,
+      c.in_ok-sync_one.ensures.sound,
+    )
 
 pub sync_one-requires-clause-locked : goal.sync_one-requires-clause-locked
 sync_one-requires-clause-locked g c = c.loop-name.invariant.2.locked c.requires.locked

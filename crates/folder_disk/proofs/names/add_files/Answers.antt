@@ -25,11 +25,13 @@ loop-path-preserved g c =
     let at : List ℕ → Type 0 = λ p. p ≡ string_bytes c.path-item.result in
     let F : Option Modelled → Type 0 = λ m. IfModelled m (λ s. AddsFiles ghosts.cmp (λ p. p ≡ c.as_str-in-loop-path.result.now) s c.loop-path.names c.add_file.new.names) in
     let G : List ℕ → Type 0 = λ q. IfModelled (g.F.Folder.modelled c.args.folder.now) (λ s. AddsFiles ghosts.cmp (λ p. p ≡ q) s c.loop-path.names c.add_file.new.names) in
-    let added = subst G c.as_str-in-loop-path.ensures.value (subst F c.loop-path.invariant.2 c.in_ok-add_file.ensures.added) in
-    (adds_so_far at (g.F.Folder.modelled c.args.folder.now) c.args.names.now c.loop-path.names c.add_file.new.names c.loop-path.invariant.0 added,
-    each_more (λ path. IfModelled (g.F.Folder.modelled c.args.folder.now) (HasFilesAt (λ p. p ≡ string_bytes path) c.loop-path.names)) (λ path. IfModelled (g.F.Folder.modelled c.args.folder.now) (HasFilesAt (λ p. p ≡ string_bytes path) c.add_file.new.names)) c.deref-path-items.result.now c.loop-path.path-index c.path-item.result (λ path has. files_stay (λ p. p ≡ string_bytes path) at (g.F.Folder.modelled c.args.folder.now) c.loop-path.names c.add_file.new.names added has)
-    c.loop-path-test.true c.path-item.is c.loop-path.invariant.1 (files_added at (g.F.Folder.modelled c.args.folder.now) c.loop-path.names c.add_file.new.names added),
-    c.in_ok-add_file.ensures.same ∙ c.loop-path.invariant.2, c.in_ok-add_file.ensures.still ∙ c.loop-path.invariant.3)
+    let added = subst G c.as_str-in-loop-path.ensures.value (subst F c.loop-path.invariant.2 c.in_ok-add_file.ensures.added) in (
+      adds_so_far at (g.F.Folder.modelled c.args.folder.now) c.args.names.now c.loop-path.names c.add_file.new.names c.loop-path.invariant.0 added,
+      each_more (λ path. IfModelled (g.F.Folder.modelled c.args.folder.now) (HasFilesAt (λ p. p ≡ string_bytes path) c.loop-path.names)) (λ path. IfModelled (g.F.Folder.modelled c.args.folder.now) (HasFilesAt (λ p. p ≡ string_bytes path) c.add_file.new.names)) c.deref-path-items.result.now c.loop-path.path-index c.path-item.result (λ path has. files_stay (λ p. p ≡ string_bytes path) at (g.F.Folder.modelled c.args.folder.now) c.loop-path.names c.add_file.new.names added has)
+          c.loop-path-test.true c.path-item.is c.loop-path.invariant.1 (files_added at (g.F.Folder.modelled c.args.folder.now) c.loop-path.names c.add_file.new.names added),
+      c.in_ok-add_file.ensures.same ∙ c.loop-path.invariant.2,
+      c.in_ok-add_file.ensures.still ∙ c.loop-path.invariant.3,
+    )
 
 pub returns-clause-added : goal.returns-clause-added
 returns-clause-added g c =

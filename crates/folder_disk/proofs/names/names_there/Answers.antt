@@ -15,11 +15,13 @@ loop-within-init g c =
 
 pub loop-within-preserved : goal.loop-within-preserved
 loop-within-preserved g c =
-    let added = adds_at _ (g.F.Folder.modelled c.loop-within.folder) (g.F.Folder.modelled c.args.folder.now) c.loop-within.names c.add_files.new.names c.loop-within.invariant.2 c.in_ok-add_files.ensures.added in
-    (adds_so_far _ (g.F.Folder.modelled c.args.folder.now) c.new-names.result c.loop-within.names c.add_files.new.names c.loop-within.invariant.0 added,
-    each_at (λ within. IfModelled (g.F.Folder.modelled c.args.folder.now) (HasFilesAt (λ p. folder_at p ≡ folder_text within) c.loop-within.names)) (λ within. IfModelled (g.F.Folder.modelled c.args.folder.now) (HasFilesAt (λ p. folder_at p ≡ folder_text within) c.add_files.new.names)) c.deref-within-items.result.now c.loop-within.within-index _ (λ within has. files_stay (λ p. folder_at p ≡ folder_text within) _ (g.F.Folder.modelled c.args.folder.now) c.loop-within.names c.add_files.new.names added has)
-    c.loop-within-test.true c.loop-within.invariant.1 (files_added _ (g.F.Folder.modelled c.args.folder.now) c.loop-within.names c.add_files.new.names added),
-    c.in_ok-add_files.ensures.same ∙ c.loop-within.invariant.2, c.in_ok-add_files.ensures.still ∙ c.loop-within.invariant.3)
+    let added = adds_at _ (g.F.Folder.modelled c.loop-within.folder) (g.F.Folder.modelled c.args.folder.now) c.loop-within.names c.add_files.new.names c.loop-within.invariant.2 c.in_ok-add_files.ensures.added in (
+      adds_so_far _ (g.F.Folder.modelled c.args.folder.now) c.new-names.result c.loop-within.names c.add_files.new.names c.loop-within.invariant.0 added,
+      each_at (λ within. IfModelled (g.F.Folder.modelled c.args.folder.now) (HasFilesAt (λ p. folder_at p ≡ folder_text within) c.loop-within.names)) (λ within. IfModelled (g.F.Folder.modelled c.args.folder.now) (HasFilesAt (λ p. folder_at p ≡ folder_text within) c.add_files.new.names)) c.deref-within-items.result.now c.loop-within.within-index _ (λ within has. files_stay (λ p. folder_at p ≡ folder_text within) _ (g.F.Folder.modelled c.args.folder.now) c.loop-within.names c.add_files.new.names added has)
+          c.loop-within-test.true c.loop-within.invariant.1 (files_added _ (g.F.Folder.modelled c.args.folder.now) c.loop-within.names c.add_files.new.names added),
+      c.in_ok-add_files.ensures.same ∙ c.loop-within.invariant.2,
+      c.in_ok-add_files.ensures.still ∙ c.loop-within.invariant.3,
+    )
 
 pub returns-clause-are : goal.returns-clause-are
 returns-clause-are g c =
