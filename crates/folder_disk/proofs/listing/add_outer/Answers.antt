@@ -1,4 +1,4 @@
-use Rattle.std.proofs.Common.{◌≡◌, Bool, true, false, ℕ, List, [], ◌∷◌, ◌++◌, Option, Ok, Err, Contains, map, codes, string_bytes, refl, sym, ◌∙◌, ap, subst}
+use Rattle.std.proofs.Common.{◌≡◌, Bool, true, false, ℕ, List, [], ◌∷◌, ◌++◌, Option, Ok, Err, Contains, get_or, map, codes, string_bytes, refl, sym, ◌∙◌, ap, subst}
 use Rattle.folder_model.specs.System.{System, AFolder}
 use Rattle.folder_model.specs.Calls.{Modelled, IfModelled}
 use Rattle.folder_disk.specs.Folders.{folder_text, HasOctetNames}
@@ -15,7 +15,7 @@ pub loop-inner-preserved : goal.loop-inner-preserved
 loop-inner-preserved g c = (
   each_at (λ (second : ℕ). IfModelled (g.F.Folder.modelled c.args.folder.now) (λ s. s.node (folder_text (folder.Inner c.args.outer second)) ≡ AFolder → Contains c.loop-inner.names.items (folder.Inner c.args.outer second))) (λ (second : ℕ). IfModelled (g.F.Folder.modelled c.args.folder.now) (λ s. s.node (folder_text (folder.Inner c.args.outer second)) ≡ AFolder → Contains c.add_there-in-loop-inner.new.names.items (folder.Inner c.args.outer second))) c.deref-inner-items.result.now c.loop-inner.inner-index 0
       (λ second told. told_more (g.F.Folder.modelled c.args.folder.now) (folder.Inner c.args.outer second) c.loop-inner.names.items c.add_there-in-loop-inner.new.names.items c.in_ok-add_there-2.ensures.keeps told)
-      c.loop-inner-test.true c.loop-inner.invariant.0 (told_at (g.F.Folder.modelled c.loop-inner.folder) (g.F.Folder.modelled c.args.folder.now) _ c.add_there-in-loop-inner.new.names.items c.loop-inner.invariant.2 c.in_ok-add_there-2.ensures.there),
+      c.loop-inner-test.true c.loop-inner.invariant.0 (told_at (g.F.Folder.modelled c.loop-inner.folder) (g.F.Folder.modelled c.args.folder.now) (folder.Inner c.args.outer (get_or c.deref-inner-items.result.now c.loop-inner.inner-index 0)) c.add_there-in-loop-inner.new.names.items c.loop-inner.invariant.2 c.in_ok-add_there-2.ensures.there),
   λ x has. c.in_ok-add_there-2.ensures.keeps x (c.loop-inner.invariant.1 x has),
   c.in_ok-add_there-2.ensures.same ∙ c.loop-inner.invariant.2,
   c.in_ok-add_there-2.ensures.still ∙ c.loop-inner.invariant.3,
