@@ -466,7 +466,7 @@ impl<F: Folder + Drop> FolderDisk<F> {
 
     /// What it reads is one of its images; and what a crash may leave of the system now, or of a system between two calls of the
     /// past, is what it may leave of the disk at one of its moments.
-    #[tactic(auto, using(crate::proofs::OverLemmas::over_reads))]
+    #[tactic(auto, using(crate::specs::ReadsImage::over_reads))]
     pub fn known_images(&self)
         ensures reads { IfTold (told_history (F.Folder.modelled self.now.folder) self.now.record.changes) (λ state. IsImage state (λ name. reading (state name))) }
         ensures over { ∥ IsDiskOver (F.Folder.modelled self.now.folder) (F.Folder.past self.now.folder) self.now.record.changes self.now.is_spoiled ∥₁ }
