@@ -151,7 +151,7 @@ names_kept folder disk s follows n is =
     }
 
 -- what reads as a file is one
-file_there : (s : System) (node : Node) (octets : List ℕ) → octets_at s node ≡ Some octets → (number : ℕ) × (node ≡ PlainFile number)
+pub file_there : (s : System) (node : Node) (octets : List ℕ) → octets_at s node ≡ Some octets → (number : ℕ) × (node ≡ PlainFile number)
 file_there s Nothing octets e = absurd (let d : None ≡ Some octets = e in cc)
 file_there s (PlainFile number) octets e = (number, refl)
 file_there s AFolder octets e = absurd (let d : None ≡ Some octets = e in cc)

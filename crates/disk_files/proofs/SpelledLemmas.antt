@@ -18,10 +18,10 @@ use Rattle.file_paths.proofs.InstLemmas.{inst_text, one_octet}
 use Rattle.folder_model.specs.Paths.{IsPathName, IsPath, Single, Within, lock_name}
 
 -- no octet of these is the mark
-abbrev HasNo : ℕ → List ℕ → Type 0
+abbrev pub HasNo : ℕ → List ℕ → Type 0
 HasNo mark text = IsTrue (list_all (is_other_than mark) text)
 
-none_in : (mark : ℕ) (a b : List ℕ) → HasNo mark a → HasNo mark b → HasNo mark (a ++ b)
+pub none_in : (mark : ℕ) (a b : List ℕ) → HasNo mark a → HasNo mark b → HasNo mark (a ++ b)
 none_in mark a b p q = list_all-append (is_other_than mark) a b ∙ both (list_all (is_other_than mark) a) (list_all (is_other_than mark) b) p q
 
 other_digit : (mark d : ℕ) → mark < 48 → d < 16 → is_other_than mark (slice_index lower_digits d) ≡ true
@@ -35,7 +35,7 @@ other_digits mark (b ∷ rest) low h =
     rw (other_digit mark (b / 16) low (omega arith), other_digit mark (b % 16) low (omega arith))
     (other_digits mark rest low (λ k d lt. h (suc k) d (omega arith)))
 
-no_slash_in_number : (n : ℕ) → IsNumber n → HasNo 47 (decimal_text n)
+pub no_slash_in_number : (n : ℕ) → IsNumber n → HasNo 47 (decimal_text n)
 no_slash_in_number n is = others 47 (decimal_text n) refl (decimal_digits n (omega (arith, is)))
 
 -- a text that begins with another octet than ".", and differs from the lock's name at a place
@@ -48,20 +48,20 @@ by_place k text slash dot some lock = record {
   not_lock = λ e. lock (ap (λ l. get_or l k 0) e);
 }
 
-storage : IsPath (codes "storage")
+pub storage : IsPath (codes "storage")
 storage = Single (codes "storage") (by_place 0 (codes "storage") refl (λ e. omega (arith, e)) (λ e. omega (arith, e)) (λ e. omega (arith, e)))
 
-mailboxes : IsPath (codes "mailboxes")
+pub mailboxes : IsPath (codes "mailboxes")
 mailboxes = Single (codes "mailboxes") (by_place 1 (codes "mailboxes") refl (λ e. omega (arith, e)) (λ e. omega (arith, e)) (λ e. omega (arith, e)))
 
-attachments : IsPath (codes "attachments")
+pub attachments : IsPath (codes "attachments")
 attachments = Single (codes "attachments") (by_place 0 (codes "attachments") refl (λ e. omega (arith, e)) (λ e. omega (arith, e)) (λ e. omega (arith, e)))
 
 -- the digits of one octet
 abbrev pub digits_of : ℕ → List ℕ
 digits_of octet = encode_lower (octet ∷ [])
 
-two_digits : (octet : ℕ) → length (digits_of octet) ≡ 2
+pub two_digits : (octet : ℕ) → length (digits_of octet) ≡ 2
 two_digits octet = length-encode_with lower_digits (octet ∷ [])
 
 -- a text of hexadecimal digits, and what is longer
@@ -74,7 +74,7 @@ digits_name text dots slash some long = record {
   not_lock = λ e. long (ap length e);
 }
 
-octet_name : (octet : ℕ) → octet < 256 → IsPathName (digits_of octet)
+pub octet_name : (octet : ℕ) → octet < 256 → IsPathName (digits_of octet)
 octet_name octet fits =
     let two = two_digits octet in
     digits_name (digits_of octet) (other_digits 46 (octet ∷ []) (omega arith) (one_octet octet fits)) (other_digits 47 (octet ∷ []) (omega arith) (one_octet octet fits))
@@ -83,11 +83,11 @@ octet_name octet fits =
 pub outer_path : (first : ℕ) → first < 256 → IsPath (codes "attachments/" ++ digits_of first)
 outer_path first fits = Within (codes "attachments") (digits_of first) attachments (octet_name first fits)
 
-regroup : (first second : ℕ) (text : List ℕ) → inst_path first second text ≡ ((codes "attachments/" ++ digits_of first) ++ 47 ∷ digits_of second) ++ 47 ∷ text
+pub regroup : (first second : ℕ) (text : List ℕ) → inst_path first second text ≡ ((codes "attachments/" ++ digits_of first) ++ 47 ∷ digits_of second) ++ 47 ∷ text
 unfolding encode_with
 regroup first second text = refl
 
-inst_name : (hash id : List ℕ) → IsStoreFile (file.Inst hash id) → IsPathName (encode_lower hash ++ (codes "-" ++ encode_lower id))
+pub inst_name : (hash id : List ℕ) → IsStoreFile (file.Inst hash id) → IsPathName (encode_lower hash ++ (codes "-" ++ encode_lower id))
 inst_name hash id is =
     let text = encode_lower hash ++ (codes "-" ++ encode_lower id) in
     let long = length-append (encode_lower hash) (codes "-" ++ encode_lower id) in

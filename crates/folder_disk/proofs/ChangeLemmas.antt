@@ -21,7 +21,8 @@ use Rattle.disk_record.specs.declared.change.Change.TheVariants.{Written, HalfWr
 use Rattle.disk_record.specs.Record.{state_after}
 use Rattle.folder_disk.specs.Files.{HasFileAt, IfFile, IsChanged, IsPartlyChanged, AreAfter}
 use Rattle.folder_disk.specs.Over.{IsStoreSystem, IsDiskOf, IsStoreDisk, IsOver, IsDiskOver, IsFailedChange, told_history}
-use Rattle.folder_disk.proofs.OverLemmas.{so_far, next_of, over_goes_on, hold_is}
+use Rattle.folder_disk.specs.ReadsImage.{hold_is}
+use Rattle.folder_disk.proofs.OverLemmas.{so_far, next_of, over_goes_on}
 use Rattle.folder_disk.proofs.WideLemmas.{front_leaves, front_half_leaves, half_leaves, covers_more, change_leaves, covers_weakened, wider_leaves, wider_reads, failed_wider, failed_after}
 
 -- a change of one file, of that file and of another

@@ -18,7 +18,8 @@ use Rattle.disk_record.specs.declared.change.Change.{Change}
 use Rattle.disk_record.specs.declared.change.Change.TheVariants.{Cut, HalfCut}
 use Rattle.folder_disk.specs.Files.{IsChanged, IsPartlyChanged}
 use Rattle.folder_disk.specs.Over.{IsStoreSystem, IsOver, IsDiskOver, told_history}
-use Rattle.folder_disk.proofs.OverLemmas.{so_far, over_goes_on, hold_is}
+use Rattle.folder_disk.specs.ReadsImage.{hold_is}
+use Rattle.folder_disk.proofs.OverLemmas.{so_far, over_goes_on}
 use Rattle.folder_disk.proofs.WideLemmas.{Leaves, covers_more, change_leaves, covers_weakened, wider_leaves, failed_wider, failed_after}
 use Rattle.folder_disk.proofs.ChangeLemmas.{after_then, by_path, changed_store, failed_store, content_stays}
 use Rattle.folder_disk.proofs.SyncLemmas.{passed_covered}
@@ -81,7 +82,7 @@ cut_reads f end reaches left =
     })
 
 -- a file was cut
-cut_one : (m n : Modelled) (before after : List System) (changes : List (Change × List ℕ)) (name : FileName) (path : List ℕ) (end : ℕ) (none : List ℕ)
+pub cut_one : (m n : Modelled) (before after : List System) (changes : List (Change × List ℕ)) (name : FileName) (path : List ℕ) (end : ℕ) (none : List ℕ)
     → IsStoreFile name → path ≡ path_text name → Reaches ((so_far m changes).now name) end
     → IsOver m before changes false → Becomes (IsChanged path (cut_to end)) (Some m) (Some n) → HasPassed (Some m) before (Some n) after
     → IsOver n after ((Cut name end, none) ∷ changes) false
@@ -113,7 +114,7 @@ cut_over (Some m) (Some n) before after changes name path end none file is reach
     ∥∥₁_map over (λ o. cut_one m n before after changes name path end none file is reaches o becomes has)
 
 -- a cut failed
-half_cut_one : (m n : Modelled) (before after : List System) (changes : List (Change × List ℕ)) (name : FileName) (path : List ℕ) (end : ℕ) (none : List ℕ)
+pub half_cut_one : (m n : Modelled) (before after : List System) (changes : List (Change × List ℕ)) (name : FileName) (path : List ℕ) (end : ℕ) (none : List ℕ)
     → IsStoreFile name → path ≡ path_text name
     → IsOver m before changes false → Becomes (IsPartlyChanged path (IsHalfCut end)) (Some m) (Some n) → HasPassed (Some m) before (Some n) after
     → IsOver n after ((HalfCut name end, none) ∷ changes) true

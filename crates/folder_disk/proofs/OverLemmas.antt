@@ -19,7 +19,7 @@ use Rattle.folder_disk.specs.Over.{IsStoreSystem, IsDiskOf, IsStoreDisk, IsCover
 use Rattle.folder_disk.specs.Files.{IsSoundSystem}
 use Rattle.folder_disk.proofs.StartLemmas.{start_follows, start_is_disk}
 
-more_in : {A : Type 0} (x y : A) (xs : List A) → Contains xs y → Contains (x ∷ xs) y
+pub more_in : {A : Type 0} (x y : A) (xs : List A) → Contains xs y → Contains (x ∷ xs) y
 more_in x y xs has = Contains-append_right (x ∷ []) xs y has
 
 -- the history so far
@@ -87,30 +87,6 @@ over_stays None past changes octets spoiled over = ∣ tt ∣₁
 over_stays (Some m) past changes octets spoiled over = ∥∥₁_map over (λ o.
     over_goes_on m m past past changes Nothing octets spoiled spoiled o refl (λ s has. inl has) o.now o.disk o.is)
 
--- what is read is an image
-pub hold_is : (f : FileState) → f.is_there ≡ true → MayLeave f (reading f) → MayHold f f.octets
-hold_is f there left = let F : Option (List ℕ) → Type 0 = MayLeave f in subst F (cond-true f.is_there (Some f.octets) None there) left
-
-pub over_reads : (m : Option Modelled) (past : List System) (changes : List (Change × List ℕ)) (spoiled : Bool) → ∥ IsDiskOver m past changes spoiled ∥₁
-    → IfTold (told_history m changes) (λ state. IsImage state (λ name. reading (state name)))
-over_reads None past changes spoiled over = tt
-over_reads (Some m) past changes spoiled over = λ name.
-    let f = (so_far m changes).now name in
-    elim (cases_Bool f.is_there) [
-      | inl there ↦
-          let F : Option (List ℕ) → Type 0 = MayLeave f in
-          subst F (sym (cond-true f.is_there (Some f.octets) None there)) (record {
-            named = inl there;
-            least = ∥∥₁_elim over (hlevel props) (λ o. (hold_is f there (o.disk.reads name)).least);
-            greatest = ∥∥₁_elim over (hlevel props) (λ o. (hold_is f there (o.disk.reads name)).greatest);
-            same = λ i below firm. refl;
-            are_octets = λ k d below. ∥∥₁_elim over (hlevel props) (λ o. (hold_is f there (o.disk.reads name)).are_octets k d below);
-          })
-      | inr gone ↦
-          let F : Option (List ℕ) → Type 0 = MayLeave f in
-          subst F (sym (cond-false f.is_there (Some f.octets) None gone)) (inl gone)
-    ]
-
 -- a fact of two systems, of which the one is modelled if and only if the other is
 pub history_goes_on : (R : System → System → Type 0) (old new : Option Modelled) (changes : List (Change × List ℕ)) (change : Change) (octets : List ℕ)
     → Becomes R old new → told_history new ((change, octets) ∷ changes) ≡ after (state_after change octets) (told_history old changes)
@@ -132,7 +108,7 @@ over_sound None past changes spoiled over is = tt
 over_sound (Some m) past changes spoiled over is = ∥∥₁_elim over (hlevel props) (λ o. (o.is is).system.sound)
 
 -- a system that was covered before it was left
-since_covered : (m n : Modelled) (before after : List System) (changes : List (Change × List ℕ)) → CoversSystem (so_far m changes).now m.now
+pub since_covered : (m n : Modelled) (before after : List System) (changes : List (Change × List ℕ)) → CoversSystem (so_far m changes).now m.now
     → HasPassed (Some m) before (Some n) after → ((s : System) → Contains before s → IsCovered (so_far m changes) s) → (s : System) → Contains after s → IsCovered (so_far m changes) s
 since_covered m n before after changes now (inl e) earlier s has =
     let F : List System → Type 0 = λ l. Contains l s in
@@ -145,7 +121,7 @@ since_covered m n before after changes now (inl e) earlier s has =
 since_covered m n before after changes now (inr e) earlier s has = let F : List System → Type 0 = λ l. Contains l s in earlier s (subst F e.0 has)
 
 -- the lock was asked for
-over_locked : (m : Modelled) (before after : List System) (changes : List (Change × List ℕ)) (spoiled : Bool) → IsOver m before changes spoiled
+pub over_locked : (m : Modelled) (before after : List System) (changes : List (Change × List ℕ)) (spoiled : Bool) → IsOver m before changes spoiled
     → HasPassed (Some m) before (Some (record m { now = with_lock m.now })) after → IsOver (record m { now = with_lock m.now }) after changes spoiled
 over_locked m before after changes spoiled over has = record {
   covered = since_covered m (record m { now = with_lock m.now }) before after changes over.now has over.covered;
@@ -159,47 +135,9 @@ over_locked m before after changes spoiled over has = record {
       };
 }
 
-over_refused : (m : Modelled) (before after : List System) (changes : List (Change × List ℕ)) (spoiled : Bool) → IsOver m before changes spoiled
+pub over_refused : (m : Modelled) (before after : List System) (changes : List (Change × List ℕ)) (spoiled : Bool) → IsOver m before changes spoiled
     → HasPassed (Some m) before (Some m) after → IsOver m after changes spoiled
 over_refused m before after changes spoiled over has = record { covered = since_covered m m before after changes over.now has over.covered; now = over.now; disk = over.disk; is = over.is }
-
-pub over_asked : (held : Bool) (old new : Option Modelled) (before after : List System) (changes : List (Change × List ℕ)) (spoiled : Bool)
-    → ∥ IsDiskOver old before changes spoiled ∥₁ → (held ≡ true → new ≡ done_by with_lock old) → (held ≡ false → new ≡ old) → HasPassed old before new after
-    → ∥ IsDiskOver new after changes spoiled ∥₁
-over_asked true old new before after changes spoiled over locked refused has =
-    let F : Option Modelled → Type 0 = λ n. HasPassed old before n after in
-    let G : Option Modelled → Type 0 = λ n. ∥ IsDiskOver n after changes spoiled ∥₁ in
-    subst G (sym (locked refl)) (go old over (subst F (locked refl) has))
-  where
-    go : (m : Option Modelled) → ∥ IsDiskOver m before changes spoiled ∥₁ → HasPassed m before (done_by with_lock m) after → ∥ IsDiskOver (done_by with_lock m) after changes spoiled ∥₁
-    go None over has = ∣ tt ∣₁
-    go (Some m) over has = ∥∥₁_map over (λ o. over_locked m before after changes spoiled o has)
-over_asked false old new before after changes spoiled over locked refused has =
-    let F : Option Modelled → Type 0 = λ n. HasPassed old before n after in
-    let G : Option Modelled → Type 0 = λ n. ∥ IsDiskOver n after changes spoiled ∥₁ in
-    subst G (sym (refused refl)) (go old over (subst F (refused refl) has))
-  where
-    go : (m : Option Modelled) → ∥ IsDiskOver m before changes spoiled ∥₁ → HasPassed m before m after → ∥ IsDiskOver m after changes spoiled ∥₁
-    go None over has = ∣ tt ∣₁
-    go (Some m) over has = ∥∥₁_map over (λ o. over_refused m before after changes spoiled o has)
-
-pub locked_asked : (held : Bool) (old new : Option Modelled) (spoiled : Bool) → (held ≡ true → new ≡ done_by with_lock old) → ∥ (held ≡ true → spoiled ≡ false → IsLocked new) ∥₁
-locked_asked held old new spoiled locked = ∣ (λ h s.
-    let F : Option Modelled → Type 0 = IsLocked in
-    subst F (sym (locked h)) (go old)) ∣₁
-  where
-    go : (m : Option Modelled) → IsLocked (done_by with_lock m)
-    go None = tt
-    go (Some m) = refl
-
-pub told_asked : (held : Bool) (old new : Option Modelled) (changes : List (Change × List ℕ)) → (held ≡ true → new ≡ done_by with_lock old) → (held ≡ false → new ≡ old)
-    → told_history new changes ≡ told_history old changes
-told_asked true old new changes locked refused = ap (λ n. told_history n changes) (locked refl) ∙ go old
-  where
-    go : (m : Option Modelled) → told_history (done_by with_lock m) changes ≡ told_history m changes
-    go None = refl
-    go (Some m) = refl
-told_asked false old new changes locked refused = ap (λ n. told_history n changes) (refused refl)
 
 pub locked_of : (held spoiled : Bool) (m : Option Modelled) → ∥ (held ≡ true → spoiled ≡ false → IsLocked m) ∥₁ → held ≡ true → spoiled ≡ false → IsLocked m
 locked_of held spoiled None locked h s = tt

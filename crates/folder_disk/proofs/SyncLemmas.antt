@@ -17,7 +17,8 @@ use Rattle.disk_record.specs.declared.change.Change.TheVariants.{Nothing, Synced
 use Rattle.disk_record.specs.Record.{history_of}
 use Rattle.folder_disk.specs.Files.{HasFileAt}
 use Rattle.folder_disk.specs.Over.{IsStoreSystem, IsCovered, IsOver, IsDiskOver, told_history}
-use Rattle.folder_disk.proofs.OverLemmas.{so_far, over_goes_on, hold_is, now_covered}
+use Rattle.folder_disk.specs.ReadsImage.{hold_is}
+use Rattle.folder_disk.proofs.OverLemmas.{so_far, over_goes_on, now_covered}
 use Rattle.folder_disk.proofs.WideLemmas.{covers_weakened, failed_after}
 use Rattle.folder_disk.proofs.ChangeLemmas.{after_then, by_path, changed_store, content_stays}
 

@@ -3,13 +3,18 @@ ghost use Rattle.std.specs.Prelude.{◌≡◌, ◌+◌, ◌-◌, ◌^◌, ◌<�
 ghost use Rattle.folder_model.specs.Calls.{IfModelled, IsLocked};
 ghost use Rattle.folder_disk.specs.Over.{IsDiskOver};
 
-use crate::files::{cut_at, length_at, read_at, sync_at, write_at};
-use crate::lock::has_lock;
+use crate::files::{
+    cut_at, length_at, make_file, read_at, remove_file, settle_at, sync_at, write_at,
+};
+use crate::folders::sync_all;
+use crate::lock::{TRIES, has_lock};
+use crate::names::{names_there, next_in};
 use crate::paths::path_of;
-use disk_model::{DiskError, FileName};
+use disk_model::{DiskError, FileName, is_log};
 use disk_record::{Change, Record};
 use folder_model::{CallError, Folder};
 use std::alloc::Global;
+use std::collections::BTreeSet;
 
 /// A store's files in a folder.
 ///
@@ -17,27 +22,31 @@ use std::alloc::Global;
 /// name no file. Once a change has failed each later call fails.
 #[derive(Drop)]
 pub struct FolderDisk<F: Folder> {
-    folder: F,
+    pub(crate) folder: F,
     alloc: Global,
     /// What its calls have changed. Only clauses read it.
-    record: Record,
+    pub(crate) record: Record,
+    /// How often the lock is asked for at the first call. None once it was.
+    tries: u32,
     /// Whether this process has the lock.
     is_held: bool,
-    /// Whether a change has failed.
-    is_spoiled: bool,
+    /// The logs that this process has made, or synced at their first use.
+    firm: BTreeSet<FileName>,
+    /// Whether a change has failed, or a sync before a first use.
+    pub(crate) is_spoiled: bool,
     /// How many calls have returned.
-    calls: u64,
-    failed_reads: u64,
-    failed_changes: u64,
+    pub(crate) calls: u64,
+    pub(crate) failed_reads: u64,
+    pub(crate) failed_changes: u64,
     ghost counted: { calls ≡ min (length record.changes) (2 ^ 64 - 1) },
     ghost over: { ∥ IsDiskOver (F.Folder.modelled folder) (F.Folder.past folder) record.changes is_spoiled ∥₁ },
     ghost locked: { ∥ (is_held ≡ true → is_spoiled ≡ false → IsLocked (F.Folder.modelled folder)) ∥₁ },
 }
 
 impl<F: Folder + Drop> FolderDisk<F> {
-    ghost use Rattle.std.specs.Prelude.{None, Some, Ok, ◌↔◌, [], IfOk, IfErr, IfSome, IfNone, IsErr, IsErrOf, OnOk, OnErr, string_bytes};
+    ghost use Rattle.std.specs.Prelude.{None, Some, Ok, ◌↔◌, [], IfOk, IfErr, IfSome, IfNone, IsOk, IsErr, IsErrOf, OnOk, OnErr, string_bytes};
     ghost use Rattle.std.specs.Option.{option_map};
-    ghost use Rattle.disk_model.specs.Disk.{IfTold, ReadCause, ChangeCause, Reaches, IsThere, IsMoment, IsImage, AfterFailed, Unchanged, after, change, written, half_written, cut_to, half_cut, synced, reading};
+    ghost use Rattle.disk_model.specs.Disk.{IfTold, IsPast, IsNext, ReadCause, ChangeCause, Reaches, IsThere, IsMoment, IsImage, AfterFailed, Unchanged, after, change, change_all, written, half_written, cut_to, half_cut, synced, made, half_made, removed, half_removed, named, reading};
     ghost use Rattle.disk_record.specs.Record.{state_after};
     ghost use Rattle.file_paths.specs.Paths.{path_text, IsStoreFile};
     ghost use Rattle.folder_model.specs.Paths.{IsPath};
@@ -45,17 +54,31 @@ impl<F: Folder + Drop> FolderDisk<F> {
     ghost use Rattle.folder_disk.specs.Files.{IsSoundSystem};
     ghost use Rattle.folder_disk.specs.Over.{IsStoreSystem, IsFailedChange, HasBegun, told_history};
 
-    /// The store's files in this folder, whose process has made no call yet. Nothing is looked at until the first call.
+    /// The store's files in this folder, whose process has made no call yet. Nothing is looked at until the first call. It waits
+    /// for 30 seconds for another process that has the store.
     pub fn of(folder: F, alloc: Global) -> FolderDisk<F>
         requires begun { HasBegun (F.Folder.modelled folder) (F.Folder.past folder) }
         requires store { IfModelled (F.Folder.modelled folder) IsStoreSystem }
-        ensures { told_history (F.Folder.modelled result.folder) result.record.changes ≡ told_history (F.Folder.modelled folder) [] }
+        ensures told { told_history (F.Folder.modelled result.folder) result.record.changes ≡ told_history (F.Folder.modelled folder) [] }
+        ensures faults { (result.failed_reads ≡ 0) × (result.failed_changes ≡ 0) }
+    {
+        FolderDisk::asking(folder, alloc, TRIES)
+    }
+
+    /// The same, which asks so many times for the store's lock before it is refused.
+    pub fn asking(folder: F, alloc: Global, tries: u32) -> FolderDisk<F>
+        requires begun { HasBegun (F.Folder.modelled folder) (F.Folder.past folder) }
+        requires store { IfModelled (F.Folder.modelled folder) IsStoreSystem }
+        ensures told { told_history (F.Folder.modelled result.folder) result.record.changes ≡ told_history (F.Folder.modelled folder) [] }
+        ensures faults { (result.failed_reads ≡ 0) × (result.failed_changes ≡ 0) }
     {
         FolderDisk {
             folder,
             alloc,
             record: Record::new(),
+            tries,
             is_held: false,
+            firm: BTreeSet::new(alloc),
             is_spoiled: false,
             calls: 0,
             failed_reads: 0,
@@ -63,18 +86,26 @@ impl<F: Folder + Drop> FolderDisk<F> {
         }
     }
 
-    /// Asks for the lock.
-    #[tactic(auto, using(crate::proofs::OverLemmas::over_asked, crate::proofs::OverLemmas::locked_asked, crate::proofs::OverLemmas::told_asked))]
+    /// The folder, as the calls have left it. The process has the lock still, if it had it.
+    pub fn into_folder(self) -> F
+        ensures { F.Folder.modelled result ≡ F.Folder.modelled self.folder }
+    {
+        self.folder
+    }
+
+    /// Asks for the lock. It isn't asked for again.
     fn ask(&mut self)
+        requires { self.old.is_spoiled ≡ false }
         ensures told { told_history (F.Folder.modelled self.new.folder) self.new.record.changes ≡ told_history (F.Folder.modelled self.old.folder) self.old.record.changes }
         ensures same { (self.new.failed_reads ≡ self.old.failed_reads) × (self.new.failed_changes ≡ self.old.failed_changes) × (self.new.is_spoiled ≡ self.old.is_spoiled) }
     {
-        self.is_held = has_lock(&mut self.folder);
+        self.is_held = has_lock(&mut self.folder, self.tries);
+        self.tries = 0;
     }
 
     /// Asks for the lock at the first call. An error where another process has it, or where a change has failed before.
     #[tactic(auto, using(crate::proofs::OverLemmas::locked_of, crate::proofs::OverLemmas::over_sound))]
-    fn ready(&mut self) -> Result<(), CallError>
+    pub(crate) fn ready(&mut self) -> Result<(), CallError>
         ensures locked { OnOk result (IsLocked (F.Folder.modelled self.new.folder)) }
         ensures sound { OnOk result (IsSoundSystem (F.Folder.modelled self.new.folder)) }
         ensures spoiled { OnOk result (self.new.is_spoiled ≡ false) }
@@ -95,16 +126,62 @@ impl<F: Folder + Drop> FolderDisk<F> {
         }
     }
 
+    /// Syncs a log at its first use: a process that was killed may have left octets of it that aren't durable, and a crash would
+    /// take away what was read of them. If that fails, nothing of the store can be relied on.
+    fn settle(&mut self, path: &str, name: FileName) -> Result<(), CallError>
+        requires locked { IsLocked (F.Folder.modelled self.old.folder) }
+        requires sound { IsSoundSystem (F.Folder.modelled self.old.folder) }
+        requires spoiled { self.old.is_spoiled ≡ false }
+        requires spelled { IsPath path.now }
+        ensures locked { OnOk result (IsLocked (F.Folder.modelled self.new.folder)) }
+        ensures sound { OnOk result (IsSoundSystem (F.Folder.modelled self.new.folder)) }
+        ensures spoiled { OnOk result (self.new.is_spoiled ≡ false) }
+        ensures told { told_history (F.Folder.modelled self.new.folder) self.new.record.changes ≡ told_history (F.Folder.modelled self.old.folder) self.old.record.changes }
+        ensures same { (self.new.failed_reads ≡ self.old.failed_reads) × (self.new.failed_changes ≡ self.old.failed_changes) }
+    {
+        if !is_log(name) || self.firm.contains(&name) {
+            return Ok(());
+        }
+        match settle_at(&mut self.folder, path) {
+            Ok(()) => {
+                let _ = self.firm.insert(name);
+                Ok(())
+            }
+            Err(error) => {
+                self.is_spoiled = true;
+                Err(error)
+            }
+        }
+    }
+
+    /// The path of a file that is to be used, once this process has the store. A log is synced at its first use.
+    pub(crate) fn path_to_use(&mut self, name: FileName) -> Result<Option<String>, CallError>
+        ensures locked { OnOk result (IsLocked (F.Folder.modelled self.new.folder)) }
+        ensures sound { OnOk result (IsSoundSystem (F.Folder.modelled self.new.folder)) }
+        ensures spoiled { OnOk result (self.new.is_spoiled ≡ false) }
+        ensures file { IfOk result (λ found. IfSome found (λ path. IsStoreFile name × (string_bytes path ≡ path_text name))) }
+        ensures none { IfOk result (λ found. IfNone found (IsStoreFile name → ⊥)) }
+        ensures spelled { IfOk result (λ found. IfSome found (λ path. IsPath (string_bytes path))) }
+        ensures told { told_history (F.Folder.modelled self.new.folder) self.new.record.changes ≡ told_history (F.Folder.modelled self.old.folder) self.old.record.changes }
+        ensures same { (self.new.failed_reads ≡ self.old.failed_reads) × (self.new.failed_changes ≡ self.old.failed_changes) }
+    {
+        self.ready()?;
+        let Some(path) = path_of(self.alloc, name)? else {
+            return Ok(None);
+        };
+        self.settle(path.as_str(), name)?;
+        Ok(Some(path))
+    }
+
     /// The length of a file, None where there is none.
     #[tactic(auto, using(crate::proofs::OverLemmas::over_same, crate::proofs::OverLemmas::locked_same))]
-    fn length_of(&mut self, name: FileName) -> Result<Option<u64>, CallError>
+    pub(crate) fn length_of(&mut self, name: FileName) -> Result<Option<u64>, CallError>
         ensures some { IfOk result (λ found. IfSome found (λ n. IfTold (told_history (F.Folder.modelled self.old.folder) self.old.record.changes) (λ disk. option_map length (reading (disk name)) ≡ Some n))) }
         ensures none { IfOk result (λ found. IfNone found (IfTold (told_history (F.Folder.modelled self.old.folder) self.old.record.changes) (λ disk. reading (disk name) ≡ None))) }
         ensures told { told_history (F.Folder.modelled self.new.folder) self.new.record.changes ≡ told_history (F.Folder.modelled self.old.folder) self.old.record.changes }
-        ensures same { (self.new.failed_reads ≡ self.old.failed_reads) × (self.new.failed_changes ≡ self.old.failed_changes) × (self.new.is_spoiled ≡ self.old.is_spoiled) }
+        ensures same { (self.new.failed_reads ≡ self.old.failed_reads) × (self.new.failed_changes ≡ self.old.failed_changes) }
     {
-        self.ready()?;
-        match path_of(self.alloc, name)? {
+        match self.path_to_use(name)? {
             Some(path) => length_at(&mut self.folder, path.as_str()),
             None => Ok(None),
         }
@@ -112,7 +189,7 @@ impl<F: Folder + Drop> FolderDisk<F> {
 
     /// Octets of a file, None where there is none.
     #[tactic(auto, using(crate::proofs::OverLemmas::over_same, crate::proofs::OverLemmas::locked_same))]
-    fn octets_of(
+    pub(crate) fn octets_of(
         &mut self,
         name: FileName,
         offset: u64,
@@ -124,18 +201,33 @@ impl<F: Folder + Drop> FolderDisk<F> {
         ensures rest { IfOk result (λ found. IfSome found (λ n. drop n into.new ≡ drop n into.old)) }
         ensures untouched { IfOk result (λ found. IfNone found (into.new ≡ into.old)) }
         ensures told { told_history (F.Folder.modelled self.new.folder) self.new.record.changes ≡ told_history (F.Folder.modelled self.old.folder) self.old.record.changes }
-        ensures same { (self.new.failed_reads ≡ self.old.failed_reads) × (self.new.failed_changes ≡ self.old.failed_changes) × (self.new.is_spoiled ≡ self.old.is_spoiled) }
+        ensures same { (self.new.failed_reads ≡ self.old.failed_reads) × (self.new.failed_changes ≡ self.old.failed_changes) }
     {
-        self.ready()?;
-        match path_of(self.alloc, name)? {
+        match self.path_to_use(name)? {
             Some(path) => read_at(&mut self.folder, path.as_str(), offset, into),
             None => Ok(None),
         }
     }
 
+    /// The first name past one.
+    #[tactic(auto, using(crate::proofs::OverLemmas::over_same, crate::proofs::OverLemmas::locked_same))]
+    pub(crate) fn next_of(&mut self, after: Option<FileName>) -> Result<Option<FileName>, CallError>
+        ensures past { IfOk result (λ next. IfSome next (IsPast ⟦<FileName as Ord>⟧.cmp after)) }
+        ensures next { IfOk result (λ next. IfTold (told_history (F.Folder.modelled self.old.folder) self.old.record.changes) (IsNext ⟦<FileName as Ord>⟧.cmp after next)) }
+        ensures told { told_history (F.Folder.modelled self.new.folder) self.new.record.changes ≡ told_history (F.Folder.modelled self.old.folder) self.old.record.changes }
+        ensures same { (self.new.failed_reads ≡ self.old.failed_reads) × (self.new.failed_changes ≡ self.old.failed_changes) }
+    {
+        self.ready()?;
+        let names = names_there(&mut self.folder, self.alloc)?;
+        Ok(next_in(&names, after))
+    }
+
     /// What an answer of the system to a read means, None being that there is no such file. Errors are counted, and so is the
     /// call.
-    fn read<T: Drop>(&mut self, answer: Result<Option<T>, CallError>) -> Result<T, DiskError>
+    pub(crate) fn read<T: Drop>(
+        &mut self,
+        answer: Result<Option<T>, CallError>,
+    ) -> Result<T, DiskError>
         ensures value { IfOk result (λ value. answer ≡ Ok (Some value)) }
         ensures absent { IsErrOf result Absent ↔ (answer ≡ Ok None) }
         ensures told { told_history (F.Folder.modelled self.new.folder) self.new.record.changes ≡ after (λ disk. disk) (told_history (F.Folder.modelled self.old.folder) self.old.record.changes) }
@@ -152,40 +244,6 @@ impl<F: Folder + Drop> FolderDisk<F> {
         }
     }
 
-    /// The file's length in octets. `Absent` if and only if there is no such file.
-    #[tactic(auto, using(crate::proofs::ReadLemmas::unchanged))]
-    pub fn length(&mut self, name: FileName) -> Result<u64, DiskError>
-        ensures length { IfOk result (λ n. IfTold (told_history (F.Folder.modelled self.old.folder) self.old.record.changes) (λ disk. option_map length (reading (disk name)) ≡ Some n)) }
-        ensures absent { IsErrOf result Absent → IfTold (told_history (F.Folder.modelled self.old.folder) self.old.record.changes) (λ disk. reading (disk name) ≡ None) }
-        ensures state { Unchanged (told_history (F.Folder.modelled self.old.folder) self.old.record.changes) (told_history (F.Folder.modelled self.new.folder) self.new.record.changes) }
-        ensures cause { ReadCause result (record { reads = self.old.failed_reads; changes = self.old.failed_changes }) (record { reads = self.new.failed_reads; changes = self.new.failed_changes }) }
-    {
-        let answer = self.length_of(name);
-        self.read(answer)
-    }
-
-    /// Fills the front of `into` with the file's octets from `offset` to the end of the file or of `into`, and answers how
-    /// many. `Absent` if and only if there is no such file: `into` is then as before. After `Failed` it may hold any octets.
-    #[tactic(auto, using(crate::proofs::ReadLemmas::unchanged))]
-    pub fn read_at(
-        &mut self,
-        name: FileName,
-        offset: u64,
-        into: &mut [u8],
-    ) -> Result<usize, DiskError>
-        ensures count { IfOk result (λ n. n ≤ length into.new) }
-        ensures octets { IfOk result (λ n. IfTold (told_history (F.Folder.modelled self.old.folder) self.old.record.changes) (λ disk. (reading (disk name) ≡ Some (disk name).octets)
-            × (take n into.new ≡ take (length into.old) (drop offset (disk name).octets)))) }
-        ensures rest { IfOk result (λ n. drop n into.new ≡ drop n into.old) }
-        ensures absent { IsErrOf result Absent → IfTold (told_history (F.Folder.modelled self.old.folder) self.old.record.changes) (λ disk. reading (disk name) ≡ None) }
-        ensures untouched { IsErrOf result Absent → into.new ≡ into.old }
-        ensures state { Unchanged (told_history (F.Folder.modelled self.old.folder) self.old.record.changes) (told_history (F.Folder.modelled self.new.folder) self.new.record.changes) }
-        ensures cause { ReadCause result (record { reads = self.old.failed_reads; changes = self.old.failed_changes }) (record { reads = self.new.failed_reads; changes = self.new.failed_changes }) }
-    {
-        let answer = self.octets_of(name, offset, into);
-        self.read(answer)
-    }
-
     /// Notes a call that changed nothing.
     #[tactic(auto, using(crate::proofs::OverLemmas::over_stays, crate::proofs::OverLemmas::history_stays))]
     fn pass(&mut self)
@@ -198,7 +256,7 @@ impl<F: Folder + Drop> FolderDisk<F> {
 
     /// Notes a change that failed before anything was done.
     #[tactic(auto, using(crate::proofs::ChangeLemmas::nothing_done))]
-    fn fail(&mut self, change: &Change) -> Result<(), DiskError>
+    pub(crate) fn fail(&mut self, change: &Change) -> Result<(), DiskError>
         requires { IsFailedChange change.now }
         ensures told { told_history (F.Folder.modelled self.new.folder) self.new.record.changes ≡ after (state_after change.now []) (told_history (F.Folder.modelled self.old.folder) self.old.record.changes) }
         ensures failed { IsErr result }
@@ -212,7 +270,7 @@ impl<F: Folder + Drop> FolderDisk<F> {
     }
 
     /// Writes to a file at its path, once this process has the store.
-    fn write_to(
+    pub(crate) fn write_to(
         &mut self,
         path: &str,
         name: FileName,
@@ -248,38 +306,13 @@ impl<F: Folder + Drop> FolderDisk<F> {
         }
     }
 
-    /// The path of a file that is to be changed, once this process has the store.
-    fn path_to_change(&mut self, name: FileName) -> Result<Option<String>, CallError>
-        ensures locked { OnOk result (IsLocked (F.Folder.modelled self.new.folder)) }
-        ensures sound { OnOk result (IsSoundSystem (F.Folder.modelled self.new.folder)) }
-        ensures spoiled { OnOk result (self.new.is_spoiled ≡ false) }
-        ensures file { IfOk result (λ found. IfSome found (λ path. IsStoreFile name × (string_bytes path ≡ path_text name))) }
-        ensures spelled { IfOk result (λ found. IfSome found (λ path. IsPath (string_bytes path))) }
-        ensures told { told_history (F.Folder.modelled self.new.folder) self.new.record.changes ≡ told_history (F.Folder.modelled self.old.folder) self.old.record.changes }
-        ensures same { (self.new.failed_reads ≡ self.old.failed_reads) × (self.new.failed_changes ≡ self.old.failed_changes) × (self.new.is_spoiled ≡ self.old.is_spoiled) }
-    {
-        self.ready()?;
-        path_of(self.alloc, name)
-    }
-
-    /// Writes all of `from` at `offset`, which is at most the file's length, and so may lengthen the file. A crash before its
-    /// sync may leave any octets in that range.
-    #[tactic(auto, using(crate::proofs::ChangeLemmas::reaches_then, crate::proofs::ChangeLemmas::after_then, crate::proofs::ChangeLemmas::half_written_then))]
-    pub fn write_at(&mut self, name: FileName, offset: u64, from: &[u8]) -> Result<(), DiskError>
-        requires { IfTold (told_history (F.Folder.modelled self.old.folder) self.old.record.changes) (λ disk. Reaches (disk name) offset) }
-        ensures state { OnOk result (told_history (F.Folder.modelled self.new.folder) self.new.record.changes ≡ after (change name (written offset from.now)) (told_history (F.Folder.modelled self.old.folder) self.old.record.changes)) }
-        ensures failed { OnErr result (AfterFailed (change name (half_written offset (length from.now))) (told_history (F.Folder.modelled self.old.folder) self.old.record.changes) (told_history (F.Folder.modelled self.new.folder) self.new.record.changes)) }
-        ensures fits { OnOk result (offset + length from.now < 2 ^ 64) }
-        ensures cause { ChangeCause result (record { reads = self.old.failed_reads; changes = self.old.failed_changes }) (record { reads = self.new.failed_reads; changes = self.new.failed_changes }) }
-    {
-        match self.path_to_change(name) {
-            Ok(Some(path)) => self.write_to(path.as_str(), name, offset, from),
-            Ok(None) | Err(_) => self.fail(&Change::HalfWritten(name, offset, from.len() as u64)),
-        }
-    }
-
     /// Shortens a file at its path, once this process has the store.
-    fn cut_to_end(&mut self, path: &str, name: FileName, end: u64) -> Result<(), DiskError>
+    pub(crate) fn cut_to_end(
+        &mut self,
+        path: &str,
+        name: FileName,
+        end: u64,
+    ) -> Result<(), DiskError>
         requires locked { IsLocked (F.Folder.modelled self.old.folder) }
         requires sound { IsSoundSystem (F.Folder.modelled self.old.folder) }
         requires spoiled { self.old.is_spoiled ≡ false }
@@ -307,23 +340,9 @@ impl<F: Folder + Drop> FolderDisk<F> {
         }
     }
 
-    /// Shortens the file to this length, which is at most its own.
-    #[tactic(auto, using(crate::proofs::ChangeLemmas::reaches_then, crate::proofs::ChangeLemmas::after_then, crate::proofs::CutLemmas::half_cut_then))]
-    pub fn cut(&mut self, name: FileName, end: u64) -> Result<(), DiskError>
-        requires { IfTold (told_history (F.Folder.modelled self.old.folder) self.old.record.changes) (λ disk. Reaches (disk name) end) }
-        ensures state { OnOk result (told_history (F.Folder.modelled self.new.folder) self.new.record.changes ≡ after (change name (cut_to end)) (told_history (F.Folder.modelled self.old.folder) self.old.record.changes)) }
-        ensures failed { OnErr result (AfterFailed (change name (half_cut end)) (told_history (F.Folder.modelled self.old.folder) self.old.record.changes) (told_history (F.Folder.modelled self.new.folder) self.new.record.changes)) }
-        ensures cause { ChangeCause result (record { reads = self.old.failed_reads; changes = self.old.failed_changes }) (record { reads = self.new.failed_reads; changes = self.new.failed_changes }) }
-    {
-        match self.path_to_change(name) {
-            Ok(Some(path)) => self.cut_to_end(path.as_str(), name, end),
-            Ok(None) | Err(_) => self.fail(&Change::HalfCut(name, end)),
-        }
-    }
-
     /// Syncs a file at its path, once this process has the store.
     #[tactic(auto, using(crate::proofs::SyncLemmas::unsynced_told))]
-    fn sync_to(&mut self, path: &str, name: FileName) -> Result<(), DiskError>
+    pub(crate) fn sync_to(&mut self, path: &str, name: FileName) -> Result<(), DiskError>
         requires locked { IsLocked (F.Folder.modelled self.old.folder) }
         requires sound { IsSoundSystem (F.Folder.modelled self.old.folder) }
         requires spoiled { self.old.is_spoiled ≡ false }
@@ -350,33 +369,106 @@ impl<F: Folder + Drop> FolderDisk<F> {
         }
     }
 
-    /// After this a crash leaves the file's octets as they read.
-    #[tactic(auto, using(crate::proofs::ChangeLemmas::after_then, crate::proofs::SyncLemmas::unsynced_then))]
-    pub fn sync(&mut self, name: FileName) -> Result<(), DiskError>
-        requires { IfTold (told_history (F.Folder.modelled self.old.folder) self.old.record.changes) (λ disk. IsThere (disk name)) }
-        ensures state { OnOk result (told_history (F.Folder.modelled self.new.folder) self.new.record.changes ≡ after (change name synced) (told_history (F.Folder.modelled self.old.folder) self.old.record.changes)) }
-        ensures failed { OnErr result (AfterFailed (λ disk. disk) (told_history (F.Folder.modelled self.old.folder) self.old.record.changes) (told_history (F.Folder.modelled self.new.folder) self.new.record.changes)) }
+    /// Makes a file at its path, once this process has the store.
+    pub(crate) fn make_to(&mut self, path: &str, name: FileName) -> Result<(), DiskError>
+        requires locked { IsLocked (F.Folder.modelled self.old.folder) }
+        requires sound { IsSoundSystem (F.Folder.modelled self.old.folder) }
+        requires spoiled { self.old.is_spoiled ≡ false }
+        requires spelled { IsPath path.now }
+        requires file { IsStoreFile name }
+        requires named { path.now ≡ path_text name }
+        ensures state { OnOk result (told_history (F.Folder.modelled self.new.folder) self.new.record.changes ≡ after (change name made) (told_history (F.Folder.modelled self.old.folder) self.old.record.changes)) }
+        ensures failed { OnErr result (told_history (F.Folder.modelled self.new.folder) self.new.record.changes ≡ after (change name half_made) (told_history (F.Folder.modelled self.old.folder) self.old.record.changes)) }
         ensures cause { ChangeCause result (record { reads = self.old.failed_reads; changes = self.old.failed_changes }) (record { reads = self.new.failed_reads; changes = self.new.failed_changes }) }
     {
-        match self.path_to_change(name) {
-            Ok(Some(path)) => self.sync_to(path.as_str(), name),
-            Ok(None) | Err(_) => self.fail(&Change::Nothing),
+        match make_file(&mut self.folder, self.alloc, path, name) {
+            Ok(()) => {
+                let _ = self.firm.insert(name);
+                self.record.note(&Change::Made(name), &[]);
+                self.calls = self.calls.saturating_add(1);
+                Ok(())
+            }
+            Err(_) => {
+                self.record.note(&Change::HalfMade(name), &[]);
+                self.calls = self.calls.saturating_add(1);
+                self.is_spoiled = true;
+                self.failed_changes = self.failed_changes.saturating_add(1);
+                Err(DiskError::Failed)
+            }
+        }
+    }
+
+    /// Removes a file at its path, once this process has the store.
+    pub(crate) fn remove_from(&mut self, path: &str, name: FileName) -> Result<(), DiskError>
+        requires locked { IsLocked (F.Folder.modelled self.old.folder) }
+        requires sound { IsSoundSystem (F.Folder.modelled self.old.folder) }
+        requires spoiled { self.old.is_spoiled ≡ false }
+        requires spelled { IsPath path.now }
+        requires file { IsStoreFile name }
+        requires named { path.now ≡ path_text name }
+        ensures state { OnOk result (told_history (F.Folder.modelled self.new.folder) self.new.record.changes ≡ after (change name removed) (told_history (F.Folder.modelled self.old.folder) self.old.record.changes)) }
+        ensures failed { OnErr result (told_history (F.Folder.modelled self.new.folder) self.new.record.changes ≡ after (change name half_removed) (told_history (F.Folder.modelled self.old.folder) self.old.record.changes)) }
+        ensures cause { ChangeCause result (record { reads = self.old.failed_reads; changes = self.old.failed_changes }) (record { reads = self.new.failed_reads; changes = self.new.failed_changes }) }
+    {
+        match remove_file(&mut self.folder, path, name) {
+            Ok(()) => {
+                self.record.note(&Change::Removed(name), &[]);
+                self.calls = self.calls.saturating_add(1);
+                Ok(())
+            }
+            Err(_) => {
+                self.record.note(&Change::HalfRemoved(name), &[]);
+                self.calls = self.calls.saturating_add(1);
+                self.is_spoiled = true;
+                self.failed_changes = self.failed_changes.saturating_add(1);
+                Err(DiskError::Failed)
+            }
+        }
+    }
+
+    /// Notes that a file which no store has was removed.
+    pub(crate) fn skip(&mut self, name: FileName) -> Result<(), DiskError>
+        requires spoiled { self.old.is_spoiled ≡ false }
+        requires none { IsStoreFile name → ⊥ }
+        ensures done { IsOk result }
+        ensures told { told_history (F.Folder.modelled self.new.folder) self.new.record.changes ≡ after (change name removed) (told_history (F.Folder.modelled self.old.folder) self.old.record.changes) }
+        ensures cause { ChangeCause result (record { reads = self.old.failed_reads; changes = self.old.failed_changes }) (record { reads = self.new.failed_reads; changes = self.new.failed_changes }) }
+    {
+        self.record.note(&Change::Removed(name), &[]);
+        self.calls = self.calls.saturating_add(1);
+        Ok(())
+    }
+
+    /// Syncs the names in the store's folders, once this process has the store.
+    pub(crate) fn sync_all_names(&mut self) -> Result<(), DiskError>
+        requires locked { IsLocked (F.Folder.modelled self.old.folder) }
+        requires sound { IsSoundSystem (F.Folder.modelled self.old.folder) }
+        requires spoiled { self.old.is_spoiled ≡ false }
+        ensures state { OnOk result (told_history (F.Folder.modelled self.new.folder) self.new.record.changes ≡ after (change_all named) (told_history (F.Folder.modelled self.old.folder) self.old.record.changes)) }
+        ensures failed { OnErr result (told_history (F.Folder.modelled self.new.folder) self.new.record.changes ≡ after (λ disk. disk) (told_history (F.Folder.modelled self.old.folder) self.old.record.changes)) }
+        ensures cause { ChangeCause result (record { reads = self.old.failed_reads; changes = self.old.failed_changes }) (record { reads = self.new.failed_reads; changes = self.new.failed_changes }) }
+    {
+        match sync_all(&mut self.folder, self.alloc) {
+            Ok(()) => {
+                self.record.note(&Change::NamesSynced, &[]);
+                self.calls = self.calls.saturating_add(1);
+                Ok(())
+            }
+            Err(_) => {
+                self.record.note(&Change::Nothing, &[]);
+                self.calls = self.calls.saturating_add(1);
+                self.is_spoiled = true;
+                self.failed_changes = self.failed_changes.saturating_add(1);
+                Err(DiskError::Failed)
+            }
         }
     }
 
     /// What it reads is one of its images; and what a crash may leave of the system now, or of a system between two calls of the
     /// past, is what it may leave of the disk at one of its moments.
-    #[tactic(auto, using(crate::proofs::OverLemmas::over_reads))]
+    #[tactic(auto, using(crate::specs::ReadsImage::over_reads))]
     pub fn known_images(&self)
         ensures reads { IfTold (told_history (F.Folder.modelled self.now.folder) self.now.record.changes) (λ state. IsImage state (λ name. reading (state name))) }
         ensures over { ∥ IsDiskOver (F.Folder.modelled self.now.folder) (F.Folder.past self.now.folder) self.now.record.changes self.now.is_spoiled ∥₁ }
     {}
-
-    /// The present moment: how many calls have returned, as far as the type goes.
-    #[tactic(auto, using(crate::proofs::SyncLemmas::moment_is))]
-    pub fn moment(&self) -> u64
-        ensures { IsMoment (told_history (F.Folder.modelled self.now.folder) self.now.record.changes) result }
-    {
-        self.calls
-    }
 }

@@ -1,14 +1,21 @@
 // The file at a path.
-ghost use Rattle.std.specs.Prelude.{◌≡◌, ◌+◌, ◌<◌, ◌≤◌, ◌^◌, length, take, drop, IfOk, IfSome, IfNone, OnOk, OnErr};
+ghost use Rattle.std.specs.Prelude.{true, false, ◌≡◌, ◌+◌, ◌<◌, ◌≤◌, ◌^◌, length, take, drop, IfOk, IfSome, IfNone, OnOk, OnErr};
 ghost use Rattle.disk_model.specs.Disk.{written, cut_to};
+ghost use Rattle.disk_record.specs.declared.change.Change.TheVariants.{Made, HalfMade, Removed, HalfRemoved};
+ghost use Rattle.file_paths.specs.Paths.{path_text, IsStoreFile};
 ghost use Rattle.folder_model.specs.Paths.{IsPath};
 ghost use Rattle.folder_model.specs.System.{with_synced_file, with_failed_sync, IsHalfWritten, IsHalfCut};
 ghost use Rattle.folder_model.specs.Calls.{IfModelled, IsLocked, IsDoneOrNot, HasPassed, Becomes};
 ghost use Rattle.folder_calls.specs.Writing.{IsWriting};
 ghost use Rattle.folder_disk.specs.Files.{IsOpenedAt, IsSoundSystem, IfFile, HasFileAt, HasNoFile, IsChanged, IsPartlyChanged, AreAfter};
+ghost use Rattle.folder_disk.specs.Folders.{folder_text, folder_for, IsSyncedFolder, IsUnseen, IsSeenAs};
 
+use crate::folder_name::FolderName;
+use crate::folders::{make_way, sync_one};
+use disk_model::FileName;
 use folder_calls::{read_all, write_all};
 use folder_model::{CallError, Folder, Kind};
+use std::alloc::Global;
 
 /// Opens the plain file at a path. None where none stands there.
 pub(crate) fn open_at<F: Folder>(
@@ -124,4 +131,82 @@ pub(crate) fn sync_at<F: Folder>(folder: &mut F, path: &str) -> Result<(), CallE
         return Err(CallError::Failed);
     };
     folder.sync(&file)
+}
+
+/// Syncs the file at a path, if one stands there. No change of the disk is told by it.
+pub(crate) fn settle_at<F: Folder>(folder: &mut F, path: &str) -> Result<(), CallError>
+    requires locked { IsLocked (F.modelled folder.old) }
+    requires sound { IsSoundSystem (F.modelled folder.old) }
+    requires spelled { IsPath path.now }
+    ensures sound { OnOk result (IsSoundSystem (F.modelled folder.new)) }
+    ensures unseen { OnOk result (IsUnseen (F.modelled folder.old) (F.past folder.old) (F.modelled folder.new) (F.past folder.new) false) }
+    ensures failed { OnErr result (IsUnseen (F.modelled folder.old) (F.past folder.old) (F.modelled folder.new) (F.past folder.new) true) }
+{
+    let Some(file) = open_at(folder, path, false)? else {
+        return Ok(());
+    };
+    folder.sync(&file)
+}
+
+/// Makes a file in a folder whose names are synced. One that stands there is emptied, and what else stands there is an error.
+fn make_within<F: Folder>(folder: &mut F, path: &str, name: FileName) -> Result<(), CallError>
+    requires locked { IsLocked (F.modelled folder.old) }
+    requires sound { IsSoundSystem (F.modelled folder.old) }
+    requires file { IsStoreFile name }
+    requires named { path.now ≡ path_text name }
+    requires spelled { IsPath path.now }
+    requires synced { IfModelled (F.modelled folder.old) (λ s. IsSyncedFolder s (folder_text (folder_for name))) }
+    ensures ok { OnOk result (IsSeenAs (Made name) (F.modelled folder.old) (F.past folder.old) (F.modelled folder.new) (F.past folder.new) false) }
+    ensures err { OnErr result (IsSeenAs (HalfMade name) (F.modelled folder.old) (F.past folder.old) (F.modelled folder.new) (F.past folder.new) true) }
+{
+    match folder.look(path)? {
+        Kind::File => cut_at(folder, path, 0),
+        Kind::Nothing => {
+            let _file = folder.make_new(path)?;
+            Ok(())
+        }
+        _ => Err(CallError::Failed),
+    }
+}
+
+/// Makes a file, and its folders where they aren't there. The names in its folder are synced before, so that after a crash no
+/// file that was removed stands in the new one's place.
+pub(crate) fn make_file<F: Folder>(
+    folder: &mut F,
+    alloc: Global,
+    path: &str,
+    name: FileName,
+) -> Result<(), CallError>
+    requires locked { IsLocked (F.modelled folder.old) }
+    requires sound { IsSoundSystem (F.modelled folder.old) }
+    requires file { IsStoreFile name }
+    requires named { path.now ≡ path_text name }
+    requires spelled { IsPath path.now }
+    ensures ok { OnOk result (IsSeenAs (Made name) (F.modelled folder.old) (F.past folder.old) (F.modelled folder.new) (F.past folder.new) false) }
+    ensures err { OnErr result (IsSeenAs (HalfMade name) (F.modelled folder.old) (F.past folder.old) (F.modelled folder.new) (F.past folder.new) true) }
+{
+    let within = FolderName::of(name);
+    make_way(folder, alloc, within)?;
+    sync_one(folder, alloc, within)?;
+    make_within(folder, path, name)
+}
+
+/// Removes a file, if one stands there.
+pub(crate) fn remove_file<F: Folder>(
+    folder: &mut F,
+    path: &str,
+    name: FileName,
+) -> Result<(), CallError>
+    requires locked { IsLocked (F.modelled folder.old) }
+    requires sound { IsSoundSystem (F.modelled folder.old) }
+    requires file { IsStoreFile name }
+    requires named { path.now ≡ path_text name }
+    requires spelled { IsPath path.now }
+    ensures ok { OnOk result (IsSeenAs (Removed name) (F.modelled folder.old) (F.past folder.old) (F.modelled folder.new) (F.past folder.new) false) }
+    ensures err { OnErr result (IsSeenAs (HalfRemoved name) (F.modelled folder.old) (F.past folder.old) (F.modelled folder.new) (F.past folder.new) true) }
+{
+    match folder.look(path)? {
+        Kind::File => folder.remove(path),
+        _ => Ok(()),
+    }
 }

@@ -4,8 +4,13 @@
 pub use disk::FolderDisk;
 pub use laws::disks_begin;
 
+mod calls;
 mod disk;
 mod files;
+mod folder_name;
+mod folders;
 mod laws;
+mod listing;
 mod lock;
+mod names;
 mod paths;

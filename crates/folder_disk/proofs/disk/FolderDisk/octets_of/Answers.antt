@@ -6,31 +6,31 @@ use Rattle.folder_disk.proofs.disk.FolderDisk.octets_of.Goals as goal
 
 pub returns-in-Some-clause-octets : goal.returns-in-Some-clause-octets
 returns-in-Some-clause-octets g c =
-    let self = c.ready.new.self in
+    let self = c.path_to_use.new.self in
     let old = c.args.self.now in
-    let file = subst (λ o. IfSome o (λ path. IsStoreFile c.args.name × (string_bytes path ≡ path_text c.args.name))) c.in-Some.is c.in_ok-path.ensures.some in
+    let file = subst (λ o. IfSome o (λ path. IsStoreFile c.args.name × (string_bytes path ≡ path_text c.args.name))) c.in-Some.is c.in_ok-path.ensures.file in
     let value = c.as_str.ensures.value in
     let named = file.1 in
     let is : c.as_str.result.now ≡ path_text c.args.name = cc in
     octets_found c.read_at.result (g.F.Folder.modelled self.folder) (g.F.Folder.past self.folder) self.record.changes self.is_spoiled c.args.name c.as_str.result.now
     c.args.offset (length c.args.into.now) c.read_at.new.into
-    (told_history (g.F.Folder.modelled old.folder) old.record.changes) c.in_ok-ready.ensures.told self.over c.in_ok-ready.ensures.spoiled file.0 is c.read_at.ensures.some
+    (told_history (g.F.Folder.modelled old.folder) old.record.changes) c.path_to_use.ensures.told self.over c.in_ok-path.ensures.spoiled file.0 is c.read_at.ensures.some
 
 pub returns-in-Some-clause-none : goal.returns-in-Some-clause-none
 returns-in-Some-clause-none g c =
-    let self = c.ready.new.self in
+    let self = c.path_to_use.new.self in
     let old = c.args.self.now in
-    let file = subst (λ o. IfSome o (λ path. IsStoreFile c.args.name × (string_bytes path ≡ path_text c.args.name))) c.in-Some.is c.in_ok-path.ensures.some in
+    let file = subst (λ o. IfSome o (λ path. IsStoreFile c.args.name × (string_bytes path ≡ path_text c.args.name))) c.in-Some.is c.in_ok-path.ensures.file in
     let value = c.as_str.ensures.value in
     let named = file.1 in
     let is : c.as_str.result.now ≡ path_text c.args.name = cc in
     none_found c.read_at.result (g.F.Folder.modelled self.folder) (g.F.Folder.past self.folder) self.record.changes self.is_spoiled c.args.name c.as_str.result.now
-    (told_history (g.F.Folder.modelled old.folder) old.record.changes) c.in_ok-ready.ensures.told self.over c.in_ok-ready.ensures.spoiled file.0 is c.read_at.ensures.none
+    (told_history (g.F.Folder.modelled old.folder) old.record.changes) c.path_to_use.ensures.told self.over c.in_ok-path.ensures.spoiled file.0 is c.read_at.ensures.none
 
 pub returns-in-None-clause-none : goal.returns-in-None-clause-none
 returns-in-None-clause-none g c =
-    let self = c.ready.new.self in
+    let self = c.path_to_use.new.self in
     let old = c.args.self.now in
     other_found (g.F.Folder.modelled self.folder) (g.F.Folder.past self.folder) self.record.changes self.is_spoiled c.args.name
-    (told_history (g.F.Folder.modelled old.folder) old.record.changes) c.in_ok-ready.ensures.told self.over
+    (told_history (g.F.Folder.modelled old.folder) old.record.changes) c.path_to_use.ensures.told self.over
     (subst (λ o. IfNone o (IsStoreFile c.args.name → ⊥)) c.in-None.is c.in_ok-path.ensures.none)

@@ -3,7 +3,7 @@ use Rattle.std.proofs.lemmas.Bool.{false≢true}
 use Rattle.disk_record.specs.declared.change.Change.{Change}
 use Rattle.folder_disk.specs.Over.{IsDiskOver}
 use Rattle.folder_disk.proofs.OverLemmas.{disk_begins}
-use Rattle.folder_disk.proofs.disk.FolderDisk.of.Goals as goal
+use Rattle.folder_disk.proofs.disk.FolderDisk.asking.Goals as goal
 
 pub invariant_of-result-clause-over : goal.invariant_of-result-clause-over
 invariant_of-result-clause-over g c =

@@ -1,0 +1,63 @@
+-- A sync of a file that a disk doesn't tell.
+use Rattle.std.proofs.Common.{◌≡◌, ◌⊎◌, inl, inr, ℕ, ◌==◌, ◌<◌, ◌≤◌, Bool, true, false, if◌then◌else◌, List, length, slice_get, Option, Some, None, refl, sym, ◌∙◌, ap, subst, arith}
+use Rattle.std.proofs.Math.Logic.{∥∥₁_map}
+use Rattle.std.proofs.lemmas.Bool.{cases_eq}
+use Rattle.disk_model.specs.Disk.{FileState, DiskState, synced}
+use Rattle.disk_model.specs.declared.name.FileName.{FileName}
+use Rattle.file_paths.specs.Paths.{path_text, IsStoreFile}
+use Rattle.folder_model.specs.Paths.{folder_at}
+use Rattle.folder_model.specs.System.{Node, Nothing, PlainFile, AFolder, Another, System, IsSystem, IsContent, MayStand, with_content, with_synced_file}
+use Rattle.folder_model.specs.Calls.{Modelled, IfModelled, IsDoneOrNot, HasPassed, done_by}
+use Rattle.disk_files.specs.Follows.{octets_at, CoversFile, StaysFolder, FollowsPath, FollowsSystem}
+use Rattle.disk_files.proofs.StepLemmas.{stays-like, content-same, content-apart}
+use Rattle.folder_disk.specs.Folders.{IsUnseen}
+use Rattle.folder_disk.specs.Over.{IsDiskOf}
+use Rattle.folder_disk.proofs.ChangeLemmas.{content_stays}
+use Rattle.folder_disk.proofs.UnseenLemmas.{unseen_step}
+
+if_sound : (sound : Bool) (f g : FileState) → CoversFile g f → IsContent f → CoversFile g (if sound then synced f else f)
+if_sound false f g covers is = covers
+if_sound true f g covers is =
+    let wide_least : g.least ≤ f.least = covers.least in
+    let least : f.least ≤ length f.octets = is.least in
+    let wide_greatest : f.greatest ≤ g.greatest = covers.greatest in
+    let greatest : length f.octets ≤ f.greatest = is.greatest in
+    record { least = omega (arith, wide_least, least); greatest = omega (arith, wide_greatest, greatest); firm = λ i below firm. refl; same = covers.same }
+
+octets_if : (sound : Bool) (f : FileState) → (if sound then synced f else f).octets ≡ f.octets
+octets_if true f = refl
+octets_if false f = refl
+
+-- the content of each file, after a sync of one
+synced_content : (number n : ℕ) (s : System) (P : FileState → Type 0) → (n ≡ number → P (if s.is_sound then synced (s.content n) else s.content n)) → P (s.content n) → P ((with_synced_file number s).content n)
+synced_content number n s P here elsewhere = elim (cases_eq n number) [
+  | inl is ↦
+      let F : ℕ → Type 0 = λ k. P ((with_synced_file number s).content k) in
+      let G : ℕ → Type 0 = λ k. P (if s.is_sound then synced (s.content k) else s.content k) in
+      subst F (sym is) (subst P (sym (content-same number (λ f. if s.is_sound then synced f else f) s)) (subst G is (here is)))
+  | inr apart ↦ subst P (sym (content-apart number n (λ f. if s.is_sound then synced f else f) s apart)) elsewhere
+]
+
+settled_octets : (number : ℕ) (s : System) (node : Node) → octets_at s node ≡ octets_at (with_synced_file number s) node
+settled_octets number s Nothing = refl
+settled_octets number s (PlainFile n) = synced_content number n s (λ f. Some (s.content n).octets ≡ Some f.octets) (λ e. ap Some (sym (octets_if s.is_sound (s.content n)))) refl
+settled_octets number s AFolder = refl
+settled_octets number s Another = refl
+
+settled_follows : (number : ℕ) (disk : DiskState) (s : System) → IsSystem s → FollowsSystem disk s → FollowsSystem disk (with_synced_file number s)
+settled_follows number disk s system follows name file =
+    let path = path_text name in
+    let old = follows name file in
+    record {
+      reads = old.reads ∙ settled_octets number s (s.node path);
+      holds = λ n may. synced_content number n s (CoversFile (disk name)) (λ e. if_sound s.is_sound (s.content n) (disk name) (old.holds n may) (system.contents n)) (old.holds n may);
+      firm = old.firm;
+      stays = λ firm there. stays-like s (with_synced_file number s) (λ p node may. may) (folder_at path) (old.stays firm there);
+    }
+
+-- a file was synced where no change is told
+pub settled_unseen : (number : ℕ) (old new : Option Modelled) (before after : List System) → IfModelled old IsSystem → new ≡ done_by (with_synced_file number) old → HasPassed old before new after
+    → IsUnseen old before new after false
+settled_unseen number old new before after system done has =
+    unseen_step (with_synced_file number) IsSystem old new before after (λ s. refl)
+    (λ disk s is d. record { follows = settled_follows number disk s is d.follows; system = content_stays number (λ f. if s.is_sound then synced f else f) s d.system }) system done has

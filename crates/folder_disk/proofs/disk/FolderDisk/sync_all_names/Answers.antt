@@ -1,0 +1,54 @@
+use Rattle.std.proofs.Common.{◌≡◌, ℕ, List, [], ◌∷◌, Bool, true, false, sym, subst}
+use Rattle.std.proofs.lemmas.Bool.{false≢true}
+use Rattle.disk_model.specs.Disk.{after}
+use Rattle.disk_record.specs.Record.{state_after}
+use Rattle.disk_record.specs.declared.change.Change.{Change}
+use Rattle.disk_record.specs.declared.change.Change.TheVariants as change
+use Rattle.folder_model.specs.Calls.{IsLocked}
+use Rattle.folder_disk.specs.Over.{IsDiskOver, told_history}
+use Rattle.folder_disk.proofs.disk.FolderDisk.sync_all_names.Goals as goal
+
+pub invariant_of-self-clause-over : goal.invariant_of-self-clause-over
+invariant_of-self-clause-over g c =
+    let self = c.args.self.now in
+    let old = g.F.Folder.modelled self.folder in
+    let new = g.F.Folder.modelled c.sync_all.new.folder in
+    let before = g.F.Folder.past self.folder in
+    let later = g.F.Folder.past c.sync_all.new.folder in
+    let changes = self.record.changes in
+    let P : List (Change × List ℕ) → Type 0 = λ l. ∥ IsDiskOver new later l self.is_spoiled ∥₁ in
+    let Q : Bool → Type 0 = λ b. ∥ IsDiskOver new later ((change.NamesSynced, []) ∷ changes) b ∥₁ in
+    let R : Bool → Type 0 = λ b. ∥ IsDiskOver old before changes b ∥₁ in
+    subst P (sym c.note.ensures) (subst Q (sym c.requires.spoiled) (c.in-Ok.ensures.ok.over changes (subst R c.requires.spoiled self.over)))
+
+pub invariant_of-self-clause-locked : goal.invariant_of-self-clause-locked
+invariant_of-self-clause-locked g c = ∣ (λ held sound. c.in-Ok.ensures.ok.locked c.requires.locked) ∣₁
+
+pub returns-in-Ok-clause-state : goal.returns-in-Ok-clause-state
+returns-in-Ok-clause-state g c =
+    let self = c.args.self.now in
+    let new = g.F.Folder.modelled c.sync_all.new.folder in
+    let P : List (Change × List ℕ) → Type 0 = λ l. told_history new l ≡ after (state_after (change.NamesSynced) []) (told_history (g.F.Folder.modelled self.folder) self.record.changes) in
+    subst P (sym c.note.ensures) (c.in-Ok.ensures.ok.told self.record.changes)
+
+pub invariant_of-self-in-Err-clause-over : goal.invariant_of-self-in-Err-clause-over
+invariant_of-self-in-Err-clause-over g c =
+    let self = c.args.self.now in
+    let old = g.F.Folder.modelled self.folder in
+    let new = g.F.Folder.modelled c.sync_all.new.folder in
+    let before = g.F.Folder.past self.folder in
+    let later = g.F.Folder.past c.sync_all.new.folder in
+    let changes = self.record.changes in
+    let P : List (Change × List ℕ) → Type 0 = λ l. ∥ IsDiskOver new later l true ∥₁ in
+    let R : Bool → Type 0 = λ b. ∥ IsDiskOver old before changes b ∥₁ in
+    subst P (sym c.note-in-Err.ensures) (c.in-Err.ensures.err.over changes (subst R c.requires.spoiled self.over))
+
+pub invariant_of-self-in-Err-clause-locked : goal.invariant_of-self-in-Err-clause-locked
+invariant_of-self-in-Err-clause-locked g c = ∣ (λ h s. absurd (false≢true (sym s))) ∣₁
+
+pub returns-in-Err-clause-failed : goal.returns-in-Err-clause-failed
+returns-in-Err-clause-failed g c =
+    let self = c.args.self.now in
+    let new = g.F.Folder.modelled c.sync_all.new.folder in
+    let P : List (Change × List ℕ) → Type 0 = λ l. told_history new l ≡ after (state_after (change.Nothing) []) (told_history (g.F.Folder.modelled self.folder) self.record.changes) in
+    subst P (sym c.note-in-Err.ensures) (c.in-Err.ensures.err.told self.record.changes)
