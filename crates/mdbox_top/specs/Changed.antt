@@ -1,22 +1,16 @@
 -- What a request alone of several events makes of a store that it may change.
-use Rattle.std.specs.Prelude.{◌≡◌, ◌⊎◌, ℕ, Bool, List, if◌then◌else◌, Option, Some, None}
+use Rattle.std.specs.Prelude.{◌≡◌, ◌⊎◌, ℕ, List, Option, Some, None}
 use Rattle.disk_model.specs.Disk.{Files, History, Faults, EachImage}
-use Rattle.mdbox_base.specs.declared.ids.Guid.{Guid}
-use Rattle.mdbox_base.specs.declared.ids.Uid.{Uid}
 use Rattle.mdbox_base.specs.declared.replies.Refusal.{Refusal}
 use Rattle.mdbox_base.specs.declared.replies.Refusal.TheVariants as refusal
 use Rattle.mdbox_base.specs.declared.replies.Reply.{Reply}
 use Rattle.mdbox_base.specs.declared.replies.Reply.TheVariants as reply
-use Rattle.mdbox_base.specs.declared.requests.Request.{Request}
-use Rattle.mdbox_base.specs.declared.requests.Request.TheVariants as request
 use Rattle.model_lists.specs.Lists.{Lists, AreWellFormed}
-use Rattle.list_machine.specs.Machine.{add_message, expunge}
 use Rattle.model_meaning.specs.BoxMeaning.{BoxMeaning}
 use Rattle.model_meaning.specs.MapMeaning.{MapMeaning}
 use Rattle.model_store.specs.Listing.{ShowLists}
 use Rattle.model_store.specs.Safe.{Safe}
 use Rattle.model_store.specs.Settled.{IsSettledFor, Leaves}
-use Rattle.mail_ops.specs.Copy.{copied_lists}
 use Rattle.task_claims.specs.Leaving.{SyncsMail}
 use Rattle.store_open.specs.Opened.{IsOpenedAs, StoreCarries, KeepsOpenedMail}
 use Rattle.store_sweep.specs.Moments.{NoFailedChange}

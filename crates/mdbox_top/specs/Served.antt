@@ -1,10 +1,9 @@
 -- What a request alone makes of a store, and how it ends.
-use Rattle.std.specs.Prelude.{◌≡◌, ◌≤◌, ◌⊎◌, ℕ, List, [], ◌∷◌, is_some, if◌then◌else◌, Option, Some, None}
+use Rattle.std.specs.Prelude.{◌≡◌, ◌≤◌, ◌⊎◌, ℕ, List, [], is_some, if◌then◌else◌, Option, Some, None}
 use Rattle.std.specs.Option.{option_map_or}
-use Rattle.disk_model.specs.Disk.{told_calls, History, Faults, EachImage, IsIdle}
+use Rattle.disk_model.specs.Disk.{History, Faults, IsIdle}
 use Rattle.disk_model.specs.FaultCounts.{NoFault}
 use Rattle.mdbox_base.specs.Streams.{Appended, Rose}
-use Rattle.mdbox_base.specs.declared.entries.Highest.{Highest}
 use Rattle.mdbox_base.specs.declared.replies.Refusal.{Refusal}
 use Rattle.mdbox_base.specs.declared.replies.Refusal.TheVariants as refusal
 use Rattle.mdbox_base.specs.declared.replies.Reply.{Reply}
@@ -12,11 +11,6 @@ use Rattle.mdbox_base.specs.declared.replies.Reply.TheVariants as reply
 use Rattle.mdbox_base.specs.declared.requests.Request.{Request}
 use Rattle.model_lists.specs.Lists.{Lists}
 use Rattle.model_meaning.specs.BoxMeaning.{BoxMeaning, row_at}
-use Rattle.model_meaning.specs.MapMeaning.{MapMeaning, map_meaning}
-use Rattle.model_store.specs.Settled.{IsSettledFor}
-use Rattle.list_machine.specs.Run.{Run}
-use Rattle.journal.specs.Journal.{JournalStep, Broken, left_by}
-use Rattle.journal.specs.Makes.{IsServed}
 use Rattle.store_open.specs.Making.{IdleUnless}
 use Rattle.store_open.specs.Opened.{Opening, IsOpeningError, KeepsOpenedMail}
 use Rattle.store_open.specs.declared.error.OpenError.{OpenError}
@@ -26,10 +20,9 @@ use Rattle.request_text.specs.Outcomes.{reply_outcome}
 use Rattle.request_text.specs.ReplyText.{single_text}
 use Rattle.request_text.specs.declared.outcome.Outcome.{Outcome}
 use Rattle.request_text.specs.declared.outcome.Outcome.TheVariants as outcome
-use Rattle.script_run.specs.Opening.{AreSafeFor, RunBegins, RunHasCome}
+use Rattle.script_run.specs.Opening.{AreSafeFor}
 use Rattle.script_run.specs.One.{ServesRequest}
 use Rattle.mdbox_top.specs.OpeningOutcome.{opening_outcome}
-use Rattle.task_steps.specs.Serves.{AreTimely, IsReached}
 
 -- The counts of the disk's faults, by what was replied: they never fall, a read fault is replied only if that of failed reads alone
 -- rose, and that the store is stopped only if that of failed changes alone did. With any other reply no call failed.

@@ -5,7 +5,7 @@ use Rattle.mdbox_base.specs.declared.replies.Reply.{Reply}
 use Rattle.mdbox_base.specs.declared.requests.Request.{Request}
 use Rattle.model_lists.specs.Lists.{Lists}
 use Rattle.list_machine.specs.Run.{Run}
-use Rattle.journal.specs.Journal.{Requests, JournalStep, Broken, left_by, steps_of}
+use Rattle.journal.specs.Journal.{JournalStep, Broken, left_by, steps_of}
 use Rattle.journal.specs.Makes.{AreReplies, AreTold, StaysStopped, WouldDo}
 use Rattle.store_core.specs.Value.{StoreValue}
 use Rattle.store_seen.specs.Seeing.{seen_of}

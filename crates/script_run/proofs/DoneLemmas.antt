@@ -1,13 +1,10 @@
 -- A script is done, from the opening of the store to the end of the last lane.
-use Rattle.std.specs.Prelude.{◌≡◌, ◌≢◌, ◌<◌, ◌≤◌, ◌+◌, ◌-◌, ◌*◌, ◌==◌, ◌&&◌, ◌||◌, ◌++◌, ◌⊎◌, ◌^◌, ℕ, min, zero, suc, Bool, true, false, cond, List, [], ◌∷◌, All, Contains, length, map, replicate, slice_get, is_some, count_by, Option, Some, None}
-use Rattle.std.specs.List.{list_any}
+use Rattle.std.specs.Prelude.{◌≡◌, ◌≢◌, ◌<◌, ◌≤◌, ◌||◌, ℕ, zero, suc, Bool, true, false, List, [], ◌∷◌, All, Contains, length, map, replicate, slice_get, Option, Some, None}
 use Rattle.std.proofs.Common.{refl, sym, ◌∙◌, ap, subst, arith, inl, inr}
 use Rattle.std.proofs.lemmas.List.{length-map}
 use Rattle.std.proofs.lemmas.Option.{slice_get_within}
-use Rattle.std.proofs.lemmas.List.Elements.{All-nil, All-weaker}
-use Rattle.disk_model.specs.Disk.{Faults, Grows, History, IsIdle, IsMoment, IsTold, IfTold, told_calls}
+use Rattle.disk_model.specs.Disk.{Faults, History, IsIdle, IsMoment, told_calls}
 use Rattle.disk_model.proofs.IdleLemmas.{idle-begins}
-use Rattle.mdbox_base.specs.Streams.{Rose}
 use Rattle.mdbox_base.specs.declared.ids.Uid.{Uid}
 use Rattle.mdbox_base.specs.declared.replies.Refusal.TheVariants as refusal
 use Rattle.mdbox_base.specs.declared.replies.Reply.{Reply}
@@ -17,9 +14,8 @@ use Rattle.mdbox_base.specs.declared.requests.Request.{Request}
 use Rattle.mdbox_base.specs.declared.requests.Request.TheVariants as request
 use Rattle.model_kept.specs.Kept.{MailIsKept}
 use Rattle.model_lists.specs.Lists.{Lists}
-use Rattle.model_meaning.specs.MapMeaning.{MapMeaning}
 use Rattle.model_store.specs.Settled.{IsSettledFor}
-use Rattle.list_machine.specs.Run.{Run, RunEvent, reply_of}
+use Rattle.list_machine.specs.Run.{Run, reply_of}
 use Rattle.journal.specs.Events.{Around, is_fault}
 use Rattle.journal.specs.Makes.{AreNextEvents, HasCome}
 use Rattle.journal.specs.Journal.{Broken, HasReply, IsLegal, JournalStep, Requests, no_broken}
@@ -35,7 +31,6 @@ use Rattle.task_steps.proofs.OneEventLemmas.{not_true}
 use Rattle.mail_fetch.specs.Task.{seen_in}
 use Rattle.lanes.specs.Going.{AreFreshRows, IsGoing}
 use Rattle.lanes.specs.Rows.{LaneRow, lane_value, lanes_of}
-use Rattle.lane_tasks.specs.Tasks.{HasTask}
 use Rattle.attach_detach.specs.declared.message.Prepared.{Prepared}
 use Rattle.lanes.specs.Worlds.{AreGiven, AreOfLanes, ArePartsOf, GoesOnBy, HasItsMessage, IsFreshWorld, IsWorldOf, PartsValue, WorldValue, and_events}
 use Rattle.lanes.proofs.TraceLemmas.{as_finished, world_finished}

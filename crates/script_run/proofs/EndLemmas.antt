@@ -1,12 +1,10 @@
 -- A script that lanes have served to its end, from the disk as it was before the store was opened.
-use Rattle.std.specs.Prelude.{◌≡◌, ◌<◌, ◌+◌, ℕ, zero, suc, false, true, List, [], ◌∷◌, All, length, map, slice_get, Option, Some, None, Contains}
-use Rattle.std.proofs.Common.{refl, sym, ◌∙◌, ap, subst, arith, inl, inr}
+use Rattle.std.specs.Prelude.{◌≡◌, ◌<◌, ℕ, suc, false, true, List, [], ◌∷◌, All, length, map, slice_get, Option, Some, None}
+use Rattle.std.proofs.Common.{refl, sym, ◌∙◌, ap, subst, arith}
 use Rattle.std.proofs.lemmas.List.Elements.{All-cons, All-nil}
 use Rattle.disk_model.specs.Disk.{History, Faults, EachImage, IfTold, IsIdle}
 use Rattle.disk_model.proofs.MomentLemmas.{each_image-map}
-use Rattle.mdbox_base.specs.declared.replies.Refusal.TheVariants as refusal
 use Rattle.mdbox_base.specs.declared.replies.Reply.{Reply}
-use Rattle.mdbox_base.specs.declared.replies.Reply.TheVariants as reply
 use Rattle.mdbox_base.specs.declared.script.JournalEntry.{JournalEntry}
 use Rattle.model_kept.specs.Kept.{MailIsKept}
 use Rattle.model_lists.specs.Lists.{Lists}
@@ -16,9 +14,8 @@ use Rattle.model_store.specs.Safe.{Safe}
 use Rattle.model_store.specs.Settled.{files_of, IsSettledFor}
 use Rattle.list_machine.specs.Run.{Run}
 use Rattle.journal.specs.Journal.{Broken, HasReply, JournalStep, Requests, moment_of, no_broken, refusal_in}
-use Rattle.journal.specs.Makes.{IsServed, StaysStopped}
+use Rattle.journal.specs.Makes.{StaysStopped}
 use Rattle.journal.proofs.ReachedLemmas.{reached_last}
-use Rattle.serving.specs.Serving.{IsServing}
 use Rattle.store_core.specs.Running.{IsStore}
 use Rattle.store_core.specs.Value.{StoreValue, indexes_of}
 use Rattle.task_steps.specs.Serves.{IsReached, Serves}
@@ -28,8 +25,8 @@ use Rattle.mail_fetch.specs.Task.{seen_in}
 use Rattle.lanes.specs.Going.{IsGoing, TellsDamage}
 use Rattle.lanes.specs.Rows.{LaneRow}
 use Rattle.lanes.specs.Worlds.{AreEntriesAt}
-use Rattle.script_run.specs.Opening.{LogsShowLists, RunBegins}
-use Rattle.script_run.specs.Script.{HasStopped, IsMadeBefore, IsRefusedAtOnce, OpensShowing, ServesScript}
+use Rattle.script_run.specs.Opening.{RunBegins}
+use Rattle.script_run.specs.Script.{HasStopped, IsMadeBefore, IsRefusedAtOnce, ServesScript}
 use Rattle.script_run.proofs.RunBeginsLemmas.{before_opening, first_map, run_ends}
 use Rattle.script_run.proofs.ShownLemmas.{opens_again}
 

@@ -12,7 +12,7 @@ use Rattle.mdbox_base.specs.declared.replies.Reply.TheVariants as reply
 use Rattle.mdbox_base.specs.declared.requests.Request.{Request}
 use Rattle.mdbox_base.specs.declared.requests.Request.TheVariants as request
 use Rattle.model_lists.specs.Lists.{Lists}
-use Rattle.list_machine.specs.Machine.{checks_of, first_refusal, is_step, part_checks}
+use Rattle.list_machine.specs.Machine.{first_refusal, is_step, part_checks}
 use Rattle.list_machine.specs.Run.{EventPart, Last, ReadsPiece, Unpins, RemovesFile, RunEvent, Run, and_then, before, first_in, own_events, reply_of}
 use Rattle.journal.specs.Events.{Around, IsEvent, IsRepliedBy, MayMeet, behind_addition, behind_event, behind_fetch, behind_piece, behind_refused, has_memory, is_fault, is_faulted, is_piece, last_refusal, leaves_doomed, next_part, reads_octets}
 use Rattle.journal.specs.Journal.{JournalStep, Requests, refusal_in}

@@ -4,9 +4,8 @@ use Rattle.std.specs.List.{list_any}
 use Rattle.std.proofs.Common.{◌≡◌, ◌≤◌, ℕ, zero, suc, Bool, true, false, List, [], ◌∷◌, All, Option, Some, None, refl, sym, ◌∙◌, ap, subst, arith}
 use Rattle.std.proofs.lemmas.List.{append-nil, append_assoc}
 use Rattle.std.proofs.lemmas.List.Elements.{All-cons, All-head, All-nil, All-tail, All-weaker}
-use Rattle.disk_model.specs.Disk.{Faults, Grows, History, IsIdle, told_calls}
+use Rattle.disk_model.specs.Disk.{Faults, History, IsIdle, told_calls}
 use Rattle.disk_model.proofs.IdleLemmas.{idle-begins, idle-then}
-use Rattle.mdbox_base.specs.declared.replies.Reply.{Reply}
 use Rattle.mdbox_base.specs.declared.replies.Reply.TheVariants as reply
 use Rattle.mdbox_base.specs.declared.requests.Request.{Request}
 use Rattle.mdbox_base.specs.declared.requests.Request.TheVariants as request
@@ -20,7 +19,7 @@ use Rattle.lane_tasks.specs.declared.task.Task.{Task}
 use Rattle.lane_tasks.specs.declared.task.Task.TheVariants as task
 use Rattle.lanes.specs.Going.{AreFreshRows, IsFreshRow, WaitsWithTask}
 use Rattle.lanes.specs.Rows.{LaneRow}
-use Rattle.lanes.specs.Worlds.{GoesInRounds, IsLaneEvent, IsWorldOf, WorldValue, and_events, queued_in}
+use Rattle.lanes.specs.Worlds.{GoesInRounds, IsWorldOf, WorldValue, and_events, queued_in}
 use Rattle.lanes.specs.declared.lane.Queued.{Queued}
 use Rattle.script_run.specs.Script.{IsRefusedAtOnce, has_change, has_delivery, is_delivery, only_reads}
 use Rattle.script_run.proofs.ChainLemmas.{AllTasks, NoDelivery, in_turn, tasks_after}

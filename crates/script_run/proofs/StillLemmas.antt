@@ -1,7 +1,7 @@
 -- A store that wasn't opened for lack of memory, before any call of its disk.
-use Rattle.std.specs.Prelude.{◌≡◌, Option, Some, None}
+use Rattle.std.specs.Prelude.{Option, Some, None}
 use Rattle.std.proofs.Common.{refl, arith}
-use Rattle.disk_model.specs.Disk.{Faults, History, IfTold}
+use Rattle.disk_model.specs.Disk.{Faults, History}
 use Rattle.disk_model.proofs.IdleLemmas.{idle-begins}
 use Rattle.model_meaning.specs.MapMeaning.{map_meaning}
 use Rattle.task_steps.proofs.UnmovedLemmas.{mail_still}

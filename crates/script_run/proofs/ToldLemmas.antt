@@ -1,11 +1,10 @@
 -- The lists that a request alone leaves, by what it was replied.
-use Rattle.std.specs.Prelude.{◌≡◌, ◌≤◌, ℕ, zero, suc, Bool, true, false, List, [], ◌∷◌, ◌++◌, ◌+◌, ◌⊎◌, if◌then◌else◌, length, map, slice_get, is_none, Option, Some, None}
+use Rattle.std.specs.Prelude.{◌≡◌, ◌≤◌, ℕ, zero, suc, Bool, List, [], ◌∷◌, ◌⊎◌, if◌then◌else◌, length, map, slice_get, Option, Some}
 use Rattle.std.specs.Option.{option_map_or}
 use Rattle.std.proofs.Common.{refl, sym, ◌∙◌, ap, subst, arith, inl, inr}
 use Rattle.std.proofs.lemmas.Option.{slice_get_within}
 use Rattle.std.proofs.lemmas.List.{length-map, length-append}
 use Rattle.disk_model.specs.Disk.{Faults, History}
-use Rattle.mdbox_base.specs.declared.ids.Guid.{Guid}
 use Rattle.mdbox_base.specs.declared.ids.Uid.{Uid}
 use Rattle.mdbox_base.specs.declared.replies.Refusal.{Refusal}
 use Rattle.mdbox_base.specs.declared.replies.Refusal.TheVariants as refusal
@@ -16,14 +15,14 @@ use Rattle.mdbox_base.specs.declared.requests.Request.TheVariants as request
 use Rattle.mdbox_base.specs.declared.script.Half.{Half}
 use Rattle.mdbox_base.specs.declared.script.JournalEntry.{JournalEntry}
 use Rattle.model_lists.specs.Lists.{ListedMessage, Lists}
-use Rattle.list_machine.specs.Machine.{Answers, Does, PartAnswers, add_message, expunge, message_at}
+use Rattle.list_machine.specs.Machine.{Does, PartAnswers, add_message, expunge, message_at}
 use Rattle.list_machine.specs.Run.{EventPart, First, Last, SecondHalf, Run, RunEvent, before}
-use Rattle.journal.specs.Journal.{AreSteps, IsFirstPart, IsLegal, IsReplyOf, IsStep, JournalStep, Requests, halves_of, left_by, steps_of}
+use Rattle.journal.specs.Journal.{AreSteps, IsFirstPart, IsLegal, IsReplyOf, IsStep, JournalStep, halves_of, left_by, steps_of}
 use Rattle.journal.proofs.AloneLemmas.{all_own}
 use Rattle.mail_ops.specs.Copy.{copied_lists}
 use Rattle.model_store.specs.Settled.{IsSettledFor}
 use Rattle.script_run.specs.Done.{IsScriptDone, MayRead}
-use Rattle.script_run.specs.One.{AreListsTold, IsUnfailed, ServesRequest, lists_behind, lists_told, saved_lists}
+use Rattle.script_run.specs.One.{AreListsTold, IsUnfailed, ServesRequest, lists_told}
 use Rattle.script_run.specs.Opening.{AreSafeFor}
 use Rattle.script_run.specs.Script.{HasStopped}
 

@@ -1,4 +1,4 @@
-use Rattle.std.proofs.Common.{sym, subst}
+use Rattle.std.proofs.Common.{subst}
 use Rattle.script_run.proofs.DoneLemmas.{EndedParts, handed_back, no_task, run_done}
 use Rattle.script_run.proofs.RunBeginsLemmas.{OpenedNow}
 use Rattle.script_run.proofs.StillLemmas.{unopened_still}
