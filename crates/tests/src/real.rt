@@ -1,7 +1,6 @@
 // The disk over the system's files, in the folder that the tests run in, and the system's clock.
 
 mod calls;
-mod folder;
 mod many;
 mod strange;
 mod whole;

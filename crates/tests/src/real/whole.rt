@@ -1,5 +1,5 @@
 // One test runs the cases one after the other, since they share a folder and its lock.
-use crate::real::{calls, folder, many, strange};
+use crate::real::{calls, many, strange};
 use disk_model::FileName;
 use mdbox_base::Clock;
 use os_folder::StdClock;
@@ -29,15 +29,6 @@ fn real_files(rt: HostRuntime) -> Result<(), Fail> {
     strange::names_of_no_store(&rt, rt)?;
     many::few_files_stay_open(&rt, rt)?;
     many::strays_are_swept_in_one_walk(&rt, rt)
-}
-
-#[test]
-fn folder_calls(rt: HostRuntime) -> Result<(), Fail> {
-    folder::a_second_folder_reads_the_same(&rt, rt)?;
-    folder::reads_write_nothing(&rt, rt)?;
-    folder::a_lock_is_held(&rt, rt)?;
-    folder::others_are_no_folders(&rt, rt)?;
-    folder::what_may_not_be_read_is_there(&rt, rt)
 }
 
 #[test]
