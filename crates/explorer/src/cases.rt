@@ -2,15 +2,18 @@
 use crate::damage::{Damage, Damaged};
 use crate::files::{clear, octets_of, push_paths, put};
 use crate::runs::{Run, perform};
-use crate::setting::Setting;
+use crate::setting::{Place, Setting};
 use crate::streams::Streams;
 use crate::trial::Trial;
 use crate::trouble::Trouble;
+use crate::turns::{FolderTrial, perform_in};
 use case_text::{Command, Counts, Page, Stream, Taken, push_shown};
 use disk_mem::MemDisk;
 use disk_model::{Disk, FileName};
 use disk_real::RealDisk;
 use file_paths::name_of_path;
+use folder_disk::FolderDisk;
+use folder_mem::BareFolder;
 use mdbox_base::{NoMemory, Seq};
 use std::alloc::Global;
 use std::{fs, mem};
@@ -23,6 +26,7 @@ pub struct Cases {
     page: Page,
     setting: Setting,
     disk: MemDisk,
+    folder: BareFolder,
     /// How many calls of the disk the last run made.
     calls: u64,
 }
@@ -46,6 +50,7 @@ impl Cases {
             page: Page::empty(alloc),
             setting: Setting::none(alloc),
             disk: MemDisk::fresh(alloc)?,
+            folder: BareFolder::empty(alloc),
             calls: 0,
         })
     }
@@ -111,6 +116,10 @@ impl Cases {
         match command.word {
             "case" => self.begin(rest),
             "real" => self.begin_real(),
+            "folder" => {
+                self.setting.place = Place::Folder;
+                Ok(true)
+            }
             "load" => self.load(command),
             "keep" => self.keep(command),
             "file" => self.lay(command, true),
@@ -128,6 +137,10 @@ impl Cases {
                 self.setting.narrow = true;
                 Ok(true)
             }
+            "held" => {
+                self.setting.held = true;
+                Ok(true)
+            }
             "fail" => Ok(self.setting.fail(rest)),
             _ => self.run_line(command),
         }
@@ -137,13 +150,14 @@ impl Cases {
     fn begin(&mut self, title: &str) -> Result<bool, Trouble> {
         self.page.report.begin(title)?;
         self.disk = MemDisk::fresh(self.alloc)?;
+        self.folder = BareFolder::empty(self.alloc);
         self.setting = Setting::none(self.alloc);
         Ok(true)
     }
 
     /// Goes on in the folder of the system that the program runs in, whose files are removed.
     fn begin_real(&mut self) -> Result<bool, Trouble> {
-        self.setting.real = true;
+        self.setting.place = Place::System;
         let mut disk = RealDisk::of(self.rt);
         clear(&mut disk)?;
         disk.sync_names()?;
@@ -175,11 +189,15 @@ impl Cases {
 
     /// The octets of a file of the store. None if it isn't there.
     fn octets(&mut self, name: FileName) -> Result<Option<Vec<u8>>, Trouble> {
-        if self.setting.real {
-            let mut disk = RealDisk::of(self.rt);
-            octets_of(self.alloc, &mut disk, name)
-        } else {
-            octets_of(self.alloc, &mut self.disk, name)
+        match self.setting.place {
+            Place::Disk => octets_of(self.alloc, &mut self.disk, name),
+            Place::Folder => {
+                let mut disk = self.folder_disk();
+                let octets = octets_of(self.alloc, &mut disk, name)?;
+                self.folder = disk.into_folder().kill()?;
+                Ok(octets)
+            }
+            Place::System => octets_of(self.alloc, &mut RealDisk::of(self.rt), name),
         }
     }
 
@@ -192,11 +210,15 @@ impl Cases {
         let Some(octets) = self.page.texts.octets(text)? else {
             return Ok(false);
         };
-        if self.setting.real {
-            let mut disk = RealDisk::of(self.rt);
-            put(&mut disk, name, octets.as_slice(), synced)?;
-        } else {
-            put(&mut self.disk, name, octets.as_slice(), synced)?;
+        let octets = octets.as_slice();
+        match self.setting.place {
+            Place::Disk => put(&mut self.disk, name, octets, synced)?,
+            Place::Folder => {
+                let mut disk = self.folder_disk();
+                put(&mut disk, name, octets, synced)?;
+                self.folder = disk.into_folder().kill()?;
+            }
+            Place::System => put(&mut RealDisk::of(self.rt), name, octets, synced)?,
         }
         Ok(true)
     }
@@ -205,12 +227,24 @@ impl Cases {
         let Some(name) = name_of_path(path.as_bytes()) else {
             return Ok(false);
         };
-        self.disk.remove(name)?;
+        if self.setting.place == Place::Folder {
+            let mut disk = self.folder_disk();
+            disk.remove(name)?;
+            self.folder = disk.into_folder().kill()?;
+        } else {
+            self.disk.remove(name)?;
+        }
         Ok(true)
     }
 
     fn sync(&mut self) -> Result<bool, Trouble> {
-        self.disk.sync_names()?;
+        if self.setting.place == Place::Folder {
+            let mut disk = self.folder_disk();
+            disk.sync_names()?;
+            self.folder = disk.into_folder().kill()?;
+        } else {
+            self.disk.sync_names()?;
+        }
         Ok(true)
     }
 
@@ -233,12 +267,18 @@ impl Cases {
 
     /// Tells the paths of all files.
     fn files(&mut self) -> Result<bool, Trouble> {
-        let out = self.page.report.found();
-        if self.setting.real {
-            let mut disk = RealDisk::of(self.rt);
-            push_paths(self.alloc, &mut disk, out)?;
-        } else {
-            push_paths(self.alloc, &mut self.disk, out)?;
+        match self.setting.place {
+            Place::Disk => push_paths(self.alloc, &mut self.disk, self.page.report.found())?,
+            Place::Folder => {
+                let mut disk = self.folder_disk();
+                push_paths(self.alloc, &mut disk, self.page.report.found())?;
+                self.folder = disk.into_folder().kill()?;
+            }
+            Place::System => push_paths(
+                self.alloc,
+                &mut RealDisk::of(self.rt),
+                self.page.report.found(),
+            )?,
         }
         Ok(true)
     }
@@ -317,6 +357,15 @@ impl Cases {
     }
 
     fn explore(&mut self, run: Run<'_>) -> Result<(), NoMemory> {
+        if self.setting.place == Place::Folder {
+            let trial = FolderTrial {
+                alloc: self.alloc,
+                run,
+                watches: self.setting.watches.as_slice(),
+                between: self.setting.between.as_slice(),
+            };
+            return trial.explore(&self.folder, &mut self.page.report);
+        }
         let trial = Trial {
             alloc: self.alloc,
             run,
@@ -330,11 +379,14 @@ impl Cases {
     fn run(&mut self, run: Run<'_>, wanted: u8) -> Result<(), NoMemory> {
         let (fails, narrow) = (self.setting.fails, self.setting.narrow);
         let mut streams = Streams::of(self.alloc, run.input, fails, narrow)?;
-        let status = if self.setting.real {
-            let (_, status) = perform(self.alloc, RealDisk::of(self.rt), run.words, &mut streams);
-            status
-        } else {
-            self.perform(run, &mut streams)?
+        let status = match self.setting.place {
+            Place::Disk => self.perform(run, &mut streams)?,
+            Place::Folder => self.perform_in_folder(run, &mut streams)?,
+            Place::System => {
+                let disk = RealDisk::of(self.rt);
+                let (_, status) = perform(self.alloc, disk, run.words, &mut streams);
+                status
+            }
         };
         self.setting.end_run();
         self.page.report.count_run();
@@ -344,6 +396,24 @@ impl Cases {
         }
         self.tell(Stream::Output, streams.printed())?;
         self.tell(Stream::Errors, streams.said())
+    }
+
+    /// A disk over the folder in memory, which is taken out.
+    fn folder_disk(&mut self) -> FolderDisk<BareFolder> {
+        let empty = BareFolder::empty(self.alloc);
+        FolderDisk::of(mem::replace(&mut self.folder, empty), self.alloc)
+    }
+
+    /// Does a run over the folder in memory, in a process of its own.
+    fn perform_in_folder(&mut self, run: Run<'_>, streams: &mut Streams) -> Result<u8, NoMemory> {
+        let empty = BareFolder::empty(self.alloc);
+        let folder = mem::replace(&mut self.folder, empty)
+            .going(Seq::empty(self.alloc), 0)
+            .held(self.setting.held);
+        let (left, status) = perform_in(self.alloc, folder, run, streams);
+        self.calls = left.calls();
+        self.folder = left.kill()?.held(false);
+        Ok(status)
     }
 
     /// Does a run on the disk in memory.

@@ -16,6 +16,7 @@ mod setting;
 mod streams;
 mod trial;
 mod trouble;
+mod turns;
 
 /// The first file has octets that the cases of the others name.
 fn main(rt: HostRuntime) -> Result<()> {
