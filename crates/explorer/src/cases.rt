@@ -1,19 +1,17 @@
 // The lines of cases, done on a disk.
 use crate::damage::{Damage, Damaged};
 use crate::files::{clear, octets_of, push_paths, put};
+use crate::folder::CaseFolder;
 use crate::runs::{Run, perform};
 use crate::setting::{Place, Setting};
 use crate::streams::Streams;
 use crate::trial::Trial;
 use crate::trouble::Trouble;
-use crate::turns::{FolderTrial, perform_in};
 use case_text::{Command, Counts, Page, Stream, Taken, push_shown};
 use disk_mem::MemDisk;
 use disk_model::{Disk, FileName};
 use disk_real::RealDisk;
 use file_paths::name_of_path;
-use folder_disk::FolderDisk;
-use folder_mem::BareFolder;
 use mdbox_base::{NoMemory, Seq};
 use std::alloc::Global;
 use std::{fs, mem};
@@ -26,7 +24,7 @@ pub struct Cases {
     page: Page,
     setting: Setting,
     disk: MemDisk,
-    folder: BareFolder,
+    folder: CaseFolder,
     /// How many calls of the disk the last run made.
     calls: u64,
 }
@@ -50,7 +48,7 @@ impl Cases {
             page: Page::empty(alloc),
             setting: Setting::none(alloc),
             disk: MemDisk::fresh(alloc)?,
-            folder: BareFolder::empty(alloc),
+            folder: CaseFolder::empty(alloc),
             calls: 0,
         })
     }
@@ -138,7 +136,7 @@ impl Cases {
                 Ok(true)
             }
             "held" => {
-                self.setting.held = true;
+                self.folder.hold();
                 Ok(true)
             }
             "fail" => Ok(self.setting.fail(rest)),
@@ -150,7 +148,7 @@ impl Cases {
     fn begin(&mut self, title: &str) -> Result<bool, Trouble> {
         self.page.report.begin(title)?;
         self.disk = MemDisk::fresh(self.alloc)?;
-        self.folder = BareFolder::empty(self.alloc);
+        self.folder = CaseFolder::empty(self.alloc);
         self.setting = Setting::none(self.alloc);
         Ok(true)
     }
@@ -191,12 +189,7 @@ impl Cases {
     fn octets(&mut self, name: FileName) -> Result<Option<Vec<u8>>, Trouble> {
         match self.setting.place {
             Place::Disk => octets_of(self.alloc, &mut self.disk, name),
-            Place::Folder => {
-                let mut disk = self.folder_disk();
-                let octets = octets_of(self.alloc, &mut disk, name)?;
-                self.folder = disk.into_folder().kill()?;
-                Ok(octets)
-            }
+            Place::Folder => self.folder.octets(name),
             Place::System => octets_of(self.alloc, &mut RealDisk::of(self.rt), name),
         }
     }
@@ -213,11 +206,7 @@ impl Cases {
         let octets = octets.as_slice();
         match self.setting.place {
             Place::Disk => put(&mut self.disk, name, octets, synced)?,
-            Place::Folder => {
-                let mut disk = self.folder_disk();
-                put(&mut disk, name, octets, synced)?;
-                self.folder = disk.into_folder().kill()?;
-            }
+            Place::Folder => self.folder.put(name, octets, synced)?,
             Place::System => put(&mut RealDisk::of(self.rt), name, octets, synced)?,
         }
         Ok(true)
@@ -228,9 +217,7 @@ impl Cases {
             return Ok(false);
         };
         if self.setting.place == Place::Folder {
-            let mut disk = self.folder_disk();
-            disk.remove(name)?;
-            self.folder = disk.into_folder().kill()?;
+            self.folder.remove(name)?;
         } else {
             self.disk.remove(name)?;
         }
@@ -239,9 +226,7 @@ impl Cases {
 
     fn sync(&mut self) -> Result<bool, Trouble> {
         if self.setting.place == Place::Folder {
-            let mut disk = self.folder_disk();
-            disk.sync_names()?;
-            self.folder = disk.into_folder().kill()?;
+            self.folder.sync()?;
         } else {
             self.disk.sync_names()?;
         }
@@ -269,11 +254,7 @@ impl Cases {
     fn files(&mut self) -> Result<bool, Trouble> {
         match self.setting.place {
             Place::Disk => push_paths(self.alloc, &mut self.disk, self.page.report.found())?,
-            Place::Folder => {
-                let mut disk = self.folder_disk();
-                push_paths(self.alloc, &mut disk, self.page.report.found())?;
-                self.folder = disk.into_folder().kill()?;
-            }
+            Place::Folder => self.folder.push_paths(self.page.report.found())?,
             Place::System => push_paths(
                 self.alloc,
                 &mut RealDisk::of(self.rt),
@@ -357,22 +338,16 @@ impl Cases {
     }
 
     fn explore(&mut self, run: Run<'_>) -> Result<(), NoMemory> {
-        if self.setting.place == Place::Folder {
-            let trial = FolderTrial {
-                alloc: self.alloc,
-                run,
-                watches: self.setting.watches.as_slice(),
-                between: self.setting.between.as_slice(),
-            };
-            return trial.explore(&self.folder, &mut self.page.report);
-        }
         let trial = Trial {
             alloc: self.alloc,
             run,
             watches: self.setting.watches.as_slice(),
             between: self.setting.between.as_slice(),
         };
-        trial.explore(&self.disk, &mut self.page.report)
+        match self.setting.place {
+            Place::Folder => self.folder.explore(trial, &mut self.page.report),
+            Place::Disk | Place::System => trial.explore(&self.disk, &mut self.page.report),
+        }
     }
 
     /// Does a run on the disk of the case, and tells its status, if it isn't the one that is wanted, and what it printed and said.
@@ -398,21 +373,10 @@ impl Cases {
         self.tell(Stream::Errors, streams.said())
     }
 
-    /// A disk over the folder in memory, which is taken out.
-    fn folder_disk(&mut self) -> FolderDisk<BareFolder> {
-        let empty = BareFolder::empty(self.alloc);
-        FolderDisk::of(mem::replace(&mut self.folder, empty), self.alloc)
-    }
-
-    /// Does a run over the folder in memory, in a process of its own.
+    /// Does a run over the folder in memory.
     fn perform_in_folder(&mut self, run: Run<'_>, streams: &mut Streams) -> Result<u8, NoMemory> {
-        let empty = BareFolder::empty(self.alloc);
-        let folder = mem::replace(&mut self.folder, empty)
-            .going(Seq::empty(self.alloc), 0)
-            .held(self.setting.held);
-        let (left, status) = perform_in(self.alloc, folder, run, streams);
-        self.calls = left.calls();
-        self.folder = left.kill()?.held(false);
+        let (calls, status) = self.folder.perform(run, streams)?;
+        self.calls = calls;
         Ok(status)
     }
 

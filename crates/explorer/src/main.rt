@@ -10,6 +10,7 @@ use std::{env, fs};
 mod cases;
 mod damage;
 mod files;
+mod folder;
 mod runs;
 mod seen;
 mod setting;

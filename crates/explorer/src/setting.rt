@@ -27,8 +27,6 @@ pub struct Setting {
     /// Whether the output takes one octet a call in the next run.
     pub narrow: bool,
     pub place: Place,
-    /// Whether another process has the lock of the folder in memory in the next run.
-    pub held: bool,
 }
 
 impl Setting {
@@ -41,7 +39,6 @@ impl Setting {
             disk_fails: 0,
             narrow: false,
             place: Place::Disk,
-            held: false,
         }
     }
 
@@ -67,6 +64,5 @@ impl Setting {
         self.fails = Fails::NONE;
         self.disk_fails = 0;
         self.narrow = false;
-        self.held = false;
     }
 }

@@ -1,27 +1,15 @@
 // A run over a folder in memory, with each call of the system going otherwise in turn, and with the process ended at each.
-use crate::runs::{Run, perform};
+use crate::runs::{Run, perform_in};
 use crate::seen::{Seen, States};
 use crate::streams::Streams;
-use crate::trial::ended;
+use crate::trial::{Trial, ended};
 use case_text::Report;
-use folder_disk::FolderDisk;
 use folder_mem::{BareFolder, Crash, Turn};
 use mdbox_base::{NoMemory, Octets, Seq};
 use std::alloc::Global;
 
 /// How many mixes of names and octets are looked at after a crash.
 const MOST: u64 = 16;
-
-/// A run that is tried over a folder in memory, and what is looked at after it.
-#[derive(Clone, Copy)]
-pub struct FolderTrial<'x> {
-    pub alloc: Global,
-    pub run: Run<'x>,
-    /// The words of the runs whose output is looked at.
-    pub watches: &'x [Vec<String>],
-    /// What these print in the state between that the case allows.
-    pub between: &'x [u8],
-}
 
 /// A folder in which a run has ended, and what was seen after it.
 #[derive(Drop)]
@@ -34,7 +22,7 @@ struct Looked {
 /// A trial, what its watches print before the run and after it, and the folder before it.
 #[derive(Drop)]
 struct Tried<'x> {
-    trial: FolderTrial<'x>,
+    trial: Trial<'x>,
     states: States<'x>,
     start: &'x Crash,
     /// The folder after the run, if each call goes well.
@@ -48,18 +36,6 @@ struct Tried<'x> {
 struct Ends {
     name: &'static str,
     texts: Vec<String>,
-}
-
-/// Does a run over a folder in memory, and answers the folder after it, and the status.
-pub fn perform_in(
-    alloc: Global,
-    folder: BareFolder,
-    run: Run<'_>,
-    streams: &mut Streams,
-) -> (BareFolder, u8) {
-    let disk = FolderDisk::of(folder, alloc);
-    let (disk, status) = perform(alloc, disk, run.words, streams);
-    (disk.into_folder(), status)
 }
 
 /// What runs with these words print, one after another, each in a process of its own, and the folder after them.
@@ -83,32 +59,34 @@ fn watched_in(
     Ok((text, folder))
 }
 
-impl FolderTrial<'_> {
-    /// Tells how the run ends for each call that goes otherwise, and what is seen after it and after an end of the process,
-    /// whatever a crash then leaves.
-    pub fn explore(self, folder: &BareFolder, report: &mut Report) -> Result<(), NoMemory> {
-        let alloc = self.alloc;
-        let start = folder.crash()?;
-        let (before, _) = watched_in(alloc, start.image(0)?, self.watches)?;
-        let mut streams = Streams::sound(alloc, self.run.input)?;
-        let whole = start.image(0)?.going(Seq::empty(alloc), 0);
-        let (ran, _) = perform_in(alloc, whole, self.run, &mut streams);
-        let (after, _) = watched_in(alloc, ran.crash()?.image(0)?, self.watches)?;
-        let mut tried = Tried {
-            trial: self,
-            states: States {
-                before: before.as_slice(),
-                between: self.between,
-                after: after.as_slice(),
-            },
-            start: &start,
-            ran: &ran,
-            looked: Vec::new(alloc),
-        };
-        tried.half_done(report)?;
-        tried.failed(report)?;
-        tried.kills(report)
-    }
+/// Tells how the run ends for each call that goes otherwise, and what is seen after it and after an end of the process, whatever a
+/// crash then leaves.
+pub fn explore_turns(
+    trial: Trial<'_>,
+    folder: &BareFolder,
+    report: &mut Report,
+) -> Result<(), NoMemory> {
+    let alloc = trial.alloc;
+    let start = folder.crash()?;
+    let (before, _) = watched_in(alloc, start.image(0)?, trial.watches)?;
+    let mut streams = Streams::sound(alloc, trial.run.input)?;
+    let whole = start.image(0)?.going(Seq::empty(alloc), 0);
+    let (ran, _) = perform_in(alloc, whole, trial.run, &mut streams);
+    let (after, _) = watched_in(alloc, ran.crash()?.image(0)?, trial.watches)?;
+    let mut tried = Tried {
+        trial,
+        states: States {
+            before: before.as_slice(),
+            between: trial.between,
+            after: after.as_slice(),
+        },
+        start: &start,
+        ran: &ran,
+        looked: Vec::new(alloc),
+    };
+    tried.half_done(report)?;
+    tried.failed(report)?;
+    tried.kills(report)
 }
 
 impl Tried<'_> {
@@ -264,26 +242,17 @@ impl Ends {
         Ok(())
     }
 
-    /// A line for each, in order, in which lines that were printed stand beside each other.
+    /// A line for each, in order.
     fn put(self, out: &mut String) -> Result<(), NoMemory> {
         let mut texts = self.texts;
         texts.sort()?;
         for text in &texts {
             out.push_str("~ ")?;
             out.push_str(self.name)?;
-            out.push_str(":")?;
-            push_joined(out, text.as_str())?;
+            out.push_str(": ")?;
+            out.push_str(text.as_str())?;
             out.push_str("\n")?;
         }
         Ok(())
     }
-}
-
-/// Adds each line of a text, with a blank before it.
-fn push_joined(out: &mut String, text: &str) -> Result<(), NoMemory> {
-    for line in text.lines() {
-        out.push_str(" ")?;
-        out.push_str(line)?;
-    }
-    Ok(())
 }
