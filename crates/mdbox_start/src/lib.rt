@@ -3,8 +3,10 @@
 #![tactic(auto)]
 
 pub use exits::{exit_of, run};
+pub use folder::run_in;
 pub use outside::start;
 
 mod exits;
+mod folder;
 mod outside;
 mod words;
