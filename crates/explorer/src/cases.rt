@@ -1,7 +1,7 @@
 // The lines of cases, done on a disk.
 use crate::damage::{Damage, Damaged};
 use crate::files::{clear, octets_of, push_paths, put};
-use crate::folder::CaseFolder;
+use crate::folder::{CaseFolder, system_disk};
 use crate::runs::{Run, perform};
 use crate::setting::{Place, Setting};
 use crate::streams::Streams;
@@ -10,7 +10,6 @@ use crate::trouble::Trouble;
 use case_text::{Command, Counts, Page, Stream, Taken, push_shown};
 use disk_mem::MemDisk;
 use disk_model::{Disk, FileName};
-use disk_real::RealDisk;
 use file_paths::name_of_path;
 use mdbox_base::{NoMemory, Seq};
 use std::alloc::Global;
@@ -156,7 +155,7 @@ impl Cases {
     /// Goes on in the folder of the system that the program runs in, whose files are removed.
     fn begin_real(&mut self) -> Result<bool, Trouble> {
         self.setting.place = Place::System;
-        let mut disk = RealDisk::of(self.rt);
+        let mut disk = system_disk(self.rt);
         clear(&mut disk)?;
         disk.sync_names()?;
         Ok(true)
@@ -190,7 +189,7 @@ impl Cases {
         match self.setting.place {
             Place::Disk => octets_of(self.alloc, &mut self.disk, name),
             Place::Folder => self.folder.octets(name),
-            Place::System => octets_of(self.alloc, &mut RealDisk::of(self.rt), name),
+            Place::System => octets_of(self.alloc, &mut system_disk(self.rt), name),
         }
     }
 
@@ -207,7 +206,7 @@ impl Cases {
         match self.setting.place {
             Place::Disk => put(&mut self.disk, name, octets, synced)?,
             Place::Folder => self.folder.put(name, octets, synced)?,
-            Place::System => put(&mut RealDisk::of(self.rt), name, octets, synced)?,
+            Place::System => put(&mut system_disk(self.rt), name, octets, synced)?,
         }
         Ok(true)
     }
@@ -257,7 +256,7 @@ impl Cases {
             Place::Folder => self.folder.push_paths(self.page.report.found())?,
             Place::System => push_paths(
                 self.alloc,
-                &mut RealDisk::of(self.rt),
+                &mut system_disk(self.rt),
                 self.page.report.found(),
             )?,
         }
@@ -358,7 +357,7 @@ impl Cases {
             Place::Disk => self.perform(run, &mut streams)?,
             Place::Folder => self.perform_in_folder(run, &mut streams)?,
             Place::System => {
-                let disk = RealDisk::of(self.rt);
+                let disk = system_disk(self.rt);
                 let (_, status) = perform(self.alloc, disk, run.words, &mut streams);
                 status
             }

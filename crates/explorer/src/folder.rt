@@ -1,4 +1,4 @@
-// The folder in memory of a case.
+// The folder in memory of a case, and that of the system.
 use crate::files::{octets_of, push_paths, put};
 use crate::runs::{Run, perform_in};
 use crate::streams::Streams;
@@ -10,8 +10,14 @@ use disk_model::{Disk, FileName};
 use folder_disk::FolderDisk;
 use folder_mem::BareFolder;
 use mdbox_base::{NoMemory, Seq};
+use os_folder::OsFolder;
 use std::alloc::Global;
 use std::mem;
+
+/// The program's disk over the files of the current folder of the system.
+pub fn system_disk(rt: HostRuntime) -> FolderDisk<OsFolder> {
+    FolderDisk::of(OsFolder::of(rt), rt.alloc())
+}
 
 /// The files of a case as the system has them. Each use of them is a process of its own, with the program's disk over them.
 #[derive(Drop)]
