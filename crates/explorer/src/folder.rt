@@ -51,9 +51,9 @@ impl CaseFolder {
         FolderDisk::of(self.taken(), self.alloc)
     }
 
-    /// Puts the folder back, as the process leaves it.
-    fn end(&mut self, folder: BareFolder) -> Result<(), NoMemory> {
-        self.folder = folder.kill()?;
+    /// Ends the process, and puts the folder back as it leaves it.
+    fn end(&mut self, disk: FolderDisk<BareFolder>) -> Result<(), NoMemory> {
+        self.folder = disk.into_folder().kill()?;
         Ok(())
     }
 
@@ -61,7 +61,7 @@ impl CaseFolder {
     pub fn octets(&mut self, name: FileName) -> Result<Option<Vec<u8>>, Trouble> {
         let mut disk = self.disk();
         let octets = octets_of(self.alloc, &mut disk, name);
-        self.end(disk.into_folder())?;
+        self.end(disk)?;
         octets
     }
 
@@ -69,21 +69,21 @@ impl CaseFolder {
     pub fn put(&mut self, name: FileName, octets: &[u8], synced: bool) -> Result<(), Trouble> {
         let mut disk = self.disk();
         let done = put(&mut disk, name, octets, synced);
-        self.end(disk.into_folder())?;
+        self.end(disk)?;
         Ok(done?)
     }
 
     pub fn remove(&mut self, name: FileName) -> Result<(), Trouble> {
         let mut disk = self.disk();
         let done = disk.remove(name);
-        self.end(disk.into_folder())?;
+        self.end(disk)?;
         Ok(done?)
     }
 
     pub fn sync(&mut self) -> Result<(), Trouble> {
         let mut disk = self.disk();
         let done = disk.sync_names();
-        self.end(disk.into_folder())?;
+        self.end(disk)?;
         Ok(done?)
     }
 
@@ -91,7 +91,7 @@ impl CaseFolder {
     pub fn push_paths(&mut self, out: &mut String) -> Result<(), Trouble> {
         let mut disk = self.disk();
         let done = push_paths(self.alloc, &mut disk, out);
-        self.end(disk.into_folder())?;
+        self.end(disk)?;
         done
     }
 
@@ -108,7 +108,7 @@ impl CaseFolder {
             .held(self.is_held);
         let (left, status) = perform_in(self.alloc, folder, run, streams);
         let calls = left.calls();
-        self.end(left.held(false))?;
+        self.folder = left.held(false).kill()?;
         self.is_held = false;
         Ok((calls, status))
     }
