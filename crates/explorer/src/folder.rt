@@ -8,6 +8,7 @@ use crate::turns::explore_turns;
 use case_text::Report;
 use disk_model::{Disk, FileName};
 use folder_disk::FolderDisk;
+use folder_kept::KeptFolder;
 use folder_mem::BareFolder;
 use mdbox_base::{NoMemory, Seq};
 use os_folder::OsFolder;
@@ -15,8 +16,8 @@ use std::alloc::Global;
 use std::mem;
 
 /// The program's disk over the files of the current folder of the system.
-pub fn system_disk(rt: HostRuntime) -> FolderDisk<OsFolder> {
-    FolderDisk::of(OsFolder::of(rt), rt.alloc())
+pub fn system_disk(rt: HostRuntime) -> FolderDisk<KeptFolder<OsFolder>> {
+    FolderDisk::of(KeptFolder::of(OsFolder::of(rt), rt.alloc()), rt.alloc())
 }
 
 /// The files of a case as the system has them. Each use of them is a process of its own, with the program's disk over them.
@@ -47,13 +48,13 @@ impl CaseFolder {
         mem::replace(&mut self.folder, BareFolder::empty(self.alloc))
     }
 
-    fn disk(&mut self) -> FolderDisk<BareFolder> {
-        FolderDisk::of(self.taken(), self.alloc)
+    fn disk(&mut self) -> FolderDisk<KeptFolder<BareFolder>> {
+        FolderDisk::of(KeptFolder::of(self.taken(), self.alloc), self.alloc)
     }
 
     /// Ends the process, and puts the folder back as it leaves it.
-    fn end(&mut self, disk: FolderDisk<BareFolder>) -> Result<(), NoMemory> {
-        self.folder = disk.into_folder().kill()?;
+    fn end(&mut self, disk: FolderDisk<KeptFolder<BareFolder>>) -> Result<(), NoMemory> {
+        self.folder = disk.into_folder().into_folder().kill()?;
         Ok(())
     }
 

@@ -3,6 +3,7 @@ use crate::streams::Streams;
 use disk_mem::{Choice, MemDisk};
 use disk_model::Disk;
 use folder_disk::FolderDisk;
+use folder_kept::KeptFolder;
 use folder_mem::BareFolder;
 use mdbox_base::{NoMemory, Octets};
 use mdbox_top::{Status, mdbox_run};
@@ -42,9 +43,9 @@ pub fn perform_in(
     run: Run<'_>,
     streams: &mut Streams,
 ) -> (BareFolder, u8) {
-    let disk = FolderDisk::of(folder, alloc);
+    let disk = FolderDisk::of(KeptFolder::of(folder, alloc), alloc);
     let (disk, status) = perform(alloc, disk, run.words, streams);
-    (disk.into_folder(), status)
+    (disk.into_folder().into_folder(), status)
 }
 
 /// A copy of a disk, at rest, with all that was written to it.

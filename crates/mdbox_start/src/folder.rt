@@ -10,6 +10,7 @@ ghost use Rattle.request_text.specs.declared.command.Command.{Command};
 use crate::exits::run;
 use disk_model::Disk;
 use folder_disk::FolderDisk;
+use folder_kept::KeptFolder;
 use folder_model::Folder;
 use mdbox_base::{Clock, NoMemory, Sink, Source};
 use std::alloc::Global;
@@ -25,23 +26,23 @@ pub fn run_in<F: Folder + Drop, I: Source, O: Sink, E: Sink, C: Clock>(
     output: &mut O,
     errors: &mut E,
     clock: &mut C,
-) -> (ExitCode, FolderDisk<F>)
+) -> (ExitCode, FolderDisk<KeptFolder<F>>)
     requires begun { HasBegun (F.Folder.modelled folder) (F.Folder.past folder) }
     requires store { IfModelled (F.Folder.modelled folder) IsStoreSystem }
     ensures run { IfOk words (λ given. (command : Command) → Says (map string_bytes given.items) command
         → RunOutcome (Ends command (I.left input.old) (C.time clock.old) (O.held output.old) (O.held output.new)
-        (told_history (F.Folder.modelled folder) []) (⟦<FolderDisk<F> as Disk>⟧.history result.1) (record { reads = 0; changes = 0 }) (⟦<FolderDisk<F> as Disk>⟧.faults result.1)) (exit_status result.0) (E.held errors.old) (E.faults errors.old) (E.held errors.new) (E.faults errors.new)) }
+        (told_history (F.Folder.modelled folder) []) (⟦<FolderDisk<KeptFolder<F>> as Disk>⟧.history result.1) (record { reads = 0; changes = 0 }) (⟦<FolderDisk<KeptFolder<F>> as Disk>⟧.faults result.1)) (exit_status result.0) (E.held errors.old) (E.faults errors.old) (E.held errors.new) (E.faults errors.new)) }
     ensures moments { IfOk words (λ given. (command : Command) → Says (map string_bytes given.items) command
-        → Moments command (I.left input.old) (C.time clock.old) (told_history (F.Folder.modelled folder) []) (⟦<FolderDisk<F> as Disk>⟧.history result.1)) }
+        → Moments command (I.left input.old) (C.time clock.old) (told_history (F.Folder.modelled folder) []) (⟦<FolderDisk<KeptFolder<F>> as Disk>⟧.history result.1)) }
     ensures rests { IfOk words (λ given. (command : Command) → Says (map string_bytes given.items) command
-        → Rests command (I.left input.old) (C.time clock.old) (MayHaveFailed command (exit_status result.0)) (record { reads = 0; changes = 0 }) (⟦<FolderDisk<F> as Disk>⟧.faults result.1) (told_history (F.Folder.modelled folder) []) (⟦<FolderDisk<F> as Disk>⟧.history result.1)) }
+        → Rests command (I.left input.old) (C.time clock.old) (MayHaveFailed command (exit_status result.0)) (record { reads = 0; changes = 0 }) (⟦<FolderDisk<KeptFolder<F>> as Disk>⟧.faults result.1) (told_history (F.Folder.modelled folder) []) (⟦<FolderDisk<KeptFolder<F>> as Disk>⟧.history result.1)) }
     ensures status { IfOk words (λ given. (command : Command) → Says (map string_bytes given.items) command → HasStatus command (I.left input.old) (told_history (F.Folder.modelled folder) []) (exit_status result.0)) }
     ensures known { exit_status result.0 ≤ 8 }
 {
     run(
         alloc,
         words,
-        FolderDisk::of(folder, alloc),
+        FolderDisk::of(KeptFolder::of(folder, alloc), alloc),
         input,
         output,
         errors,

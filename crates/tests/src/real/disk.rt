@@ -1,6 +1,7 @@
 // The program's disk over the system's files.
 use disk_model::{Disk, DiskError, FileName};
 use folder_disk::FolderDisk;
+use folder_kept::KeptFolder;
 use os_folder::OsFolder;
 use std::process::Abort;
 use std::test::Fail;
@@ -10,8 +11,12 @@ use std::time::Duration;
 const ROOT: FileName = FileName::Root;
 
 /// The program's disk, which asks so many times for the lock.
-fn system_disk(host: HostRuntime, tries: u32) -> FolderDisk<OsFolder> {
-    FolderDisk::asking(OsFolder::of(host), host.alloc(), tries)
+fn system_disk(host: HostRuntime, tries: u32) -> FolderDisk<KeptFolder<OsFolder>> {
+    FolderDisk::asking(
+        KeptFolder::of(OsFolder::of(host), host.alloc()),
+        host.alloc(),
+        tries,
+    )
 }
 
 /// What a write inside a file, one at its end, and a cut leave is what a second disk reads, and what is removed it doesn't find.
