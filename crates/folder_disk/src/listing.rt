@@ -79,8 +79,8 @@ fn add_there<F: Folder>(
 {
     match kind_of(folder, alloc, name)? {
         Kind::Folder => { add(names, name) }
-        Kind::Nothing | Kind::File => Ok(()),
         Kind::Other => Err(CallError::Failed),
+        _ => Ok(()),
     }
 }
 
