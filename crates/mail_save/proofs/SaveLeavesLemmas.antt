@@ -173,7 +173,7 @@ event_leaves (stage.Storing at rows room) (stage.Adding added kept) name time si
     let made = e.1 in
     let gone = e.2 in
     let mine : Claims = save_claims (stage.Storing at rows room) in
-    leaves_by mine (λ number. number ≡ at.file.0) old new before after l.keeps l.uids l.draws
+    leaves_by mine (λ number. number ≡ at.file.0) old new before after l.keeps l.uids l.draws l.room
     (subst (λ (m : MapMeaning). LeavesRecords (λ number. number ≡ at.file.0) old.map m) (sym (ap (λ (v : StoreValue _). v.map) gone ∙ made.map)) (stored_leave added.map_uid at rows old.map left.0.guid_file))
     (released_known at old new left.0 (ap (λ (v : StoreValue _). v.files.files) gone ∙ ap (λ (v : StoreValue _). v.files.files) made.same) (λ number. ap (λ (v : StoreValue _). end_in number v.files.files) gone ∙ made.ends number))
     (mail_same (λ number. number ≡ at.file.0) before after w)
