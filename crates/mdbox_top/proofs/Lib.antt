@@ -1,6 +1,7 @@
 pub mod AloneLemmas
 pub mod BatchLemmas
 pub mod CountsLemmas
+pub mod ChangedLemmas
 pub mod ChangeLemmas
 pub mod CopyLemmas
 pub mod DeliverLemmas
@@ -19,11 +20,13 @@ pub mod MakeLemmas
 pub mod MoveLemmas
 pub mod PlaceLemmas
 pub mod ReplyFaultLemmas
+pub mod ReadLemmas
 pub mod RequestLemmas
 pub mod RoomLemmas
 pub mod RunLemmas
 pub mod SaveLemmas
 pub mod SavedFormLemmas
+pub mod ServeLemmas
 pub mod ServedLemmas
 pub mod StaysLemmas
 pub mod UnderWayLemmas

@@ -21,6 +21,17 @@ use Rattle.mdbox_top.specs.MoveRun.{IsMoveReply, MoveMoments, MoveRests}
 use Rattle.mdbox_top.specs.ExpungeRun.{IsExpungeReply, ExpungeMoments, ExpungeRests}
 use Rattle.mdbox_top.specs.CountsRun.{IsCountsReply, CountsMoments, CountsRests}
 
+-- the requests that one function serves: all but a delivery, which reads its message first, and a fetch, which prints octets
+abbrev pub IsServedAlone : Request → Type 0
+IsServedAlone (request.List name) = Unit {0}
+IsServedAlone (request.Flag name uid flags) = Unit {0}
+IsServedAlone (request.Expunge name uid) = Unit {0}
+IsServedAlone (request.Copy name uid target) = Unit {0}
+IsServedAlone (request.Move name uid target) = Unit {0}
+IsServedAlone (request.Make name) = Unit {0}
+IsServedAlone request.Counts = Unit {0}
+IsServedAlone other = ⊥
+
 -- what its reply tells
 abbrev pub ReplyTells : Request → Option History → Option History → Reply → Type 0
 ReplyTells (request.Deliver name time octets) = IsDeliverReply name time octets

@@ -80,7 +80,7 @@ unharmed (one ∷ rest) none = All-cons (λ (x : Reply). TellsDamage (refusal_in
 
 -- The script was served: its lanes have come to their end, the store is stopped only if a reply says so, and the entries are the
 -- journal's.
-pub script_served : {D : Type 0} → (start : Lists) (script : Requests) (run : Run) (journal : List JournalStep) (broken : Broken) (given : List Reply) (entries : List JournalEntry) (began : Seen) (made : ℕ) (store : StoreValue D) (opened history : Option History) (faults : Faults) (rows : List LaneRow)
+unfoldable pub script_served : {D : Type 0} → (start : Lists) (script : Requests) (run : Run) (journal : List JournalStep) (broken : Broken) (given : List Reply) (entries : List JournalEntry) (began : Seen) (made : ℕ) (store : StoreValue D) (opened history : Option History) (faults : Faults) (rows : List LaneRow)
     → IsGoing start script run journal broken (map Some given) began store history faults rows → StaysStopped run.events → IsStore history store → began.drawn ≡ began.map.highest → RunBegins run began.history → (store.stopped ≡ true → HasStopped given) → IsMadeBefore opened made run → AreEntriesAt history made (moment_of run) journal entries
     → (All IsRefusedAtOnce run.events → IsIdle opened history) → ServesScript script start given entries began.faults faults began.history opened history
 script_served {D} start script run journal broken given entries began made store opened history faults rows g stays k drawn begins stopped made_is are refused = record {

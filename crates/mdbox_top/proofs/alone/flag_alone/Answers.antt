@@ -1,14 +1,15 @@
 use Rattle.std.proofs.Common.{sym, subst}
+use Rattle.mdbox_base.specs.declared.requests.Request.TheVariants as request
 use Rattle.mdbox_top.specs.Alone.{IsDoneAlone}
-use Rattle.mdbox_top.proofs.AloneLemmas.{done_alone}
+use Rattle.mdbox_top.proofs.AloneLemmas.{flag_done}
 use Rattle.mdbox_top.proofs.ServedLemmas.{doing}
-use Rattle.mdbox_top.proofs.alone.reply_alone.Goals as goal
+use Rattle.mdbox_top.proofs.alone.flag_alone.Goals as goal
 
 pub returns-in-Done-clause-done : goal.returns-in-Done-clause-done
 returns-in-Done-clause-done g c =
     let o = c.in-Ok.ensures in
     let step = c.step.ensures in
-    let w = doing g.D.Disk.history g.D.Disk.faults c.args.request c.in-Done.reply (g.D.Disk.history c.args.disk) c.in-Ok.store c.step.new.store c.of-task.result c.step.new.self c.step.result c.of-task.ensures c.in-Done.is
+    let w = doing g.D.Disk.history g.D.Disk.faults (request.Flag c.args.name c.args.uid c.args.flags) c.in-Done.reply (g.D.Disk.history c.args.disk) c.in-Ok.store c.step.new.store c.of-task.result c.step.new.self c.step.result c.of-task.ensures c.in-Done.is
     (record {
       opened = o.opened;
       store = c.facts.ensures.store;
@@ -38,9 +39,9 @@ returns-in-Done-clause-done g c =
       replies = step.replies;
       same = step.same;
     }) in
-    subst (λ d. IsDoneAlone c.args.request c.in-Done.reply (g.D.Disk.history c.args.disk) (g.D.Disk.history d) (g.D.Disk.faults c.args.disk) (g.D.Disk.faults d)) (sym c.into_disk.ensures)
-    (subst (λ f. IsDoneAlone c.args.request c.in-Done.reply (g.D.Disk.history c.args.disk) (g.D.Disk.history c.step.new.store.disk) f (g.D.Disk.faults c.step.new.store.disk)) (o.unfailed (λ f. f))
-    (done_alone c.args.request c.in-Done.reply _ _ _ _ _ c.in-Ok.store c.step.new.store c.step.new.self.did c.requires w c.listings_are_shown.ensures.logs c.listings_are_answered.ensures))
+    subst (λ d. IsDoneAlone (request.Flag c.args.name c.args.uid c.args.flags) c.in-Done.reply (g.D.Disk.history c.args.disk) (g.D.Disk.history d) (g.D.Disk.faults c.args.disk) (g.D.Disk.faults d)) (sym c.into_disk.ensures)
+    (subst (λ f. IsDoneAlone (request.Flag c.args.name c.args.uid c.args.flags) c.in-Done.reply (g.D.Disk.history c.args.disk) (g.D.Disk.history c.step.new.store.disk) f (g.D.Disk.faults c.step.new.store.disk)) (o.unfailed (λ f. f))
+    (flag_done c.args.name c.args.uid c.args.flags c.in-Done.reply _ _ _ _ _ c.in-Ok.store c.step.new.store c.step.new.self.did w c.listings_are_shown.ensures.logs))
 
 pub returns-in-Err-clause-refused : goal.returns-in-Err-clause-refused
 returns-in-Err-clause-refused g c =
