@@ -9,7 +9,6 @@ pub mod ExpungeLemmas
 pub mod FetchLemmas
 pub mod FetchedLemmas
 pub mod FirstLemmas
-pub mod FlagLemmas
 pub mod InitLemmas
 pub mod InputLemmas
 pub mod KnownFirstLemmas
@@ -18,9 +17,9 @@ pub mod MailLemmas
 pub mod MakeFileLemmas
 pub mod MakeLemmas
 pub mod MoveLemmas
+pub mod OneEventLemmas
 pub mod PlaceLemmas
 pub mod ReplyFaultLemmas
-pub mod ReadLemmas
 pub mod RequestLemmas
 pub mod RoomLemmas
 pub mod RunLemmas

@@ -39,7 +39,7 @@ use Rattle.model_store.specs.Stands.{HasInstances}
 use Rattle.saved_message.specs.Region.{written_region}
 use Rattle.saved_message.specs.Saved.{ids_in}
 use Rattle.mail_save.specs.declared.place.SavedAt.{SavedAt}
-use Rattle.script_run.specs.One.{ServesRequest, lists_told, saved_lists}
+use Rattle.script_run.specs.One.{ServesRequest, lists_told, saved_lists, missing_cause}
 use Rattle.mdbox_top.specs.Changed.{IsChangeAnswer, AreOneOf, MomentsAmong}
 use Rattle.mdbox_top.specs.CopyRun.{uncopied_cause, IsCopyAnswer}
 use Rattle.mdbox_top.specs.DeliverRun.{undelivered_cause, AreFirstNamed, attachment_octets, region_length, HasRecordLeft, HasRecordMore, IsDeliverAnswer, AreSaved}
@@ -47,7 +47,7 @@ use Rattle.mdbox_top.specs.ExpungeRun.{lists_without}
 use Rattle.mdbox_top.specs.MakeRun.{lists_by_making}
 use Rattle.mdbox_top.specs.MoveRun.{AreAlongMove, IsMoveAnswer}
 use Rattle.mdbox_top.specs.SavedMail.{AddedMail, LeftMail, WroteMail}
-use Rattle.mdbox_top.specs.Served.{FaultsByReply, missing_cause}
+use Rattle.mdbox_top.specs.Served.{FaultsByReply}
 use Rattle.mdbox_top.specs.UnderWay.{IsUnderWay, seen_alone}
 
 -- A request alone is under way in this store, from these lists to those.

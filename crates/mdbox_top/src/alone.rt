@@ -1,11 +1,9 @@
 // A request alone: the store is opened, the request done, and its reply printed.
-ghost use Rattle.std.specs.Prelude.{◌≡◌, ◌≢◌, ◌≤◌, false, true, IfOk, IfErr};
+ghost use Rattle.std.specs.Prelude.{◌≡◌, ◌≢◌, ◌≤◌, false, IfOk, IfErr};
 ghost use Rattle.disk_model.specs.FaultCounts.{NoFault, AnyFaultCounted};
 ghost use Rattle.mdbox_base.specs.Streams.{Rose};
-ghost use Rattle.mdbox_base.specs.declared.requests.Request.TheVariants as request;
 ghost use Rattle.script_run.specs.One.{HasOneEvent};
 ghost use Rattle.script_run.specs.Opening.{IsUnopened};
-ghost use Rattle.script_run.specs.Script.{only_reads};
 ghost use Rattle.mdbox_top.specs.Alone.{IsServedAlone, ReplyTells, RequestMoments, RequestRests, MayFail, IsDoneAlone};
 ghost use Rattle.mdbox_top.specs.ChangeEvents.{DoesAlone, HasMoreEvents};
 ghost use Rattle.mdbox_top.specs.Served.{RequestOutcome, ShowsReply};
@@ -19,8 +17,8 @@ use crate::making::make_mailbox;
 use crate::moving::move_message;
 use crate::opening::outcome_of;
 use disk_model::Disk;
-use mail_ops::{OpsTask, listings_are_answered};
-use mdbox_base::{Flags, Name, Progress, Reply, Request, Sink, Uid};
+use mail_ops::listings_are_answered;
+use mdbox_base::{Reply, Request, Sink};
 use piece_writer::PrintError;
 use request_text::{Outcome, outcome_of_reply, print_reply};
 use script_run::run_request;
@@ -62,9 +60,11 @@ fn reply_alone<D: Disk>(
     ensures refused { IfErr result (λ refused. IsUnopened refused.error (D.history disk) (D.history refused.disk) (D.faults disk) (D.faults refused.disk)) }
 {
     match request {
-        Request::List { name } => read_alone(alloc, Request::List { name }, disk),
-        Request::Counts => read_alone(alloc, Request::Counts, disk),
-        Request::Flag { name, uid, flags } => flag_alone(alloc, name, uid, flags, disk),
+        Request::List { name } => script_alone(alloc, Request::List { name }, disk),
+        Request::Counts => script_alone(alloc, Request::Counts, disk),
+        Request::Flag { name, uid, flags } => {
+            script_alone(alloc, Request::Flag { name, uid, flags }, disk)
+        }
         Request::Expunge { name, uid } => {
             change_alone(alloc, Request::Expunge { name, uid }, disk)
         }
@@ -79,47 +79,19 @@ fn reply_alone<D: Disk>(
     }
 }
 
-/// Opens the store, lists a mailbox or counts what there is, as a script of one request, and answers the reply.
-fn read_alone<D: Disk>(
+/// Opens the store, does a request of one event as a script of one, and answers its reply.
+fn script_alone<D: Disk>(
     alloc: Global,
     request: Request,
     disk: D,
 ) -> Result<(Reply, D), OpenRefused<D>>
-    requires one { HasOneEvent request }
-    requires reads { only_reads request ≡ true }
+    requires { HasOneEvent request }
     ensures done { IfOk result (λ done. IsDoneAlone request done.0 (D.history disk) (D.history done.1) (D.faults disk) (D.faults done.1)) }
     ensures refused { IfErr result (λ refused. IsUnopened refused.error (D.history disk) (D.history refused.disk) (D.faults disk) (D.faults refused.disk)) }
 {
     listings_are_answered();
     let (reply, disk) = run_request(alloc, disk, request, None)?;
     Ok((reply, disk))
-}
-
-/// Opens the store, sets the flags of a message, and answers the reply.
-fn flag_alone<D: Disk>(
-    alloc: Global,
-    name: Name,
-    uid: Uid,
-    flags: Flags,
-    disk: D,
-) -> Result<(Reply, D), OpenRefused<D>>
-    ensures done { IfOk result (λ done. IsDoneAlone (request.Flag name uid flags) done.0 (D.history disk) (D.history done.1) (D.faults disk) (D.faults done.1)) }
-    ensures refused { IfErr result (λ refused. IsUnopened refused.error (D.history disk) (D.history refused.disk) (D.faults disk) (D.faults refused.disk)) }
-{
-    listings_are_shown();
-    match open_store(alloc, disk, 1) {
-        Ok(store) => {
-            let mut store = store;
-            store.facts();
-            let mut task = OpsTask::of(Request::Flag { name, uid, flags });
-            let Progress::Done(reply) = task.step(&mut store) else {
-                unreachable!()
-            };
-            store.facts();
-            Ok((reply, store.into_disk()))
-        }
-        Err(refused) => Err(refused),
-    }
 }
 
 /// Opens the store, does the events of a request that changes the lists, and answers the reply.

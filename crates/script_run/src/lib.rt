@@ -5,7 +5,7 @@ pub use laws::{
     one_request, opened_logs_show_lists, requests_of_one_event, requests_that_read,
     safe_files_are_shown,
 };
-pub use run::{ScriptRun, run_request, run_script};
+pub use run::{ScriptRun, ServedScript, run_request, run_script, serve_script};
 
 mod laws;
 mod run;

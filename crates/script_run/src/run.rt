@@ -1,9 +1,9 @@
 // The run of a script, and of a request alone.
 ghost use Rattle.std.specs.Prelude.{◌≡◌, ◌≤◌, ◌∷◌, [], List, Some, length, map, IfErr, IfOk};
 ghost use Rattle.mdbox_base.specs.declared.replies.Reply.{Reply as ReplyValue};
-ghost use Rattle.mdbox_base.specs.declared.script.JournalEntry.{JournalEntry as EntryValue};
 ghost use Rattle.lanes.specs.Worlds.{AreGiven, AreOfLanes, HasItsMessage};
 ghost use Rattle.script_run.specs.Done.{IsScriptDone};
+ghost use Rattle.script_run.specs.LeftOpen.{IsRequestDone, IsServedOpen};
 ghost use Rattle.script_run.specs.One.{alone};
 ghost use Rattle.script_run.specs.Opening.{IsUnopened};
 
@@ -14,7 +14,7 @@ use lanes::{
 };
 use mdbox_base::{JournalEntry, NoMemory, Reply, Request, Script, Seq};
 use std::alloc::Global;
-use store_core::listings_are_shown;
+use store_core::{Store, listings_are_shown};
 use store_open::{OpenError, OpenRefused, open_store};
 
 /// What the run of a script gives.
@@ -26,8 +26,17 @@ pub struct ScriptRun<D> {
     pub disk: D,
 }
 
-/// Opens the store and does the requests of a script on its lanes, to their end. What is wanted of memory is taken before the store is
-/// opened. Each request that delivers a message has it prepared, at its place.
+/// What the run of a script gives, and the store, which is still open.
+pub struct ServedScript<D: Disk> {
+    /// The reply of each request, in script order.
+    pub replies: Seq<Option<Reply>>,
+    /// The steps that were made, in order.
+    pub journal: Seq<JournalEntry>,
+    pub store: Store<D>,
+}
+
+/// Opens the store, does the requests of a script on its lanes, to their end, and hands the disk back. What is wanted of memory is
+/// taken before the store is opened. Each request that delivers a message has it prepared, at its place.
 pub fn run_script<D: Disk>(
     alloc: Global,
     disk: D,
@@ -38,6 +47,35 @@ pub fn run_script<D: Disk>(
     requires few { length script.requests ≤ 100000 }
     requires given { AreGiven script.requests prepared }
     ensures done { IfOk result (λ done. (given : List ReplyValue) × (done.replies ≡ map Some given) × IsScriptDone script.requests given done.journal (D.history disk) (D.history done.disk) (D.faults disk) (D.faults done.disk)) }
+    ensures refused { IfErr result (λ refused. IsUnopened refused.error (D.history disk) (D.history refused.disk) (D.faults disk) (D.faults refused.disk)) }
+{
+    match serve_script(alloc, disk, script, prepared) {
+        Ok(
+            ServedScript {
+                replies,
+                journal,
+                store,
+            },
+        ) => Ok(ScriptRun {
+            replies,
+            journal,
+            disk: store.into_disk(),
+        }),
+        Err(refused) => Err(refused),
+    }
+}
+
+/// Opens the store and does the requests of a script on its lanes, to their end, as `run_script` does, and leaves the store open.
+pub fn serve_script<D: Disk>(
+    alloc: Global,
+    disk: D,
+    script: Script,
+    prepared: Seq<Option<Prepared>>,
+) -> Result<ServedScript<D>, OpenRefused<D>>
+    requires lanes { (1 ≤ script.lanes) × (script.lanes ≤ 64) × AreOfLanes script.lanes script.requests }
+    requires few { length script.requests ≤ 100000 }
+    requires given { AreGiven script.requests prepared }
+    ensures served { IfOk result (λ served. (given : List ReplyValue) × (served.replies ≡ map Some given) × IsServedOpen script.requests given served.journal (D.history disk) (D.history served.store.disk) (D.faults disk) (D.faults served.store.disk) served.store) }
     ensures refused { IfErr result (λ refused. IsUnopened refused.error (D.history disk) (D.history refused.disk) (D.faults disk) (D.faults refused.disk)) }
 {
     listings_are_shown();
@@ -61,10 +99,10 @@ pub fn run_script<D: Disk>(
             world.known_facts();
             let (store, replies, journal, _broken) = world.into_parts();
             store.facts();
-            Ok(ScriptRun {
+            Ok(ServedScript {
                 replies,
                 journal,
-                disk: store.into_disk(),
+                store,
             })
         }
         Err(refused) => Err(refused),
@@ -79,17 +117,17 @@ pub fn run_request<D: Disk>(
     prepared: Option<Prepared>,
 ) -> Result<(Reply, D), OpenRefused<D>>
     requires given { HasItsMessage request prepared }
-    ensures done { IfOk result (λ done. (entries : List EntryValue) × IsScriptDone (alone request) (done.0 ∷ []) entries (D.history disk) (D.history done.1) (D.faults disk) (D.faults done.1)) }
+    ensures done { IfOk result (λ done. IsRequestDone request done.0 (D.history disk) (D.history done.1) (D.faults disk) (D.faults done.1)) }
     ensures refused { IfErr result (λ refused. IsUnopened refused.error (D.history disk) (D.history refused.disk) (D.faults disk) (D.faults refused.disk)) }
 {
     match script_of(alloc, request, prepared) {
         Ok((script, prepared)) => {
-            let ScriptRun {
+            let ServedScript {
                 replies,
                 journal: _journal,
-                disk,
-            } = run_script(alloc, disk, script, prepared)?;
-            Ok((only_reply(replies), disk))
+                store,
+            } = serve_script(alloc, disk, script, prepared)?;
+            Ok((only_reply(replies), store.into_disk()))
         }
         Err(NoMemory) => Err(OpenRefused {
             error: OpenError::NoMemory,
