@@ -138,7 +138,7 @@ IsAtStart (task.Fetch t) = t.stage ≡ fetch_stage.First
 IsAtStart (task.Deliver t) = (prepared : Prepared) × (t.stage ≡ save_stage.First prepared)
 IsAtStart other = Unit {0}
 
--- It is of the same kind and of the same request.
+-- It is of the same kind and of the same request, as far as the task tells it: of a delivery its message's size.
 abbrev pub StaysOfRequest : Task → Task → Type 0
 StaysOfRequest (task.Ops t) (task.Ops next) = next.request ≡ t.request
 StaysOfRequest (task.Counts t) (task.Counts next) = Unit {0}

@@ -193,20 +193,20 @@ flag_tells name uid flags given old new began now w =
       m = done.m;
       meanings = done.meanings;
       opened = done.opened;
-      given_is = done.told;
+      given_is = w.told;
       refused = λ why is.
           unchanged_since asked given entries old new began now done
-          (refused_idle asked given entries old new began now done tt why (missing_step found uid.0 why is) (subst (λ (cause : Option Refusal). IsFlagAnswer cause given) is done.told));
+          (refused_idle asked given entries old new began now done tt why (missing_step found uid.0 why is) (subst (λ (cause : Option Refusal). IsFlagAnswer cause given) is w.told));
       done = λ e.
           let running : given ≡ reply.Refused refusal.Stopped → ⊥ = λ stopped. let k : reply.Done ≡ reply.Refused refusal.Stopped = sym e ∙ stopped in cc k in
           record {
             map = w.later;
-            flagged = w.left;
+            flagged = w.later_meanings;
             opened = w.comes.again (λ c. running (one_of given (reply.Refused refusal.Stopped) c));
             shows = λ lists formed shows.
                 let left : left_by lists (done.serves lists (formed, shows) (may_read asked tt lists old)).journal ≡ set_flags name uid.0 flags lists =
                 flag_left name uid flags given entries old new began now done running lists (formed, shows) ∙ ap (λ (r : Reply). lists_told asked r lists) e in
-                subst (λ (ls : Lists). ShowLists w.later.boxes w.left ls) left (w.comes.shows lists (formed, shows) (may_read asked tt lists old)).1;
+                subst (λ (ls : Lists). ShowLists w.later.boxes w.later_meanings ls) left (w.comes.shows lists (formed, shows) (may_read asked tt lists old)).1;
           };
       settled = λ running lists at. subst (λ (ls : Lists). IsSettledFor ls new) (by_reply name uid flags given lists) (flag_settles name uid flags given entries old new began now done running lists at);
       mail = record {

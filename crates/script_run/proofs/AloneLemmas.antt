@@ -239,7 +239,7 @@ request_done {D} history faults asked script given replies one entries old began
     let e : o.0 ≡ one = cc same in
     let s = subst (λ (rs : List Reply). IsServedOpen (alone asked) rs entries old (history store.disk) began (faults store.disk) store) (o.1 ∙ ap (λ (r : Reply). r ∷ []) e)
     (subst (λ (q : Requests). IsServedOpen q given entries old (history store.disk) began (faults store.disk) store) is served) in
-    let done : IsRequestDone asked one old (history store.disk) began (faults store.disk) = record { entries = entries; done = s.done; later = store.map; left = indexes_of store.boxes; comes = s.comes } in
+    let done : IsRequestDone asked one old (history store.disk) began (faults store.disk) = record { entries = entries; done = s.done; later = store.map; later_meanings = indexes_of store.boxes; comes = s.comes; told = s.told } in
     subst (λ (d : D). IsRequestDone asked one old (history d) began (faults d)) (sym back) done
 
 -- ---- a request of one event that is refused

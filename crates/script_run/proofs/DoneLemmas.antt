@@ -404,7 +404,6 @@ done_run script old mid new first last s world ended r given are =
           cc e;
       faults = λ may. let start = start_of script old mid s r.opened r.show may in faults_of_run script old mid new first last s world ended r given are start.0 start.1 start.2;
       counts = record { counted = counts.reads; changes = counts.changes; unchanged = λ unstopped. counts.unchanged (stopped_by script old mid new first last s world ended r given are unstopped); unread = λ none. (unread_run script old mid new first last s world ended r none).unread };
-      told = told_alone script old mid new first last s world ended r given are;
       leaves = leaves_run script old mid new first last s world ended r given are;
       stays = λ may. stays_run script old mid new first last s world ended r may;
     }
@@ -424,6 +423,7 @@ script_done script old mid new first last s world ended r =
           again = λ unstopped. opens_again new ended.store r.later (stopped_by script old mid new first last s world ended r g.0 g.1 unstopped);
         };
         stopped = λ e. replied_by script old mid new first last s world ended r g.0 g.1 e;
+        told = told_alone script old mid new first last s world ended r g.0 g.1;
       },
     )
 

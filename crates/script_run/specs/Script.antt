@@ -93,6 +93,8 @@ has_delivery script = list_any (λ asked. is_delivery asked.1) script
 abbrev pub reads_mail : Request → Bool
 reads_mail (request.Fetch name uid) = true
 reads_mail (request.Deliver name time octets) = true
+reads_mail request.Purge = true
+reads_mail request.Resync = true
 reads_mail other = false
 
 abbrev pub has_mail_read : Requests → Bool
