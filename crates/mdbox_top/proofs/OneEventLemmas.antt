@@ -153,12 +153,12 @@ unfailed_by (reply.Refused refusal.Stopped) read running = running refl
 unfailed_by given read running = tt
 
 missing_step : (found : Option BoxMeaning) (uid : ℕ) (why : Refusal) → missing_cause found uid ≡ Some why → is_step why ≡ true
-missing_step None uid why e = let k : Some refusal.NoMailbox ≡ Some why = e in let z : refusal.NoMailbox ≡ why = cc k in sym (ap is_step (sym z))
+missing_step None uid why e = let k : Some refusal.NoMailbox ≡ Some why = e in let z : refusal.NoMailbox ≡ why = cc k in ap is_step (sym z)
 missing_step (Some m) uid why e = by_row (is_some (row_at m uid)) e
   where
     by_row : (b : Bool) → (if b then None else Some refusal.NoMessage) ≡ Some why → is_step why ≡ true
     by_row true e = absurd (let k : None ≡ Some why = e in cc k)
-    by_row false e = let k : Some refusal.NoMessage ≡ Some why = e in let z : refusal.NoMessage ≡ why = cc k in sym (ap is_step (sym z))
+    by_row false e = let k : Some refusal.NoMessage ≡ Some why = e in let z : refusal.NoMessage ≡ why = cc k in ap is_step (sym z)
 
 along_flag : (name : List ℕ) (uid : Uid) (flags : ℕ) (answer : Reply) (lists some : Lists) → some ≡ lists_told (flagging name uid flags) answer lists → (some ≡ lists) ⊎ (some ≡ set_flags name uid.0 flags lists)
 along_flag name uid flags reply.Done lists some e = inr e
