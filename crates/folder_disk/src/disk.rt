@@ -1,5 +1,6 @@
 // A disk over a folder.
 ghost use Rattle.std.specs.Prelude.{◌≡◌, ◌+◌, ◌-◌, ◌^◌, ◌<◌, ◌≤◌, min, length, take, drop, true, false};
+ghost use Rattle.std.specs.BTreeSet.{btree_set_len};
 ghost use Rattle.folder_model.specs.Calls.{IfModelled, IsLocked};
 ghost use Rattle.folder_disk.specs.Over.{IsDiskOver, told_history};
 ghost use Rattle.folder_disk.specs.Known.{AreKnownNames};
@@ -51,6 +52,7 @@ pub struct FolderDisk<F: Folder> {
     pub(crate) calls: u64,
     pub(crate) failed_reads: u64,
     pub(crate) failed_changes: u64,
+    ghost few: { btree_set_len unsynced ≤ 15 },
     ghost counted: { calls ≡ min (length record.changes) (2 ^ 64 - 1) },
     ghost over: { ∥ IsDiskOver (F.Folder.modelled folder) (F.Folder.past folder) record.changes is_spoiled ∥₁ },
     ghost listed: { ∥ AreKnownNames ⟦<FileName as Ord>⟧.cmp (told_history (F.Folder.modelled folder) record.changes) names ∥₁ },
@@ -61,7 +63,7 @@ pub struct FolderDisk<F: Folder> {
 impl<F: Folder + Drop> FolderDisk<F> {
     ghost use Rattle.std.specs.Prelude.{None, Some, Ok, ◌↔◌, [], IfOk, IfErr, IfSome, IfNone, IsOk, IsErr, IsErrOf, OnOk, OnErr, string_bytes};
     ghost use Rattle.std.specs.Prelude.{IsTrue, ◌⊎◌};
-    ghost use Rattle.std.specs.BTreeSet.{contains};
+    ghost use Rattle.std.specs.BTreeSet.{contains, btree_set_len};
     ghost use Rattle.std.specs.Option.{option_map};
     ghost use Rattle.disk_model.specs.Disk.{IfTold, IsPast, IsNext, ReadCause, ChangeCause, Reaches, IsThere, IsMoment, IsImage, AfterFailed, Unchanged, after, change, change_all, written, half_written, cut_to, half_cut, synced, made, half_made, removed, half_removed, named, reading};
     ghost use Rattle.disk_record.specs.Record.{state_after};
@@ -162,7 +164,7 @@ impl<F: Folder + Drop> FolderDisk<F> {
         ensures durable { OnOk result (IfModelled (F.Folder.modelled self.new.folder) (HasDurableFile path.now)) }
         ensures told { told_history (F.Folder.modelled self.new.folder) self.new.record.changes ≡ told_history (F.Folder.modelled self.old.folder) self.old.record.changes }
         ensures same { (self.new.failed_reads ≡ self.old.failed_reads) × (self.new.failed_changes ≡ self.old.failed_changes) }
-        ensures firm { self.new.firm ≡ self.old.firm }
+        ensures firm { (self.new.firm ≡ self.old.firm) × (self.new.unsynced ≡ self.old.unsynced) }
     {
         match settle_at(&mut self.folder, path) {
             Ok(()) => Ok(()),
@@ -224,21 +226,20 @@ impl<F: Folder + Drop> FolderDisk<F> {
         ensures locked { OnOk result (IsLocked (F.Folder.modelled self.new.folder)) }
         ensures sound { OnOk result (IsSoundSystem (F.Folder.modelled self.new.folder)) }
         ensures spoiled { OnOk result (self.new.is_spoiled ≡ false) }
-        ensures room { OnOk result (IsTrue (contains ⟦<FileName as Ord>⟧.cmp self.new.unsynced name) ⊎ (length self.new.unsynced.keys < 15)) }
+        ensures room { OnOk result (IsTrue (contains ⟦<FileName as Ord>⟧.cmp self.new.unsynced name) ⊎ (btree_set_len self.new.unsynced < 15)) }
         ensures told { told_history (F.Folder.modelled self.new.folder) self.new.record.changes ≡ told_history (F.Folder.modelled self.old.folder) self.old.record.changes }
         ensures same { (self.new.failed_reads ≡ self.old.failed_reads) × (self.new.failed_changes ≡ self.old.failed_changes) }
     {
         if self.unsynced.contains(&name) || self.unsynced.len() < MOST_UNSYNCED {
             return Ok(());
         }
-        let Some(first) = self.unsynced.first().copied() else {
+        let Some(first) = self.unsynced.pop_first() else {
             return Ok(());
         };
-        if let Some(path) = path_of(self.alloc, first)? {
-            self.sync_quietly(path.as_str())?;
+        match path_of(self.alloc, first)? {
+            Some(path) => self.sync_quietly(path.as_str()),
+            None => Ok(()),
         }
-        self.unsynced.remove(&first);
-        Ok(())
     }
 
     /// The path of a file that is to be changed, once this process has the store. It counts as one with octets that aren't synced.

@@ -35,7 +35,9 @@ pub(crate) fn kind_of<F: Folder>(
 /// Makes a folder where nothing stands, in one that is there.
 fn make_new_folder<F: Folder>(
     folder: &mut F,
-    alloc: Global, changed: &mut Changed, name: FolderName,
+    alloc: Global,
+    changed: &mut Changed,
+    name: FolderName,
 ) -> Result<(), CallError>
     requires locked { IsLocked (F.modelled folder.old) }
     requires sound { IsSoundSystem (F.modelled folder.old) }
@@ -60,7 +62,12 @@ fn make_new_folder<F: Folder>(
 }
 
 /// Makes a folder where it isn't there, in one that is there.
-fn make_one<F: Folder>(folder: &mut F, alloc: Global, changed: &mut Changed, name: FolderName) -> Result<(), CallError>
+fn make_one<F: Folder>(
+    folder: &mut F,
+    alloc: Global,
+    changed: &mut Changed,
+    name: FolderName,
+) -> Result<(), CallError>
     requires locked { IsLocked (F.modelled folder.old) }
     requires sound { IsSoundSystem (F.modelled folder.old) }
     requires below { name ≢ Top }
@@ -95,7 +102,12 @@ fn check_top<F: Folder>(folder: &mut F, alloc: Global) -> Result<(), CallError>
 }
 
 /// Makes a folder in the current one, where it isn't there.
-fn make_first<F: Folder>(folder: &mut F, alloc: Global, changed: &mut Changed, name: FolderName) -> Result<(), CallError>
+fn make_first<F: Folder>(
+    folder: &mut F,
+    alloc: Global,
+    changed: &mut Changed,
+    name: FolderName,
+) -> Result<(), CallError>
     requires locked { IsLocked (F.modelled folder.old) }
     requires sound { IsSoundSystem (F.modelled folder.old) }
     requires below { name ≢ Top }
@@ -111,7 +123,12 @@ fn make_first<F: Folder>(folder: &mut F, alloc: Global, changed: &mut Changed, n
 }
 
 /// Makes an outer folder of instances, where it isn't there.
-fn make_outer<F: Folder>(folder: &mut F, alloc: Global, changed: &mut Changed, first: u8) -> Result<(), CallError>
+fn make_outer<F: Folder>(
+    folder: &mut F,
+    alloc: Global,
+    changed: &mut Changed,
+    first: u8,
+) -> Result<(), CallError>
     requires locked { IsLocked (F.modelled folder.old) }
     requires sound { IsSoundSystem (F.modelled folder.old) }
     ensures there { OnOk result (IfModelled (F.modelled folder.new) (λ s. s.node (folder_text (Outer first)) ≡ AFolder)) }
@@ -127,7 +144,9 @@ fn make_outer<F: Folder>(folder: &mut F, alloc: Global, changed: &mut Changed, f
 /// Makes a folder of instances, where it isn't there.
 fn make_inner<F: Folder>(
     folder: &mut F,
-    alloc: Global, changed: &mut Changed, first: u8,
+    alloc: Global,
+    changed: &mut Changed,
+    first: u8,
     second: u8,
 ) -> Result<(), CallError>
     requires locked { IsLocked (F.modelled folder.old) }
@@ -145,7 +164,9 @@ fn make_inner<F: Folder>(
 /// Makes a folder and those above it, where they aren't there. What else stands in the place of one is an error.
 pub(crate) fn make_way<F: Folder>(
     folder: &mut F,
-    alloc: Global, changed: &mut Changed, name: FolderName,
+    alloc: Global,
+    changed: &mut Changed,
+    name: FolderName,
 ) -> Result<(), CallError>
     requires locked { IsLocked (F.modelled folder.old) }
     requires sound { IsSoundSystem (F.modelled folder.old) }
@@ -218,11 +239,7 @@ fn sync_all<F: Folder>(folder: &mut F, alloc: Global) -> Result<(), CallError>
 }
 
 /// Syncs the names in each folder that is noted.
-fn sync_noted<F: Folder>(
-    folder: &mut F,
-    alloc: Global,
-    changed: &Changed,
-) -> Result<(), CallError>
+fn sync_noted<F: Folder>(folder: &mut F, alloc: Global, changed: &Changed) -> Result<(), CallError>
     requires locked { IsLocked (F.modelled folder.old) }
     requires sound { IsSoundSystem (F.modelled folder.old) }
     requires noted { ∥ IfModelled (F.modelled folder.old) (AreSyncedBut changed.now) ∥₁ }

@@ -20,6 +20,7 @@ invariant_of-self-in-None g c =
     let same = c.names_there.ensures.same in
     let F : Option _ → Type 0 = λ k. ∥ AreKnownNames ghosts.cmp (told_history new self.record.changes) k ∥₁ in
     record {
+      few = self.few;
       counted = self.counted;
       over = over_same old new (g.F.Folder.past self.folder) (g.F.Folder.past c.names_there.new.folder) self.record.changes self.is_spoiled self.over same c.names_there.ensures.still;
       listed = subst F (sym c.take.ensures.after) ∣ tt ∣₁;
