@@ -1,15 +1,15 @@
 // The lines of cases, done on a disk.
 use crate::damage::{Damage, Damaged};
 use crate::files::{clear, octets_of, push_paths, put};
+use crate::folder::{CaseFolder, system_disk};
 use crate::runs::{Run, perform};
-use crate::setting::Setting;
+use crate::setting::{Place, Setting};
 use crate::streams::Streams;
 use crate::trial::Trial;
 use crate::trouble::Trouble;
 use case_text::{Command, Counts, Page, Stream, Taken, push_shown};
 use disk_mem::MemDisk;
 use disk_model::{Disk, FileName};
-use disk_real::RealDisk;
 use file_paths::name_of_path;
 use mdbox_base::{NoMemory, Seq};
 use std::alloc::Global;
@@ -23,6 +23,7 @@ pub struct Cases {
     page: Page,
     setting: Setting,
     disk: MemDisk,
+    folder: CaseFolder,
     /// How many calls of the disk the last run made.
     calls: u64,
 }
@@ -46,6 +47,7 @@ impl Cases {
             page: Page::empty(alloc),
             setting: Setting::none(alloc),
             disk: MemDisk::fresh(alloc)?,
+            folder: CaseFolder::empty(alloc),
             calls: 0,
         })
     }
@@ -111,6 +113,10 @@ impl Cases {
         match command.word {
             "case" => self.begin(rest),
             "real" => self.begin_real(),
+            "folder" => {
+                self.setting.place = Place::Folder;
+                Ok(true)
+            }
             "load" => self.load(command),
             "keep" => self.keep(command),
             "file" => self.lay(command, true),
@@ -128,6 +134,10 @@ impl Cases {
                 self.setting.narrow = true;
                 Ok(true)
             }
+            "held" => {
+                self.folder.hold();
+                Ok(true)
+            }
             "fail" => Ok(self.setting.fail(rest)),
             _ => self.run_line(command),
         }
@@ -137,14 +147,15 @@ impl Cases {
     fn begin(&mut self, title: &str) -> Result<bool, Trouble> {
         self.page.report.begin(title)?;
         self.disk = MemDisk::fresh(self.alloc)?;
+        self.folder = CaseFolder::empty(self.alloc);
         self.setting = Setting::none(self.alloc);
         Ok(true)
     }
 
     /// Goes on in the folder of the system that the program runs in, whose files are removed.
     fn begin_real(&mut self) -> Result<bool, Trouble> {
-        self.setting.real = true;
-        let mut disk = RealDisk::of(self.rt);
+        self.setting.place = Place::System;
+        let mut disk = system_disk(self.rt);
         clear(&mut disk)?;
         disk.sync_names()?;
         Ok(true)
@@ -175,11 +186,10 @@ impl Cases {
 
     /// The octets of a file of the store. None if it isn't there.
     fn octets(&mut self, name: FileName) -> Result<Option<Vec<u8>>, Trouble> {
-        if self.setting.real {
-            let mut disk = RealDisk::of(self.rt);
-            octets_of(self.alloc, &mut disk, name)
-        } else {
-            octets_of(self.alloc, &mut self.disk, name)
+        match self.setting.place {
+            Place::Disk => octets_of(self.alloc, &mut self.disk, name),
+            Place::Folder => self.folder.octets(name),
+            Place::System => octets_of(self.alloc, &mut system_disk(self.rt), name),
         }
     }
 
@@ -192,11 +202,11 @@ impl Cases {
         let Some(octets) = self.page.texts.octets(text)? else {
             return Ok(false);
         };
-        if self.setting.real {
-            let mut disk = RealDisk::of(self.rt);
-            put(&mut disk, name, octets.as_slice(), synced)?;
-        } else {
-            put(&mut self.disk, name, octets.as_slice(), synced)?;
+        let octets = octets.as_slice();
+        match self.setting.place {
+            Place::Disk => put(&mut self.disk, name, octets, synced)?,
+            Place::Folder => self.folder.put(name, octets, synced)?,
+            Place::System => put(&mut system_disk(self.rt), name, octets, synced)?,
         }
         Ok(true)
     }
@@ -205,12 +215,20 @@ impl Cases {
         let Some(name) = name_of_path(path.as_bytes()) else {
             return Ok(false);
         };
-        self.disk.remove(name)?;
+        if self.setting.place == Place::Folder {
+            self.folder.remove(name)?;
+        } else {
+            self.disk.remove(name)?;
+        }
         Ok(true)
     }
 
     fn sync(&mut self) -> Result<bool, Trouble> {
-        self.disk.sync_names()?;
+        if self.setting.place == Place::Folder {
+            self.folder.sync()?;
+        } else {
+            self.disk.sync_names()?;
+        }
         Ok(true)
     }
 
@@ -233,12 +251,14 @@ impl Cases {
 
     /// Tells the paths of all files.
     fn files(&mut self) -> Result<bool, Trouble> {
-        let out = self.page.report.found();
-        if self.setting.real {
-            let mut disk = RealDisk::of(self.rt);
-            push_paths(self.alloc, &mut disk, out)?;
-        } else {
-            push_paths(self.alloc, &mut self.disk, out)?;
+        match self.setting.place {
+            Place::Disk => push_paths(self.alloc, &mut self.disk, self.page.report.found())?,
+            Place::Folder => self.folder.push_paths(self.page.report.found())?,
+            Place::System => push_paths(
+                self.alloc,
+                &mut system_disk(self.rt),
+                self.page.report.found(),
+            )?,
         }
         Ok(true)
     }
@@ -323,18 +343,24 @@ impl Cases {
             watches: self.setting.watches.as_slice(),
             between: self.setting.between.as_slice(),
         };
-        trial.explore(&self.disk, &mut self.page.report)
+        match self.setting.place {
+            Place::Folder => self.folder.explore(trial, &mut self.page.report),
+            Place::Disk | Place::System => trial.explore(&self.disk, &mut self.page.report),
+        }
     }
 
     /// Does a run on the disk of the case, and tells its status, if it isn't the one that is wanted, and what it printed and said.
     fn run(&mut self, run: Run<'_>, wanted: u8) -> Result<(), NoMemory> {
         let (fails, narrow) = (self.setting.fails, self.setting.narrow);
         let mut streams = Streams::of(self.alloc, run.input, fails, narrow)?;
-        let status = if self.setting.real {
-            let (_, status) = perform(self.alloc, RealDisk::of(self.rt), run.words, &mut streams);
-            status
-        } else {
-            self.perform(run, &mut streams)?
+        let status = match self.setting.place {
+            Place::Disk => self.perform(run, &mut streams)?,
+            Place::Folder => self.perform_in_folder(run, &mut streams)?,
+            Place::System => {
+                let disk = system_disk(self.rt);
+                let (_, status) = perform(self.alloc, disk, run.words, &mut streams);
+                status
+            }
         };
         self.setting.end_run();
         self.page.report.count_run();
@@ -344,6 +370,13 @@ impl Cases {
         }
         self.tell(Stream::Output, streams.printed())?;
         self.tell(Stream::Errors, streams.said())
+    }
+
+    /// Does a run over the folder in memory.
+    fn perform_in_folder(&mut self, run: Run<'_>, streams: &mut Streams) -> Result<u8, NoMemory> {
+        let (calls, status) = self.folder.perform(run, streams)?;
+        self.calls = calls;
+        Ok(status)
     }
 
     /// Does a run on the disk in memory.

@@ -10,12 +10,14 @@ use std::{env, fs};
 mod cases;
 mod damage;
 mod files;
+mod folder;
 mod runs;
 mod seen;
 mod setting;
 mod streams;
 mod trial;
 mod trouble;
+mod turns;
 
 /// The first file has octets that the cases of the others name.
 fn main(rt: HostRuntime) -> Result<()> {

@@ -2,6 +2,17 @@
 use crate::streams::Fails;
 use std::alloc::Global;
 
+/// Where the files of a case are.
+#[derive(Clone, Copy, PartialEq, Eq)]
+pub enum Place {
+    /// On a disk in memory.
+    Disk,
+    /// In a folder in memory, as the system has them.
+    Folder,
+    /// In the folder of the system that the program runs in.
+    System,
+}
+
 /// What lines have said for the runs of a case.
 #[derive(Drop)]
 pub struct Setting {
@@ -15,8 +26,7 @@ pub struct Setting {
     pub disk_fails: u64,
     /// Whether the output takes one octet a call in the next run.
     pub narrow: bool,
-    /// Whether the files are those of the folder.
-    pub real: bool,
+    pub place: Place,
 }
 
 impl Setting {
@@ -28,7 +38,7 @@ impl Setting {
             fails: Fails::NONE,
             disk_fails: 0,
             narrow: false,
-            real: false,
+            place: Place::Disk,
         }
     }
 

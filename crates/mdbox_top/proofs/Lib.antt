@@ -1,6 +1,7 @@
 pub mod AloneLemmas
 pub mod BatchLemmas
 pub mod CountsLemmas
+pub mod ChangedLemmas
 pub mod ChangeLemmas
 pub mod CopyLemmas
 pub mod DeliverLemmas
@@ -8,7 +9,6 @@ pub mod ExpungeLemmas
 pub mod FetchLemmas
 pub mod FetchedLemmas
 pub mod FirstLemmas
-pub mod FlagLemmas
 pub mod InitLemmas
 pub mod InputLemmas
 pub mod KnownFirstLemmas
@@ -17,6 +17,7 @@ pub mod MailLemmas
 pub mod MakeFileLemmas
 pub mod MakeLemmas
 pub mod MoveLemmas
+pub mod OneEventLemmas
 pub mod PlaceLemmas
 pub mod ReplyFaultLemmas
 pub mod RequestLemmas
@@ -24,6 +25,7 @@ pub mod RoomLemmas
 pub mod RunLemmas
 pub mod SaveLemmas
 pub mod SavedFormLemmas
+pub mod ServeLemmas
 pub mod ServedLemmas
 pub mod StaysLemmas
 pub mod UnderWayLemmas

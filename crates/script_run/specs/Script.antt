@@ -31,7 +31,7 @@ HasStopped given = Contains given (reply.Refused refusal.Stopped)
 abbrev pub OpensShowing : MapMeaning → Lists → Option History → Type 0
 OpensShowing m lists new = (later : List BoxMeaning) × IsOpenedAs new m later × LogsShowLists m later lists
 
--- A world was made after so many calls of the device, as the disk tells that the store was open; no event of the run had ended then.
+-- A world was made after so many calls of the device, as the disk tells that the store was open; no event of the run had ended before.
 abbrev pub IsMadeBefore : Option History → ℕ → Run → Type 0
 IsMadeBefore opened made run = IsMoment opened made × All (λ event. told_calls opened ≤ event.moment) run.events
 
@@ -88,3 +88,14 @@ has_change script = list_any (λ asked. not (only_reads asked.1)) script
 
 abbrev pub has_delivery : Requests → Bool
 has_delivery script = list_any (λ asked. is_delivery asked.1) script
+
+-- a request that reads octets of storage files or instances
+abbrev pub reads_mail : Request → Bool
+reads_mail (request.Fetch name uid) = true
+reads_mail (request.Deliver name time octets) = true
+reads_mail request.Purge = true
+reads_mail request.Resync = true
+reads_mail other = false
+
+abbrev pub has_mail_read : Requests → Bool
+has_mail_read script = list_any (λ asked. reads_mail asked.1) script

@@ -1,8 +1,10 @@
-// The run of a script.
-ghost use Rattle.std.specs.Prelude.{◌≡◌, ◌≤◌, List, Some, length, map, IfErr, IfOk};
+// The run of a script, and of a request alone.
+ghost use Rattle.std.specs.Prelude.{◌≡◌, ◌≤◌, ◌∷◌, [], List, Some, length, map, IfErr, IfOk};
 ghost use Rattle.mdbox_base.specs.declared.replies.Reply.{Reply as ReplyValue};
-ghost use Rattle.lanes.specs.Worlds.{AreGiven, AreOfLanes};
+ghost use Rattle.lanes.specs.Worlds.{AreGiven, AreOfLanes, HasItsMessage};
 ghost use Rattle.script_run.specs.Done.{IsScriptDone};
+ghost use Rattle.script_run.specs.LeftOpen.{IsRequestDone, IsServedOpen};
+ghost use Rattle.script_run.specs.One.{alone};
 ghost use Rattle.script_run.specs.Opening.{IsUnopened};
 
 use attach_detach::Prepared;
@@ -10,9 +12,9 @@ use disk_model::Disk;
 use lanes::{
     World, WorldParts, idle_worlds_have_replied, lanes_begin, lanes_end, worlds_begin, worlds_go_on,
 };
-use mdbox_base::{JournalEntry, Reply, Script, Seq};
+use mdbox_base::{JournalEntry, NoMemory, Reply, Request, Script, Seq};
 use std::alloc::Global;
-use store_core::listings_are_shown;
+use store_core::{Store, listings_are_shown};
 use store_open::{OpenError, OpenRefused, open_store};
 
 /// What the run of a script gives.
@@ -24,8 +26,17 @@ pub struct ScriptRun<D> {
     pub disk: D,
 }
 
-/// Opens the store and does the requests of a script on its lanes, to their end. What is wanted of memory is taken before the store is
-/// opened. Each request that delivers a message has it prepared, at its place.
+/// What the run of a script gives, and the store, which is still open.
+pub struct ServedScript<D: Disk> {
+    /// The reply of each request, in script order.
+    pub replies: Seq<Option<Reply>>,
+    /// The steps that were made, in order.
+    pub journal: Seq<JournalEntry>,
+    pub store: Store<D>,
+}
+
+/// Opens the store, does the requests of a script on its lanes, to their end, and hands the disk back. What is wanted of memory is
+/// taken before the store is opened. Each request that delivers a message has it prepared, at its place.
 pub fn run_script<D: Disk>(
     alloc: Global,
     disk: D,
@@ -36,6 +47,35 @@ pub fn run_script<D: Disk>(
     requires few { length script.requests ≤ 100000 }
     requires given { AreGiven script.requests prepared }
     ensures done { IfOk result (λ done. (given : List ReplyValue) × (done.replies ≡ map Some given) × IsScriptDone script.requests given done.journal (D.history disk) (D.history done.disk) (D.faults disk) (D.faults done.disk)) }
+    ensures refused { IfErr result (λ refused. IsUnopened refused.error (D.history disk) (D.history refused.disk) (D.faults disk) (D.faults refused.disk)) }
+{
+    match serve_script(alloc, disk, script, prepared) {
+        Ok(
+            ServedScript {
+                replies,
+                journal,
+                store,
+            },
+        ) => Ok(ScriptRun {
+            replies,
+            journal,
+            disk: store.into_disk(),
+        }),
+        Err(refused) => Err(refused),
+    }
+}
+
+/// Opens the store and does the requests of a script on its lanes, to their end, as `run_script` does, and leaves the store open.
+pub fn serve_script<D: Disk>(
+    alloc: Global,
+    disk: D,
+    script: Script,
+    prepared: Seq<Option<Prepared>>,
+) -> Result<ServedScript<D>, OpenRefused<D>>
+    requires lanes { (1 ≤ script.lanes) × (script.lanes ≤ 64) × AreOfLanes script.lanes script.requests }
+    requires few { length script.requests ≤ 100000 }
+    requires given { AreGiven script.requests prepared }
+    ensures served { IfOk result (λ served. (given : List ReplyValue) × (served.replies ≡ map Some given) × IsServedOpen script.requests given served.journal (D.history disk) (D.history served.store.disk) (D.faults disk) (D.faults served.store.disk) served.store) }
     ensures refused { IfErr result (λ refused. IsUnopened refused.error (D.history disk) (D.history refused.disk) (D.faults disk) (D.faults refused.disk)) }
 {
     listings_are_shown();
@@ -59,12 +99,65 @@ pub fn run_script<D: Disk>(
             world.known_facts();
             let (store, replies, journal, _broken) = world.into_parts();
             store.facts();
-            Ok(ScriptRun {
+            Ok(ServedScript {
                 replies,
                 journal,
-                disk: store.into_disk(),
+                store,
             })
         }
         Err(refused) => Err(refused),
+    }
+}
+
+/// Opens the store and does a request alone, on one lane. One that delivers a message has it prepared.
+pub fn run_request<D: Disk>(
+    alloc: Global,
+    disk: D,
+    request: Request,
+    prepared: Option<Prepared>,
+) -> Result<(Reply, D), OpenRefused<D>>
+    requires given { HasItsMessage request prepared }
+    ensures done { IfOk result (λ done. IsRequestDone request done.0 (D.history disk) (D.history done.1) (D.faults disk) (D.faults done.1)) }
+    ensures refused { IfErr result (λ refused. IsUnopened refused.error (D.history disk) (D.history refused.disk) (D.faults disk) (D.faults refused.disk)) }
+{
+    match script_of(alloc, request, prepared) {
+        Ok((script, prepared)) => {
+            let ServedScript {
+                replies,
+                journal: _journal,
+                store,
+            } = serve_script(alloc, disk, script, prepared)?;
+            Ok((only_reply(replies), store.into_disk()))
+        }
+        Err(NoMemory) => Err(OpenRefused {
+            error: OpenError::NoMemory,
+            disk,
+        }),
+    }
+}
+
+/// The script of a request alone, and what it is given beside.
+fn script_of(
+    alloc: Global,
+    request: Request,
+    prepared: Option<Prepared>,
+) -> Result<(Script, Seq<Option<Prepared>>), NoMemory>
+    ensures { IfOk result (λ made. (made.0.lanes ≡ 1) × (made.0.requests ≡ alone request) × (made.1 ≡ prepared ∷ [])) }
+{
+    let mut requests = Seq::empty(alloc);
+    requests.push((1, request))?;
+    let mut given = Seq::empty(alloc);
+    given.push(prepared)?;
+    Ok((Script { lanes: 1, requests }, given))
+}
+
+/// The reply of a script of one request.
+fn only_reply(replies: Seq<Option<Reply>>) -> Reply
+    requires { (given : ReplyValue) × (replies ≡ Some given ∷ []) }
+    ensures { replies ≡ Some result ∷ [] }
+{
+    match replies.into_vec().pop() {
+        Some(Some(given)) => given,
+        _ => unreachable!(),
     }
 }
