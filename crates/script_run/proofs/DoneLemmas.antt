@@ -18,7 +18,7 @@ use Rattle.model_store.specs.Settled.{IsSettledFor}
 use Rattle.list_machine.specs.Run.{Run, reply_of}
 use Rattle.journal.specs.Events.{Around, is_fault}
 use Rattle.journal.specs.Makes.{AreNextEvents, HasCome}
-use Rattle.journal.specs.Journal.{Broken, HasReply, IsLegal, JournalStep, Requests, no_broken}
+use Rattle.journal.specs.Journal.{Broken, HasReply, IsLegal, JournalStep, Requests, left_by, no_broken}
 use Rattle.serving.specs.Serving.{AreIdle, HaveLanes, unreplied}
 use Rattle.sis_store.specs.Instances.{AreInstances}
 use Rattle.store_core.specs.Running.{IsStore}
@@ -38,6 +38,7 @@ use Rattle.lane_tasks.specs.Clause.{IsAtStart, OnlyReads}
 use Rattle.task_steps.proofs.UnmovedLemmas.{mail_still}
 use Rattle.script_run.specs.Done.{IsScriptDone, LeavesStore, MayBeKept, MayBeServed, MayRead}
 use Rattle.script_run.specs.Faults.{FaultsByReplies, HasReadFault}
+use Rattle.script_run.specs.LeftOpen.{ComesTo, IsServedOpen}
 use Rattle.script_run.specs.Opening.{AreSafeFor, LogsShowLists}
 use Rattle.script_run.specs.Script.{HasStopped, ServesScript, has_change, has_delivery, has_fetch, is_fetch}
 use Rattle.script_run.proofs.EndLemmas.{all_given, script_served, serves_from, unharmed}
@@ -48,7 +49,7 @@ use Rattle.script_run.proofs.MovedLemmas.{Purges, all_at, none_moved}
 use Rattle.script_run.proofs.OpenedLemmas.{none_holds, none_used}
 use Rattle.script_run.proofs.ReadFaultLemmas.{TellsFault, faults_are_told}
 use Rattle.script_run.proofs.RunBeginsLemmas.{OpenedNow, at_opening, before_opening, beginning, first_come, opening_begins}
-use Rattle.script_run.proofs.ShownLemmas.{LogsShow, opened_logs_show}
+use Rattle.script_run.proofs.ShownLemmas.{LogsShow, opened_logs_show, opens_again}
 use Rattle.script_run.proofs.SomeListsLemmas.{some_lists}
 
 -- ---- a world begins
@@ -197,10 +198,13 @@ counts_of_run : {D : Type 0} → (script : Requests) (old mid new : Option Histo
 counts_of_run script old mid new first last s world ended r = stays_over (HasCounted mid first) (counted_on mid first) 0 r.turns (as_finished world) ended mid new first last r.chain (counted_first (as_finished world) mid first r.runs)
 
 -- a store that is stopped in the end replied so
+replied_by : {D : Type 0} → (script : Requests) (old mid new : Option History) (first last : Faults) (s : StoreValue D) (world ended : WorldValue D) → ScriptRan script old mid new first last s world ended → (given : List Reply) → ended.replies ≡ map Some given → ended.store.stopped ≡ true → HasStopped given
+replied_by script old mid new first last s world ended r given are e =
+    let i = (counts_of_run script old mid new first last s world ended r).replied e in
+    given_at given i.0 (reply.Refused refusal.Stopped) (subst (λ (rs : List (Option Reply)). HasReply rs i.0 (reply.Refused refusal.Stopped)) are i.1)
+
 stopped_by : {D : Type 0} → (script : Requests) (old mid new : Option History) (first last : Faults) (s : StoreValue D) (world ended : WorldValue D) → ScriptRan script old mid new first last s world ended → (given : List Reply) → ended.replies ≡ map Some given → (HasStopped given → ⊥) → ended.store.stopped ≡ false
-stopped_by script old mid new first last s world ended r given are unstopped =
-    let c = counts_of_run script old mid new first last s world ended r in
-    not_true ended.store.stopped (λ e. let i = c.replied e in unstopped (given_at given i.0 (reply.Refused refusal.Stopped) (subst (λ (rs : List (Option Reply)). HasReply rs i.0 (reply.Refused refusal.Stopped)) are i.1)))
+stopped_by script old mid new first last s world ended r given are unstopped = not_true ended.store.stopped (λ e. unstopped (replied_by script old mid new first last s world ended r given are e))
 
 -- from lists that the logs show, the replies tell the faults
 faults_of_run : {D : Type 0} → (script : Requests) (old mid new : Option History) (first last : Faults) (s : StoreValue D) (world ended : WorldValue D) → (r : ScriptRan script old mid new first last s world ended) → (given : List Reply) → ended.replies ≡ map Some given → (start : Lists) → LogsShowLists s.map (indexes_of s.boxes) start → MayRead script start old
@@ -249,9 +253,9 @@ idle_run script old mid new first last s world ended r none =
       idle = idle-begins mid;
     })).idle
 
--- it is served from them
+-- it is served from them, and the logs show in the end what its journal leaves
 serves_run : {D : Type 0} → (script : Requests) (old mid new : Option History) (first last : Faults) (s : StoreValue D) (world ended : WorldValue D) → (r : ScriptRan script old mid new first last s world ended) → (given : List Reply) → ended.replies ≡ map Some given → (start : Lists) → LogsShowLists s.map (indexes_of s.boxes) start → MayRead script start old
-    → ServesScript script start given ended.journal first last old mid new
+    → (was : ServesScript script start given ended.journal first last old mid new) × LogsShowLists ended.store.map (indexes_of ended.store.boxes) (left_by start was.journal)
 serves_run script old mid new first last s world ended r given are start shows may =
     let from : Seen = before_opening (seen_in s mid first) old in
     let w = ended_world script old mid new first last s world ended r start shows may in
@@ -293,29 +297,42 @@ stays_run script old mid new first last s world ended r may = by_test (has_deliv
         let kept = (undelivered_run script old mid new first last s world ended r e).kept s.map in
         stays_from old mid new s.map (indexes_of s.boxes) r.opened.opened r.opened.reads r.opened.stays kept
 
-pub script_done : {D : Type 0} → (script : Requests) (old mid new : Option History) (first last : Faults) (s : StoreValue D) (world ended : WorldValue D) → ScriptRan script old mid new first last s world ended
-    → (given : List Reply) × (ended.replies ≡ map Some given) × IsScriptDone script given ended.journal old new first last
+done_run : {D : Type 0} → (script : Requests) (old mid new : Option History) (first last : Faults) (s : StoreValue D) (world ended : WorldValue D) → ScriptRan script old mid new first last s world ended → (given : List Reply) → ended.replies ≡ map Some given → IsScriptDone script given ended.journal old new first last
 unfolding leaves_run
+done_run script old mid new first last s world ended r given are =
+    let counts = counts_of_run script old mid new first last s world ended r in
+    record {
+      each = sym (length-map given Some) ∙ (ap length (sym are) ∙ r.many);
+      m = s.map;
+      meanings = indexes_of s.boxes;
+      opened = r.opened.opened;
+      shown = λ lists safe. opened_logs_show lists old s.map (indexes_of s.boxes) r.opened.opened r.show safe;
+      serves = λ lists shows may. (serves_run script old mid new first last s world ended r given are lists shows may).0;
+      undamaged = λ may.
+          let start = start_of script old mid s r.opened r.show may in
+          let w = ended_world script old mid new first last s world ended r start.0 start.1 start.2 in
+          unharmed given (λ i one at. w.is.going.undamaged.none_told i one (subst (λ (rs : List (Option Reply)). HasReply rs i one) (sym are) at));
+      faults = λ may. let start = start_of script old mid s r.opened r.show may in faults_of_run script old mid new first last s world ended r given are start.0 start.1 start.2;
+      counts = record { counted = counts.reads; changes = counts.changes; unchanged = λ unstopped. counts.unchanged (stopped_by script old mid new first last s world ended r given are unstopped) };
+      leaves = leaves_run script old mid new first last s world ended r given are;
+      stays = λ may. stays_run script old mid new first last s world ended r may;
+    }
+
+-- It was done, and left the store so.
+pub script_done : {D : Type 0} → (script : Requests) (old mid new : Option History) (first last : Faults) (s : StoreValue D) (world ended : WorldValue D) → ScriptRan script old mid new first last s world ended
+    → (given : List Reply) × (ended.replies ≡ map Some given) × IsServedOpen script given ended.journal old new first last ended.store
+unfolding done_run leaves_run
 script_done script old mid new first last s world ended r =
-    let g = all_given ended.replies r.replied in
-    let counts = counts_of_run script old mid new first last s world ended r in (
+    let g = all_given ended.replies r.replied in (
       g.0,
       g.1,
       record {
-        each = sym (length-map g.0 Some) ∙ (ap length (sym g.1) ∙ r.many);
-        m = s.map;
-        meanings = indexes_of s.boxes;
-        opened = r.opened.opened;
-        shown = λ lists safe. opened_logs_show lists old s.map (indexes_of s.boxes) r.opened.opened r.show safe;
-        serves = λ lists shows may. serves_run script old mid new first last s world ended r g.0 g.1 lists shows may;
-        undamaged = λ may.
-            let start = start_of script old mid s r.opened r.show may in
-            let w = ended_world script old mid new first last s world ended r start.0 start.1 start.2 in
-            unharmed g.0 (λ i one at. w.is.going.undamaged.none_told i one (subst (λ (rs : List (Option Reply)). HasReply rs i one) (sym g.1) at));
-        faults = λ may. let start = start_of script old mid s r.opened r.show may in faults_of_run script old mid new first last s world ended r g.0 g.1 start.0 start.1 start.2;
-        counts = record { counted = counts.reads; changes = counts.changes; unchanged = λ unstopped. counts.unchanged (stopped_by script old mid new first last s world ended r g.0 g.1 unstopped) };
-        leaves = leaves_run script old mid new first last s world ended r g.0 g.1;
-        stays = λ may. stays_run script old mid new first last s world ended r may;
+        done = done_run script old mid new first last s world ended r g.0 g.1;
+        comes = record {
+          shows = λ lists shows may. serves_run script old mid new first last s world ended r g.0 g.1 lists shows may;
+          again = λ unstopped. opens_again new ended.store r.later (stopped_by script old mid new first last s world ended r g.0 g.1 unstopped);
+        };
+        stopped = λ e. replied_by script old mid new first last s world ended r g.0 g.1 e;
       },
     )
 
@@ -349,7 +366,7 @@ script_ran script lanes prepared parts old mid new first last s world ended turn
 pub run_done : {D : Type 0} → (history : D → Option History) (faults : D → Faults) (script : Requests) (lanes : ℕ) (prepared : List (Option Prepared)) (parts : PartsValue) (old : Option History) (s : StoreValue D) (world ended : WorldValue D) (turns : List ℕ) → (o : OpenedNow old (history s.disk) s) → LogsShow → AreGiven script prepared → AreOfLanes lanes script → lanes ≤ 64
     → ArePartsOf script lanes parts → HasNoTask s → LanesBegin D → WorldsBegin D → LanesEnd D → IsFreshWorld s parts (history s.disk) world → GoesOnBy turns world ended (history world.store.disk) (history ended.store.disk) (faults world.store.disk) (faults ended.store.disk) → (ended.began ≡ world.began) × (length ended.replies ≡ length world.replies)
     → ((i : ℕ) → i < length ended.replies → (given : Reply) × HasReply ended.replies i given) → AreIdle (lanes_of ended.rows) → IsStore (history ended.store.disk) ended.store
-    → (given : List Reply) × (ended.replies ≡ map Some given) × IsScriptDone script given ended.journal old (history ended.store.disk) (faults s.disk) (faults ended.store.disk)
+    → (given : List Reply) × (ended.replies ≡ map Some given) × IsServedOpen script given ended.journal old (history ended.store.disk) (faults s.disk) (faults ended.store.disk) ended.store
 run_done {D} history faults script lanes prepared parts old s world ended turns o show given in_lanes few are unused begin world_begin end begun goes keeps replied idle later =
     script_done script old (history s.disk) (history ended.store.disk) (faults s.disk) (faults ended.store.disk) s world ended
     (script_ran script lanes prepared parts old (history s.disk) (history ended.store.disk) (faults s.disk) (faults ended.store.disk) s world ended turns o show given are begun going went keeps replied idle later world_begin end)
@@ -366,11 +383,17 @@ run_done {D} history faults script lanes prepared parts old s world ended turns 
 abbrev pub EndedParts : Type 0 → Type 0
 EndedParts D = StoreValue D × List (Option Reply) × List JournalEntry × List JournalEntry
 
--- It is handed back so, with the disk of its store.
-pub handed_back : {D : Type 0} → (history : D → Option History) (faults : D → Faults) (script : Requests) (old : Option History) (first began : Faults) (ended : WorldValue D) (parts : EndedParts D) (disk : D) → parts ≡ (ended.store, ended.replies, ended.journal, ended.broken) → disk ≡ parts.0.disk → first ≡ began
-    → (given : List Reply) × (ended.replies ≡ map Some given) × IsScriptDone script given ended.journal old (history ended.store.disk) first (faults ended.store.disk)
-    → (given : List Reply) × (parts.1 ≡ map Some given) × IsScriptDone script given parts.2 old (history disk) began (faults disk)
-handed_back {D} history faults script old first began ended parts disk are is same done =
-    subst (λ (d : D). (given : List Reply) × (parts.1 ≡ map Some given) × IsScriptDone script given parts.2 old (history d) began (faults d)) (sym is)
-    (subst (λ (f : Faults). (given : List Reply) × (parts.1 ≡ map Some given) × IsScriptDone script given parts.2 old (history parts.0.disk) f (faults parts.0.disk)) same
-    (subst (λ (p : EndedParts D). (given : List Reply) × (p.1 ≡ map Some given) × IsScriptDone script given p.2 old (history p.0.disk) first (faults p.0.disk)) (sym are) done))
+-- It is handed out so.
+pub handed_out : {D : Type 0} → (history : D → Option History) (faults : D → Faults) (script : Requests) (old : Option History) (first began : Faults) (ended : WorldValue D) (parts : EndedParts D) → parts ≡ (ended.store, ended.replies, ended.journal, ended.broken) → first ≡ began
+    → (given : List Reply) × (ended.replies ≡ map Some given) × IsServedOpen script given ended.journal old (history ended.store.disk) first (faults ended.store.disk) ended.store
+    → (given : List Reply) × (parts.1 ≡ map Some given) × IsServedOpen script given parts.2 old (history parts.0.disk) began (faults parts.0.disk) parts.0
+handed_out {D} history faults script old first began ended parts are same done =
+    subst (λ (f : Faults). (given : List Reply) × (parts.1 ≡ map Some given) × IsServedOpen script given parts.2 old (history parts.0.disk) f (faults parts.0.disk) parts.0) same
+    (subst (λ (p : EndedParts D). (given : List Reply) × (p.1 ≡ map Some given) × IsServedOpen script given p.2 old (history p.0.disk) first (faults p.0.disk) p.0) (sym are) done)
+
+-- It is handed back with the disk of its store.
+pub handed_back : {D : Type 0} → (history : D → Option History) (faults : D → Faults) (script : Requests) (replies : List (Option Reply)) (entries : List JournalEntry) (old : Option History) (began : Faults) (store : StoreValue D) (disk : D) → disk ≡ store.disk
+    → (given : List Reply) × (replies ≡ map Some given) × IsServedOpen script given entries old (history store.disk) began (faults store.disk) store
+    → (given : List Reply) × (replies ≡ map Some given) × IsScriptDone script given entries old (history disk) began (faults disk)
+handed_back {D} history faults script replies entries old began store disk is served =
+    (served.0, served.1, subst (λ (d : D). IsScriptDone script served.0 entries old (history d) began (faults d)) (sym is) served.2.done)

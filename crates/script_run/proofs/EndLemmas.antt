@@ -13,7 +13,7 @@ use Rattle.model_store.specs.Opening.{Opens}
 use Rattle.model_store.specs.Safe.{Safe}
 use Rattle.model_store.specs.Settled.{files_of, IsSettledFor}
 use Rattle.list_machine.specs.Run.{Run}
-use Rattle.journal.specs.Journal.{Broken, HasReply, JournalStep, Requests, moment_of, no_broken, refusal_in}
+use Rattle.journal.specs.Journal.{Broken, HasReply, JournalStep, Requests, left_by, moment_of, no_broken, refusal_in}
 use Rattle.journal.specs.Makes.{StaysStopped}
 use Rattle.journal.proofs.ReachedLemmas.{reached_last}
 use Rattle.store_core.specs.Running.{IsStore}
@@ -25,7 +25,7 @@ use Rattle.mail_fetch.specs.Task.{seen_in}
 use Rattle.lanes.specs.Going.{IsGoing, TellsDamage}
 use Rattle.lanes.specs.Rows.{LaneRow}
 use Rattle.lanes.specs.Worlds.{AreEntriesAt}
-use Rattle.script_run.specs.Opening.{RunBegins}
+use Rattle.script_run.specs.Opening.{LogsShowLists, RunBegins}
 use Rattle.script_run.specs.Script.{HasStopped, IsMadeBefore, IsRefusedAtOnce, ServesScript}
 use Rattle.script_run.proofs.RunBeginsLemmas.{before_opening, first_map, run_ends}
 use Rattle.script_run.proofs.ShownLemmas.{opens_again}
@@ -79,11 +79,12 @@ unharmed (one ∷ rest) none = All-cons (λ (x : Reply). TellsDamage (refusal_in
 -- ---- it ends
 
 -- The script was served: its lanes have come to their end, the store is stopped only if a reply says so, and the entries are the
--- journal's.
+-- journal's. The store shows what the journal leaves.
 pub script_served : {D : Type 0} → (start : Lists) (script : Requests) (run : Run) (journal : List JournalStep) (broken : Broken) (given : List Reply) (entries : List JournalEntry) (began : Seen) (made : ℕ) (store : StoreValue D) (opened history : Option History) (faults : Faults) (rows : List LaneRow)
     → IsGoing start script run journal broken (map Some given) began store history faults rows → StaysStopped run.events → IsStore history store → began.drawn ≡ began.map.highest → RunBegins run began.history → (store.stopped ≡ true → HasStopped given) → IsMadeBefore opened made run → AreEntriesAt history made (moment_of run) journal entries
-    → (All IsRefusedAtOnce run.events → IsIdle opened history) → ServesScript script start given entries began.faults faults began.history opened history
-script_served {D} start script run journal broken given entries began made store opened history faults rows g stays k drawn begins stopped made_is are refused = record {
+    → (All IsRefusedAtOnce run.events → IsIdle opened history)
+    → (was : ServesScript script start given entries began.faults faults began.history opened history) × LogsShowLists store.map (indexes_of store.boxes) (left_by start was.journal)
+script_served {D} start script run journal broken given entries began made store opened history faults rows g stays k drawn begins stopped made_is are refused = (record {
   run = run;
   journal = journal;
   broken = broken;
@@ -115,7 +116,7 @@ script_served {D} start script run journal broken given entries began made store
   made_is = made_is;
   entries_are = are;
   refused = refused;
-}
+}, s.shown)
   where
     s : Serves start script run journal broken (map Some given) began (seen_in store history faults)
     s = g.serving.serves

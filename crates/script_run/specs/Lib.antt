@@ -1,5 +1,6 @@
 pub mod Done
 pub mod Faults
+pub mod LeftOpen
 pub mod One
 pub mod Opening
 pub mod Script

@@ -2,7 +2,7 @@
 #![tactic(auto)]
 
 pub use laws::{one_request, opened_logs_show_lists, safe_files_are_shown};
-pub use run::{ScriptRun, run_script};
+pub use run::{ScriptRun, ServedScript, run_script, serve_script};
 
 mod laws;
 mod run;

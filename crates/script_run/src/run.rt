@@ -3,6 +3,7 @@ ghost use Rattle.std.specs.Prelude.{◌≡◌, ◌≤◌, List, Some, length, ma
 ghost use Rattle.mdbox_base.specs.declared.replies.Reply.{Reply as ReplyValue};
 ghost use Rattle.lanes.specs.Worlds.{AreGiven, AreOfLanes};
 ghost use Rattle.script_run.specs.Done.{IsScriptDone};
+ghost use Rattle.script_run.specs.LeftOpen.{IsServedOpen};
 ghost use Rattle.script_run.specs.Opening.{IsUnopened};
 
 use attach_detach::Prepared;
@@ -12,7 +13,7 @@ use lanes::{
 };
 use mdbox_base::{JournalEntry, Reply, Script, Seq};
 use std::alloc::Global;
-use store_core::listings_are_shown;
+use store_core::{Store, listings_are_shown};
 use store_open::{OpenError, OpenRefused, open_store};
 
 /// What the run of a script gives.
@@ -24,8 +25,17 @@ pub struct ScriptRun<D> {
     pub disk: D,
 }
 
-/// Opens the store and does the requests of a script on its lanes, to their end. What is wanted of memory is taken before the store is
-/// opened. Each request that delivers a message has it prepared, at its place.
+/// What the run of a script gives, and the store, which is still open.
+pub struct ServedScript<D: Disk> {
+    /// The reply of each request, in script order.
+    pub replies: Seq<Option<Reply>>,
+    /// The steps that were made, in order.
+    pub journal: Seq<JournalEntry>,
+    pub store: Store<D>,
+}
+
+/// Opens the store, does the requests of a script on its lanes, to their end, and hands the disk back. What is wanted of memory is
+/// taken before the store is opened. Each request that delivers a message has it prepared, at its place.
 pub fn run_script<D: Disk>(
     alloc: Global,
     disk: D,
@@ -36,6 +46,35 @@ pub fn run_script<D: Disk>(
     requires few { length script.requests ≤ 100000 }
     requires given { AreGiven script.requests prepared }
     ensures done { IfOk result (λ done. (given : List ReplyValue) × (done.replies ≡ map Some given) × IsScriptDone script.requests given done.journal (D.history disk) (D.history done.disk) (D.faults disk) (D.faults done.disk)) }
+    ensures refused { IfErr result (λ refused. IsUnopened refused.error (D.history disk) (D.history refused.disk) (D.faults disk) (D.faults refused.disk)) }
+{
+    match serve_script(alloc, disk, script, prepared) {
+        Ok(
+            ServedScript {
+                replies,
+                journal,
+                store,
+            },
+        ) => Ok(ScriptRun {
+            replies,
+            journal,
+            disk: store.into_disk(),
+        }),
+        Err(refused) => Err(refused),
+    }
+}
+
+/// Opens the store and does the requests of a script on its lanes, to their end, as `run_script` does, and leaves the store open.
+pub fn serve_script<D: Disk>(
+    alloc: Global,
+    disk: D,
+    script: Script,
+    prepared: Seq<Option<Prepared>>,
+) -> Result<ServedScript<D>, OpenRefused<D>>
+    requires lanes { (1 ≤ script.lanes) × (script.lanes ≤ 64) × AreOfLanes script.lanes script.requests }
+    requires few { length script.requests ≤ 100000 }
+    requires given { AreGiven script.requests prepared }
+    ensures served { IfOk result (λ served. (given : List ReplyValue) × (served.replies ≡ map Some given) × IsServedOpen script.requests given served.journal (D.history disk) (D.history served.store.disk) (D.faults disk) (D.faults served.store.disk) served.store) }
     ensures refused { IfErr result (λ refused. IsUnopened refused.error (D.history disk) (D.history refused.disk) (D.faults disk) (D.faults refused.disk)) }
 {
     listings_are_shown();
@@ -59,10 +98,10 @@ pub fn run_script<D: Disk>(
             world.known_facts();
             let (store, replies, journal, _broken) = world.into_parts();
             store.facts();
-            Ok(ScriptRun {
+            Ok(ServedScript {
                 replies,
                 journal,
-                disk: store.into_disk(),
+                store,
             })
         }
         Err(refused) => Err(refused),

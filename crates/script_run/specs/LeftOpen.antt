@@ -1,0 +1,26 @@
+-- The store as a script leaves it, before its disk is handed back.
+use Rattle.std.specs.Prelude.{◌≡◌, true, List, Option}
+use Rattle.disk_model.specs.Disk.{History, Faults}
+use Rattle.mdbox_base.specs.declared.replies.Reply.{Reply}
+use Rattle.mdbox_base.specs.declared.script.JournalEntry.{JournalEntry}
+use Rattle.model_lists.specs.Lists.{Lists}
+use Rattle.model_meaning.specs.BoxMeaning.{BoxMeaning}
+use Rattle.model_meaning.specs.MapMeaning.{MapMeaning}
+use Rattle.journal.specs.Journal.{Requests, left_by}
+use Rattle.store_core.specs.Value.{StoreValue, indexes_of}
+use Rattle.store_open.specs.Opened.{IsOpenedAs}
+use Rattle.script_run.specs.Done.{IsScriptDone, MayRead}
+use Rattle.script_run.specs.Opening.{LogsShowLists}
+use Rattle.script_run.specs.Script.{HasStopped, ServesScript}
+
+-- The script was done, and logs mean this now: from whatever lists it was served, they show those that the journal leaves; and the files
+-- open with them, unless a reply says that the store is stopped.
+pub record ComesTo (script : Requests) (given : List Reply) (entries : List JournalEntry) (old new : Option History) (began now : Faults) (done : IsScriptDone script given entries old new began now) (m : MapMeaning) (meanings : List BoxMeaning) : Type 0 where
+  pub shows : (lists : Lists) → LogsShowLists done.m done.meanings lists → MayRead script lists old → (was : ServesScript script lists given entries began now old done.leaves.opened new) × LogsShowLists m meanings (left_by lists was.journal)
+  pub again : (HasStopped given → ⊥) → IsOpenedAs new m meanings
+
+-- The script was done, and this store is left open, which has come to where the logs have: it is stopped only if a reply says so.
+pub record IsServedOpen {D : Type 0} (script : Requests) (given : List Reply) (entries : List JournalEntry) (old new : Option History) (began now : Faults) (store : StoreValue D) : Type 0 where
+  pub done : IsScriptDone script given entries old new began now
+  pub comes : ComesTo script given entries old new began now done store.map (indexes_of store.boxes)
+  pub stopped : store.stopped ≡ true → HasStopped given
