@@ -4,6 +4,7 @@ pub mod CountsLemmas
 pub mod ChangeLemmas
 pub mod CopyLemmas
 pub mod DeliverLemmas
+pub mod ExerciseLemmas
 pub mod ExpungeLemmas
 pub mod FetchLemmas
 pub mod FetchedLemmas
@@ -17,6 +18,7 @@ pub mod MailLemmas
 pub mod MakeFileLemmas
 pub mod MakeLemmas
 pub mod MoveLemmas
+pub mod NumbersLemmas
 pub mod PlaceLemmas
 pub mod ReplyFaultLemmas
 pub mod RequestLemmas

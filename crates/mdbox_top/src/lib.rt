@@ -1,7 +1,7 @@
 //! What the program does: the words, the input, the store, what is printed, and the status.
 #![tactic(auto)]
 
-pub use laws::printed_places_number_the_journal;
+pub use laws::{counted_messages_are_listed, printed_places_number_the_journal};
 pub use request_text::Status;
 pub use run::{mdbox_alone, mdbox_run};
 
@@ -10,6 +10,7 @@ mod batch;
 mod copy;
 mod counts;
 mod deliver;
+mod exercise;
 mod expunge;
 mod fetch;
 mod init;
@@ -17,6 +18,7 @@ mod input_commands;
 mod laws;
 mod making;
 mod moving;
+mod numbers;
 mod opening;
 mod run;
 mod show;

@@ -16,6 +16,7 @@ use crate::batch::batch;
 use crate::copy::copy;
 use crate::counts::counts;
 use crate::deliver::deliver;
+use crate::exercise::exercise;
 use crate::expunge::expunge;
 use crate::fetch::fetch;
 use crate::init::init;
@@ -158,6 +159,11 @@ fn perform<D: Disk, I: Source, O: Sink, C: Clock>(
         Command::Move { name, uid, target } => move_to(alloc, name, uid, target, disk, output),
         Command::Make { name } => make(alloc, name, disk, output),
         Command::Batch { lanes } => batch(alloc, lanes, disk, input, output),
+        Command::Exercise {
+            lanes,
+            count,
+            number,
+        } => exercise(alloc, lanes, count, number, disk, output),
         Command::Dump => (dump(alloc, input, output), disk),
         Command::LogDump => (logdump(alloc, input, output), disk),
         Command::Help => (show(output, HELP), disk),

@@ -1,0 +1,107 @@
+-- How `exercise` ends: by the script that the number makes.
+use Rattle.std.specs.Prelude.{◌≡◌, ◌≢◌, ◌⊎◌, ◌+◌, ◌/◌, ◌%◌, ◌||◌, ◌++◌, ℕ, zero, suc, Bool, true, false, if◌then◌else◌, List, [], ◌∷◌, map, Option, Some, None}
+use Rattle.std.specs.List.{list_any}
+use Rattle.std.proofs.Common.{refl, sym, ◌∙◌, ap, subst, inl, inr}
+use Rattle.disk_model.specs.Disk.{History, Faults}
+use Rattle.journal.specs.Journal.{Requests}
+use Rattle.mdbox_base.specs.declared.replies.Reply.{Reply}
+use Rattle.mdbox_base.specs.declared.requests.Request.{Request}
+use Rattle.mdbox_base.specs.declared.script.JournalEntry.{JournalEntry}
+use Rattle.model_lists.specs.Lists.{Lists}
+use Rattle.model_meaning.specs.BoxMeaning.{BoxMeaning}
+use Rattle.model_meaning.specs.MapMeaning.{MapMeaning}
+use Rattle.model_store.specs.Settled.{IsSettledFor}
+use Rattle.request_text.specs.Outcomes.{status_of, is_disk_no, replies_outcome}
+use Rattle.request_text.specs.declared.outcome.InputRefusal.{InputRefusal}
+use Rattle.request_text.specs.declared.outcome.StoreRefusal.{StoreRefusal}
+use Rattle.request_text.specs.declared.outcome.Outcome.{Outcome}
+use Rattle.request_text.specs.declared.outcome.Outcome.TheVariants as outcome
+use Rattle.script_run.specs.Done.{IsScriptDone, MayBeServed}
+use Rattle.script_run.specs.LeftOpen.{ComesTo, IsServedOpen}
+use Rattle.script_run.specs.Script.{is_fetch, has_fetch}
+use Rattle.script_text.specs.MadeScript.{below, made_request, made_round, made_script, made_turn}
+use Rattle.mdbox_top.specs.BatchRun.{OpenedOutcome, ScriptRests, ShowsReplies}
+use Rattle.mdbox_top.specs.ExerciseRun.{CountedOutcome, ExerciseOutcome, ExerciseRests, IsCountedUp, made_requests}
+use Rattle.mdbox_top.specs.InputRun.{IsOneOf}
+use Rattle.mdbox_top.specs.Numbers.{exercise_text}
+use Rattle.mdbox_top.proofs.BatchLemmas.{EndsKnown, opened_damage, opened_ended, opened_refuses, opened_status, opened_used, replies_number, script_fault, script_quiet}
+
+-- ---- a made script reads no message
+
+unread_turn : (number i lane round turn : ℕ) → is_fetch (made_turn number i lane round turn) ≡ false
+unread_turn number i lane round zero = refl
+unread_turn number i lane round (suc zero) = refl
+unread_turn number i lane round (suc (suc zero)) = refl
+unread_turn number i lane round (suc (suc (suc turn))) = refl
+
+unread_round : (number i lane s : ℕ) → is_fetch (made_round number i lane s) ≡ false
+unread_round number i lane zero = refl
+unread_round number i lane (suc s) = unread_turn number i lane (s / 4) (s % 4)
+
+none_of : {X Y : Type 0} → (p : Y → Bool) (f : X → Y) → ((x : X) → p (f x) ≡ false) → (xs : List X) → list_any p (map f xs) ≡ false
+none_of p f none [] = refl
+none_of {X = X} {Y = Y} p f none (x ∷ xs) = ap (λ (b : Bool). b || list_any p (map f xs)) (none x) ∙ none_of p f none xs
+
+pub made_unread : (lanes count number : ℕ) → has_fetch (made_requests lanes count number) ≡ false
+made_unread lanes count number = none_of (λ (asked : ℕ × Request). is_fetch asked.1) (made_request lanes number) (λ i. unread_round number i (i % lanes + 1) (i / lanes)) (below count)
+
+-- so it may be served whatever the disk is
+pub may_be_served : (script : Requests) (old : Option History) → has_fetch script ≡ false → MayBeServed script old
+may_be_served script old none = ([], λ e. absurd (let k : true ≡ false = sym e ∙ none in cc k))
+
+-- ---- what is printed
+
+-- nothing, if a reply says that the disk failed
+pub failed_text : (replies : List (Option Reply)) (m : MapMeaning) (meanings : List BoxMeaning) → list_any is_disk_no replies ≡ true → exercise_text replies m meanings ≡ []
+failed_text replies m meanings e = rw e refl
+
+-- ---- a made script that was done
+
+pub counted_up : (script : Requests) (replies : List (Option Reply)) (entries : List JournalEntry) (h k : Option (List ℕ)) (old new : Option History) (f g : Faults) (o : Outcome) → has_fetch script ≡ false → (m : MapMeaning) (meanings : List BoxMeaning) (given : List Reply) → replies ≡ map Some given
+    → (done : IsScriptDone script given entries old new f g) → ComesTo script given entries old new f g done m meanings → ShowsReplies (exercise_text replies m meanings) replies h k o → IsCountedUp script h k old new f g o
+counted_up script replies entries h k old new f g o unread m meanings given are done comes shows =
+    let may = may_be_served script old unread in
+    let printed = subst (λ (rs : List (Option Reply)). ShowsReplies (exercise_text rs m meanings) rs h k o) are shows in
+    let text = exercise_text (map Some given) m meanings in
+    record {
+      given = given;
+      journal = entries;
+      done = done;
+      m = m;
+      meanings = meanings;
+      comes = comes;
+      printed = printed;
+      fault = script_fault text given h k f g o (done.faults may) printed;
+      quiet = script_quiet text given h k f g o (done.faults may) printed;
+    }
+
+pub counted_known : (script : Requests) (h k : Option (List ℕ)) (old new : Option History) (f g : Faults) → EndsKnown (IsCountedUp script h k old new f g)
+counted_known script h k old new f g o d = replies_number _ (map Some d.given) h k o d.printed
+
+-- ---- the end of a run
+
+pub exercise_input : (lanes count number : ℕ) (h k : Option (List ℕ)) (old new : Option History) (f g : Faults) (why : InputRefusal) → ExerciseOutcome lanes count number h k old new f g (outcome.InputRefused why) → ⊥
+exercise_input lanes count number h k old new f g why (inl u) = cc u.0
+exercise_input lanes count number h k old new f g why (inr d) = opened_refuses (IsCountedUp (made_requests lanes count number) h k old new f g) (counted_known (made_requests lanes count number) h k old new f g) h k old new f g why d
+
+pub exercise_damage : (lanes count number : ℕ) (h k : Option (List ℕ)) (old new : Option History) (f g : Faults) (s : StoreRefusal) → ExerciseOutcome lanes count number h k old new f g (outcome.StoreRefused s) → ExerciseOutcome lanes count number h k old new f g outcome.NoMemory
+exercise_damage lanes count number h k old new f g s (inl u) = absurd (cc u.0)
+exercise_damage lanes count number h k old new f g s (inr d) = inr (opened_damage (IsCountedUp (made_requests lanes count number) h k old new f g) (counted_known (made_requests lanes count number) h k old new f g) h k old new f g s d)
+
+pub exercise_used : (lanes count number : ℕ) (h k : Option (List ℕ)) (old new : Option History) (f g : Faults) → ExerciseOutcome lanes count number h k old new f g outcome.Usage → ⊥
+exercise_used lanes count number h k old new f g (inl u) = cc u.0
+exercise_used lanes count number h k old new f g (inr d) = opened_used (IsCountedUp (made_requests lanes count number) h k old new f g) (counted_known (made_requests lanes count number) h k old new f g) h k old new f g d
+
+pub exercise_status : (lanes count number : ℕ) (h k : Option (List ℕ)) (old new : Option History) (f g : Faults) (o : Outcome) → ExerciseOutcome lanes count number h k old new f g o → (lists : Lists) → IsSettledFor lists old → IsOneOf (0 ∷ 1 ∷ 5 ∷ 6 ∷ 8 ∷ []) (status_of o)
+exercise_status lanes count number h k old new f g o (inl u) lists s = inr (inr (inl (ap status_of u.0)))
+exercise_status lanes count number h k old new f g o (inr d) lists s = opened_status (IsCountedUp (made_requests lanes count number) h k old new f g) (counted_known (made_requests lanes count number) h k old new f g) h k old new f g o d lists s
+
+-- it reads no input
+pub exercise_ended : (lanes count number : ℕ) (h k : Option (List ℕ)) (old new : Option History) (f g : Faults) (o : Outcome) → ExerciseOutcome lanes count number h k old new f g o → (o ≡ outcome.ReadFault) ⊎ ((why : InputRefusal) × (o ≡ outcome.InputRefused why)) → ⊥
+exercise_ended lanes count number h k old new f g o (inl u) (inl e) = cc (sym u.0 ∙ e)
+exercise_ended lanes count number h k old new f g o (inl u) (inr w) = let e : outcome.NoMemory ≡ outcome.InputRefused w.0 = sym u.0 ∙ w.1 in cc e
+exercise_ended lanes count number h k old new f g o (inr d) e = opened_ended (IsCountedUp (made_requests lanes count number) h k old new f g) (counted_known (made_requests lanes count number) h k old new f g) h k old new f g o d e
+
+pub exercise_rests_as : (lanes count number : ℕ) (F G : Type 0) (f g : Faults) (old new : Option History) → (F → G) → ExerciseRests lanes count number F f g old new → ExerciseRests lanes count number G f g old new
+exercise_rests_as lanes count number F G f g old new h (inl same) = inl same
+exercise_rests_as lanes count number F G f g old new h (inr d) = inr (λ none. d (λ failed. none (h failed)))
