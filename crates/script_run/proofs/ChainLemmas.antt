@@ -135,6 +135,7 @@ reads_next (task.Fetch t) next reads kind = absurd kind
 pub record HasOnlyRead {D : Type 0} (origin : Option History) (world : WorldValue D) (history : Option History) (faults : Faults) : Type 0 where
   pub tasks : AllTasks OnlyReads world.rows
   pub idle : IsIdle origin history
+  pub running : world.store.stopped ≡ false
 
 pub reads_on : {D : Type 0} → (origin : Option History) → StaysOver {D = D} (HasOnlyRead origin)
 reads_on origin lane old mid before between first counted e is =
@@ -143,6 +144,7 @@ reads_on origin lane old mid before between first counted e is =
     record {
       tasks = tasks_after OnlyReads lane old mid before between first counted e (λ more. reads_next e.works.goes.queued.task e.works.goes.next own k.kind) is.tasks;
       idle = idle-then origin before between is.idle (k.idle own).0;
+      running = (k.idle own).2 ∙ is.running;
     }
 
 -- ---- tasks that deliver nothing

@@ -3,7 +3,7 @@ use Rattle.std.specs.Prelude.{◌≡◌, ◌≢◌, ◌<◌, ◌≤◌, ◌||◌
 use Rattle.std.proofs.Common.{refl, sym, ◌∙◌, ap, subst, arith, inl, inr}
 use Rattle.std.proofs.lemmas.List.{length-map}
 use Rattle.std.proofs.lemmas.Option.{slice_get_within}
-use Rattle.disk_model.specs.Disk.{Faults, History, IsIdle, IsMoment, told_calls}
+use Rattle.disk_model.specs.Disk.{Faults, History, IsMoment, told_calls}
 use Rattle.disk_model.proofs.IdleLemmas.{idle-begins}
 use Rattle.mdbox_base.specs.declared.ids.Uid.{Uid}
 use Rattle.mdbox_base.specs.declared.replies.Refusal.TheVariants as refusal
@@ -38,7 +38,7 @@ use Rattle.lane_tasks.specs.Clause.{IsAtStart, OnlyReads}
 use Rattle.task_steps.proofs.UnmovedLemmas.{mail_still}
 use Rattle.script_run.specs.Done.{IsScriptDone, LeavesStore, MayBeKept, MayBeServed, MayRead}
 use Rattle.script_run.specs.Faults.{FaultsByReplies, HasReadFault}
-use Rattle.script_run.specs.LeftOpen.{ComesTo, IsServedOpen}
+use Rattle.script_run.specs.LeftOpen.{IsServedOpen}
 use Rattle.script_run.specs.Opening.{AreSafeFor, LogsShowLists}
 use Rattle.script_run.specs.Script.{HasStopped, ServesScript, has_change, has_delivery, has_fetch, is_fetch}
 use Rattle.script_run.proofs.EndLemmas.{all_given, script_served, serves_from, unharmed}
@@ -140,7 +140,7 @@ none_purges (first ∷ script) (one ∷ prepared) given zero asked at p =
     not_purging asked.1 one (subst (λ (q : ℕ × Request). HasItsMessage q.1 one) is given.0) p
 none_purges (first ∷ script) (one ∷ prepared) given (suc i) asked at p = none_purges script prepared given.1 i asked at p
 
-settled_safe : (lists : Lists) (old : Option History) → IsSettledFor lists old → AreSafeFor lists old
+pub settled_safe : (lists : Lists) (old : Option History) → IsSettledFor lists old → AreSafeFor lists old
 settled_safe lists None at = absurd at
 settled_safe lists (Some h) at = record { store = at.store; entries = at.entries; by = at.safe }
 
@@ -245,13 +245,15 @@ undelivered_run script old mid new first last s world ended r none =
       kept = λ m. mail_still m mid;
     })
 
-idle_run : {D : Type 0} → (script : Requests) (old mid new : Option History) (first last : Faults) (s : StoreValue D) (world ended : WorldValue D) → ScriptRan script old mid new first last s world ended → has_change script ≡ false → IsIdle mid new
+-- One that reads at the most changes nothing, and doesn't stop the store.
+idle_run : {D : Type 0} → (script : Requests) (old mid new : Option History) (first last : Faults) (s : StoreValue D) (world ended : WorldValue D) → ScriptRan script old mid new first last s world ended → has_change script ≡ false → HasOnlyRead mid ended new last
 idle_run script old mid new first last s world ended r none =
-    (stays_over (HasOnlyRead mid) (reads_on mid) 0 r.turns (as_finished world) ended mid new first last r.chain
+    stays_over (HasOnlyRead mid) (reads_on mid) 0 r.turns (as_finished world) ended mid new first last r.chain
     (record {
       tasks = fresh_tasks OnlyReads script world.rows (λ place lane asked t at begins. reads_first script place lane asked t none at begins) r.fresh;
       idle = idle-begins mid;
-    })).idle
+      running = r.runs;
+    })
 
 -- it is served from them, and the logs show in the end what its journal leaves
 serves_run : {D : Type 0} → (script : Requests) (old mid new : Option History) (first last : Faults) (s : StoreValue D) (world ended : WorldValue D) → (r : ScriptRan script old mid new first last s world ended) → (given : List Reply) → ended.replies ≡ map Some given → (start : Lists) → LogsShowLists s.map (indexes_of s.boxes) start → MayRead script start old
@@ -282,7 +284,7 @@ leaves_run script old mid new first last s world ended r given are = record {
   carried = r.opened.carried;
   closed_well = r.opened.closed_well;
   grows = (counts_of_run script old mid new first last s world ended r).grows;
-  idle = λ none. idle_run script old mid new first last s world ended r none;
+  idle = λ none. (idle_run script old mid new first last s world ended r none).idle;
   mail = λ none unstopped. (undelivered_run script old mid new first last s world ended r none).synced (stopped_by script old mid new first last s world ended r given are unstopped);
 }
 
@@ -298,7 +300,7 @@ stays_run script old mid new first last s world ended r may = by_test (has_deliv
         stays_from old mid new s.map (indexes_of s.boxes) r.opened.opened r.opened.reads r.opened.stays kept
 
 done_run : {D : Type 0} → (script : Requests) (old mid new : Option History) (first last : Faults) (s : StoreValue D) (world ended : WorldValue D) → ScriptRan script old mid new first last s world ended → (given : List Reply) → ended.replies ≡ map Some given → IsScriptDone script given ended.journal old new first last
-unfolding leaves_run
+unfolding leaves_run serves_run script_served
 done_run script old mid new first last s world ended r given are =
     let counts = counts_of_run script old mid new first last s world ended r in
     record {
@@ -308,10 +310,18 @@ done_run script old mid new first last s world ended r given are =
       opened = r.opened.opened;
       shown = λ lists safe. opened_logs_show lists old s.map (indexes_of s.boxes) r.opened.opened r.show safe;
       serves = λ lists shows may. (serves_run script old mid new first last s world ended r given are lists shows may).0;
+      begins = λ lists shows may. sym r.opened.store.map_is;
       undamaged = λ may.
           let start = start_of script old mid s r.opened r.show may in
           let w = ended_world script old mid new first last s world ended r start.0 start.1 start.2 in
           unharmed given (λ i one at. w.is.going.undamaged.none_told i one (subst (λ (rs : List (Option Reply)). HasReply rs i one) (sym are) at));
+      running = λ may none h.
+          let start = start_of script old mid s r.opened r.show may in
+          let w = ended_world script old mid new first last s world ended r start.0 start.1 start.2 in
+          let i = at_given given (reply.Refused refusal.Stopped) h in
+          let stopped = w.is.going.serving.serves.halted i.0 (subst (λ (rs : List (Option Reply)). HasReply rs i.0 (reply.Refused refusal.Stopped)) (sym are) i.1) in
+          let e : true ≡ false = sym stopped ∙ (idle_run script old mid new first last s world ended r none).running in
+          cc e;
       faults = λ may. let start = start_of script old mid s r.opened r.show may in faults_of_run script old mid new first last s world ended r given are start.0 start.1 start.2;
       counts = record { counted = counts.reads; changes = counts.changes; unchanged = λ unstopped. counts.unchanged (stopped_by script old mid new first last s world ended r given are unstopped) };
       leaves = leaves_run script old mid new first last s world ended r given are;
@@ -329,7 +339,7 @@ script_done script old mid new first last s world ended r =
       record {
         done = done_run script old mid new first last s world ended r g.0 g.1;
         comes = record {
-          shows = λ lists shows may. serves_run script old mid new first last s world ended r g.0 g.1 lists shows may;
+          shows = λ lists shows may. (serves_run script old mid new first last s world ended r g.0 g.1 lists shows may).1;
           again = λ unstopped. opens_again new ended.store r.later (stopped_by script old mid new first last s world ended r g.0 g.1 unstopped);
         };
         stopped = λ e. replied_by script old mid new first last s world ended r g.0 g.1 e;

@@ -80,43 +80,46 @@ unharmed (one ∷ rest) none = All-cons (λ (x : Reply). TellsDamage (refusal_in
 
 -- The script was served: its lanes have come to their end, the store is stopped only if a reply says so, and the entries are the
 -- journal's. The store shows what the journal leaves.
-pub script_served : {D : Type 0} → (start : Lists) (script : Requests) (run : Run) (journal : List JournalStep) (broken : Broken) (given : List Reply) (entries : List JournalEntry) (began : Seen) (made : ℕ) (store : StoreValue D) (opened history : Option History) (faults : Faults) (rows : List LaneRow)
+unfoldable pub script_served : {D : Type 0} → (start : Lists) (script : Requests) (run : Run) (journal : List JournalStep) (broken : Broken) (given : List Reply) (entries : List JournalEntry) (began : Seen) (made : ℕ) (store : StoreValue D) (opened history : Option History) (faults : Faults) (rows : List LaneRow)
     → IsGoing start script run journal broken (map Some given) began store history faults rows → StaysStopped run.events → IsStore history store → began.drawn ≡ began.map.highest → RunBegins run began.history → (store.stopped ≡ true → HasStopped given) → IsMadeBefore opened made run → AreEntriesAt history made (moment_of run) journal entries
     → (All IsRefusedAtOnce run.events → IsIdle opened history)
     → (was : ServesScript script start given entries began.faults faults began.history opened history) × LogsShowLists store.map (indexes_of store.boxes) (left_by start was.journal)
-script_served {D} start script run journal broken given entries began made store opened history faults rows g stays k drawn begins stopped made_is are refused = (record {
-  run = run;
-  journal = journal;
-  broken = broken;
-  m = store.map;
-  drawn = store.drawn;
-  made = made;
-  begins = begins;
-  ends = λ unstopped. run_ends run store.map history k.entries k.logs (subst (λ (id : List ℕ). IfTold history (λ disk. Opens (files_of disk) id k.entries k.logs)) same (k.running (runs unstopped)).opens)
-      (k.map_is ∙ ap (λ (id : List ℕ). map_meaning id k.entries) same);
-  shows = λ unstopped. (indexes_of store.boxes, opens_again history store k (runs unstopped), s.shown);
-  served = record {
-    around = g.serving.follows.around;
-    after = g.serving.follows.after;
-    begins = first_map run began.map began.drawn s.begins drawn;
-    next = g.serving.follows.next;
-    found = g.serving.follows.found;
-    told = g.serving.told;
-    given = g.serving.given;
-    legal = s.legal;
-    broken_is = s.broken_is;
-    of_failure = s.of_failure;
-    would = g.serving.would;
-    stays_stopped = stays;
-    come = s.come.come;
-  };
-  crash = s.crash;
-  timely = s.timely;
-  settled = λ unstopped. s.settled (runs unstopped);
-  made_is = made_is;
-  entries_are = are;
-  refused = refused;
-}, s.shown)
+script_served {D} start script run journal broken given entries began made store opened history faults rows g stays k drawn begins stopped made_is are refused = (
+  record {
+    run = run;
+    journal = journal;
+    broken = broken;
+    m = store.map;
+    drawn = store.drawn;
+    made = made;
+    begins = begins;
+    ends = λ unstopped. run_ends run store.map history k.entries k.logs (subst (λ (id : List ℕ). IfTold history (λ disk. Opens (files_of disk) id k.entries k.logs)) same (k.running (runs unstopped)).opens)
+        (k.map_is ∙ ap (λ (id : List ℕ). map_meaning id k.entries) same);
+    shows = λ unstopped. (indexes_of store.boxes, opens_again history store k (runs unstopped), s.shown);
+    served = record {
+      around = g.serving.follows.around;
+      after = g.serving.follows.after;
+      begins = first_map run began.map began.drawn s.begins drawn;
+      next = g.serving.follows.next;
+      found = g.serving.follows.found;
+      told = g.serving.told;
+      given = g.serving.given;
+      legal = s.legal;
+      broken_is = s.broken_is;
+      of_failure = s.of_failure;
+      would = g.serving.would;
+      stays_stopped = stays;
+      come = s.come.come;
+    };
+    crash = s.crash;
+    timely = s.timely;
+    settled = λ unstopped. s.settled (runs unstopped);
+    made_is = made_is;
+    entries_are = are;
+    refused = refused;
+  },
+  s.shown,
+)
   where
     s : Serves start script run journal broken (map Some given) began (seen_in store history faults)
     s = g.serving.serves

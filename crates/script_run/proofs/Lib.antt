@@ -1,3 +1,4 @@
+pub mod AloneLemmas
 pub mod ChainLemmas
 pub mod DoneLemmas
 pub mod EndLemmas
@@ -11,3 +12,4 @@ pub mod SinceLemmas
 pub mod SomeListsLemmas
 pub mod StillLemmas
 pub mod ToldLemmas
+pub mod UnchangedLemmas

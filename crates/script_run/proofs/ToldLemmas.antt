@@ -29,10 +29,10 @@ use Rattle.script_run.specs.Script.{HasStopped}
 -- ---- the journal of one request
 
 -- what its steps answered
-abbrev answers_of : List JournalStep → List Reply
+abbrev pub answers_of : List JournalStep → List Reply
 answers_of journal = map (λ (s : JournalStep). s.answer) journal
 
-replied_one : (start : Lists) (asked : Request) (run : Run) (journal : List JournalStep) (given : Reply) (old new : Faults) → IsLegal start ((1, asked) ∷ []) run journal (Some given ∷ []) old new → IsReplyOf asked (answers_of journal) given
+pub replied_one : (start : Lists) (asked : Request) (run : Run) (journal : List JournalStep) (given : Reply) (old new : Faults) → IsLegal start ((1, asked) ∷ []) run journal (Some given ∷ []) old new → IsReplyOf asked (answers_of journal) given
 replied_one start asked run journal given old new l =
     subst (λ (j : List JournalStep). IsReplyOf asked (answers_of j) given) (all_own run (1, asked) start journal l.steps) (l.replied 0 (1, asked) given refl refl)
 
@@ -102,7 +102,7 @@ resync_told run event Last (reply.Resynced corrected damaged) old new d = d.1
 resync_told run event part given old new d = absurd d
 
 -- of every request but a move, which makes two steps
-abbrev IsMove : Request → Type 0
+abbrev pub IsMove : Request → Type 0
 IsMove (request.Move name uid target) = Unit {0}
 IsMove other = ⊥
 
@@ -119,7 +119,7 @@ does_told request.Counts run event part given old new m d = counts_told run even
 does_told request.Purge run event part given old new m d = purge_told run event part given old new d
 does_told request.Resync run event part given old new m d = resync_told run event part given old new d
 
-step_told : (asked : Request) (run : Run) (event : RunEvent) (part : EventPart) (given : Reply) (old new : Lists) → (IsMove asked → ⊥) → PartAnswers run event old asked part given new → AreListsTold asked given old new
+pub step_told : (asked : Request) (run : Run) (event : RunEvent) (part : EventPart) (given : Reply) (old new : Lists) → (IsMove asked → ⊥) → PartAnswers run event old asked part given new → AreListsTold asked given old new
 step_told asked run event part (reply.Refused why) old new m d = subst (λ (ls : Lists). AreListsTold asked (reply.Refused why) old ls) (sym d.1) (refused_told asked why old)
 step_told asked run event part given old new m d = does_told asked run event part given old new m d.1
 
@@ -149,11 +149,11 @@ fetched_same (request.Make name) octets old new d = d
 fetched_same asked octets old new d = d
 
 -- the step of the one request
-record AnswersOne (run : Run) (asked : Request) (old : Lists) (step : JournalStep) : Type 0 where
-  event : RunEvent
-  answers : PartAnswers (before step.event run) event old asked event.part step.answer step.left
+pub record AnswersOne (run : Run) (asked : Request) (old : Lists) (step : JournalStep) : Type 0 where
+  pub event : RunEvent
+  pub answers : PartAnswers (before step.event run) event old asked event.part step.answer step.left
 
-step_answers : (run : Run) (asked : Request) (old : Lists) (step : JournalStep) → IsStep run ((1, asked) ∷ []) old step → AnswersOne run asked old step
+pub step_answers : (run : Run) (asked : Request) (old : Lists) (step : JournalStep) → IsStep run ((1, asked) ∷ []) old step → AnswersOne run asked old step
 step_answers run asked old step s =
     let place : step.request ≡ 0 = one_place step.request s.asked s.request_is in
     let same : s.asked ≡ (1, asked) = (let h : Some s.asked ≡ Some (1, asked) = sym s.request_is ∙ ap (λ (n : ℕ). slice_get ((1, asked) ∷ []) n) place in cc h) in

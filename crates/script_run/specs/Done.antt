@@ -14,7 +14,7 @@ use Rattle.store_sweep.specs.Moments.{IdleIf}
 use Rattle.store_sweep.specs.Swept.{IsSwept}
 use Rattle.task_claims.specs.Leaving.{SyncsMail}
 use Rattle.script_run.specs.Faults.{CountsStay, FaultsByReplies}
-use Rattle.script_run.specs.Opening.{AreSafeFor, LogsShowLists}
+use Rattle.script_run.specs.Opening.{AreSafeFor, BeginsAs, LogsShowLists}
 use Rattle.script_run.specs.Script.{HasStopped, ServesScript, has_change, has_delivery, has_fetch}
 
 -- If the script reads a message, the disk was settled for these lists.
@@ -43,9 +43,11 @@ pub record LeavesStore (script : Requests) (m : MapMeaning) (given : List Reply)
   pub mail : has_delivery script ≡ false → (HasStopped given → ⊥) → SyncsMail opened new
 
 -- The store was opened, and each request of the script has its reply. The script was served from any lists that the logs show with
--- which the store opened, if it reads a message only from those for which the disk was settled; whenever the files are safe for lists,
--- the logs show them. No reply says that a message is damaged, if the script may be served from any lists. Which calls of the disk failed follows from the replies; of a script that can't be served so, how the counts of
--- faults stay. At each moment storage files and instances stayed.
+-- which the store opened, if it reads a message only from those for which the disk was settled, by a run that begins with the map that
+-- the logs mean; whenever the files are safe for lists, the logs show them. No reply says that a message is damaged, if the script may be
+-- served from any lists; and then no reply to a script that only lists, counts and fetches says that the store is stopped. Which calls of
+-- the disk failed follows from the replies; of a script that can't be served so, how the counts of faults stay. At each moment storage
+-- files and instances stayed.
 pub record IsScriptDone (script : Requests) (given : List Reply) (entries : List JournalEntry) (old new : Option History) (began now : Faults) : Type 0 where
   pub each : length given ≡ length script
   pub m : MapMeaning
@@ -54,7 +56,9 @@ pub record IsScriptDone (script : Requests) (given : List Reply) (entries : List
   pub shown : (lists : Lists) → AreSafeFor lists old → LogsShowLists m meanings lists
   pub leaves : LeavesStore script m given old new
   pub serves : (lists : Lists) → LogsShowLists m meanings lists → MayRead script lists old → ServesScript script lists given entries began now old leaves.opened new
+  pub begins : (lists : Lists) (shown_by : LogsShowLists m meanings lists) (may : MayRead script lists old) → BeginsAs m (serves lists shown_by may).run
   pub undamaged : MayBeServed script old → All (λ one. TellsDamage (refusal_in one) → ⊥) given
+  pub running : MayBeServed script old → has_change script ≡ false → HasStopped given → ⊥
   pub faults : MayBeServed script old → FaultsByReplies given began now
   pub counts : CountsStay given began now
   pub stays : MayBeKept script old → KeepsOpenedMail old new

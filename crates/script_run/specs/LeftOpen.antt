@@ -11,12 +11,12 @@ use Rattle.store_core.specs.Value.{StoreValue, indexes_of}
 use Rattle.store_open.specs.Opened.{IsOpenedAs}
 use Rattle.script_run.specs.Done.{IsScriptDone, MayRead}
 use Rattle.script_run.specs.Opening.{LogsShowLists}
-use Rattle.script_run.specs.Script.{HasStopped, ServesScript}
+use Rattle.script_run.specs.Script.{HasStopped}
 
 -- The script was done, and logs mean this now: from whatever lists it was served, they show those that the journal leaves; and the files
 -- open with them, unless a reply says that the store is stopped.
 pub record ComesTo (script : Requests) (given : List Reply) (entries : List JournalEntry) (old new : Option History) (began now : Faults) (done : IsScriptDone script given entries old new began now) (m : MapMeaning) (meanings : List BoxMeaning) : Type 0 where
-  pub shows : (lists : Lists) → LogsShowLists done.m done.meanings lists → MayRead script lists old → (was : ServesScript script lists given entries began now old done.leaves.opened new) × LogsShowLists m meanings (left_by lists was.journal)
+  pub shows : (lists : Lists) (shown_by : LogsShowLists done.m done.meanings lists) (may : MayRead script lists old) → LogsShowLists m meanings (left_by lists (done.serves lists shown_by may).journal)
   pub again : (HasStopped given → ⊥) → IsOpenedAs new m meanings
 
 -- The script was done, and this store is left open, which has come to where the logs have: it is stopped only if a reply says so.

@@ -1,5 +1,5 @@
 -- A script of one request, and the lists that it leaves.
-use Rattle.std.specs.Prelude.{◌≡◌, ◌<◌, ℕ, Bool, List, [], ◌∷◌, All, if◌then◌else◌, Option, Some}
+use Rattle.std.specs.Prelude.{◌≡◌, ◌<◌, ◌⊎◌, ℕ, Bool, List, [], ◌∷◌, All, if◌then◌else◌, Option, Some}
 use Rattle.disk_model.specs.Disk.{told_calls, History, Faults, EachImage}
 use Rattle.mdbox_base.specs.declared.entries.Highest.{Highest}
 use Rattle.mdbox_base.specs.declared.ids.Guid.{Guid}
@@ -10,14 +10,17 @@ use Rattle.mdbox_base.specs.declared.replies.Reply.TheVariants as reply
 use Rattle.mdbox_base.specs.declared.requests.Request.{Request}
 use Rattle.mdbox_base.specs.declared.requests.Request.TheVariants as request
 use Rattle.model_lists.specs.Lists.{Lists}
+use Rattle.model_meaning.specs.BoxMeaning.{BoxMeaning}
 use Rattle.model_meaning.specs.MapMeaning.{MapMeaning, map_meaning}
 use Rattle.model_store.specs.Settled.{IsSettledFor}
-use Rattle.list_machine.specs.Machine.{add_message, expunge, set_flags}
-use Rattle.list_machine.specs.Run.{Run}
+use Rattle.list_machine.specs.Machine.{Answers, add_message, expunge, set_flags}
+use Rattle.list_machine.specs.Run.{First, Run, RunEvent, map_of}
 use Rattle.journal.specs.Journal.{JournalStep, Broken, Requests, left_by}
 use Rattle.journal.specs.Makes.{IsServed}
 use Rattle.mail_ops.specs.Copy.{copied_lists}
 use Rattle.mail_ops.specs.Making.{with_mailbox}
+use Rattle.store_open.specs.Opened.{IsOpenedAs, StoreCarries}
+use Rattle.store_sweep.specs.Swept.{IsSwept}
 use Rattle.task_steps.specs.Serves.{AreTimely, IsReached}
 use Rattle.script_run.specs.Opening.{RunBegins, RunHasCome}
 
@@ -62,6 +65,26 @@ IsUnfailed given = Unit {0}
 abbrev pub alone : Request → Requests
 alone request = (1, request) ∷ []
 
+-- a request of one event
+abbrev pub HasOneEvent : Request → Type 0
+HasOneEvent (request.List name) = Unit {0}
+HasOneEvent (request.Flag name uid flags) = Unit {0}
+HasOneEvent request.Counts = Unit {0}
+HasOneEvent other = ⊥
+
+-- It was replied what the machine answers, on these lists, at its first event: of a run whose map is this then.
+pub record IsAnsweredFirst (request : Request) (m : MapMeaning) (lists : Lists) (given : Reply) : Type 0 where
+  pub run : Run
+  pub event : RunEvent
+  pub left : Lists
+  pub map_is : map_of run ≡ m
+  pub part_is : event.part ≡ First
+  pub answers : Answers run lists request event given left
+
+-- the refusals that aren't the machine's, of a request of one event that may change the store
+abbrev pub IsUnanswered : Reply → Type 0
+IsUnanswered given = (given ≡ reply.Refused refusal.NoMemory) ⊎ (given ≡ reply.Refused refusal.Stopped)
+
 -- The request is a script of its own, on one lane. From these lists, for which the files were safe, it was served legally,
 -- by a run that begins with the map log of the files, and was replied this. The run has come to where the disk is now: to what
 -- its map log means, unless a change of it failed, and to its number of calls, so that by now every step is acknowledged. Of a
@@ -80,3 +103,7 @@ pub record ServesRequest (request : Request) (lists : Lists) (given : Reply) (be
   pub crash : IsSettledFor lists old → EachImage (IsReached lists run journal broken) old new
   pub timely : IsSettledFor lists old → AreTimely lists run journal new
   pub settled : (given ≡ reply.Refused refusal.Stopped → ⊥) → IsSettledFor lists old → IsSettledFor (left_by lists journal) new
+
+-- The files open with the same logs, all that the store reads is carried over, and the disk was swept.
+abbrev pub OpensUnchanged : MapMeaning → List BoxMeaning → Option History → Option History → Type 0
+OpensUnchanged m meanings old new = IsOpenedAs new m meanings × StoreCarries old new × ((generation : ℕ) × IsSwept generation m old new)

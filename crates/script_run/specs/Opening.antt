@@ -39,6 +39,10 @@ barred_files m = filter (λ number. not (is_sealed m number) && is_barred m numb
 abbrev pub RunBegins : Run → Option History → Type 0
 RunBegins run old = (run.barred ≡ barred_files (map_meaning run.store run.start)) × IfTold old (λ disk. (entries : List MapEntry) × (logs : List (List BoxEntry)) × Opens (files_of disk) run.store entries logs × MeansSame (map_meaning run.store entries) (map_meaning run.store run.start))
 
+-- The entries with which the run begins mean this.
+abbrev pub BeginsAs : MapMeaning → Run → Type 0
+BeginsAs m run = map_meaning run.store run.start ≡ m
+
 -- The files open, and their map log means the same as this.
 abbrev pub RunHasCome : Run → MapMeaning → Option History → Type 0
 RunHasCome run m new = IfTold new (λ disk. (entries : List MapEntry) × (logs : List (List BoxEntry)) × Opens (files_of disk) run.store entries logs × MeansSame (map_meaning run.store entries) m)

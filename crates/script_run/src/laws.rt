@@ -1,19 +1,23 @@
 // What the logs show of files that are safe, and what a script of one request makes of them.
-ghost use Rattle.disk_model.specs.Disk.{Faults, History};
-ghost use Rattle.std.specs.Prelude.{◌≡◌, ◌≤◌, ◌∷◌, [], ℕ, List, length, Option, Some};
+ghost use Rattle.disk_model.specs.Disk.{EachImage, Faults, History, IsIdle};
+ghost use Rattle.std.specs.Prelude.{◌≡◌, ◌≤◌, ◌⊎◌, ◌∷◌, [], ℕ, true, List, length, Option, Some};
+ghost use Rattle.mdbox_base.specs.declared.replies.Refusal.TheVariants as refusal;
 ghost use Rattle.mdbox_base.specs.declared.replies.Reply.{Reply};
+ghost use Rattle.mdbox_base.specs.declared.replies.Reply.TheVariants as reply;
 ghost use Rattle.mdbox_base.specs.declared.requests.Request.{Request};
 ghost use Rattle.mdbox_base.specs.declared.script.JournalEntry.{JournalEntry};
 ghost use Rattle.model_lists.specs.Lists.{Lists};
 ghost use Rattle.model_meaning.specs.BoxMeaning.{BoxMeaning};
 ghost use Rattle.model_meaning.specs.MapMeaning.{MapMeaning};
+ghost use Rattle.model_store.specs.Safe.{Safe};
 ghost use Rattle.model_store.specs.Settled.{IsSettledFor};
 ghost use Rattle.list_machine.specs.Run.{Run};
 ghost use Rattle.journal.specs.Journal.{IsLegal, JournalStep, left_by};
 ghost use Rattle.store_open.specs.Opened.{IsOpenedAs};
 ghost use Rattle.script_run.specs.Done.{IsScriptDone, MayRead};
-ghost use Rattle.script_run.specs.One.{AreListsTold, IsUnfailed, ServesRequest, alone};
+ghost use Rattle.script_run.specs.One.{AreListsTold, HasOneEvent, IsAnsweredFirst, IsUnanswered, IsUnfailed, OpensUnchanged, ServesRequest, alone};
 ghost use Rattle.script_run.specs.Opening.{AreSafeFor, LogsShowLists};
+ghost use Rattle.script_run.specs.Script.{only_reads};
 
 use store_core::listings_are_shown;
 
@@ -36,4 +40,18 @@ pub fn one_request()
     ensures few { (start : Lists) (asked : Request) (run : Run) (journal : List JournalStep) (given : Reply) (old new : Faults) → IsLegal start (alone asked) run journal (Some given ∷ []) old new → length journal ≤ 2 }
     ensures left { (start : Lists) (asked : Request) (run : Run) (journal : List JournalStep) (given : Reply) (old new : Faults) → IsLegal start (alone asked) run journal (Some given ∷ []) old new → IsUnfailed given → AreListsTold asked given start (left_by start journal) }
     ensures settled { (asked : Request) (given : Reply) (lists : Lists) (began now : Faults) (old new : Option History) → ServesRequest asked lists given began now old new → IsUnfailed given → IsSettledFor lists old → (later : Lists) × AreListsTold asked given lists later × IsSettledFor later new }
+{}
+
+/// A request of one event is answered as the machine does at that event, on any lists that the logs show, of a run that has their map;
+/// unless there was no memory, or a failed change stopped the store. No such request reads octets of messages, so none is a read fault.
+pub fn requests_of_one_event()
+    ensures answered { (asked : Request) (given : Reply) (entries : List JournalEntry) (old new : Option History) (began now : Faults) → (done : IsScriptDone (alone asked) (given ∷ []) entries old new began now) → HasOneEvent asked → (lists : Lists) → LogsShowLists done.m done.meanings lists → IsUnanswered given ⊎ IsAnsweredFirst asked done.m lists given }
+    ensures unread { (asked : Request) (given : Reply) (entries : List JournalEntry) (old new : Option History) (began now : Faults) → IsScriptDone (alone asked) (given ∷ []) entries old new began now → HasOneEvent asked → given ≡ reply.Refused refusal.ReadFault → ⊥ }
+{}
+
+/// Where nothing has changed since the opening, the files open with the same logs. A request that only reads leaves a disk that was
+/// settled for lists settled for them, and at each moment safe for them.
+pub fn requests_that_read()
+    ensures unchanged { (asked : Request) (given : Reply) (entries : List JournalEntry) (old new : Option History) (began now : Faults) → (done : IsScriptDone (alone asked) (given ∷ []) entries old new began now) → IsIdle done.leaves.opened new → OpensUnchanged done.m done.meanings old new }
+    ensures safe { (asked : Request) (given : Reply) (entries : List JournalEntry) (old new : Option History) (began now : Faults) → IsScriptDone (alone asked) (given ∷ []) entries old new began now → only_reads asked ≡ true → (lists : Lists) → IsSettledFor lists old → EachImage (λ _ image. Safe image lists) old new × IsSettledFor lists new }
 {}

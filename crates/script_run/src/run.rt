@@ -1,9 +1,11 @@
-// The run of a script.
-ghost use Rattle.std.specs.Prelude.{◌≡◌, ◌≤◌, List, Some, length, map, IfErr, IfOk};
+// The run of a script, and of a request alone.
+ghost use Rattle.std.specs.Prelude.{◌≡◌, ◌≤◌, ◌∷◌, [], List, Some, length, map, IfErr, IfOk};
 ghost use Rattle.mdbox_base.specs.declared.replies.Reply.{Reply as ReplyValue};
-ghost use Rattle.lanes.specs.Worlds.{AreGiven, AreOfLanes};
+ghost use Rattle.mdbox_base.specs.declared.script.JournalEntry.{JournalEntry as EntryValue};
+ghost use Rattle.lanes.specs.Worlds.{AreGiven, AreOfLanes, HasItsMessage};
 ghost use Rattle.script_run.specs.Done.{IsScriptDone};
 ghost use Rattle.script_run.specs.LeftOpen.{IsServedOpen};
+ghost use Rattle.script_run.specs.One.{alone};
 ghost use Rattle.script_run.specs.Opening.{IsUnopened};
 
 use attach_detach::Prepared;
@@ -11,7 +13,7 @@ use disk_model::Disk;
 use lanes::{
     World, WorldParts, idle_worlds_have_replied, lanes_begin, lanes_end, worlds_begin, worlds_go_on,
 };
-use mdbox_base::{JournalEntry, Reply, Script, Seq};
+use mdbox_base::{JournalEntry, NoMemory, Reply, Request, Script, Seq};
 use std::alloc::Global;
 use store_core::{Store, listings_are_shown};
 use store_open::{OpenError, OpenRefused, open_store};
@@ -105,5 +107,58 @@ pub fn serve_script<D: Disk>(
             })
         }
         Err(refused) => Err(refused),
+    }
+}
+
+/// Opens the store and does a request alone, on one lane. One that delivers a message has it prepared.
+pub fn run_request<D: Disk>(
+    alloc: Global,
+    disk: D,
+    request: Request,
+    prepared: Option<Prepared>,
+) -> Result<(Reply, D), OpenRefused<D>>
+    requires given { HasItsMessage request prepared }
+    ensures done { IfOk result (λ done. (entries : List EntryValue) × IsScriptDone (alone request) (done.0 ∷ []) entries (D.history disk) (D.history done.1) (D.faults disk) (D.faults done.1)) }
+    ensures refused { IfErr result (λ refused. IsUnopened refused.error (D.history disk) (D.history refused.disk) (D.faults disk) (D.faults refused.disk)) }
+{
+    match script_of(alloc, request, prepared) {
+        Ok((script, prepared)) => {
+            let ScriptRun {
+                replies,
+                journal: _journal,
+                disk,
+            } = run_script(alloc, disk, script, prepared)?;
+            Ok((only_reply(replies), disk))
+        }
+        Err(NoMemory) => Err(OpenRefused {
+            error: OpenError::NoMemory,
+            disk,
+        }),
+    }
+}
+
+/// The script of a request alone, and what it is given beside.
+fn script_of(
+    alloc: Global,
+    request: Request,
+    prepared: Option<Prepared>,
+) -> Result<(Script, Seq<Option<Prepared>>), NoMemory>
+    ensures { IfOk result (λ made. (made.0.lanes ≡ 1) × (made.0.requests ≡ alone request) × (made.1 ≡ prepared ∷ [])) }
+{
+    let mut requests = Seq::empty(alloc);
+    requests.push((1, request))?;
+    let mut given = Seq::empty(alloc);
+    given.push(prepared)?;
+    Ok((Script { lanes: 1, requests }, given))
+}
+
+/// The reply of a script of one request.
+fn only_reply(replies: Seq<Option<Reply>>) -> Reply
+    requires { (given : ReplyValue) × (replies ≡ Some given ∷ []) }
+    ensures { replies ≡ Some result ∷ [] }
+{
+    match replies.into_vec().pop() {
+        Some(Some(given)) => given,
+        _ => unreachable!(),
     }
 }

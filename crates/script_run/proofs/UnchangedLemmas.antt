@@ -1,0 +1,79 @@
+-- A store that is as the opening left it, and a request alone that only reads.
+use Rattle.std.specs.Prelude.{◌≡◌, ℕ, Bool, true, false, not, ◌||◌, List, [], ◌∷◌, Option, Some, None}
+use Rattle.std.proofs.Common.{refl, sym, ap, subst}
+use Rattle.disk_model.specs.Disk.{Between, DiskState, EachImage, Faults, History, IfTold, IsIdle, SameState}
+use Rattle.disk_model.proofs.IdleLemmas.{idle-then, same_state-on}
+use Rattle.disk_model.proofs.MomentLemmas.{each_image-map, if_told-map}
+use Rattle.mdbox_base.specs.declared.entries.BoxEntry.{BoxEntry}
+use Rattle.mdbox_base.specs.declared.entries.MapEntry.{MapEntry}
+use Rattle.mdbox_base.specs.declared.replies.Reply.{Reply}
+use Rattle.mdbox_base.specs.declared.requests.Request.{Request}
+use Rattle.mdbox_base.specs.declared.script.JournalEntry.{JournalEntry}
+use Rattle.model_lists.specs.Lists.{Lists}
+use Rattle.model_meaning.specs.MapMeaning.{MapMeaning, map_meaning}
+use Rattle.model_store.specs.Opening.{Opens}
+use Rattle.model_store.specs.Safe.{Safe}
+use Rattle.model_store.specs.Settled.{IsSettledFor, files_of}
+use Rattle.store_open.specs.Opened.{IsClosedWell, StoreCarries}
+use Rattle.store_open.proofs.StillOpensLemmas.{still_opens}
+use Rattle.store_sweep.specs.Moments.{IdleIf}
+use Rattle.store_sweep.specs.Swept.{IsSwept}
+use Rattle.task_steps.specs.Serves.{IsReached}
+use Rattle.script_run.specs.Done.{IsScriptDone}
+use Rattle.script_run.specs.One.{OpensUnchanged, alone}
+use Rattle.script_run.specs.Script.{has_change, only_reads}
+use Rattle.script_run.proofs.AloneLemmas.{left_still, reached_still}
+use Rattle.script_run.proofs.DoneLemmas.{settled_safe}
+
+-- ---- what is the same since
+
+between_same : (R : DiskState → DiskState → Type 0) (a b c : Option History) → Between R a b → SameState b c → Between R a c
+between_same R None b c r s = subst (λ (h : Option History). SameState h c) r s
+between_same R (Some a) None c r s = absurd r
+between_same R (Some a) (Some b) None r s = absurd s
+between_same R (Some a) (Some b) (Some c) r s = subst (λ (d : DiskState). R a.now d) (sym s) r
+
+still_opened : (old new : Option History) (store : List ℕ) (entries : List MapEntry) (logs : List (List BoxEntry)) → IfTold old (λ now. Opens (files_of now) store entries logs) → StoreCarries old new → IfTold new (λ now. Opens (files_of now) store entries logs)
+still_opened None None store entries logs opens carry = tt
+still_opened None (Some new) store entries logs opens carry = absurd (let e : Some new ≡ None = carry in cc e)
+still_opened (Some old) None store entries logs opens carry = absurd carry
+still_opened (Some old) (Some new) store entries logs opens carry =
+    (still_opens store opens.passed.map_log.generation entries logs (map_meaning store entries) (Some old) (Some new) refl (opens, refl) (carry store entries logs opens)).0
+
+swept_still : (generation : ℕ) (m : MapMeaning) (old mid new : Option History) → IsSwept generation m old mid → SameState mid new → IsSwept generation m old new
+swept_still generation m old mid new s same = record {
+  reads = between_same _ old mid new s.reads same;
+  only = same_state-on _ mid new same s.only;
+  kept = between_same _ old mid new s.kept same;
+  mail = between_same _ old mid new s.mail same;
+  ends = same_state-on _ mid new same s.ends;
+  names = between_same _ old mid new s.names same;
+}
+
+-- Where nothing has changed since the opening, the files open with the same logs, and all is carried over.
+pub unchanged_since : (asked : Request) (given : Reply) (entries : List JournalEntry) (old new : Option History) (began now : Faults) → (done : IsScriptDone (alone asked) (given ∷ []) entries old new began now) → IsIdle done.leaves.opened new → OpensUnchanged done.m done.meanings old new
+unchanged_since asked given entries old new began now done idle =
+    let carried : StoreCarries old new = between_same _ old done.leaves.opened new done.leaves.carried idle.same in
+    let o = done.opened in (
+      record { entries = o.entries; logs = o.logs; good = o.good; opens = still_opened old new done.m.store o.entries o.logs o.opens carried; means = o.means; meanings_are = o.meanings_are },
+      carried,
+      (done.leaves.generation, swept_still done.leaves.generation done.m old done.leaves.opened new done.leaves.swept idle.same),
+    )
+
+pub closed_since : (old mid new : Option History) → IdleIf IsClosedWell old mid → IsIdle mid new → IdleIf IsClosedWell old new
+closed_since old mid new closed idle = if_told-map (λ disk. IsClosedWell disk → IsIdle old mid) (λ disk. IsClosedWell disk → IsIdle old new) old (λ disk is well. idle-then old mid new (is well) idle) closed
+
+-- ---- a request that only reads
+
+pub changes_none : (asked : Request) → only_reads asked ≡ true → has_change (alone asked) ≡ false
+changes_none asked reads = ap (λ (b : Bool). not b || false) reads
+
+-- Of a disk that was settled for lists each image since the beginning is safe for them, and it is settled for them again.
+pub reads_safe : (asked : Request) (given : Reply) (entries : List JournalEntry) (old new : Option History) (began now : Faults) → IsScriptDone (alone asked) (given ∷ []) entries old new began now → only_reads asked ≡ true → (lists : Lists) → IsSettledFor lists old
+    → EachImage (λ _ image. Safe image lists) old new × IsSettledFor lists new
+reads_safe asked given entries old new began now done reads lists at =
+    let s = done.serves lists (done.shown lists (settled_safe lists old at)) (λ fetch. at) in (
+      each_image-map (IsReached lists s.run s.journal s.broken) (λ _ image. Safe image lists) old new
+          (λ m image is. subst (λ (ls : Lists). Safe image ls) (reached_still asked s.run lists s.journal s.broken m is.0 reads s.served.legal.steps s.served.broken_is is.1) is.2) (s.crash at),
+      subst (λ (ls : Lists). IsSettledFor ls new) (left_still asked s.run lists s.journal reads s.served.legal.steps) (s.settled (done.running (lists, λ fetch. at) (changes_none asked reads)) at),
+    )
