@@ -177,8 +177,11 @@ told_in replies r c e = told_any replies ∙ list_any_at (λ (x : Reply). is_dis
 told_outcome : (replies : List (Option Reply)) → list_any is_disk_no replies ≡ true → replies_outcome replies ≡ outcome.DiskFault
 told_outcome replies e = rw e refl
 
+pub stopped_any : (given : List Reply) → HasStopped given → list_any is_disk_no (map Some given) ≡ true
+stopped_any given c = told_in given (reply.Refused refused.Stopped) c refl
+
 pub stopped_outcome : (given : List Reply) → HasStopped given → replies_outcome (map Some given) ≡ outcome.DiskFault
-stopped_outcome given c = told_outcome (map Some given) (told_in given (reply.Refused refused.Stopped) c refl)
+stopped_outcome given c = told_outcome (map Some given) (stopped_any given c)
 
 pub unread_outcome_is : (given : List Reply) → HasReadFault given → replies_outcome (map Some given) ≡ outcome.DiskFault
 unread_outcome_is given c = told_outcome (map Some given) (told_in given (reply.Refused refused.ReadFault) c refl)

@@ -4,6 +4,7 @@ use Rattle.std.specs.List.{list_any}
 use Rattle.std.proofs.Common.{refl, sym, ◌∙◌, ap, subst, inl, inr}
 use Rattle.disk_model.specs.Disk.{History, Faults}
 use Rattle.journal.specs.Journal.{Requests}
+use Rattle.mdbox_base.specs.Streams.{Appended}
 use Rattle.mdbox_base.specs.declared.replies.Reply.{Reply}
 use Rattle.mdbox_base.specs.declared.requests.Request.{Request}
 use Rattle.mdbox_base.specs.declared.script.JournalEntry.{JournalEntry}
@@ -12,19 +13,23 @@ use Rattle.model_meaning.specs.BoxMeaning.{BoxMeaning}
 use Rattle.model_meaning.specs.MapMeaning.{MapMeaning}
 use Rattle.model_store.specs.Settled.{IsSettledFor}
 use Rattle.request_text.specs.Outcomes.{status_of, is_disk_no, replies_outcome}
+use Rattle.request_text.specs.SummaryText.{summary_text}
+use Rattle.request_text.specs.declared.summary.Summary.{Summary}
 use Rattle.request_text.specs.declared.outcome.InputRefusal.{InputRefusal}
 use Rattle.request_text.specs.declared.outcome.StoreRefusal.{StoreRefusal}
 use Rattle.request_text.specs.declared.outcome.Outcome.{Outcome}
 use Rattle.request_text.specs.declared.outcome.Outcome.TheVariants as outcome
 use Rattle.script_run.specs.Done.{IsScriptDone, MayBeServed}
 use Rattle.script_run.specs.LeftOpen.{ComesTo, IsServedOpen}
-use Rattle.script_run.specs.Script.{is_fetch, has_fetch}
+use Rattle.script_run.specs.Script.{HasStopped, is_fetch, has_fetch}
 use Rattle.script_text.specs.MadeScript.{below, made_request, made_round, made_script, made_turn}
+use Rattle.store_core.specs.Value.{StoreValue, indexes_of}
+use Rattle.task_steps.proofs.OneEventLemmas.{not_true}
 use Rattle.mdbox_top.specs.BatchRun.{OpenedOutcome, ScriptRests, ShowsReplies}
 use Rattle.mdbox_top.specs.ExerciseRun.{CountedOutcome, ExerciseOutcome, ExerciseRests, IsCountedUp, made_requests}
 use Rattle.mdbox_top.specs.InputRun.{IsOneOf}
-use Rattle.mdbox_top.specs.Numbers.{exercise_text}
-use Rattle.mdbox_top.proofs.BatchLemmas.{EndsKnown, opened_damage, opened_ended, opened_refuses, opened_status, opened_used, replies_number, script_fault, script_quiet}
+use Rattle.mdbox_top.specs.Numbers.{exercise_text, summary_of}
+use Rattle.mdbox_top.proofs.BatchLemmas.{EndsKnown, opened_damage, opened_ended, opened_refuses, opened_status, opened_used, replies_number, replies_whole, script_fault, script_quiet, stopped_any}
 
 -- ---- a made script reads no message
 
@@ -51,9 +56,23 @@ may_be_served script old none = ([], λ e. absurd (let k : true ≡ false = sym 
 
 -- ---- what is printed
 
--- nothing, if a reply says that the disk failed
-pub failed_text : (replies : List (Option Reply)) (m : MapMeaning) (meanings : List BoxMeaning) → list_any is_disk_no replies ≡ true → exercise_text replies m meanings ≡ []
-failed_text replies m meanings e = rw e refl
+-- it doesn't end as a fault of the disk, so no reply says that it failed
+pub none_failed : (replies : List (Option Reply)) → (replies_outcome replies ≡ outcome.DiskFault → ⊥) → list_any is_disk_no replies ≡ false
+none_failed replies unlike = not_true (list_any is_disk_no replies) (λ e. unlike (failed_outcome e))
+  where
+    failed_outcome : list_any is_disk_no replies ≡ true → replies_outcome replies ≡ outcome.DiskFault
+    failed_outcome e = rw e refl
+
+-- then the nine lines are printed
+text_is : (replies : List (Option Reply)) (m : MapMeaning) (meanings : List BoxMeaning) (summary : Summary) → list_any is_disk_no replies ≡ false → summary ≡ summary_of replies m meanings → summary_text summary ≡ exercise_text replies m meanings
+text_is replies m meanings summary none is = ap summary_text is ∙ whole
+  where
+    whole : summary_text (summary_of replies m meanings) ≡ exercise_text replies m meanings
+    whole = rw none refl
+
+pub lines_shown : (replies : List (Option Reply)) (m : MapMeaning) (meanings : List BoxMeaning) (summary : Summary) (h k : Option (List ℕ)) (o : Outcome) → list_any is_disk_no replies ≡ false → summary ≡ summary_of replies m meanings → o ≡ replies_outcome replies → Appended h (summary_text summary) k → ShowsReplies (exercise_text replies m meanings) replies h k o
+lines_shown replies m meanings summary h k o none is ended a =
+    subst (ShowsReplies (exercise_text replies m meanings) replies h k) (sym ended) (replies_whole (exercise_text replies m meanings) replies h k (subst (λ (text : List ℕ). Appended h text k) (text_is replies m meanings summary none is) a))
 
 -- ---- a made script that was done
 
@@ -74,6 +93,17 @@ counted_up script replies entries h k old new f g o unread m meanings given are 
       fault = script_fault text given h k f g o (done.faults may) printed;
       quiet = script_quiet text given h k f g o (done.faults may) printed;
     }
+
+-- the script was served, and what its store and its replies tell was printed
+pub counted_from : {D : Type 0} → (history : D → Option History) (faults : D → Faults) (script : Requests) (store : StoreValue D) (disk : D) (r replies : List (Option Reply)) (entries : List JournalEntry) (h k : Option (List ℕ)) (old : Option History) (began : Faults) (o : Outcome) → has_fetch script ≡ false → disk ≡ store.disk → r ≡ replies
+    → (given : List Reply) × (replies ≡ map Some given) × IsServedOpen script given entries old (history store.disk) began (faults store.disk) store → ShowsReplies (exercise_text r store.map (indexes_of store.boxes)) r h k o → IsCountedUp script h k old (history disk) began (faults disk) o
+counted_from {D} history faults script store disk r replies entries h k old began o unread back same served shows =
+    let s = subst (λ (d : D). IsServedOpen script served.0 entries old (history d) began (faults d) store) (sym back) served.2 in
+    counted_up script r entries h k old (history disk) began (faults disk) o unread store.map (indexes_of store.boxes) served.0 (same ∙ served.1) s.done s.comes shows
+
+-- a store that is stopped replied so
+pub stopped_told : (given : List Reply) (replies r : List (Option Reply)) → r ≡ replies → replies ≡ map Some given → HasStopped given → list_any is_disk_no r ≡ true
+stopped_told given replies r same are stopped = ap (λ (rs : List (Option Reply)). list_any is_disk_no rs) (same ∙ are) ∙ stopped_any given stopped
 
 pub counted_known : (script : Requests) (h k : Option (List ℕ)) (old new : Option History) (f g : Faults) → EndsKnown (IsCountedUp script h k old new f g)
 counted_known script h k old new f g o d = replies_number _ (map Some d.given) h k o d.printed

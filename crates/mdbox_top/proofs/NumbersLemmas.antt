@@ -1,7 +1,7 @@
 -- The nine numbers of an exercise.
 use Rattle.std.specs.Prelude.{◌≡◌, ◌⊎◌, ◌+◌, ℕ, Bool, true, false, not, cond, if◌then◌else◌, List, [], ◌∷◌, count_by, length, map, slice_get, sum_by, take, Option, Some, None}
 use Rattle.std.specs.Option.{option_map}
-use Rattle.std.proofs.Common.{refl, sym, ◌∙◌, ap, arith}
+use Rattle.std.proofs.Common.{refl, sym, ◌∙◌, ap, arith, inl, inr}
 use Rattle.std.proofs.lemmas.List.Sums.{sum_by-cons}
 use Rattle.mdbox_base.specs.declared.progress.Progress.{Progress}
 use Rattle.mdbox_base.specs.declared.progress.Progress.TheVariants as progress
@@ -20,7 +20,9 @@ use Rattle.mail_ops.specs.Counting.{counts_reply, listed_messages, named_ids}
 use Rattle.mail_ops.proofs.CountingLemmas.{shown_many, sum_one}
 use Rattle.store_core.specs.Value.{StoreValue}
 use Rattle.script_run.specs.Opening.{LogsShowLists}
-use Rattle.mdbox_top.specs.Numbers.{box_octets, messages_listed, octets_listed}
+use Rattle.request_text.specs.Outcomes.{is_no}
+use Rattle.request_text.specs.declared.summary.Summary.{Summary}
+use Rattle.mdbox_top.specs.Numbers.{box_octets, messages_listed, octets_listed, summary_of}
 
 -- ---- replies
 
@@ -49,6 +51,11 @@ told_counts store r a b c d running (inl e) is =
     let same : progress.Done (reply.Counted a b c d) ≡ progress.Done (reply.Counted (length store.map.records) (listed_messages store) (sum_by (λ row. row.count) store.map.records) (count_different (named_ids store.map))) = sym is ∙ (e ∙ ap (λ (given : Reply). progress.Done given) (counted_reply store running)) in
     (cc same, cc same, cc same, cc same)
 told_counts store r a b c d running (inr e) is = absurd (let k : progress.Done (reply.Counted a b c d) ≡ progress.Done (reply.Refused refusal.NoMemory) = sym is ∙ e in cc k)
+
+-- all nine
+pub summary_told : (replies : List (Option Reply)) (m : MapMeaning) (meanings : List BoxMeaning) (ok no octets a b c d : ℕ) → ok ≡ count_by (λ one. not (is_no one)) replies → no ≡ count_by is_no replies → octets ≡ octets_listed meanings → a ≡ length m.records → b ≡ messages_listed meanings → c ≡ sum_by (λ row. row.count) m.records
+    → d ≡ count_different (named_ids m) → (let s : Summary = record { requests = length replies; ok = ok; no = no; messages = b; octets = octets; records = a; references = b; counts = c; instances = d } in s ≡ summary_of replies m meanings)
+summary_told replies m meanings ok no octets a b c d e1 e2 e3 e4 e5 e6 e7 = rw (e1, e2, e3, e4, e5, e6, e7) refl
 
 -- ---- octets
 

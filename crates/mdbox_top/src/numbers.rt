@@ -1,5 +1,5 @@
 // The nine numbers of an exercise: of its replies, and of the store that it leaves.
-ghost use Rattle.std.specs.Prelude.{◌≡◌, ◌<◌, ◌≤◌, Some, IfOk, count_by, length, slice_get};
+ghost use Rattle.std.specs.Prelude.{◌≡◌, ◌<◌, ◌≤◌, false, Some, IfOk, count_by, length, slice_get};
 ghost use Rattle.std.specs.Option.{option_map};
 ghost use Rattle.request_text.specs.Outcomes.{is_no};
 ghost use Rattle.store_core.specs.Value.{indexes_of};
