@@ -7,7 +7,7 @@ use Rattle.std.proofs.lemmas.List.Elements.{All-nil, All-cons}
 use Rattle.std.proofs.lemmas.List.Folds.{list_any_at}
 use Rattle.std.proofs.lemmas.List.Sums.{sum_by-cons}
 use Rattle.attach_detach.specs.declared.message.Prepared.{Prepared}
-use Rattle.disk_model.specs.Disk.{History, Faults, IsIdle, EachImage}
+use Rattle.disk_model.specs.Disk.{History, Faults}
 use Rattle.disk_model.specs.FaultCounts.{AnyFaultCounted, NoFault}
 use Rattle.journal.specs.Journal.{Requests, is_read_fault}
 use Rattle.lanes.specs.Worlds.{AreGiven, AreOfLanes, HasItsMessage}
@@ -22,7 +22,6 @@ use Rattle.mdbox_base.specs.declared.script.Script.{Script}
 use Rattle.mdbox_base.specs.declared.stream.InputError.{InputError}
 use Rattle.mdbox_base.specs.declared.stream.InputError.TheVariants as read
 use Rattle.model_lists.specs.Lists.{Lists}
-use Rattle.model_store.specs.Safe.{Safe}
 use Rattle.model_store.specs.Settled.{IsSettledFor}
 use Rattle.store_open.specs.declared.error.OpenError.{OpenError}
 use Rattle.store_open.specs.declared.error.OpenError.TheVariants as error
@@ -43,9 +42,8 @@ use Rattle.script_text.specs.declared.error.ScriptError.TheVariants as script_er
 use Rattle.script_text.proofs.ScriptLemmas.{answer_same}
 use Rattle.mdbox_top.specs.BatchRun.{HasNoScript, IsBatchDone, OpenedOutcome, ReadsScript, RefusesScript, ScriptMoments, ScriptOutcome, ScriptRests, ShowsReplies, WasServed, BatchOutcome, BatchRests, BatchStatus}
 use Rattle.mdbox_top.specs.DeliverRun.{unread_outcome}
-use Rattle.mdbox_top.specs.InputRun.{IsOneOf, OfInput}
+use Rattle.mdbox_top.specs.InputRun.{IsOneOf}
 use Rattle.mdbox_top.specs.OpeningOutcome.{opening_outcome}
-use Rattle.mdbox_top.specs.Served.{IsNotOpened}
 use Rattle.mdbox_top.proofs.InitLemmas.{counted_as, opening_fault}
 use Rattle.mdbox_top.proofs.InputLemmas.{Told, long_told, of_told}
 use Rattle.mdbox_top.proofs.RequestLemmas.{fault_number, one_of_shown, opening_number, refused_by, settled_opens, shown_by}
@@ -257,8 +255,11 @@ script_rests script text given entries h k old new began now o d shows = λ none
 unopened_may : (why : OpenError) → why ≡ error.DiskFault → IsOneOf (5 ∷ 6 ∷ 8 ∷ []) (status_of (opening_outcome why))
 unopened_may why e = inr (inl (ap (λ (w : OpenError). status_of (opening_outcome w)) e))
 
-pub unopened_script : (Done : Outcome → Type 0) (h : Option (List ℕ)) (old new : Option History) (began now : Faults) (why : OpenError) → IsUnopened why old new began now → OpenedOutcome Done h h old new began now (opening_outcome why)
-unopened_script Done h old new began now why u = inl (record { why = why; ended_is = refl; unprinted = refl; cause = u.cause; idle = u.idle; untouched = u.untouched; stays = u.stays; unfailed = u.unfailed }, counted_as (why ≡ error.DiskFault) (opening_outcome why ≡ outcome.DiskFault) began now (λ e. opening_fault why e) u.fault)
+unopened_as : (Done : Outcome → Type 0) (h : Option (List ℕ)) (old new : Option History) (began now : Faults) (why : OpenError) → IsUnopened why old new began now → OpenedOutcome Done h h old new began now (opening_outcome why)
+unopened_as Done h old new began now why u = inl (record { why = why; ended_is = refl; unprinted = refl; cause = u.cause; idle = u.idle; untouched = u.untouched; stays = u.stays; unfailed = u.unfailed }, counted_as (why ≡ error.DiskFault) (opening_outcome why ≡ outcome.DiskFault) began now (λ e. opening_fault why e) u.fault)
+
+pub unopened_script : (script : Requests) (h : Option (List ℕ)) (old new : Option History) (began now : Faults) (why : OpenError) → IsUnopened why old new began now → ScriptOutcome script h h old new began now (opening_outcome why)
+unopened_script script h old new began now why u = unopened_as (IsBatchDone script h h old new began now) h old new began now why u
 
 pub unopened_script_rests : (script : Requests) (old new : Option History) (began now : Faults) (why : OpenError) → IsUnopened why old new began now → ScriptRests script (IsOneOf (5 ∷ 6 ∷ 8 ∷ []) (status_of (opening_outcome why))) began now old new
 unopened_script_rests script old new began now why u = λ none lists s. inl (u.settled_again (λ f. none (unopened_may why f)) lists s)

@@ -1,5 +1,5 @@
 -- How `exercise` ends: by the script that the number makes.
-use Rattle.std.specs.Prelude.{◌≡◌, ◌≢◌, ◌⊎◌, ◌+◌, ◌/◌, ◌%◌, ◌||◌, ◌++◌, ℕ, zero, suc, Bool, true, false, if◌then◌else◌, List, [], ◌∷◌, map, Option, Some, None}
+use Rattle.std.specs.Prelude.{◌≡◌, ◌⊎◌, ◌+◌, ◌/◌, ◌%◌, ◌||◌, ℕ, zero, suc, Bool, true, false, List, [], ◌∷◌, map, Option, Some}
 use Rattle.std.specs.List.{list_any}
 use Rattle.std.proofs.Common.{refl, sym, ◌∙◌, ap, subst, inl, inr}
 use Rattle.disk_model.specs.Disk.{History, Faults}
@@ -22,11 +22,11 @@ use Rattle.request_text.specs.declared.outcome.Outcome.TheVariants as outcome
 use Rattle.script_run.specs.Done.{IsScriptDone, MayBeServed}
 use Rattle.script_run.specs.LeftOpen.{ComesTo, IsServedOpen}
 use Rattle.script_run.specs.Script.{HasStopped, is_fetch, has_fetch}
-use Rattle.script_text.specs.MadeScript.{below, made_request, made_round, made_script, made_turn}
+use Rattle.script_text.specs.MadeScript.{below, made_request, made_round, made_turn}
 use Rattle.store_core.specs.Value.{StoreValue, indexes_of}
 use Rattle.task_steps.proofs.OneEventLemmas.{not_true}
-use Rattle.mdbox_top.specs.BatchRun.{OpenedOutcome, ScriptRests, ShowsReplies}
-use Rattle.mdbox_top.specs.ExerciseRun.{CountedOutcome, ExerciseOutcome, ExerciseRests, IsCountedUp, made_requests}
+use Rattle.mdbox_top.specs.BatchRun.{ShowsReplies}
+use Rattle.mdbox_top.specs.ExerciseRun.{ExerciseOutcome, ExerciseRests, IsCountedUp, made_requests}
 use Rattle.mdbox_top.specs.InputRun.{IsOneOf}
 use Rattle.mdbox_top.specs.Numbers.{exercise_text, summary_of}
 use Rattle.mdbox_top.proofs.BatchLemmas.{EndsKnown, opened_damage, opened_ended, opened_refuses, opened_status, opened_used, replies_number, replies_whole, script_fault, script_quiet, stopped_any}

@@ -1,5 +1,5 @@
 -- The nine numbers of an exercise.
-use Rattle.std.specs.Prelude.{◌≡◌, ◌⊎◌, ◌+◌, ℕ, Bool, true, false, not, cond, if◌then◌else◌, List, [], ◌∷◌, count_by, length, map, slice_get, sum_by, take, Option, Some, None}
+use Rattle.std.specs.Prelude.{◌≡◌, ◌⊎◌, ◌+◌, ℕ, Bool, true, false, not, cond, List, [], ◌∷◌, count_by, length, map, slice_get, sum_by, take, Option, Some, None}
 use Rattle.std.specs.Option.{option_map}
 use Rattle.std.proofs.Common.{refl, sym, ◌∙◌, ap, arith, inl, inr}
 use Rattle.std.proofs.lemmas.List.Sums.{sum_by-cons}
@@ -53,9 +53,9 @@ told_counts store r a b c d running (inl e) is =
 told_counts store r a b c d running (inr e) is = absurd (let k : progress.Done (reply.Counted a b c d) ≡ progress.Done (reply.Refused refusal.NoMemory) = sym is ∙ e in cc k)
 
 -- all nine
-pub summary_told : (replies : List (Option Reply)) (m : MapMeaning) (meanings : List BoxMeaning) (ok no octets a b c d : ℕ) → ok ≡ count_by (λ one. not (is_no one)) replies → no ≡ count_by is_no replies → octets ≡ octets_listed meanings → a ≡ length m.records → b ≡ messages_listed meanings → c ≡ sum_by (λ row. row.count) m.records
-    → d ≡ count_different (named_ids m) → (let s : Summary = record { requests = length replies; ok = ok; no = no; messages = b; octets = octets; records = a; references = b; counts = c; instances = d } in s ≡ summary_of replies m meanings)
-summary_told replies m meanings ok no octets a b c d e1 e2 e3 e4 e5 e6 e7 = rw (e1, e2, e3, e4, e5, e6, e7) refl
+pub summary_told : (replies : List (Option Reply)) (m : MapMeaning) (meanings : List BoxMeaning) (ok refused octets a b c d : ℕ) → ok ≡ count_by (λ one. not (is_no one)) replies → refused ≡ count_by is_no replies → octets ≡ octets_listed meanings → a ≡ length m.records → b ≡ messages_listed meanings → c ≡ sum_by (λ row. row.count) m.records
+    → d ≡ count_different (named_ids m) → (let s : Summary = record { requests = length replies; ok = ok; no = refused; messages = b; octets = octets; records = a; references = b; counts = c; instances = d } in s ≡ summary_of replies m meanings)
+summary_told replies m meanings ok refused octets a b c d e1 e2 e3 e4 e5 e6 e7 = rw (e1, e2, e3, e4, e5, e6, e7) refl
 
 -- ---- octets
 

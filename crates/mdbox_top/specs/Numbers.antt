@@ -1,5 +1,5 @@
 -- The nine numbers of an exercise.
-use Rattle.std.specs.Prelude.{ℕ, Bool, not, List, [], count_by, length, sum_by, Option, if◌then◌else◌}
+use Rattle.std.specs.Prelude.{ℕ, not, List, [], count_by, length, sum_by, Option, if◌then◌else◌}
 use Rattle.std.specs.List.{list_any}
 use Rattle.mdbox_base.specs.declared.replies.Reply.{Reply}
 use Rattle.model_meaning.specs.BoxMeaning.{BoxMeaning}

@@ -43,4 +43,4 @@ returns-in-Ok-clause-ends g c =
     })
 
 pub returns-in-Err-clause-ends : goal.returns-in-Err-clause-ends
-returns-in-Err-clause-ends g c = rw c.outcome_of.ensures (unopened_script _ _ _ _ _ _ c.in-Err.field-0.error c.in-Err.ensures.refused)
+returns-in-Err-clause-ends g c = rw c.outcome_of.ensures (unopened_script c.args.script.requests _ _ _ _ _ c.in-Err.field-0.error c.in-Err.ensures.refused)

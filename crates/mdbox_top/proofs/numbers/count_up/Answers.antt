@@ -1,6 +1,7 @@
 use Rattle.std.proofs.Common.{◌≡◌, ◌-◌, length, arith}
 use Rattle.std.specs.Prelude.{count_by, not}
 use Rattle.request_text.specs.Outcomes.{is_no}
+use Rattle.store_core.specs.Value.{indexes_of}
 use Rattle.mdbox_top.proofs.NumbersLemmas.{both_counted, summary_told, told_counts}
 use Rattle.mdbox_top.proofs.numbers.count_up.Goals as goal
 
@@ -10,4 +11,4 @@ returns-in-Done-Counted g c =
     let both = both_counted is_no c.args.replies.now in
     let no = c.refused_in-no.ensures in
     let ok : length c.args.replies.now - c.refused_in-no.result ≡ count_by (λ one. not (is_no one)) c.args.replies.now = omega (arith, both, no) in
-    summary_told c.args.replies.now _ _ _ _ _ _ _ _ _ ok no c.octets_of-octets.ensures told.0 told.1 told.2 told.3
+    summary_told c.args.replies.now c.args.store.now.map (indexes_of c.args.store.now.boxes) _ _ _ _ _ _ _ ok no c.octets_of-octets.ensures told.0 told.1 told.2 told.3
