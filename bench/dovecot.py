@@ -38,3 +38,24 @@ def mdbox_of(folder, messages, attachments=False):
         print(f"doveadm import: status {imported.returncode}")
         return None
     return start
+
+
+def imap_of(folder, fsync="always"):
+    """The words that start Dovecot's IMAP on a mdbox in the folder, logged in, on its standard input and output. None without it.
+    Each change is synced before it is answered, as `fsync` is always; attachments are stored once."""
+    if not shutil.which("doveadm"):
+        print("doveadm isn't installed")
+        return None
+    user = os.getuid() or NOBODY
+    group = os.getgid() or NOBODY
+    config = os.path.join(folder, f"dovecot-{fsync}.conf")
+    with open(config, "w", encoding="utf-8") as out:
+        out.write(
+            f"mail_location = mdbox:{folder}/mdbox\nmail_home = {folder}\nmail_uid = {user}\nmail_gid = {group}\nfirst_valid_uid = 1\n"
+            f"base_dir = {folder}/run\nstate_dir = {folder}/run\nlog_path = {folder}/log\nssl = no\nmail_fsync = {fsync}\n"
+            f"mail_attachment_dir = {folder}/attachments\n{ATTACHMENTS}"
+        )
+    os.chmod(folder, 0o755)
+    subprocess.run(["chown", "-R", f"{user}:{group}", folder], check=True)
+    drop = [] if os.getuid() else ["setpriv", f"--reuid={user}", f"--regid={group}", "--clear-groups"]
+    return ["env", "USER=bench", f"HOME={folder}", *drop, "doveadm", "-c", config, "exec", "imap"]

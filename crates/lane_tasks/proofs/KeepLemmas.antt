@@ -47,7 +47,7 @@ use Rattle.mail_ops.specs.declared.moving.MoveStage.TheVariants as move_stage
 use Rattle.mail_save.specs.SaveEffects.{SaveEffects}
 use Rattle.mail_save.specs.declared.task.SaveStage.{SaveStage}
 use Rattle.mail_save.specs.declared.task.SaveStage.TheVariants as save_stage
-use Rattle.lane_tasks.specs.Clause.{IsAtStart, IsSameKind, TaskKeeps, OnlyReads, WritesTask}
+use Rattle.lane_tasks.specs.Clause.{IsAtStart, StaysOfRequest, TaskKeeps, OnlyReads, WritesTask}
 use Rattle.lane_tasks.specs.declared.task.Task.{Task}
 use Rattle.lane_tasks.specs.declared.task.Task.TheVariants as task
 use Rattle.lane_tasks.proofs.StepLemmas.{ran_before}
@@ -69,11 +69,11 @@ syncs_idle (Some h) (Some g) idle = (λ number. inl (ap (λ (disk : DiskState). 
 abbrev Same : {D : Type 0} → (D → Option History) → (D → Faults) → Task → Task → StoreValue D → StoreValue D → Option Reply → Type 0
 Same history faults t next old new ended = TaskKeeps t next old new (history old.disk) (history new.disk) (faults old.disk) (faults new.disk) ended
 
-pub keeps_still : {D : Type 0} → (history : D → Option History) (faults : D → Faults) (t next : Task) (old new : StoreValue D) (ended : Option Reply) → IsSameKind t next → (new.stopped ≡ false → SyncsMail (history old.disk) (history old.disk) → WritesTask t next old (history old.disk) (history old.disk)) → new ≡ old → Same history faults t next old new ended
+pub keeps_still : {D : Type 0} → (history : D → Option History) (faults : D → Faults) (t next : Task) (old new : StoreValue D) (ended : Option Reply) → StaysOfRequest t next → (new.stopped ≡ false → SyncsMail (history old.disk) (history old.disk) → WritesTask t next old (history old.disk) (history old.disk)) → new ≡ old → Same history faults t next old new ended
 keeps_still history faults t next old new ended kind writes same =
     subst (λ (d : _). TaskKeeps t next old new (history old.disk) (history d) (faults old.disk) (faults d) ended) (sym (ap (λ (s : StoreValue _). s.disk) same))
     (record {
-      kind = kind;
+      request = kind;
       grows = omega arith;
       mail = λ m kept. mail_still m (history old.disk);
       reads = omega arith;
@@ -81,6 +81,7 @@ keeps_still history faults t next old new ended kind writes same =
       unfailed = λ runs. refl;
       fell = λ ran stops. absurd (let k : true ≡ false = sym stops ∙ (ap (λ (s : StoreValue _). s.stopped) same ∙ ran) in cc k);
       idle = λ reads. (idle-begins (history old.disk), refl, ap (λ (s : StoreValue _). s.stopped) same);
+      still = λ stopped. (idle-begins (history old.disk), refl);
       refused = λ why begun e step. idle-begins (history old.disk);
       left = λ runs. writes runs (syncs_idle (history old.disk) (history old.disk) (idle-begins (history old.disk)));
     })
@@ -90,11 +91,11 @@ keeps_still history faults t next old new ended kind writes same =
 abbrev IsStoppedReply : Progress → Type 0
 IsStoppedReply answer = answer ≡ progress.Done (reply.Refused refusal.Stopped)
 
-pub keeps_by : {D : Type 0} → (history : D → Option History) (faults : D → Faults) (t next : Task) (old new : StoreValue D) (answer : Progress) → IsSameKind t next → SparesMail (new.stopped ≡ old.stopped) (history old.disk) (history new.disk) → (IsStoppedReply answer ↔ (new.stopped ≡ true)) → (old.stopped ≡ true → new ≡ old)
+pub keeps_by : {D : Type 0} → (history : D → Option History) (faults : D → Faults) (t next : Task) (old new : StoreValue D) (answer : Progress) → StaysOfRequest t next → SparesMail (new.stopped ≡ old.stopped) (history old.disk) (history new.disk) → (IsStoppedReply answer ↔ (new.stopped ≡ true)) → (old.stopped ≡ true → new ≡ old)
     → (old.stopped ≡ false → ChangeFaultCounted (IsStoppedReply answer) (faults old.disk) (faults new.disk)) → ((IsStoppedReply answer → ⊥) → NoFault (faults old.disk) (faults new.disk)) → (OnlyReads t → new ≡ old) → ((why : Refusal) → IsAtStart t → old.stopped ≡ false → answer ≡ progress.Done (reply.Refused why) → is_step why ≡ true → new ≡ old)
     → (SyncsMail (history old.disk) (history new.disk) → WritesTask t next old (history old.disk) (history new.disk)) → Same history faults t next old new (ended_by answer)
 keeps_by history faults t next old new answer kind mail halts still fault unfailed reads refused writes = record {
-  kind = kind;
+  request = kind;
   grows = grows_kept old.map (history old.disk) (history new.disk) (mail.stays old.map);
   mail = λ m kept. mail.stays m;
   reads = by_run old.stopped refl;
@@ -106,6 +107,7 @@ keeps_by history faults t next old new answer kind mail halts still fault unfail
     subst (λ (d : _). (faults d).changes ≡ (faults old.disk).changes) (sym (disk_same (reads r))) refl,
     ap (λ (s : StoreValue _). s.stopped) (reads r),
   );
+  still = λ stopped. (idle_same (still stopped), subst (λ (d : _). (faults d).changes ≡ (faults old.disk).changes) (sym (disk_same (still stopped))) refl);
   refused = λ why begun e step. idle_same (by_stop why begun (answered answer why e) step old.stopped refl);
   left = λ runs. writes (mail.left (runs ∙ sym (ran_before old.stopped new.stopped (λ was. ap (λ (s : StoreValue _). s.stopped) (still was) ∙ was) runs)));
 }
@@ -134,10 +136,10 @@ keeps_by history faults t next old new answer kind mail halts still fault unfail
 
 -- ---- of a fetch
 
-pub keeps_fetching : {D : Type 0} → (t next : FetchValue) (name : List ℕ) (uid : ℕ) (old new : StoreValue D) (before after : Option History) (began now : Faults) (answer : Progress) → FetchesAlone name uid t.stage next.stage next.did answer old new before after began now → new.stopped ≡ old.stopped
+pub keeps_fetching : {D : Type 0} → (t next : FetchValue) (name : List ℕ) (uid : ℕ) (old new : StoreValue D) (before after : Option History) (began now : Faults) (answer : Progress) → (next.name ≡ t.name) × (next.uid ≡ t.uid) → FetchesAlone name uid t.stage next.stage next.did answer old new before after began now → new.stopped ≡ old.stopped
     → TaskKeeps (task.Fetch t) (task.Fetch next) old new before after began now (ended_by answer)
-keeps_fetching t next name uid old new before after began now answer alone same = record {
-  kind = tt;
+keeps_fetching t next name uid old new before after began now answer request alone same = record {
+  request = request;
   grows = grows_kept old.map before after (kept_idle old.map before after alone.idle);
   mail = λ m kept. kept_idle m before after alone.idle;
   reads = alone.fault.reads;
@@ -145,6 +147,7 @@ keeps_fetching t next name uid old new before after began now answer alone same 
   unfailed = λ runs. alone.fault.changes;
   fell = λ ran stops. absurd (let k : true ≡ false = sym stops ∙ (same ∙ ran) in cc k);
   idle = λ reads. (alone.idle, alone.fault.changes, same);
+  still = λ stopped. (alone.idle, alone.fault.changes);
   refused = λ why begun e step. alone.idle;
   left = λ runs. syncs_idle before after alone.idle;
 }
@@ -168,9 +171,9 @@ rose_as (progress.Done (reply.Refused refusal.Stopped)) began now f = let same =
 rose_as (progress.Done (reply.Refused refusal.ReadFault)) began now f = let same = f.changes in record { reads = f.reads; changes = omega (arith, same); unfailed = λ no. f.changes }
 rose_as answer began now f = rose_none answer began now f
 
-pub keeps_saving : {D : Type 0} → (history : D → Option History) (faults : D → Faults) (t next : SaveValue) (old new : StoreValue D) (answer : Progress) → EndsSave next.stage answer old new
+pub keeps_saving : {D : Type 0} → (history : D → Option History) (faults : D → Faults) (t next : SaveValue) (old new : StoreValue D) (answer : Progress) → (next.name ≡ t.name) × (next.time ≡ t.time) × (next.size ≡ t.size) → EndsSave next.stage answer old new
     → (old.stopped ≡ false → Saves t.stage next.stage t.name t.time t.size answer next.did old new (history old.disk) (history new.disk) (faults old.disk) (faults new.disk)) → Same history faults (task.Deliver t) (task.Deliver next) old new (ended_by answer)
-keeps_saving history faults t next old new answer ends saves = by_run old.stopped refl
+keeps_saving history faults t next old new answer request ends saves = by_run old.stopped refl
   where
     idle_same : new ≡ old → IsIdle (history old.disk) (history new.disk)
     idle_same same = subst (λ (d : _). IsIdle (history old.disk) (history d)) (sym (ap (λ (s : StoreValue _). s.disk) same)) (idle-begins (history old.disk))
@@ -183,11 +186,11 @@ keeps_saving history faults t next old new answer ends saves = by_run old.stoppe
         first_refused later progress.More e s = absurd (let n : None ≡ Some (reply.Refused why) = e in cc n)
         first_refused later a e s = absurd s
 
-    ran : Saves t.stage next.stage t.name t.time t.size answer next.did old new (history old.disk) (history new.disk) (faults old.disk) (faults new.disk) → Same history faults (task.Deliver t) (task.Deliver next) old new (ended_by answer)
-    ran s =
+    ran : old.stopped ≡ false → Saves t.stage next.stage t.name t.time t.size answer next.did old new (history old.disk) (history new.disk) (faults old.disk) (faults new.disk) → Same history faults (task.Deliver t) (task.Deliver next) old new (ended_by answer)
+    ran r s =
         let f = rose_as answer (faults old.disk) (faults new.disk) s.faults in
         record {
-          kind = tt;
+          request = request;
           grows = s.grows;
           mail = λ m is. subst (λ (n : MapMeaning). MailIsKept n (history old.disk) (history new.disk)) (sym is) s.stays;
           reads = f.reads;
@@ -195,13 +198,14 @@ keeps_saving history faults t next old new answer ends saves = by_run old.stoppe
           unfailed = λ runs. f.unfailed (λ e. absurd (let k : true ≡ false = sym (s.stopped.0 e) ∙ runs in cc k));
           fell = λ ran stops. let f = subst (λ (a : Progress). FaultsAt a (faults old.disk) (faults new.disk)) (s.stopped.1 stops) s.faults in (f.rose tt, f.reads);
           idle = λ reads. absurd reads;
+          still = λ was. absurd (let k : true ≡ false = sym was ∙ r in cc k);
           refused = λ why begun e step. idle_same (saving_refused begun.0 t.stage next.stage answer why begun.1 e s.effects);
           left = λ runs. s.mail runs;
         }
 
     by_run : (b : Bool) → old.stopped ≡ b → Same history faults (task.Deliver t) (task.Deliver next) old new (ended_by answer)
-    by_run true was = keeps_still history faults (task.Deliver t) (task.Deliver next) old new (ended_by answer) tt (λ runs synced. absurd (let k : false ≡ true = sym runs ∙ (ap (λ (s : StoreValue _). s.stopped) (ends.still was) ∙ was) in cc k)) (ends.still was)
-    by_run false r = ran (saves r)
+    by_run true was = keeps_still history faults (task.Deliver t) (task.Deliver next) old new (ended_by answer) request (λ runs synced. absurd (let k : false ≡ true = sym runs ∙ (ap (λ (s : StoreValue _). s.stopped) (ends.still was) ∙ was) in cc k)) (ends.still was)
+    by_run false r = ran r (saves r)
 
 -- ---- a first event that is refused
 

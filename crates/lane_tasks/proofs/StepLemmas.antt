@@ -45,7 +45,7 @@ use Rattle.mail_save.specs.SaveSeen.{HasItsParts, IsAtSave, StepsWithRoom, aroun
 use Rattle.mail_save.specs.Task.{EndsSave, IsReadyToDeliver, SaveValue}
 use Rattle.mail_save.specs.declared.task.SaveStage.{SaveStage}
 use Rattle.mail_save.proofs.SavePartLemmas.{ready_has_parts}
-use Rattle.lane_tasks.specs.Clause.{DoomsNothing, SetsNoFlags, StepsTask, around_at}
+use Rattle.lane_tasks.specs.Clause.{DoomsNothing, SetsNoFlags, StaysOfRequest, StepsTask, around_at}
 use Rattle.lane_tasks.specs.Tasks.{IsAtTask, IsDeliveryOf, IsMakeNumber, IsTaskOf, TookFiles, TookNoFile, did_of, work_left}
 use Rattle.lane_tasks.specs.declared.task.Task.{Task}
 use Rattle.lane_tasks.specs.declared.task.Task.TheVariants as task
@@ -325,9 +325,21 @@ deliver_does t u old new before after began now result same claims ready steps (
 deliver_does t u old new before after began now result same claims ready steps asked around behind run lane place said lists come shown room reads stood = absurd stood.is_of
 
 -- it stays of its requests
-pub deliver_stays_of : (t u : SaveValue) (asked : Request) → (u.name ≡ t.name) × (u.time ≡ t.time) × (u.size ≡ t.size) → IsDeliveryOf t asked → IsDeliveryOf u asked
+deliver_stays_of : (t u : SaveValue) (asked : Request) → (u.name ≡ t.name) × (u.time ≡ t.time) × (u.size ≡ t.size) → IsDeliveryOf t asked → IsDeliveryOf u asked
 deliver_stays_of t u (request.Deliver name time octets) same is = (is.0 ∙ sym same.0, is.1 ∙ sym same.1)
 deliver_stays_of t u asked same is = absurd is
+
+-- so do the tasks of all kinds
+pub request_stays : (t next : Task) (asked : Request) → StaysOfRequest t next → IsTaskOf t asked → IsTaskOf next asked
+request_stays (task.Ops t) (task.Ops next) asked same is = is ∙ sym same
+request_stays (task.Counts t) (task.Counts next) asked same is = is
+request_stays (task.Make t) (task.Make next) asked same is = is ∙ ap (λ (n : List ℕ). request.Make n) (sym same)
+request_stays (task.Copy t) (task.Copy next) asked same is = is ∙ ap (λ (n : List ℕ). request.Copy n t.uid t.target) (sym same.0) ∙ ap (λ (u : Uid). request.Copy next.name u t.target) (sym same.1) ∙ ap (λ (n : List ℕ). request.Copy next.name next.uid n) (sym same.2)
+request_stays (task.Move t) (task.Move next) asked same is = is ∙ ap (λ (n : List ℕ). request.Move n t.uid t.target) (sym same.0) ∙ ap (λ (u : Uid). request.Move next.name u t.target) (sym same.1) ∙ ap (λ (n : List ℕ). request.Move next.name next.uid n) (sym same.2)
+request_stays (task.Expunge t) (task.Expunge next) asked same is = is ∙ ap (λ (n : List ℕ). request.Expunge n t.uid) (sym same.0) ∙ ap (λ (u : Uid). request.Expunge next.name u) (sym same.1)
+request_stays (task.Fetch t) (task.Fetch next) asked same is = is ∙ ap (λ (n : List ℕ). request.Fetch n t.uid) (sym same.0) ∙ ap (λ (u : Uid). request.Fetch next.name u) (sym same.1)
+request_stays (task.Deliver t) (task.Deliver next) asked same is = deliver_stays_of t next asked same is
+request_stays t next asked same is = absurd same
 
 -- one that goes on ran in a store that runs
 pub deliver_ran : {D : Type 0} → (next : SaveStage) (old new : StoreValue D) (answer : Progress) → EndsSave next answer old new → answer ≡ progress.More → old.stopped ≡ false

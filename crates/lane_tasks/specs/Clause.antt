@@ -126,24 +126,24 @@ IsAtStart (task.Fetch t) = t.stage ≡ fetch_stage.First
 IsAtStart (task.Deliver t) = (prepared : Prepared) × (t.stage ≡ save_stage.First prepared)
 IsAtStart other = Unit {0}
 
--- It is of the same kind, and of the same request if there are several of the kind.
-abbrev pub IsSameKind : Task → Task → Type 0
-IsSameKind (task.Ops t) (task.Ops next) = next.request ≡ t.request
-IsSameKind (task.Counts t) (task.Counts next) = Unit {0}
-IsSameKind (task.Make t) (task.Make next) = Unit {0}
-IsSameKind (task.Copy t) (task.Copy next) = Unit {0}
-IsSameKind (task.Move t) (task.Move next) = Unit {0}
-IsSameKind (task.Expunge t) (task.Expunge next) = Unit {0}
-IsSameKind (task.Fetch t) (task.Fetch next) = Unit {0}
-IsSameKind (task.Deliver t) (task.Deliver next) = Unit {0}
-IsSameKind t next = ⊥
+-- It is of the same kind and of the same request.
+abbrev pub StaysOfRequest : Task → Task → Type 0
+StaysOfRequest (task.Ops t) (task.Ops next) = next.request ≡ t.request
+StaysOfRequest (task.Counts t) (task.Counts next) = Unit {0}
+StaysOfRequest (task.Make t) (task.Make next) = next.name ≡ t.name
+StaysOfRequest (task.Copy t) (task.Copy next) = (next.name ≡ t.name) × (next.uid ≡ t.uid) × (next.target ≡ t.target)
+StaysOfRequest (task.Move t) (task.Move next) = (next.name ≡ t.name) × (next.uid ≡ t.uid) × (next.target ≡ t.target)
+StaysOfRequest (task.Expunge t) (task.Expunge next) = (next.name ≡ t.name) × (next.uid ≡ t.uid)
+StaysOfRequest (task.Fetch t) (task.Fetch next) = (next.name ≡ t.name) × (next.uid ≡ t.uid)
+StaysOfRequest (task.Deliver t) (task.Deliver next) = (next.name ≡ t.name) × (next.time ≡ t.time) × (next.size ≡ t.size)
+StaysOfRequest t next = ⊥
 
 -- Whatever the disk is and fails: time goes on, and at each moment storage files and instances have what the map needs. No count of
--- faults falls; unless the store is stopped then no change failed, and an event that stops it is one in which a change failed and no read.
--- A task that reads at the most changes nothing, nor does a first
--- event that is refused, but for want of memory or by a failed call. It stays a task of its kind.
+-- faults falls; unless the store is stopped then no change failed, and an event that stops it is one in which a change failed and no
+-- read. A task that reads at the most changes nothing, nor does a first event that is refused, but for want of memory or by a failed
+-- call, nor any event of a store that was stopped. It stays the task of its request.
 pub record TaskKeeps {D : Type 0} (t next : Task) (old new : StoreValue D) (before after : Option History) (began now : Faults) (ended : Option Reply) : Type 0 where
-  pub kind : IsSameKind t next
+  pub request : StaysOfRequest t next
   pub grows : Grows before after
   pub mail : (m : MapMeaning) → IsKeptFor t old m → MailIsKept m before after
   pub reads : began.reads ≤ now.reads
@@ -151,5 +151,6 @@ pub record TaskKeeps {D : Type 0} (t next : Task) (old new : StoreValue D) (befo
   pub unfailed : new.stopped ≡ false → now.changes ≡ began.changes
   pub fell : old.stopped ≡ false → new.stopped ≡ true → Rose began.changes now.changes × (now.reads ≡ began.reads)
   pub idle : OnlyReads t → IsIdle before after × (now.changes ≡ began.changes) × (new.stopped ≡ old.stopped)
+  pub still : old.stopped ≡ true → IsIdle before after × (now.changes ≡ began.changes)
   pub refused : (why : Refusal) → IsAtStart t → ended ≡ Some (reply.Refused why) → is_step why ≡ true → IsIdle before after
   pub left : new.stopped ≡ false → WritesTask t next old before after

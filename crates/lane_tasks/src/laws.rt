@@ -16,8 +16,8 @@ ghost use Rattle.task_claims.specs.Claims.{AddsUp, Claims, ClaimsNothing, Emptie
 ghost use Rattle.task_claims.specs.Leaving.{LeavesOthers};
 ghost use Rattle.task_claims.specs.Stable.{IsStable};
 ghost use Rattle.task_steps.specs.Step.{GivesNew, HasNotBegun, IsKept};
-ghost use Rattle.lane_tasks.specs.Clause.{CanAnswer, ClaimsFew, DoomsNothing, HasTaskRoom, IsFreeToTake, PassesBy, around_at};
-ghost use Rattle.lane_tasks.specs.Tasks.{BeginsTask, IsReadyTask, StandsTask, claims_at, work_left};
+ghost use Rattle.lane_tasks.specs.Clause.{CanAnswer, ClaimsFew, DoomsNothing, HasTaskRoom, IsFreeToTake, PassesBy, StaysOfRequest, around_at};
+ghost use Rattle.lane_tasks.specs.Tasks.{BeginsTask, IsReadyTask, IsTaskOf, StandsTask, claims_at, work_left};
 ghost use Rattle.lane_tasks.specs.declared.task.Task.{Task};
 
 use disk_model::Disk;
@@ -72,4 +72,9 @@ pub fn safe_files_answer<D: Disk>()
 /// No event of another task raises the number of events that are still to come of a task.
 pub fn tasks_leave_work<D: Disk>()
     ensures { (task : Task) (mine : Claims) (old new : StoreValue D) (before after : Option History) → IsReadyTask task old before → LeavesOthers mine old new before after → work_left task new ≤ work_left task old }
+{}
+
+/// A task that stays of its request is of whatever request it was.
+pub fn tasks_stay_of_requests()
+    ensures { (task next : Task) (asked : Request) → StaysOfRequest task next → IsTaskOf task asked → IsTaskOf next asked }
 {}

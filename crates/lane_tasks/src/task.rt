@@ -5,13 +5,12 @@ ghost use Rattle.mdbox_base.specs.declared.progress.Progress.TheVariants as prog
 ghost use Rattle.mdbox_base.specs.declared.replies.Refusal.TheVariants as refusal;
 ghost use Rattle.mdbox_base.specs.declared.replies.Reply.{Reply};
 ghost use Rattle.mdbox_base.specs.declared.replies.Reply.TheVariants as reply;
-ghost use Rattle.mdbox_base.specs.declared.requests.Request.{Request as RequestValue};
 ghost use Rattle.mdbox_base.specs.declared.requests.Request.TheVariants as request;
 ghost use Rattle.task_claims.specs.Claims.{ClaimsNothing, MovesClaims};
 ghost use Rattle.task_claims.specs.Leaving.{LeavesOthers};
 ghost use Rattle.task_steps.specs.Step.{ended_by};
 ghost use Rattle.lane_tasks.specs.Clause.{DoomsNothing, HasTaskRoom, TaskKeeps, StepsTask};
-ghost use Rattle.lane_tasks.specs.Tasks.{BeginsTask, HasTask, IsReadyTask, IsTaskOf, claims_at, did_of, work_left};
+ghost use Rattle.lane_tasks.specs.Tasks.{BeginsTask, HasTask, IsReadyTask, claims_at, did_of, work_left};
 
 use attach_detach::Prepared;
 use disk_model::Disk;
@@ -111,9 +110,8 @@ impl Task {
         // What it keeps of the store and its disk, whatever run it is of.
         ensures keeps { TaskKeeps self.old self.new store.old store.new (D.history store.old.disk) (D.history store.new.disk) (D.faults store.old.disk) (D.faults store.new.disk) (ended_by result) }
 
-        // So it ends. It stays of its request.
+        // So it ends.
         ensures left { result ≡ progress.More → work_left self.new store.new < work_left self.old store.old }
-        ensures request { (asked : RequestValue) → IsTaskOf self.old asked → IsTaskOf self.new asked }
     {
         match self {
             Task::Ops(task) => task.step(store),

@@ -193,6 +193,7 @@ use_leaves_at mine from pins known store history rows keeps = record {
   mailboxes = omega arith;
   compared = keeps.compared;
   uids = λ name uid held k. record { m = k.m; named = k.named; below = k.below; same = k.same };
+  room = omega arith;
   told = between-begins (λ a b. Unit {0}) history (λ disk. tt);
 }
 

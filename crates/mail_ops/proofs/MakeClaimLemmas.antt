@@ -6,6 +6,7 @@ use Rattle.std.specs.Str.{bytes_eq}
 use Rattle.std.proofs.lemmas.Bool.{eq-eqb, eqb-true}
 use Rattle.std.proofs.lemmas.List.Sums.{sum_by-append}
 use Rattle.disk_model.specs.Disk.{History}
+use Rattle.gate_log.specs.State.{LogState}
 use Rattle.mdbox_base.specs.declared.ids.BoxNo.{BoxNo}
 use Rattle.mdbox_base.specs.declared.progress.Progress.{Progress}
 use Rattle.mdbox_base.specs.declared.progress.Progress.TheVariants as progress
@@ -116,13 +117,19 @@ refs_of_new ms guid =
 pub record MakeChanges {D : Type 0} (now next : MakeStage) (old new : StoreValue D) : Type 0 where
   pub same : SameButCounts old.map new.map
   pub mailboxes : old.map.highest.mailbox ≤ new.map.highest.mailbox
+  pub room : old.map_log.room ≤ new.map_log.room
   pub refs : (guid : List ℕ) → references_to new guid ≡ references_to old guid
   pub logs : (number : ℕ) → one_if (has_made_log number new) + own_log_of now number ≡ one_if (has_made_log number old) + own_log_of next number
 
-nothing_changed : {D : Type 0} → (now : MakeStage) (old new : StoreValue D) → new.map ≡ old.map → new.boxes ≡ old.boxes → new.made ≡ old.made → MakeChanges now now old new
-nothing_changed now old new map_is boxes made = record {
+-- the same log has the same room
+same_room : (a b : LogState) → b ≡ a → a.room ≤ b.room
+same_room a b same = subst (λ (l : LogState). a.room ≤ l.room) (sym same) (omega arith)
+
+nothing_changed : {D : Type 0} → (now : MakeStage) (old new : StoreValue D) → new.map ≡ old.map → new.map_log ≡ old.map_log → new.boxes ≡ old.boxes → new.made ≡ old.made → MakeChanges now now old new
+nothing_changed now old new map_is log boxes made = record {
   same = same_map old.map new.map map_is;
   mailboxes = same_highest old.map new.map map_is;
+  room = same_room old.map_log new.map_log log;
   refs = λ guid. ap (λ (bs : List OpenBox). refs_in (indexes_of bs) guid) boxes;
   logs = λ number. ap (λ (bs : List OpenBox). one_if (list_any (HasNumber number) bs) + own_log_of now number) made;
 }
@@ -131,6 +138,7 @@ log_removed : {D : Type 0} → (number : BoxNo) (old new : StoreValue D) → new
 log_removed number old new same there = record {
   same = same_map old.map new.map (ap (λ (v : StoreValue _). v.map) same);
   mailboxes = same_highest old.map new.map (ap (λ (v : StoreValue _). v.map) same);
+  room = same_room old.map_log new.map_log (ap (λ (v : StoreValue _). v.map_log) same);
   refs = λ guid. ap (λ (v : StoreValue _). references_to v guid) same;
   logs = log_less number.0 old new (ap (λ (v : StoreValue _). v.made) same) there;
 }
@@ -139,15 +147,17 @@ pub make_changes : {D : Type 0} → (name : List ℕ) (now next : MakeStage) (an
 make_changes name make_stage.First (make_stage.Naming number) progress.More old new before after runs ready a = record {
   same = same_map old.map new.map (ap (λ (v : StoreValue _). v.map) a.1.same);
   mailboxes = same_highest old.map new.map (ap (λ (v : StoreValue _). v.map) a.1.same);
+  room = same_room old.map_log new.map_log (ap (λ (v : StoreValue _). v.map_log) a.1.same);
   refs = λ guid. ap (λ (v : StoreValue _). references_to v guid) a.1.same;
   logs = log_more number.0 old new a.1;
 }
-make_changes name make_stage.First make_stage.First (progress.Done (reply.Refused why)) old new before after runs ready (not_done.Refused cause, _, a) = nothing_changed make_stage.First old new (ap (λ (v : StoreValue _). v.map) a.0) (ap (λ (v : StoreValue _). v.boxes) a.0) (ap (λ (v : StoreValue _). v.made) a.0)
-make_changes name make_stage.First make_stage.First (progress.Done (reply.Refused why)) old new before after runs ready (not_done.NoMemory, _, a) = nothing_changed make_stage.First old new (ap (λ (v : StoreValue _). v.map) a.0) (ap (λ (v : StoreValue _). v.boxes) a.0) (ap (λ (v : StoreValue _). v.made) a.0)
+make_changes name make_stage.First make_stage.First (progress.Done (reply.Refused why)) old new before after runs ready (not_done.Refused cause, _, a) = nothing_changed make_stage.First old new (ap (λ (v : StoreValue _). v.map) a.0) (ap (λ (v : StoreValue _). v.map_log) a.0) (ap (λ (v : StoreValue _). v.boxes) a.0) (ap (λ (v : StoreValue _). v.made) a.0)
+make_changes name make_stage.First make_stage.First (progress.Done (reply.Refused why)) old new before after runs ready (not_done.NoMemory, _, a) = nothing_changed make_stage.First old new (ap (λ (v : StoreValue _). v.map) a.0) (ap (λ (v : StoreValue _). v.map_log) a.0) (ap (λ (v : StoreValue _). v.boxes) a.0) (ap (λ (v : StoreValue _). v.made) a.0)
 make_changes name make_stage.First make_stage.First (progress.Done (reply.Refused why)) old new before after runs ready (not_done.Stopped, _, a) = absurd (fall new.stopped (ap (λ (v : StoreValue _). v.stopped) a.0) runs)
 make_changes name (make_stage.Naming number) make_stage.First (progress.Done reply.Done) old new before after runs ready a = record {
   same = ap (λ (m : MapMeaning). map but_count m.records) a.2.map ∙ ap (map but_count) (records_by_mailbox number 1 name old.map.records);
   mailboxes = subst (λ (m : MapMeaning). old.map.highest.mailbox ≤ m.highest.mailbox) (sym a.2.map) (highest_rises (map_entry.B number 1 name) old.map);
+  room = a.2.room;
   refs = λ guid. ap (λ (ms : List BoxMeaning). refs_in ms guid) a.2.indexes ∙ refs_of_new (indexes_of old.boxes) guid;
   logs = log_less number.0 old new a.2.made ready;
 }
@@ -174,7 +184,7 @@ same_due a b e = omega (arith, e)
 pub make_leaves : {D : Type 0} → (now next : MakeStage) (old new : StoreValue D) (before after : Option History) → MakeChanges now next old new → Moves no_amounts no_amounts (amounts_in old) (amounts_in new) → KeepsAllButLogs old new → SyncsMail before after → KeepsUids old new
     → LeavesOthers (make_claims now) old new before after
 make_leaves now next old new before after c moves rest mail keeps =
-    rest_leaves (make_claims now) old new before after (ap (λ (v : StoreValue _). v.files) rest) (ap (λ (v : StoreValue _). v.instances) rest) mail c.same c.mailboxes keeps
+    rest_leaves (make_claims now) old new before after (ap (λ (v : StoreValue _). v.files) rest) (ap (λ (v : StoreValue _). v.instances) rest) mail c.same c.mailboxes keeps c.room
     (λ uid rec none found listed. (c.refs rec.guid ∙ listed, same_due (amount_in (Due uid) new) (amount_in (Due uid) old) (moves.due uid)))
 
 -- a make that has no log of its own

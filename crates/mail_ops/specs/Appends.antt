@@ -26,13 +26,14 @@ lowering_of uid = map_entry.D (uid ∷ [])
 -- ---- to the map log
 
 -- Of a settled disk each image at every moment is safe for its lists, whichever call fails. Mailboxes, storage files and the rest of the
--- store stay, and so do files and instances at each moment.
+-- store stay, and so do files and instances at each moment. The room of the map log never falls.
 pub record MapAppends {D : Type 0} (old new : StoreValue D) (before after : Option History) (began now : Faults) : Type 0 where
   pub moments : (lists : Lists) → IsSettledFor lists before → Leaves lists lists before after
   pub indexes : indexes_of new.boxes ≡ indexes_of old.boxes
   pub mailboxes : new.map.boxes ≡ old.map.boxes
   pub drawn : new.drawn ≡ old.drawn
   pub files : new.files ≡ old.files
+  pub room : old.map_log.room ≤ new.map_log.room
   pub rest : KeepsRest old new
   pub stays : (m : MapMeaning) → MailIsKept m before after
   pub grows : Grows before after
@@ -78,6 +79,7 @@ pub record BoxAppends {D : Type 0} (number : ℕ) (entry : BoxEntry) (old new : 
   pub map : new.map ≡ old.map
   pub drawn : new.drawn ≡ old.drawn
   pub files : new.files ≡ old.files
+  pub room : old.map_log.room ≤ new.map_log.room
   pub rest : KeepsRest old new
   pub stays : (m : MapMeaning) → MailIsKept m before after
   pub grows : Grows before after

@@ -248,9 +248,9 @@ record_left Own uid row new before after mail k = record {
 }
 
 -- An event that leaves all this, and whose own file no other task has taken or is to remove, leaves to the others what is theirs.
-pub leaves_by : {D : Type 0} → (mine : Claims) (Own : ℕ → Type 0) (old new : StoreValue D) (before after : Option History) → KeepsInstances old new before after → KeepsUids old new → DrawsNumbers old new → LeavesRecords Own old.map new.map → LeavesKnown Own old.files.files new.files.files → LeavesMailBut Own before after → LeavesUnlisted mine old new
+pub leaves_by : {D : Type 0} → (mine : Claims) (Own : ℕ → Type 0) (old new : StoreValue D) (before after : Option History) → KeepsInstances old new before after → KeepsUids old new → DrawsNumbers old new → old.map_log.room ≤ new.map_log.room → LeavesRecords Own old.map new.map → LeavesKnown Own old.files.files new.files.files → LeavesMailBut Own before after → LeavesUnlisted mine old new
     → ((number : ℕ) → OthersTook mine old number → Own number → ⊥) → LeavesOthers mine old new before after
-leaves_by mine Own old new before after keeps uids draws rows known mail unlisted apart = record {
+leaves_by mine Own old new before after keeps uids draws room rows known mail unlisted apart = record {
   records = λ uid row more there. record_left Own uid row new before after mail (rows.records uid row there);
   unlisted = unlisted;
   files = λ number took. record {
@@ -269,5 +269,6 @@ leaves_by mine Own old new before after keeps uids draws rows known mail unliste
   mailboxes = draws.mailboxes;
   compared = keeps.compared;
   uids = uids;
+  room = room;
   told = between-map GrowsMail (λ a b. Unit {0}) before after (λ a b m. tt) mail.grows;
 }

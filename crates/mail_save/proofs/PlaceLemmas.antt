@@ -58,6 +58,7 @@ guid_is_new m file offset long f o new = λ k d lt e.
 pub left_fallen : {D : Type 0} → (old new : StoreValue D) → new ≡ record old { disk = new.disk; stopped = true } → IsLeftAlone old new
 left_fallen old new fell = record {
   indexes = ap (λ v. indexes_of v.boxes) fell;
+  room = (let log = ap (λ v. v.map_log.room) fell in omega (arith, log));
   same = subst (λ (v : StoreValue _). v ≡ record old { disk = v.disk; map_log = v.map_log; boxes = v.boxes; stopped = v.stopped }) (sym fell) refl;
 }
 

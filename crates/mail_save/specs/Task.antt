@@ -16,6 +16,8 @@ use Rattle.mdbox_base.specs.declared.replies.Refusal.{Refusal}
 use Rattle.mdbox_base.specs.declared.replies.Refusal.TheVariants as refusal
 use Rattle.mdbox_base.specs.declared.replies.Reply.{Reply}
 use Rattle.mdbox_base.specs.declared.replies.Reply.TheVariants as reply
+use Rattle.mdbox_base.specs.declared.requests.Request.TheVariants as request
+use Rattle.journal.specs.Events.{Around}
 use Rattle.model_appends.specs.Appending.{lists_by}
 use Rattle.model_kept.specs.Kept.{MailIsKept}
 use Rattle.model_lists.specs.Lists.{Lists}
@@ -29,6 +31,7 @@ use Rattle.store_core.specs.Dues.{Moves, amounts_in, due_at}
 use Rattle.store_core.specs.Keeping.{KeepsInstances, MovesHolds}
 use Rattle.store_core.specs.MapAppend.{IsReadyToStore}
 use Rattle.store_core.specs.Value.{StoreValue, list_named}
+use Rattle.store_seen.specs.Seeing.{seen_of}
 use Rattle.task_claims.specs.Claims.{ClaimsNothing}
 use Rattle.mail_save.specs.Added.{HasRoomUnder, entry_added}
 use Rattle.mail_save.specs.Claims.{save_claims}
@@ -41,6 +44,7 @@ use Rattle.mail_save.specs.Parts.{AreAttached, AreBeingAttached}
 use Rattle.mail_save.specs.Ready.{IsReadyToSave}
 use Rattle.mail_save.specs.Record.{entry_stored}
 use Rattle.mail_save.specs.SaveEffects.{AreSpared, SaveEffects}
+use Rattle.mail_save.specs.SaveSeen.{HasItsParts, IsAtSave, StepsWithRoom, around_saving}
 use Rattle.mail_save.specs.declared.first.SavedParts.{SavedParts}
 use Rattle.mail_save.specs.declared.task.SaveStage.{SaveStage}
 use Rattle.mail_save.specs.declared.task.SaveStage.TheVariants as stage
@@ -216,3 +220,10 @@ pub record EndsSave {D : Type 0} (next : SaveStage) (answer : Progress) (old new
   pub still : old.stopped ≡ true → new ≡ old
   pub doomed : new.stopped ≡ false → (file : ℕ) → is_doomed_in file new.files.files ≡ is_doomed_in file old.files.files
   pub unclaimed : (given : Reply) → answer ≡ progress.Done given → new.stopped ≡ false → ClaimsNothing (save_claims next)
+
+-- Of the message with these octets, where the task is ready for it: its clause, with what the store has for the message. In a store that
+-- was stopped it need not be ready, but for the number of attachments.
+abbrev pub StepsDelivery : {D : Type 0} → SaveValue → SaveValue → List ℕ → (ℕ → ℕ) → Around → StoreValue D → StoreValue D → Option History → Option History → Faults → Faults → Option Reply → Type 0
+StepsDelivery t next octets pins around old new before after began now ended =
+    HasItsParts t.stage octets → (old.stopped ≡ false → IsReadyToSave t.stage t.name t.time t.size octets old before)
+    → StepsWithRoom (IsAtSave t.stage) (IsAtSave next.stage) (around_saving octets t.stage old) around (request.Deliver t.name t.time octets) (seen_of pins old before began) (seen_of pins new after now) next.did ended

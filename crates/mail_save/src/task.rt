@@ -9,13 +9,11 @@ ghost use Rattle.mdbox_base.specs.declared.progress.Did.TheVariants as did;
 ghost use Rattle.mdbox_base.specs.declared.progress.Progress.TheVariants as progress;
 ghost use Rattle.mdbox_base.specs.declared.replies.Refusal.TheVariants as refusal;
 ghost use Rattle.mdbox_base.specs.declared.replies.Reply.TheVariants as reply;
-ghost use Rattle.mdbox_base.specs.declared.requests.Request.TheVariants as request;
 ghost use Rattle.model_lists.specs.Lists.{Lists};
 ghost use Rattle.model_store.specs.Settled.{IsSettledFor, Leaves};
 ghost use Rattle.save_instances.specs.Attaching.{next_attachment};
 ghost use Rattle.saved_message.specs.Laid.{IsLaid};
 ghost use Rattle.store_core.specs.Dues.{due_at};
-ghost use Rattle.store_seen.specs.Seeing.{seen_of};
 ghost use Rattle.task_claims.specs.Claims.{MovesClaims};
 ghost use Rattle.task_claims.specs.Leaving.{LeavesOthers};
 ghost use Rattle.task_steps.specs.Step.{ended_by};
@@ -23,8 +21,7 @@ ghost use Rattle.mail_save.specs.Claims.{save_claims};
 ghost use Rattle.mail_save.specs.SaveEffects.{NamesFound};
 ghost use Rattle.mail_save.specs.declared.first.SavedParts.{SavedParts as SavedPartsValue};
 ghost use Rattle.mail_save.specs.Ready.{IsReadyToSave, save_lists, lists_delivered};
-ghost use Rattle.mail_save.specs.SaveSeen.{HasItsParts, IsAtSave, StepsWithRoom, around_saving};
-ghost use Rattle.mail_save.specs.Task.{EndsSave, HasLeft, IsAttached, IsReadyToDeliver, Saves, save_events_left, refused_did, failing_did};
+ghost use Rattle.mail_save.specs.Task.{EndsSave, HasLeft, IsAttached, IsReadyToDeliver, Saves, StepsDelivery, save_events_left, refused_did, failing_did};
 ghost use Rattle.mail_save.specs.declared.task.SaveStage.TheVariants as stage;
 
 use crate::add::{Added, add_message};
@@ -143,9 +140,8 @@ impl SaveTask {
         ensures saves { store.old.stopped ≡ false → Saves self.old.stage self.new.stage self.old.name self.old.time self.old.size result self.new.did store.old store.new (D.history store.old.disk) (D.history store.new.disk) (D.faults store.old.disk) (D.faults store.new.disk) }
 
         // Of the message with these octets, where the task is ready for it: which event of a run it was, of every run that has come
-        // to the store, with so many pins of each file, and in which no request has taken the file that it finds. In a store that
-        // was stopped it need not be ready, but for the number of attachments.
-        ensures does { (octets : List ℕ) (pins : ℕ → ℕ) (after : Around) → HasItsParts self.old.stage octets → (store.old.stopped ≡ false → IsReadyToSave self.old.stage self.old.name self.old.time self.old.size octets store.old (D.history store.old.disk)) → StepsWithRoom (IsAtSave self.old.stage) (IsAtSave self.new.stage) (around_saving octets self.old.stage store.old) after (request.Deliver self.old.name self.old.time octets) (seen_of pins store.old (D.history store.old.disk) (D.faults store.old.disk)) (seen_of pins store.new (D.history store.new.disk) (D.faults store.new.disk)) self.new.did (ended_by result) }
+        // to the store, with so many pins of each file, and in which no request has taken the file that it finds.
+        ensures does { (octets : List ℕ) (pins : ℕ → ℕ) (after : Around) → StepsDelivery self.old self.new octets pins after store.old store.new (D.history store.old.disk) (D.history store.new.disk) (D.faults store.old.disk) (D.faults store.new.disk) (ended_by result) }
 
         // Of the message with these octets, where the task is ready for it: of a settled disk each crash image at every moment is
         // safe for its lists, or for those with the message, whatever fails. Unless the store is stopped then, the disk is

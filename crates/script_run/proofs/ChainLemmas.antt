@@ -18,7 +18,7 @@ use Rattle.serving.proofs.LaneLemmas.{get_set_other, get_set_same, nat_cases, on
 use Rattle.store_core.specs.Value.{StoreValue}
 use Rattle.task_claims.specs.Leaving.{IsSameOrSynced, SyncsMail}
 use Rattle.task_steps.specs.Step.{ended_by}
-use Rattle.lane_tasks.specs.Clause.{IsSameKind, TaskKeeps, OnlyReads, SetsNoFlags, WritesTask}
+use Rattle.lane_tasks.specs.Clause.{StaysOfRequest, TaskKeeps, OnlyReads, SetsNoFlags, WritesTask}
 use Rattle.lane_tasks.specs.declared.task.Task.{Task}
 use Rattle.lane_tasks.specs.declared.task.Task.TheVariants as task
 use Rattle.lane_tasks.proofs.StepLemmas.{ran_before}
@@ -119,7 +119,7 @@ counted_first world history faults runs = record {
 
 -- ---- tasks that read at the most
 
-reads_next : (t next : Task) → OnlyReads t → IsSameKind t next → OnlyReads next
+reads_next : (t next : Task) → OnlyReads t → StaysOfRequest t next → OnlyReads next
 reads_next (task.Ops t) (task.Ops next) reads kind = subst SetsNoFlags (sym kind) reads
 reads_next (task.Counts t) (task.Counts next) reads kind = tt
 reads_next (task.Fetch t) (task.Fetch next) reads kind = tt
@@ -142,7 +142,7 @@ reads_on origin lane old mid before between first counted e is =
     let k = e.works.goes.goes.keeps in
     let own = (in_turn OnlyReads lane old mid before between first counted e is.tasks).0 in
     record {
-      tasks = tasks_after OnlyReads lane old mid before between first counted e (λ more. reads_next e.works.goes.queued.task e.works.goes.next own k.kind) is.tasks;
+      tasks = tasks_after OnlyReads lane old mid before between first counted e (λ more. reads_next e.works.goes.queued.task e.works.goes.next own k.request) is.tasks;
       idle = idle-then origin before between is.idle (k.idle own).0;
       running = (k.idle own).2 ∙ is.running;
     }
@@ -153,7 +153,7 @@ abbrev pub NoDelivery : Task → Type 0
 NoDelivery (task.Deliver t) = ⊥
 NoDelivery other = Unit {0}
 
-none_next : (t next : Task) → NoDelivery t → IsSameKind t next → NoDelivery next
+none_next : (t next : Task) → NoDelivery t → StaysOfRequest t next → NoDelivery next
 none_next (task.Deliver t) next none kind = absurd none
 none_next t (task.Deliver next) none kind = absurd kind
 none_next t next none kind = tt
@@ -208,7 +208,7 @@ undelivered_on origin lane old mid before between first counted e is =
     let k = w.goes.goes.keeps in
     let own = (in_turn NoDelivery lane old mid before between first counted e is.tasks).0 in
     record {
-      tasks = tasks_after NoDelivery lane old mid before between first counted e (λ more. none_next w.goes.queued.task w.goes.next own k.kind) is.tasks;
+      tasks = tasks_after NoDelivery lane old mid before between first counted e (λ more. none_next w.goes.queued.task w.goes.next own k.request) is.tasks;
       synced = λ runs. names_then origin before between (is.synced (ran_before old.store.stopped mid.store.stopped w.goes.goes.halted runs)) (syncs_event w.goes.queued.task w.goes.next old.store before between own (k.left runs));
       kept = λ m. kept_then m origin before between w.goes.goes.image (is.kept m) (kept_event w.goes.queued.task w.goes.next old.store mid.store before between first counted (ended_by w.event.ended) m own k);
     }

@@ -31,7 +31,7 @@ HasStopped given = Contains given (reply.Refused refusal.Stopped)
 abbrev pub OpensShowing : MapMeaning → Lists → Option History → Type 0
 OpensShowing m lists new = (later : List BoxMeaning) × IsOpenedAs new m later × LogsShowLists m later lists
 
--- A world was made after so many calls of the device, as the disk tells that the store was open; no event of the run had ended then.
+-- A world was made after so many calls of the device, as the disk tells that the store was open; no event of the run had ended before.
 abbrev pub IsMadeBefore : Option History → ℕ → Run → Type 0
 IsMadeBefore opened made run = IsMoment opened made × All (λ event. told_calls opened ≤ event.moment) run.events
 

@@ -68,6 +68,7 @@ found_used s = record {
   pinned = λ some. refl;
   emptied = λ e. absurd (cc (let f : false ≡ true = e in f));
   doomed = λ e. absurd (cc (let f : false ≡ true = e in f));
+  sealed = λ e. (refl, refl);
   placing = λ start e. absurd (cc (let f : None ≡ Some start = e in f));
 }
 

@@ -33,15 +33,17 @@ use_taken f free u = record {
   pinned = u.pinned;
   emptied = λ e. absurd (true≢false (sym e ∙ free.unemptied));
   doomed = λ e. absurd (true≢false (sym e ∙ free.undoomed));
+  sealed = u.sealed;
   placing = λ start e. (refl, (u.placing start e).1);
 }
 
-pub use_emptied : (f : MailFile) → IsUntakenFile f → IsUsedFile f → IsUsedFile (to_empty f)
-use_emptied f free u = record {
+pub use_emptied : (f : MailFile) → IsUntakenFile f → f.sealed ≡ false → IsUsedFile f → IsUsedFile (to_empty f)
+use_emptied f free unsealed u = record {
   there = u.there;
   pinned = u.pinned;
   emptied = λ e. (is_there u.there, free.untaken);
   doomed = λ e. absurd (true≢false (sym e ∙ free.undoomed));
+  sealed = λ e. absurd (true≢false (sym e ∙ unsealed));
   placing = λ start e. absurd (true≢false (sym (u.placing start e).0 ∙ free.untaken));
 }
   where
@@ -55,6 +57,7 @@ use_given_back f there u = record {
   pinned = u.pinned;
   emptied = λ e. absurd (false≢true e);
   doomed = λ e. (there, refl, refl);
+  sealed = λ e. (refl, (u.sealed e).1);
   placing = λ start e. absurd (no_start start e);
 }
 
@@ -64,6 +67,7 @@ use_begun f taken u = record {
   pinned = u.pinned;
   emptied = u.emptied;
   doomed = u.doomed;
+  sealed = u.sealed;
   placing = λ start e. (taken, (start, e, omega arith));
 }
 
@@ -73,6 +77,7 @@ use_ended f u = record {
   pinned = u.pinned;
   emptied = u.emptied;
   doomed = u.doomed;
+  sealed = u.sealed;
   placing = λ start e. absurd (no_start start e);
 }
 
@@ -82,6 +87,7 @@ use_pins f pins there u = record {
   pinned = there;
   emptied = u.emptied;
   doomed = u.doomed;
+  sealed = u.sealed;
   placing = u.placing;
 }
 
@@ -91,6 +97,7 @@ use_doomed f emptied u = record {
   pinned = u.pinned;
   emptied = λ e. absurd (false≢true e);
   doomed = λ e. ((u.emptied emptied).0, refl, refl);
+  sealed = λ e. absurd (true≢false (sym emptied ∙ (u.sealed e).0));
   placing = λ start e. absurd (no_start start e);
 }
 
@@ -101,6 +108,7 @@ use_ending f end more u = record {
   pinned = λ some. refl;
   emptied = λ e. (refl, (u.emptied e).1);
   doomed = λ e. (refl, (u.doomed e).1, (u.doomed e).2);
+  sealed = u.sealed;
   placing = λ start e. let p = u.placing start e in (p.0, (end, refl, let l = more p.1.0 p.1.1 in let m = p.1.2 in omega (arith, l, m)));
 }
 

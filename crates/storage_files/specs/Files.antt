@@ -22,12 +22,13 @@ abbrev pub IsThereOrBegun : MailFile → Type 0
 IsThereOrBegun f = IsSome f.end ⊎ (f.taken ≡ true)
 
 -- A file that is pinned, emptied or doomed is there. Nobody adds to one that is emptied, and one that is doomed nobody has
--- taken. Placing in pieces is begun only by one who adds to the file, at its end or before it.
+-- taken. One that is sealed is never emptied or doomed. Placing in pieces is begun only by one who adds to the file, at its end or before it.
 pub record IsUsedFile (f : MailFile) : Type 0 where
   pub there : IsThereOrBegun f
   pub pinned : 1 ≤ f.pins → IsSome f.end
   pub emptied : f.emptied ≡ true → IsSome f.end × (f.taken ≡ false)
   pub doomed : f.doomed ≡ true → IsSome f.end × (f.taken ≡ false) × (f.emptied ≡ false)
+  pub sealed : f.sealed ≡ true → (f.emptied ≡ false) × (f.doomed ≡ false)
   pub placing : (start : ℕ) → f.begun ≡ Some start → (f.taken ≡ true) × ((end : ℕ) × (f.end ≡ Some end) × (start ≤ end))
 
 -- Numbers rise up to the drawn one, which is a file's number at most, and each file is there or begun, and used as it may be.
@@ -62,6 +63,10 @@ end_in number files = option_and_then (λ f. f.end) (file_in number files)
 -- whether somebody has taken the file with this number
 abbrev pub is_taken_in : ℕ → List MailFile → Bool
 is_taken_in number files = option_map_or (λ f. f.taken) (file_in number files) false
+
+-- whether it is sealed
+abbrev pub is_sealed_in : ℕ → List MailFile → Bool
+is_sealed_in number files = option_map_or (λ f. f.sealed) (file_in number files) false
 
 -- whether it is taken to be emptied, and whether it is doomed
 abbrev pub is_emptied_in : ℕ → List MailFile → Bool

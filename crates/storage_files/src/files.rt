@@ -1,9 +1,9 @@
 // The storage files of a store, and who has taken which.
-ghost use Rattle.std.specs.Prelude.{◌≡◌, ◌==◌, ◌+◌, ◌-◌, ◌<◌, ◌≤◌, ◌&&◌, ◌||◌, ℕ, map, max, find, true, is_some, Some, All, AllPairs, IfOk, OnOk, OnErr, IsOk};
+ghost use Rattle.std.specs.Prelude.{◌≡◌, ◌==◌, ◌+◌, ◌-◌, ◌<◌, ◌≤◌, ◌&&◌, ◌||◌, ℕ, map, max, find, true, false, is_some, Some, All, AllPairs, IfOk, OnOk, OnErr, IsOk};
 ghost use Rattle.std.specs.Option.{option_map};
 ghost use Rattle.storage_files.specs.declared.file.MailFile.{MailFile};
 ghost use Rattle.storage_files.specs.declared.file.Take.TheVariants as Take;
-ghost use Rattle.storage_files.specs.Files.{IsTakeFor, IsTakeNew, IsGiven, IsUsedFile, IsUntakenFile, after_take, change_of, file_found, file_in, file_past, end_in, is_taken_in, is_emptied_in, is_doomed_in, pins_in, place_begun_in, released_in, without_file, changed_in, to_empty, made_doomed, with_pins};
+ghost use Rattle.storage_files.specs.Files.{IsTakeFor, IsTakeNew, IsGiven, IsUsedFile, IsUntakenFile, after_take, change_of, file_found, file_in, file_past, end_in, is_taken_in, is_emptied_in, is_doomed_in, is_sealed_in, pins_in, place_begun_in, released_in, without_file, changed_in, to_empty, made_doomed, with_pins};
 
 use crate::file::{FileChange, FileState, MailFile, Take};
 use crate::list::{change, find, greatest_with_room, leave_out, place_past};
@@ -131,6 +131,7 @@ impl MailFiles {
     /// it meanwhile.
     pub fn take_file(&mut self, file: FileNo)
         requires free { (f : MailFile) × (file_in file.0 self.old.files ≡ Some f) × IsUntakenFile f }
+        requires unsealed { is_sealed_in file.0 self.old.files ≡ false }
         ensures files { self.new ≡ record self.old { files = changed_in file.0 to_empty self.old.files } }
         ensures ends { (number : ℕ) → end_in number self.new.files ≡ end_in number self.old.files }
     {
@@ -176,6 +177,16 @@ impl MailFiles {
         let is_unpinned = self.pins_of(file) == 0;
         self.change(file, FileChange::Doomed);
         is_unpinned
+    }
+
+    /// Whether the file is sealed: nothing is added to it, and it isn't emptied.
+    pub fn is_sealed(&self, file: FileNo) -> bool
+        ensures { result ≡ is_sealed_in file.0 self.now.files }
+    {
+        match find(&self.files, file) {
+            Some(f) => f.sealed,
+            None => false,
+        }
     }
 
     /// Whether the file is doomed: it is removed as soon as it has no pin.

@@ -1,6 +1,6 @@
 -- Storage files and instances stay at each moment of a call.
 use Rattle.std.specs.Prelude.{◌==◌, Contains}
-use Rattle.std.proofs.Common.{◌≡◌, ◌≢◌, ◌<◌, ◌≤◌, ◌+◌, inl, inr, ℕ, true, false, List, take, Option, Some, None, All, sym, ◌∙◌, ap, subst, arith}
+use Rattle.std.proofs.Common.{◌≡◌, ◌≢◌, ◌<◌, ◌≤◌, ◌+◌, ◌||◌, inl, inr, ℕ, Bool, true, false, List, take, Option, Some, None, All, refl, sym, ◌∙◌, ap, subst, arith}
 use Rattle.std.specs.Option.{option_map, option_map_or, option_and_then}
 use Rattle.std.proofs.lemmas.Bool.{cases_Bool, true≢false}
 use Rattle.std.proofs.lemmas.Option.{same_Some}
@@ -20,7 +20,7 @@ use Rattle.sis_store.specs.Instances.{AreInstances, next_id}
 use Rattle.sis_store.specs.OnDisk.{next_instance_file}
 use Rattle.sis_store.specs.declared.instance.KnownInstance.{KnownInstance}
 use Rattle.storage_files.specs.declared.file.MailFile.{MailFile}
-use Rattle.storage_files.specs.Files.{IsUsedFile, file_in, end_in, is_taken_in, place_begun_in}
+use Rattle.storage_files.specs.Files.{AreFilesInOrder, IsUsedFile, file_in, is_doomed_in, is_emptied_in, end_in, is_taken_in, place_begun_in}
 use Rattle.storage_files.specs.OnDisk.{FrontStays, IsLeftAsBefore}
 use Rattle.storage_files.proofs.KnownLemmas.{taken-there}
 use Rattle.storage_files.proofs.UseLemmas.{found-begun}
@@ -96,6 +96,23 @@ bare_unknown m n elsewhere unsealed f octets = record {
   sealed = λ is. absurd (true≢false (sym is ∙ unsealed));
   regions = All-weaker (λ (row : MapRecord). row.file ≢ n) (λ (row : MapRecord). row.file ≡ n → StaysTo (row.offset + row.size) f octets) (λ row apart same. absurd (apart same)) m.records elsewhere;
 }
+
+-- one that is doomed or emptied isn't sealed
+pub own_unsealed : {D : Type 0} → (h : Option History) (v : StoreValue D) (n : ℕ) → IsStore h v → AreFilesInOrder v.files → (is_doomed_in n v.files.files || is_emptied_in n v.files.files) ≡ true → is_sealed v.map n ≡ false
+own_unsealed h v n s order own = elim (cases_Bool (is_sealed v.map n)) [
+  | inl is ↦ absurd (by_found is (file_in n v.files.files) refl)
+  | inr apart ↦ apart
+]
+  where
+    told : Option MailFile → Bool
+    told o = option_map_or (λ f. f.doomed) o false || option_map_or (λ f. f.emptied) o false
+
+    by_found : is_sealed v.map n ≡ true → (o : Option MailFile) → file_in n v.files.files ≡ o → ⊥
+    by_found is None found = true≢false (sym own ∙ ap told found)
+    by_found is (Some f) found =
+        let u : IsUsedFile f = (found_holds (λ (g : MailFile). g.file.0 == n) v.files.files f IsUsedFile found order.used).0 in
+        let none = u.sealed (s.files.sealed n f found is) in
+        true≢false (sym own ∙ ap told found ∙ ap (λ (b : Bool). b || f.emptied) none.1 ∙ none.0)
 
 -- one that isn't made yet
 none_ends : (n : ℕ) (files : List MailFile) (f : MailFile) (end : ℕ) → file_in n files ≡ Some f → end_in n files ≡ None → f.end ≡ Some end → ⊥

@@ -90,9 +90,9 @@ none_placed instances = record { drawn = omega arith; few = omega arith; candida
 
 -- ---- all of it
 
-pub rest_leaves : {D : Type 0} → (mine : Claims) (old new : StoreValue D) (before after : Option History) → new.files ≡ old.files → new.instances ≡ old.instances → SyncsMail before after → SameButCounts old.map new.map → old.map.highest.mailbox ≤ new.map.highest.mailbox → KeepsUids old new → LeavesUnlisted mine old new
+pub rest_leaves : {D : Type 0} → (mine : Claims) (old new : StoreValue D) (before after : Option History) → new.files ≡ old.files → new.instances ≡ old.instances → SyncsMail before after → SameButCounts old.map new.map → old.map.highest.mailbox ≤ new.map.highest.mailbox → KeepsUids old new → old.map_log.room ≤ new.map_log.room → LeavesUnlisted mine old new
     → LeavesOthers mine old new before after
-rest_leaves mine old new before after files instances mail same mailboxes uids unlisted =
+rest_leaves mine old new before after files instances mail same mailboxes uids room unlisted =
     let keeps = kept_same old new before after instances (between-map Mails ReadsInstances before after (λ a b m hash id. synced_reads (a (file.Inst hash id)) (b (file.Inst hash id)) (m.1 hash id)) mail) in
     record {
       records = λ uid row more there. record_kept uid row old new before after mail same there;
@@ -105,6 +105,7 @@ rest_leaves mine old new before after files instances mail same mailboxes uids u
       mailboxes = mailboxes;
       compared = keeps.compared;
       uids = uids;
+      room = room;
       told = between-map Mails (λ a b. Unit {0}) before after (λ a b m. tt) mail;
     }
 
@@ -112,7 +113,7 @@ rest_leaves mine old new before after files instances mail same mailboxes uids u
 pub idle_leaves : {D : Type 0} → (mine : Claims) (store : StoreValue D) (before after : Option History) → IsIdle before after → LeavesOthers mine store store before after
 idle_leaves mine store before after idle =
     rest_leaves mine store store before after refl refl (between-map (λ a b. b ≡ a) Mails before after (λ a b e. ((λ number. inl (ap (λ (d : DiskState). d (file.Mail number)) e)), (λ hash id. inl (ap (λ (d : DiskState). d (file.Inst hash id)) e)))) idle.same) refl (stays store.map.highest.mailbox)
-    (λ name uid held k. k) (λ uid rec none found listed. (listed, refl))
+    (λ name uid held k. k) (stays store.map_log.room) (λ uid rec none found listed. (listed, refl))
 
 -- ---- claims
 

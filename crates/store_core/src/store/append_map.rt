@@ -100,6 +100,9 @@ impl<D: Disk> Store<D> {
         ensures made { OnOk result (All (λ row. record_at self.new.map row.uid ≡ Some row) (record_made entry.now)) }
         ensures others { OnOk result (KeepsMail (D.history self.old.disk) (D.history self.new.disk)) }
 
+        // The room of the map log never falls.
+        ensures room { self.old.map_log.room ≤ self.new.map_log.room }
+
         ensures stopped { IsErrOf result step_error.Stopped ↔ (self.new.stopped ≡ true) }
         ensures untaken { IsErr result → (self.new.map ≡ self.old.map) × (self.new.drawn ≡ self.old.drawn) × (self.new.dues ≡ self.old.dues) }
         ensures memory { IsErrOf result step_error.NoMemory → (self.new ≡ self.old) × (TakesMemory entry.now ⊎ IsLongEntry entry.now) }

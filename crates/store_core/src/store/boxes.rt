@@ -172,6 +172,9 @@ impl<D: Disk> Store<D> {
         // Storage files and instances are as they were.
         ensures others { OnOk result (KeepsMail (D.history self.old.disk) (D.history self.new.disk)) }
 
+        // The room of the map log never falls.
+        ensures room { self.old.map_log.room ≤ self.new.map_log.room }
+
         ensures stopped { IsErrOf result step_error.Stopped ↔ (self.new.stopped ≡ true) }
         ensures untaken { IsErr result → (self.new.map ≡ self.old.map) × (self.new.boxes ≡ self.old.boxes) × (self.new.made ≡ self.old.made) }
         ensures memory { IsErrOf result step_error.NoMemory → self.new ≡ self.old }

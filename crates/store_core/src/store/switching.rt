@@ -81,6 +81,7 @@ impl<D: Disk> Store<D> {
 
         ensures unpinned { IfOk result (λ unpinned. unpinned ≡ (pins_in file.0 self.old.files.files == 0)) }
         ensures laid { text.new ≡ map_text entry.now }
+        ensures room { self.old.map_log.room ≤ self.new.map_log.room }
         ensures ok { OnOk result (self.new ≡ record self.old { disk = self.new.disk; map_log = self.new.map_log; map = self.new.map; files = record self.old.files { files = changed_in file.0 made_doomed self.old.files.files }; dues = self.new.dues }) }
         ensures err { OnErr result (self.new ≡ record self.old { disk = self.new.disk; map_log = self.new.map_log; stopped = true }) }
         ensures grows { Grows (D.history self.old.disk) (D.history self.new.disk) }

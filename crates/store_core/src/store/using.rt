@@ -6,10 +6,10 @@ ghost use Rattle.disk_model.specs.FaultCounts.{NoFault, ChangeFaultCounted};
 ghost use Rattle.disk_model.specs.declared.name.FileName.TheVariants.{Mail};
 ghost use Rattle.model_kept.specs.Kept.{MailIsKept};
 ghost use Rattle.model_lists.specs.Lists.{Lists};
-ghost use Rattle.model_meaning.specs.MapMeaning.{MapMeaning, is_sealed};
+ghost use Rattle.model_meaning.specs.MapMeaning.{MapMeaning};
 ghost use Rattle.model_store.specs.Settled.{IsSettledFor, Leaves};
 ghost use Rattle.storage_files.specs.declared.file.MailFile.{MailFile};
-ghost use Rattle.storage_files.specs.Files.{IsUntakenFile, IsGiven, IsTakeNew, after_take, place_begun_in, changed_in, end_in, ending_at, file_in, is_doomed_in, is_emptied_in, is_taken_in, pins_in, placing_begun, placing_ended, to_empty, with_pins, without_file};
+ghost use Rattle.storage_files.specs.Files.{IsUntakenFile, IsGiven, IsTakeNew, after_take, place_begun_in, changed_in, end_in, ending_at, file_in, is_doomed_in, is_emptied_in, is_sealed_in, is_taken_in, pins_in, placing_begun, placing_ended, to_empty, with_pins, without_file};
 ghost use Rattle.storage_files.specs.OnDisk.{IsPieceAdded, IsSyncedFile};
 ghost use Rattle.store_core.specs.Dues.{KeepsStored};
 ghost use Rattle.store_core.specs.Removing.{AreElsewhere, KeepsStoredBut};
@@ -58,10 +58,18 @@ impl<D: Disk> Store<D> {
         take
     }
 
+    /// Whether a storage file is sealed: nothing is added to it, and it isn't emptied.
+    pub fn is_sealed(&self, file: FileNo) -> bool
+        ensures { result ≡ is_sealed_in file.0 self.now.files.files }
+    {
+        self.files.is_sealed(file)
+    }
+
     /// Takes a storage file to empty it: what is still needed of it is copied elsewhere, and then it is removed. Nothing is
     /// added to it meanwhile.
     pub fn take_file(&mut self, file: FileNo)
         requires free { (f : MailFile) × (file_in file.0 self.old.files.files ≡ Some f) × IsUntakenFile f }
+        requires unsealed { is_sealed_in file.0 self.old.files.files ≡ false }
         ensures same { self.new ≡ record self.old { files = record self.old.files { files = changed_in file.0 to_empty self.old.files.files } } }
         ensures ends { (number : ℕ) → end_in number self.new.files.files ≡ end_in number self.old.files.files }
     {
@@ -171,7 +179,6 @@ impl<D: Disk> Store<D> {
         requires unpinned { pins_in file.0 self.old.files.files ≡ 0 }
         requires unused { AreElsewhere file.0 self.old.map.records }
         requires own { (is_doomed_in file.0 self.old.files.files || is_emptied_in file.0 self.old.files.files) ≡ true }
-        requires unsealed { is_sealed self.old.map file.0 ≡ false }
 
         // Of a settled disk each image at every moment is safe for its lists, whichever call fails; and after Ok the disk is
         // settled for them again.
@@ -189,6 +196,7 @@ impl<D: Disk> Store<D> {
         ensures fault { ChangeFaultCounted (IsErr result) (D.faults self.old.disk) (D.faults self.new.disk) }
         ensures unfailed { OnOk result (NoFault (D.faults self.old.disk) (D.faults self.new.disk)) }
     {
+        self.files.known_facts();
         if let Err(_fault) = self.files.remove_file(&mut self.disk, file) {
             self.stopped = true;
             return Err(Stopped);

@@ -36,6 +36,7 @@ returns-in-Ok-clause-added g c =
           map = ap (λ v. v.map) o.same;
           drawn = ap (λ v. v.drawn) o.same;
           files = ap (λ v. v.files) o.same;
+          room = (let same = ap (λ v. v.map_log.room) o.same in omega (arith, same));
           rest = o.same ∙ sym (ap (λ v. record c.args.store.now { disk = v.disk; map_log = v.map_log; map = v.map; boxes = v.boxes; drawn = v.drawn; dues = v.dues; stopped = v.stopped }) o.same);
           stays = o.mail_stays;
           grows = o.grows;
@@ -69,6 +70,7 @@ returns-in-Err-Stopped-clause-refused g c =
           map = ap (λ v. v.map) o.same;
           drawn = ap (λ v. v.drawn) o.same;
           files = ap (λ v. v.files) o.same;
+          room = (let same = ap (λ v. v.map_log.room) o.same in omega (arith, same));
           rest = o.same ∙ sym (ap (λ v. record c.args.store.now { disk = v.disk; map_log = v.map_log; map = v.map; boxes = v.boxes; drawn = v.drawn; dues = v.dues; stopped = v.stopped }) o.same);
           stays = o.mail_stays;
           grows = o.grows;

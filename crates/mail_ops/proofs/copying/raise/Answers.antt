@@ -28,6 +28,7 @@ returns-in-Ok-clause-raised g c =
           mailboxes = o.mailboxes;
           drawn = o.drawn;
           files = ap (λ v. v.files) o.same;
+          room = o.room;
           rest = o.same ∙ sym (ap (λ v. record c.args.store.now { disk = v.disk; map_log = v.map_log; map = v.map; boxes = v.boxes; drawn = v.drawn; dues = v.dues; stopped = v.stopped }) o.same);
           stays = o.mail_stays;
           grows = o.grows;

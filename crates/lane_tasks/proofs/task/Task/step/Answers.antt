@@ -15,7 +15,7 @@ use Rattle.lane_tasks.specs.declared.task.Task.TheVariants as task
 use Rattle.mail_fetch.proofs.StageLemmas.{used_doomed, used_only, used_runs}
 use Rattle.mail_save.proofs.SaveReadyLemmas.{left_with_room}
 use Rattle.lane_tasks.proofs.KeepLemmas.{copy_refused, expunge_refused, keeps_by, keeps_fetching, keeps_saving, keeps_still, make_refused, move_refused, ops_refused}
-use Rattle.lane_tasks.proofs.StepLemmas.{copy_does, counts_does, deliver_does, deliver_ran, deliver_stays_of, doomed_as, doomed_rest, expunge_does, fetch_does, fetch_halts, logs_files, make_does, make_fewer, lists_same, make_numbered, move_does, ops_asked, ops_does, ops_halted, ops_still, ran_before, ready_as, rest_files, stays_stopped, unpins_undoomed, use_room}
+use Rattle.lane_tasks.proofs.StepLemmas.{copy_does, counts_does, deliver_does, deliver_ran, doomed_as, doomed_rest, expunge_does, fetch_does, fetch_halts, logs_files, make_does, make_fewer, lists_same, make_numbered, move_does, ops_asked, ops_does, ops_halted, ops_still, ran_before, ready_as, rest_files, stays_stopped, unpins_undoomed, use_room}
 use Rattle.lane_tasks.proofs.task.Task.step.Goals as goal
 
 pub returns-in-Ops-clause-does : goal.returns-in-Ops-clause-does
@@ -197,10 +197,6 @@ pub returns-in-Deliver-clause-left : goal.returns-in-Deliver-clause-left
 returns-in-Deliver-clause-left g c = λ more.
     subst (λ (t : Task). work_left (task.Deliver c.step-in-Deliver.new.self) c.step-in-Deliver.new.store < work_left t c.args.store.now) (sym c.in-Deliver.is) (c.step-in-Deliver.ensures.left more)
 
-pub returns-in-Deliver-clause-request : goal.returns-in-Deliver-clause-request
-returns-in-Deliver-clause-request g c = λ asked is.
-    deliver_stays_of c.in-Deliver.task c.step-in-Deliver.new.self asked c.step-in-Deliver.ensures.request (subst (λ (t : Task). IsTaskOf t asked) c.in-Deliver.is is)
-
 -- ---- what it keeps
 
 pub returns-in-Ops-clause-keeps : goal.returns-in-Ops-clause-keeps
@@ -226,7 +222,7 @@ returns-in-Make-clause-keeps g c =
     let old = c.args.store.now in
     let new = c.step-in-Make.new.store in
     subst (λ (k : Task). TaskKeeps k (task.Make c.step-in-Make.new.self) old new (g.D.Disk.history old.disk) (g.D.Disk.history new.disk) (g.D.Disk.faults old.disk) (g.D.Disk.faults new.disk) (ended_by c.step-in-Make.result)) (sym c.in-Make.is)
-    (keeps_by g.D.Disk.history g.D.Disk.faults (task.Make c.in-Make.task) (task.Make c.step-in-Make.new.self) old new c.step-in-Make.result tt s.mail s.stopped (λ stopped. (s.still stopped).0) s.fault s.unfailed (λ reads. absurd reads)
+    (keeps_by g.D.Disk.history g.D.Disk.faults (task.Make c.in-Make.task) (task.Make c.step-in-Make.new.self) old new c.step-in-Make.result s.request s.mail s.stopped (λ stopped. (s.still stopped).0) s.fault s.unfailed (λ reads. absurd reads)
     (λ why begun ran e step. make_refused c.in-Make.task.name c.in-Make.task.stage c.step-in-Make.new.self.stage old new (g.D.Disk.history old.disk) (g.D.Disk.history new.disk) c.step-in-Make.result why begun e step (s.replies ran)) (λ synced. synced))
 
 pub returns-in-Copy-clause-keeps : goal.returns-in-Copy-clause-keeps
@@ -235,7 +231,7 @@ returns-in-Copy-clause-keeps g c =
     let old = c.args.store.now in
     let new = c.step-in-Copy.new.store in
     subst (λ (k : Task). TaskKeeps k (task.Copy c.step-in-Copy.new.self) old new (g.D.Disk.history old.disk) (g.D.Disk.history new.disk) (g.D.Disk.faults old.disk) (g.D.Disk.faults new.disk) (ended_by c.step-in-Copy.result)) (sym c.in-Copy.is)
-    (keeps_by g.D.Disk.history g.D.Disk.faults (task.Copy c.in-Copy.task) (task.Copy c.step-in-Copy.new.self) old new c.step-in-Copy.result tt s.mail s.stopped (λ stopped. (s.still stopped).0) s.fault s.unfailed (λ reads. absurd reads)
+    (keeps_by g.D.Disk.history g.D.Disk.faults (task.Copy c.in-Copy.task) (task.Copy c.step-in-Copy.new.self) old new c.step-in-Copy.result s.request s.mail s.stopped (λ stopped. (s.still stopped).0) s.fault s.unfailed (λ reads. absurd reads)
     (λ why begun ran e step. copy_refused c.in-Copy.task.name c.in-Copy.task.uid c.in-Copy.task.target c.in-Copy.task.stage c.step-in-Copy.new.self.stage old new c.step-in-Copy.result why begun e step (s.replies ran)) (λ synced. synced))
 
 pub returns-in-Move-clause-keeps : goal.returns-in-Move-clause-keeps
@@ -244,7 +240,7 @@ returns-in-Move-clause-keeps g c =
     let old = c.args.store.now in
     let new = c.step-in-Move.new.store in
     subst (λ (k : Task). TaskKeeps k (task.Move c.step-in-Move.new.self) old new (g.D.Disk.history old.disk) (g.D.Disk.history new.disk) (g.D.Disk.faults old.disk) (g.D.Disk.faults new.disk) (ended_by c.step-in-Move.result)) (sym c.in-Move.is)
-    (keeps_by g.D.Disk.history g.D.Disk.faults (task.Move c.in-Move.task) (task.Move c.step-in-Move.new.self) old new c.step-in-Move.result tt s.mail s.stopped (λ stopped. (s.still stopped).0) s.fault s.unfailed (λ reads. absurd reads)
+    (keeps_by g.D.Disk.history g.D.Disk.faults (task.Move c.in-Move.task) (task.Move c.step-in-Move.new.self) old new c.step-in-Move.result s.request s.mail s.stopped (λ stopped. (s.still stopped).0) s.fault s.unfailed (λ reads. absurd reads)
     (λ why begun ran e step. move_refused c.in-Move.task.name c.in-Move.task.uid c.in-Move.task.target c.in-Move.task.stage c.step-in-Move.new.self.stage old new c.step-in-Move.result why begun e step (s.replies ran)) (λ synced. synced))
 
 pub returns-in-Expunge-clause-keeps : goal.returns-in-Expunge-clause-keeps
@@ -253,7 +249,7 @@ returns-in-Expunge-clause-keeps g c =
     let old = c.args.store.now in
     let new = c.step-in-Expunge.new.store in
     subst (λ (k : Task). TaskKeeps k (task.Expunge c.step-in-Expunge.new.self) old new (g.D.Disk.history old.disk) (g.D.Disk.history new.disk) (g.D.Disk.faults old.disk) (g.D.Disk.faults new.disk) (ended_by c.step-in-Expunge.result)) (sym c.in-Expunge.is)
-    (keeps_by g.D.Disk.history g.D.Disk.faults (task.Expunge c.in-Expunge.task) (task.Expunge c.step-in-Expunge.new.self) old new c.step-in-Expunge.result tt s.mail s.stopped (λ stopped. (s.still stopped).0) s.fault s.unfailed (λ reads. absurd reads)
+    (keeps_by g.D.Disk.history g.D.Disk.faults (task.Expunge c.in-Expunge.task) (task.Expunge c.step-in-Expunge.new.self) old new c.step-in-Expunge.result s.request s.mail s.stopped (λ stopped. (s.still stopped).0) s.fault s.unfailed (λ reads. absurd reads)
     (λ why begun ran e step. expunge_refused c.in-Expunge.task.name c.in-Expunge.task.uid c.in-Expunge.task.stage c.step-in-Expunge.new.self.stage old new c.step-in-Expunge.result why begun e step (s.replies ran)) (λ synced. synced))
 
 pub returns-in-Fetch-clause-keeps : goal.returns-in-Fetch-clause-keeps
@@ -262,7 +258,7 @@ returns-in-Fetch-clause-keeps g c =
     let new = c.step-in-Fetch.new.store in
     let t = c.in-Fetch.task in
     subst (λ (k : Task). TaskKeeps k (task.Fetch c.step-in-Fetch.new.self) old new (g.D.Disk.history old.disk) (g.D.Disk.history new.disk) (g.D.Disk.faults old.disk) (g.D.Disk.faults new.disk) (ended_by c.step-in-Fetch.result)) (sym c.in-Fetch.is)
-    (keeps_fetching t c.step-in-Fetch.new.self t.name t.uid.0 old new (g.D.Disk.history old.disk) (g.D.Disk.history new.disk) (g.D.Disk.faults old.disk) (g.D.Disk.faults new.disk) c.step-in-Fetch.result c.step-in-Fetch.ensures.alone
+    (keeps_fetching t c.step-in-Fetch.new.self t.name t.uid.0 old new (g.D.Disk.history old.disk) (g.D.Disk.history new.disk) (g.D.Disk.faults old.disk) (g.D.Disk.faults new.disk) c.step-in-Fetch.result c.step-in-Fetch.ensures.request c.step-in-Fetch.ensures.alone
     (ap (λ (s : StoreValue _). s.stopped) (used_only t.stage c.step-in-Fetch.new.self.stage old new c.step-in-Fetch.ensures.alone.same)))
 
 pub returns-in-Deliver-clause-keeps : goal.returns-in-Deliver-clause-keeps
@@ -270,4 +266,4 @@ returns-in-Deliver-clause-keeps g c =
     let old = c.args.store.now in
     let new = c.step-in-Deliver.new.store in
     subst (λ (k : Task). TaskKeeps k (task.Deliver c.step-in-Deliver.new.self) old new (g.D.Disk.history old.disk) (g.D.Disk.history new.disk) (g.D.Disk.faults old.disk) (g.D.Disk.faults new.disk) (ended_by c.step-in-Deliver.result)) (sym c.in-Deliver.is)
-    (keeps_saving g.D.Disk.history g.D.Disk.faults c.in-Deliver.task c.step-in-Deliver.new.self old new c.step-in-Deliver.result c.step-in-Deliver.ensures.ended c.step-in-Deliver.ensures.saves)
+    (keeps_saving g.D.Disk.history g.D.Disk.faults c.in-Deliver.task c.step-in-Deliver.new.self old new c.step-in-Deliver.result c.step-in-Deliver.ensures.request c.step-in-Deliver.ensures.ended c.step-in-Deliver.ensures.saves)

@@ -24,6 +24,7 @@ returns-in-Ok g c =
         mailboxes = o.mailboxes;
         drawn = o.drawn ∙ ap (λ (e : MapEntry). drawn_by e c.args.store.now.drawn) c.self.invariant.0;
         files = ap (λ v. v.files) o.same;
+        room = o.room;
         rest = o.same ∙ sym (ap (λ v. record c.args.store.now { disk = v.disk; map_log = v.map_log; map = v.map; boxes = v.boxes; drawn = v.drawn; dues = v.dues; stopped = v.stopped }) o.same);
         stays = o.mail_stays;
         grows = o.grows;

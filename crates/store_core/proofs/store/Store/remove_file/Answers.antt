@@ -1,8 +1,8 @@
-use Rattle.std.proofs.Common.{◌≡◌, ◌∙◌, ap, subst, refl, sym}
+use Rattle.std.proofs.Common.{◌||◌, ◌≡◌, ◌∙◌, ap, subst, refl, sym}
 use Rattle.disk_model.specs.declared.name.FileName.TheVariants as file
 use Rattle.model_lists.specs.Lists.{Lists}
 use Rattle.model_store.specs.Settled.{IsSettledFor, Leaves}
-use Rattle.storage_files.specs.Files.{end_in}
+use Rattle.storage_files.specs.Files.{end_in, is_doomed_in, is_emptied_in}
 use Rattle.store_core.specs.Removing.{AreElsewhere, KeepsStoredBut}
 use Rattle.store_core.proofs.StoreFileLemmas.{room_kept}
 use Rattle.store_core.proofs.RemovalLemmas.{removed_store, removed_leaves, settled_removed, stored_but, known_there}
@@ -10,8 +10,7 @@ use Rattle.store_core.proofs.MadeLogLemmas.{made_beside}
 use Rattle.store_core.proofs.KnownInstanceLemmas.{instances_placed}
 use Rattle.model_kept.specs.Kept.{MailIsKept}
 use Rattle.model_kept.proofs.KeptLemmas.{kept_beside}
-use Rattle.model_meaning.specs.MapMeaning.{is_sealed}
-use Rattle.store_core.proofs.MailStayLemmas.{bare_unknown}
+use Rattle.store_core.proofs.MailStayLemmas.{bare_unknown, own_unsealed}
 use Rattle.store_core.proofs.store.Store.remove_file.Goals as goal
 
 pub invariant_of-self-in_default : goal.invariant_of-self-in_default
@@ -58,13 +57,13 @@ returns-clause-stored g c =
 pub returns-clause-mail_stays : goal.returns-clause-mail_stays
 returns-clause-mail_stays g c =
     let unused = subst (λ v. AreElsewhere c.args.file.0 v.map.records) (sym c.self.view_is) c.requires.unused in
-    let unsealed = ap (λ v. is_sealed v.map c.args.file.0) c.self.view_is ∙ c.requires.unsealed in
+    let unsealed = own_unsealed _ _ c.args.file.0 c.self.invariant.1 c.known_facts.ensures (ap (λ v. is_doomed_in c.args.file.0 v.files.files || is_emptied_in c.args.file.0 v.files.files) c.self.view_is ∙ c.requires.own) in
     subst (λ v. MailIsKept v.map (g.D.Disk.history v.disk) (g.D.Disk.history c.remove_file.new.disk)) c.self.view_is
     (kept_beside _ (file.Mail c.args.file.0) _ _ (bare_unknown _ c.args.file.0 unused unsealed) c.remove_file.ensures.others_stay)
 
 pub returns-in-Err-clause-mail_stays : goal.returns-in-Err-clause-mail_stays
 returns-in-Err-clause-mail_stays g c =
     let unused = subst (λ v. AreElsewhere c.args.file.0 v.map.records) (sym c.self.view_is) c.requires.unused in
-    let unsealed = ap (λ v. is_sealed v.map c.args.file.0) c.self.view_is ∙ c.requires.unsealed in
+    let unsealed = own_unsealed _ _ c.args.file.0 c.self.invariant.1 c.known_facts.ensures (ap (λ v. is_doomed_in c.args.file.0 v.files.files || is_emptied_in c.args.file.0 v.files.files) c.self.view_is ∙ c.requires.own) in
     subst (λ v. MailIsKept v.map (g.D.Disk.history v.disk) (g.D.Disk.history c.remove_file.new.disk)) c.self.view_is
     (kept_beside _ (file.Mail c.args.file.0) _ _ (bare_unknown _ c.args.file.0 unused unsealed) c.remove_file.ensures.others_stay)
