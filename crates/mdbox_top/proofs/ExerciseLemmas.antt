@@ -1,7 +1,9 @@
 -- How `exercise` ends: by the script that the number makes.
-use Rattle.std.specs.Prelude.{◌≡◌, ◌⊎◌, ◌+◌, ◌/◌, ◌%◌, ◌||◌, ℕ, zero, suc, Bool, true, false, List, [], ◌∷◌, map, Option, Some}
+use Rattle.std.specs.Prelude.{◌≡◌, ◌⊎◌, ◌+◌, ◌/◌, ◌%◌, ◌||◌, ℕ, zero, suc, Bool, true, false, not, cond, if◌then◌else◌, List, [], ◌∷◌, count_by, length, map, Option, Some}
 use Rattle.std.specs.List.{list_any}
-use Rattle.std.proofs.Common.{refl, sym, ◌∙◌, ap, subst, inl, inr}
+use Rattle.std.proofs.Common.{refl, sym, ◌∙◌, ap, subst, inl, inr, arith}
+use Rattle.std.proofs.lemmas.List.{length-map}
+use Rattle.std.proofs.lemmas.List.Sums.{sum_by-cons}
 use Rattle.disk_model.specs.Disk.{History, Faults}
 use Rattle.journal.specs.Journal.{Requests}
 use Rattle.mdbox_base.specs.Streams.{Appended}
@@ -12,7 +14,7 @@ use Rattle.model_lists.specs.Lists.{Lists}
 use Rattle.model_meaning.specs.BoxMeaning.{BoxMeaning}
 use Rattle.model_meaning.specs.MapMeaning.{MapMeaning}
 use Rattle.model_store.specs.Settled.{IsSettledFor}
-use Rattle.request_text.specs.Outcomes.{status_of, is_disk_no, replies_outcome}
+use Rattle.request_text.specs.Outcomes.{status_of, is_disk_no, is_lack, is_no, replies_outcome}
 use Rattle.request_text.specs.SummaryText.{summary_text}
 use Rattle.request_text.specs.declared.summary.Summary.{Summary}
 use Rattle.request_text.specs.declared.outcome.InputRefusal.{InputRefusal}
@@ -22,7 +24,8 @@ use Rattle.request_text.specs.declared.outcome.Outcome.TheVariants as outcome
 use Rattle.script_run.specs.Done.{IsScriptDone, MayBeServed}
 use Rattle.script_run.specs.LeftOpen.{ComesTo, IsServedOpen}
 use Rattle.script_run.specs.Script.{HasStopped, is_fetch, has_fetch}
-use Rattle.script_text.specs.MadeScript.{below, made_request, made_round, made_turn}
+use Rattle.script_text.specs.MadeScript.{below, made_octet, made_request, made_round, made_turn}
+use Rattle.script_text.proofs.MadeLemmas.{message_length}
 use Rattle.store_core.specs.Value.{StoreValue, indexes_of}
 use Rattle.task_steps.proofs.OneEventLemmas.{not_true}
 use Rattle.mdbox_top.specs.BatchRun.{ShowsReplies}
@@ -30,6 +33,7 @@ use Rattle.mdbox_top.specs.ExerciseRun.{ExerciseOutcome, ExerciseRests, IsCounte
 use Rattle.mdbox_top.specs.InputRun.{IsOneOf}
 use Rattle.mdbox_top.specs.Numbers.{exercise_text, summary_of}
 use Rattle.mdbox_top.proofs.BatchLemmas.{EndsKnown, opened_damage, opened_ended, opened_refuses, opened_status, opened_used, replies_number, replies_whole, script_fault, script_quiet, stopped_any}
+use Rattle.mdbox_top.proofs.NumbersLemmas.{both_counted}
 
 -- ---- a made script reads no message
 
@@ -135,3 +139,37 @@ exercise_ended lanes count number h k old new f g o (inr d) e = opened_ended (Is
 pub exercise_rests_as : (lanes count number : ℕ) (F G : Type 0) (f g : Faults) (old new : Option History) → (F → G) → ExerciseRests lanes count number F f g old new → ExerciseRests lanes count number G f g old new
 exercise_rests_as lanes count number F G f g old new h (inl same) = inl same
 exercise_rests_as lanes count number F G f g old new h (inr d) = inr (λ none. d (λ failed. none (h failed)))
+
+-- ---- the first three numbers
+
+requests_many : (n : ℕ) → length (below n) ≡ n
+requests_many n = sym (length-map (below n) (made_octet n)) ∙ message_length n
+
+pub requests_counted : (lanes count number : ℕ) (h k : Option (List ℕ)) (old new : Option History) (f g : Faults) (o : Outcome) → (d : IsCountedUp (made_requests lanes count number) h k old new f g o) → length (map Some d.given) ≡ count
+requests_counted lanes count number h k old new f g o d = length-map d.given Some ∙ (d.done.each ∙ (length-map (below count) (made_request lanes number) ∙ requests_many count))
+
+-- a run that ends as done has no refusal
+no_refusal : (b c d : Bool) → outcome.Done ≡ (if b then outcome.DiskFault else (if c then outcome.NoMemory else (if d then outcome.No else outcome.Done))) → d ≡ false
+no_refusal true c d e = absurd (cc e)
+no_refusal false true d e = absurd (cc e)
+no_refusal false false true e = absurd (cc e)
+no_refusal false false false e = refl
+
+none_counted : {X : Type 0} → (p : X → Bool) (xs : List X) → list_any p xs ≡ false → count_by p xs ≡ 0
+none_counted p [] e = refl
+none_counted {X} p (x ∷ xs) e = by_test (p x) refl e
+  where
+    more : count_by p (x ∷ xs) ≡ cond (p x) 1 0 + count_by p xs
+    more = sum_by-cons (λ (y : X). cond (p y) 1 0) x xs
+
+    by_test : (b : Bool) → p x ≡ b → (b || list_any p xs) ≡ false → count_by p (x ∷ xs) ≡ 0
+    by_test true is any = absurd (let k : true ≡ false = any in cc k)
+    by_test false is any = let rest = none_counted p xs any in let one : cond (p x) 1 0 ≡ 0 = ap (λ (b : Bool). cond b 1 0) is in omega (arith, more, one, rest)
+
+pub all_done : (lanes count number : ℕ) (h k : Option (List ℕ)) (old new : Option History) (f g : Faults) → (d : IsCountedUp (made_requests lanes count number) h k old new f g outcome.Done) → (count_by (λ one. not (is_no one)) (map Some d.given) ≡ count) × (count_by is_no (map Some d.given) ≡ 0)
+all_done lanes count number h k old new f g d =
+    let replies = map Some d.given in
+    let none = none_counted is_no replies (no_refusal (list_any is_disk_no replies) (list_any is_lack replies) (list_any is_no replies) d.printed.0) in
+    let both = both_counted is_no replies in
+    let many = requests_counted lanes count number h k old new f g outcome.Done d in
+    (omega (arith, none, both, many), none)

@@ -1,7 +1,9 @@
 //! What the program does: the words, the input, the store, what is printed, and the status.
 #![tactic(auto)]
 
-pub use laws::{counted_messages_are_listed, printed_places_number_the_journal};
+pub use laws::{
+    counted_messages_are_listed, exercises_count_their_requests, printed_places_number_the_journal,
+};
 pub use request_text::Status;
 pub use run::{mdbox_alone, mdbox_run};
 
