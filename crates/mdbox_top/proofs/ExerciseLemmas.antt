@@ -157,14 +157,14 @@ no_refusal false false false e = refl
 
 none_counted : {X : Type 0} → (p : X → Bool) (xs : List X) → list_any p xs ≡ false → count_by p xs ≡ 0
 none_counted p [] e = refl
-none_counted {X} p (x ∷ xs) e = by_test (p x) refl e
+none_counted {X} p (x ∷ xs) e = by_test (λ k. none_counted p xs k) (p x) refl e
   where
     more : count_by p (x ∷ xs) ≡ cond (p x) 1 0 + count_by p xs
     more = sum_by-cons (λ (y : X). cond (p y) 1 0) x xs
 
-    by_test : (b : Bool) → p x ≡ b → (b || list_any p xs) ≡ false → count_by p (x ∷ xs) ≡ 0
-    by_test true is any = absurd (let k : true ≡ false = any in cc k)
-    by_test false is any = let rest = none_counted p xs any in let one : cond (p x) 1 0 ≡ 0 = ap (λ (b : Bool). cond b 1 0) is in omega (arith, more, one, rest)
+    by_test : (list_any p xs ≡ false → count_by p xs ≡ 0) → (b : Bool) → p x ≡ b → (b || list_any p xs) ≡ false → count_by p (x ∷ xs) ≡ 0
+    by_test next true is any = absurd (let k : true ≡ false = any in cc k)
+    by_test next false is any = let rest = next any in let one : ◌≡◌ {A = ℕ} (cond (p x) 1 0) 0 = ap (λ (b : Bool). cond b 1 0) is in omega (arith, more, one, rest)
 
 pub all_done : (lanes count number : ℕ) (h k : Option (List ℕ)) (old new : Option History) (f g : Faults) → (d : IsCountedUp (made_requests lanes count number) h k old new f g outcome.Done) → (count_by (λ one. not (is_no one)) (map Some d.given) ≡ count) × (count_by is_no (map Some d.given) ≡ 0)
 all_done lanes count number h k old new f g d =
