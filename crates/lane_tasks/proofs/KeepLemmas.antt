@@ -47,7 +47,7 @@ use Rattle.mail_ops.specs.declared.moving.MoveStage.TheVariants as move_stage
 use Rattle.mail_save.specs.SaveEffects.{SaveEffects}
 use Rattle.mail_save.specs.declared.task.SaveStage.{SaveStage}
 use Rattle.mail_save.specs.declared.task.SaveStage.TheVariants as save_stage
-use Rattle.lane_tasks.specs.Clause.{IsAtStart, StaysOfRequest, TaskKeeps, OnlyReads, WritesTask}
+use Rattle.lane_tasks.specs.Clause.{IsAtStart, StaysOfRequest, TaskKeeps, TellsStore, OnlyReads, WritesTask}
 use Rattle.lane_tasks.specs.declared.task.Task.{Task}
 use Rattle.lane_tasks.specs.declared.task.Task.TheVariants as task
 use Rattle.lane_tasks.proofs.StepLemmas.{ran_before}
@@ -69,8 +69,8 @@ syncs_idle (Some h) (Some g) idle = (λ number. inl (ap (λ (disk : DiskState). 
 abbrev Same : {D : Type 0} → (D → Option History) → (D → Faults) → Task → Task → StoreValue D → StoreValue D → Option Reply → Type 0
 Same history faults t next old new ended = TaskKeeps t next old new (history old.disk) (history new.disk) (faults old.disk) (faults new.disk) ended
 
-pub keeps_still : {D : Type 0} → (history : D → Option History) (faults : D → Faults) (t next : Task) (old new : StoreValue D) (ended : Option Reply) → StaysOfRequest t next → (new.stopped ≡ false → SyncsMail (history old.disk) (history old.disk) → WritesTask t next old (history old.disk) (history old.disk)) → new ≡ old → Same history faults t next old new ended
-keeps_still history faults t next old new ended kind writes same =
+pub keeps_still : {D : Type 0} → (history : D → Option History) (faults : D → Faults) (t next : Task) (old new : StoreValue D) (ended : Option Reply) → StaysOfRequest t next → (new.stopped ≡ false → SyncsMail (history old.disk) (history old.disk) → WritesTask t next old (history old.disk) (history old.disk)) → TellsStore t old new ended → new ≡ old → Same history faults t next old new ended
+keeps_still history faults t next old new ended kind writes tells same =
     subst (λ (d : _). TaskKeeps t next old new (history old.disk) (history d) (faults old.disk) (faults d) ended) (sym (ap (λ (s : StoreValue _). s.disk) same))
     (record {
       request = kind;
@@ -80,6 +80,8 @@ keeps_still history faults t next old new ended kind writes same =
       changes = omega arith;
       unfailed = λ runs. refl;
       fell = λ ran stops. absurd (let k : true ≡ false = sym stops ∙ (ap (λ (s : StoreValue _). s.stopped) same ∙ ran) in cc k);
+      unread = λ none. refl;
+      tells = tells;
       idle = λ reads. (idle-begins (history old.disk), refl, ap (λ (s : StoreValue _). s.stopped) same);
       still = λ stopped. (idle-begins (history old.disk), refl);
       refused = λ why begun e step. idle-begins (history old.disk);
@@ -93,15 +95,17 @@ IsStoppedReply answer = answer ≡ progress.Done (reply.Refused refusal.Stopped)
 
 pub keeps_by : {D : Type 0} → (history : D → Option History) (faults : D → Faults) (t next : Task) (old new : StoreValue D) (answer : Progress) → StaysOfRequest t next → SparesMail (new.stopped ≡ old.stopped) (history old.disk) (history new.disk) → (IsStoppedReply answer ↔ (new.stopped ≡ true)) → (old.stopped ≡ true → new ≡ old)
     → (old.stopped ≡ false → ChangeFaultCounted (IsStoppedReply answer) (faults old.disk) (faults new.disk)) → ((IsStoppedReply answer → ⊥) → NoFault (faults old.disk) (faults new.disk)) → (OnlyReads t → new ≡ old) → ((why : Refusal) → IsAtStart t → old.stopped ≡ false → answer ≡ progress.Done (reply.Refused why) → is_step why ≡ true → new ≡ old)
-    → (SyncsMail (history old.disk) (history new.disk) → WritesTask t next old (history old.disk) (history new.disk)) → Same history faults t next old new (ended_by answer)
-keeps_by history faults t next old new answer kind mail halts still fault unfailed reads refused writes = record {
+    → (SyncsMail (history old.disk) (history new.disk) → WritesTask t next old (history old.disk) (history new.disk)) → TellsStore t old new (ended_by answer) → Same history faults t next old new (ended_by answer)
+keeps_by history faults t next old new answer kind mail halts still fault unfailed reads refused writes tells = record {
   request = kind;
   grows = grows_kept old.map (history old.disk) (history new.disk) (mail.stays old.map);
   mail = λ m kept. mail.stays m;
-  reads = by_run old.stopped refl;
+  reads = (let same = unread old.stopped refl in omega (arith, same));
   changes = more old.stopped refl;
   unfailed = λ runs. ap (λ (f : Faults). f.changes) (unfailed (λ e. absurd (let k : true ≡ false = sym (halts.0 e) ∙ runs in cc k)));
   fell = λ ran stops. ((fault ran).rose (halts.1 stops), (fault ran).reads);
+  unread = λ none. unread old.stopped refl;
+  tells = tells;
   idle = λ r. (
     idle_same (reads r),
     subst (λ (d : _). (faults d).changes ≡ (faults old.disk).changes) (sym (disk_same (reads r))) refl,
@@ -126,9 +130,9 @@ keeps_by history faults t next old new answer kind mail halts still fault unfail
     by_stop why begun e step true was = still was
     by_stop why begun e step false ran = refused why begun ran e step
 
-    by_run : (b : Bool) → old.stopped ≡ b → (faults old.disk).reads ≤ (faults new.disk).reads
-    by_run true was = subst (λ (d : _). (faults old.disk).reads ≤ (faults d).reads) (sym (disk_same (still was))) (omega arith)
-    by_run false ran = let same = (fault ran).reads in omega (arith, same)
+    unread : (b : Bool) → old.stopped ≡ b → (faults new.disk).reads ≡ (faults old.disk).reads
+    unread true was = subst (λ (d : _). (faults d).reads ≡ (faults old.disk).reads) (sym (disk_same (still was))) refl
+    unread false ran = (fault ran).reads
 
     more : (b : Bool) → old.stopped ≡ b → (faults old.disk).changes ≤ (faults new.disk).changes
     more true was = subst (λ (d : _). (faults old.disk).changes ≤ (faults d).changes) (sym (disk_same (still was))) (omega arith)
@@ -146,6 +150,8 @@ keeps_fetching t next name uid old new before after began now answer request alo
   changes = (let same = alone.fault.changes in omega (arith, same));
   unfailed = λ runs. alone.fault.changes;
   fell = λ ran stops. absurd (let k : true ≡ false = sym stops ∙ (same ∙ ran) in cc k);
+  unread = λ none. absurd none;
+  tells = tt;
   idle = λ reads. (alone.idle, alone.fault.changes, same);
   still = λ stopped. (alone.idle, alone.fault.changes);
   refused = λ why begun e step. alone.idle;
@@ -197,6 +203,8 @@ keeps_saving history faults t next old new answer request ends saves = by_run ol
           changes = f.changes;
           unfailed = λ runs. f.unfailed (λ e. absurd (let k : true ≡ false = sym (s.stopped.0 e) ∙ runs in cc k));
           fell = λ ran stops. let f = subst (λ (a : Progress). FaultsAt a (faults old.disk) (faults new.disk)) (s.stopped.1 stops) s.faults in (f.rose tt, f.reads);
+          unread = λ none. absurd none;
+          tells = tt;
           idle = λ reads. absurd reads;
           still = λ was. absurd (let k : true ≡ false = sym was ∙ r in cc k);
           refused = λ why begun e step. idle_same (saving_refused begun.0 t.stage next.stage answer why begun.1 e s.effects);
@@ -204,7 +212,7 @@ keeps_saving history faults t next old new answer request ends saves = by_run ol
         }
 
     by_run : (b : Bool) → old.stopped ≡ b → Same history faults (task.Deliver t) (task.Deliver next) old new (ended_by answer)
-    by_run true was = keeps_still history faults (task.Deliver t) (task.Deliver next) old new (ended_by answer) request (λ runs synced. absurd (let k : false ≡ true = sym runs ∙ (ap (λ (s : StoreValue _). s.stopped) (ends.still was) ∙ was) in cc k)) (ends.still was)
+    by_run true was = keeps_still history faults (task.Deliver t) (task.Deliver next) old new (ended_by answer) request (λ runs synced. absurd (let k : false ≡ true = sym runs ∙ (ap (λ (s : StoreValue _). s.stopped) (ends.still was) ∙ was) in cc k)) tt (ends.still was)
     by_run false r = ran r (saves r)
 
 -- ---- a first event that is refused

@@ -25,6 +25,7 @@ use Rattle.mail_fetch.specs.Claims.{HasUseRoom}
 use Rattle.mail_fetch.specs.Clause.{CanFetch}
 use Rattle.mail_fetch.specs.Task.{seen_in}
 use Rattle.mail_fetch.specs.declared.task.FetchStage.TheVariants as fetch_stage
+use Rattle.mail_ops.specs.Requests.{Replies}
 use Rattle.mail_ops.specs.declared.copy.CopyStage.TheVariants as copy_stage
 use Rattle.mail_ops.specs.declared.expunging.ExpungeStage.TheVariants as expunge_stage
 use Rattle.mail_ops.specs.declared.making.MakeStage.TheVariants as make_stage
@@ -106,6 +107,17 @@ OnlyReads (task.Counts t) = Unit {0}
 OnlyReads (task.Fetch t) = Unit {0}
 OnlyReads other = ⊥
 
+-- A task that reads no octets of storage files or instances.
+abbrev pub ReadsNoOctets : Task → Type 0
+ReadsNoOctets (task.Fetch t) = ⊥
+ReadsNoOctets (task.Deliver t) = ⊥
+ReadsNoOctets other = Unit {0}
+
+-- What a task of one event replies, by what it found in the store: of a listing or a setting of flags.
+abbrev pub TellsStore : {D : Type 0} → Task → StoreValue D → StoreValue D → Option Reply → Type 0
+TellsStore (task.Ops t) old new ended = (given : Reply) × (ended ≡ Some given) × Replies t.request old new given
+TellsStore other old new ended = Unit {0}
+
 -- For which maps storage files and instances stay: of a delivery for that of its store, of every other task for each.
 abbrev pub IsKeptFor : {D : Type 0} → Task → StoreValue D → MapMeaning → Type 0
 IsKeptFor (task.Deliver t) store m = m ≡ store.map
@@ -126,7 +138,7 @@ IsAtStart (task.Fetch t) = t.stage ≡ fetch_stage.First
 IsAtStart (task.Deliver t) = (prepared : Prepared) × (t.stage ≡ save_stage.First prepared)
 IsAtStart other = Unit {0}
 
--- It is of the same kind and of the same request.
+-- It is of the same kind and of the same request, as far as the task tells it: of a delivery its message's size.
 abbrev pub StaysOfRequest : Task → Task → Type 0
 StaysOfRequest (task.Ops t) (task.Ops next) = next.request ≡ t.request
 StaysOfRequest (task.Counts t) (task.Counts next) = Unit {0}
@@ -140,8 +152,9 @@ StaysOfRequest t next = ⊥
 
 -- Whatever the disk is and fails: time goes on, and at each moment storage files and instances have what the map needs. No count of
 -- faults falls; unless the store is stopped then no change failed, and an event that stops it is one in which a change failed and no
--- read. A task that reads at the most changes nothing, nor does a first event that is refused, but for want of memory or by a failed
--- call, nor any event of a store that was stopped. It stays the task of its request.
+-- read. A task that reads no octets counts no failed read. One that reads at the most changes nothing, nor does a first event that is
+-- refused, but for want of memory or by a failed call, nor any event of a store that was stopped. A listing or a setting of flags is
+-- replied by what the store has. It stays the task of its request.
 pub record TaskKeeps {D : Type 0} (t next : Task) (old new : StoreValue D) (before after : Option History) (began now : Faults) (ended : Option Reply) : Type 0 where
   pub request : StaysOfRequest t next
   pub grows : Grows before after
@@ -150,6 +163,8 @@ pub record TaskKeeps {D : Type 0} (t next : Task) (old new : StoreValue D) (befo
   pub changes : began.changes ≤ now.changes
   pub unfailed : new.stopped ≡ false → now.changes ≡ began.changes
   pub fell : old.stopped ≡ false → new.stopped ≡ true → Rose began.changes now.changes × (now.reads ≡ began.reads)
+  pub unread : ReadsNoOctets t → now.reads ≡ began.reads
+  pub tells : TellsStore t old new ended
   pub idle : OnlyReads t → IsIdle before after × (now.changes ≡ began.changes) × (new.stopped ≡ old.stopped)
   pub still : old.stopped ≡ true → IsIdle before after × (now.changes ≡ began.changes)
   pub refused : (why : Refusal) → IsAtStart t → ended ≡ Some (reply.Refused why) → is_step why ≡ true → IsIdle before after

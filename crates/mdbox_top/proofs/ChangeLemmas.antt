@@ -30,8 +30,8 @@ use Rattle.mail_ops.proofs.KeptMailLemmas.{spared_none}
 use Rattle.model_kept.proofs.KeptLemmas.{ReadsImage}
 use Rattle.script_run.proofs.MailStaysLemmas.{opening_keeps}
 use Rattle.script_run.proofs.RunBeginsLemmas.{OpenedNow, before_opening, beginning, opening_begins}
-use Rattle.script_run.specs.One.{lists_told}
-use Rattle.mdbox_top.specs.Changed.{OpensUnchanged, ChangeMoments, AreOneOf, SafeForAmong, MomentsAmong}
+use Rattle.script_run.specs.One.{OpensUnchanged, lists_told}
+use Rattle.mdbox_top.specs.Changed.{ChangeMoments, AreOneOf, SafeForAmong, MomentsAmong}
 use Rattle.mdbox_top.specs.ChangeEvents.{IsWayTo, ServesAlone, ChangesAlone}
 use Rattle.mdbox_top.specs.UnderWay.{IsUnderWay, seen_alone}
 use Rattle.mdbox_top.proofs.MailLemmas.{spares_then}

@@ -29,12 +29,11 @@ use Rattle.mail_ops.specs.declared.expunging.ExpungeStage.{ExpungeStage}
 use Rattle.mail_ops.specs.declared.expunging.ExpungeStage.TheVariants as stage
 use Rattle.mail_ops.proofs.MessageLemmas.{not_missing}
 use Rattle.script_run.proofs.RunBeginsLemmas.{OpenedNow, before_opening}
-use Rattle.script_run.specs.One.{lists_told}
+use Rattle.script_run.specs.One.{lists_told, missing_cause}
 use Rattle.mdbox_top.specs.Alone.{IsDoneAlone}
 use Rattle.mdbox_top.specs.Changed.{IsChangeAnswer, AreOneOf}
 use Rattle.mdbox_top.specs.ChangeEvents.{ChangesAlone, RemovesAlone}
 use Rattle.mdbox_top.specs.ExpungeRun.{lists_without, IsExpungeReply, ExpungeRests}
-use Rattle.mdbox_top.specs.Served.{missing_cause}
 use Rattle.mdbox_top.proofs.AloneLemmas.{alone_faults}
 use Rattle.mdbox_top.proofs.ChangeLemmas.{ChangeEvent, SoFar, so_far_begins, so_far_on, IsUnrefused, so_far_ends, way_shown, opens_unchanged, changed_moments}
 use Rattle.mdbox_top.proofs.MailLemmas.{opened_mail}

@@ -56,10 +56,10 @@ use Rattle.mail_fetch.proofs.AbsentLemmas.{absent_damaged, nothing_damaged}
 use Rattle.mail_fetch.proofs.StageLemmas.{used_only}
 use Rattle.mail_fetch.proofs.StepLemmas.{absent_unstored, safe_fetched, store_is_sound}
 use Rattle.mail_fetch.proofs.PartLemmas.{reads_after, reads_none, reads_of_parts}
-use Rattle.script_run.specs.One.{alone}
+use Rattle.script_run.specs.One.{alone, missing_cause}
 use Rattle.mdbox_top.specs.FetchEvents.{FetchIsAt, TakesMessage, TakesServed}
 use Rattle.mdbox_top.specs.FetchRun.{message_read, IsFetchAnswer}
-use Rattle.mdbox_top.specs.Served.{FaultsByReply, missing_cause}
+use Rattle.mdbox_top.specs.Served.{FaultsByReply}
 use Rattle.mdbox_top.specs.UnderWay.{IsUnderWay}
 use Rattle.mdbox_top.proofs.UnderWayLemmas.{nothing_found, way_shows, way_goes_on, way_ends}
 

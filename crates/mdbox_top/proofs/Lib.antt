@@ -1,6 +1,7 @@
 pub mod AloneLemmas
 pub mod BatchLemmas
 pub mod CountsLemmas
+pub mod ChangedLemmas
 pub mod ChangeLemmas
 pub mod CopyLemmas
 pub mod DeliverLemmas
@@ -9,7 +10,6 @@ pub mod ExpungeLemmas
 pub mod FetchLemmas
 pub mod FetchedLemmas
 pub mod FirstLemmas
-pub mod FlagLemmas
 pub mod InitLemmas
 pub mod InputLemmas
 pub mod KnownFirstLemmas
@@ -19,6 +19,7 @@ pub mod MakeFileLemmas
 pub mod MakeLemmas
 pub mod MoveLemmas
 pub mod NumbersLemmas
+pub mod OneEventLemmas
 pub mod PlaceLemmas
 pub mod ReplyFaultLemmas
 pub mod RequestLemmas
@@ -26,6 +27,7 @@ pub mod RoomLemmas
 pub mod RunLemmas
 pub mod SaveLemmas
 pub mod SavedFormLemmas
+pub mod ServeLemmas
 pub mod ServedLemmas
 pub mod StaysLemmas
 pub mod UnderWayLemmas

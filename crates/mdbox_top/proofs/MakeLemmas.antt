@@ -4,7 +4,6 @@ use Rattle.std.specs.Option.{option_or}
 use Rattle.std.proofs.Common.{refl, sym, ◌∙◌, ap, subst, inl, inr, arith}
 use Rattle.disk_model.specs.Disk.{Files, History, Faults}
 use Rattle.disk_model.specs.declared.name.FileName.TheVariants as file
-use Rattle.disk_model.proofs.MomentLemmas.{each_image-map}
 use Rattle.gate_log.specs.Log.{NamedButFor}
 use Rattle.mdbox_base.specs.declared.entries.Highest.{Highest}
 use Rattle.mdbox_base.specs.declared.entries.MapEntry.TheVariants as entry
@@ -37,9 +36,6 @@ use Rattle.mail_ops.specs.declared.event.NotDone.TheVariants as not_done
 use Rattle.mail_ops.specs.declared.making.MakeStage.{MakeStage}
 use Rattle.mail_ops.specs.declared.making.MakeStage.TheVariants as stage
 use Rattle.store_open.specs.Opened.{IsOpenedAs}
-use Rattle.store_open.specs.declared.error.OpenError.{OpenError}
-use Rattle.store_open.specs.declared.error.OpenError.TheVariants as error
-use Rattle.script_run.specs.Opening.{IsUnopened}
 use Rattle.script_run.proofs.RunBeginsLemmas.{OpenedNow, before_opening}
 use Rattle.mdbox_top.specs.Alone.{IsDoneAlone}
 use Rattle.mdbox_top.specs.Changed.{IsChangeAnswer, AreOneOf}
@@ -376,7 +372,7 @@ make_tells name given old mid new began now s t w =
       files = record { generation = w.opened.swept.0; opened = mid; swept = w.opened.swept.1; stays = opened_stays old mid new w.opened.reads w.opened.stays w.makes.serves.mail.stays; mail = λ running. w.makes.serves.mail.left (make_runs name given old mid new began now s t w running); undone = λ running undone. reads_alike w.opened.swept.0 (next_of s) s.map old mid new w.opened.swept.1 w.fresh (w.makes.files running undone) };
     }
 
-abbrev SafeForMade : List ℕ → Option History → Lists → ℕ → Files → Type 0
+abbrev pub SafeForMade : List ℕ → Option History → Lists → ℕ → Files → Type 0
 SafeForMade name old lists moment image = Safe image lists ⊎ ((some : Lists) × AreMade name old lists some × Safe image some)
 
 made_by : {D : Type 0} → (name : List ℕ) (given : Reply) (old mid new : Option History) (began now : Faults) (s t : StoreValue D) → MakingKnown name given old mid new began now s t → (lists some : Lists) → some ≡ with_mailbox (next_of s) name lists → AreMade name old lists some
@@ -410,11 +406,3 @@ make_done name given old mid new began now s t w show = record {
   rests = make_rests name given old mid new began now s t w;
   faults = alone_faults given began now w.makes.calm w.makes.serves.fault w.makes.serves.unfailed;
 }
-
--- ---- the store was not opened
-
-pub make_unopened_leaves : (name : List ℕ) (old new : Option History) (began now : Faults) (why : OpenError) → IsUnopened why old new began now → MakeMoments name old new
-make_unopened_leaves name old new began now why u = λ lists at. each_image-map (λ _ image. Safe image lists) (SafeForMade name old lists) old new (λ m image h. inl h) (u.moments lists at)
-
-pub make_unopened_rests : (name : List ℕ) (failed : Type 0) (old new : Option History) (began now : Faults) (why : OpenError) → (why ≡ error.DiskFault → failed) → IsUnopened why old new began now → MakeRests name failed began now old new
-make_unopened_rests name failed old new began now why h u = λ none lists at. inl (u.settled_again (λ f. none (h f)) lists at)

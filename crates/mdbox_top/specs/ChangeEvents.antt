@@ -39,7 +39,7 @@ use Rattle.model_store.specs.Stands.{HasInstances}
 use Rattle.saved_message.specs.Region.{written_region}
 use Rattle.saved_message.specs.Saved.{ids_in}
 use Rattle.mail_save.specs.declared.place.SavedAt.{SavedAt}
-use Rattle.script_run.specs.One.{ServesRequest, lists_told, saved_lists}
+use Rattle.script_run.specs.One.{ServesRequest, lists_told, saved_lists, missing_cause}
 use Rattle.mdbox_top.specs.Changed.{IsChangeAnswer, AreOneOf, MomentsAmong}
 use Rattle.mdbox_top.specs.CopyRun.{uncopied_cause, IsCopyAnswer}
 use Rattle.mdbox_top.specs.DeliverRun.{undelivered_cause, AreFirstNamed, attachment_octets, region_length, HasRecordLeft, HasRecordMore, IsDeliverAnswer, AreSaved}
@@ -47,7 +47,7 @@ use Rattle.mdbox_top.specs.ExpungeRun.{lists_without}
 use Rattle.mdbox_top.specs.MakeRun.{lists_by_making}
 use Rattle.mdbox_top.specs.MoveRun.{AreAlongMove, IsMoveAnswer}
 use Rattle.mdbox_top.specs.SavedMail.{AddedMail, LeftMail, WroteMail}
-use Rattle.mdbox_top.specs.Served.{FaultsByReply, missing_cause}
+use Rattle.mdbox_top.specs.Served.{FaultsByReply}
 use Rattle.mdbox_top.specs.UnderWay.{IsUnderWay, seen_alone}
 
 -- A request alone is under way in this store, from these lists to those.
@@ -178,3 +178,21 @@ pub record MakesAlone {D : Type 0} (name : List ℕ) (store later : StoreValue D
   pub files : MakingLeaves (store.drawn.mailbox + 1) given old new
   pub calm : is_read_fault (Some given) ≡ false
   pub serves : ServesAlone (IsAtMake make_stage.First) (request.Make name) (AreOneOf (with_mailbox (store.drawn.mailbox + 1) name)) (lists_by_making (store.drawn.mailbox + 1) name given) store later old new began now given
+
+-- ---- of any of these requests
+
+-- a request of several events that changes the lists, but for a delivery
+abbrev pub HasMoreEvents : Request → Type 0
+HasMoreEvents (request.Expunge name uid) = Unit {0}
+HasMoreEvents (request.Copy name uid target) = Unit {0}
+HasMoreEvents (request.Move name uid target) = Unit {0}
+HasMoreEvents (request.Make name) = Unit {0}
+HasMoreEvents other = ⊥
+
+-- what its events did
+abbrev pub DoesAlone : {D : Type 0} → Request → StoreValue D → StoreValue D → Option History → Option History → Faults → Faults → Reply → Type 0
+DoesAlone (request.Expunge name uid) store later old new began now given = RemovesAlone name uid store later old new began now given
+DoesAlone (request.Copy name uid target) store later old new began now given = CopiesAlone name uid target store later old new began now given
+DoesAlone (request.Move name uid target) store later old new began now given = MovesAlone name uid target store later old new began now given
+DoesAlone (request.Make name) store later old new began now given = MakesAlone name store later old new began now given
+DoesAlone other store later old new began now given = ⊥

@@ -12,7 +12,7 @@ use Rattle.model_store.specs.Listing.{ShowLists}
 use Rattle.model_store.specs.Safe.{Safe}
 use Rattle.model_store.specs.Settled.{IsSettledFor, Leaves}
 use Rattle.task_claims.specs.Leaving.{SyncsMail}
-use Rattle.store_open.specs.Opened.{IsOpenedAs, StoreCarries, KeepsOpenedMail}
+use Rattle.store_open.specs.Opened.{IsOpenedAs, KeepsOpenedMail}
 use Rattle.store_sweep.specs.Moments.{NoFailedChange}
 use Rattle.store_sweep.specs.Swept.{IsSwept}
 
@@ -35,10 +35,6 @@ pub record OpensAsBefore (m : MapMeaning) (meanings : List BoxMeaning) (new : Op
   pub opened : IsOpenedAs new map meanings
   pub mailboxes : map.boxes ≡ m.boxes
   pub records : map.records ≡ m.records
-
--- The files open with the same logs, all that the store reads is carried over, and the disk was swept.
-abbrev pub OpensUnchanged : MapMeaning → List BoxMeaning → Option History → Option History → Type 0
-OpensUnchanged m meanings old new = IsOpenedAs new m meanings × StoreCarries old new × ((generation : ℕ) × IsSwept generation m old new)
 
 -- The opening swept the disk, and storage files and instances stayed at each moment of it and afterwards, whatever failed. Unless the
 -- store is stopped, they are as the opening left them, but that their names may be synced.

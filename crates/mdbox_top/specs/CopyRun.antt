@@ -18,8 +18,8 @@ use Rattle.mail_ops.specs.Copy.{copied_lists}
 use Rattle.mail_ops.specs.Copying.{room_refusal}
 use Rattle.store_open.specs.Opened.{IsOpenedAs}
 use Rattle.request_text.specs.declared.outcome.Outcome.{Outcome}
-use Rattle.script_run.specs.One.{lists_told}
-use Rattle.mdbox_top.specs.Changed.{OpensChanged, OpensUnchanged, OpensAsBefore, ChangeMoments, ChangeRests, LeavesMail}
+use Rattle.script_run.specs.One.{OpensUnchanged, lists_told}
+use Rattle.mdbox_top.specs.Changed.{OpensChanged, OpensAsBefore, ChangeMoments, ChangeRests, LeavesMail}
 use Rattle.mdbox_top.specs.Served.{RequestOutcome}
 
 -- Why the message isn't copied, by what the logs of its mailbox, of the target and of the map mean: no mailbox has either name, no

@@ -45,8 +45,7 @@ use Rattle.request_text.specs.Outcomes.{status_of}
 use Rattle.request_text.specs.declared.outcome.InputRefusal.TheVariants as input
 use Rattle.request_text.specs.declared.outcome.Outcome.{Outcome}
 use Rattle.request_text.specs.declared.outcome.Outcome.TheVariants as outcome
-use Rattle.script_run.specs.One.{lists_told, saved_lists}
-use Rattle.mdbox_top.specs.Changed.{OpensUnchanged}
+use Rattle.script_run.specs.One.{OpensUnchanged, lists_told, saved_lists}
 use Rattle.mdbox_top.specs.InputRun.{OfInput, IsOneOf}
 use Rattle.mdbox_top.specs.SavedMail.{LeavesDelivery}
 use Rattle.mdbox_top.specs.Served.{RequestOutcome}

@@ -20,7 +20,8 @@ use Rattle.store_open.specs.Opened.{IsOpenedAs, StoreCarries}
 use Rattle.store_sweep.specs.Swept.{IsSwept}
 use Rattle.request_text.specs.declared.outcome.Outcome.{Outcome}
 use Rattle.script_run.specs.Opening.{AreSafeFor, StaysSettled}
-use Rattle.mdbox_top.specs.Served.{RequestOutcome, missing_cause}
+use Rattle.script_run.specs.One.{missing_cause}
+use Rattle.mdbox_top.specs.Served.{RequestOutcome}
 use Rattle.mdbox_top.specs.ListRun.{ListMoments, ListRests}
 
 -- By what the logs mean the mailbox with this name has this row of this UID, and this is the row's record.

@@ -1,5 +1,5 @@
 -- How `flag` ends.
-use Rattle.std.specs.Prelude.{◌≡◌, ◌⊎◌, ℕ, List, Option, Some, None}
+use Rattle.std.specs.Prelude.{◌≡◌, ◌⊎◌, ℕ, List, Option, Some}
 use Rattle.disk_model.specs.Disk.{History, Faults}
 use Rattle.mdbox_base.specs.declared.ids.Uid.{Uid}
 use Rattle.mdbox_base.specs.declared.replies.Refusal.{Refusal}
@@ -18,13 +18,9 @@ use Rattle.store_open.specs.Opened.{IsOpenedAs, StoreCarries}
 use Rattle.store_sweep.specs.Moments.{NoFailedChange}
 use Rattle.store_sweep.specs.Swept.{IsSwept}
 use Rattle.request_text.specs.declared.outcome.Outcome.{Outcome}
+use Rattle.script_run.specs.One.{missing_cause, IsFlagAnswer}
 use Rattle.mdbox_top.specs.Changed.{LeavesMail}
-use Rattle.mdbox_top.specs.Served.{RequestOutcome, missing_cause}
-
--- Why the message isn't found is replied, if it isn't. Else it is done; or a change of the disk failed, and the store is stopped.
-abbrev pub IsFlagAnswer : Option Refusal → Reply → Type 0
-IsFlagAnswer (Some why) given = given ≡ reply.Refused why
-IsFlagAnswer None given = (given ≡ reply.Done) ⊎ (given ≡ reply.Refused refusal.Stopped)
+use Rattle.mdbox_top.specs.Served.{RequestOutcome}
 
 -- The files open, and of any lists that these logs showed their logs show those with the flags set.
 pub record HasFlagged (name : List ℕ) (uid flags : ℕ) (m : MapMeaning) (meanings : List BoxMeaning) (new : Option History) : Type 0 where

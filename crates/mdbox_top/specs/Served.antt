@@ -1,16 +1,13 @@
 -- What a request alone makes of a store, and how it ends.
-use Rattle.std.specs.Prelude.{◌≡◌, ◌≤◌, ◌⊎◌, ℕ, List, [], is_some, if◌then◌else◌, Option, Some, None}
-use Rattle.std.specs.Option.{option_map_or}
+use Rattle.std.specs.Prelude.{◌≡◌, ◌≤◌, ◌⊎◌, ℕ, List, [], Option}
 use Rattle.disk_model.specs.Disk.{History, Faults, IsIdle}
 use Rattle.disk_model.specs.FaultCounts.{NoFault}
 use Rattle.mdbox_base.specs.Streams.{Appended, Rose}
-use Rattle.mdbox_base.specs.declared.replies.Refusal.{Refusal}
 use Rattle.mdbox_base.specs.declared.replies.Refusal.TheVariants as refusal
 use Rattle.mdbox_base.specs.declared.replies.Reply.{Reply}
 use Rattle.mdbox_base.specs.declared.replies.Reply.TheVariants as reply
 use Rattle.mdbox_base.specs.declared.requests.Request.{Request}
 use Rattle.model_lists.specs.Lists.{Lists}
-use Rattle.model_meaning.specs.BoxMeaning.{BoxMeaning, row_at}
 use Rattle.store_open.specs.Making.{IdleUnless}
 use Rattle.store_open.specs.Opened.{Opening, IsOpeningError, KeepsOpenedMail}
 use Rattle.store_open.specs.declared.error.OpenError.{OpenError}
@@ -66,8 +63,3 @@ pub record IsReplied (Tells : Option History → Option History → Reply → Ty
 -- How a request alone ends: the store was not opened, or it replied.
 abbrev pub RequestOutcome : (Option History → Option History → Reply → Type 0) → Request → Option (List ℕ) → Option (List ℕ) → Option History → Option History → Faults → Faults → Outcome → Type 0
 RequestOutcome Tells request held later old new began now ended = IsNotOpened held later old new began now ended ⊎ IsReplied Tells request held later old new began now ended
-
--- Why the message with this UID isn't found, by what the log of its mailbox means: no mailbox has the name, or no message of it
--- the UID.
-abbrev pub missing_cause : Option BoxMeaning → ℕ → Option Refusal
-missing_cause found uid = option_map_or (λ m. if is_some (row_at m uid) then None else Some refusal.NoMessage) found (Some refusal.NoMailbox)

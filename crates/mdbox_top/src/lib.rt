@@ -10,7 +10,6 @@ pub use run::{mdbox_alone, mdbox_run};
 mod alone;
 mod batch;
 mod copy;
-mod counts;
 mod deliver;
 mod exercise;
 mod expunge;

@@ -13,16 +13,11 @@ ghost use Rattle.mdbox_top.specs.Run.{Ends, RunOutcome, Moments, Rests, HasStatu
 
 use crate::alone::serve;
 use crate::batch::batch;
-use crate::copy::copy;
-use crate::counts::counts;
 use crate::deliver::deliver;
 use crate::exercise::exercise;
-use crate::expunge::expunge;
 use crate::fetch::fetch;
 use crate::init::init;
 use crate::input_commands::{dump, logdump};
-use crate::making::make;
-use crate::moving::move_to;
 use crate::show::show;
 use disk_model::Disk;
 use mdbox_base::{Clock, Request, Sink, Source};
@@ -153,11 +148,17 @@ fn perform<D: Disk, I: Source, O: Sink, C: Clock>(
         Command::Flag { name, uid, flags } => {
             serve(alloc, Request::Flag { name, uid, flags }, disk, output)
         }
-        Command::Counts => counts(alloc, disk, output),
-        Command::Expunge { name, uid } => expunge(alloc, name, uid, disk, output),
-        Command::Copy { name, uid, target } => copy(alloc, name, uid, target, disk, output),
-        Command::Move { name, uid, target } => move_to(alloc, name, uid, target, disk, output),
-        Command::Make { name } => make(alloc, name, disk, output),
+        Command::Counts => serve(alloc, Request::Counts, disk, output),
+        Command::Expunge { name, uid } => {
+            serve(alloc, Request::Expunge { name, uid }, disk, output)
+        }
+        Command::Copy { name, uid, target } => {
+            serve(alloc, Request::Copy { name, uid, target }, disk, output)
+        }
+        Command::Move { name, uid, target } => {
+            serve(alloc, Request::Move { name, uid, target }, disk, output)
+        }
+        Command::Make { name } => serve(alloc, Request::Make { name }, disk, output),
         Command::Batch { lanes } => batch(alloc, lanes, disk, input, output),
         Command::Exercise {
             lanes,

@@ -18,7 +18,7 @@ use Rattle.serving.proofs.LaneLemmas.{get_set_other, get_set_same, nat_cases, on
 use Rattle.store_core.specs.Value.{StoreValue}
 use Rattle.task_claims.specs.Leaving.{IsSameOrSynced, SyncsMail}
 use Rattle.task_steps.specs.Step.{ended_by}
-use Rattle.lane_tasks.specs.Clause.{StaysOfRequest, TaskKeeps, OnlyReads, SetsNoFlags, WritesTask}
+use Rattle.lane_tasks.specs.Clause.{StaysOfRequest, TaskKeeps, OnlyReads, ReadsNoOctets, SetsNoFlags, WritesTask}
 use Rattle.lane_tasks.specs.declared.task.Task.{Task}
 use Rattle.lane_tasks.specs.declared.task.Task.TheVariants as task
 use Rattle.lane_tasks.proofs.StepLemmas.{ran_before}
@@ -83,8 +83,20 @@ pub record HasCounted {D : Type 0} (origin : Option History) (start : Faults) (w
   pub unchanged : world.store.stopped ≡ false → faults.changes ≡ start.changes
   pub replied : world.store.stopped ≡ true → (i : ℕ) × HasReply world.replies i (reply.Refused refusal.Stopped)
 
-replied_now : (ended : Option Reply) (place : ℕ) (replies : List (Option Reply)) → slice_get replies place ≡ Some None → ended ≡ Some (reply.Refused refusal.Stopped) → HasReply (replies_behind ended place replies) place (reply.Refused refusal.Stopped)
-replied_now ended place replies there is = subst (λ (o : Option Reply). HasReply (replies_behind o place replies) place (reply.Refused refusal.Stopped)) (sym is) (get_set_same replies place (Some (reply.Refused refusal.Stopped)) None there)
+pub replied_now : (given : Reply) (ended : Option Reply) (place : ℕ) (replies : List (Option Reply)) → slice_get replies place ≡ Some None → ended ≡ Some given → HasReply (replies_behind ended place replies) place given
+replied_now given ended place replies there is = subst (λ (o : Option Reply). HasReply (replies_behind o place replies) place given) (sym is) (get_set_same replies place (Some given) None there)
+
+-- a reply that was given stays
+pub replied_on : {D : Type 0} → (place : ℕ) (given : Reply) → StaysOver {D = D} (λ world history faults. HasReply world.replies place given)
+replied_on place given lane old mid before between first counted e is = subst (λ (rs : List (Option Reply)). HasReply rs place given) (sym e.works.replies_are) (behind (ended_by e.works.event.ended))
+  where
+    apart_from : (one : Reply) → (e.works.event.place ≡ place) ⊎ (e.works.event.place ≢ place) → HasReply (slice_set old.replies e.works.event.place (Some one)) place given
+    apart_from one (inl same) = absurd (let k : None ≡ Some given = one_some None (Some given) (sym e.works.unanswered ∙ (ap (slice_get old.replies) same ∙ is)) in cc k)
+    apart_from one (inr apart) = get_set_other old.replies e.works.event.place place (Some one) apart ∙ is
+
+    behind : (ended : Option Reply) → HasReply (replies_behind ended e.works.event.place old.replies) place given
+    behind None = is
+    behind (Some one) = apart_from one (nat_cases e.works.event.place place)
 
 pub counted_on : {D : Type 0} → (origin : Option History) (start : Faults) → StaysOver {D = D} (HasCounted origin start)
 counted_on origin start lane old mid before between first counted e is =
@@ -104,7 +116,7 @@ counted_on origin start lane old mid before between first counted e is =
       replied = λ stopped. (
         w.event.place,
         ap (λ (rs : List (Option Reply)). slice_get rs w.event.place) w.replies_are
-            ∙ replied_now (ended_by w.event.ended) w.event.place old.replies w.unanswered (ap ended_by (w.goes.goes.stopped stopped)),
+            ∙ replied_now (reply.Refused refusal.Stopped) (ended_by w.event.ended) w.event.place old.replies w.unanswered (ap ended_by (w.goes.goes.stopped stopped)),
       );
     }
 
@@ -146,6 +158,25 @@ reads_on origin lane old mid before between first counted e is =
       idle = idle-then origin before between is.idle (k.idle own).0;
       running = (k.idle own).2 ∙ is.running;
     }
+
+-- ---- tasks that read no octets
+
+unread_next : (t next : Task) → ReadsNoOctets t → StaysOfRequest t next → ReadsNoOctets next
+unread_next (task.Fetch t) next none kind = absurd none
+unread_next (task.Deliver t) next none kind = absurd none
+unread_next t (task.Fetch next) none kind = absurd kind
+unread_next t (task.Deliver next) none kind = absurd kind
+unread_next t next none kind = tt
+
+pub record HasReadNoOctets {D : Type 0} (start : Faults) (world : WorldValue D) (history : Option History) (faults : Faults) : Type 0 where
+  pub tasks : AllTasks ReadsNoOctets world.rows
+  pub unread : faults.reads ≡ start.reads
+
+pub unread_on : {D : Type 0} → (start : Faults) → StaysOver {D = D} (HasReadNoOctets start)
+unread_on start lane old mid before between first counted e is =
+    let k = e.works.goes.goes.keeps in
+    let own = (in_turn ReadsNoOctets lane old mid before between first counted e is.tasks).0 in
+    record { tasks = tasks_after ReadsNoOctets lane old mid before between first counted e (λ more. unread_next e.works.goes.queued.task e.works.goes.next own k.request) is.tasks; unread = k.unread own ∙ is.unread }
 
 -- ---- tasks that deliver nothing
 

@@ -1,11 +1,12 @@
 -- A script is done, from the opening of the store to the end of the last lane.
-use Rattle.std.specs.Prelude.{◌≡◌, ◌≢◌, ◌<◌, ◌≤◌, ◌||◌, ℕ, zero, suc, Bool, true, false, List, [], ◌∷◌, All, Contains, length, map, replicate, slice_get, Option, Some, None}
+use Rattle.std.specs.Prelude.{◌≡◌, ◌≢◌, ◌<◌, ◌≤◌, ◌||◌, ◌⊎◌, ℕ, zero, suc, Bool, true, false, List, [], ◌∷◌, All, Contains, length, map, replicate, slice_get, Option, Some, None, if◌then◌else◌}
 use Rattle.std.proofs.Common.{refl, sym, ◌∙◌, ap, subst, arith, inl, inr}
 use Rattle.std.proofs.lemmas.List.{length-map}
 use Rattle.std.proofs.lemmas.Option.{slice_get_within}
 use Rattle.disk_model.specs.Disk.{Faults, History, IsMoment, told_calls}
 use Rattle.disk_model.proofs.IdleLemmas.{idle-begins}
 use Rattle.mdbox_base.specs.declared.ids.Uid.{Uid}
+use Rattle.mdbox_base.specs.declared.replies.Refusal.{Refusal}
 use Rattle.mdbox_base.specs.declared.replies.Refusal.TheVariants as refusal
 use Rattle.mdbox_base.specs.declared.replies.Reply.{Reply}
 use Rattle.mdbox_base.specs.declared.replies.Reply.TheVariants as reply
@@ -22,11 +23,11 @@ use Rattle.journal.specs.Journal.{Broken, HasReply, IsLegal, JournalStep, Reques
 use Rattle.serving.specs.Serving.{AreIdle, HaveLanes, unreplied}
 use Rattle.sis_store.specs.Instances.{AreInstances}
 use Rattle.store_core.specs.Running.{IsStore}
-use Rattle.store_core.specs.Value.{StoreValue, indexes_of}
+use Rattle.store_core.specs.Value.{StoreValue, indexes_of, list_named}
 use Rattle.store_open.specs.Opened.{KeepsOpenedMail}
 use Rattle.store_seen.specs.Seeing.{IsAtOpening}
 use Rattle.task_claims.specs.Claims.{HasNoTask}
-use Rattle.task_steps.specs.Step.{Seen, ShowsSeen}
+use Rattle.task_steps.specs.Step.{Seen, ShowsSeen, ended_by}
 use Rattle.task_steps.proofs.OneEventLemmas.{not_true}
 use Rattle.mail_fetch.specs.Task.{seen_in}
 use Rattle.lanes.specs.Going.{AreFreshRows, IsGoing}
@@ -34,17 +35,23 @@ use Rattle.lanes.specs.Rows.{LaneRow, lane_value, lanes_of}
 use Rattle.attach_detach.specs.declared.message.Prepared.{Prepared}
 use Rattle.lanes.specs.Worlds.{AreGiven, AreOfLanes, ArePartsOf, GoesOnBy, HasItsMessage, IsFreshWorld, IsWorldOf, PartsValue, WorldValue, and_events}
 use Rattle.lanes.proofs.TraceLemmas.{as_finished, world_finished}
-use Rattle.lane_tasks.specs.Clause.{IsAtStart, OnlyReads}
+use Rattle.lane_tasks.specs.Clause.{IsAtStart, OnlyReads, ReadsNoOctets, TellsStore}
 use Rattle.task_steps.proofs.UnmovedLemmas.{mail_still}
+use Rattle.lane_tasks.specs.Tasks.{IsTaskOf}
+use Rattle.mail_ops.specs.Flagging.{flag_refusal}
+use Rattle.mail_ops.specs.Requests.{Replies}
+use Rattle.lane_tasks.specs.declared.task.Task.{Task}
+use Rattle.lane_tasks.specs.declared.task.Task.TheVariants as task
+use Rattle.script_run.specs.One.{IsFlagAnswer, IsToldAlone, missing_cause}
 use Rattle.script_run.specs.Done.{IsScriptDone, LeavesStore, MayBeKept, MayBeServed, MayRead}
 use Rattle.script_run.specs.Faults.{FaultsByReplies, HasReadFault}
 use Rattle.script_run.specs.LeftOpen.{IsServedOpen}
 use Rattle.script_run.specs.Opening.{AreSafeFor, LogsShowLists}
-use Rattle.script_run.specs.Script.{HasStopped, ServesScript, has_change, has_delivery, has_fetch, is_fetch}
+use Rattle.script_run.specs.Script.{HasStopped, ServesScript, has_change, has_delivery, has_fetch, is_fetch, has_mail_read}
 use Rattle.script_run.proofs.EndLemmas.{all_given, script_served, serves_from, unharmed}
 use Rattle.script_run.proofs.MailStaysLemmas.{opening_keeps, run_keeps, stays_from}
-use Rattle.script_run.proofs.ChainLemmas.{HasCounted, HasNotDelivered, HasOnlyRead, NoDelivery, counted_first, counted_on, reads_on, stays_over, syncs_first, undelivered_on}
-use Rattle.script_run.proofs.SinceLemmas.{ServedSince, begun_first, fresh_tasks, reads_first, served_since, undelivered_first}
+use Rattle.script_run.proofs.ChainLemmas.{HasCounted, HasNotDelivered, HasOnlyRead, NoDelivery, counted_first, counted_on, reads_on, stays_over, syncs_first, undelivered_on, HasReadNoOctets, in_turn, replied_now, replied_on, unread_on}
+use Rattle.script_run.proofs.SinceLemmas.{ServedSince, begun_first, fresh_tasks, reads_first, served_since, undelivered_first, unread_first}
 use Rattle.script_run.proofs.MovedLemmas.{Purges, all_at, none_moved}
 use Rattle.script_run.proofs.OpenedLemmas.{none_holds, none_used}
 use Rattle.script_run.proofs.ReadFaultLemmas.{TellsFault, faults_are_told}
@@ -161,6 +168,7 @@ pub record ScriptRan {D : Type 0} (script : Requests) (old mid new : Option Hist
   pub show : LogsShow
   pub unpurged : (i : ℕ) (asked : ℕ × Request) → slice_get script i ≡ Some asked → Purges asked.1 → ⊥
   pub fresh : AreFreshRows script world.rows
+  pub store_is : world.store ≡ s
   pub runs : world.store.stopped ≡ false
   pub made_is : IsMoment mid world.began
   pub begins : (start : Lists) → LogsShowLists s.map (indexes_of s.boxes) start → MayRead script start old → IsWorldOf start script (beginning s.map opened.store.entries) [] no_broken (before_opening (seen_in s mid first) old) mid first world
@@ -255,6 +263,12 @@ idle_run script old mid new first last s world ended r none =
       running = r.runs;
     })
 
+-- One that reads no octets counts no failed read.
+unread_run : {D : Type 0} → (script : Requests) (old mid new : Option History) (first last : Faults) (s : StoreValue D) (world ended : WorldValue D) → ScriptRan script old mid new first last s world ended → has_mail_read script ≡ false → HasReadNoOctets first ended new last
+unread_run script old mid new first last s world ended r none =
+    stays_over (HasReadNoOctets first) (unread_on first) 0 r.turns (as_finished world) ended mid new first last r.chain
+    (record { tasks = fresh_tasks ReadsNoOctets script world.rows (λ place lane asked t at begins. unread_first script place lane asked t none at begins) r.fresh; unread = refl })
+
 -- it is served from them, and the logs show in the end what its journal leaves
 serves_run : {D : Type 0} → (script : Requests) (old mid new : Option History) (first last : Faults) (s : StoreValue D) (world ended : WorldValue D) → (r : ScriptRan script old mid new first last s world ended) → (given : List Reply) → ended.replies ≡ map Some given → (start : Lists) → LogsShowLists s.map (indexes_of s.boxes) start → MayRead script start old
     → (was : ServesScript script start given ended.journal first last old mid new) × LogsShowLists ended.store.map (indexes_of ended.store.boxes) (left_by start was.journal)
@@ -274,6 +288,72 @@ start_of script old mid s o show some = by_test (has_fetch script) refl
     by_test : (b : Bool) → has_fetch script ≡ b → (start : Lists) × LogsShowLists s.map (indexes_of s.boxes) start × MayRead script start old
     by_test true e = (some.0, opened_logs_show some.0 old s.map (indexes_of s.boxes) o.opened show (settled_safe some.0 old (some.1 e)), some.1)
     by_test false e = let l = some_lists old s.map (indexes_of s.boxes) o.opened in (l.0, l.1, λ f. absurd (let k : true ≡ false = sym f ∙ e in cc k))
+
+-- ---- a setting of flags alone
+
+cause_is : {D : Type 0} → (name : List ℕ) (uid : ℕ) (s : StoreValue D) → s.stopped ≡ false → flag_refusal name uid s ≡ missing_cause (list_named s name) uid
+cause_is name uid s running = ap (λ (b : Bool). if b then Some refusal.Stopped else missing_cause (list_named s name) uid) running
+
+answer_by : (cause : Option Refusal) (given : Reply) (S : Type 0) → ((why : Refusal) → cause ≡ Some why → given ≡ reply.Refused why) → (cause ≡ None → (given ≡ reply.Done) ⊎ ((given ≡ reply.Refused refusal.Stopped) × S)) → IsFlagAnswer cause given
+answer_by (Some why) given S refused done = refused why refl
+answer_by None given S refused done = elim (done refl) [ inl e ↦ inl e | inr e ↦ inr e.0 ]
+
+flag_answer : {D : Type 0} → (name : List ℕ) (uid : Uid) (flags : ℕ) (s t : StoreValue D) (given : Reply) → s.stopped ≡ false → Replies (request.Flag name uid flags) s t given → IsFlagAnswer (missing_cause (list_named s name) uid.0) given
+flag_answer name uid flags s t given running r =
+    let is = cause_is name uid.0 s running in answer_by (missing_cause (list_named s name) uid.0) given (t.stopped ≡ true) (λ why e. r.0 why (is ∙ e)) (λ e. r.1 (is ∙ e))
+
+-- what its task tells
+tells_flag : {D : Type 0} → (t : Task) (name : List ℕ) (uid : Uid) (flags : ℕ) (old new : StoreValue D) (ended : Option Reply) → IsTaskOf t (request.Flag name uid flags) → TellsStore t old new ended → (given : Reply) × (ended ≡ Some given) × Replies (request.Flag name uid flags) old new given
+tells_flag (task.Ops t) name uid flags old new ended of tells = (tells.0, tells.1, subst (λ (q : Request). Replies q old new tells.0) (sym of) tells.2)
+tells_flag (task.Counts t) name uid flags old new ended of tells = absurd (cc of)
+tells_flag (task.Make t) name uid flags old new ended of tells = absurd (cc of)
+tells_flag (task.Copy t) name uid flags old new ended of tells = absurd (cc of)
+tells_flag (task.Move t) name uid flags old new ended of tells = absurd (cc of)
+tells_flag (task.Expunge t) name uid flags old new ended of tells = absurd (cc of)
+tells_flag (task.Fetch t) name uid flags old new ended of tells = absurd (cc of)
+tells_flag (task.Deliver t) name uid flags old new ended of tells = absurd of
+
+only_place : (place : ℕ) (given one : Reply) → HasReply (Some one ∷ []) place given → given ≡ one
+only_place zero given one at = let e : Some (Some one) ≡ Some (Some given) = at in let f : Some one ≡ Some given = cc e in let k : one ≡ given = cc f in sym k
+only_place (suc n) given one at = absurd (let e : None ≡ Some (Some given) = at in cc e)
+
+only_asked : (at : ℕ) (alone : Request) (place lane : ℕ) (asked : Request) → slice_get {X = ℕ × Request} ((at, alone) ∷ []) place ≡ Some (lane, asked) → alone ≡ asked
+only_asked at alone zero lane asked is =
+    let first : ℕ × Request = (at, alone) in
+    let found : ℕ × Request = (lane, asked) in
+    let e : Some first ≡ Some found = is in
+    let k : first ≡ found = cc e in
+    ap (λ (q : ℕ × Request). q.1) k
+only_asked at alone (suc n) lane asked is =
+    let found : ℕ × Request = (lane, asked) in
+    absurd (let e : None ≡ Some found = is in cc e)
+
+flag_told : {D : Type 0} → (at : ℕ) (name : List ℕ) (uid : Uid) (flags : ℕ) (one : Reply) (old mid new : Option History) (first last : Faults) (s : StoreValue D) (world ended : WorldValue D) → ScriptRan ((at, request.Flag name uid flags) ∷ []) old mid new first last s world ended → ended.replies ≡ Some one ∷ []
+    → IsFlagAnswer (missing_cause (list_named s name) uid.0) one
+flag_told {D} at name uid flags one old mid new first last s world ended r are = by_turns r.turns r.chain
+  where
+    by_turns : (turns : List ℕ) → GoesOnBy turns world ended mid new first last → IsFlagAnswer (missing_cause (list_named s name) uid.0) one
+    by_turns [] g =
+        let some = some_lists old s.map (indexes_of s.boxes) r.opened.opened in
+        let begun = r.begins some.0 some.1 (λ f. absurd (let k : false ≡ true = f in cc k)) in
+        let none : slice_get world.replies 0 ≡ Some None = begun.going.serving.given.1 0 (omega arith) in
+        let k : Some None ≡ Some (Some one) = sym none ∙ ap (λ (rs : List (Option Reply)). slice_get rs 0) (sym (ap (λ (w : WorldValue D). w.replies) g.0) ∙ are) in
+        absurd (let n : None ≡ Some one = cc k in cc n)
+    by_turns (lane ∷ lanes) g =
+        let e = g.4 in
+        let place = e.works.event.place in
+        let own = (in_turn (λ t. IsTaskOf t (request.Flag name uid flags)) lane (as_finished world) g.0 mid g.1 first g.2 e
+        (fresh_tasks (λ t. IsTaskOf t (request.Flag name uid flags)) ((at, request.Flag name uid flags) ∷ []) world.rows (λ p l asked t there begins. subst (λ (q : Request). IsTaskOf t q) (sym (only_asked at (request.Flag name uid flags) p l asked there)) begins.is_of) r.fresh)).0 in
+        let t = tells_flag e.works.goes.queued.task name uid flags world.store g.0.store (ended_by e.works.event.ended) own e.works.goes.goes.keeps.tells in
+        let here : HasReply g.0.replies place t.0 = subst (λ (rs : List (Option Reply)). HasReply rs place t.0) (sym e.works.replies_are) (replied_now t.0 (ended_by e.works.event.ended) place world.replies e.works.unanswered t.1) in
+        let there = stays_over (λ w h f. HasReply w.replies place t.0) (replied_on place t.0) lane lanes g.0 ended g.1 new g.2 last g.6 here in
+        let same : t.0 ≡ one = only_place place t.0 one (subst (λ (rs : List (Option Reply)). HasReply rs place t.0) are there) in
+        flag_answer name uid flags s g.0.store one r.opened.running
+        (subst (λ (x : StoreValue D). Replies (request.Flag name uid flags) x g.0.store one) r.store_is (subst (λ (x : Reply). Replies (request.Flag name uid flags) world.store g.0.store x) same t.2))
+
+told_alone : {D : Type 0} → (script : Requests) (old mid new : Option History) (first last : Faults) (s : StoreValue D) (world ended : WorldValue D) → ScriptRan script old mid new first last s world ended → (given : List Reply) → ended.replies ≡ map Some given → IsToldAlone script s.map (indexes_of s.boxes) given
+told_alone ((at, request.Flag name uid flags) ∷ []) old mid new first last s world ended r (one ∷ []) are = flag_told at name uid flags one old mid new first last s world ended r are
+told_alone script old mid new first last s world ended r given are = tt
 
 -- what it left of the store
 leaves_run : {D : Type 0} → (script : Requests) (old mid new : Option History) (first last : Faults) (s : StoreValue D) (world ended : WorldValue D) → ScriptRan script old mid new first last s world ended → (given : List Reply) → ended.replies ≡ map Some given → LeavesStore script s.map given old new
@@ -323,7 +403,7 @@ done_run script old mid new first last s world ended r given are =
           let e : true ≡ false = sym stopped ∙ (idle_run script old mid new first last s world ended r none).running in
           cc e;
       faults = λ may. let start = start_of script old mid s r.opened r.show may in faults_of_run script old mid new first last s world ended r given are start.0 start.1 start.2;
-      counts = record { counted = counts.reads; changes = counts.changes; unchanged = λ unstopped. counts.unchanged (stopped_by script old mid new first last s world ended r given are unstopped) };
+      counts = record { counted = counts.reads; changes = counts.changes; unchanged = λ unstopped. counts.unchanged (stopped_by script old mid new first last s world ended r given are unstopped); unread = λ none. (unread_run script old mid new first last s world ended r none).unread };
       leaves = leaves_run script old mid new first last s world ended r given are;
       stays = λ may. stays_run script old mid new first last s world ended r may;
     }
@@ -343,6 +423,7 @@ script_done script old mid new first last s world ended r =
           again = λ unstopped. opens_again new ended.store r.later (stopped_by script old mid new first last s world ended r g.0 g.1 unstopped);
         };
         stopped = λ e. replied_by script old mid new first last s world ended r g.0 g.1 e;
+        told = told_alone script old mid new first last s world ended r g.0 g.1;
       },
     )
 
@@ -355,6 +436,7 @@ script_ran script lanes prepared parts old mid new first last s world ended turn
   show = show;
   unpurged = none_purges script prepared given;
   fresh = subst (λ (rows : List LaneRow). AreFreshRows script rows) (sym (ap (λ (w : WorldValue _). w.rows) begun.2)) are.rows;
+  store_is = ap (λ (w : WorldValue _). w.store) begun.2;
   runs = ap (λ (w : WorldValue _). w.store.stopped) begun.2 ∙ o.running;
   made_is = subst (λ (n : ℕ). IsMoment mid n) (sym (ap (λ (w : WorldValue _). w.began) begun.2)) begun.1;
   begins = λ start shows may. begins_from start script lanes parts old mid first s o world begin (going start may shows (beginning s.map o.store.entries) (at_opening old mid s o) (first_come old mid (told_calls mid) s o)) are shows may begun;

@@ -53,7 +53,7 @@ few_steps start asked run journal given old new l =
 
 -- ---- what a step leaves
 
-refused_told : (asked : Request) (why : Refusal) (lists : Lists) → AreListsTold asked (reply.Refused why) lists lists
+pub refused_told : (asked : Request) (why : Refusal) (lists : Lists) → AreListsTold asked (reply.Refused why) lists lists
 refused_told (request.Make name) why lists = refl
 refused_told (request.Move name uid target) why lists = refl
 refused_told asked why lists = refl

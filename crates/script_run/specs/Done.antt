@@ -46,8 +46,8 @@ pub record LeavesStore (script : Requests) (m : MapMeaning) (given : List Reply)
 -- which the store opened, if it reads a message only from those for which the disk was settled, by a run that begins with the map that
 -- the logs mean; whenever the files are safe for lists, the logs show them. No reply says that a message is damaged, if the script may be
 -- served from any lists; and then no reply to a script that only lists, counts and fetches says that the store is stopped. Which calls of
--- the disk failed follows from the replies; of a script that can't be served so, how the counts of faults stay. At each moment storage
--- files and instances stayed.
+-- the disk failed follows from the replies; of a script that can't be served so, how the counts of faults stay. At each moment
+-- storage files and instances stayed.
 pub record IsScriptDone (script : Requests) (given : List Reply) (entries : List JournalEntry) (old new : Option History) (began now : Faults) : Type 0 where
   pub each : length given ≡ length script
   pub m : MapMeaning
@@ -60,5 +60,5 @@ pub record IsScriptDone (script : Requests) (given : List Reply) (entries : List
   pub undamaged : MayBeServed script old → All (λ one. TellsDamage (refusal_in one) → ⊥) given
   pub running : MayBeServed script old → has_change script ≡ false → HasStopped given → ⊥
   pub faults : MayBeServed script old → FaultsByReplies given began now
-  pub counts : CountsStay given began now
+  pub counts : CountsStay script given began now
   pub stays : MayBeKept script old → KeepsOpenedMail old new

@@ -1,13 +1,13 @@
 -- The counts of a disk's faults, by the replies of a script.
-use Rattle.std.specs.Prelude.{◌≡◌, ◌≤◌, List, Contains, count_by, map, Some}
+use Rattle.std.specs.Prelude.{◌≡◌, ◌≤◌, false, List, Contains, count_by, map, Some}
 use Rattle.disk_model.specs.Disk.{Faults}
 use Rattle.disk_model.specs.FaultCounts.{NoFault}
 use Rattle.mdbox_base.specs.Streams.{Rose}
 use Rattle.mdbox_base.specs.declared.replies.Refusal.TheVariants as refusal
 use Rattle.mdbox_base.specs.declared.replies.Reply.{Reply}
 use Rattle.mdbox_base.specs.declared.replies.Reply.TheVariants as reply
-use Rattle.journal.specs.Journal.{RoseBy, is_read_fault}
-use Rattle.script_run.specs.Script.{HasStopped}
+use Rattle.journal.specs.Journal.{Requests, RoseBy, is_read_fault}
+use Rattle.script_run.specs.Script.{HasStopped, has_mail_read}
 
 -- some request was replied that a read failed
 abbrev pub HasReadFault : List Reply → Type 0
@@ -23,8 +23,9 @@ pub record FaultsByReplies (given : List Reply) (began now : Faults) : Type 0 wh
   pub unchanged : (HasStopped given → ⊥) → now.changes ≡ began.changes
   pub quiet : (HasReadFault given → ⊥) → (HasStopped given → ⊥) → NoFault began now
 
--- What is said of them of every script, whatever the disk.
-pub record CountsStay (given : List Reply) (began now : Faults) : Type 0 where
+-- What is said of them of every script, whatever the disk: no read fails of one that reads no octets of messages.
+pub record CountsStay (script : Requests) (given : List Reply) (began now : Faults) : Type 0 where
   pub counted : began.reads ≤ now.reads
   pub changes : began.changes ≤ now.changes
   pub unchanged : (HasStopped given → ⊥) → now.changes ≡ began.changes
+  pub unread : has_mail_read script ≡ false → now.reads ≡ began.reads

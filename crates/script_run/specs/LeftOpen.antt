@@ -1,7 +1,8 @@
 -- The store as a script leaves it, before its disk is handed back.
-use Rattle.std.specs.Prelude.{◌≡◌, true, List, Option}
+use Rattle.std.specs.Prelude.{◌≡◌, true, List, [], ◌∷◌, Option}
 use Rattle.disk_model.specs.Disk.{History, Faults}
 use Rattle.mdbox_base.specs.declared.replies.Reply.{Reply}
+use Rattle.mdbox_base.specs.declared.requests.Request.{Request}
 use Rattle.mdbox_base.specs.declared.script.JournalEntry.{JournalEntry}
 use Rattle.model_lists.specs.Lists.{Lists}
 use Rattle.model_meaning.specs.BoxMeaning.{BoxMeaning}
@@ -10,6 +11,7 @@ use Rattle.journal.specs.Journal.{Requests, left_by}
 use Rattle.store_core.specs.Value.{StoreValue, indexes_of}
 use Rattle.store_open.specs.Opened.{IsOpenedAs}
 use Rattle.script_run.specs.Done.{IsScriptDone, MayRead}
+use Rattle.script_run.specs.One.{IsToldAlone, alone}
 use Rattle.script_run.specs.Opening.{LogsShowLists}
 use Rattle.script_run.specs.Script.{HasStopped}
 
@@ -19,8 +21,20 @@ pub record ComesTo (script : Requests) (given : List Reply) (entries : List Jour
   pub shows : (lists : Lists) (shown_by : LogsShowLists done.m done.meanings lists) (may : MayRead script lists old) → LogsShowLists m meanings (left_by lists (done.serves lists shown_by may).journal)
   pub again : (HasStopped given → ⊥) → IsOpenedAs new m meanings
 
--- The script was done, and this store is left open, which has come to where the logs have: it is stopped only if a reply says so.
+-- The script was done, and this store is left open, which has come to where the logs have: it is stopped only if a reply says so. Of a
+-- script that is a setting of flags alone, the reply is so by the logs with which the store opened.
 pub record IsServedOpen {D : Type 0} (script : Requests) (given : List Reply) (entries : List JournalEntry) (old new : Option History) (began now : Faults) (store : StoreValue D) : Type 0 where
   pub done : IsScriptDone script given entries old new began now
   pub comes : ComesTo script given entries old new began now done store.map (indexes_of store.boxes)
   pub stopped : store.stopped ≡ true → HasStopped given
+  pub told : IsToldAlone script done.m done.meanings given
+
+-- A request alone was done, as a script of its own, and logs mean this now, which have come to what it leaves; flags are set, or not, as
+-- the logs said with which the store opened.
+pub record IsRequestDone (request : Request) (given : Reply) (old new : Option History) (began now : Faults) : Type 0 where
+  pub entries : List JournalEntry
+  pub done : IsScriptDone (alone request) (given ∷ []) entries old new began now
+  pub later : MapMeaning
+  pub later_meanings : List BoxMeaning
+  pub comes : ComesTo (alone request) (given ∷ []) entries old new began now done later later_meanings
+  pub told : IsToldAlone (alone request) done.m done.meanings (given ∷ [])

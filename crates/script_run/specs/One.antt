@@ -1,17 +1,20 @@
 -- A script of one request, and the lists that it leaves.
-use Rattle.std.specs.Prelude.{◌≡◌, ◌<◌, ◌⊎◌, ℕ, Bool, List, [], ◌∷◌, All, if◌then◌else◌, Option, Some}
+use Rattle.std.specs.Prelude.{◌≡◌, ◌<◌, ◌⊎◌, ℕ, Bool, List, [], ◌∷◌, All, if◌then◌else◌, is_some, Option, Some, None}
+use Rattle.std.specs.Option.{option_map_or}
 use Rattle.disk_model.specs.Disk.{told_calls, History, Faults, EachImage}
 use Rattle.mdbox_base.specs.declared.entries.Highest.{Highest}
 use Rattle.mdbox_base.specs.declared.ids.Guid.{Guid}
 use Rattle.mdbox_base.specs.declared.ids.Uid.{Uid}
+use Rattle.mdbox_base.specs.declared.replies.Refusal.{Refusal}
 use Rattle.mdbox_base.specs.declared.replies.Refusal.TheVariants as refusal
 use Rattle.mdbox_base.specs.declared.replies.Reply.{Reply}
 use Rattle.mdbox_base.specs.declared.replies.Reply.TheVariants as reply
 use Rattle.mdbox_base.specs.declared.requests.Request.{Request}
 use Rattle.mdbox_base.specs.declared.requests.Request.TheVariants as request
 use Rattle.model_lists.specs.Lists.{Lists}
-use Rattle.model_meaning.specs.BoxMeaning.{BoxMeaning}
+use Rattle.model_meaning.specs.BoxMeaning.{BoxMeaning, row_at}
 use Rattle.model_meaning.specs.MapMeaning.{MapMeaning, map_meaning}
+use Rattle.model_store.specs.Listing.{meaning_named}
 use Rattle.model_store.specs.Settled.{IsSettledFor}
 use Rattle.list_machine.specs.Machine.{Answers, add_message, expunge, set_flags}
 use Rattle.list_machine.specs.Run.{First, Run, RunEvent, map_of}
@@ -81,6 +84,10 @@ pub record IsAnsweredFirst (request : Request) (m : MapMeaning) (lists : Lists) 
   pub part_is : event.part ≡ First
   pub answers : Answers run lists request event given left
 
+-- the lists before it, or those that a step of it leaves which answered so
+abbrev pub IsAlongOne : Request → Lists → Lists → Type 0
+IsAlongOne request start lists = (given : Reply) × AreListsTold request given start lists
+
 -- the refusals that aren't the machine's, of a request of one event that may change the store
 abbrev pub IsUnanswered : Reply → Type 0
 IsUnanswered given = (given ≡ reply.Refused refusal.NoMemory) ⊎ (given ≡ reply.Refused refusal.Stopped)
@@ -107,3 +114,20 @@ pub record ServesRequest (request : Request) (lists : Lists) (given : Reply) (be
 -- The files open with the same logs, all that the store reads is carried over, and the disk was swept.
 abbrev pub OpensUnchanged : MapMeaning → List BoxMeaning → Option History → Option History → Type 0
 OpensUnchanged m meanings old new = IsOpenedAs new m meanings × StoreCarries old new × ((generation : ℕ) × IsSwept generation m old new)
+
+-- ---- what is replied by the logs
+
+-- Why the message with this UID isn't found, by what the log of its mailbox means: no mailbox has the name, or no message of it
+-- the UID.
+abbrev pub missing_cause : Option BoxMeaning → ℕ → Option Refusal
+missing_cause found uid = option_map_or (λ m. if is_some (row_at m uid) then None else Some refusal.NoMessage) found (Some refusal.NoMailbox)
+
+-- Why the message isn't found is replied, if it isn't. Else it is done; or a change of the disk failed, and the store is stopped.
+abbrev pub IsFlagAnswer : Option Refusal → Reply → Type 0
+IsFlagAnswer (Some why) given = given ≡ reply.Refused why
+IsFlagAnswer None given = (given ≡ reply.Done) ⊎ (given ≡ reply.Refused refusal.Stopped)
+
+-- The reply to a setting of flags alone is so by the logs with which the store opened.
+abbrev pub IsToldAlone : Requests → MapMeaning → List BoxMeaning → List Reply → Type 0
+IsToldAlone ((lane, request.Flag name uid flags) ∷ []) m meanings (given ∷ []) = IsFlagAnswer (missing_cause (meaning_named name m.boxes meanings) uid.0) given
+IsToldAlone script m meanings given = Unit {0}

@@ -88,3 +88,14 @@ has_change script = list_any (λ asked. not (only_reads asked.1)) script
 
 abbrev pub has_delivery : Requests → Bool
 has_delivery script = list_any (λ asked. is_delivery asked.1) script
+
+-- a request that reads octets of storage files or instances
+abbrev pub reads_mail : Request → Bool
+reads_mail (request.Fetch name uid) = true
+reads_mail (request.Deliver name time octets) = true
+reads_mail request.Purge = true
+reads_mail request.Resync = true
+reads_mail other = false
+
+abbrev pub has_mail_read : Requests → Bool
+has_mail_read script = list_any (λ asked. reads_mail asked.1) script

@@ -1,6 +1,8 @@
 // What the logs show of files that are safe, and what a script of one request makes of them.
 ghost use Rattle.disk_model.specs.Disk.{EachImage, Faults, History, IsIdle};
 ghost use Rattle.std.specs.Prelude.{◌≡◌, ◌≤◌, ◌⊎◌, ◌∷◌, [], ℕ, true, List, length, Option, Some};
+ghost use Rattle.mdbox_base.specs.declared.entries.Highest.{Highest};
+ghost use Rattle.mdbox_base.specs.declared.replies.Refusal.{Refusal};
 ghost use Rattle.mdbox_base.specs.declared.replies.Refusal.TheVariants as refusal;
 ghost use Rattle.mdbox_base.specs.declared.replies.Reply.{Reply};
 ghost use Rattle.mdbox_base.specs.declared.replies.Reply.TheVariants as reply;
@@ -11,11 +13,13 @@ ghost use Rattle.model_meaning.specs.BoxMeaning.{BoxMeaning};
 ghost use Rattle.model_meaning.specs.MapMeaning.{MapMeaning};
 ghost use Rattle.model_store.specs.Safe.{Safe};
 ghost use Rattle.model_store.specs.Settled.{IsSettledFor};
+ghost use Rattle.list_machine.specs.Machine.{is_step};
 ghost use Rattle.list_machine.specs.Run.{Run};
-ghost use Rattle.journal.specs.Journal.{IsLegal, JournalStep, left_by};
+ghost use Rattle.journal.specs.Journal.{Broken, IsLegal, JournalStep, Reached, left_by};
+ghost use Rattle.journal.specs.Makes.{IsServed};
 ghost use Rattle.store_open.specs.Opened.{IsOpenedAs};
 ghost use Rattle.script_run.specs.Done.{IsScriptDone, MayRead};
-ghost use Rattle.script_run.specs.One.{AreListsTold, HasOneEvent, IsAnsweredFirst, IsUnanswered, IsUnfailed, OpensUnchanged, ServesRequest, alone};
+ghost use Rattle.script_run.specs.One.{AreListsTold, HasOneEvent, IsAlongOne, IsAnsweredFirst, IsUnanswered, IsUnfailed, OpensUnchanged, ServesRequest, alone};
 ghost use Rattle.script_run.specs.Opening.{AreSafeFor, LogsShowLists};
 ghost use Rattle.script_run.specs.Script.{only_reads};
 
@@ -44,9 +48,13 @@ pub fn one_request()
 
 /// A request of one event is answered as the machine does at that event, on any lists that the logs show, of a run that has their map;
 /// unless there was no memory, or a failed change stopped the store. No such request reads octets of messages, so none is a read fault.
+/// A crash leaves the lists before it, or those that its step leaves, and where a check refused it nothing has changed.
 pub fn requests_of_one_event()
     ensures answered { (asked : Request) (given : Reply) (entries : List JournalEntry) (old new : Option History) (began now : Faults) → (done : IsScriptDone (alone asked) (given ∷ []) entries old new began now) → HasOneEvent asked → (lists : Lists) → LogsShowLists done.m done.meanings lists → IsUnanswered given ⊎ IsAnsweredFirst asked done.m lists given }
     ensures unread { (asked : Request) (given : Reply) (entries : List JournalEntry) (old new : Option History) (began now : Faults) → IsScriptDone (alone asked) (given ∷ []) entries old new began now → HasOneEvent asked → given ≡ reply.Refused refusal.ReadFault → ⊥ }
+    ensures reached { (asked : Request) (start : Lists) (run : Run) (journal : List JournalStep) (broken : Broken) (replies : List (Option Reply)) (old new : Faults) (first m : MapMeaning) (drawn : Highest) (calls : ℕ) → HasOneEvent asked → IsServed start (alone asked) run journal broken replies old new first m drawn calls
+        → (moment : ℕ) (lists : Lists) → Reached start run journal broken moment lists → IsAlongOne asked start lists }
+    ensures refused { (asked : Request) (given : Reply) (entries : List JournalEntry) (old new : Option History) (began now : Faults) → (done : IsScriptDone (alone asked) (given ∷ []) entries old new began now) → HasOneEvent asked → (why : Refusal) → is_step why ≡ true → given ≡ reply.Refused why → IsIdle done.leaves.opened new }
 {}
 
 /// Where nothing has changed since the opening, the files open with the same logs. A request that only reads leaves a disk that was

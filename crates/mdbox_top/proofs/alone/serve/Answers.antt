@@ -1,7 +1,7 @@
 use Rattle.std.proofs.Common.{inr, sym, ◌∙◌}
 use Rattle.request_text.specs.ReplyText.{reply_text}
 use Rattle.mdbox_top.proofs.InitLemmas.{opening_fault, counted_as}
-use Rattle.mdbox_top.proofs.AloneLemmas.{shows_text, served_rests, served_fault, served_quiet, unopened_ends, unopened_leaves, unopened_rests, unopened_quiet}
+use Rattle.mdbox_top.proofs.ServeLemmas.{shows_text, served_rests, served_fault, served_quiet, unopened_ends, unopened_leaves, unopened_rests, unopened_quiet}
 use Rattle.mdbox_top.proofs.alone.serve.Goals as goal
 
 pub returns-in-Ok-clause-ends : goal.returns-in-Ok-clause-ends

@@ -2,7 +2,7 @@ use Rattle.std.proofs.Common.{inr, sym, ◌∙◌}
 use Rattle.mdbox_base.specs.declared.requests.Request.TheVariants as request
 use Rattle.request_text.specs.ReplyText.{reply_text}
 use Rattle.mdbox_top.proofs.InitLemmas.{opening_fault, counted_as}
-use Rattle.mdbox_top.proofs.AloneLemmas.{served_rests, served_fault, served_quiet, unopened_ends, deliver_unopened_may, unopened_quiet}
+use Rattle.mdbox_top.proofs.ServeLemmas.{served_rests, served_fault, served_quiet, unopened_ends, deliver_unopened_may, unopened_quiet}
 use Rattle.mdbox_top.proofs.DeliverLemmas.{save_unopened_leaves, save_unopened_rests}
 use Rattle.mdbox_top.proofs.deliver.save.Goals as goal
 

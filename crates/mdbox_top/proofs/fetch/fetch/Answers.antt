@@ -2,7 +2,7 @@ use Rattle.std.proofs.Common.{inr, sym, ◌∙◌}
 use Rattle.mdbox_base.specs.declared.requests.Request.TheVariants as request
 use Rattle.request_text.specs.ReplyText.{fetched_text}
 use Rattle.mdbox_top.proofs.InitLemmas.{opening_fault, counted_as}
-use Rattle.mdbox_top.proofs.AloneLemmas.{served_rests, served_fault, served_quiet, unopened_ends, fetch_unopened_may, fetch_unopened_rests, unopened_quiet}
+use Rattle.mdbox_top.proofs.ServeLemmas.{served_rests, served_fault, served_quiet, unopened_ends, fetch_unopened_may, fetch_unopened_rests, unopened_quiet}
 use Rattle.mdbox_top.proofs.fetch.fetch.Goals as goal
 
 pub returns-in-Ok-clause-ends : goal.returns-in-Ok-clause-ends

@@ -7,16 +7,16 @@ pub returns-in-Fetch-clause-rests : goal.returns-in-Fetch-clause-rests
 returns-in-Fetch-clause-rests g c = rw c.in-Fetch.is c.fetch.ensures.rests
 
 pub returns-in-Expunge-clause-rests : goal.returns-in-Expunge-clause-rests
-returns-in-Expunge-clause-rests g c = rw c.in-Expunge.is c.expunge.ensures.rests
+returns-in-Expunge-clause-rests g c = rw c.in-Expunge.is c.serve-in-Expunge.ensures.rests
 
 pub returns-in-Move-clause-rests : goal.returns-in-Move-clause-rests
-returns-in-Move-clause-rests g c = rw c.in-Move.is c.move_to.ensures.rests
+returns-in-Move-clause-rests g c = rw c.in-Move.is c.serve-in-Move.ensures.rests
 
 pub returns-in-Make-clause-rests : goal.returns-in-Make-clause-rests
-returns-in-Make-clause-rests g c = rw c.in-Make.is c.make.ensures.rests
+returns-in-Make-clause-rests g c = rw c.in-Make.is c.serve-in-Make.ensures.rests
 
 pub returns-in-Copy-clause-rests : goal.returns-in-Copy-clause-rests
-returns-in-Copy-clause-rests g c = rw c.in-Copy.is c.copy.ensures.rests
+returns-in-Copy-clause-rests g c = rw c.in-Copy.is c.serve-in-Copy.ensures.rests
 
 pub returns-in-Deliver-clause-rests : goal.returns-in-Deliver-clause-rests
 returns-in-Deliver-clause-rests g c = rw c.in-Deliver.is c.deliver.ensures.rests

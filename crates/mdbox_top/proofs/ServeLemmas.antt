@@ -1,0 +1,131 @@
+-- A request alone, as it is printed; and one whose store wasn't opened.
+use Rattle.std.specs.Prelude.{◌≡◌, ◌⊎◌, ℕ, true, false, List, Option, Some}
+use Rattle.std.proofs.Common.{refl, sym, ◌∙◌, ap, subst, inl, inr}
+use Rattle.disk_model.specs.Disk.{History, Faults}
+use Rattle.disk_model.specs.FaultCounts.{NoFault, AnyFaultCounted}
+use Rattle.disk_model.proofs.MomentLemmas.{each_image-map}
+use Rattle.mdbox_base.specs.declared.ids.Uid.{Uid}
+use Rattle.mdbox_base.specs.declared.replies.Refusal.TheVariants as refusal
+use Rattle.mdbox_base.specs.declared.replies.Reply.{Reply}
+use Rattle.mdbox_base.specs.declared.replies.Reply.TheVariants as reply
+use Rattle.mdbox_base.specs.declared.requests.Request.{Request}
+use Rattle.mdbox_base.specs.declared.requests.Request.TheVariants as request
+use Rattle.model_lists.specs.Lists.{Lists}
+use Rattle.model_store.specs.Safe.{Safe}
+use Rattle.list_machine.specs.Machine.{set_flags}
+use Rattle.journal.specs.Journal.{is_read_fault}
+use Rattle.store_open.specs.declared.error.OpenError.{OpenError}
+use Rattle.store_open.specs.declared.error.OpenError.TheVariants as error
+use Rattle.mail_ops.specs.Copy.{copied_lists}
+use Rattle.request_text.specs.Outcomes.{status_of}
+use Rattle.request_text.specs.ReplyText.{reply_text, single_text}
+use Rattle.request_text.specs.declared.outcome.Outcome.{Outcome}
+use Rattle.request_text.specs.declared.outcome.Outcome.TheVariants as outcome
+use Rattle.script_run.specs.Opening.{IsUnopened}
+use Rattle.script_run.specs.One.{moved_lists}
+use Rattle.mdbox_top.specs.FetchRun.{FetchRests}
+use Rattle.mdbox_top.specs.Changed.{ChangeMoments}
+use Rattle.mdbox_top.specs.OpeningOutcome.{opening_outcome}
+use Rattle.mdbox_top.specs.Served.{ShowsReply, RequestOutcome}
+use Rattle.mdbox_top.specs.Alone.{ReplyTells, RequestMoments, RequestRests, MayFail, IsDoneAlone, IsServedAlone}
+use Rattle.mdbox_top.proofs.RequestLemmas.{faulted_is, failed_outcome, failed_status, unopened}
+use Rattle.mdbox_top.proofs.ListLemmas.{list_calm, list_runs}
+use Rattle.mdbox_top.proofs.CountsLemmas.{counts_calm, counts_run}
+use Rattle.mdbox_top.specs.ExpungeRun.{lists_without}
+use Rattle.mdbox_top.proofs.MakeLemmas.{SafeForMade}
+
+-- ---- how it is printed
+
+plain_text : (request : Request) (given : Reply) → IsServedAlone request → single_text request given ≡ reply_text given
+plain_text (request.List name) given one = refl
+plain_text (request.Flag name uid flags) given one = refl
+plain_text (request.Expunge name uid) given one = refl
+plain_text (request.Copy name uid target) given one = refl
+plain_text (request.Move name uid target) given one = refl
+plain_text (request.Make name) given one = refl
+plain_text request.Counts given one = refl
+plain_text other given one = elim one [ inl none ↦ absurd none | inr none ↦ absurd none ]
+
+pub shows_text : (request : Request) (given : Reply) (h k : Option (List ℕ)) (o : Outcome) → IsServedAlone request → ShowsReply (reply_text given) given h k o → ShowsReply (single_text request given) given h k o
+shows_text request given h k o one s = subst (λ (text : List ℕ). ShowsReply text given h k o) (sym (plain_text request given one)) s
+
+-- a fault of the disk ends with a status that says so, or may hide it
+may_fail : (request : Request) (text : List ℕ) (given : Reply) (h k : Option (List ℕ)) (old new : Option History) (o : Outcome) → ReplyTells request old new given → ShowsReply text given h k o → (given ≡ reply.Refused refusal.ReadFault) ⊎ (given ≡ reply.Refused refusal.Stopped)
+    → MayFail request (status_of o)
+may_fail (request.List name) text given h k old new o l s (inl read) = absurd (let e : true ≡ false = sym (ap (λ (r : Reply). is_read_fault (Some r)) read) ∙ list_calm name old new given l in cc e)
+may_fail (request.List name) text given h k old new o l s (inr stopped) = absurd (list_runs name old new given l stopped)
+may_fail request.Counts text given h k old new o l s (inl read) = absurd (let e : true ≡ false = sym (ap (λ (r : Reply). is_read_fault (Some r)) read) ∙ counts_calm old new given l in cc e)
+may_fail request.Counts text given h k old new o l s (inr stopped) = absurd (counts_run old new given l stopped)
+may_fail other text given h k old new o l s failed = failed_status text given h k o s (failed_outcome given failed)
+
+rests_as : (request : Request) (F G : Type 0) (began now : Faults) (old new : Option History) → (F → G) → RequestRests request F began now old new → RequestRests request G began now old new
+rests_as (request.Deliver name time octets) F G began now old new h r = λ none. r (λ failed. none (h failed))
+rests_as (request.List name) F G began now old new h r = λ none. r (λ failed. none (h failed))
+rests_as (request.Fetch name uid) F G began now old new h r = λ none. r (λ failed. none (h failed))
+rests_as (request.Flag name uid flags) F G began now old new h r = λ none. r (λ failed. none (h failed))
+rests_as (request.Expunge name uid) F G began now old new h r = λ none. r (λ failed. none (h failed))
+rests_as (request.Copy name uid target) F G began now old new h r = λ none. r (λ failed. none (h failed))
+rests_as (request.Move name uid target) F G began now old new h r = λ none. r (λ failed. none (h failed))
+rests_as (request.Make name) F G began now old new h r = λ none. r (λ failed. none (h failed))
+rests_as request.Counts F G began now old new h r = λ none. r (λ failed. none (h failed))
+rests_as other F G began now old new h r = r
+
+pub served_rests : (request : Request) (text : List ℕ) (given : Reply) (h k : Option (List ℕ)) (old new : Option History) (began now : Faults) (o : Outcome) → IsDoneAlone request given old new began now → ShowsReply text given h k o → RequestRests request (MayFail request (status_of o)) began now old new
+served_rests request text given h k old new began now o done s = rests_as request (given ≡ reply.Refused refusal.Stopped) (MayFail request (status_of o)) began now old new (λ stopped. may_fail request text given h k old new o done.tells s (inr stopped)) done.rests
+
+pub served_fault : (request : Request) (text : List ℕ) (given : Reply) (h k : Option (List ℕ)) (old new : Option History) (began now : Faults) (o : Outcome) → IsDoneAlone request given old new began now → ShowsReply text given h k o → AnyFaultCounted (o ≡ outcome.DiskFault) began now
+served_fault request text given h k old new began now o done s = record {
+  reads = done.faults.reads;
+  changes = done.faults.changes;
+  rose = λ e. elim (faulted_is text given h k o s e) [ inl read ↦ inl (done.faults.read_fault read) | inr stopped ↦ inr (done.faults.stopped stopped) ];
+}
+
+pub served_quiet : (request : Request) (text : List ℕ) (given : Reply) (h k : Option (List ℕ)) (old new : Option History) (began now : Faults) (o : Outcome) → IsDoneAlone request given old new began now → ShowsReply text given h k o → (MayFail request (status_of o) → ⊥) → NoFault began now
+served_quiet request text given h k old new began now o done s calls =
+    done.faults.unfailed (λ read. calls (may_fail request text given h k old new o done.tells s (inl read))) (λ stopped. calls (may_fail request text given h k old new o done.tells s (inr stopped)))
+
+-- ---- the store was not opened
+
+unopened_may : (request : Request) (why : OpenError) → why ≡ error.DiskFault → MayFail request (status_of (opening_outcome why))
+unopened_may (request.List name) why e = ap (λ (w : OpenError). status_of (opening_outcome w)) e
+unopened_may request.Counts why e = ap (λ (w : OpenError). status_of (opening_outcome w)) e
+unopened_may other why e = inr (inl (ap (λ (w : OpenError). status_of (opening_outcome w)) e))
+
+pub unopened_ends : (request : Request) (h : Option (List ℕ)) (old new : Option History) (began now : Faults) (why : OpenError) → IsUnopened why old new began now → RequestOutcome (ReplyTells request) request h h old new began now (opening_outcome why)
+unopened_ends request h old new began now why u = unopened (ReplyTells request) request h old new began now why u.cause u.idle u.untouched u.stays u.unfailed
+
+change_unopened_leaves : (change : Lists → Lists) (old new : Option History) (began now : Faults) (why : OpenError) → IsUnopened why old new began now → ChangeMoments change old new
+change_unopened_leaves change old new began now why u = λ lists at. each_image-map (λ _ image. Safe image lists) (λ _ image. Safe image lists ⊎ Safe image (change lists)) old new (λ m image h. inl h) (u.moments lists at)
+
+pub unopened_leaves : (request : Request) (old new : Option History) (began now : Faults) (why : OpenError) → IsServedAlone request → IsUnopened why old new began now → RequestMoments request old new
+unopened_leaves (request.List name) old new began now why one u = record { safe = u.moments; stays = u.stays; closed_well = u.closed_well }
+unopened_leaves request.Counts old new began now why one u = record { safe = u.moments; stays = u.stays; closed_well = u.closed_well }
+unopened_leaves (request.Flag name uid flags) old new began now why one u = change_unopened_leaves (set_flags name uid.0 flags) old new began now why u
+unopened_leaves (request.Expunge name uid) old new began now why one u = change_unopened_leaves (lists_without name uid) old new began now why u
+unopened_leaves (request.Copy name uid target) old new began now why one u = change_unopened_leaves (copied_lists name uid target) old new began now why u
+unopened_leaves (request.Move name uid target) old new began now why one u = λ lists at.
+    each_image-map (λ _ image. Safe image lists) (λ _ image. Safe image lists ⊎ (Safe image (copied_lists name uid target lists) ⊎ Safe image (moved_lists name uid target lists))) old new (λ m image h. inl h) (u.moments lists at)
+unopened_leaves (request.Make name) old new began now why one u = λ lists at. each_image-map (λ _ image. Safe image lists) (SafeForMade name old lists) old new (λ m image h. inl h) (u.moments lists at)
+unopened_leaves other old new began now why one u = elim one [ inl none ↦ absurd none | inr none ↦ absurd none ]
+
+pub unopened_rests : (request : Request) (old new : Option History) (began now : Faults) (why : OpenError) → IsServedAlone request → IsUnopened why old new began now → RequestRests request (MayFail request (status_of (opening_outcome why))) began now old new
+unopened_rests (request.List name) old new began now why one u = λ none. (u.settled_again (λ f. none (unopened_may (request.List name) why f)), u.carried (λ f. none (unopened_may (request.List name) why f)))
+unopened_rests request.Counts old new began now why one u = λ none. (u.settled_again (λ f. none (unopened_may request.Counts why f)), u.carried (λ f. none (unopened_may request.Counts why f)))
+unopened_rests (request.Flag name uid flags) old new began now why one u = λ none lists at. inl (u.settled_again (λ f. none (unopened_may (request.Flag name uid flags) why f)) lists at)
+unopened_rests (request.Expunge name uid) old new began now why one u = λ none lists at. inl (u.settled_again (λ f. none (unopened_may (request.Expunge name uid) why f)) lists at)
+unopened_rests (request.Copy name uid target) old new began now why one u = λ none lists at. inl (u.settled_again (λ f. none (unopened_may (request.Copy name uid target) why f)) lists at)
+unopened_rests (request.Move name uid target) old new began now why one u = λ none lists at. inl (u.settled_again (λ f. none (unopened_may (request.Move name uid target) why f)) lists at)
+unopened_rests (request.Make name) old new began now why one u = λ none lists at. inl (u.settled_again (λ f. none (unopened_may (request.Make name) why f)) lists at)
+unopened_rests other old new began now why one u = elim one [ inl none ↦ absurd none | inr none ↦ absurd none ]
+
+pub unopened_quiet : (request : Request) (old new : Option History) (began now : Faults) (why : OpenError) → IsUnopened why old new began now → (MayFail request (status_of (opening_outcome why)) → ⊥) → NoFault began now
+unopened_quiet request old new began now why u calls = u.unfailed (λ f. calls (unopened_may request why f))
+
+pub fetch_unopened_rests : (failed : Type 0) (old new : Option History) (began now : Faults) (why : OpenError) → (why ≡ error.DiskFault → failed) → IsUnopened why old new began now → FetchRests failed began now old new
+fetch_unopened_rests failed old new began now why h u = λ none. (u.settled_again (λ f. none (h f)), u.carried (λ f. none (h f)))
+
+pub fetch_unopened_may : (name : List ℕ) (uid : Uid) (why : OpenError) → why ≡ error.DiskFault → MayFail (request.Fetch name uid) (status_of (opening_outcome why))
+fetch_unopened_may name uid why e = unopened_may (request.Fetch name uid) why e
+
+pub deliver_unopened_may : (name : List ℕ) (time : ℕ) (octets : List ℕ) (why : OpenError) → why ≡ error.DiskFault → MayFail (request.Deliver name time octets) (status_of (opening_outcome why))
+deliver_unopened_may name time octets why e = unopened_may (request.Deliver name time octets) why e
