@@ -1,6 +1,7 @@
 // The lines of cases, done on a disk.
 use crate::damage::{Damage, Damaged};
 use crate::files::{clear, octets_of, push_paths, put};
+use crate::orders::Orders;
 use crate::runs::{Run, perform};
 use crate::setting::Setting;
 use crate::streams::Streams;
@@ -124,6 +125,9 @@ impl Cases {
             "cut" => self.damage(command, false),
             "watch" => self.watch(rest),
             "also" => self.set_between(rest),
+            "before" => self.set_before(rest),
+            "after" => self.set_after(rest),
+            "orders" => self.orders(rest),
             "narrow" => {
                 self.setting.narrow = true;
                 Ok(true)
@@ -262,6 +266,38 @@ impl Cases {
         };
         self.setting.between = octets;
         Ok(true)
+    }
+
+    fn set_before(&mut self, line: &str) -> Result<bool, Trouble> {
+        let Some(octets) = self.page.texts.octets(line)? else {
+            return Ok(false);
+        };
+        self.setting.before = octets;
+        Ok(true)
+    }
+
+    fn set_after(&mut self, line: &str) -> Result<bool, Trouble> {
+        let Some(octets) = self.page.texts.octets(line)? else {
+            return Ok(false);
+        };
+        self.setting.after = octets;
+        Ok(true)
+    }
+
+    /// Does a script of two lanes in every order of their events, each on a copy of the disk.
+    fn orders(&mut self, line: &str) -> Result<bool, Trouble> {
+        let Some(script) = self.page.texts.octets(line)? else {
+            return Ok(false);
+        };
+        let orders = Orders {
+            alloc: self.alloc,
+            disk: &self.disk,
+            before: self.setting.before.as_slice(),
+            script: script.as_slice(),
+            after: self.setting.after.as_slice(),
+        };
+        let done = orders.explore(&mut self.page.report)?;
+        Ok(done)
     }
 
     /// A run as a line has it. None if it isn't written so.

@@ -10,6 +10,8 @@ use std::{env, fs};
 mod cases;
 mod damage;
 mod files;
+mod orders;
+mod plain;
 mod runs;
 mod seen;
 mod setting;
