@@ -8,6 +8,7 @@ use cases::Cases;
 use std::{env, fs};
 
 mod cases;
+mod course;
 mod damage;
 mod files;
 mod orders;
@@ -18,6 +19,7 @@ mod setting;
 mod streams;
 mod trial;
 mod trouble;
+mod two_lanes;
 
 /// The first file has octets that the cases of the others name.
 fn main(rt: HostRuntime) -> Result<()> {

@@ -33,7 +33,7 @@ impl Followed {
         request: &Request,
         half: Half,
         so_far: &Option<Reply>,
-        given: &Option<Reply>,
+        given: Option<&Reply>,
     ) -> Result<Option<Reply>, NoMemory> {
         match (request, half) {
             (Request::Move { name, uid, target }, Half::CopyHalf) => {
@@ -55,7 +55,7 @@ impl Followed {
     fn whole(
         &mut self,
         request: &Request,
-        given: &Option<Reply>,
+        given: Option<&Reply>,
     ) -> Result<Option<Reply>, NoMemory> {
         let alloc = self.alloc;
         match request {

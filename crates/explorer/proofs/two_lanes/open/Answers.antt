@@ -1,5 +1,5 @@
 use Rattle.script_run.proofs.DoneLemmas.{no_task}
-use Rattle.explorer.proofs.orders.open.Goals as goal
+use Rattle.explorer.proofs.two_lanes.open.Goals as goal
 
 pub of-requires-clause-unused : goal.of-requires-clause-unused
 of-requires-clause-unused g c =
