@@ -1,12 +1,13 @@
 // The lines of cases, done on a disk.
 use crate::damage::{Damage, Damaged};
 use crate::files::{clear, octets_of, push_paths, put};
-use crate::orders::Orders;
+use crate::orders::{Orders, take_turns};
 use crate::runs::{Run, perform};
 use crate::setting::Setting;
 use crate::streams::Streams;
 use crate::trial::Trial;
 use crate::trouble::Trouble;
+use crate::two_lanes::Wrong;
 use case_text::{Command, Counts, Page, Stream, Taken, push_shown};
 use disk_mem::MemDisk;
 use disk_model::{Disk, FileName};
@@ -128,6 +129,7 @@ impl Cases {
             "before" => self.set_before(rest),
             "after" => self.set_after(rest),
             "orders" => self.orders(rest),
+            "turns" => self.turns(command),
             "narrow" => {
                 self.setting.narrow = true;
                 Ok(true)
@@ -298,6 +300,31 @@ impl Cases {
         };
         let done = orders.explore(&mut self.page.report)?;
         Ok(done)
+    }
+
+    /// Does a script of two lanes in turns of these on the disk of the case, and tells what `batch` prints.
+    fn turns(&mut self, command: Command<'_>) -> Result<bool, Trouble> {
+        let (lanes, line) = command.named();
+        let Some(script) = self.page.texts.octets(line)? else {
+            return Ok(false);
+        };
+        let empty = MemDisk::fresh(self.alloc)?;
+        let disk = mem::replace(&mut self.disk, empty);
+        match take_turns(self.alloc, disk, lanes, script.as_slice()) {
+            Ok((disk, printed)) => {
+                self.disk = disk;
+                self.page.report.count_run();
+                self.tell(Stream::Output, printed.as_slice())?;
+                Ok(true)
+            }
+            Err(Wrong::Differs(why)) => {
+                let text = format!(in self.alloc; ". {why}\n")?;
+                self.page.report.found().push_str(text.as_str())?;
+                Ok(true)
+            }
+            Err(Wrong::NoScript) => Ok(false),
+            Err(Wrong::NoMemory) => Err(Trouble::from(NoMemory)),
+        }
     }
 
     /// A run as a line has it. None if it isn't written so.

@@ -146,7 +146,7 @@ impl Course {
         Ok(())
     }
 
-    /// Looks at the replies behind a turn of the request at this place.
+    /// Looks at the replies after a turn of the request at this place.
     fn look<D: Disk>(&mut self, world: &TwoLanes<D>, place: usize) -> Result<(), Wrong> {
         let mut counts = [0u64; 2];
         let mut answered = 0usize;
@@ -185,9 +185,7 @@ impl Course {
 
     /// Looks at a world of which no lane has a request left.
     fn end<D: Disk>(&self, world: &mut TwoLanes<D>, turns: &[Choice]) -> Result<(), Wrong> {
-        if world.advance(Lane::First) != Turned::Idle
-            || world.advance(Lane::Second) != Turned::Idle
-        {
+        if !world.is_idle() {
             return Err(Wrong::Differs("a lane without requests works"));
         }
         if !are_told(world.turns(), turns) {
@@ -217,17 +215,17 @@ fn chosen(first: bool, second: bool) -> Option<Choice> {
     None
 }
 
-/// Whether a trace is that of these turns, and an idle one of each lane behind them.
+/// Whether a trace is that of these turns, and an idle one of each lane after them.
 fn are_told(trace: &[Turn], turns: &[Choice]) -> bool {
     if trace.len() != turns.len().saturating_add(2) {
         return false;
     }
-    let mut idle = 0;
+    let mut idle = 0u32;
     for (number, turn) in trace.iter().enumerate() {
         let told = match turns.get(number) {
             Some(choice) => turn.lane == choice.lane.number() && !turn.idle,
             None => {
-                idle += 1;
+                idle = idle.saturating_add(1);
                 turn.lane == idle && turn.idle
             }
         };

@@ -2,9 +2,11 @@
 use crate::course::{Choice, Course};
 use crate::plain::Followed;
 use crate::runs::copy_of;
-use crate::two_lanes::{Lane, Wrong, begin, script_of};
+use crate::two_lanes::{Lane, TwoLanes, Wrong, begin, script_of};
 use case_text::Report;
 use disk_mem::MemDisk;
+use disk_model::Disk;
+use lanes::Turned;
 use mdbox_base::{NoMemory, Octets, Reply};
 use request_text::push_answer;
 use std::alloc::Global;
@@ -81,10 +83,13 @@ impl Orders<'_> {
     }
 }
 
-/// The next order: the last turn that the second lane could have had is its own, and none is said of those behind it. False if there
+/// The next order: the last turn that the second lane could have had is its own, and none is said of those after it. False if there
 /// is none.
 fn next_order(turns: &mut Vec<Choice>) -> bool {
-    while let Some(turn) = turns.pop() {
+    for _ in 0..turns.len() {
+        let Some(turn) = turns.pop() else {
+            return false;
+        };
         if turn.free {
             let next = Choice {
                 lane: Lane::Second,
@@ -107,11 +112,11 @@ fn keep(outcomes: &mut Vec<Octets>, outcome: Octets) -> Result<(), NoMemory> {
     Ok(())
 }
 
-/// Tells what went wrong, and behind which turns.
+/// Tells what went wrong, and after which turns.
 fn tell(alloc: Global, out: &mut String, why: &str, turns: &[Choice]) -> Result<(), NoMemory> {
     out.push_str(". ")?;
     out.push_str(why)?;
-    out.push_str(" behind")?;
+    out.push_str(" after")?;
     for turn in turns {
         let lane = turn.lane.number();
         let text = format!(in alloc; " {lane}")?;
@@ -149,4 +154,38 @@ fn push_replies(
         push_answer(alloc, out, reply)?;
     }
     Ok(())
+}
+
+/// Does a script in turns of these lanes, a digit for each, to its end. Answers the disk, and what `batch` prints.
+pub fn take_turns(
+    alloc: Global,
+    disk: MemDisk,
+    lanes: &str,
+    script: &[u8],
+) -> Result<(MemDisk, Octets), Wrong> {
+    let mut world = begin(alloc, disk, script_of(alloc, script)?)?;
+    let taken = take_each(&mut world, lanes);
+    let printed = world.printed(alloc);
+    let disk = world.into_disk();
+    taken?;
+    Ok((disk, printed?))
+}
+
+/// Takes each turn. Behind the last no lane has a request left.
+fn take_each<D: Disk>(world: &mut TwoLanes<D>, lanes: &str) -> Result<(), Wrong> {
+    for digit in lanes.as_bytes() {
+        let lane = match *digit {
+            b'1' => Lane::First,
+            b'2' => Lane::Second,
+            _ => return Err(Wrong::NoScript),
+        };
+        if world.advance(lane) != Turned::Worked {
+            return Err(Wrong::Differs("a lane has no request left"));
+        }
+    }
+    if world.is_idle() {
+        Ok(())
+    } else {
+        Err(Wrong::Differs("a lane has a request left"))
+    }
 }

@@ -7,7 +7,8 @@ use attach_detach::{Prepared, prepare};
 use disk_mem::MemDisk;
 use disk_model::Disk;
 use lanes::{Turn, Turned, World, WorldRefused, world_of, worlds_go_on};
-use mdbox_base::{JournalEntry, NoMemory, Reply, Request, Script, Seq};
+use mdbox_base::{JournalEntry, MemSink, NoMemory, Octets, Reply, Request, Script, Seq};
+use request_text::print_batch;
 use script_text::{ScriptError, read_script};
 use std::alloc::{AllocFailed, Global};
 use std::marker::Model;
@@ -166,6 +167,13 @@ impl<D: Disk> TwoLanes<D> {
         }
     }
 
+    /// Gives each lane a turn, and answers whether neither had a request left.
+    pub fn is_idle(&mut self) -> bool {
+        let first = self.advance(Lane::First);
+        let second = self.advance(Lane::Second);
+        first == Turned::Idle && second == Turned::Idle
+    }
+
     pub fn replied(&self, lane: Lane) -> u64 {
         self.world.replied(lane.number())
     }
@@ -190,6 +198,17 @@ impl<D: Disk> TwoLanes<D> {
             Some(Some(reply)) => Some(reply),
             _ => None,
         }
+    }
+
+    /// What `batch` prints.
+    pub fn printed(&self, alloc: Global) -> Result<Octets, NoMemory> {
+        let mut text = MemSink::of(Octets::empty(alloc), Seq::empty(alloc));
+        let mut printed = Octets::empty(alloc);
+        match print_batch(alloc, &mut text, self.world.journal(), self.world.replies()) {
+            Ok(()) => printed.push_all(text.held().as_slice())?,
+            Err(_) => return Err(NoMemory),
+        }
+        Ok(printed)
     }
 
     pub fn turns(&self) -> &[Turn] {

@@ -1,8 +1,8 @@
 use Rattle.script_run.proofs.DoneLemmas.{no_task}
 use Rattle.explorer.proofs.two_lanes.open.Goals as goal
 
-pub of-requires-clause-unused : goal.of-requires-clause-unused
-of-requires-clause-unused g c =
+pub world_of-requires-clause-unused : goal.world_of-requires-clause-unused
+world_of-requires-clause-unused g c =
     let o = c.in-Ok.ensures in (
       no_task (g.D.Disk.history c.args.disk) (g.D.Disk.history c.in-Ok.store.disk) c.in-Ok.store
           (record {
