@@ -1,15 +1,17 @@
 // The lines of cases, done on a disk.
 use crate::damage::{Damage, Damaged};
 use crate::files::{clear, octets_of, push_paths, put};
+use crate::folder::{CaseFolder, system_disk};
+use crate::orders::{Orders, take_turns};
 use crate::runs::{Run, perform};
-use crate::setting::Setting;
+use crate::setting::{Place, Setting};
 use crate::streams::Streams;
 use crate::trial::Trial;
 use crate::trouble::Trouble;
+use crate::two_lanes::Wrong;
 use case_text::{Command, Counts, Page, Stream, Taken, push_shown};
 use disk_mem::MemDisk;
 use disk_model::{Disk, FileName};
-use disk_real::RealDisk;
 use file_paths::name_of_path;
 use mdbox_base::{NoMemory, Seq};
 use std::alloc::Global;
@@ -23,6 +25,7 @@ pub struct Cases {
     page: Page,
     setting: Setting,
     disk: MemDisk,
+    folder: CaseFolder,
     /// How many calls of the disk the last run made.
     calls: u64,
 }
@@ -46,6 +49,7 @@ impl Cases {
             page: Page::empty(alloc),
             setting: Setting::none(alloc),
             disk: MemDisk::fresh(alloc)?,
+            folder: CaseFolder::empty(alloc),
             calls: 0,
         })
     }
@@ -111,6 +115,10 @@ impl Cases {
         match command.word {
             "case" => self.begin(rest),
             "real" => self.begin_real(),
+            "folder" => {
+                self.setting.place = Place::Folder;
+                Ok(true)
+            }
             "load" => self.load(command),
             "keep" => self.keep(command),
             "file" => self.lay(command, true),
@@ -124,8 +132,16 @@ impl Cases {
             "cut" => self.damage(command, false),
             "watch" => self.watch(rest),
             "also" => self.set_between(rest),
+            "before" => self.set_before(rest),
+            "after" => self.set_after(rest),
+            "orders" => self.orders(rest),
+            "turns" => self.turns(command),
             "narrow" => {
                 self.setting.narrow = true;
+                Ok(true)
+            }
+            "held" => {
+                self.folder.hold();
                 Ok(true)
             }
             "fail" => Ok(self.setting.fail(rest)),
@@ -137,14 +153,15 @@ impl Cases {
     fn begin(&mut self, title: &str) -> Result<bool, Trouble> {
         self.page.report.begin(title)?;
         self.disk = MemDisk::fresh(self.alloc)?;
+        self.folder = CaseFolder::empty(self.alloc);
         self.setting = Setting::none(self.alloc);
         Ok(true)
     }
 
     /// Goes on in the folder of the system that the program runs in, whose files are removed.
     fn begin_real(&mut self) -> Result<bool, Trouble> {
-        self.setting.real = true;
-        let mut disk = RealDisk::of(self.rt);
+        self.setting.place = Place::System;
+        let mut disk = system_disk(self.rt);
         clear(&mut disk)?;
         disk.sync_names()?;
         Ok(true)
@@ -175,11 +192,10 @@ impl Cases {
 
     /// The octets of a file of the store. None if it isn't there.
     fn octets(&mut self, name: FileName) -> Result<Option<Vec<u8>>, Trouble> {
-        if self.setting.real {
-            let mut disk = RealDisk::of(self.rt);
-            octets_of(self.alloc, &mut disk, name)
-        } else {
-            octets_of(self.alloc, &mut self.disk, name)
+        match self.setting.place {
+            Place::Disk => octets_of(self.alloc, &mut self.disk, name),
+            Place::Folder => self.folder.octets(name),
+            Place::System => octets_of(self.alloc, &mut system_disk(self.rt), name),
         }
     }
 
@@ -192,11 +208,11 @@ impl Cases {
         let Some(octets) = self.page.texts.octets(text)? else {
             return Ok(false);
         };
-        if self.setting.real {
-            let mut disk = RealDisk::of(self.rt);
-            put(&mut disk, name, octets.as_slice(), synced)?;
-        } else {
-            put(&mut self.disk, name, octets.as_slice(), synced)?;
+        let octets = octets.as_slice();
+        match self.setting.place {
+            Place::Disk => put(&mut self.disk, name, octets, synced)?,
+            Place::Folder => self.folder.put(name, octets, synced)?,
+            Place::System => put(&mut system_disk(self.rt), name, octets, synced)?,
         }
         Ok(true)
     }
@@ -205,12 +221,20 @@ impl Cases {
         let Some(name) = name_of_path(path.as_bytes()) else {
             return Ok(false);
         };
-        self.disk.remove(name)?;
+        if self.setting.place == Place::Folder {
+            self.folder.remove(name)?;
+        } else {
+            self.disk.remove(name)?;
+        }
         Ok(true)
     }
 
     fn sync(&mut self) -> Result<bool, Trouble> {
-        self.disk.sync_names()?;
+        if self.setting.place == Place::Folder {
+            self.folder.sync()?;
+        } else {
+            self.disk.sync_names()?;
+        }
         Ok(true)
     }
 
@@ -233,12 +257,14 @@ impl Cases {
 
     /// Tells the paths of all files.
     fn files(&mut self) -> Result<bool, Trouble> {
-        let out = self.page.report.found();
-        if self.setting.real {
-            let mut disk = RealDisk::of(self.rt);
-            push_paths(self.alloc, &mut disk, out)?;
-        } else {
-            push_paths(self.alloc, &mut self.disk, out)?;
+        match self.setting.place {
+            Place::Disk => push_paths(self.alloc, &mut self.disk, self.page.report.found())?,
+            Place::Folder => self.folder.push_paths(self.page.report.found())?,
+            Place::System => push_paths(
+                self.alloc,
+                &mut system_disk(self.rt),
+                self.page.report.found(),
+            )?,
         }
         Ok(true)
     }
@@ -262,6 +288,63 @@ impl Cases {
         };
         self.setting.between = octets;
         Ok(true)
+    }
+
+    fn set_before(&mut self, line: &str) -> Result<bool, Trouble> {
+        let Some(octets) = self.page.texts.octets(line)? else {
+            return Ok(false);
+        };
+        self.setting.before = octets;
+        Ok(true)
+    }
+
+    fn set_after(&mut self, line: &str) -> Result<bool, Trouble> {
+        let Some(octets) = self.page.texts.octets(line)? else {
+            return Ok(false);
+        };
+        self.setting.after = octets;
+        Ok(true)
+    }
+
+    /// Does a script of two lanes in every order of their events, each on a copy of the disk.
+    fn orders(&mut self, line: &str) -> Result<bool, Trouble> {
+        let Some(script) = self.page.texts.octets(line)? else {
+            return Ok(false);
+        };
+        let orders = Orders {
+            alloc: self.alloc,
+            disk: &self.disk,
+            before: self.setting.before.as_slice(),
+            script: script.as_slice(),
+            after: self.setting.after.as_slice(),
+        };
+        let done = orders.explore(&mut self.page.report)?;
+        Ok(done)
+    }
+
+    /// Does a script of two lanes in turns of these on the disk of the case, and tells what `batch` prints.
+    fn turns(&mut self, command: Command<'_>) -> Result<bool, Trouble> {
+        let (lanes, line) = command.named();
+        let Some(script) = self.page.texts.octets(line)? else {
+            return Ok(false);
+        };
+        let empty = MemDisk::fresh(self.alloc)?;
+        let disk = mem::replace(&mut self.disk, empty);
+        match take_turns(self.alloc, disk, lanes, script.as_slice()) {
+            Ok((disk, printed)) => {
+                self.disk = disk;
+                self.page.report.count_run();
+                self.tell(Stream::Output, printed.as_slice())?;
+                Ok(true)
+            }
+            Err(Wrong::Differs(why)) => {
+                let text = format!(in self.alloc; ". {why}\n")?;
+                self.page.report.found().push_str(text.as_str())?;
+                Ok(true)
+            }
+            Err(Wrong::NoScript) => Ok(false),
+            Err(Wrong::NoMemory) => Err(Trouble::from(NoMemory)),
+        }
     }
 
     /// A run as a line has it. None if it isn't written so.
@@ -323,18 +406,24 @@ impl Cases {
             watches: self.setting.watches.as_slice(),
             between: self.setting.between.as_slice(),
         };
-        trial.explore(&self.disk, &mut self.page.report)
+        match self.setting.place {
+            Place::Folder => self.folder.explore(trial, &mut self.page.report),
+            Place::Disk | Place::System => trial.explore(&self.disk, &mut self.page.report),
+        }
     }
 
     /// Does a run on the disk of the case, and tells its status, if it isn't the one that is wanted, and what it printed and said.
     fn run(&mut self, run: Run<'_>, wanted: u8) -> Result<(), NoMemory> {
         let (fails, narrow) = (self.setting.fails, self.setting.narrow);
         let mut streams = Streams::of(self.alloc, run.input, fails, narrow)?;
-        let status = if self.setting.real {
-            let (_, status) = perform(self.alloc, RealDisk::of(self.rt), run.words, &mut streams);
-            status
-        } else {
-            self.perform(run, &mut streams)?
+        let status = match self.setting.place {
+            Place::Disk => self.perform(run, &mut streams)?,
+            Place::Folder => self.perform_in_folder(run, &mut streams)?,
+            Place::System => {
+                let disk = system_disk(self.rt);
+                let (_, status) = perform(self.alloc, disk, run.words, &mut streams);
+                status
+            }
         };
         self.setting.end_run();
         self.page.report.count_run();
@@ -344,6 +433,13 @@ impl Cases {
         }
         self.tell(Stream::Output, streams.printed())?;
         self.tell(Stream::Errors, streams.said())
+    }
+
+    /// Does a run over the folder in memory.
+    fn perform_in_folder(&mut self, run: Run<'_>, streams: &mut Streams) -> Result<u8, NoMemory> {
+        let (calls, status) = self.folder.perform(run, streams)?;
+        self.calls = calls;
+        Ok(status)
     }
 
     /// Does a run on the disk in memory.

@@ -8,14 +8,20 @@ use cases::Cases;
 use std::{env, fs};
 
 mod cases;
+mod course;
 mod damage;
 mod files;
+mod folder;
+mod orders;
+mod plain;
 mod runs;
 mod seen;
 mod setting;
 mod streams;
 mod trial;
 mod trouble;
+mod turns;
+mod two_lanes;
 
 /// The first file has octets that the cases of the others name.
 fn main(rt: HostRuntime) -> Result<()> {

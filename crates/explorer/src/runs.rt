@@ -2,6 +2,9 @@
 use crate::streams::Streams;
 use disk_mem::{Choice, MemDisk};
 use disk_model::Disk;
+use folder_disk::FolderDisk;
+use folder_kept::KeptFolder;
+use folder_mem::BareFolder;
 use mdbox_base::{NoMemory, Octets};
 use mdbox_top::{Status, mdbox_run};
 use std::alloc::Global;
@@ -31,6 +34,18 @@ pub fn perform<D: Disk>(
         &mut streams.clock,
     );
     (disk, status)
+}
+
+/// Does a run over a folder in memory, and answers the folder after it, and the status.
+pub fn perform_in(
+    alloc: Global,
+    folder: BareFolder,
+    run: Run<'_>,
+    streams: &mut Streams,
+) -> (BareFolder, u8) {
+    let disk = FolderDisk::of(KeptFolder::of(folder, alloc), alloc);
+    let (disk, status) = perform(alloc, disk, run.words, streams);
+    (disk.into_folder().into_folder(), status)
 }
 
 /// A copy of a disk, at rest, with all that was written to it.

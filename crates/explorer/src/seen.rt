@@ -38,6 +38,11 @@ impl Seen {
         }
     }
 
+    /// What an opening has shown and a crash after it has taken back is another state.
+    pub fn join(&mut self, kept: Seen) {
+        self.other = self.other || kept.other;
+    }
+
     /// Whether another state was seen than those that may be.
     pub fn is_wrong(self) -> bool {
         self.other

@@ -2,6 +2,17 @@
 use crate::streams::Fails;
 use std::alloc::Global;
 
+/// Where the files of a case are.
+#[derive(Clone, Copy, PartialEq, Eq)]
+pub enum Place {
+    /// On a disk in memory.
+    Disk,
+    /// In a folder in memory, as the system has them.
+    Folder,
+    /// In the folder of the system that the program runs in.
+    System,
+}
+
 /// What lines have said for the runs of a case.
 #[derive(Drop)]
 pub struct Setting {
@@ -9,14 +20,16 @@ pub struct Setting {
     pub watches: Vec<Vec<String>>,
     /// What these may print beside what they print before the run and after it.
     pub between: Vec<u8>,
+    /// The script that is done before each order of another's events, and the one that looks at the store afterwards.
+    pub before: Vec<u8>,
+    pub after: Vec<u8>,
     /// The calls that fail in the next run.
     pub fails: Fails,
     /// The call of the disk that fails in the next run, 0 for none.
     pub disk_fails: u64,
     /// Whether the output takes one octet a call in the next run.
     pub narrow: bool,
-    /// Whether the files are those of the folder.
-    pub real: bool,
+    pub place: Place,
 }
 
 impl Setting {
@@ -25,10 +38,12 @@ impl Setting {
         Setting {
             watches: Vec::new(alloc),
             between: Vec::new(alloc),
+            before: Vec::new(alloc),
+            after: Vec::new(alloc),
             fails: Fails::NONE,
             disk_fails: 0,
             narrow: false,
-            real: false,
+            place: Place::Disk,
         }
     }
 

@@ -101,7 +101,7 @@ impl Known<'_> {
 }
 
 /// The status of a run, what it printed and said, and what was seen after it.
-fn ended(alloc: Global, status: u8, streams: &Streams, seen: Seen) -> Result<String, NoMemory> {
+pub fn ended(alloc: Global, status: u8, streams: &Streams, seen: Seen) -> Result<String, NoMemory> {
     let mut text = String::new(alloc);
     push_text(&mut text, streams.printed())?;
     push_text(&mut text, streams.said())?;

@@ -26,7 +26,7 @@ use Rattle.folder_disk.proofs.OverLemmas.{so_far, next_of, over_goes_on}
 use Rattle.folder_disk.proofs.WideLemmas.{front_leaves, front_half_leaves, half_leaves, covers_more, change_leaves, covers_weakened, wider_leaves, wider_reads, failed_wider, failed_after}
 
 -- a change of one file, of that file and of another
-by_name : (P : FileState → Type 0) (name n : FileName) (step : FileState → FileState) (disk : DiskState) → (n ≡ name → P (step (disk n))) → P (disk n) → P (change name step disk n)
+pub by_name : (P : FileState → Type 0) (name n : FileName) (step : FileState → FileState) (disk : DiskState) → (n ≡ name → P (step (disk n))) → P (disk n) → P (change name step disk n)
 unfolding change
 by_name P name n step disk here elsewhere = elim (cases_Bool (same_name n name)) [
   | inl is ↦ subst P (sym (cond-true (same_name n name) (step (disk n)) (disk n) is)) (here (same_name-true n name is))

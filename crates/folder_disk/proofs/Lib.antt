@@ -3,6 +3,7 @@ pub mod CutLemmas
 pub mod DurableLemmas
 pub mod EachLemmas
 pub mod FileLemmas
+pub mod KnownLemmas
 pub mod ListingLemmas
 pub mod MakeLemmas
 pub mod NameTestLemmas

@@ -55,7 +55,7 @@ plain_of (PlainFile n) e = (n, refl)
 plain_of AFolder e = absurd (let d : kind.File ≡ kind.Folder = e in cc)
 plain_of Another e = absurd (let d : kind.File ≡ kind.Other = e in cc)
 
-at_same : (a b : FileName) → is_at (ghosts.cmp a) b ≡ true → a ≡ b
+pub at_same : (a b : FileName) → is_at (ghosts.cmp a) b ≡ true → a ≡ b
 at_same a b e = same_order a b (equal_of (ghosts.cmp a b) e)
   where
     equal_of : (o : Ordering) → is_eq o ≡ true → o ≡ Equal

@@ -25,7 +25,7 @@ use Rattle.folder_disk.proofs.NameTestLemmas.{file_true, file_from}
 use Rattle.folder_disk.proofs.OverLemmas.{so_far}
 
 -- a file that the disk reads stands at its path
-there_stands : (m : Modelled) (past : List System) (changes : List (Change × List ℕ)) (name : FileName) → IsOver m past changes false → IsThere ((so_far m changes).now name) → IsFileThere m.now name
+pub there_stands : (m : Modelled) (past : List System) (changes : List (Change × List ℕ)) (name : FileName) → IsOver m past changes false → IsThere ((so_far m changes).now name) → IsFileThere m.now name
 there_stands m past changes name over there =
     let f = (so_far m changes).now name in
     let file : IsStoreFile name = elim (cases_Bool (is_store_file name)) [
@@ -35,11 +35,11 @@ there_stands m past changes name over there =
     let has = file_there m.now (m.now.node (path_text name)) f.octets (sym ((over.is refl).follows name file).reads ∙ cond-true f.is_there (Some f.octets) None there) in
     record { file = file; number = has.0; stands = has.1 }
 
-stands_there : (m : Modelled) (past : List System) (changes : List (Change × List ℕ)) (name : FileName) → IsOver m past changes false → IsFileThere m.now name → IsThere ((so_far m changes).now name)
+pub stands_there : (m : Modelled) (past : List System) (changes : List (Change × List ℕ)) (name : FileName) → IsOver m past changes false → IsFileThere m.now name → IsThere ((so_far m changes).now name)
 stands_there m past changes name over is =
     (reads_there ((so_far m changes).now name) (m.now.content is.number).octets (((over.is refl).follows name is.file).reads ∙ ap (octets_at m.now) is.stands)).0
 
-not_before : (a b : FileName) → is_gt (ghosts.cmp a b) ≡ false → ghosts.cmp b a ≢ Less
+pub not_before : (a b : FileName) → is_gt (ghosts.cmp a b) ≡ false → ghosts.cmp b a ≢ Less
 not_before a b least e =
     let greater : ghosts.cmp a b ≡ Greater = total-law.antisymm a b ∙ ap ordering_reverse e in
     false≢true (sym least ∙ ap is_gt greater)

@@ -1,5 +1,6 @@
 pub mod Files
 pub mod Folders
+pub mod Known
 pub mod Names
 pub mod Over
 pub mod ReadsImage

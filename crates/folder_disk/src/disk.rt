@@ -1,14 +1,15 @@
 // A disk over a folder.
 ghost use Rattle.std.specs.Prelude.{◌≡◌, ◌+◌, ◌-◌, ◌^◌, ◌<◌, ◌≤◌, min, length, take, drop, true, false};
 ghost use Rattle.folder_model.specs.Calls.{IfModelled, IsLocked};
-ghost use Rattle.folder_disk.specs.Over.{IsDiskOver};
+ghost use Rattle.folder_disk.specs.Over.{IsDiskOver, told_history};
+ghost use Rattle.folder_disk.specs.Known.{AreKnownNames};
 
 use crate::files::{
     cut_at, length_at, make_file, read_at, remove_file, settle_at, sync_at, write_at,
 };
 use crate::folders::sync_all;
 use crate::lock::{TRIES, has_lock};
-use crate::names::{names_there, next_in};
+use crate::names::{names_there, next_in, with_name, without_name};
 use crate::paths::path_of;
 use disk_model::{DiskError, FileName, is_log};
 use disk_record::{Change, Record};
@@ -32,6 +33,8 @@ pub struct FolderDisk<F: Folder> {
     is_held: bool,
     /// The logs that this process has made, or synced at their first use.
     firm: BTreeSet<FileName>,
+    /// The names of the files that are there, from the first look at the folders on.
+    names: Option<BTreeSet<FileName>>,
     /// Whether a change has failed, or a sync before a first use.
     pub(crate) is_spoiled: bool,
     /// How many calls have returned.
@@ -40,6 +43,7 @@ pub struct FolderDisk<F: Folder> {
     pub(crate) failed_changes: u64,
     ghost counted: { calls ≡ min (length record.changes) (2 ^ 64 - 1) },
     ghost over: { ∥ IsDiskOver (F.Folder.modelled folder) (F.Folder.past folder) record.changes is_spoiled ∥₁ },
+    ghost listed: { ∥ AreKnownNames ⟦<FileName as Ord>⟧.cmp (told_history (F.Folder.modelled folder) record.changes) names ∥₁ },
     ghost locked: { ∥ (is_held ≡ true → is_spoiled ≡ false → IsLocked (F.Folder.modelled folder)) ∥₁ },
 }
 
@@ -52,7 +56,8 @@ impl<F: Folder + Drop> FolderDisk<F> {
     ghost use Rattle.folder_model.specs.Paths.{IsPath};
     ghost use Rattle.disk_model.specs.declared.error.DiskError.TheVariants.{Absent};
     ghost use Rattle.folder_disk.specs.Files.{IsSoundSystem};
-    ghost use Rattle.folder_disk.specs.Over.{IsStoreSystem, IsFailedChange, HasBegun, told_history};
+    ghost use Rattle.folder_disk.specs.Over.{IsStoreSystem, IsFailedChange, HasBegun};
+    ghost use Rattle.folder_disk.specs.Known.{AreToldNames};
 
     /// The store's files in this folder, whose process has made no call yet. Nothing is looked at until the first call. It waits
     /// for 30 seconds for another process that has the store.
@@ -79,6 +84,7 @@ impl<F: Folder + Drop> FolderDisk<F> {
             tries,
             is_held: false,
             firm: BTreeSet::new(alloc),
+            names: None,
             is_spoiled: false,
             calls: 0,
             failed_reads: 0,
@@ -209,6 +215,22 @@ impl<F: Folder + Drop> FolderDisk<F> {
         }
     }
 
+    /// The names of the files that are there: those that are known, or else looked up. They aren't kept.
+    #[tactic(auto, using(crate::proofs::OverLemmas::over_same, crate::proofs::OverLemmas::locked_same))]
+    fn known_names(&mut self) -> Result<BTreeSet<FileName>, CallError>
+        requires locked { IsLocked (F.Folder.modelled self.old.folder) }
+        requires sound { IsSoundSystem (F.Folder.modelled self.old.folder) }
+        requires spoiled { self.old.is_spoiled ≡ false }
+        ensures are { IfOk result (λ names. ∥ AreToldNames ⟦<FileName as Ord>⟧.cmp (told_history (F.Folder.modelled self.new.folder) self.new.record.changes) names ∥₁) }
+        ensures told { told_history (F.Folder.modelled self.new.folder) self.new.record.changes ≡ told_history (F.Folder.modelled self.old.folder) self.old.record.changes }
+        ensures same { (self.new.failed_reads ≡ self.old.failed_reads) × (self.new.failed_changes ≡ self.old.failed_changes) × (self.new.is_spoiled ≡ self.old.is_spoiled) }
+    {
+        match self.names.take() {
+            Some(names) => Ok(names),
+            None => names_there(&mut self.folder, self.alloc),
+        }
+    }
+
     /// The first name past one.
     #[tactic(auto, using(crate::proofs::OverLemmas::over_same, crate::proofs::OverLemmas::locked_same))]
     pub(crate) fn next_of(&mut self, after: Option<FileName>) -> Result<Option<FileName>, CallError>
@@ -218,8 +240,10 @@ impl<F: Folder + Drop> FolderDisk<F> {
         ensures same { (self.new.failed_reads ≡ self.old.failed_reads) × (self.new.failed_changes ≡ self.old.failed_changes) }
     {
         self.ready()?;
-        let names = names_there(&mut self.folder, self.alloc)?;
-        Ok(next_in(&names, after))
+        let names = self.known_names()?;
+        let next = next_in(&names, after);
+        self.names = Some(names);
+        Ok(next)
     }
 
     /// What an answer of the system to a read means, None being that there is no such file. Errors are counted, and so is the
@@ -245,7 +269,7 @@ impl<F: Folder + Drop> FolderDisk<F> {
     }
 
     /// Notes a call that changed nothing.
-    #[tactic(auto, using(crate::proofs::OverLemmas::over_stays, crate::proofs::OverLemmas::history_stays))]
+    #[tactic(auto, using(crate::proofs::OverLemmas::over_stays, crate::proofs::OverLemmas::history_stays, crate::proofs::KnownLemmas::known_stays))]
     fn pass(&mut self)
         ensures told { told_history (F.Folder.modelled self.new.folder) self.new.record.changes ≡ after (λ disk. disk) (told_history (F.Folder.modelled self.old.folder) self.old.record.changes) }
         ensures same { (self.new.failed_reads ≡ self.old.failed_reads) × (self.new.failed_changes ≡ self.old.failed_changes) × (self.new.is_spoiled ≡ self.old.is_spoiled) }
@@ -384,6 +408,7 @@ impl<F: Folder + Drop> FolderDisk<F> {
         match make_file(&mut self.folder, self.alloc, path, name) {
             Ok(()) => {
                 let _ = self.firm.insert(name);
+                self.names = with_name(self.names.take(), name);
                 self.record.note(&Change::Made(name), &[]);
                 self.calls = self.calls.saturating_add(1);
                 Ok(())
@@ -412,6 +437,7 @@ impl<F: Folder + Drop> FolderDisk<F> {
     {
         match remove_file(&mut self.folder, path, name) {
             Ok(()) => {
+                self.names = without_name(self.names.take(), name);
                 self.record.note(&Change::Removed(name), &[]);
                 self.calls = self.calls.saturating_add(1);
                 Ok(())
@@ -434,6 +460,7 @@ impl<F: Folder + Drop> FolderDisk<F> {
         ensures told { told_history (F.Folder.modelled self.new.folder) self.new.record.changes ≡ after (change name removed) (told_history (F.Folder.modelled self.old.folder) self.old.record.changes) }
         ensures cause { ChangeCause result (record { reads = self.old.failed_reads; changes = self.old.failed_changes }) (record { reads = self.new.failed_reads; changes = self.new.failed_changes }) }
     {
+        self.names = without_name(self.names.take(), name);
         self.record.note(&Change::Removed(name), &[]);
         self.calls = self.calls.saturating_add(1);
         Ok(())

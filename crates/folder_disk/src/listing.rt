@@ -63,7 +63,7 @@ fn octets_in<F: Folder>(
     Ok(octets)
 }
 
-/// Adds a folder, if it is there.
+/// Adds a folder, if it is there. A link in its place is an error: the names in the folder to which it leads would never be synced.
 fn add_there<F: Folder>(
     folder: &mut F,
     alloc: Global,
@@ -79,6 +79,7 @@ fn add_there<F: Folder>(
 {
     match kind_of(folder, alloc, name)? {
         Kind::Folder => { add(names, name) }
+        Kind::Other => Err(CallError::Failed),
         _ => Ok(()),
     }
 }

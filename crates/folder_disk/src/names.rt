@@ -1,5 +1,5 @@
 // The names of a store's files that are there.
-ghost use Rattle.std.specs.Prelude.{◌≡◌, true, IfOk, OnOk};
+ghost use Rattle.std.specs.Prelude.{◌≡◌, true, false, None, IfOk, IfSome, IfNone, OnOk};
 ghost use Rattle.std.specs.BTreeSet.{Updates};
 ghost use Rattle.file_paths.specs.Paths.{path_text, IsStoreFile};
 ghost use Rattle.folder_model.specs.Paths.{folder_at};
@@ -119,4 +119,32 @@ pub(crate) fn next_in(names: &BTreeSet<FileName>, after: Option<FileName>) -> Op
         .range((Bound::Excluded(after), Bound::Unbounded))
         .next()
         .copied()
+}
+
+/// The names with one more, where they are known and there is memory for it.
+pub(crate) fn with_name(
+    known: Option<BTreeSet<FileName>>,
+    name: FileName,
+) -> Option<BTreeSet<FileName>>
+    ensures names { IfSome result (λ names. IfSome known (λ before. Updates ⟦<FileName as Ord>⟧.cmp before names name true)) }
+    ensures known { IfNone known (result ≡ None) }
+{
+    let mut names = known?;
+    match names.insert(name) {
+        Ok(_) => Some(names),
+        Err(_) => None,
+    }
+}
+
+/// The names without one, where they are known.
+pub(crate) fn without_name(
+    known: Option<BTreeSet<FileName>>,
+    name: FileName,
+) -> Option<BTreeSet<FileName>>
+    ensures names { IfSome result (λ names. IfSome known (λ before. Updates ⟦<FileName as Ord>⟧.cmp before names name false)) }
+    ensures known { IfNone known (result ≡ None) }
+{
+    let mut names = known?;
+    names.remove(&name);
+    Some(names)
 }

@@ -5,10 +5,12 @@ ghost use Rattle.std.specs.Prelude.{◌≤◌};
 
 use anyhow::{Context, Result};
 use disk_model::FileName;
-use disk_real::RealDisk;
+use folder_disk::FolderDisk;
+use folder_kept::KeptFolder;
 use gate_log::{GateLog, create_log};
 use mdbox_base::StoreId;
 use model_logs::{LogHead, LogKind};
+use os_folder::OsFolder;
 use std::env;
 
 const NAME: FileName = FileName::Map(1);
@@ -23,7 +25,7 @@ const HEAD: LogHead = LogHead {
 fn main(rt: HostRuntime) -> Result<()> {
     let word = env::args(&rt)?.nth(1).context("usage: log_bench COUNT")?;
     let count = word.parse::<u32>()?;
-    let mut disk = RealDisk::of(rt);
+    let mut disk = FolderDisk::of(KeptFolder::of(OsFolder::of(rt), rt.alloc()), rt.alloc());
     let mut log = create_log(rt.alloc(), &mut disk, NAME, HEAD)?;
     log.reserve(45)?;
     append_all(&mut log, &mut disk, count)?;
@@ -32,7 +34,11 @@ fn main(rt: HostRuntime) -> Result<()> {
 }
 
 /// Appends so many entries.
-fn append_all(log: &mut GateLog, disk: &mut RealDisk, count: u32) -> Result<()>
+fn append_all(
+    log: &mut GateLog,
+    disk: &mut FolderDisk<KeptFolder<OsFolder>>,
+    count: u32,
+) -> Result<()>
     requires { 45 ≤ log.old.room }
 {
     for _ in 0..count {

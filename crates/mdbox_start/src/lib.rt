@@ -3,8 +3,12 @@
 #![tactic(auto)]
 
 pub use exits::{exit_of, run};
+pub use folder::run_in;
+pub use laws::empty_folder;
 pub use outside::start;
 
 mod exits;
+mod folder;
+mod laws;
 mod outside;
 mod words;

@@ -2,10 +2,9 @@
 ghost use Rattle.std.specs.Prelude.{◌≤◌};
 ghost use Rattle.std.specs.Process.{exit_status};
 
-use crate::exits::run;
+use crate::folder::run_in;
 use crate::words::words_of;
-use disk_real::RealDisk;
-use os_folder::{StdClock, StdSink, StdSource};
+use os_folder::{OsFolder, StdClock, StdSink, StdSource};
 use std::env;
 use std::process::ExitCode;
 
@@ -15,15 +14,14 @@ pub fn start(rt: HostRuntime) -> ExitCode
     ensures { exit_status result ≤ 8 }
 {
     let words = words_of(rt.alloc(), env::args(&rt));
-    let disk = RealDisk::of(rt);
     let mut input = StdSource::of(rt.stdin());
     let mut output = StdSink::of(rt.stdout());
     let mut errors = StdSink::of(rt.stderr());
     let mut clock = StdClock::of(rt);
-    let (exit, _) = run(
+    let (exit, _) = run_in(
         rt.alloc(),
         words,
-        disk,
+        OsFolder::of(rt),
         &mut input,
         &mut output,
         &mut errors,

@@ -1,6 +1,5 @@
-// The disk over the system's files, in the folder that the tests run in, and the system's clock.
+// The system's files in the folder that the tests run in, the program's disk over them, and the system's clock.
 
-mod calls;
-mod many;
-mod strange;
+mod disk;
+mod folder;
 mod whole;

@@ -6,6 +6,14 @@ use Rattle.disk_record.specs.declared.change.Change.TheVariants.{Cut}
 use Rattle.folder_disk.specs.Over.{IsDiskOver}
 use Rattle.folder_disk.proofs.ChangeLemmas.{locked_changed}
 use Rattle.folder_disk.proofs.CutLemmas.{cut_over, half_cut_over}
+use Rattle.disk_model.specs.contracts.name.FileNameOrd.TheImpl.{ghosts}
+use Rattle.disk_record.specs.declared.change.Change.TheVariants as step
+use Rattle.folder_disk.specs.Known.{AreKnownNames}
+use Rattle.folder_disk.specs.Over.{told_history}
+use Rattle.folder_disk.proofs.OverLemmas.{history_goes_on}
+use Rattle.folder_disk.proofs.KnownLemmas.{known_then, keeps_one}
+use Rattle.std.proofs.Common.{refl}
+use Rattle.disk_model.specs.Disk.{change, half_cut}
 use Rattle.folder_disk.proofs.disk.FolderDisk.cut_to_end.Goals as goal
 
 pub invariant_of-self-clause-over : goal.invariant_of-self-clause-over
@@ -44,3 +52,21 @@ invariant_of-self-in-Err-clause-over g c =
 
 pub invariant_of-self-in-Err-clause-locked : goal.invariant_of-self-in-Err-clause-locked
 invariant_of-self-in-Err-clause-locked g c = ∣ (λ h s. absurd (false≢true (sym s))) ∣₁
+
+pub invariant_of-self-clause-listed : goal.invariant_of-self-clause-listed
+invariant_of-self-clause-listed g c =
+    let self = c.args.self.now in
+    let old = g.F.Folder.modelled self.folder in
+    let new = g.F.Folder.modelled c.cut_at.new.folder in
+    let changes = self.record.changes in
+    let P : List (Change × List ℕ) → Type 0 = λ l. ∥ AreKnownNames ghosts.cmp (told_history new l) self.names ∥₁ in
+    subst P (sym c.note.ensures) (known_then (change c.args.name (cut_to c.args.end)) (told_history old changes) (told_history new ((step.Cut c.args.name c.args.end, []) ∷ changes)) self.names (keeps_one c.args.name (cut_to c.args.end) (λ f. refl)) (history_goes_on _ old new changes (step.Cut c.args.name c.args.end) [] c.in-Ok.ensures.ok) self.listed)
+
+pub invariant_of-self-in-Err-clause-listed : goal.invariant_of-self-in-Err-clause-listed
+invariant_of-self-in-Err-clause-listed g c =
+    let self = c.args.self.now in
+    let old = g.F.Folder.modelled self.folder in
+    let new = g.F.Folder.modelled c.cut_at.new.folder in
+    let changes = self.record.changes in
+    let P : List (Change × List ℕ) → Type 0 = λ l. ∥ AreKnownNames ghosts.cmp (told_history new l) self.names ∥₁ in
+    subst P (sym c.note-in-Err.ensures) (known_then (change c.args.name (half_cut c.args.end)) (told_history old changes) (told_history new ((step.HalfCut c.args.name c.args.end, []) ∷ changes)) self.names (keeps_one c.args.name (half_cut c.args.end) (λ f. refl)) (history_goes_on _ old new changes (step.HalfCut c.args.name c.args.end) [] c.in-Err.ensures.err) self.listed)

@@ -1,8 +1,11 @@
 use Rattle.std.proofs.Common.{ℕ, List, [], true, sym, subst}
 use Rattle.std.proofs.lemmas.Bool.{false≢true}
 use Rattle.disk_record.specs.declared.change.Change.{Change}
-use Rattle.folder_disk.specs.Over.{IsDiskOver}
+use Rattle.disk_model.specs.contracts.name.FileNameOrd.TheImpl.{ghosts}
+use Rattle.folder_disk.specs.Known.{AreKnownNames}
+use Rattle.folder_disk.specs.Over.{IsDiskOver, told_history}
 use Rattle.folder_disk.proofs.ChangeLemmas.{nothing_done}
+use Rattle.folder_disk.proofs.KnownLemmas.{known_fails}
 use Rattle.folder_disk.proofs.disk.FolderDisk.fail.Goals as goal
 
 pub invariant_of-self-clause-over : goal.invariant_of-self-clause-over
@@ -15,3 +18,10 @@ invariant_of-self-clause-over g c =
 
 pub invariant_of-self-clause-locked : goal.invariant_of-self-clause-locked
 invariant_of-self-clause-locked g c = ∣ (λ h s. absurd (false≢true (sym s))) ∣₁
+
+pub invariant_of-self-clause-listed : goal.invariant_of-self-clause-listed
+invariant_of-self-clause-listed g c =
+    let self = c.args.self.now in
+    let m = g.F.Folder.modelled self.folder in
+    let P : List (Change × List ℕ) → Type 0 = λ l. ∥ AreKnownNames ghosts.cmp (told_history m l) self.names ∥₁ in
+    subst P (sym c.note.ensures) (known_fails m self.record.changes c.args.change.now [] self.names c.requires self.listed)

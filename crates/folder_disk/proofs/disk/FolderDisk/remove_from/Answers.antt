@@ -6,6 +6,11 @@ use Rattle.disk_record.specs.declared.change.Change.{Change}
 use Rattle.disk_record.specs.declared.change.Change.TheVariants as change
 use Rattle.folder_model.specs.Calls.{IsLocked}
 use Rattle.folder_disk.specs.Over.{IsDiskOver, told_history}
+use Rattle.disk_model.specs.contracts.name.FileNameOrd.TheImpl.{ghosts}
+use Rattle.folder_disk.specs.Known.{AreKnownNames}
+use Rattle.folder_disk.proofs.KnownLemmas.{known_then, known_changed, known_taken, keeps_one}
+use Rattle.std.proofs.Common.{refl}
+use Rattle.disk_model.specs.Disk.{removed, half_removed}
 use Rattle.folder_disk.proofs.disk.FolderDisk.remove_from.Goals as goal
 
 pub invariant_of-self-clause-over : goal.invariant_of-self-clause-over
@@ -52,3 +57,22 @@ returns-in-Err-clause-failed g c =
     let new = g.F.Folder.modelled c.remove_file.new.folder in
     let P : List (Change × List ℕ) → Type 0 = λ l. told_history new l ≡ after (state_after (change.HalfRemoved c.args.name) []) (told_history (g.F.Folder.modelled self.folder) self.record.changes) in
     subst P (sym c.note-in-Err.ensures) (c.in-Err.ensures.err.told self.record.changes)
+
+pub invariant_of-self-clause-listed : goal.invariant_of-self-clause-listed
+invariant_of-self-clause-listed g c =
+    let self = c.args.self.now in
+    let old = g.F.Folder.modelled self.folder in
+    let new = g.F.Folder.modelled c.remove_file.new.folder in
+    let changes = self.record.changes in
+    let P : List (Change × List ℕ) → Type 0 = λ l. ∥ AreKnownNames ghosts.cmp (told_history new l) c.without_name.result ∥₁ in
+    subst P (sym c.note.ensures) (known_changed c.args.name removed false (told_history old changes) (told_history new ((change.Removed c.args.name, []) ∷ changes)) c.take.result c.without_name.result (λ f. refl)
+    c.without_name.ensures.names c.without_name.ensures.known (c.in-Ok.ensures.ok.told changes) (known_taken (told_history old changes) self.names c.take.result c.take.ensures.value self.listed))
+
+pub invariant_of-self-in-Err-clause-listed : goal.invariant_of-self-in-Err-clause-listed
+invariant_of-self-in-Err-clause-listed g c =
+    let self = c.args.self.now in
+    let old = g.F.Folder.modelled self.folder in
+    let new = g.F.Folder.modelled c.remove_file.new.folder in
+    let changes = self.record.changes in
+    let P : List (Change × List ℕ) → Type 0 = λ l. ∥ AreKnownNames ghosts.cmp (told_history new l) self.names ∥₁ in
+    subst P (sym c.note-in-Err.ensures) (known_then (state_after (change.HalfRemoved c.args.name) []) (told_history old changes) (told_history new ((change.HalfRemoved c.args.name, []) ∷ changes)) self.names (keeps_one c.args.name half_removed (λ f. refl)) (c.in-Err.ensures.err.told changes) self.listed)

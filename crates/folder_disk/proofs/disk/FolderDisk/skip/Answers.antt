@@ -5,6 +5,12 @@ use Rattle.disk_record.specs.declared.change.Change.TheVariants as change
 use Rattle.folder_model.specs.Calls.{IsLocked}
 use Rattle.folder_disk.specs.Over.{IsDiskOver, told_history}
 use Rattle.folder_disk.proofs.SeenLemmas.{skipped_over, told_as}
+use Rattle.disk_model.specs.contracts.name.FileNameOrd.TheImpl.{ghosts}
+use Rattle.folder_disk.specs.Known.{AreKnownNames}
+use Rattle.folder_disk.specs.Over.{told_history}
+use Rattle.folder_disk.proofs.KnownLemmas.{known_changed, known_taken, told_step}
+use Rattle.std.proofs.Common.{ℕ, List, [], ◌∷◌, Bool, false, refl, sym, subst}
+use Rattle.disk_model.specs.Disk.{removed}
 use Rattle.folder_disk.proofs.disk.FolderDisk.skip.Goals as goal
 
 pub invariant_of-self-clause-over : goal.invariant_of-self-clause-over
@@ -16,3 +22,12 @@ invariant_of-self-clause-over g c =
     let Q : Bool → Type 0 = λ b. ∥ IsDiskOver m past ((change.Removed c.args.name, []) ∷ self.record.changes) b ∥₁ in
     let R : Bool → Type 0 = λ b. ∥ IsDiskOver m past self.record.changes b ∥₁ in
     subst P (sym c.note.ensures) (subst Q (sym c.requires.spoiled) (skipped_over m past self.record.changes c.args.name c.requires.none (subst R c.requires.spoiled self.over)))
+
+pub invariant_of-self-clause-listed : goal.invariant_of-self-clause-listed
+invariant_of-self-clause-listed g c =
+    let self = c.args.self.now in
+    let m = g.F.Folder.modelled self.folder in
+    let changes = self.record.changes in
+    let P : List (Change × List ℕ) → Type 0 = λ l. ∥ AreKnownNames ghosts.cmp (told_history m l) c.without_name.result ∥₁ in
+    subst P (sym c.note.ensures) (known_changed c.args.name removed false (told_history m changes) (told_history m ((change.Removed c.args.name, []) ∷ changes)) c.take.result c.without_name.result (λ f. refl)
+    c.without_name.ensures.names c.without_name.ensures.known (told_step m (change.Removed c.args.name) [] changes) (known_taken (told_history m changes) self.names c.take.result c.take.ensures.value self.listed))

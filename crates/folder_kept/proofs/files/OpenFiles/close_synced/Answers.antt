@@ -1,0 +1,10 @@
+use Rattle.std.proofs.Common.{rules, ◌≡◌, string_bytes}
+use borrow.Author.Tests.{tests}
+use Rattle.folder_kept.proofs.OpenLemmas.{filtered_among, filtered_keeps}
+use Rattle.folder_kept.proofs.files.OpenFiles.close_synced.Goals as goal
+
+pub returns-clause-same : goal.returns-clause-same
+returns-clause-same g c = filtered_among _ _ _ _ c.retain.ensures.filtered
+
+pub returns-clause-keeps : goal.returns-clause-keeps
+returns-clause-keeps g c = filtered_keeps _ (λ file. ⊥) _ _ _ (λ x f' called u. search (rules, tests)) (λ x b f' called. search (rules, tests)) c.retain.ensures.filtered

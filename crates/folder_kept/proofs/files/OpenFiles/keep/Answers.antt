@@ -1,0 +1,22 @@
+use Rattle.std.proofs.Common.{◌≡◌, List, subst, sym, ◌∙◌, ap}
+use Rattle.folder_kept.specs.Open.{AreMore, IsOpenAs}
+use Rattle.folder_kept.proofs.OpenLemmas.{more_among, more_pushed, pushed_as}
+use Rattle.folder_kept.proofs.files.OpenFiles.keep.Goals as goal
+
+pub returns-in_err-add-clause-more : goal.returns-in_err-add-clause-more
+returns-in_err-add-clause-more g c =
+    let files = c.args.self.now.files.items in
+    let P : List _ → Type 0 = λ l. AreMore c.args.path.now c.args.file files l in
+    subst P (sym c.in_err-add.ensures.err) (more_among c.args.path.now c.args.file files c.make_place.new.self.files.items c.make_place.ensures.same)
+
+pub returns-clause-open : goal.returns-clause-open
+returns-clause-open g c =
+    let P : List _ → Type 0 = λ l. IsOpenAs c.in_ok-kept.kept.id c.args.is_synced l in
+    subst P (sym c.in_ok-add.ensures.ok) (pushed_as c.make_place.new.self.files.items c.in_ok-opened.opened c.in_ok-kept.kept.id c.args.is_synced c.in_ok-opened.ensures.marks.0 c.in_ok-opened.ensures.marks.1)
+
+pub returns-clause-more : goal.returns-clause-more
+returns-clause-more g c =
+    let files = c.args.self.now.files.items in
+    let P : List _ → Type 0 = λ l. AreMore c.args.path.now c.args.file files l in
+    subst P (sym c.in_ok-add.ensures.ok)
+    (more_pushed c.args.path.now c.args.file files c.make_place.new.self.files.items c.in_ok-opened.opened c.make_place.ensures.same c.in_ok-opened.ensures.path (c.in_ok-opened.ensures.file ∙ c.in_ok-kept.ensures.0))
