@@ -1,4 +1,5 @@
 pub mod ChangeLemmas
+pub mod ChangedLemmas
 pub mod CutLemmas
 pub mod DurableLemmas
 pub mod EachLemmas

@@ -5,7 +5,9 @@ use Rattle.std.proofs.Props.{props}
 use Rattle.std.proofs.lemmas.Bool.{cond-false}
 use Rattle.std.specs.Option.{option_map}
 use Rattle.disk_model.specs.Disk.{History, IfTold, Unchanged, after, reading}
+use Rattle.std.specs.BTreeSet.{BTreeSet}
 use Rattle.disk_model.specs.declared.name.FileName.{FileName}
+use Rattle.disk_model.specs.contracts.name.FileNameOrd.TheImpl.{ghosts}
 use Rattle.file_paths.specs.Paths.{path_text, IsStoreFile}
 use Rattle.folder_model.specs.System.{Node, Nothing, PlainFile, AFolder, Another, System}
 use Rattle.folder_model.specs.Calls.{Modelled, IfModelled}
@@ -13,7 +15,7 @@ use Rattle.folder_model.specs.declared.folder.CallError.{CallError}
 use Rattle.disk_files.specs.Follows.{octets_at}
 use Rattle.disk_files.proofs.StepLemmas.{reads_there}
 use Rattle.disk_record.specs.declared.change.Change.{Change}
-use Rattle.folder_disk.specs.Files.{HasFileAt, HasNoFile}
+use Rattle.folder_disk.specs.Files.{HasFileAt, HasNoFile, IsSettledLog}
 use Rattle.folder_disk.specs.Over.{IsDiskOver, told_history}
 use Rattle.folder_disk.proofs.OverLemmas.{so_far}
 
@@ -110,3 +112,13 @@ other_found m past changes spoiled name told so over other =
 -- a call that changed nothing, of a disk that told the same before
 pub unchanged : (old mid new : Option History) → mid ≡ old → new ≡ after (λ disk. disk) mid → Unchanged old new
 unchanged old mid new same is = inl (is ∙ ap (after (λ disk. disk)) same)
+
+-- What was read of a log is durable.
+pub settled_read : (r : Result (Option ℕ) CallError) (firm : BTreeSet FileName) (name : FileName) (path at : List ℕ) (m n : Option Modelled) → path ≡ at → n ≡ m → IsSettledLog ghosts.cmp firm name path m
+    → IfOk r (λ found. IfSome found (λ k. IsSettledLog ghosts.cmp firm name at n))
+settled_read (Ok (Some k)) firm name path at m n is same settled =
+    let F : List ℕ → Type 0 = λ p. IsSettledLog ghosts.cmp firm name p n in
+    let G : Option Modelled → Type 0 = λ o. IsSettledLog ghosts.cmp firm name path o in
+    subst F is (subst G (sym same) settled)
+settled_read (Ok None) firm name path at m n is same settled = tt
+settled_read (Err e) firm name path at m n is same settled = tt

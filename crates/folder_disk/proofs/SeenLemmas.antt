@@ -21,7 +21,7 @@ use Rattle.folder_disk.proofs.WideLemmas.{failed_after}
 use Rattle.folder_disk.proofs.DurableLemmas.{named_one}
 use Rattle.folder_disk.proofs.MakeLemmas.{CanMake, made_one, unmade_one, nothing_passed, emptied_one, unemptied_one, removed_one, unremoved_one, none_removed}
 
-history_as : (m : Option Modelled) (changes : List (Change × List ℕ)) (c : Change) → told_history m ((c, []) ∷ changes) ≡ after (state_after c []) (told_history m changes)
+pub history_as : (m : Option Modelled) (changes : List (Change × List ℕ)) (c : Change) → told_history m ((c, []) ∷ changes) ≡ after (state_after c []) (told_history m changes)
 history_as None changes c = refl
 history_as (Some m) changes c = refl
 

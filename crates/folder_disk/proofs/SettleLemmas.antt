@@ -1,7 +1,7 @@
 -- A sync of a file that a disk doesn't tell.
 use Rattle.std.proofs.Common.{◌≡◌, ◌⊎◌, inl, inr, ℕ, ◌==◌, ◌<◌, ◌≤◌, Bool, true, false, if◌then◌else◌, List, length, slice_get, Option, Some, None, refl, sym, ◌∙◌, ap, subst, arith}
 use Rattle.std.proofs.Math.Logic.{∥∥₁_map}
-use Rattle.std.proofs.lemmas.Bool.{cases_eq}
+use Rattle.std.proofs.lemmas.Bool.{cases_eq, cond-true}
 use Rattle.disk_model.specs.Disk.{FileState, DiskState, synced}
 use Rattle.disk_model.specs.declared.name.FileName.{FileName}
 use Rattle.file_paths.specs.Paths.{path_text, IsStoreFile}
@@ -10,6 +10,7 @@ use Rattle.folder_model.specs.System.{Node, Nothing, PlainFile, AFolder, Another
 use Rattle.folder_model.specs.Calls.{Modelled, IfModelled, IsDoneOrNot, HasPassed, done_by}
 use Rattle.disk_files.specs.Follows.{octets_at, CoversFile, StaysFolder, FollowsPath, FollowsSystem}
 use Rattle.disk_files.proofs.StepLemmas.{stays-like, content-same, content-apart}
+use Rattle.folder_disk.specs.Files.{IsSoundSystem, HasNoFile, HasDurableFile}
 use Rattle.folder_disk.specs.Folders.{IsUnseen}
 use Rattle.folder_disk.specs.Over.{IsDiskOf}
 use Rattle.folder_disk.proofs.ChangeLemmas.{content_stays}
@@ -61,3 +62,26 @@ pub settled_unseen : (number : ℕ) (old new : Option Modelled) (before after : 
 settled_unseen number old new before after system done has =
     unseen_step (with_synced_file number) IsSystem old new before after (λ s. refl)
     (λ disk s is d. record { follows = settled_follows number disk s is d.follows; system = content_stays number (λ f. if s.is_sound then synced f else f) s d.system }) system done has
+
+abbrev node_number : Node → ℕ
+node_number Nothing = 0
+node_number (PlainFile number) = number
+node_number AFolder = 0
+node_number Another = 0
+
+-- a file that was synced is durable
+pub settled_durable : (path : List ℕ) (k : ℕ) (old new : Option Modelled) → IsSoundSystem old → IfModelled old (λ s. s.node path ≡ PlainFile k) → new ≡ done_by (with_synced_file k) old → IfModelled new (HasDurableFile path)
+settled_durable path k None new sound stands done = let F : Option Modelled → Type 0 = λ n. IfModelled n (HasDurableFile path) in subst F (sym done) tt
+settled_durable path k (Some m) new sound stands done =
+    let F : Option Modelled → Type 0 = λ n. IfModelled n (HasDurableFile path) in
+    subst F (sym done) (λ number there.
+    let same : k ≡ number = ap node_number (sym stands ∙ there) in
+    let G : ℕ → Type 0 = λ n. (with_synced_file k m.now).content n ≡ synced ((with_synced_file k m.now).content n) in
+    let f = m.now.content k in
+    let is : (with_synced_file k m.now).content k ≡ synced f = content-same k (λ g. if m.now.is_sound then synced g else g) m.now ∙ cond-true m.now.is_sound (synced f) f sound in
+    let again : synced (synced f) ≡ synced f = refl in
+    subst G same (is ∙ sym again ∙ sym (ap synced is)))
+
+pub none_durable : (path : List ℕ) (old new : Option Modelled) → IfModelled old (λ s. HasNoFile s path) → new ≡ old → IfModelled new (HasDurableFile path)
+none_durable path None new none same = let F : Option Modelled → Type 0 = λ n. IfModelled n (HasDurableFile path) in subst F (sym same) tt
+none_durable path (Some m) new none same = let F : Option Modelled → Type 0 = λ n. IfModelled n (HasDurableFile path) in subst F (sym same) (λ number there. absurd (none number there))

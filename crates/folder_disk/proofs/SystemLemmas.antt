@@ -11,7 +11,7 @@ use Rattle.folder_model.specs.System.{Node, Nothing, PlainFile, AFolder, Another
 use Rattle.folder_model.specs.Calls.{Modelled, IfModelled, IfSound, IsLocked, IsDoneOrNot, HasPassed, Becomes, done_by, kind_of_node}
 use Rattle.folder_model.specs.declared.folder.Kind.{Kind}
 use Rattle.folder_model.specs.declared.folder.Kind.TheVariants as kind
-use Rattle.disk_files.specs.Follows.{CoversSystem, HasDurableNames}
+use Rattle.disk_files.specs.Follows.{CoversSystem}
 use Rattle.disk_files.proofs.ImageLemmas.{covered}
 use Rattle.disk_files.proofs.NameStepLemmas.{node-apart, node-put, folder_follows, names_kept}
 use Rattle.disk_files.proofs.OwnLemmas.{owns_put, owns_synced}
@@ -20,7 +20,6 @@ use Rattle.folder_disk.specs.Folders.{folder_text, upper_of, IsFolderName, IsSyn
 use Rattle.folder_disk.specs.Over.{HasFolders, IsDiskOf}
 use Rattle.folder_disk.specs.declared.folder_name.FolderName.{FolderName}
 use Rattle.folder_disk.specs.declared.folder_name.FolderName.TheVariants as folder
-use Rattle.folder_disk.proofs.DurableLemmas.{durable}
 use Rattle.folder_disk.proofs.EachLemmas.{EachSoFar, each_all}
 use Rattle.folder_disk.proofs.FileLemmas.{both_told}
 use Rattle.folder_disk.proofs.PlaceLemmas.{upper_at, no_file_at}
@@ -39,7 +38,7 @@ folders_put path put s above other folders q below = elim (cases_Bool (same_octe
   ]
 ]
 
-still_none : (sound here : Bool) (earlier : List Node) → earlier ≡ [] → (if sound then (if here then [] else earlier) else earlier) ≡ []
+pub still_none : (sound here : Bool) (earlier : List Node) → earlier ≡ [] → (if sound then (if here then [] else earlier) else earlier) ≡ []
 still_none true true earlier e = refl
 still_none true false earlier e = e
 still_none false here earlier e = e
@@ -180,12 +179,11 @@ are_synced before s names same folders synced = record {
 }
 
 -- the names in all folders were synced
-pub all_durable : (names : List FolderName) (old new : Option Modelled) → IfModelled old (λ s. StandInFolders s → HasAllFolders s names) → Becomes HasSameNodes old new
-    → IfModelled new (λ s. All (λ name. IsSyncedFolder s (folder_text name)) names) → IfModelled new (λ s. HasFolders s → HasDurableNames s)
-all_durable names None new are same synced = let F : Option Modelled → Type 0 = λ n. IfModelled n (λ s. HasFolders s → HasDurableNames s) in subst F (sym same) tt
-all_durable names (Some m) None are same synced = elim same [ ]
-all_durable names (Some m) (Some n) are same synced = λ folders.
-    durable n.now folders (are_synced m.now n.now names same.1 (are (stand_in m.now n.now same.1 folders)) synced)
+pub all_are_synced : (names : List FolderName) (old new : Option Modelled) → IfModelled old (λ s. StandInFolders s → HasAllFolders s names) → Becomes HasSameNodes old new
+    → IfModelled new (λ s. All (λ name. IsSyncedFolder s (folder_text name)) names) → IfModelled new (λ s. HasFolders s → AreSynced s)
+all_are_synced names None new are same synced = let F : Option Modelled → Type 0 = λ n. IfModelled n (λ s. HasFolders s → AreSynced s) in subst F (sym same) tt
+all_are_synced names (Some m) None are same synced = elim same [ ]
+all_are_synced names (Some m) (Some n) are same synced = λ folders. are_synced m.now n.now names same.1 (are (stand_in m.now n.now same.1 folders)) synced
 
 folder_of_kind : (node : Node) → kind.Folder ≡ kind_of_node node → node ≡ AFolder
 folder_of_kind Nothing e = absurd (let d : kind.Folder ≡ kind.Nothing = e in cc)

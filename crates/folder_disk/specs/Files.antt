@@ -1,6 +1,11 @@
 -- What stands at a path, as a call finds it.
 use Rattle.std.specs.Prelude.{◌≡◌, ◌≢◌, ◌⊎◌, ℕ, Bool, true, List, Option, Some, None}
-use Rattle.disk_model.specs.Disk.{FileState}
+use Rattle.std.specs.Prelude.{IsTrue}
+use Rattle.std.specs.BTreeSet.{BTreeSet, contains}
+use Rattle.std.specs.declared.cmp.Ordering.{Ordering}
+use Rattle.disk_model.specs.Disk.{FileState, synced}
+use Rattle.disk_model.specs.Name.{IsLogName}
+use Rattle.disk_model.specs.declared.name.FileName.{FileName}
 use Rattle.folder_model.specs.System.{Node, PlainFile, System, with_content, weakened}
 use Rattle.folder_model.specs.Calls.{Modelled, IfModelled, AreSince}
 
@@ -37,3 +42,11 @@ IsChanged path step before s = HasFileAt before path (λ number. s ≡ with_cont
 abbrev pub IsPartlyChanged : List ℕ → (FileState → FileState → Type 0) → System → System → Type 0
 IsPartlyChanged path R before s =
     (s ≡ before) ⊎ HasFileAt before path (λ number. (f : FileState) × R (before.content number) f × (sound : Bool) × (s ≡ weakened sound (with_content number (λ _. f) before)))
+
+-- The plain file that stands at a path, if one does, is durable: a crash leaves its octets and its length as they read.
+abbrev pub HasDurableFile : List ℕ → System → Type 0
+HasDurableFile path s = IfFile s path (λ number. s.content number ≡ synced (s.content number))
+
+-- What is read of a log is durable: it was already when this process used the log before, or the log is durable now.
+abbrev pub IsSettledLog : (FileName → FileName → Ordering) → BTreeSet FileName → FileName → List ℕ → Option Modelled → Type 0
+IsSettledLog cmp firm name path m = IsLogName name → IsTrue (contains cmp firm name) ⊎ IfModelled m (HasDurableFile path)

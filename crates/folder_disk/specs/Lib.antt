@@ -1,3 +1,4 @@
+pub mod Changed
 pub mod Files
 pub mod Folders
 pub mod Known

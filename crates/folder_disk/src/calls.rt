@@ -44,7 +44,7 @@ impl<F: Folder + Drop> Disk for FolderDisk<F> {
 
     #[tactic(auto, using(crate::proofs::ChangeLemmas::reaches_then, crate::proofs::ChangeLemmas::after_then, crate::proofs::ChangeLemmas::half_written_then))]
     fn write_at(&mut self, name: FileName, offset: u64, from: &[u8]) -> Result<(), DiskError> {
-        match self.path_to_use(name) {
+        match self.path_to_change(name) {
             Ok(Some(path)) => self.write_to(path.as_str(), name, offset, from),
             Ok(None) | Err(_) => self.fail(&Change::HalfWritten(name, offset, from.len() as u64)),
         }
@@ -52,7 +52,7 @@ impl<F: Folder + Drop> Disk for FolderDisk<F> {
 
     #[tactic(auto, using(crate::proofs::ChangeLemmas::reaches_then, crate::proofs::ChangeLemmas::after_then, crate::proofs::CutLemmas::half_cut_then))]
     fn cut(&mut self, name: FileName, length: u64) -> Result<(), DiskError> {
-        match self.path_to_use(name) {
+        match self.path_to_change(name) {
             Ok(Some(path)) => self.cut_to_end(path.as_str(), name, length),
             Ok(None) | Err(_) => self.fail(&Change::HalfCut(name, length)),
         }
@@ -68,7 +68,7 @@ impl<F: Folder + Drop> Disk for FolderDisk<F> {
 
     #[tactic(auto, using(crate::proofs::ChangeLemmas::after_then, crate::proofs::SeenLemmas::half_made_then))]
     fn make(&mut self, name: FileName) -> Result<(), DiskError> {
-        match self.path_to_use(name) {
+        match self.path_to_change(name) {
             Ok(Some(path)) => self.make_to(path.as_str(), name),
             Ok(None) | Err(_) => self.fail(&Change::HalfMade(name)),
         }

@@ -1,13 +1,17 @@
 // A disk over a folder.
 ghost use Rattle.std.specs.Prelude.{◌≡◌, ◌+◌, ◌-◌, ◌^◌, ◌<◌, ◌≤◌, min, length, take, drop, true, false};
+ghost use Rattle.std.specs.BTreeSet.{btree_set_len};
 ghost use Rattle.folder_model.specs.Calls.{IfModelled, IsLocked};
 ghost use Rattle.folder_disk.specs.Over.{IsDiskOver, told_history};
 ghost use Rattle.folder_disk.specs.Known.{AreKnownNames};
+ghost use Rattle.folder_disk.specs.Changed.{AreSyncedBut};
 
+use crate::changed::Changed;
 use crate::files::{
     cut_at, length_at, make_file, read_at, remove_file, settle_at, sync_at, write_at,
 };
-use crate::folders::sync_all;
+use crate::folder_name::FolderName;
+use crate::folders::sync_names;
 use crate::lock::{TRIES, has_lock};
 use crate::names::{names_there, next_in, with_name, without_name};
 use crate::paths::path_of;
@@ -16,6 +20,9 @@ use disk_record::{Change, Record};
 use folder_model::{CallError, Folder};
 use std::alloc::Global;
 use std::collections::BTreeSet;
+
+/// How many files may have octets that aren't synced, so that one more can be open in a folder that keeps 16 open.
+const MOST_UNSYNCED: usize = 15;
 
 /// A store's files in a folder.
 ///
@@ -35,27 +42,35 @@ pub struct FolderDisk<F: Folder> {
     firm: BTreeSet<FileName>,
     /// The names of the files that are there, from the first look at the folders on.
     names: Option<BTreeSet<FileName>>,
+    /// The files with octets that may not be synced: those that were written, cut or made since their last sync.
+    unsynced: BTreeSet<FileName>,
+    /// The folders whose names are to be synced.
+    changed: Changed,
     /// Whether a change has failed, or a sync before a first use.
     pub(crate) is_spoiled: bool,
     /// How many calls have returned.
     pub(crate) calls: u64,
     pub(crate) failed_reads: u64,
     pub(crate) failed_changes: u64,
+    ghost few: { btree_set_len unsynced ≤ 15 },
     ghost counted: { calls ≡ min (length record.changes) (2 ^ 64 - 1) },
     ghost over: { ∥ IsDiskOver (F.Folder.modelled folder) (F.Folder.past folder) record.changes is_spoiled ∥₁ },
     ghost listed: { ∥ AreKnownNames ⟦<FileName as Ord>⟧.cmp (told_history (F.Folder.modelled folder) record.changes) names ∥₁ },
+    ghost noted: { ∥ (is_spoiled ≡ false → IfModelled (F.Folder.modelled folder) (AreSyncedBut changed)) ∥₁ },
     ghost locked: { ∥ (is_held ≡ true → is_spoiled ≡ false → IsLocked (F.Folder.modelled folder)) ∥₁ },
 }
 
 impl<F: Folder + Drop> FolderDisk<F> {
     ghost use Rattle.std.specs.Prelude.{None, Some, Ok, ◌↔◌, [], IfOk, IfErr, IfSome, IfNone, IsOk, IsErr, IsErrOf, OnOk, OnErr, string_bytes};
+    ghost use Rattle.std.specs.Prelude.{IsTrue, ◌⊎◌};
+    ghost use Rattle.std.specs.BTreeSet.{contains, btree_set_len};
     ghost use Rattle.std.specs.Option.{option_map};
     ghost use Rattle.disk_model.specs.Disk.{IfTold, IsPast, IsNext, ReadCause, ChangeCause, Reaches, IsThere, IsMoment, IsImage, AfterFailed, Unchanged, after, change, change_all, written, half_written, cut_to, half_cut, synced, made, half_made, removed, half_removed, named, reading};
     ghost use Rattle.disk_record.specs.Record.{state_after};
     ghost use Rattle.file_paths.specs.Paths.{path_text, IsStoreFile};
     ghost use Rattle.folder_model.specs.Paths.{IsPath};
     ghost use Rattle.disk_model.specs.declared.error.DiskError.TheVariants.{Absent};
-    ghost use Rattle.folder_disk.specs.Files.{IsSoundSystem};
+    ghost use Rattle.folder_disk.specs.Files.{IsSoundSystem, HasDurableFile, IsSettledLog};
     ghost use Rattle.folder_disk.specs.Over.{IsStoreSystem, IsFailedChange, HasBegun};
     ghost use Rattle.folder_disk.specs.Known.{AreToldNames};
 
@@ -85,6 +100,8 @@ impl<F: Folder + Drop> FolderDisk<F> {
             is_held: false,
             firm: BTreeSet::new(alloc),
             names: None,
+            unsynced: BTreeSet::new(alloc),
+            changed: Changed::all(alloc),
             is_spoiled: false,
             calls: 0,
             failed_reads: 0,
@@ -104,8 +121,10 @@ impl<F: Folder + Drop> FolderDisk<F> {
         requires { self.old.is_spoiled ≡ false }
         ensures told { told_history (F.Folder.modelled self.new.folder) self.new.record.changes ≡ told_history (F.Folder.modelled self.old.folder) self.old.record.changes }
         ensures same { (self.new.failed_reads ≡ self.old.failed_reads) × (self.new.failed_changes ≡ self.old.failed_changes) × (self.new.is_spoiled ≡ self.old.is_spoiled) }
+        ensures firm { self.new.firm ≡ self.old.firm }
     {
         self.is_held = has_lock(&mut self.folder, self.tries);
+        self.changed.note_all();
         self.tries = 0;
     }
 
@@ -117,6 +136,7 @@ impl<F: Folder + Drop> FolderDisk<F> {
         ensures spoiled { OnOk result (self.new.is_spoiled ≡ false) }
         ensures told { told_history (F.Folder.modelled self.new.folder) self.new.record.changes ≡ told_history (F.Folder.modelled self.old.folder) self.old.record.changes }
         ensures same { (self.new.failed_reads ≡ self.old.failed_reads) × (self.new.failed_changes ≡ self.old.failed_changes) × (self.new.is_spoiled ≡ self.old.is_spoiled) }
+        ensures firm { self.new.firm ≡ self.old.firm }
     {
         if self.is_spoiled {
             return Err(CallError::Failed);
@@ -132,6 +152,29 @@ impl<F: Folder + Drop> FolderDisk<F> {
         }
     }
 
+    /// Syncs a file at its path, which no change of the disk tells. If that fails, nothing of the store can be relied on.
+    fn sync_quietly(&mut self, path: &str) -> Result<(), CallError>
+        requires locked { IsLocked (F.Folder.modelled self.old.folder) }
+        requires sound { IsSoundSystem (F.Folder.modelled self.old.folder) }
+        requires spoiled { self.old.is_spoiled ≡ false }
+        requires spelled { IsPath path.now }
+        ensures locked { OnOk result (IsLocked (F.Folder.modelled self.new.folder)) }
+        ensures sound { OnOk result (IsSoundSystem (F.Folder.modelled self.new.folder)) }
+        ensures spoiled { OnOk result (self.new.is_spoiled ≡ false) }
+        ensures durable { OnOk result (IfModelled (F.Folder.modelled self.new.folder) (HasDurableFile path.now)) }
+        ensures told { told_history (F.Folder.modelled self.new.folder) self.new.record.changes ≡ told_history (F.Folder.modelled self.old.folder) self.old.record.changes }
+        ensures same { (self.new.failed_reads ≡ self.old.failed_reads) × (self.new.failed_changes ≡ self.old.failed_changes) }
+        ensures firm { (self.new.firm ≡ self.old.firm) × (self.new.unsynced ≡ self.old.unsynced) }
+    {
+        match settle_at(&mut self.folder, path) {
+            Ok(()) => Ok(()),
+            Err(error) => {
+                self.is_spoiled = true;
+                Err(error)
+            }
+        }
+    }
+
     /// Syncs a log at its first use: a process that was killed may have left octets of it that aren't durable, and a crash would
     /// take away what was read of them. If that fails, nothing of the store can be relied on.
     fn settle(&mut self, path: &str, name: FileName) -> Result<(), CallError>
@@ -142,22 +185,16 @@ impl<F: Folder + Drop> FolderDisk<F> {
         ensures locked { OnOk result (IsLocked (F.Folder.modelled self.new.folder)) }
         ensures sound { OnOk result (IsSoundSystem (F.Folder.modelled self.new.folder)) }
         ensures spoiled { OnOk result (self.new.is_spoiled ≡ false) }
+        ensures settled { OnOk result (IsSettledLog ⟦<FileName as Ord>⟧.cmp self.old.firm name path.now (F.Folder.modelled self.new.folder)) }
         ensures told { told_history (F.Folder.modelled self.new.folder) self.new.record.changes ≡ told_history (F.Folder.modelled self.old.folder) self.old.record.changes }
         ensures same { (self.new.failed_reads ≡ self.old.failed_reads) × (self.new.failed_changes ≡ self.old.failed_changes) }
     {
         if !is_log(name) || self.firm.contains(&name) {
             return Ok(());
         }
-        match settle_at(&mut self.folder, path) {
-            Ok(()) => {
-                let _ = self.firm.insert(name);
-                Ok(())
-            }
-            Err(error) => {
-                self.is_spoiled = true;
-                Err(error)
-            }
-        }
+        self.sync_quietly(path)?;
+        let _ = self.firm.insert(name);
+        Ok(())
     }
 
     /// The path of a file that is to be used, once this process has the store. A log is synced at its first use.
@@ -166,6 +203,7 @@ impl<F: Folder + Drop> FolderDisk<F> {
         ensures sound { OnOk result (IsSoundSystem (F.Folder.modelled self.new.folder)) }
         ensures spoiled { OnOk result (self.new.is_spoiled ≡ false) }
         ensures file { IfOk result (λ found. IfSome found (λ path. IsStoreFile name × (string_bytes path ≡ path_text name))) }
+        ensures settled { IfOk result (λ found. IfSome found (λ path. IsSettledLog ⟦<FileName as Ord>⟧.cmp self.old.firm name (string_bytes path) (F.Folder.modelled self.new.folder))) }
         ensures none { IfOk result (λ found. IfNone found (IsStoreFile name → ⊥)) }
         ensures spelled { IfOk result (λ found. IfSome found (λ path. IsPath (string_bytes path))) }
         ensures told { told_history (F.Folder.modelled self.new.folder) self.new.record.changes ≡ told_history (F.Folder.modelled self.old.folder) self.old.record.changes }
@@ -179,11 +217,58 @@ impl<F: Folder + Drop> FolderDisk<F> {
         Ok(Some(path))
     }
 
+    /// Makes room for another file with octets that aren't synced: where there are as many as may be, the first is synced. If that
+    /// fails, nothing of the store can be relied on.
+    fn make_room(&mut self, name: FileName) -> Result<(), CallError>
+        requires locked { IsLocked (F.Folder.modelled self.old.folder) }
+        requires sound { IsSoundSystem (F.Folder.modelled self.old.folder) }
+        requires spoiled { self.old.is_spoiled ≡ false }
+        ensures locked { OnOk result (IsLocked (F.Folder.modelled self.new.folder)) }
+        ensures sound { OnOk result (IsSoundSystem (F.Folder.modelled self.new.folder)) }
+        ensures spoiled { OnOk result (self.new.is_spoiled ≡ false) }
+        ensures room { OnOk result (IsTrue (contains ⟦<FileName as Ord>⟧.cmp self.new.unsynced name) ⊎ (btree_set_len self.new.unsynced < 15)) }
+        ensures told { told_history (F.Folder.modelled self.new.folder) self.new.record.changes ≡ told_history (F.Folder.modelled self.old.folder) self.old.record.changes }
+        ensures same { (self.new.failed_reads ≡ self.old.failed_reads) × (self.new.failed_changes ≡ self.old.failed_changes) }
+    {
+        if self.unsynced.contains(&name) || self.unsynced.len() < MOST_UNSYNCED {
+            return Ok(());
+        }
+        let Some(first) = self.unsynced.pop_first() else {
+            return Ok(());
+        };
+        match path_of(self.alloc, first)? {
+            Some(path) => self.sync_quietly(path.as_str()),
+            None => Ok(()),
+        }
+    }
+
+    /// The path of a file that is to be changed, once this process has the store. It counts as one with octets that aren't synced.
+    pub(crate) fn path_to_change(&mut self, name: FileName) -> Result<Option<String>, CallError>
+        ensures locked { OnOk result (IsLocked (F.Folder.modelled self.new.folder)) }
+        ensures sound { OnOk result (IsSoundSystem (F.Folder.modelled self.new.folder)) }
+        ensures spoiled { OnOk result (self.new.is_spoiled ≡ false) }
+        ensures file { IfOk result (λ found. IfSome found (λ path. IsStoreFile name × (string_bytes path ≡ path_text name))) }
+        ensures none { IfOk result (λ found. IfNone found (IsStoreFile name → ⊥)) }
+        ensures spelled { IfOk result (λ found. IfSome found (λ path. IsPath (string_bytes path))) }
+        ensures told { told_history (F.Folder.modelled self.new.folder) self.new.record.changes ≡ told_history (F.Folder.modelled self.old.folder) self.old.record.changes }
+        ensures same { (self.new.failed_reads ≡ self.old.failed_reads) × (self.new.failed_changes ≡ self.old.failed_changes) }
+    {
+        let Some(path) = self.path_to_use(name)? else {
+            return Ok(None);
+        };
+        self.make_room(name)?;
+        match self.unsynced.insert(name) {
+            Ok(_) => Ok(Some(path)),
+            Err(_) => Err(CallError::Failed),
+        }
+    }
+
     /// The length of a file, None where there is none.
-    #[tactic(auto, using(crate::proofs::OverLemmas::over_same, crate::proofs::OverLemmas::locked_same))]
+    #[tactic(auto, using(crate::proofs::OverLemmas::over_same, crate::proofs::OverLemmas::locked_same, crate::proofs::ChangedLemmas::noted_same))]
     pub(crate) fn length_of(&mut self, name: FileName) -> Result<Option<u64>, CallError>
         ensures some { IfOk result (λ found. IfSome found (λ n. IfTold (told_history (F.Folder.modelled self.old.folder) self.old.record.changes) (λ disk. option_map length (reading (disk name)) ≡ Some n))) }
         ensures none { IfOk result (λ found. IfNone found (IfTold (told_history (F.Folder.modelled self.old.folder) self.old.record.changes) (λ disk. reading (disk name) ≡ None))) }
+        ensures settled { IfOk result (λ found. IfSome found (λ n. IsSettledLog ⟦<FileName as Ord>⟧.cmp self.old.firm name (path_text name) (F.Folder.modelled self.new.folder))) }
         ensures told { told_history (F.Folder.modelled self.new.folder) self.new.record.changes ≡ told_history (F.Folder.modelled self.old.folder) self.old.record.changes }
         ensures same { (self.new.failed_reads ≡ self.old.failed_reads) × (self.new.failed_changes ≡ self.old.failed_changes) }
     {
@@ -194,7 +279,7 @@ impl<F: Folder + Drop> FolderDisk<F> {
     }
 
     /// Octets of a file, None where there is none.
-    #[tactic(auto, using(crate::proofs::OverLemmas::over_same, crate::proofs::OverLemmas::locked_same))]
+    #[tactic(auto, using(crate::proofs::OverLemmas::over_same, crate::proofs::OverLemmas::locked_same, crate::proofs::ChangedLemmas::noted_same))]
     pub(crate) fn octets_of(
         &mut self,
         name: FileName,
@@ -204,6 +289,7 @@ impl<F: Folder + Drop> FolderDisk<F> {
         ensures count { IfOk result (λ found. IfSome found (λ n. n ≤ length into.new)) }
         ensures octets { IfOk result (λ found. IfSome found (λ n. IfTold (told_history (F.Folder.modelled self.old.folder) self.old.record.changes) (λ disk. (reading (disk name) ≡ Some (disk name).octets) × (take n into.new ≡ take (length into.old) (drop offset (disk name).octets))))) }
         ensures none { IfOk result (λ found. IfNone found (IfTold (told_history (F.Folder.modelled self.old.folder) self.old.record.changes) (λ disk. reading (disk name) ≡ None))) }
+        ensures settled { IfOk result (λ found. IfSome found (λ n. IsSettledLog ⟦<FileName as Ord>⟧.cmp self.old.firm name (path_text name) (F.Folder.modelled self.new.folder))) }
         ensures rest { IfOk result (λ found. IfSome found (λ n. drop n into.new ≡ drop n into.old)) }
         ensures untouched { IfOk result (λ found. IfNone found (into.new ≡ into.old)) }
         ensures told { told_history (F.Folder.modelled self.new.folder) self.new.record.changes ≡ told_history (F.Folder.modelled self.old.folder) self.old.record.changes }
@@ -216,7 +302,7 @@ impl<F: Folder + Drop> FolderDisk<F> {
     }
 
     /// The names of the files that are there: those that are known, or else looked up. They aren't kept.
-    #[tactic(auto, using(crate::proofs::OverLemmas::over_same, crate::proofs::OverLemmas::locked_same))]
+    #[tactic(auto, using(crate::proofs::OverLemmas::over_same, crate::proofs::OverLemmas::locked_same, crate::proofs::ChangedLemmas::noted_same))]
     fn known_names(&mut self) -> Result<BTreeSet<FileName>, CallError>
         requires locked { IsLocked (F.Folder.modelled self.old.folder) }
         requires sound { IsSoundSystem (F.Folder.modelled self.old.folder) }
@@ -232,7 +318,7 @@ impl<F: Folder + Drop> FolderDisk<F> {
     }
 
     /// The first name past one.
-    #[tactic(auto, using(crate::proofs::OverLemmas::over_same, crate::proofs::OverLemmas::locked_same))]
+    #[tactic(auto, using(crate::proofs::OverLemmas::over_same, crate::proofs::OverLemmas::locked_same, crate::proofs::ChangedLemmas::noted_same))]
     pub(crate) fn next_of(&mut self, after: Option<FileName>) -> Result<Option<FileName>, CallError>
         ensures past { IfOk result (λ next. IfSome next (IsPast ⟦<FileName as Ord>⟧.cmp after)) }
         ensures next { IfOk result (λ next. IfTold (told_history (F.Folder.modelled self.old.folder) self.old.record.changes) (IsNext ⟦<FileName as Ord>⟧.cmp after next)) }
@@ -379,6 +465,7 @@ impl<F: Folder + Drop> FolderDisk<F> {
     {
         match sync_at(&mut self.folder, path) {
             Ok(()) => {
+                self.unsynced.remove(&name);
                 self.record.note(&Change::Synced(name), &[]);
                 self.calls = self.calls.saturating_add(1);
                 Ok(())
@@ -405,7 +492,7 @@ impl<F: Folder + Drop> FolderDisk<F> {
         ensures failed { OnErr result (told_history (F.Folder.modelled self.new.folder) self.new.record.changes ≡ after (change name half_made) (told_history (F.Folder.modelled self.old.folder) self.old.record.changes)) }
         ensures cause { ChangeCause result (record { reads = self.old.failed_reads; changes = self.old.failed_changes }) (record { reads = self.new.failed_reads; changes = self.new.failed_changes }) }
     {
-        match make_file(&mut self.folder, self.alloc, path, name) {
+        match make_file(&mut self.folder, self.alloc, &mut self.changed, path, name) {
             Ok(()) => {
                 let _ = self.firm.insert(name);
                 self.names = with_name(self.names.take(), name);
@@ -436,7 +523,9 @@ impl<F: Folder + Drop> FolderDisk<F> {
         ensures cause { ChangeCause result (record { reads = self.old.failed_reads; changes = self.old.failed_changes }) (record { reads = self.new.failed_reads; changes = self.new.failed_changes }) }
     {
         match remove_file(&mut self.folder, path, name) {
-            Ok(()) => {
+            Ok(removed) => {
+                self.unsynced.remove(&name);
+                self.changed.note_if(removed, FolderName::of(name));
                 self.names = without_name(self.names.take(), name);
                 self.record.note(&Change::Removed(name), &[]);
                 self.calls = self.calls.saturating_add(1);
@@ -475,8 +564,9 @@ impl<F: Folder + Drop> FolderDisk<F> {
         ensures failed { OnErr result (told_history (F.Folder.modelled self.new.folder) self.new.record.changes ≡ after (λ disk. disk) (told_history (F.Folder.modelled self.old.folder) self.old.record.changes)) }
         ensures cause { ChangeCause result (record { reads = self.old.failed_reads; changes = self.old.failed_changes }) (record { reads = self.new.failed_reads; changes = self.new.failed_changes }) }
     {
-        match sync_all(&mut self.folder, self.alloc) {
+        match sync_names(&mut self.folder, self.alloc, &self.changed) {
             Ok(()) => {
+                self.changed.clear();
                 self.record.note(&Change::NamesSynced, &[]);
                 self.calls = self.calls.saturating_add(1);
                 Ok(())

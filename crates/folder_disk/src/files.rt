@@ -7,9 +7,11 @@ ghost use Rattle.folder_model.specs.Paths.{IsPath};
 ghost use Rattle.folder_model.specs.System.{with_synced_file, with_failed_sync, IsHalfWritten, IsHalfCut};
 ghost use Rattle.folder_model.specs.Calls.{IfModelled, IsLocked, IsDoneOrNot, HasPassed, Becomes};
 ghost use Rattle.folder_calls.specs.Writing.{IsWriting};
-ghost use Rattle.folder_disk.specs.Files.{IsOpenedAt, IsSoundSystem, IfFile, HasFileAt, HasNoFile, IsChanged, IsPartlyChanged, AreAfter};
+ghost use Rattle.folder_disk.specs.Files.{IsOpenedAt, IsSoundSystem, IfFile, HasFileAt, HasNoFile, HasDurableFile, IsChanged, IsPartlyChanged, AreAfter};
+ghost use Rattle.folder_disk.specs.Changed.{KeepsNames, ChangesName, NotesNames};
 ghost use Rattle.folder_disk.specs.Folders.{folder_text, folder_for, IsSyncedFolder, IsUnseen, IsSeenAs};
 
+use crate::changed::Changed;
 use crate::folder_name::FolderName;
 use crate::folders::{make_way, sync_one};
 use disk_model::FileName;
@@ -139,7 +141,9 @@ pub(crate) fn settle_at<F: Folder>(folder: &mut F, path: &str) -> Result<(), Cal
     requires sound { IsSoundSystem (F.modelled folder.old) }
     requires spelled { IsPath path.now }
     ensures sound { OnOk result (IsSoundSystem (F.modelled folder.new)) }
+    ensures durable { OnOk result (IfModelled (F.modelled folder.new) (HasDurableFile path.now)) }
     ensures unseen { OnOk result (IsUnseen (F.modelled folder.old) (F.past folder.old) (F.modelled folder.new) (F.past folder.new) false) }
+    ensures names { OnOk result (Becomes KeepsNames (F.modelled folder.old) (F.modelled folder.new)) }
     ensures failed { OnErr result (IsUnseen (F.modelled folder.old) (F.past folder.old) (F.modelled folder.new) (F.past folder.new) true) }
 {
     let Some(file) = open_at(folder, path, false)? else {
@@ -157,6 +161,7 @@ fn make_within<F: Folder>(folder: &mut F, path: &str, name: FileName) -> Result<
     requires spelled { IsPath path.now }
     requires synced { IfModelled (F.modelled folder.old) (λ s. IsSyncedFolder s (folder_text (folder_for name))) }
     ensures ok { OnOk result (IsSeenAs (Made name) (F.modelled folder.old) (F.past folder.old) (F.modelled folder.new) (F.past folder.new) false) }
+    ensures names { OnOk result (Becomes (ChangesName path.now) (F.modelled folder.old) (F.modelled folder.new)) }
     ensures err { OnErr result (IsSeenAs (HalfMade name) (F.modelled folder.old) (F.past folder.old) (F.modelled folder.new) (F.past folder.new) true) }
 {
     match folder.look(path)? {
@@ -174,6 +179,7 @@ fn make_within<F: Folder>(folder: &mut F, path: &str, name: FileName) -> Result<
 pub(crate) fn make_file<F: Folder>(
     folder: &mut F,
     alloc: Global,
+    changed: &mut Changed,
     path: &str,
     name: FileName,
 ) -> Result<(), CallError>
@@ -183,30 +189,37 @@ pub(crate) fn make_file<F: Folder>(
     requires named { path.now ≡ path_text name }
     requires spelled { IsPath path.now }
     ensures ok { OnOk result (IsSeenAs (Made name) (F.modelled folder.old) (F.past folder.old) (F.modelled folder.new) (F.past folder.new) false) }
+    ensures names { OnOk result (Becomes (NotesNames changed.old changed.new) (F.modelled folder.old) (F.modelled folder.new)) }
     ensures err { OnErr result (IsSeenAs (HalfMade name) (F.modelled folder.old) (F.past folder.old) (F.modelled folder.new) (F.past folder.new) true) }
 {
     let within = FolderName::of(name);
-    make_way(folder, alloc, within)?;
+    make_way(folder, alloc, changed, within)?;
     sync_one(folder, alloc, within)?;
+    changed.note(within);
     make_within(folder, path, name)
 }
 
-/// Removes a file, if one stands there.
+/// Removes a file, if one stands there. Whether one did.
 pub(crate) fn remove_file<F: Folder>(
     folder: &mut F,
     path: &str,
     name: FileName,
-) -> Result<(), CallError>
+) -> Result<bool, CallError>
     requires locked { IsLocked (F.modelled folder.old) }
     requires sound { IsSoundSystem (F.modelled folder.old) }
     requires file { IsStoreFile name }
     requires named { path.now ≡ path_text name }
     requires spelled { IsPath path.now }
     ensures ok { OnOk result (IsSeenAs (Removed name) (F.modelled folder.old) (F.past folder.old) (F.modelled folder.new) (F.past folder.new) false) }
+    ensures names { IfOk result (λ removed. removed ≡ true → Becomes (ChangesName path.now) (F.modelled folder.old) (F.modelled folder.new)) }
+    ensures none { IfOk result (λ removed. removed ≡ false → F.modelled folder.new ≡ F.modelled folder.old) }
     ensures err { OnErr result (IsSeenAs (HalfRemoved name) (F.modelled folder.old) (F.past folder.old) (F.modelled folder.new) (F.past folder.new) true) }
 {
     match folder.look(path)? {
-        Kind::File => folder.remove(path),
-        _ => Ok(()),
+        Kind::File => {
+            folder.remove(path)?;
+            Ok(true)
+        }
+        _ => Ok(false),
     }
 }

@@ -1,7 +1,7 @@
 // The folders of a store.
 ghost use Rattle.std.specs.Prelude.{◌≡◌, ◌++◌, [], ◌∷◌, IfOk, OnOk, string_bytes};
 ghost use Rattle.hex.specs.Hex.{encode_lower};
-ghost use Rattle.folder_disk.specs.Folders.{folder_text, folder_for, IsFolderName};
+ghost use Rattle.folder_disk.specs.Folders.{folder_text, folder_for, upper_of, IsFolderName};
 
 use disk_model::FileName;
 use folder_model::CallError;
@@ -31,6 +31,20 @@ impl FolderName {
             FileName::Root | FileName::Map(_) | FileName::Mail(_) => FolderName::Storage,
             FileName::Box(_, _) => FolderName::Mailboxes,
             FileName::Inst(hash, _) => FolderName::Inner(hash[0], hash[1]),
+        }
+    }
+
+    /// The folder that it stands in. The current one stands in itself.
+    pub(crate) fn upper(self) -> FolderName
+        ensures { result ≡ upper_of self }
+    {
+        match self {
+            FolderName::Top
+            | FolderName::Storage
+            | FolderName::Mailboxes
+            | FolderName::Attachments => FolderName::Top,
+            FolderName::Outer(_) => FolderName::Attachments,
+            FolderName::Inner(first, _) => FolderName::Outer(first),
         }
     }
 

@@ -5,6 +5,7 @@ pub use disk::FolderDisk;
 pub use laws::disks_begin;
 
 mod calls;
+mod changed;
 mod disk;
 mod files;
 mod folder_name;

@@ -1,8 +1,11 @@
 use Rattle.std.proofs.Common.{◌≡◌, Bool, true, false, List, Option, Ok, Err, refl, sym, ◌∙◌, ap, subst}
 use Rattle.folder_model.specs.System.{System, IsSystem}
-use Rattle.folder_model.specs.Calls.{Modelled, IfModelled}
+use Rattle.folder_model.specs.Calls.{Modelled, IfModelled, Becomes}
 use Rattle.disk_record.specs.declared.change.Change.TheVariants.{Made, HalfMade}
 use Rattle.folder_disk.specs.Folders.{folder_text, folder_for, IsSyncedFolder}
+use Rattle.folder_model.specs.System.{with_new_file}
+use Rattle.folder_disk.specs.Changed.{ChangesName}
+use Rattle.folder_disk.proofs.ChangedLemmas.{becomes_done, new_changes}
 use Rattle.folder_disk.proofs.FileLemmas.{by_sound}
 use Rattle.folder_disk.proofs.SystemLemmas.{nothing_found}
 use Rattle.folder_disk.proofs.SeenLemmas.{half_same, seen_then, emptied_seen, unemptied_seen, made_seen, unmade_seen}
@@ -41,3 +44,9 @@ returns-in_err-_file-in-Nothing-clause-err g c =
     on_err c.from_residual-in_err-_file-in-Nothing.result
     (seen_then (HalfMade c.args.name) true (g.F.Folder.modelled c.args.folder.now) (g.F.Folder.modelled c.look.new.self) (g.F.Folder.modelled c.make_new.new.self) (g.F.Folder.past c.args.folder.now) (g.F.Folder.past c.look.new.self) (g.F.Folder.past c.make_new.new.self) (unseen_same false (g.F.Folder.modelled c.args.folder.now) (g.F.Folder.modelled c.look.new.self) (g.F.Folder.past c.args.folder.now) (g.F.Folder.past c.look.new.self) c.look.ensures.same c.look.ensures.still)
     (unmade_seen c.args.name c.args.path.now (g.F.Folder.modelled c.look.new.self) (g.F.Folder.modelled c.make_new.new.self) (g.F.Folder.past c.look.new.self) (g.F.Folder.past c.make_new.new.self) c.requires.file c.requires.named (g.met.F.Folder.is_system c.look.new.self) nothing (subst F (sym c.look.ensures.same) c.requires.synced) c.in_err-_file-in-Nothing.ensures.failed c.make_new.ensures.passed))
+
+pub returns-in_ok-_file-in-Nothing-clause-names : goal.returns-in_ok-_file-in-Nothing-clause-names
+returns-in_ok-_file-in-Nothing-clause-names g c =
+    let path = c.args.path.now in
+    let F : Option Modelled → Type 0 = λ m. Becomes (ChangesName path) m (g.F.Folder.modelled c.make_new.new.self) in
+    subst F c.look.ensures.same (becomes_done (ChangesName path) (with_new_file path) (g.F.Folder.modelled c.look.new.self) (g.F.Folder.modelled c.make_new.new.self) (new_changes path) c.in_ok-_file-in-Nothing.ensures.made)

@@ -2,6 +2,7 @@ use Rattle.std.proofs.Common.{◌≡◌, Bool, true, false, List, Option, Ok, Er
 use Rattle.folder_model.specs.System.{AFolder, System, with_node}
 use Rattle.folder_model.specs.Calls.{Modelled, IfModelled, IsDoneOrNot}
 use Rattle.folder_disk.specs.Folders.{folder_text}
+use Rattle.folder_disk.proofs.ChangedLemmas.{made_notes}
 use Rattle.folder_disk.proofs.PlaceLemmas.{folder_spelled_is}
 use Rattle.folder_disk.proofs.SystemLemmas.{made_folder, unmade_folder, made_there, sound_by}
 use Rattle.folder_disk.proofs.UnseenLemmas.{unseen_same, unseen_kept, on_err}
@@ -44,3 +45,11 @@ returns-then-branch-clause-sound g c = sound_by (with_node c.as_str.result.now A
 
 pub returns-clause-failed : goal.returns-clause-failed
 returns-clause-failed g c = unseen_kept (g.F.Folder.modelled c.args.folder.now) (g.F.Folder.modelled c.make_folder.new.self) (g.F.Folder.past c.args.folder.now) (g.F.Folder.past c.make_folder.new.self) (c.in_ok-make_folder.ensures.kept c.if-branch.false) c.make_folder.ensures.passed
+
+pub returns-then-branch-clause-names : goal.returns-then-branch-clause-names
+returns-then-branch-clause-names g c =
+    let value = c.as_str.ensures.value in
+    let named = c.in_ok-path.ensures in
+    let is : c.as_str.result.now ≡ folder_text c.args.name = cc in
+    made_notes c.args.name c.upper.result c.as_str.result.now c.args.changed.now c.note.new.self c.note-2.new.self (g.F.Folder.modelled c.args.folder.now) (g.F.Folder.modelled c.make_folder.new.self) is c.upper.ensures c.known_folder.ensures
+    c.note.ensures.keeps c.note.ensures.noted c.note-2.ensures.keeps c.note-2.ensures.noted (c.in_ok-make_folder.ensures.made c.if-branch.true)

@@ -2,6 +2,8 @@ use Rattle.std.proofs.Common.{◌≡◌, Bool, true, false, ℕ, List, [], ◌�
 use Rattle.folder_model.specs.Calls.{IfModelled}
 use Rattle.folder_disk.specs.Folders.{folder_text, IsSyncedFolder}
 use Rattle.folder_disk.specs.declared.folder_name.FolderName.{FolderName}
+use Rattle.folder_disk.specs.Changed.{KeepsNames}
+use Rattle.folder_disk.proofs.ChangedLemmas.{becomes_same, becomes_then, names_same, names_then}
 use Rattle.folder_disk.proofs.EachLemmas.{each_none, each_at, each_all}
 use Rattle.folder_disk.proofs.SystemLemmas.{same_nodes, same_nodes_then, synced_stays_told, all_told_of}
 use Rattle.folder_disk.proofs.UnseenLemmas.{unseen_same, unseen_then, on_err}
@@ -9,7 +11,7 @@ use Rattle.folder_disk.proofs.folders.sync_each.Goals as goal
 
 pub loop-name-init : goal.loop-name-init
 loop-name-init g c =
-    (each_none (λ name. IfModelled (g.F.Folder.modelled c.args.folder.now) (λ s. IsSyncedFolder s (folder_text name))) c.args.names.now, same_nodes (g.F.Folder.modelled c.args.folder.now), unseen_same false (g.F.Folder.modelled c.args.folder.now) (g.F.Folder.modelled c.args.folder.now) (g.F.Folder.past c.args.folder.now) (g.F.Folder.past c.args.folder.now) refl refl, c.requires.sound)
+    (each_none (λ name. IfModelled (g.F.Folder.modelled c.args.folder.now) (λ s. IsSyncedFolder s (folder_text name))) c.args.names.now, same_nodes (g.F.Folder.modelled c.args.folder.now), unseen_same false (g.F.Folder.modelled c.args.folder.now) (g.F.Folder.modelled c.args.folder.now) (g.F.Folder.past c.args.folder.now) (g.F.Folder.past c.args.folder.now) refl refl, c.requires.sound, becomes_same KeepsNames (g.F.Folder.modelled c.args.folder.now) (g.F.Folder.modelled c.args.folder.now) names_same refl)
 
 pub loop-name-preserved : goal.loop-name-preserved
 loop-name-preserved g c =
@@ -20,6 +22,7 @@ loop-name-preserved g c =
       same_nodes_then _ (g.F.Folder.modelled c.args.folder.now) (g.F.Folder.modelled c.loop-name.folder) (g.F.Folder.modelled c.sync_one.new.folder) synced c.loop-name.invariant.1,
       unseen_then false (g.F.Folder.modelled c.args.folder.now) (g.F.Folder.modelled c.loop-name.folder) (g.F.Folder.modelled c.sync_one.new.folder) (g.F.Folder.past c.args.folder.now) (g.F.Folder.past c.loop-name.folder) (g.F.Folder.past c.sync_one.new.folder) c.loop-name.invariant.2 c.in_ok-sync_one.ensures.unseen,
       c.in_ok-sync_one.ensures.sound,
+      becomes_then KeepsNames KeepsNames KeepsNames (g.F.Folder.modelled c.args.folder.now) (g.F.Folder.modelled c.loop-name.folder) (g.F.Folder.modelled c.sync_one.new.folder) names_then c.loop-name.invariant.4 c.in_ok-sync_one.ensures.names,
     )
 
 pub sync_one-requires-clause-locked : goal.sync_one-requires-clause-locked

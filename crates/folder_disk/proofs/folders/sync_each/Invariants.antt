@@ -1,5 +1,6 @@
 use Rattle.std.proofs.Common.{false}
 use Rattle.folder_model.specs.Calls.{IfModelled, IsLocked, Becomes}
+use Rattle.folder_disk.specs.Changed.{KeepsNames}
 use Rattle.folder_disk.specs.Files.{IsSoundSystem}
 use Rattle.folder_disk.specs.Folders.{folder_text, IsSyncedFolder, HasSameNodes, IsUnseen}
 use Rattle.folder_disk.proofs.EachLemmas.{EachSoFar}
@@ -11,3 +12,4 @@ invariant-loop-name g l =
     × Becomes HasSameNodes (g.F.Folder.modelled l.fn.folder) (g.F.Folder.modelled l.folder)
     × IsUnseen (g.F.Folder.modelled l.fn.folder) (g.F.Folder.past l.fn.folder) (g.F.Folder.modelled l.folder) (g.F.Folder.past l.folder) false
     × IsSoundSystem (g.F.Folder.modelled l.folder)
+    × Becomes KeepsNames (g.F.Folder.modelled l.fn.folder) (g.F.Folder.modelled l.folder)

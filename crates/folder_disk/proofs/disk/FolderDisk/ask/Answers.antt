@@ -1,5 +1,6 @@
 use Rattle.std.proofs.Common.{Bool, sym, subst}
 use Rattle.folder_disk.specs.Over.{IsDiskOver}
+use Rattle.folder_disk.proofs.ChangedLemmas.{noted_all}
 use Rattle.folder_disk.proofs.disk.FolderDisk.ask.Goals as goal
 
 pub invariant_of-self-clause-over : goal.invariant_of-self-clause-over
@@ -17,3 +18,7 @@ invariant_of-self-clause-locked g c = ∣ (λ held sound. c.has_lock-self.ensure
 
 pub returns-clause-told : goal.returns-clause-told
 returns-clause-told g c = c.has_lock-self.ensures.unseen.told c.args.self.now.record.changes
+
+pub invariant_of-self-clause-noted : goal.invariant_of-self-clause-noted
+invariant_of-self-clause-noted g c =
+    noted_all c.args.self.now.is_spoiled c.note_all.new.self (g.F.Folder.modelled c.has_lock-self.new.folder) c.note_all.ensures

@@ -3,6 +3,7 @@ use Rattle.std.proofs.lemmas.Bool.{false≢true}
 use Rattle.disk_record.specs.declared.change.Change.{Change}
 use Rattle.folder_disk.specs.Over.{IsDiskOver}
 use Rattle.folder_disk.proofs.OverLemmas.{disk_begins}
+use Rattle.folder_disk.proofs.ChangedLemmas.{noted_all}
 use Rattle.folder_disk.proofs.disk.FolderDisk.asking.Goals as goal
 
 pub invariant_of-result-clause-over : goal.invariant_of-result-clause-over
@@ -14,3 +15,6 @@ invariant_of-result-clause-over g c =
 
 pub invariant_of-result-clause-locked : goal.invariant_of-result-clause-locked
 invariant_of-result-clause-locked g c = ∣ (λ h. absurd (false≢true h)) ∣₁
+
+pub invariant_of-result-clause-noted : goal.invariant_of-result-clause-noted
+invariant_of-result-clause-noted g c = noted_all false c.all.result (g.F.Folder.modelled c.args.folder) c.all.ensures

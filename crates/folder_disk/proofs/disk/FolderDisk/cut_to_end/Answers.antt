@@ -14,6 +14,9 @@ use Rattle.folder_disk.proofs.OverLemmas.{history_goes_on}
 use Rattle.folder_disk.proofs.KnownLemmas.{known_then, keeps_one}
 use Rattle.std.proofs.Common.{refl}
 use Rattle.disk_model.specs.Disk.{change, half_cut}
+use Rattle.folder_disk.specs.Changed.{KeepsNames}
+use Rattle.folder_disk.proofs.ChangedLemmas.{becomes_map, noted_kept, changed_keeps}
+use Rattle.folder_disk.specs.Files.{IsChanged}
 use Rattle.folder_disk.proofs.disk.FolderDisk.cut_to_end.Goals as goal
 
 pub invariant_of-self-clause-over : goal.invariant_of-self-clause-over
@@ -70,3 +73,13 @@ invariant_of-self-in-Err-clause-listed g c =
     let changes = self.record.changes in
     let P : List (Change × List ℕ) → Type 0 = λ l. ∥ AreKnownNames ghosts.cmp (told_history new l) self.names ∥₁ in
     subst P (sym c.note-in-Err.ensures) (known_then (change c.args.name (half_cut c.args.end)) (told_history old changes) (told_history new ((step.HalfCut c.args.name c.args.end, []) ∷ changes)) self.names (keeps_one c.args.name (half_cut c.args.end) (λ f. refl)) (history_goes_on _ old new changes (step.HalfCut c.args.name c.args.end) [] c.in-Err.ensures.err) self.listed)
+
+pub invariant_of-self-clause-noted : goal.invariant_of-self-clause-noted
+invariant_of-self-clause-noted g c =
+    let self = c.args.self.now in
+    let old = g.F.Folder.modelled self.folder in
+    let new = g.F.Folder.modelled c.cut_at.new.folder in
+    noted_kept self.is_spoiled self.changed old new (becomes_map (IsChanged c.args.path.now (cut_to c.args.end)) KeepsNames old new (changed_keeps c.args.path.now (cut_to c.args.end)) c.in-Ok.ensures.ok) self.noted
+
+pub invariant_of-self-in-Err-clause-noted : goal.invariant_of-self-in-Err-clause-noted
+invariant_of-self-in-Err-clause-noted g c = ∣ (λ e. absurd (false≢true (sym e))) ∣₁

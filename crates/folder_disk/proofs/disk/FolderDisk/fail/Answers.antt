@@ -25,3 +25,6 @@ invariant_of-self-clause-listed g c =
     let m = g.F.Folder.modelled self.folder in
     let P : List (Change × List ℕ) → Type 0 = λ l. ∥ AreKnownNames ghosts.cmp (told_history m l) self.names ∥₁ in
     subst P (sym c.note.ensures) (known_fails m self.record.changes c.args.change.now [] self.names c.requires self.listed)
+
+pub invariant_of-self-clause-noted : goal.invariant_of-self-clause-noted
+invariant_of-self-clause-noted g c = ∣ (λ e. absurd (false≢true (sym e))) ∣₁

@@ -1,7 +1,13 @@
 use Rattle.std.proofs.Common.{◌≡◌, IfSome, IfNone, string_bytes, subst}
 use Rattle.file_paths.specs.Paths.{path_text, IsStoreFile}
+use Rattle.std.proofs.Common.{Option, ap}
+use Rattle.disk_model.specs.contracts.name.FileNameOrd.TheImpl.{ghosts}
+use Rattle.folder_disk.specs.Files.{IsSettledLog}
 use Rattle.folder_disk.specs.Over.{told_history}
-use Rattle.folder_disk.proofs.ReadLemmas.{length_found, none_found, other_found}
+use Rattle.folder_disk.proofs.ReadLemmas.{settled_read, length_found, none_found, other_found}
+use Rattle.folder_disk.proofs.ChangedLemmas.{noted_same}
+use Rattle.folder_disk.proofs.KnownLemmas.{known_same}
+use Rattle.folder_disk.proofs.OverLemmas.{over_same, locked_same}
 use Rattle.folder_disk.proofs.disk.FolderDisk.length_of.Goals as goal
 
 pub returns-in-Some-clause-some : goal.returns-in-Some-clause-some
@@ -33,3 +39,29 @@ returns-in-None-clause-none g c =
     other_found (g.F.Folder.modelled self.folder) (g.F.Folder.past self.folder) self.record.changes self.is_spoiled c.args.name
     (told_history (g.F.Folder.modelled old.folder) old.record.changes) c.path_to_use.ensures.told self.over
     (subst (λ o. IfNone o (IsStoreFile c.args.name → ⊥)) c.in-None.is c.in_ok-path.ensures.none)
+
+pub returns-in-Some-clause-settled : goal.returns-in-Some-clause-settled
+returns-in-Some-clause-settled g c =
+    let self = c.path_to_use.new.self in
+    let firm = c.args.self.now.firm in
+    let F : Option _ → Type 0 = λ o. IfSome o (λ path. IsStoreFile c.args.name × (string_bytes path ≡ path_text c.args.name)) in
+    let G : Option _ → Type 0 = λ o. IfSome o (λ path. IsSettledLog ghosts.cmp firm c.args.name (string_bytes path) (g.F.Folder.modelled self.folder)) in
+    let file = subst F c.in-Some.is c.in_ok-path.ensures.file in
+    let settled = subst G c.in-Some.is c.in_ok-path.ensures.settled in
+    settled_read c.length_at.result firm c.args.name _ (path_text c.args.name) (g.F.Folder.modelled self.folder) (g.F.Folder.modelled c.length_at.new.folder) file.1 c.length_at.ensures.same settled
+
+pub invariant_of-self : goal.invariant_of-self
+invariant_of-self g c =
+    let self = c.path_to_use.new.self in
+    let changes = self.record.changes in
+    let old = g.F.Folder.modelled self.folder in
+    let new = g.F.Folder.modelled c.length_at.new.folder in
+    let same = c.length_at.ensures.same in
+    record {
+      few = self.few;
+      counted = self.counted;
+      over = over_same old new (g.F.Folder.past self.folder) (g.F.Folder.past c.length_at.new.folder) changes self.is_spoiled self.over same c.length_at.ensures.still;
+      listed = known_same (told_history old changes) (told_history new changes) self.names (ap (λ m. told_history m changes) same) self.listed;
+      noted = noted_same self.is_spoiled self.changed old new same self.noted;
+      locked = locked_same old new self.is_held self.is_spoiled self.locked same;
+    }

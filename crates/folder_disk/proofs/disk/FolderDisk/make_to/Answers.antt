@@ -11,6 +11,7 @@ use Rattle.folder_disk.specs.Known.{AreKnownNames}
 use Rattle.folder_disk.proofs.KnownLemmas.{known_then, known_changed, known_taken, keeps_one}
 use Rattle.std.proofs.Common.{refl}
 use Rattle.disk_model.specs.Disk.{made, half_made}
+use Rattle.folder_disk.proofs.ChangedLemmas.{noted_through}
 use Rattle.folder_disk.proofs.disk.FolderDisk.make_to.Goals as goal
 
 pub invariant_of-self-clause-over : goal.invariant_of-self-clause-over
@@ -76,3 +77,11 @@ invariant_of-self-in-Err-clause-listed g c =
     let changes = self.record.changes in
     let P : List (Change × List ℕ) → Type 0 = λ l. ∥ AreKnownNames ghosts.cmp (told_history new l) self.names ∥₁ in
     subst P (sym c.note-in-Err.ensures) (known_then (state_after (change.HalfMade c.args.name) []) (told_history old changes) (told_history new ((change.HalfMade c.args.name, []) ∷ changes)) self.names (keeps_one c.args.name half_made (λ f. refl)) (c.in-Err.ensures.err.told changes) self.listed)
+
+pub invariant_of-self-clause-noted : goal.invariant_of-self-clause-noted
+invariant_of-self-clause-noted g c =
+    let self = c.args.self.now in
+    noted_through self.is_spoiled self.changed c.make_file.new.changed (g.F.Folder.modelled self.folder) (g.F.Folder.modelled c.make_file.new.folder) c.in-Ok.ensures.names self.noted
+
+pub invariant_of-self-in-Err-clause-noted : goal.invariant_of-self-in-Err-clause-noted
+invariant_of-self-in-Err-clause-noted g c = ∣ (λ e. absurd (false≢true (sym e))) ∣₁

@@ -11,6 +11,9 @@ use Rattle.folder_disk.specs.Known.{AreKnownNames}
 use Rattle.folder_disk.proofs.KnownLemmas.{known_then, known_changed, known_taken, keeps_one}
 use Rattle.std.proofs.Common.{refl}
 use Rattle.disk_model.specs.Disk.{removed, half_removed}
+use Rattle.folder_disk.specs.Changed.{IsToSync}
+use Rattle.folder_disk.specs.Folders.{folder_text}
+use Rattle.folder_disk.proofs.ChangedLemmas.{noted_through, removal_notes}
 use Rattle.folder_disk.proofs.disk.FolderDisk.remove_from.Goals as goal
 
 pub invariant_of-self-clause-over : goal.invariant_of-self-clause-over
@@ -76,3 +79,15 @@ invariant_of-self-in-Err-clause-listed g c =
     let changes = self.record.changes in
     let P : List (Change × List ℕ) → Type 0 = λ l. ∥ AreKnownNames ghosts.cmp (told_history new l) self.names ∥₁ in
     subst P (sym c.note-in-Err.ensures) (known_then (state_after (change.HalfRemoved c.args.name) []) (told_history old changes) (told_history new ((change.HalfRemoved c.args.name, []) ∷ changes)) self.names (keeps_one c.args.name half_removed (λ f. refl)) (c.in-Err.ensures.err.told changes) self.listed)
+
+pub invariant_of-self-clause-noted : goal.invariant_of-self-clause-noted
+invariant_of-self-clause-noted g c =
+    let self = c.args.self.now in
+    let old = g.F.Folder.modelled self.folder in
+    let new = g.F.Folder.modelled c.remove_file.new.folder in
+    let F : _ → Type 0 = λ within. c.in-Ok.removed ≡ true → IsToSync c.note_if.new.self (folder_text within) in
+    noted_through self.is_spoiled self.changed c.note_if.new.self old new
+    (removal_notes c.in-Ok.removed c.args.name c.args.path.now self.changed c.note_if.new.self old new c.requires.file c.requires.named c.in-Ok.ensures.names c.in-Ok.ensures.none (subst F c.of.ensures c.note_if.ensures.noted) c.note_if.ensures.keeps) self.noted
+
+pub invariant_of-self-in-Err-clause-noted : goal.invariant_of-self-in-Err-clause-noted
+invariant_of-self-in-Err-clause-noted g c = ∣ (λ e. absurd (false≢true (sym e))) ∣₁

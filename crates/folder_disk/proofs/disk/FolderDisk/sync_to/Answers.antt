@@ -13,6 +13,11 @@ use Rattle.folder_disk.proofs.KnownLemmas.{known_then, keeps_one}
 use Rattle.std.proofs.Common.{refl}
 use Rattle.disk_model.specs.Disk.{change, synced}
 use Rattle.folder_disk.proofs.SyncLemmas.{unsynced_told}
+use Rattle.folder_disk.specs.Changed.{KeepsNames}
+use Rattle.folder_disk.proofs.ChangedLemmas.{becomes_map, noted_kept, file_synced_keeps}
+use Rattle.std.proofs.Common.{◌≡◌}
+use Rattle.folder_model.specs.System.{with_synced_file}
+use Rattle.folder_disk.specs.Files.{HasFileAt}
 use Rattle.folder_disk.proofs.disk.FolderDisk.sync_to.Goals as goal
 
 pub invariant_of-self-clause-over : goal.invariant_of-self-clause-over
@@ -65,3 +70,13 @@ invariant_of-self-in-Err-clause-listed g c =
     let changes = self.record.changes in
     let P : List (Change × List ℕ) → Type 0 = λ l. ∥ AreKnownNames ghosts.cmp (told_history new l) self.names ∥₁ in
     subst P (sym c.note-in-Err.ensures) (known_then (λ disk. disk) (told_history old changes) (told_history new ((step.Nothing, []) ∷ changes)) self.names (λ disk name. refl) (unsynced_told old new changes [] c.in-Err.ensures.err) self.listed)
+
+pub invariant_of-self-clause-noted : goal.invariant_of-self-clause-noted
+invariant_of-self-clause-noted g c =
+    let self = c.args.self.now in
+    let old = g.F.Folder.modelled self.folder in
+    let new = g.F.Folder.modelled c.sync_at.new.folder in
+    noted_kept self.is_spoiled self.changed old new (becomes_map (λ before s. HasFileAt before c.args.path.now (λ number. s ≡ with_synced_file number before)) KeepsNames old new (file_synced_keeps c.args.path.now) c.in-Ok.ensures.ok) self.noted
+
+pub invariant_of-self-in-Err-clause-noted : goal.invariant_of-self-in-Err-clause-noted
+invariant_of-self-in-Err-clause-noted g c = ∣ (λ e. absurd (false≢true (sym e))) ∣₁

@@ -14,6 +14,9 @@ use Rattle.folder_disk.proofs.OverLemmas.{history_goes_on}
 use Rattle.folder_disk.proofs.KnownLemmas.{known_then, keeps_one}
 use Rattle.std.proofs.Common.{refl, length}
 use Rattle.disk_model.specs.Disk.{change, half_written}
+use Rattle.folder_disk.specs.Changed.{KeepsNames}
+use Rattle.folder_disk.proofs.ChangedLemmas.{becomes_map, noted_kept, changed_keeps}
+use Rattle.folder_disk.specs.Files.{IsChanged}
 use Rattle.folder_disk.proofs.disk.FolderDisk.write_to.Goals as goal
 
 pub invariant_of-self-clause-over : goal.invariant_of-self-clause-over
@@ -72,3 +75,13 @@ invariant_of-self-in-Err-clause-listed g c =
     let changes = self.record.changes in
     let P : List (Change × List ℕ) → Type 0 = λ l. ∥ AreKnownNames ghosts.cmp (told_history new l) self.names ∥₁ in
     subst P (sym c.note-in-Err.ensures) (known_then (change c.args.name (half_written c.args.offset (length c.args.from.now))) (told_history old changes) (told_history new ((step.HalfWritten c.args.name c.args.offset (length c.args.from.now), []) ∷ changes)) self.names (keeps_one c.args.name (half_written c.args.offset (length c.args.from.now)) (λ f. refl)) (history_goes_on _ old new changes (step.HalfWritten c.args.name c.args.offset (length c.args.from.now)) [] c.in-Err.ensures.err) self.listed)
+
+pub invariant_of-self-clause-noted : goal.invariant_of-self-clause-noted
+invariant_of-self-clause-noted g c =
+    let self = c.args.self.now in
+    let old = g.F.Folder.modelled self.folder in
+    let new = g.F.Folder.modelled c.write_at.new.folder in
+    noted_kept self.is_spoiled self.changed old new (becomes_map (IsChanged c.args.path.now (written c.args.offset c.args.from.now)) KeepsNames old new (changed_keeps c.args.path.now (written c.args.offset c.args.from.now)) c.in-Ok.ensures.ok) self.noted
+
+pub invariant_of-self-in-Err-clause-noted : goal.invariant_of-self-in-Err-clause-noted
+invariant_of-self-in-Err-clause-noted g c = ∣ (λ e. absurd (false≢true (sym e))) ∣₁

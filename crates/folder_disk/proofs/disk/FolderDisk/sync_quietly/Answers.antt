@@ -1,7 +1,8 @@
 use Rattle.std.proofs.Common.{Bool, false, true, sym, subst}
 use Rattle.std.proofs.lemmas.Bool.{false≢true}
 use Rattle.folder_disk.specs.Over.{IsDiskOver}
-use Rattle.folder_disk.proofs.disk.FolderDisk.settle.Goals as goal
+use Rattle.folder_disk.proofs.ChangedLemmas.{noted_kept}
+use Rattle.folder_disk.proofs.disk.FolderDisk.sync_quietly.Goals as goal
 
 pub invariant_of-self-in-Err-clause-over : goal.invariant_of-self-in-Err-clause-over
 invariant_of-self-in-Err-clause-over g c =
@@ -11,3 +12,11 @@ invariant_of-self-in-Err-clause-over g c =
 
 pub invariant_of-self-in-Err-clause-locked : goal.invariant_of-self-in-Err-clause-locked
 invariant_of-self-in-Err-clause-locked g c = ∣ (λ h s. absurd (false≢true (sym s))) ∣₁
+
+pub invariant_of-self-clause-noted : goal.invariant_of-self-clause-noted
+invariant_of-self-clause-noted g c =
+    let self = c.args.self.now in
+    noted_kept self.is_spoiled self.changed (g.F.Folder.modelled self.folder) (g.F.Folder.modelled c.settle_at.new.folder) c.in-Ok.ensures.names self.noted
+
+pub invariant_of-self-in-Err-clause-noted : goal.invariant_of-self-in-Err-clause-noted
+invariant_of-self-in-Err-clause-noted g c = ∣ (λ e. absurd (false≢true (sym e))) ∣₁
