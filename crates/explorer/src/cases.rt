@@ -2,11 +2,13 @@
 use crate::damage::{Damage, Damaged};
 use crate::files::{clear, octets_of, push_paths, put};
 use crate::folder::{CaseFolder, system_disk};
+use crate::orders::{Orders, take_turns};
 use crate::runs::{Run, perform};
 use crate::setting::{Place, Setting};
 use crate::streams::Streams;
 use crate::trial::Trial;
 use crate::trouble::Trouble;
+use crate::two_lanes::Wrong;
 use case_text::{Command, Counts, Page, Stream, Taken, push_shown};
 use disk_mem::MemDisk;
 use disk_model::{Disk, FileName};
@@ -130,6 +132,10 @@ impl Cases {
             "cut" => self.damage(command, false),
             "watch" => self.watch(rest),
             "also" => self.set_between(rest),
+            "before" => self.set_before(rest),
+            "after" => self.set_after(rest),
+            "orders" => self.orders(rest),
+            "turns" => self.turns(command),
             "narrow" => {
                 self.setting.narrow = true;
                 Ok(true)
@@ -282,6 +288,63 @@ impl Cases {
         };
         self.setting.between = octets;
         Ok(true)
+    }
+
+    fn set_before(&mut self, line: &str) -> Result<bool, Trouble> {
+        let Some(octets) = self.page.texts.octets(line)? else {
+            return Ok(false);
+        };
+        self.setting.before = octets;
+        Ok(true)
+    }
+
+    fn set_after(&mut self, line: &str) -> Result<bool, Trouble> {
+        let Some(octets) = self.page.texts.octets(line)? else {
+            return Ok(false);
+        };
+        self.setting.after = octets;
+        Ok(true)
+    }
+
+    /// Does a script of two lanes in every order of their events, each on a copy of the disk.
+    fn orders(&mut self, line: &str) -> Result<bool, Trouble> {
+        let Some(script) = self.page.texts.octets(line)? else {
+            return Ok(false);
+        };
+        let orders = Orders {
+            alloc: self.alloc,
+            disk: &self.disk,
+            before: self.setting.before.as_slice(),
+            script: script.as_slice(),
+            after: self.setting.after.as_slice(),
+        };
+        let done = orders.explore(&mut self.page.report)?;
+        Ok(done)
+    }
+
+    /// Does a script of two lanes in turns of these on the disk of the case, and tells what `batch` prints.
+    fn turns(&mut self, command: Command<'_>) -> Result<bool, Trouble> {
+        let (lanes, line) = command.named();
+        let Some(script) = self.page.texts.octets(line)? else {
+            return Ok(false);
+        };
+        let empty = MemDisk::fresh(self.alloc)?;
+        let disk = mem::replace(&mut self.disk, empty);
+        match take_turns(self.alloc, disk, lanes, script.as_slice()) {
+            Ok((disk, printed)) => {
+                self.disk = disk;
+                self.page.report.count_run();
+                self.tell(Stream::Output, printed.as_slice())?;
+                Ok(true)
+            }
+            Err(Wrong::Differs(why)) => {
+                let text = format!(in self.alloc; ". {why}\n")?;
+                self.page.report.found().push_str(text.as_str())?;
+                Ok(true)
+            }
+            Err(Wrong::NoScript) => Ok(false),
+            Err(Wrong::NoMemory) => Err(Trouble::from(NoMemory)),
+        }
     }
 
     /// A run as a line has it. None if it isn't written so.

@@ -8,9 +8,12 @@ use cases::Cases;
 use std::{env, fs};
 
 mod cases;
+mod course;
 mod damage;
 mod files;
 mod folder;
+mod orders;
+mod plain;
 mod runs;
 mod seen;
 mod setting;
@@ -18,6 +21,7 @@ mod streams;
 mod trial;
 mod trouble;
 mod turns;
+mod two_lanes;
 
 /// The first file has octets that the cases of the others name.
 fn main(rt: HostRuntime) -> Result<()> {

@@ -20,6 +20,9 @@ pub struct Setting {
     pub watches: Vec<Vec<String>>,
     /// What these may print beside what they print before the run and after it.
     pub between: Vec<u8>,
+    /// The script that is done before each order of another's events, and the one that looks at the store afterwards.
+    pub before: Vec<u8>,
+    pub after: Vec<u8>,
     /// The calls that fail in the next run.
     pub fails: Fails,
     /// The call of the disk that fails in the next run, 0 for none.
@@ -35,6 +38,8 @@ impl Setting {
         Setting {
             watches: Vec::new(alloc),
             between: Vec::new(alloc),
+            before: Vec::new(alloc),
+            after: Vec::new(alloc),
             fails: Fails::NONE,
             disk_fails: 0,
             narrow: false,

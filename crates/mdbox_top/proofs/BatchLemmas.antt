@@ -7,7 +7,7 @@ use Rattle.std.proofs.lemmas.List.Elements.{All-nil, All-cons}
 use Rattle.std.proofs.lemmas.List.Folds.{list_any_at}
 use Rattle.std.proofs.lemmas.List.Sums.{sum_by-cons}
 use Rattle.attach_detach.specs.declared.message.Prepared.{Prepared}
-use Rattle.disk_model.specs.Disk.{History, Faults, IsIdle, EachImage}
+use Rattle.disk_model.specs.Disk.{History, Faults}
 use Rattle.disk_model.specs.FaultCounts.{AnyFaultCounted, NoFault}
 use Rattle.journal.specs.Journal.{Requests, is_read_fault}
 use Rattle.lanes.specs.Worlds.{AreGiven, AreOfLanes, HasItsMessage}
@@ -22,7 +22,6 @@ use Rattle.mdbox_base.specs.declared.script.Script.{Script}
 use Rattle.mdbox_base.specs.declared.stream.InputError.{InputError}
 use Rattle.mdbox_base.specs.declared.stream.InputError.TheVariants as read
 use Rattle.model_lists.specs.Lists.{Lists}
-use Rattle.model_store.specs.Safe.{Safe}
 use Rattle.model_store.specs.Settled.{IsSettledFor}
 use Rattle.store_open.specs.declared.error.OpenError.{OpenError}
 use Rattle.store_open.specs.declared.error.OpenError.TheVariants as error
@@ -41,11 +40,10 @@ use Rattle.script_text.specs.Script.{FitsLanes, FitsScript, IsScript, IsBadAt, S
 use Rattle.script_text.specs.declared.error.ScriptError.{ScriptError}
 use Rattle.script_text.specs.declared.error.ScriptError.TheVariants as script_error
 use Rattle.script_text.proofs.ScriptLemmas.{answer_same}
-use Rattle.mdbox_top.specs.BatchRun.{HasNoScript, IsBatchDone, ReadsScript, RefusesScript, ScriptMoments, ScriptOutcome, ScriptRests, ShowsReplies, WasServed, BatchOutcome, BatchRests, BatchStatus}
+use Rattle.mdbox_top.specs.BatchRun.{HasNoScript, IsBatchDone, OpenedOutcome, ReadsScript, RefusesScript, ScriptMoments, ScriptOutcome, ScriptRests, ShowsReplies, WasServed, BatchOutcome, BatchRests, BatchStatus}
 use Rattle.mdbox_top.specs.DeliverRun.{unread_outcome}
-use Rattle.mdbox_top.specs.InputRun.{IsOneOf, OfInput}
+use Rattle.mdbox_top.specs.InputRun.{IsOneOf}
 use Rattle.mdbox_top.specs.OpeningOutcome.{opening_outcome}
-use Rattle.mdbox_top.specs.Served.{IsNotOpened}
 use Rattle.mdbox_top.proofs.InitLemmas.{counted_as, opening_fault}
 use Rattle.mdbox_top.proofs.InputLemmas.{Told, long_told, of_told}
 use Rattle.mdbox_top.proofs.RequestLemmas.{fault_number, one_of_shown, opening_number, refused_by, settled_opens, shown_by}
@@ -177,8 +175,11 @@ told_in replies r c e = told_any replies ∙ list_any_at (λ (x : Reply). is_dis
 told_outcome : (replies : List (Option Reply)) → list_any is_disk_no replies ≡ true → replies_outcome replies ≡ outcome.DiskFault
 told_outcome replies e = rw e refl
 
+pub stopped_any : (given : List Reply) → HasStopped given → list_any is_disk_no (map Some given) ≡ true
+stopped_any given c = told_in given (reply.Refused refused.Stopped) c refl
+
 pub stopped_outcome : (given : List Reply) → HasStopped given → replies_outcome (map Some given) ≡ outcome.DiskFault
-stopped_outcome given c = told_outcome (map Some given) (told_in given (reply.Refused refused.Stopped) c refl)
+stopped_outcome given c = told_outcome (map Some given) (stopped_any given c)
 
 pub unread_outcome_is : (given : List Reply) → HasReadFault given → replies_outcome (map Some given) ≡ outcome.DiskFault
 unread_outcome_is given c = told_outcome (map Some given) (told_in given (reply.Refused refused.ReadFault) c refl)
@@ -254,8 +255,11 @@ script_rests script text given entries h k old new began now o d shows = λ none
 unopened_may : (why : OpenError) → why ≡ error.DiskFault → IsOneOf (5 ∷ 6 ∷ 8 ∷ []) (status_of (opening_outcome why))
 unopened_may why e = inr (inl (ap (λ (w : OpenError). status_of (opening_outcome w)) e))
 
+unopened_as : (Done : Outcome → Type 0) (h : Option (List ℕ)) (old new : Option History) (began now : Faults) (why : OpenError) → IsUnopened why old new began now → OpenedOutcome Done h h old new began now (opening_outcome why)
+unopened_as Done h old new began now why u = inl (record { why = why; ended_is = refl; unprinted = refl; cause = u.cause; idle = u.idle; untouched = u.untouched; stays = u.stays; unfailed = u.unfailed }, counted_as (why ≡ error.DiskFault) (opening_outcome why ≡ outcome.DiskFault) began now (λ e. opening_fault why e) u.fault)
+
 pub unopened_script : (script : Requests) (h : Option (List ℕ)) (old new : Option History) (began now : Faults) (why : OpenError) → IsUnopened why old new began now → ScriptOutcome script h h old new began now (opening_outcome why)
-unopened_script script h old new began now why u = inl (record { why = why; ended_is = refl; unprinted = refl; cause = u.cause; idle = u.idle; untouched = u.untouched; stays = u.stays; unfailed = u.unfailed }, counted_as (why ≡ error.DiskFault) (opening_outcome why ≡ outcome.DiskFault) began now (λ e. opening_fault why e) u.fault)
+unopened_script script h old new began now why u = unopened_as (IsBatchDone script h h old new began now) h old new began now why u
 
 pub unopened_script_rests : (script : Requests) (old new : Option History) (began now : Faults) (why : OpenError) → IsUnopened why old new began now → ScriptRests script (IsOneOf (5 ∷ 6 ∷ 8 ∷ []) (status_of (opening_outcome why))) began now old new
 unopened_script_rests script old new began now why u = λ none lists s. inl (u.settled_again (λ f. none (unopened_may why f)) lists s)
@@ -268,37 +272,41 @@ unopened_script_quiet old new began now why u none = u.unfailed (λ f. none (uno
 
 -- ---- the end of a run
 
-script_refuses : (script : Requests) (h k : Option (List ℕ)) (old new : Option History) (f g : Faults) (why : InputRefusal) → ScriptOutcome script h k old new f g (outcome.InputRefused why) → ⊥
-script_refuses script h k old new f g why (inl n) = refused_by 4 _ (opening_number n.0.why) (ap status_of n.0.ended_is) (inr refl)
-script_refuses script h k old new f g why (inr d) = shown_by 4 (replies_number _ (map Some d.given) h k (outcome.InputRefused why) d.printed) (inr (inr refl))
+-- Whatever a store's script comes to once the store was opened, it ends with one of these statuses.
+abbrev pub EndsKnown : (Outcome → Type 0) → Type 0
+EndsKnown Done = (o : Outcome) → Done o → IsOneOf (0 ∷ 1 ∷ 5 ∷ 6 ∷ 8 ∷ []) (status_of o)
 
-script_damage : (script : Requests) (h k : Option (List ℕ)) (old new : Option History) (f g : Faults) (s : StoreRefusal) → ScriptOutcome script h k old new f g (outcome.StoreRefused s) → ScriptOutcome script h k old new f g outcome.NoMemory
-script_damage script h k old new f g s (inl n) = inl (
+pub opened_refuses : (Done : Outcome → Type 0) → EndsKnown Done → (h k : Option (List ℕ)) (old new : Option History) (f g : Faults) (why : InputRefusal) → OpenedOutcome Done h k old new f g (outcome.InputRefused why) → ⊥
+opened_refuses Done known h k old new f g why (inl n) = refused_by 4 _ (opening_number n.0.why) (ap status_of n.0.ended_is) (inr refl)
+opened_refuses Done known h k old new f g why (inr d) = shown_by 4 (known (outcome.InputRefused why) d) (inr (inr refl))
+
+pub opened_damage : (Done : Outcome → Type 0) → EndsKnown Done → (h k : Option (List ℕ)) (old new : Option History) (f g : Faults) (s : StoreRefusal) → OpenedOutcome Done h k old new f g (outcome.StoreRefused s) → OpenedOutcome Done h k old new f g outcome.NoMemory
+opened_damage Done known h k old new f g s (inl n) = inl (
   record { why = error.NoMemory; ended_is = refl; unprinted = n.0.unprinted; cause = tt; idle = λ other. n.0.idle (fault_number s n.0.why n.0.ended_is); untouched = n.0.untouched; stays = n.0.stays; unfailed = λ other. n.0.unfailed (fault_number s n.0.why n.0.ended_is) },
   record { reads = n.1.reads; changes = n.1.changes; rose = λ e. absurd (cc e) },
 )
-script_damage script h k old new f g s (inr d) = absurd (shown_by 3 (replies_number _ (map Some d.given) h k (outcome.StoreRefused s) d.printed) (inr (inl refl)))
+opened_damage Done known h k old new f g s (inr d) = absurd (shown_by 3 (known (outcome.StoreRefused s) d) (inr (inl refl)))
 
-script_used : (script : Requests) (h k : Option (List ℕ)) (old new : Option History) (f g : Faults) → ScriptOutcome script h k old new f g outcome.Usage → ⊥
-script_used script h k old new f g (inl n) = refused_by 2 _ (opening_number n.0.why) (ap status_of n.0.ended_is) (inl refl)
-script_used script h k old new f g (inr d) = shown_by 2 (replies_number _ (map Some d.given) h k outcome.Usage d.printed) (inl refl)
+pub opened_used : (Done : Outcome → Type 0) → EndsKnown Done → (h k : Option (List ℕ)) (old new : Option History) (f g : Faults) → OpenedOutcome Done h k old new f g outcome.Usage → ⊥
+opened_used Done known h k old new f g (inl n) = refused_by 2 _ (opening_number n.0.why) (ap status_of n.0.ended_is) (inl refl)
+opened_used Done known h k old new f g (inr d) = shown_by 2 (known outcome.Usage d) (inl refl)
 
-script_status : (script : Requests) (h k : Option (List ℕ)) (old new : Option History) (f g : Faults) (o : Outcome) → ScriptOutcome script h k old new f g o → (lists : Lists) → IsSettledFor lists old → IsOneOf (0 ∷ 1 ∷ 5 ∷ 6 ∷ 8 ∷ []) (status_of o)
-script_status script h k old new f g o (inl n) lists s = elim (settled_opens lists old n.0.why s n.0.cause) [
+pub opened_status : (Done : Outcome → Type 0) → EndsKnown Done → (h k : Option (List ℕ)) (old new : Option History) (f g : Faults) (o : Outcome) → OpenedOutcome Done h k old new f g o → (lists : Lists) → IsSettledFor lists old → IsOneOf (0 ∷ 1 ∷ 5 ∷ 6 ∷ 8 ∷ []) (status_of o)
+opened_status Done known h k old new f g o (inl n) lists s = elim (settled_opens lists old n.0.why s n.0.cause) [
   | inl fault ↦ inr (inr (inr (inl (ap status_of n.0.ended_is ∙ ap (λ (w : OpenError). status_of (opening_outcome w)) fault))))
   | inr memory ↦ inr (inr (inl (ap status_of n.0.ended_is ∙ ap (λ (w : OpenError). status_of (opening_outcome w)) memory)))
 ]
-script_status script h k old new f g o (inr d) lists s = replies_number _ (map Some d.given) h k o d.printed
+opened_status Done known h k old new f g o (inr d) lists s = known o d
 
-pub script_ended : (script : Requests) (h k : Option (List ℕ)) (old new : Option History) (f g : Faults) (o : Outcome) → ScriptOutcome script h k old new f g o → (o ≡ outcome.ReadFault) ⊎ ((why : InputRefusal) × (o ≡ outcome.InputRefused why)) → ⊥
-script_ended script h k old new f g o (inl n) (inl e) = read_end (status_of (opening_outcome n.0.why)) (opening_number n.0.why) (sym (ap status_of n.0.ended_is) ∙ ap status_of e)
+pub opened_ended : (Done : Outcome → Type 0) → EndsKnown Done → (h k : Option (List ℕ)) (old new : Option History) (f g : Faults) (o : Outcome) → OpenedOutcome Done h k old new f g o → (o ≡ outcome.ReadFault) ⊎ ((why : InputRefusal) × (o ≡ outcome.InputRefused why)) → ⊥
+opened_ended Done known h k old new f g o (inl n) (inl e) = read_end (status_of (opening_outcome n.0.why)) (opening_number n.0.why) (sym (ap status_of n.0.ended_is) ∙ ap status_of e)
   where
     read_end : (n : ℕ) → IsOneOf (3 ∷ 5 ∷ 6 ∷ []) n → n ≡ 7 → ⊥
     read_end n (inl a) e = omega (arith, a, e)
     read_end n (inr (inl a)) e = omega (arith, a, e)
     read_end n (inr (inr (inl a))) e = omega (arith, a, e)
     read_end n (inr (inr (inr a))) e = a
-script_ended script h k old new f g o (inr d) (inl e) = read_end (status_of o) (replies_number _ (map Some d.given) h k o d.printed) (ap status_of e)
+opened_ended Done known h k old new f g o (inr d) (inl e) = read_end (status_of o) (known o d) (ap status_of e)
   where
     read_end : (n : ℕ) → IsOneOf (0 ∷ 1 ∷ 5 ∷ 6 ∷ 8 ∷ []) n → n ≡ 7 → ⊥
     read_end n (inl a) e = omega (arith, a, e)
@@ -307,7 +315,14 @@ script_ended script h k old new f g o (inr d) (inl e) = read_end (status_of o) (
     read_end n (inr (inr (inr (inl a)))) e = omega (arith, a, e)
     read_end n (inr (inr (inr (inr (inl a))))) e = omega (arith, a, e)
     read_end n (inr (inr (inr (inr (inr a))))) e = a
-script_ended script h k old new f g o e (inr w) = script_refuses script h k old new f g w.0 (subst (ScriptOutcome script h k old new f g) w.1 e)
+opened_ended Done known h k old new f g o e (inr w) = opened_refuses Done known h k old new f g w.0 (subst (OpenedOutcome Done h k old new f g) w.1 e)
+
+-- a script that was done ends with one of them
+done_known : (script : Requests) (h k : Option (List ℕ)) (old new : Option History) (f g : Faults) → EndsKnown (IsBatchDone script h k old new f g)
+done_known script h k old new f g o d = replies_number _ (map Some d.given) h k o d.printed
+
+pub script_ended : (script : Requests) (h k : Option (List ℕ)) (old new : Option History) (f g : Faults) (o : Outcome) → ScriptOutcome script h k old new f g o → (o ≡ outcome.ReadFault) ⊎ ((why : InputRefusal) × (o ≡ outcome.InputRefused why)) → ⊥
+script_ended script h k old new f g o e w = opened_ended (IsBatchDone script h k old new f g) (done_known script h k old new f g) h k old new f g o e w
 
 pub no_script_apart : (lanes : ℕ) (left : Option (List ℕ)) (o : Outcome) → HasNoScript lanes left o → (o ≡ outcome.DiskFault) ⊎ (o ≡ outcome.WriteFault) → ⊥
 no_script_apart lanes left o u (inl e) = subst (HasNoScript lanes left) e u
@@ -315,15 +330,15 @@ no_script_apart lanes left o u (inr e) = subst (HasNoScript lanes left) e u
 
 pub batch_input : (lanes : ℕ) (left h k : Option (List ℕ)) (old new : Option History) (f g : Faults) (why : InputRefusal) → BatchOutcome lanes left h k old new f g (outcome.InputRefused why) → BatchOutcome lanes left h k old new f g outcome.NoMemory
 batch_input lanes left h k old new f g why (inl u) = inl (tt, u.1, u.2)
-batch_input lanes left h k old new f g why (inr d) = absurd (script_refuses d.0.requests h k old new f g why d.2)
+batch_input lanes left h k old new f g why (inr d) = absurd (opened_refuses (IsBatchDone d.0.requests h k old new f g) (done_known d.0.requests h k old new f g) h k old new f g why d.2)
 
 pub batch_damage : (lanes : ℕ) (left h k : Option (List ℕ)) (old new : Option History) (f g : Faults) (s : StoreRefusal) → BatchOutcome lanes left h k old new f g (outcome.StoreRefused s) → BatchOutcome lanes left h k old new f g outcome.NoMemory
 batch_damage lanes left h k old new f g s (inl u) = absurd u.0
-batch_damage lanes left h k old new f g s (inr d) = inr (d.0, d.1, script_damage d.0.requests h k old new f g s d.2)
+batch_damage lanes left h k old new f g s (inr d) = inr (d.0, d.1, opened_damage (IsBatchDone d.0.requests h k old new f g) (done_known d.0.requests h k old new f g) h k old new f g s d.2)
 
 pub batch_used : (lanes : ℕ) (left h k : Option (List ℕ)) (old new : Option History) (f g : Faults) → BatchOutcome lanes left h k old new f g outcome.Usage → ⊥
 batch_used lanes left h k old new f g (inl u) = u.0
-batch_used lanes left h k old new f g (inr d) = script_used d.0.requests h k old new f g d.2
+batch_used lanes left h k old new f g (inr d) = opened_used (IsBatchDone d.0.requests h k old new f g) (done_known d.0.requests h k old new f g) h k old new f g d.2
 
 pub batch_rests_as : (lanes : ℕ) (left : Option (List ℕ)) (F G : Type 0) (f g : Faults) (old new : Option History) → (F → G) → BatchRests lanes left F f g old new → BatchRests lanes left G f g old new
 batch_rests_as lanes left F G f g old new h (inl same) = inl same
@@ -377,5 +392,5 @@ batch_status lanes None h k old new f g o few e = tt
 batch_status lanes (Some all) h k old new f g o few (inl u) = (λ why w. no_script_number lanes all o u.0, λ script r lists s. script_number lanes all script o few r u.0)
 batch_status lanes (Some all) h k old new f g o few (inr d) = (
   λ why w. absurd (not_both lanes all d.0 why few (subst (λ (input : List ℕ). ReadsScript lanes input d.0) (sym d.1.1) d.1.2) w),
-  λ script r lists s. one_more (status_of o) (script_status d.0.requests h k old new f g o d.2 lists s),
+  λ script r lists s. one_more (status_of o) (opened_status (IsBatchDone d.0.requests h k old new f g) (done_known d.0.requests h k old new f g) h k old new f g o d.2 lists s),
 )

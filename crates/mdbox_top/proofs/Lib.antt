@@ -5,6 +5,7 @@ pub mod ChangedLemmas
 pub mod ChangeLemmas
 pub mod CopyLemmas
 pub mod DeliverLemmas
+pub mod ExerciseLemmas
 pub mod ExpungeLemmas
 pub mod FetchLemmas
 pub mod FetchedLemmas
@@ -17,6 +18,7 @@ pub mod MailLemmas
 pub mod MakeFileLemmas
 pub mod MakeLemmas
 pub mod MoveLemmas
+pub mod NumbersLemmas
 pub mod OneEventLemmas
 pub mod PlaceLemmas
 pub mod ReplyFaultLemmas

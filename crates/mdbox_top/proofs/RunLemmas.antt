@@ -39,6 +39,7 @@ use Rattle.mdbox_top.specs.ExpungeRun.{IsExpungeReply, lists_without}
 use Rattle.mdbox_top.specs.CountsRun.{IsCountsReply}
 use Rattle.mdbox_top.proofs.BatchLemmas.{batch_damage, batch_input, batch_rests_as, batch_status, batch_used}
 use Rattle.mdbox_top.proofs.CountsLemmas.{counts_status}
+use Rattle.mdbox_top.proofs.ExerciseLemmas.{exercise_damage, exercise_input, exercise_rests_as, exercise_status, exercise_used}
 use Rattle.mdbox_top.proofs.DeliverLemmas.{deliver_input, deliver_damage, deliver_status, deliver_used, deliver_rests_as}
 use Rattle.mdbox_top.proofs.RequestLemmas.{request_status, request_used, request_input, request_damage, unasked}
 
@@ -57,6 +58,7 @@ input_memory (command.Move name uid target) left told h k old new f g why e = ab
 input_memory (command.Make name) left told h k old new f g why e = absurd (request_input (IsMakeReply name) (request.Make name) h k old new f g why e)
 input_memory command.Counts left told h k old new f g why e = absurd (request_input IsCountsReply request.Counts h k old new f g why e)
 input_memory (command.Batch lanes) left told h k old new f g why e = batch_input lanes left h k old new f g why e
+input_memory (command.Exercise lanes count number) left told h k old new f g why e = absurd (exercise_input lanes count number h k old new f g why e)
 input_memory command.Help left told h k old new f g why e = absurd e
 input_memory command.Version left told h k old new f g why e = absurd e
 
@@ -73,6 +75,7 @@ damage_memory (command.Move box uid target) left told h k old new f g name place
 damage_memory (command.Make box) left told h k old new f g name place e = request_damage (IsMakeReply box) (request.Make box) h k old new f g (store.Damaged name place) e
 damage_memory command.Counts left told h k old new f g name place e = request_damage IsCountsReply request.Counts h k old new f g (store.Damaged name place) e
 damage_memory (command.Batch lanes) left told h k old new f g name place e = batch_damage lanes left h k old new f g (store.Damaged name place) e
+damage_memory (command.Exercise lanes count number) left told h k old new f g name place e = exercise_damage lanes count number h k old new f g (store.Damaged name place) e
 damage_memory command.Dump left told h k old new f g name place e = absurd e
 damage_memory command.LogDump left told h k old new f g name place e = absurd e
 damage_memory command.Help left told h k old new f g name place e = absurd e
@@ -111,6 +114,7 @@ has_status (command.Move name uid target) r left told h k old new f g o e = λ l
 has_status (command.Make name) r left told h k old new f g o e = λ lists s. request_status (IsMakeReply name) (request.Make name) h k old new f g o e lists s
 has_status command.Counts r left told h k old new f g o e = λ lists s. counts_status h k old new f g o e lists s
 has_status (command.Batch lanes) r left told h k old new f g o e = batch_status lanes left h k old new f g o (omega (arith, r.1)) e
+has_status (command.Exercise lanes count number) r left told h k old new f g o e = λ lists s. exercise_status lanes count number h k old new f g o e lists s
 has_status command.Dump r left told h k old new f g o e = input_status DumpPrints DumpRefuses left h k o dumps_apart e
 has_status command.LogDump r left told h k old new f g o e = input_status LogDumpPrints LogDumpRefuses left h k o log_dumps_apart e
 has_status command.Help r left told h k old new f g o e = shows_status _ h k o e
@@ -129,6 +133,7 @@ used (command.Move name uid target) left told h k old new f g e = request_used (
 used (command.Make name) left told h k old new f g e = request_used (IsMakeReply name) (request.Make name) h k old new f g e
 used command.Counts left told h k old new f g e = request_used IsCountsReply request.Counts h k old new f g e
 used (command.Batch lanes) left told h k old new f g e = batch_used lanes left h k old new f g e
+used (command.Exercise lanes count number) left told h k old new f g e = exercise_used lanes count number h k old new f g e
 used command.Dump left told h k old new f g e = e
 used command.LogDump left told h k old new f g e = e
 used command.Help left told h k old new f g e = e
@@ -251,6 +256,7 @@ fails_last (command.Copy name uid target) o last y e = one_last o last y e
 fails_last (command.Move name uid target) o last y e = one_last o last y e
 fails_last (command.Make name) o last y e = one_last o last y e
 fails_last (command.Batch lanes) o last y e = one_last o last y e
+fails_last (command.Exercise lanes count number) o last y e = one_last o last y e
 fails_last other o last y e = six_last o last y e
 
 pub rests_last : (c : Command) (left : Option (List ℕ)) (told : Option ℕ) (F G : Type 0) (f g : Faults) (old new : Option History) → (F → G) → Rests c left told F f g old new → Rests c left told G f g old new
@@ -264,6 +270,7 @@ rests_last (command.Move name uid target) left told F G f g old new h r = λ non
 rests_last (command.Make name) left told F G f g old new h r = λ none. r (λ failed. none (h failed))
 rests_last command.Counts left told F G f g old new h r = λ none. r (λ failed. none (h failed))
 rests_last (command.Batch lanes) left told F G f g old new h r = batch_rests_as lanes left F G f g old new h r
+rests_last (command.Exercise lanes count number) left told F G f g old new h r = exercise_rests_as lanes count number F G f g old new h r
 rests_last other left told F G f g old new h r = tt
 
 -- ---- words that name a mailbox, whose name finds no memory

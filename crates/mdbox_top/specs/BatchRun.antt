@@ -63,9 +63,13 @@ pub record IsBatchDone (script : Requests) (held later : Option (List ℕ)) (old
   pub fault : MayBeServed script old → AnyFaultCounted (ended ≡ outcome.DiskFault) began now
   pub quiet : MayBeServed script old → (IsOneOf (5 ∷ 6 ∷ 8 ∷ []) (status_of ended) → ⊥) → NoFault began now
 
--- So a script ends; or the store was not opened, and then too a fault is told only if a call failed.
+-- The store was not opened, and then too a fault is told only if a call failed; or it was, and then it ends so.
+abbrev pub OpenedOutcome : (Outcome → Type 0) → Option (List ℕ) → Option (List ℕ) → Option History → Option History → Faults → Faults → Outcome → Type 0
+OpenedOutcome Done held later old new began now ended = (IsNotOpened held later old new began now ended × AnyFaultCounted (ended ≡ outcome.DiskFault) began now) ⊎ Done ended
+
+-- So a script ends.
 abbrev pub ScriptOutcome : Requests → Option (List ℕ) → Option (List ℕ) → Option History → Option History → Faults → Faults → Outcome → Type 0
-ScriptOutcome script held later old new began now ended = (IsNotOpened held later old new began now ended × AnyFaultCounted (ended ≡ outcome.DiskFault) began now) ⊎ IsBatchDone script held later old new began now ended
+ScriptOutcome script held later old new began now ended = OpenedOutcome (IsBatchDone script held later old new began now) held later old new began now ended
 
 -- From these lists the script was served, with some replies and some faults.
 pub record WasServed (script : Requests) (lists : Lists) (old new : Option History) : Type 0 where

@@ -5,6 +5,7 @@ pub mod DeliverRun
 pub mod ChangeEvents
 pub mod Changed
 pub mod CopyRun
+pub mod ExerciseRun
 pub mod ExpungeRun
 pub mod FetchEvents
 pub mod FetchRun
@@ -14,6 +15,7 @@ pub mod InputRun
 pub mod ListRun
 pub mod MakeRun
 pub mod MoveRun
+pub mod Numbers
 pub mod OpeningOutcome
 pub mod PrintedPlaces
 pub mod Run

@@ -12,6 +12,7 @@ use Rattle.request_text.specs.declared.outcome.Outcome.{Outcome}
 use Rattle.mdbox_base.specs.declared.requests.Request.TheVariants as request
 use Rattle.mdbox_top.specs.Alone.{MayFail}
 use Rattle.mdbox_top.specs.BatchRun.{BatchOutcome, BatchMoments, BatchRests, BatchStatus, TellsScriptFaults}
+use Rattle.mdbox_top.specs.ExerciseRun.{ExerciseOutcome, ExerciseMoments, ExerciseRests}
 use Rattle.mdbox_top.specs.InputRun.{DumpPrints, DumpRefuses, LogDumpPrints, LogDumpRefuses, InputOutcome, InputStatus, ShowsText, IsOneOf}
 use Rattle.mdbox_top.specs.InitRun.{InitOutcome, InitMoments, MayMakeStore}
 use Rattle.mdbox_top.specs.ListRun.{ListOutcome, ListMoments, ListRests}
@@ -38,6 +39,7 @@ Ends (command.Move name uid target) left told held later old new began now outco
 Ends (command.Make name) left told held later old new began now outcome = MakeOutcome name held later old new began now outcome
 Ends command.Counts left told held later old new began now outcome = CountsOutcome held later old new began now outcome
 Ends (command.Batch lanes) left told held later old new began now outcome = BatchOutcome lanes left held later old new began now outcome
+Ends (command.Exercise lanes count number) left told held later old new began now outcome = ExerciseOutcome lanes count number held later old new began now outcome
 Ends command.Dump left told held later old new began now outcome = InputOutcome DumpPrints DumpRefuses left held later outcome
 Ends command.LogDump left told held later old new began now outcome = InputOutcome LogDumpPrints LogDumpRefuses left held later outcome
 Ends command.Help left told held later old new began now outcome = ShowsText HELP.now held later outcome
@@ -63,6 +65,7 @@ Moments (command.Move name uid target) left told old new = MoveMoments name uid 
 Moments (command.Make name) left told old new = MakeMoments name old new
 Moments command.Counts left told old new = CountsMoments old new
 Moments (command.Batch lanes) left told old new = BatchMoments lanes left old new
+Moments (command.Exercise lanes count number) left told old new = ExerciseMoments lanes count number old new
 Moments other left told old new = new ≡ old
 
 -- What the command leaves of the disk when it ends, by whether it failed and the counts of the disk's faults.
@@ -77,6 +80,7 @@ Rests (command.Move name uid target) left told failed began now old new = MoveRe
 Rests (command.Make name) left told failed began now old new = MakeRests name failed began now old new
 Rests command.Counts left told failed began now old new = CountsRests failed began now old new
 Rests (command.Batch lanes) left told failed began now old new = BatchRests lanes left failed began now old new
+Rests (command.Exercise lanes count number) left told failed began now old new = ExerciseRests lanes count number failed began now old new
 Rests other left told failed began now old new = Unit {0}
 
 -- The statuses that may come, by what was left of the input and what the disk was: no file refuses a store that can be made,
@@ -93,6 +97,7 @@ HasStatus (command.Move name uid target) left old status = (lists : Lists) → I
 HasStatus (command.Make name) left old status = (lists : Lists) → IsSettledFor lists old → IsOneOf (0 ∷ 1 ∷ 5 ∷ 6 ∷ 8 ∷ []) status
 HasStatus command.Counts left old status = (lists : Lists) → IsSettledFor lists old → IsOneOf (0 ∷ 5 ∷ 6 ∷ 8 ∷ []) status
 HasStatus (command.Batch lanes) left old status = BatchStatus lanes left old status
+HasStatus (command.Exercise lanes count number) left old status = (lists : Lists) → IsSettledFor lists old → IsOneOf (0 ∷ 1 ∷ 5 ∷ 6 ∷ 8 ∷ []) status
 HasStatus command.Dump left old status = InputStatus DumpPrints DumpRefuses left status
 HasStatus command.LogDump left old status = InputStatus LogDumpPrints LogDumpRefuses left status
 HasStatus command.Help left old status = IsOneOf (0 ∷ 8 ∷ []) status
@@ -109,6 +114,7 @@ MayHaveFailed (command.Copy name uid target) status = MayFail (request.Copy name
 MayHaveFailed (command.Move name uid target) status = MayFail (request.Move name uid target) status
 MayHaveFailed (command.Make name) status = MayFail (request.Make name) status
 MayHaveFailed (command.Batch lanes) status = IsOneOf (5 ∷ 6 ∷ 8 ∷ []) status
+MayHaveFailed (command.Exercise lanes count number) status = IsOneOf (5 ∷ 6 ∷ 8 ∷ []) status
 MayHaveFailed other status = status ≡ 6
 
 -- It is said of the command which calls of the disk failed: always, but of a script that reads messages only if the disk was settled.
@@ -137,6 +143,7 @@ uses_disk (command.Move name uid target) = true
 uses_disk (command.Make name) = true
 uses_disk command.Counts = true
 uses_disk (command.Batch lanes) = true
+uses_disk (command.Exercise lanes count number) = true
 uses_disk other = false
 
 -- the command asks the clock

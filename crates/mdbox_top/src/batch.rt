@@ -96,7 +96,7 @@ fn script_of(alloc: Global, text: Octets, lanes: u32) -> Result<Script, Outcome>
 }
 
 /// What each request is given beside.
-fn prepare_messages(
+pub(crate) fn prepare_messages(
     alloc: Global,
     requests: &[(u32, Request)],
 ) -> Result<Seq<Option<Prepared>>, NoMemory>

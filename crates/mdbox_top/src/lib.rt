@@ -1,7 +1,9 @@
 //! What the program does: the words, the input, the store, what is printed, and the status.
 #![tactic(auto)]
 
-pub use laws::printed_places_number_the_journal;
+pub use laws::{
+    counted_messages_are_listed, exercises_count_their_requests, printed_places_number_the_journal,
+};
 pub use request_text::Status;
 pub use run::{mdbox_alone, mdbox_run};
 
@@ -9,6 +11,7 @@ mod alone;
 mod batch;
 mod copy;
 mod deliver;
+mod exercise;
 mod expunge;
 mod fetch;
 mod init;
@@ -16,6 +19,7 @@ mod input_commands;
 mod laws;
 mod making;
 mod moving;
+mod numbers;
 mod opening;
 mod run;
 mod show;

@@ -14,6 +14,7 @@ ghost use Rattle.mdbox_top.specs.Run.{Ends, RunOutcome, Moments, Rests, HasStatu
 use crate::alone::serve;
 use crate::batch::batch;
 use crate::deliver::deliver;
+use crate::exercise::exercise;
 use crate::fetch::fetch;
 use crate::init::init;
 use crate::input_commands::{dump, logdump};
@@ -159,6 +160,11 @@ fn perform<D: Disk, I: Source, O: Sink, C: Clock>(
         }
         Command::Make { name } => serve(alloc, Request::Make { name }, disk, output),
         Command::Batch { lanes } => batch(alloc, lanes, disk, input, output),
+        Command::Exercise {
+            lanes,
+            count,
+            number,
+        } => exercise(alloc, lanes, count, number, disk, output),
         Command::Dump => (dump(alloc, input, output), disk),
         Command::LogDump => (logdump(alloc, input, output), disk),
         Command::Help => (show(output, HELP), disk),

@@ -60,4 +60,11 @@ impl PlainLists {
     {
         PlainLists { mailboxes }
     }
+
+    /// The mailboxes, in the order in which they were made.
+    pub fn into_mailboxes(self) -> Vec<PlainMailbox>
+        ensures { map mailbox_of result.items ≡ self }
+    {
+        self.mailboxes
+    }
 }

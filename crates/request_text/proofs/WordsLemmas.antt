@@ -162,6 +162,19 @@ batch_same a b p q e =
     let lanes : a ≡ b = decimal_injective a b (omega (arith, p.1)) (omega (arith, q.1)) numbers in
     ap (λ (n : ℕ). command.Batch n) lanes
 
+exercise_same : (a b m n x y : ℕ) → IsInRange (command.Exercise a m x) → IsInRange (command.Exercise b n y) → words_of (command.Exercise a m x) ≡ words_of (command.Exercise b n y) → command.Exercise a m x ≡ command.Exercise b n y
+exercise_same a b m n x y p q e =
+    let words : decimal_text a ∷ decimal_text m ∷ decimal_text x ∷ [] ≡ decimal_text b ∷ decimal_text n ∷ decimal_text y ∷ [] = cc e in
+    let firsts : decimal_text a ≡ decimal_text b = cc words in
+    let rest : decimal_text m ∷ decimal_text x ∷ [] ≡ decimal_text n ∷ decimal_text y ∷ [] = cc words in
+    let seconds : decimal_text m ≡ decimal_text n = cc rest in
+    let last : decimal_text x ∷ [] ≡ decimal_text y ∷ [] = cc rest in
+    let thirds : decimal_text x ≡ decimal_text y = cc last in
+    let lanes : a ≡ b = decimal_injective a b (omega (arith, p.1)) (omega (arith, q.1)) firsts in
+    let count : m ≡ n = decimal_injective m n (omega (arith, p.3)) (omega (arith, q.3)) seconds in
+    let number : x ≡ y = decimal_injective x y p.4 q.4 thirds in
+    ap (λ (l : ℕ). command.Exercise l m x) lanes ∙ ap (λ (c : ℕ). command.Exercise b c x) count ∙ ap (λ (s : ℕ). command.Exercise b n s) number
+
 same_words : (a b : Command) → IsInRange a → IsInRange b → words_of a ≡ words_of b → a ≡ b
 same_words (command.Init a) (command.Init b) p q e = ap (λ (i : StoreId). command.Init i) (id_same a b p q e)
 same_words (command.List a) (command.List b) p q e = ap (λ (n : List ℕ). command.List n) (name_same a b e)
@@ -173,6 +186,7 @@ same_words (command.Copy a u t) (command.Copy b v w) p q e = copy_same a b u v t
 same_words (command.Move a u t) (command.Move b v w) p q e = move_same a b u v t w p q e
 same_words (command.Make a) (command.Make b) p q e = ap (λ (n : List ℕ). command.Make n) (make_same a b e)
 same_words (command.Batch a) (command.Batch b) p q e = batch_same a b p q e
+same_words (command.Exercise a m x) (command.Exercise b n y) p q e = exercise_same a b m n x y p q e
 same_words command.Counts command.Counts p q e = refl
 same_words command.Dump command.Dump p q e = refl
 same_words command.LogDump command.LogDump p q e = refl

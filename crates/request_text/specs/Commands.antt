@@ -1,5 +1,5 @@
 -- The words of the commands.
-use Rattle.std.specs.Prelude.{◌≡◌, ◌≤◌, ℕ, List, [], ◌∷◌, length, codes}
+use Rattle.std.specs.Prelude.{◌≡◌, ◌≤◌, ◌<◌, ◌^◌, ℕ, List, [], ◌∷◌, length, codes}
 use Rattle.hex.specs.Hex.{encode_lower}
 use Rattle.mdbox_base.specs.Numbers.{decimal_text}
 use Rattle.mdbox_base.specs.Words.{IsOctets, IsNumber, IsName}
@@ -19,13 +19,14 @@ words_of (command.Move name uid target) = codes "move" ∷ name ∷ decimal_text
 words_of (command.Make name) = codes "make" ∷ name ∷ []
 words_of command.Counts = codes "counts" ∷ []
 words_of (command.Batch lanes) = codes "batch" ∷ decimal_text lanes ∷ []
+words_of (command.Exercise lanes count number) = codes "exercise" ∷ decimal_text lanes ∷ decimal_text count ∷ decimal_text number ∷ []
 words_of command.Dump = codes "dump" ∷ []
 words_of command.LogDump = codes "logdump" ∷ []
 words_of command.Help = codes "--help" ∷ []
 words_of command.Version = codes "--version" ∷ []
 
--- An id has 8 octets, a name is that of a mailbox, a UID is from 1 to 4,294,967,294, flags are a sum of bits up to 16, and there are 64 lanes at
--- the most.
+-- An id has 8 octets, a name is that of a mailbox, a UID is from 1 to 4,294,967,294, flags are a sum of bits up to 16; there are 1 to 64 lanes
+-- and, of an exercise, 1 to 100,000 requests, and the number that makes it is below 2 ^ 64.
 abbrev pub IsInRange : Command → Type 0
 IsInRange (command.Init id) = (length id.0 ≡ 8) × IsOctets id.0
 IsInRange (command.Deliver name) = IsName name
@@ -38,6 +39,7 @@ IsInRange (command.Move name uid target) = IsName name × IsNumber uid.0 × IsNa
 IsInRange (command.Make name) = IsName name
 IsInRange command.Counts = Unit {0}
 IsInRange (command.Batch lanes) = (1 ≤ lanes) × (lanes ≤ 64)
+IsInRange (command.Exercise lanes count number) = (1 ≤ lanes) × (lanes ≤ 64) × (1 ≤ count) × (count ≤ 100000) × (number < 2 ^ 64)
 IsInRange command.Dump = Unit {0}
 IsInRange command.LogDump = Unit {0}
 IsInRange command.Help = Unit {0}

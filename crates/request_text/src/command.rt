@@ -26,6 +26,8 @@ pub enum Command {
     Make { name: Name },
     /// Does the requests of the script that the input is, on so many lanes.
     Batch { lanes: u32 },
+    /// Does so many requests, of the script that the number makes, on so many lanes.
+    Exercise { lanes: u32, count: u32, number: u64 },
     /// Prints the messages of a storage file.
     Dump,
     /// Prints the entries of a log.
@@ -73,6 +75,11 @@ batch LANES reads a script from standard input, of at most 268435456 octets and 
             so many lanes (1 to 64) over the store in the current folder, opened once, and prints a line for each, in
             the script's order: its number, the place of its step in the order in which the steps were made or -, and
             what it replies
+exercise LANES COUNT NUMBER
+            does as batch a script of COUNT requests (1 to 100000) that NUMBER (0 to 18446744073709551615) makes: each
+            lane makes a mailbox, x and the lane's number, and then delivers, copies, expunges and flags in it; prints
+            how many requests there were and how many were replied OK and NO, how many messages the mailboxes of the
+            store list and their octets, and the four numbers of counts, a line for each, such as messages 500
 dump        reads a storage file (m.N) of mdbox from standard input and prints, for each message,
             MESSAGE, its offset and the size of its body, and then its metadata lines, each after two spaces
 logdump     reads a log of mdbox from standard input and prints LOG, its kind (R, M or B), its number and its

@@ -12,6 +12,11 @@ use mdbox_base::{
 };
 use std::alloc::Global;
 
+/// How many lanes a script has at most, and how many requests.
+const MOST_LANES: u32 = 64;
+
+const MOST_REQUESTS: u32 = 100_000;
+
 /// Why no command was read.
 #[derive(Clone, Copy, Debug, PartialEq, Eq)]
 pub enum WordsError {
@@ -121,7 +126,7 @@ fn read_batch(word: &[u8]) -> Result<Command, WordsError>
     ensures usage { IsErr result → SayNothing (codes "batch" ∷ word.now ∷ []) }
     ensures memory { IsErrOf result words_error.NoMemory → ⊥ }
 {
-    match read_lanes(word) {
+    match read_up_to(word, MOST_LANES) {
         Some(lanes) => Ok(Command::Batch { lanes }),
         None => Err(WordsError::Usage),
     }
@@ -170,18 +175,19 @@ fn read_expunge(alloc: Global, name: &[u8], uid: &[u8]) -> Result<Command, Words
 fn read_four(
     alloc: Global,
     verb: &str,
-    name: &[u8],
-    uid: &[u8],
-    last: &[u8],
+    first: &[u8],
+    second: &[u8],
+    third: &[u8],
 ) -> Result<Command, WordsError>
-    ensures says { IfOk result (Says (verb.now ∷ name.now ∷ uid.now ∷ last.now ∷ [])) }
-    ensures usage { IsErrOf result words_error.Usage → SayNothing (verb.now ∷ name.now ∷ uid.now ∷ last.now ∷ []) }
-    ensures memory { IsErrOf result words_error.NoMemory → (command : Command) × NamesMailbox command × Says (verb.now ∷ name.now ∷ uid.now ∷ last.now ∷ []) command }
+    ensures says { IfOk result (Says (verb.now ∷ first.now ∷ second.now ∷ third.now ∷ [])) }
+    ensures usage { IsErrOf result words_error.Usage → SayNothing (verb.now ∷ first.now ∷ second.now ∷ third.now ∷ []) }
+    ensures memory { IsErrOf result words_error.NoMemory → (command : Command) × NamesMailbox command × Says (verb.now ∷ first.now ∷ second.now ∷ third.now ∷ []) command }
 {
     match verb {
-        "flag" => read_flag(alloc, name, uid, last),
-        "copy" => read_copy(alloc, name, uid, last),
-        "move" => read_move(alloc, name, uid, last),
+        "flag" => read_flag(alloc, first, second, third),
+        "copy" => read_copy(alloc, first, second, third),
+        "move" => read_move(alloc, first, second, third),
+        "exercise" => read_exercise(first, second, third),
         _ => Err(WordsError::Usage),
     }
 }
@@ -230,6 +236,26 @@ fn read_move(alloc: Global, name: &[u8], uid: &[u8], target: &[u8]) -> Result<Co
     Ok(Command::Move { name, uid, target })
 }
 
+/// The exercise of as many lanes and requests as these words say, and of the number that makes it.
+fn read_exercise(lanes: &[u8], count: &[u8], number: &[u8]) -> Result<Command, WordsError>
+    ensures says { IfOk result (Says (codes "exercise" ∷ lanes.now ∷ count.now ∷ number.now ∷ [])) }
+    ensures usage { IsErr result → SayNothing (codes "exercise" ∷ lanes.now ∷ count.now ∷ number.now ∷ []) }
+    ensures memory { IsErrOf result words_error.NoMemory → ⊥ }
+{
+    match (
+        read_up_to(lanes, MOST_LANES),
+        read_up_to(count, MOST_REQUESTS),
+        read_decimal(number),
+    ) {
+        (Some(lanes), Some(count), Some(number)) => Ok(Command::Exercise {
+            lanes,
+            count,
+            number,
+        }),
+        _ => Err(WordsError::Usage),
+    }
+}
+
 /// Two names of mailboxes.
 fn read_names(alloc: Global, first: &[u8], second: &[u8]) -> Result<(Name, Name), WordsError>
     ensures says { IfOk result (λ names. (names.0 ≡ first.now) × (names.1 ≡ second.now) × IsName first.now × IsName second.now) }
@@ -252,20 +278,20 @@ fn read_uid(word: &[u8]) -> Option<Uid>
     is_number(number).then_some(Uid(number))
 }
 
-/// The number of lanes that this word names, 1 to 64.
-fn read_lanes(word: &[u8]) -> Option<u32>
-    ensures some { IfSome result (λ lanes. (1 ≤ lanes) × (lanes ≤ 64) × (word.now ≡ decimal_text lanes)) }
-    ensures none { IfNone result ((lanes : ℕ) → 1 ≤ lanes → lanes ≤ 64 → word.now ≢ decimal_text lanes) }
+/// The number that this word names, from 1 up to the greatest.
+fn read_up_to(word: &[u8], most: u32) -> Option<u32>
+    ensures some { IfSome result (λ number. (1 ≤ number) × (number ≤ most) × (word.now ≡ decimal_text number)) }
+    ensures none { IfNone result ((number : ℕ) → 1 ≤ number → number ≤ most → word.now ≢ decimal_text number) }
 {
-    let lanes = u32::try_from(read_decimal(word)?).ok()?;
-    are_lanes(lanes).then_some(lanes)
+    let number = u32::try_from(read_decimal(word)?).ok()?;
+    is_up_to(number, most).then_some(number)
 }
 
-/// Whether there can be so many lanes.
-fn are_lanes(number: u32) -> bool
-    ensures { IsTrue result ↔ ((1 ≤ number) × (number ≤ 64)) }
+/// Whether a number is one from 1 up to the greatest.
+fn is_up_to(number: u32, most: u32) -> bool
+    ensures { IsTrue result ↔ ((1 ≤ number) × (number ≤ most)) }
 {
-    1 <= number && number <= 64
+    1 <= number && number <= most
 }
 
 /// The flags whose bits this word names, 0 to 31.

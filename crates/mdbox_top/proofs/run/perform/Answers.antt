@@ -29,3 +29,9 @@ returns-in-Batch-clause-disk_fault g c = rw c.in-Batch.is c.batch.ensures.disk_f
 
 pub returns-in-Batch-clause-disk_quiet : goal.returns-in-Batch-clause-disk_quiet
 returns-in-Batch-clause-disk_quiet g c = rw c.in-Batch.is c.batch.ensures.disk_quiet
+
+pub returns-in-Exercise-clause-rests : goal.returns-in-Exercise-clause-rests
+returns-in-Exercise-clause-rests g c = rw c.in-Exercise.is c.exercise.ensures.rests
+
+pub returns-in-Exercise-clause-disk_quiet : goal.returns-in-Exercise-clause-disk_quiet
+returns-in-Exercise-clause-disk_quiet g c = rw c.in-Exercise.is (λ tells. c.exercise.ensures.disk_quiet)

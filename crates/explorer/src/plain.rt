@@ -1,0 +1,237 @@
+// Mailbox lists that follow a journal, a step at a time.
+use mdbox_base::{
+    Guid, Half, Name, NoMemory, Octets, Refusal, Reply, Request, Seq, Uid, flags_of, name_of,
+};
+use plain_lists::{PlainLists, PlainMailbox, PlainMessage};
+use std::alloc::Global;
+use std::mem;
+
+/// Mailbox lists that follow a journal.
+#[derive(Drop)]
+pub struct Followed {
+    alloc: Global,
+    mailboxes: Vec<PlainMailbox>,
+}
+
+impl Followed {
+    /// The lists of a new store: an empty INBOX.
+    pub fn fresh(alloc: Global) -> Result<Followed, NoMemory> {
+        let mut followed = Followed {
+            alloc,
+            mailboxes: Vec::new(alloc),
+        };
+        if let Some(name) = name_of(alloc, b"INBOX")? {
+            followed.make(name)?;
+        }
+        Ok(followed)
+    }
+
+    /// Does a step of a request, and answers what plain lists answer. `so_far` is what they answered to the first half of a move, and
+    /// `given` is the store's reply, which tells the GUID of a delivery. None if there is no such step.
+    pub fn step(
+        &mut self,
+        request: &Request,
+        half: Half,
+        so_far: &Option<Reply>,
+        given: Option<&Reply>,
+    ) -> Result<Option<Reply>, NoMemory> {
+        match (request, half) {
+            (Request::Move { name, uid, target }, Half::CopyHalf) => {
+                Ok(Some(self.copy(name, *uid, target)?))
+            }
+            (Request::Move { name, uid, target }, Half::ExpungeHalf) => match so_far {
+                Some(Reply::Copied { uid: copied }) => {
+                    Ok(Some(self.second_half(name, *uid, target, *copied)))
+                }
+                _ => Ok(None),
+            },
+            (Request::Move { .. }, Half::Whole) => Ok(None),
+            (_, Half::Whole) => self.whole(request, given),
+            _ => Ok(None),
+        }
+    }
+
+    /// Does a request that is one step.
+    fn whole(
+        &mut self,
+        request: &Request,
+        given: Option<&Reply>,
+    ) -> Result<Option<Reply>, NoMemory> {
+        let alloc = self.alloc;
+        match request {
+            Request::Deliver {
+                name,
+                time,
+                message,
+            } => match given {
+                Some(Reply::Saved { guid, .. }) => self.deliver(name, *time, message, *guid),
+                _ => Ok(self.no_mailbox(name)),
+            },
+            Request::List { name } => {
+                let lists = self.lists();
+                let reply = lists.list(alloc, name);
+                self.mailboxes = lists.into_mailboxes();
+                Ok(Some(reply?))
+            }
+            Request::Fetch { name, uid } => Ok(Some(self.fetch(name, *uid)?)),
+            Request::Flag { name, uid, flags } => {
+                let mut lists = self.lists();
+                let reply = lists.flag(name, *uid, *flags);
+                self.mailboxes = lists.into_mailboxes();
+                Ok(Some(reply))
+            }
+            Request::Copy { name, uid, target } => Ok(Some(self.copy(name, *uid, target)?)),
+            Request::Expunge { name, uid } => {
+                let mut lists = self.lists();
+                let reply = lists.expunge(name, *uid);
+                self.mailboxes = lists.into_mailboxes();
+                Ok(Some(reply))
+            }
+            Request::Make { name } => match name_of(alloc, name.as_octets())? {
+                Some(name) => Ok(Some(self.make(name)?)),
+                None => Ok(None),
+            },
+            Request::Counts => Ok(Some(self.counts())),
+            _ => Ok(None),
+        }
+    }
+
+    /// The lists, which are to be put back.
+    fn lists(&mut self) -> PlainLists {
+        PlainLists::of(mem::replace(&mut self.mailboxes, Vec::new(self.alloc)))
+    }
+
+    fn make(&mut self, name: Name) -> Result<Reply, NoMemory> {
+        let mut lists = self.lists();
+        let reply = lists.make(self.alloc, name);
+        self.mailboxes = lists.into_mailboxes();
+        reply
+    }
+
+    fn copy(&mut self, name: &Name, uid: Uid, target: &Name) -> Result<Reply, NoMemory> {
+        let mut lists = self.lists();
+        let reply = lists.copy(self.alloc, name, uid, target);
+        self.mailboxes = lists.into_mailboxes();
+        reply
+    }
+
+    fn second_half(&mut self, name: &Name, uid: Uid, target: &Name, copied: Uid) -> Reply {
+        let mut lists = self.lists();
+        let reply = lists.second_half(name, uid, target, copied);
+        self.mailboxes = lists.into_mailboxes();
+        reply
+    }
+
+    /// Adds a message with this GUID. None if the GUID is another's, or the lists have no room.
+    fn deliver(
+        &mut self,
+        name: &Name,
+        time: u64,
+        message: &Octets,
+        guid: Guid,
+    ) -> Result<Option<Reply>, NoMemory> {
+        let octets = Vec::from_slice(self.alloc, message.as_slice())?;
+        let Some(flags) = flags_of(0) else {
+            return Ok(None);
+        };
+        if self.has_guid(guid) || octets.len() > MOST_OCTETS {
+            return Ok(None);
+        }
+        let message = PlainMessage {
+            uid: Uid(0),
+            flags,
+            time,
+            guid,
+            octets: Octets::of(octets),
+        };
+        for mailbox in self.mailboxes.iter_mut() {
+            if mailbox.name.as_octets() == name.as_octets() && mailbox.next_uid < u32::MAX {
+                let uid = mailbox.add(message)?;
+                return Ok(Some(Reply::Saved { uid, guid }));
+            }
+        }
+        Ok(self.no_mailbox(name))
+    }
+
+    /// The refusal of a mailbox that isn't there. None if it is.
+    fn no_mailbox(&self, name: &Name) -> Option<Reply> {
+        match self.mailbox(name) {
+            Some(_) => None,
+            None => Some(Reply::Refused(Refusal::NoMailbox)),
+        }
+    }
+
+    fn mailbox(&self, name: &Name) -> Option<&PlainMailbox> {
+        for mailbox in &self.mailboxes {
+            if mailbox.name.as_octets() == name.as_octets() {
+                return Some(mailbox);
+            }
+        }
+        None
+    }
+
+    fn has_guid(&self, guid: Guid) -> bool {
+        for mailbox in &self.mailboxes {
+            for message in &mailbox.messages {
+                if message.guid == guid {
+                    return true;
+                }
+            }
+        }
+        false
+    }
+
+    /// The octets of a message.
+    fn fetch(&self, name: &Name, uid: Uid) -> Result<Reply, NoMemory> {
+        let Some(mailbox) = self.mailbox(name) else {
+            return Ok(Reply::Refused(Refusal::NoMailbox));
+        };
+        for message in &mailbox.messages {
+            if message.uid == uid {
+                let octets = Vec::from_slice(self.alloc, message.octets.as_slice())?;
+                return Ok(Reply::Fetched(Octets::of(octets)));
+            }
+        }
+        Ok(Reply::Refused(Refusal::NoMessage))
+    }
+
+    /// How many messages are listed. Lists know nothing of the other numbers.
+    fn counts(&self) -> Reply {
+        let mut references = 0u64;
+        for mailbox in &self.mailboxes {
+            references = references.saturating_add(mailbox.messages.len() as u64);
+        }
+        Reply::Counted {
+            records: 0,
+            references,
+            counts: references,
+            instances: 0,
+        }
+    }
+}
+
+/// How many octets a message has at the most.
+const MOST_OCTETS: usize = 67_108_864;
+
+/// Whether a store's reply is the one that lists answer. Of a count they tell how many messages are listed; the counts that are kept are
+/// as many, and one more for each of so many requests that may have begun beside it.
+pub fn is_answer(given: &Reply, wanted: &Reply, others: u64) -> bool {
+    match (given, wanted) {
+        (Reply::Saved { uid: a, guid: x }, Reply::Saved { uid: b, guid: y }) => a == b && x == y,
+        (Reply::Listed(a), Reply::Listed(b)) => a.as_slice() == b.as_slice(),
+        (Reply::Fetched(a), Reply::Fetched(b)) => a.as_slice() == b.as_slice(),
+        (Reply::Done, Reply::Done) => true,
+        (Reply::Copied { uid: a }, Reply::Copied { uid: b }) => a == b,
+        (Reply::Moved { uid: a, gone: x }, Reply::Moved { uid: b, gone: y }) => a == b && x == y,
+        (
+            Reply::Counted {
+                references: a,
+                counts,
+                ..
+            },
+            Reply::Counted { references: b, .. },
+        ) => a == b && counts >= b && *counts <= b.saturating_add(others),
+        (Reply::Refused(a), Reply::Refused(b)) => a == b,
+        _ => false,
+    }
+}

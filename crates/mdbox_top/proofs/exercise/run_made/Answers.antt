@@ -1,0 +1,36 @@
+use Rattle.std.specs.Prelude.{map, Some}
+use Rattle.std.proofs.Common.{inr}
+use Rattle.mdbox_top.specs.Numbers.{exercise_text}
+use Rattle.mdbox_top.proofs.BatchLemmas.{script_moments, script_rests, unopened_script_rests}
+use Rattle.mdbox_top.proofs.ExerciseLemmas.{counted_from, stopped_told}
+use Rattle.mdbox_top.proofs.exercise.run_made.Goals as goal
+
+pub print_numbers-ended-requires : goal.print_numbers-ended-requires
+print_numbers-ended-requires g c =
+    let served = c.in-Ok.ensures.served in
+    record { stopped = λ e. stopped_told served.0 c.in-Ok.field-0.replies c.as_slice.result.now c.as_slice.ensures served.1 (served.2.stopped e) }
+
+pub returns-in-Ok-clause-ends : goal.returns-in-Ok-clause-ends
+returns-in-Ok-clause-ends g c =
+    inr (counted_from g.D.Disk.history g.D.Disk.faults c.args.script.requests c.in-Ok.field-0.store c.into_disk.result c.as_slice.result.now c.in-Ok.field-0.replies c.in-Ok.field-0.journal _ _ _ _ c.print_numbers-ended.result c.requires.unread c.into_disk.ensures c.as_slice.ensures c.in-Ok.ensures.served c.print_numbers-ended.ensures.shown)
+
+pub returns-in-Ok-clause-moments : goal.returns-in-Ok-clause-moments
+returns-in-Ok-clause-moments g c =
+    let d = counted_from g.D.Disk.history g.D.Disk.faults c.args.script.requests c.in-Ok.field-0.store c.into_disk.result c.as_slice.result.now c.in-Ok.field-0.replies c.in-Ok.field-0.journal _ _ _ _ c.print_numbers-ended.result c.requires.unread c.into_disk.ensures c.as_slice.ensures c.in-Ok.ensures.served c.print_numbers-ended.ensures.shown in
+    script_moments c.args.script.requests d.given d.journal _ _ _ _ d.done
+
+pub returns-in-Ok-clause-rests : goal.returns-in-Ok-clause-rests
+returns-in-Ok-clause-rests g c =
+    let d = counted_from g.D.Disk.history g.D.Disk.faults c.args.script.requests c.in-Ok.field-0.store c.into_disk.result c.as_slice.result.now c.in-Ok.field-0.replies c.in-Ok.field-0.journal _ _ _ _ c.print_numbers-ended.result c.requires.unread c.into_disk.ensures c.as_slice.ensures c.in-Ok.ensures.served c.print_numbers-ended.ensures.shown in
+    script_rests c.args.script.requests (exercise_text (map Some d.given) d.m d.meanings) d.given d.journal _ _ _ _ _ _ c.print_numbers-ended.result d.done d.printed
+
+pub returns-in-Ok-clause-disk_fault : goal.returns-in-Ok-clause-disk_fault
+returns-in-Ok-clause-disk_fault g c =
+    (counted_from g.D.Disk.history g.D.Disk.faults c.args.script.requests c.in-Ok.field-0.store c.into_disk.result c.as_slice.result.now c.in-Ok.field-0.replies c.in-Ok.field-0.journal _ _ _ _ c.print_numbers-ended.result c.requires.unread c.into_disk.ensures c.as_slice.ensures c.in-Ok.ensures.served c.print_numbers-ended.ensures.shown).fault
+
+pub returns-in-Ok-clause-disk_quiet : goal.returns-in-Ok-clause-disk_quiet
+returns-in-Ok-clause-disk_quiet g c =
+    (counted_from g.D.Disk.history g.D.Disk.faults c.args.script.requests c.in-Ok.field-0.store c.into_disk.result c.as_slice.result.now c.in-Ok.field-0.replies c.in-Ok.field-0.journal _ _ _ _ c.print_numbers-ended.result c.requires.unread c.into_disk.ensures c.as_slice.ensures c.in-Ok.ensures.served c.print_numbers-ended.ensures.shown).quiet
+
+pub returns-in-Err-clause-rests : goal.returns-in-Err-clause-rests
+returns-in-Err-clause-rests g c = rw c.outcome_of.ensures (unopened_script_rests c.args.script.requests _ _ _ _ c.in-Err.field-0.error c.in-Err.ensures.refused)

@@ -1,0 +1,53 @@
+-- How `exercise` ends.
+use Rattle.std.specs.Prelude.{◌≡◌, ◌⊎◌, ℕ, List, [], ◌∷◌, map, Option, Some}
+use Rattle.disk_model.specs.Disk.{History, Faults}
+use Rattle.disk_model.specs.FaultCounts.{AnyFaultCounted, NoFault}
+use Rattle.mdbox_base.specs.declared.replies.Reply.{Reply}
+use Rattle.mdbox_base.specs.declared.script.JournalEntry.{JournalEntry}
+use Rattle.model_meaning.specs.BoxMeaning.{BoxMeaning}
+use Rattle.model_meaning.specs.MapMeaning.{MapMeaning}
+use Rattle.journal.specs.Journal.{Requests}
+use Rattle.request_text.specs.Outcomes.{status_of}
+use Rattle.request_text.specs.declared.outcome.Outcome.{Outcome}
+use Rattle.request_text.specs.declared.outcome.Outcome.TheVariants as outcome
+use Rattle.script_run.specs.Done.{IsScriptDone}
+use Rattle.script_run.specs.LeftOpen.{ComesTo}
+use Rattle.script_text.specs.MadeScript.{made_script}
+use Rattle.mdbox_top.specs.BatchRun.{OpenedOutcome, ScriptMoments, ScriptRests, ShowsReplies}
+use Rattle.mdbox_top.specs.InputRun.{IsOneOf}
+use Rattle.mdbox_top.specs.Numbers.{exercise_text}
+
+-- The store was opened and the script done, and the numbers are printed of its replies and of what the logs mean to which it came. It
+-- ends as a fault of the disk only if a call of it failed, and no call failed but where it may have.
+pub record IsCountedUp (script : Requests) (held later : Option (List ℕ)) (old new : Option History) (began now : Faults) (ended : Outcome) : Type 0 where
+  pub given : List Reply
+  pub journal : List JournalEntry
+  pub done : IsScriptDone script given journal old new began now
+  pub m : MapMeaning
+  pub meanings : List BoxMeaning
+  pub comes : ComesTo script given journal old new began now done m meanings
+  pub printed : ShowsReplies (exercise_text (map Some given) m meanings) (map Some given) held later ended
+  pub fault : AnyFaultCounted (ended ≡ outcome.DiskFault) began now
+  pub quiet : (IsOneOf (5 ∷ 6 ∷ 8 ∷ []) (status_of ended) → ⊥) → NoFault began now
+
+-- So a made script ends; or the store was not opened.
+abbrev pub CountedOutcome : Requests → Option (List ℕ) → Option (List ℕ) → Option History → Option History → Faults → Faults → Outcome → Type 0
+CountedOutcome script held later old new began now ended = OpenedOutcome (IsCountedUp script held later old new began now) held later old new began now ended
+
+-- the requests that a number makes
+abbrev pub made_requests : ℕ → ℕ → ℕ → Requests
+made_requests lanes count number = (made_script lanes count number).requests
+
+-- How `exercise` ends: there was no memory for the script or for its messages, nothing is printed, and no call of the disk is made; or as
+-- the script that the number makes.
+abbrev pub ExerciseOutcome : ℕ → ℕ → ℕ → Option (List ℕ) → Option (List ℕ) → Option History → Option History → Faults → Faults → Outcome → Type 0
+ExerciseOutcome lanes count number held later old new began now ended =
+    ((ended ≡ outcome.NoMemory) × (later ≡ held) × (new ≡ old))
+    ⊎ CountedOutcome (made_requests lanes count number) held later old new began now ended
+
+-- What a crash at any moment may leave, and what `exercise` leaves of the disk when it ends: no call of it was made, or as the script.
+abbrev pub ExerciseMoments : ℕ → ℕ → ℕ → Option History → Option History → Type 0
+ExerciseMoments lanes count number old new = (new ≡ old) ⊎ ScriptMoments (made_requests lanes count number) old new
+
+abbrev pub ExerciseRests : ℕ → ℕ → ℕ → Type 0 → Faults → Faults → Option History → Option History → Type 0
+ExerciseRests lanes count number failed began now old new = (new ≡ old) ⊎ ScriptRests (made_requests lanes count number) failed began now old new
