@@ -25,12 +25,17 @@ const HEAD: LogHead = LogHead {
 fn main(rt: HostRuntime) -> Result<()> {
     let word = env::args(&rt)?.nth(1).context("usage: log_bench COUNT")?;
     let count = word.parse::<u32>()?;
+    fill_log(rt, count)?;
+    println!(rt; "appended {count}")?;
+    Ok(())
+}
+
+/// Makes the log, and appends so many entries.
+fn fill_log(rt: HostRuntime, count: u32) -> Result<()> {
     let mut disk = FolderDisk::of(KeptFolder::of(OsFolder::of(rt), rt.alloc()), rt.alloc());
     let mut log = create_log(rt.alloc(), &mut disk, NAME, HEAD)?;
     log.reserve(45)?;
-    append_all(&mut log, &mut disk, count)?;
-    println!(rt; "appended {count}")?;
-    Ok(())
+    append_all(&mut log, &mut disk, count)
 }
 
 /// Appends so many entries.

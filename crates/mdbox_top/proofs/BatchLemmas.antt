@@ -172,17 +172,20 @@ told_any (r ∷ rest) = rw (told_any rest) refl
 told_in : (replies : List Reply) (r : Reply) → Contains replies r → is_disk_no (Some r) ≡ true → list_any is_disk_no (map Some replies) ≡ true
 told_in replies r c e = told_any replies ∙ list_any_at (λ (x : Reply). is_disk_no (Some x)) replies c.0 r c.1 (ap (λ (x : Reply). is_disk_no (Some x)) c.2 ∙ e)
 
-told_outcome : (replies : List (Option Reply)) → list_any is_disk_no replies ≡ true → replies_outcome replies ≡ outcome.DiskFault
+pub told_outcome : (replies : List (Option Reply)) → list_any is_disk_no replies ≡ true → replies_outcome replies ≡ outcome.DiskFault
 told_outcome replies e = rw e refl
 
 pub stopped_any : (given : List Reply) → HasStopped given → list_any is_disk_no (map Some given) ≡ true
 stopped_any given c = told_in given (reply.Refused refused.Stopped) c refl
 
+pub unread_any : (given : List Reply) → HasReadFault given → list_any is_disk_no (map Some given) ≡ true
+unread_any given c = told_in given (reply.Refused refused.ReadFault) c refl
+
 pub stopped_outcome : (given : List Reply) → HasStopped given → replies_outcome (map Some given) ≡ outcome.DiskFault
 stopped_outcome given c = told_outcome (map Some given) (stopped_any given c)
 
 pub unread_outcome_is : (given : List Reply) → HasReadFault given → replies_outcome (map Some given) ≡ outcome.DiskFault
-unread_outcome_is given c = told_outcome (map Some given) (told_in given (reply.Refused refused.ReadFault) c refl)
+unread_outcome_is given c = told_outcome (map Some given) (unread_any given c)
 
 -- which reply it was
 abbrev HasCause : List Reply → Type 0
@@ -234,11 +237,11 @@ script_quiet text given h k began now o f s none = f.quiet
 
 -- ---- a script that was done
 
-safe_at : (lists : Lists) (old : Option History) → IsSettledFor lists old → AreSafeFor lists old
+pub safe_at : (lists : Lists) (old : Option History) → IsSettledFor lists old → AreSafeFor lists old
 safe_at lists None s = absurd s
 safe_at lists (Some h) s = record { store = s.store; entries = s.entries; by = s.safe }
 
-abbrev served_from : (script : Requests) (given : List Reply) (entries : List JournalEntry) (old new : Option History) (began now : Faults) (lists : Lists) → IsScriptDone script given entries old new began now → IsSettledFor lists old → WasServed script lists old new
+abbrev pub served_from : (script : Requests) (given : List Reply) (entries : List JournalEntry) (old new : Option History) (began now : Faults) (lists : Lists) → IsScriptDone script given entries old new began now → IsSettledFor lists old → WasServed script lists old new
 served_from script given entries old new began now lists d s = record { given = given; entries = entries; began = began; now = now; opened = d.leaves.opened; served = d.serves lists (d.shown lists (safe_at lists old s)) (λ reads. s) }
 
 pub script_moments : (script : Requests) (given : List Reply) (entries : List JournalEntry) (old new : Option History) (began now : Faults) → IsScriptDone script given entries old new began now → ScriptMoments script old new

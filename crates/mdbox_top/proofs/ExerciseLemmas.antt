@@ -23,16 +23,20 @@ use Rattle.request_text.specs.declared.outcome.Outcome.{Outcome}
 use Rattle.request_text.specs.declared.outcome.Outcome.TheVariants as outcome
 use Rattle.script_run.specs.Done.{IsScriptDone, MayBeServed}
 use Rattle.script_run.specs.LeftOpen.{ComesTo, IsServedOpen}
+use Rattle.script_run.specs.Faults.{HasReadFault}
+use Rattle.script_run.specs.Opening.{IsUnopened}
 use Rattle.script_run.specs.Script.{HasStopped, is_fetch, has_fetch}
 use Rattle.script_text.specs.MadeScript.{below, made_octet, made_request, made_round, made_turn}
 use Rattle.script_text.proofs.MadeLemmas.{message_length}
 use Rattle.store_core.specs.Value.{StoreValue, indexes_of}
+use Rattle.store_open.specs.declared.error.OpenError.{OpenError}
 use Rattle.task_steps.proofs.OneEventLemmas.{not_true}
-use Rattle.mdbox_top.specs.BatchRun.{ShowsReplies}
+use Rattle.mdbox_top.specs.BatchRun.{ScriptRests, ShowsReplies}
 use Rattle.mdbox_top.specs.ExerciseRun.{ExerciseOutcome, ExerciseRests, IsCountedUp, made_requests}
 use Rattle.mdbox_top.specs.InputRun.{IsOneOf}
 use Rattle.mdbox_top.specs.Numbers.{exercise_text, summary_of}
-use Rattle.mdbox_top.proofs.BatchLemmas.{EndsKnown, opened_damage, opened_ended, opened_refuses, opened_status, opened_used, replies_number, replies_whole, script_fault, script_quiet, stopped_any}
+use Rattle.mdbox_top.specs.OpeningOutcome.{opening_outcome}
+use Rattle.mdbox_top.proofs.BatchLemmas.{EndsKnown, opened_damage, opened_ended, opened_refuses, opened_status, opened_used, replies_number, replies_whole, script_fault, served_from, stopped_any, told_outcome, unread_any}
 use Rattle.mdbox_top.proofs.NumbersLemmas.{both_counted}
 
 -- ---- a made script reads no message
@@ -62,10 +66,7 @@ may_be_served script old none = ([], λ e. absurd (let k : true ≡ false = sym 
 
 -- it doesn't end as a fault of the disk, so no reply says that it failed
 pub none_failed : (replies : List (Option Reply)) → (replies_outcome replies ≡ outcome.DiskFault → ⊥) → list_any is_disk_no replies ≡ false
-none_failed replies unlike = not_true (list_any is_disk_no replies) (λ e. unlike (failed_outcome e))
-  where
-    failed_outcome : list_any is_disk_no replies ≡ true → replies_outcome replies ≡ outcome.DiskFault
-    failed_outcome e = rw e refl
+none_failed replies unlike = not_true (list_any is_disk_no replies) (λ e. unlike (told_outcome replies e))
 
 -- then the nine lines are printed
 text_is : (replies : List (Option Reply)) (m : MapMeaning) (meanings : List BoxMeaning) (summary : Summary) → list_any is_disk_no replies ≡ false → summary ≡ summary_of replies m meanings → summary_text summary ≡ exercise_text replies m meanings
@@ -81,11 +82,12 @@ lines_shown replies m meanings summary h k o none is ended a =
 -- ---- a made script that was done
 
 pub counted_up : (script : Requests) (replies : List (Option Reply)) (entries : List JournalEntry) (h k : Option (List ℕ)) (old new : Option History) (f g : Faults) (o : Outcome) → has_fetch script ≡ false → (m : MapMeaning) (meanings : List BoxMeaning) (given : List Reply) → replies ≡ map Some given
-    → (done : IsScriptDone script given entries old new f g) → ComesTo script given entries old new f g done m meanings → ShowsReplies (exercise_text replies m meanings) replies h k o → IsCountedUp script h k old new f g o
-counted_up script replies entries h k old new f g o unread m meanings given are done comes shows =
+    → (done : IsScriptDone script given entries old new f g) → ComesTo script given entries old new f g done m meanings → ShowsReplies (exercise_text replies m meanings) replies h k o → (list_any is_disk_no replies ≡ true → o ≡ outcome.DiskFault) → IsCountedUp script h k old new f g o
+counted_up script replies entries h k old new f g o unread m meanings given are done comes shows told =
     let may = may_be_served script old unread in
     let printed = subst (λ (rs : List (Option Reply)). ShowsReplies (exercise_text rs m meanings) rs h k o) are shows in
     let text = exercise_text (map Some given) m meanings in
+    let tells : list_any is_disk_no (map Some given) ≡ true → o ≡ outcome.DiskFault = λ e. told (ap (λ (rs : List (Option Reply)). list_any is_disk_no rs) are ∙ e) in
     record {
       given = given;
       journal = entries;
@@ -94,20 +96,30 @@ counted_up script replies entries h k old new f g o unread m meanings given are 
       meanings = meanings;
       comes = comes;
       printed = printed;
+      told = tells;
       fault = script_fault text given h k f g o (done.faults may) printed;
-      quiet = script_quiet text given h k f g o (done.faults may) printed;
+      quiet = λ none. (done.faults may).quiet (λ (c : HasReadFault given). none (tells (unread_any given c))) (λ (c : HasStopped given). none (tells (stopped_any given c)));
     }
 
 -- the script was served, and what its store and its replies tell was printed
 pub counted_from : {D : Type 0} → (history : D → Option History) (faults : D → Faults) (script : Requests) (store : StoreValue D) (disk : D) (r replies : List (Option Reply)) (entries : List JournalEntry) (h k : Option (List ℕ)) (old : Option History) (began : Faults) (o : Outcome) → has_fetch script ≡ false → disk ≡ store.disk → r ≡ replies
-    → (given : List Reply) × (replies ≡ map Some given) × IsServedOpen script given entries old (history store.disk) began (faults store.disk) store → ShowsReplies (exercise_text r store.map (indexes_of store.boxes)) r h k o → IsCountedUp script h k old (history disk) began (faults disk) o
-counted_from {D} history faults script store disk r replies entries h k old began o unread back same served shows =
+    → (given : List Reply) × (replies ≡ map Some given) × IsServedOpen script given entries old (history store.disk) began (faults store.disk) store → ShowsReplies (exercise_text r store.map (indexes_of store.boxes)) r h k o → (list_any is_disk_no r ≡ true → o ≡ outcome.DiskFault) → IsCountedUp script h k old (history disk) began (faults disk) o
+counted_from {D} history faults script store disk r replies entries h k old began o unread back same served shows told =
     let s = subst (λ (d : D). IsServedOpen script served.0 entries old (history d) began (faults d) store) (sym back) served.2 in
-    counted_up script r entries h k old (history disk) began (faults disk) o unread store.map (indexes_of store.boxes) served.0 (same ∙ served.1) s.done s.comes shows
+    counted_up script r entries h k old (history disk) began (faults disk) o unread store.map (indexes_of store.boxes) served.0 (same ∙ served.1) s.done s.comes shows told
 
 -- a store that is stopped replied so
 pub stopped_told : (given : List Reply) (replies r : List (Option Reply)) → r ≡ replies → replies ≡ map Some given → HasStopped given → list_any is_disk_no r ≡ true
 stopped_told given replies r same are stopped = ap (λ (rs : List (Option Reply)). list_any is_disk_no rs) (same ∙ are) ∙ stopped_any given stopped
+
+-- what is left of the disk, if no change of it failed or it ends as a fault
+pub counted_rests : (script : Requests) (h k : Option (List ℕ)) (old new : Option History) (f g : Faults) (o : Outcome) → IsCountedUp script h k old new f g o → ScriptRests script (o ≡ outcome.DiskFault) f g old new
+counted_rests script h k old new f g o d = λ none lists s.
+    let was = served_from script d.given d.journal old new f g lists d.done s in
+    inr (was, was.served.settled (λ (c : HasStopped d.given). none (d.told (stopped_any d.given c)) ((d.done.faults (lists, λ reads. s)).stopped c)) s)
+
+pub unopened_made_rests : (script : Requests) (old new : Option History) (f g : Faults) (why : OpenError) → IsUnopened why old new f g → ScriptRests script (opening_outcome why ≡ outcome.DiskFault) f g old new
+unopened_made_rests script old new f g why u = λ none lists s. inl (u.settled_again (λ e. none (ap opening_outcome e)) lists s)
 
 pub counted_known : (script : Requests) (h k : Option (List ℕ)) (old new : Option History) (f g : Faults) → EndsKnown (IsCountedUp script h k old new f g)
 counted_known script h k old new f g o d = replies_number _ (map Some d.given) h k o d.printed

@@ -256,7 +256,6 @@ fails_last (command.Copy name uid target) o last y e = one_last o last y e
 fails_last (command.Move name uid target) o last y e = one_last o last y e
 fails_last (command.Make name) o last y e = one_last o last y e
 fails_last (command.Batch lanes) o last y e = one_last o last y e
-fails_last (command.Exercise lanes count number) o last y e = one_last o last y e
 fails_last other o last y e = six_last o last y e
 
 pub rests_last : (c : Command) (left : Option (List ℕ)) (told : Option ℕ) (F G : Type 0) (f g : Faults) (old new : Option History) → (F → G) → Rests c left told F f g old new → Rests c left told G f g old new

@@ -1,5 +1,6 @@
 -- How `exercise` ends.
-use Rattle.std.specs.Prelude.{◌≡◌, ◌⊎◌, ℕ, List, [], ◌∷◌, map, Option, Some}
+use Rattle.std.specs.Prelude.{◌≡◌, ◌≢◌, ◌⊎◌, ℕ, true, List, map, Option, Some}
+use Rattle.std.specs.List.{list_any}
 use Rattle.disk_model.specs.Disk.{History, Faults}
 use Rattle.disk_model.specs.FaultCounts.{AnyFaultCounted, NoFault}
 use Rattle.mdbox_base.specs.declared.replies.Reply.{Reply}
@@ -7,18 +8,17 @@ use Rattle.mdbox_base.specs.declared.script.JournalEntry.{JournalEntry}
 use Rattle.model_meaning.specs.BoxMeaning.{BoxMeaning}
 use Rattle.model_meaning.specs.MapMeaning.{MapMeaning}
 use Rattle.journal.specs.Journal.{Requests}
-use Rattle.request_text.specs.Outcomes.{status_of}
+use Rattle.request_text.specs.Outcomes.{is_disk_no}
 use Rattle.request_text.specs.declared.outcome.Outcome.{Outcome}
 use Rattle.request_text.specs.declared.outcome.Outcome.TheVariants as outcome
 use Rattle.script_run.specs.Done.{IsScriptDone}
 use Rattle.script_run.specs.LeftOpen.{ComesTo}
 use Rattle.script_text.specs.MadeScript.{made_script}
 use Rattle.mdbox_top.specs.BatchRun.{OpenedOutcome, ScriptMoments, ScriptRests, ShowsReplies}
-use Rattle.mdbox_top.specs.InputRun.{IsOneOf}
 use Rattle.mdbox_top.specs.Numbers.{exercise_text}
 
 -- The store was opened and the script done, and the numbers are printed of its replies and of what the logs mean to which it came. It
--- ends as a fault of the disk only if a call of it failed, and no call failed but where it may have.
+-- ends as a fault of the disk whenever a reply says that the disk failed, and only if a call of it failed; with any other end none failed.
 pub record IsCountedUp (script : Requests) (held later : Option (List ℕ)) (old new : Option History) (began now : Faults) (ended : Outcome) : Type 0 where
   pub given : List Reply
   pub journal : List JournalEntry
@@ -27,8 +27,9 @@ pub record IsCountedUp (script : Requests) (held later : Option (List ℕ)) (old
   pub meanings : List BoxMeaning
   pub comes : ComesTo script given journal old new began now done m meanings
   pub printed : ShowsReplies (exercise_text (map Some given) m meanings) (map Some given) held later ended
+  pub told : list_any is_disk_no (map Some given) ≡ true → ended ≡ outcome.DiskFault
   pub fault : AnyFaultCounted (ended ≡ outcome.DiskFault) began now
-  pub quiet : (IsOneOf (5 ∷ 6 ∷ 8 ∷ []) (status_of ended) → ⊥) → NoFault began now
+  pub quiet : ended ≢ outcome.DiskFault → NoFault began now
 
 -- So a made script ends; or the store was not opened.
 abbrev pub CountedOutcome : Requests → Option (List ℕ) → Option (List ℕ) → Option History → Option History → Faults → Faults → Outcome → Type 0

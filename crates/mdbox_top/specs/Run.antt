@@ -114,7 +114,6 @@ MayHaveFailed (command.Copy name uid target) status = MayFail (request.Copy name
 MayHaveFailed (command.Move name uid target) status = MayFail (request.Move name uid target) status
 MayHaveFailed (command.Make name) status = MayFail (request.Make name) status
 MayHaveFailed (command.Batch lanes) status = IsOneOf (5 ∷ 6 ∷ 8 ∷ []) status
-MayHaveFailed (command.Exercise lanes count number) status = IsOneOf (5 ∷ 6 ∷ 8 ∷ []) status
 MayHaveFailed other status = status ≡ 6
 
 -- It is said of the command which calls of the disk failed: always, but of a script that reads messages only if the disk was settled.

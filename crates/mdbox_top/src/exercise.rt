@@ -5,7 +5,7 @@ ghost use Rattle.disk_model.specs.FaultCounts.{NoFault, AnyFaultCounted};
 ghost use Rattle.lanes.specs.Worlds.{AreGiven};
 ghost use Rattle.mdbox_base.specs.Streams.{Rose};
 ghost use Rattle.mdbox_base.specs.declared.replies.Reply.{Reply as ReplyValue};
-ghost use Rattle.request_text.specs.Outcomes.{is_disk_no, status_of};
+ghost use Rattle.request_text.specs.Outcomes.{is_disk_no};
 ghost use Rattle.request_text.specs.declared.outcome.Outcome.TheVariants as outcome;
 ghost use Rattle.script_run.specs.Script.{has_fetch};
 ghost use Rattle.script_text.specs.MadeScript.{made_script};
@@ -13,7 +13,6 @@ ghost use Rattle.script_text.specs.Script.{IsForLanes};
 ghost use Rattle.store_core.specs.Value.{indexes_of};
 ghost use Rattle.mdbox_top.specs.BatchRun.{ScriptMoments, ScriptRests, ShowsReplies};
 ghost use Rattle.mdbox_top.specs.ExerciseRun.{CountedOutcome, ExerciseOutcome, ExerciseMoments, ExerciseRests};
-ghost use Rattle.mdbox_top.specs.InputRun.{IsOneOf};
 ghost use Rattle.mdbox_top.specs.Numbers.{exercise_text};
 
 use crate::batch::prepare_messages;
@@ -44,9 +43,9 @@ pub fn exercise<D: Disk, O: Sink>(
     requires count { (1 ≤ count) × (count ≤ 100000) }
     ensures ends { ExerciseOutcome lanes count number (O.held output.old) (O.held output.new) (D.history disk) (D.history result.1) (D.faults disk) (D.faults result.1) result.0 }
     ensures moments { ExerciseMoments lanes count number (D.history disk) (D.history result.1) }
-    ensures rests { ExerciseRests lanes count number (IsOneOf (5 ∷ 6 ∷ 8 ∷ []) (status_of result.0)) (D.faults disk) (D.faults result.1) (D.history disk) (D.history result.1) }
+    ensures rests { ExerciseRests lanes count number (result.0 ≡ outcome.DiskFault) (D.faults disk) (D.faults result.1) (D.history disk) (D.history result.1) }
     ensures disk_fault { AnyFaultCounted (result.0 ≡ outcome.DiskFault) (D.faults disk) (D.faults result.1) }
-    ensures disk_quiet { (IsOneOf (5 ∷ 6 ∷ 8 ∷ []) (status_of result.0) → ⊥) → NoFault (D.faults disk) (D.faults result.1) }
+    ensures disk_quiet { result.0 ≢ outcome.DiskFault → NoFault (D.faults disk) (D.faults result.1) }
     ensures write_fault { result.0 ≡ outcome.WriteFault → Rose (O.faults output.old) (O.faults output.new) }
     ensures write_quiet { result.0 ≢ outcome.WriteFault → O.faults output.new ≡ O.faults output.old }
     ensures counted { O.faults output.old ≤ O.faults output.new }
@@ -90,9 +89,9 @@ fn run_made<D: Disk, O: Sink>(
     requires unread { has_fetch script.requests ≡ false }
     ensures ends { CountedOutcome script.requests (O.held output.old) (O.held output.new) (D.history disk) (D.history result.1) (D.faults disk) (D.faults result.1) result.0 }
     ensures moments { ScriptMoments script.requests (D.history disk) (D.history result.1) }
-    ensures rests { ScriptRests script.requests (IsOneOf (5 ∷ 6 ∷ 8 ∷ []) (status_of result.0)) (D.faults disk) (D.faults result.1) (D.history disk) (D.history result.1) }
+    ensures rests { ScriptRests script.requests (result.0 ≡ outcome.DiskFault) (D.faults disk) (D.faults result.1) (D.history disk) (D.history result.1) }
     ensures disk_fault { AnyFaultCounted (result.0 ≡ outcome.DiskFault) (D.faults disk) (D.faults result.1) }
-    ensures disk_quiet { (IsOneOf (5 ∷ 6 ∷ 8 ∷ []) (status_of result.0) → ⊥) → NoFault (D.faults disk) (D.faults result.1) }
+    ensures disk_quiet { result.0 ≢ outcome.DiskFault → NoFault (D.faults disk) (D.faults result.1) }
     ensures write_fault { result.0 ≡ outcome.WriteFault → Rose (O.faults output.old) (O.faults output.new) }
     ensures write_quiet { result.0 ≢ outcome.WriteFault → O.faults output.new ≡ O.faults output.old }
     ensures counted { O.faults output.old ≤ O.faults output.new }
@@ -121,6 +120,7 @@ fn print_numbers<D: Disk, O: Sink>(
 ) -> Outcome
     requires stopped { store.now.stopped ≡ true → list_any is_disk_no replies.now ≡ true }
     ensures shown { ShowsReplies (exercise_text replies.now store.now.map (indexes_of store.now.boxes)) replies.now (O.held output.old) (O.held output.new) result }
+    ensures told { list_any is_disk_no replies.now ≡ true → result ≡ outcome.DiskFault }
     ensures write_fault { result ≡ outcome.WriteFault → Rose (O.faults output.old) (O.faults output.new) }
     ensures write_quiet { result ≢ outcome.WriteFault → O.faults output.new ≡ O.faults output.old }
     ensures counted { O.faults output.old ≤ O.faults output.new }

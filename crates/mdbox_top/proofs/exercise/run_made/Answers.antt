@@ -1,8 +1,7 @@
-use Rattle.std.specs.Prelude.{map, Some}
-use Rattle.std.proofs.Common.{inr}
-use Rattle.mdbox_top.specs.Numbers.{exercise_text}
-use Rattle.mdbox_top.proofs.BatchLemmas.{script_moments, script_rests, unopened_script_rests}
-use Rattle.mdbox_top.proofs.ExerciseLemmas.{counted_from, stopped_told}
+use Rattle.std.proofs.Common.{◌∙◌, ap, inr}
+use Rattle.mdbox_top.specs.OpeningOutcome.{opening_outcome}
+use Rattle.mdbox_top.proofs.BatchLemmas.{script_moments}
+use Rattle.mdbox_top.proofs.ExerciseLemmas.{counted_from, counted_rests, stopped_told, unopened_made_rests}
 use Rattle.mdbox_top.proofs.exercise.run_made.Goals as goal
 
 pub print_numbers-ended-requires : goal.print_numbers-ended-requires
@@ -12,25 +11,28 @@ print_numbers-ended-requires g c =
 
 pub returns-in-Ok-clause-ends : goal.returns-in-Ok-clause-ends
 returns-in-Ok-clause-ends g c =
-    inr (counted_from g.D.Disk.history g.D.Disk.faults c.args.script.requests c.in-Ok.field-0.store c.into_disk.result c.as_slice.result.now c.in-Ok.field-0.replies c.in-Ok.field-0.journal _ _ _ _ c.print_numbers-ended.result c.requires.unread c.into_disk.ensures c.as_slice.ensures c.in-Ok.ensures.served c.print_numbers-ended.ensures.shown)
+    inr (counted_from g.D.Disk.history g.D.Disk.faults c.args.script.requests c.in-Ok.field-0.store c.into_disk.result c.as_slice.result.now c.in-Ok.field-0.replies c.in-Ok.field-0.journal _ _ _ _ c.print_numbers-ended.result c.requires.unread c.into_disk.ensures c.as_slice.ensures c.in-Ok.ensures.served c.print_numbers-ended.ensures.shown c.print_numbers-ended.ensures.told)
 
 pub returns-in-Ok-clause-moments : goal.returns-in-Ok-clause-moments
 returns-in-Ok-clause-moments g c =
-    let d = counted_from g.D.Disk.history g.D.Disk.faults c.args.script.requests c.in-Ok.field-0.store c.into_disk.result c.as_slice.result.now c.in-Ok.field-0.replies c.in-Ok.field-0.journal _ _ _ _ c.print_numbers-ended.result c.requires.unread c.into_disk.ensures c.as_slice.ensures c.in-Ok.ensures.served c.print_numbers-ended.ensures.shown in
+    let d = counted_from g.D.Disk.history g.D.Disk.faults c.args.script.requests c.in-Ok.field-0.store c.into_disk.result c.as_slice.result.now c.in-Ok.field-0.replies c.in-Ok.field-0.journal _ _ _ _ c.print_numbers-ended.result c.requires.unread c.into_disk.ensures c.as_slice.ensures c.in-Ok.ensures.served c.print_numbers-ended.ensures.shown c.print_numbers-ended.ensures.told in
     script_moments c.args.script.requests d.given d.journal _ _ _ _ d.done
 
 pub returns-in-Ok-clause-rests : goal.returns-in-Ok-clause-rests
 returns-in-Ok-clause-rests g c =
-    let d = counted_from g.D.Disk.history g.D.Disk.faults c.args.script.requests c.in-Ok.field-0.store c.into_disk.result c.as_slice.result.now c.in-Ok.field-0.replies c.in-Ok.field-0.journal _ _ _ _ c.print_numbers-ended.result c.requires.unread c.into_disk.ensures c.as_slice.ensures c.in-Ok.ensures.served c.print_numbers-ended.ensures.shown in
-    script_rests c.args.script.requests (exercise_text (map Some d.given) d.m d.meanings) d.given d.journal _ _ _ _ _ _ c.print_numbers-ended.result d.done d.printed
+    let d = counted_from g.D.Disk.history g.D.Disk.faults c.args.script.requests c.in-Ok.field-0.store c.into_disk.result c.as_slice.result.now c.in-Ok.field-0.replies c.in-Ok.field-0.journal _ _ _ _ c.print_numbers-ended.result c.requires.unread c.into_disk.ensures c.as_slice.ensures c.in-Ok.ensures.served c.print_numbers-ended.ensures.shown c.print_numbers-ended.ensures.told in
+    counted_rests c.args.script.requests _ _ _ _ _ _ c.print_numbers-ended.result d
 
 pub returns-in-Ok-clause-disk_fault : goal.returns-in-Ok-clause-disk_fault
 returns-in-Ok-clause-disk_fault g c =
-    (counted_from g.D.Disk.history g.D.Disk.faults c.args.script.requests c.in-Ok.field-0.store c.into_disk.result c.as_slice.result.now c.in-Ok.field-0.replies c.in-Ok.field-0.journal _ _ _ _ c.print_numbers-ended.result c.requires.unread c.into_disk.ensures c.as_slice.ensures c.in-Ok.ensures.served c.print_numbers-ended.ensures.shown).fault
+    (counted_from g.D.Disk.history g.D.Disk.faults c.args.script.requests c.in-Ok.field-0.store c.into_disk.result c.as_slice.result.now c.in-Ok.field-0.replies c.in-Ok.field-0.journal _ _ _ _ c.print_numbers-ended.result c.requires.unread c.into_disk.ensures c.as_slice.ensures c.in-Ok.ensures.served c.print_numbers-ended.ensures.shown c.print_numbers-ended.ensures.told).fault
 
 pub returns-in-Ok-clause-disk_quiet : goal.returns-in-Ok-clause-disk_quiet
 returns-in-Ok-clause-disk_quiet g c =
-    (counted_from g.D.Disk.history g.D.Disk.faults c.args.script.requests c.in-Ok.field-0.store c.into_disk.result c.as_slice.result.now c.in-Ok.field-0.replies c.in-Ok.field-0.journal _ _ _ _ c.print_numbers-ended.result c.requires.unread c.into_disk.ensures c.as_slice.ensures c.in-Ok.ensures.served c.print_numbers-ended.ensures.shown).quiet
+    (counted_from g.D.Disk.history g.D.Disk.faults c.args.script.requests c.in-Ok.field-0.store c.into_disk.result c.as_slice.result.now c.in-Ok.field-0.replies c.in-Ok.field-0.journal _ _ _ _ c.print_numbers-ended.result c.requires.unread c.into_disk.ensures c.as_slice.ensures c.in-Ok.ensures.served c.print_numbers-ended.ensures.shown c.print_numbers-ended.ensures.told).quiet
 
 pub returns-in-Err-clause-rests : goal.returns-in-Err-clause-rests
-returns-in-Err-clause-rests g c = rw c.outcome_of.ensures (unopened_script_rests c.args.script.requests _ _ _ _ c.in-Err.field-0.error c.in-Err.ensures.refused)
+returns-in-Err-clause-rests g c = rw c.outcome_of.ensures (unopened_made_rests c.args.script.requests _ _ _ _ c.in-Err.field-0.error c.in-Err.ensures.refused)
+
+pub returns-in-Err-clause-disk_quiet : goal.returns-in-Err-clause-disk_quiet
+returns-in-Err-clause-disk_quiet g c = λ no. c.in-Err.ensures.refused.unfailed (λ e. no (c.outcome_of.ensures ∙ ap opening_outcome e))

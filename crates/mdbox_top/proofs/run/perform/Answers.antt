@@ -1,3 +1,7 @@
+use Rattle.std.proofs.Common.{◌≡◌, ap}
+use Rattle.request_text.specs.Outcomes.{status_of}
+use Rattle.request_text.specs.declared.outcome.Outcome.TheVariants as outcome
+use Rattle.mdbox_top.proofs.ExerciseLemmas.{exercise_rests_as}
 use Rattle.mdbox_top.proofs.run.perform.Goals as goal
 
 pub returns-in-Flag-clause-rests : goal.returns-in-Flag-clause-rests
@@ -31,7 +35,8 @@ pub returns-in-Batch-clause-disk_quiet : goal.returns-in-Batch-clause-disk_quiet
 returns-in-Batch-clause-disk_quiet g c = rw c.in-Batch.is c.batch.ensures.disk_quiet
 
 pub returns-in-Exercise-clause-rests : goal.returns-in-Exercise-clause-rests
-returns-in-Exercise-clause-rests g c = rw c.in-Exercise.is c.exercise.ensures.rests
+returns-in-Exercise-clause-rests g c = rw c.in-Exercise.is
+    (exercise_rests_as c.in-Exercise.lanes c.in-Exercise.count c.in-Exercise.number (c.exercise.result.0 ≡ outcome.DiskFault) (status_of c.exercise.result.0 ≡ 6) (g.D.Disk.faults c.args.disk) (g.D.Disk.faults c.exercise.result.1) (g.D.Disk.history c.args.disk) (g.D.Disk.history c.exercise.result.1) (λ e. ap status_of e) c.exercise.ensures.rests)
 
 pub returns-in-Exercise-clause-disk_quiet : goal.returns-in-Exercise-clause-disk_quiet
-returns-in-Exercise-clause-disk_quiet g c = rw c.in-Exercise.is (λ tells. c.exercise.ensures.disk_quiet)
+returns-in-Exercise-clause-disk_quiet g c = rw c.in-Exercise.is (λ tells none. c.exercise.ensures.disk_quiet (λ e. none (ap status_of e)))
