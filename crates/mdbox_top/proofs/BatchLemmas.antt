@@ -332,7 +332,7 @@ no_script_apart lanes left o u (inl e) = subst (HasNoScript lanes left) e u
 no_script_apart lanes left o u (inr e) = subst (HasNoScript lanes left) e u
 
 pub batch_input : (lanes : ℕ) (left h k : Option (List ℕ)) (old new : Option History) (f g : Faults) (why : InputRefusal) → BatchOutcome lanes left h k old new f g (outcome.InputRefused why) → BatchOutcome lanes left h k old new f g outcome.NoMemory
-batch_input lanes left h k old new f g why (inl u) = inl (tt, u.1, u.2)
+batch_input lanes left h k old new f g why (inl u) = inl (tt, u.1, u.2, u.3)
 batch_input lanes left h k old new f g why (inr d) = absurd (opened_refuses (IsBatchDone d.0.requests h k old new f g) (done_known d.0.requests h k old new f g) h k old new f g why d.2)
 
 pub batch_damage : (lanes : ℕ) (left h k : Option (List ℕ)) (old new : Option History) (f g : Faults) (s : StoreRefusal) → BatchOutcome lanes left h k old new f g (outcome.StoreRefused s) → BatchOutcome lanes left h k old new f g outcome.NoMemory

@@ -1,13 +1,13 @@
 -- The places that are printed of a script number its journal.
-use Rattle.std.specs.Prelude.{◌≡◌, ◌≤◌, ◌<◌, ◌+◌, ◌-◌, ◌==◌, ◌&&◌, ◌⊎◌, ◌++◌, ℕ, zero, suc, Bool, true, false, List, [], ◌∷◌, length, map, filter, slice_get, if◌then◌else◌, Option, Some, None}
-use Rattle.std.proofs.Common.{refl, sym, ◌∙◌, ap, subst, inl, inr, arith}
+use Rattle.std.specs.Prelude.{◌≡◌, ◌≤◌, ◌<◌, ◌+◌, ◌-◌, ◌==◌, ◌&&◌, ◌⊎◌, ◌++◌, ℕ, zero, suc, Bool, true, false, AllPairs, List, [], ◌∷◌, length, map, slice_get, if◌then◌else◌, Option, Some, None}
+use Rattle.std.proofs.Common.{refl, sym, ◌∙◌, ap, subst, inl, inr, arith, get_or}
 use Rattle.std.proofs.lemmas.Bool.{eqb-true, eq-eqb, and_parts}
 use Rattle.std.proofs.lemmas.List.{length-map}
-use Rattle.std.proofs.lemmas.Option.{slice_get-map, slice_get_cases, slice_get_within}
+use Rattle.std.proofs.lemmas.List.Elements.{All-get_or}
+use Rattle.std.proofs.lemmas.Option.{get_or_from_slice_get, slice_get-map, slice_get_cases, slice_get_within}
 use Rattle.std.specs.Option.{option_map}
 use Rattle.disk_model.specs.Disk.{History, Faults}
 use Rattle.mdbox_base.specs.declared.ids.Uid.{Uid}
-use Rattle.mdbox_base.specs.declared.replies.Refusal.{Refusal}
 use Rattle.mdbox_base.specs.declared.replies.Refusal.TheVariants as refusal
 use Rattle.mdbox_base.specs.declared.replies.Reply.{Reply}
 use Rattle.mdbox_base.specs.declared.replies.Reply.TheVariants as reply
@@ -18,12 +18,12 @@ use Rattle.mdbox_base.specs.declared.script.Half.TheVariants as half
 use Rattle.mdbox_base.specs.declared.script.JournalEntry.{JournalEntry}
 use Rattle.model_lists.specs.Lists.{Lists}
 use Rattle.list_machine.specs.Run.{Run}
-use Rattle.journal.specs.Journal.{AreSteps, HasAllSteps, IsFirstPart, IsReplyOf, IsStep, JournalStep, Requests, halves_of, moment_of, steps_of}
-use Rattle.lanes.specs.Worlds.{AreEntriesAt}
+use Rattle.journal.specs.Journal.{AreSteps, IsFirstPart, IsLegal, IsReplyOf, JournalStep, Requests, halves_of, moment_of, steps_of}
+use Rattle.lanes.specs.Worlds.{AreEntriesAt, AreOfLanes}
 use Rattle.request_text.specs.BatchText.{place_from, places_by, places_told, refuses_copy, request_steps, same_half}
 use Rattle.request_text.specs.declared.places.Places.TheVariants as places
 use Rattle.script_run.specs.Script.{ServesScript}
-use Rattle.mdbox_top.specs.PrintedPlaces.{IsAmong, IsPrintedWith, NumberJournal}
+use Rattle.mdbox_top.specs.PrintedPlaces.{IsAmong, NumberJournal}
 
 -- ---- a place that was found
 
@@ -324,3 +324,21 @@ served_places script lists given entries began now old opened new many s = recor
       let is = f.1 in
       ((omega (arith, is)), (omega (arith, is, k)));
 }
+
+-- ---- a script of one lane
+
+lane_one : (asked : ℕ × Request) → (0 < asked.0) × (asked.0 ≤ 1) → asked.0 ≡ 1
+lane_one asked of = let few = of.0 in let most = of.1 in omega (arith, few, most)
+
+-- each step is one of that lane
+steps_of_one : (run : Run) (script : Requests) (old : Lists) (journal : List JournalStep) → AreOfLanes 1 script → AreSteps run script old journal → (i : ℕ) (d : JournalStep) → i < length journal → (get_or journal i d).lane ≡ 1
+steps_of_one run script old [] one steps i d l = absurd (omega (arith, l))
+steps_of_one run script old (step ∷ rest) one steps zero d l =
+    let s = steps.0 in
+    s.lane_is ∙ lane_one s.asked (subst (λ (asked : ℕ × Request). (0 < asked.0) × (asked.0 ≤ 1)) (get_or_from_slice_get script step.request s.asked s.asked s.request_is) (All-get_or (λ (asked : ℕ × Request). (0 < asked.0) × (asked.0 ≤ 1)) script step.request s.asked (slice_get_within script step.request s.asked s.request_is) one))
+steps_of_one run script old (step ∷ rest) one steps (suc i) d l = steps_of_one run script step.left rest one steps.1 i d (omega (arith, l))
+
+pub one_lane_in_order : (script : Requests) (start : Lists) (run : Run) (journal : List JournalStep) (replies : List (Option Reply)) (old new : Faults) → AreOfLanes 1 script → IsLegal start script run journal replies old new → AllPairs (λ a b. a.request ≤ b.request) journal
+one_lane_in_order script start run journal replies old new one legal = λ i j d before within.
+    let first : i < length journal = omega (arith, before, within) in
+    legal.order.lanes i j d before within (steps_of_one run script start journal one legal.steps i d first ∙ sym (steps_of_one run script start journal one legal.steps j d within))

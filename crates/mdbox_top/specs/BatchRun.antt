@@ -96,10 +96,10 @@ ScriptRests script failed began now old new = NoFailedChange failed began now �
 abbrev pub OfScript : ℕ → Option (List ℕ) → (Requests → Type 0) → Type 0
 OfScript lanes left holds = (script : Script) × OfInput left (λ input. ReadsScript lanes input script) × holds script.requests
 
--- How `batch` ends: there is no script, nothing is printed, and no call of the disk is made; or as the script that the input is.
+-- How `batch` ends: there is no script, nothing is printed, no call of the disk is made, and none failed; or as the script that the input is.
 abbrev pub BatchOutcome : ℕ → Option (List ℕ) → Option (List ℕ) → Option (List ℕ) → Option History → Option History → Faults → Faults → Outcome → Type 0
 BatchOutcome lanes left held later old new began now ended =
-    (HasNoScript lanes left ended × (later ≡ held) × (new ≡ old))
+    (HasNoScript lanes left ended × (later ≡ held) × (new ≡ old) × NoFault began now)
     ⊎ OfScript lanes left (λ script. ScriptOutcome script held later old new began now ended)
 
 -- What a crash at any moment may leave, and what `batch` leaves of the disk when it ends: no call of it was made, or as the script.

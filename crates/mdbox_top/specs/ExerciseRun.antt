@@ -43,7 +43,7 @@ made_requests lanes count number = (made_script lanes count number).requests
 -- the script that the number makes.
 abbrev pub ExerciseOutcome : ℕ → ℕ → ℕ → Option (List ℕ) → Option (List ℕ) → Option History → Option History → Faults → Faults → Outcome → Type 0
 ExerciseOutcome lanes count number held later old new began now ended =
-    ((ended ≡ outcome.NoMemory) × (later ≡ held) × (new ≡ old))
+    ((ended ≡ outcome.NoMemory) × (later ≡ held) × (new ≡ old) × NoFault began now)
     ⊎ CountedOutcome (made_requests lanes count number) held later old new began now ended
 
 -- What a crash at any moment may leave, and what `exercise` leaves of the disk when it ends: no call of it was made, or as the script.

@@ -1,8 +1,11 @@
 // Laws of what is printed.
-ghost use Rattle.std.specs.Prelude.{◌≡◌, ℕ, List, Option, Some, length, map, sum_by};
+ghost use Rattle.std.specs.Prelude.{◌≡◌, ◌≤◌, ℕ, AllPairs, List, Option, Some, length, map, sum_by};
 ghost use Rattle.disk_model.specs.Disk.{Faults, History};
-ghost use Rattle.journal.specs.Journal.{Requests};
+ghost use Rattle.journal.specs.Journal.{IsLegal, JournalStep, Requests};
+ghost use Rattle.lanes.specs.Worlds.{AreOfLanes};
+ghost use Rattle.list_machine.specs.Run.{Run};
 ghost use Rattle.mdbox_base.specs.declared.replies.Reply.{Reply};
+ghost use Rattle.mdbox_base.specs.declared.replies.Reply.TheVariants as reply;
 ghost use Rattle.mdbox_base.specs.declared.script.JournalEntry.{JournalEntry};
 ghost use Rattle.model_lists.specs.Lists.{Lists};
 ghost use Rattle.model_meaning.specs.BoxMeaning.{BoxMeaning};
@@ -11,6 +14,7 @@ ghost use Rattle.script_run.specs.Opening.{LogsShowLists};
 ghost use Rattle.script_run.specs.Script.{ServesScript};
 ghost use Rattle.request_text.specs.declared.outcome.Outcome.{Outcome};
 ghost use Rattle.request_text.specs.declared.outcome.Outcome.TheVariants as outcome;
+ghost use Rattle.mdbox_top.specs.CountsRun.{counts_of};
 ghost use Rattle.mdbox_top.specs.ExerciseRun.{IsCountedUp, made_requests};
 ghost use Rattle.mdbox_top.specs.Numbers.{messages_listed, octets_listed, summary_of};
 ghost use Rattle.mdbox_top.specs.PrintedPlaces.{NumberJournal};
@@ -18,6 +22,16 @@ ghost use Rattle.mdbox_top.specs.PrintedPlaces.{NumberJournal};
 /// The places that are printed of a script's replies number its journal, from 1 and without gaps.
 pub fn printed_places_number_the_journal()
     ensures { (script : Requests) (lists : Lists) (given : List Reply) (entries : List JournalEntry) (began now : Faults) (old opened new : Option History) → length given ≡ length script → ServesScript script lists given entries began now old opened new → NumberJournal entries given }
+{}
+
+/// A script of one lane is done in its own order: the steps of an earlier request stand before those of a later one.
+pub fn one_lane_keeps_script_order()
+    ensures { (script : Requests) (start : Lists) (run : Run) (journal : List JournalStep) (replies : List (Option Reply)) (old new : Faults) → AreOfLanes 1 script → IsLegal start script run journal replies old new → AllPairs (λ a b. a.request ≤ b.request) journal }
+{}
+
+/// Four of the numbers of an exercise are those that the request `counts` replies of the same logs.
+pub fn an_exercise_has_the_numbers_of_counts()
+    ensures { (replies : List (Option Reply)) (m : MapMeaning) (meanings : List BoxMeaning) → counts_of m meanings ≡ reply.Counted (summary_of replies m meanings).records (summary_of replies m meanings).references (summary_of replies m meanings).counts (summary_of replies m meanings).instances }
 {}
 
 /// The messages and octets that an exercise counts are those of the lists that the logs show.

@@ -15,7 +15,7 @@ pub returns-in-Ok-clause-read_fault : goal.returns-in-Ok-clause-read_fault
 returns-in-Ok-clause-read_fault g c = λ e. absurd (script_ended c.in-Ok.script.requests _ _ _ _ _ _ c.run_requests.result.0 c.run_requests.ensures.ends (inl e))
 
 pub returns-in-Err-clause-ends : goal.returns-in-Err-clause-ends
-returns-in-Err-clause-ends g c = inl (c.in-Err.ensures.none, refl, refl)
+returns-in-Err-clause-ends g c = inl (c.in-Err.ensures.none, refl, refl, refl)
 
 pub returns-in-Err-clause-moments : goal.returns-in-Err-clause-moments
 returns-in-Err-clause-moments g c = inl refl
