@@ -1,7 +1,7 @@
 // What stands in a store's folders.
-ghost use Rattle.std.specs.Prelude.{◌≡◌, ◌<◌, ℕ, ◌++◌, [], ◌∷◌, All, Contains, IfOk, IfSome, IfNone, OnOk, OnErr, codes};
+ghost use Rattle.std.specs.Prelude.{◌≡◌, ◌≢◌, ◌<◌, ℕ, ◌++◌, [], ◌∷◌, All, Contains, IfOk, IfSome, IfNone, OnOk, OnErr, codes};
 ghost use Rattle.hex.specs.Hex.{encode_lower};
-ghost use Rattle.folder_model.specs.System.{AFolder};
+ghost use Rattle.folder_model.specs.System.{AFolder, Another};
 ghost use Rattle.folder_model.specs.Calls.{IfModelled, IsLocked};
 ghost use Rattle.folder_disk.specs.Files.{IsSoundSystem};
 ghost use Rattle.folder_disk.specs.Folders.{folder_text, KeepsAll, HasFoldersOf, HasAllFolders, HasOctetNames, StandInFolders};
@@ -74,6 +74,7 @@ fn add_there<F: Folder>(
     requires sound { IsSoundSystem (F.modelled folder.old) }
     ensures keeps { OnOk result (KeepsAll names.old.items names.new.items) }
     ensures there { OnOk result (IfModelled (F.modelled folder.old) (λ s. s.node (folder_text name) ≡ AFolder → Contains names.new.items name)) }
+    ensures other { OnOk result (IfModelled (F.modelled folder.old) (λ s. s.node (folder_text name) ≢ Another)) }
     ensures same { F.modelled folder.new ≡ F.modelled folder.old }
     ensures still { F.past folder.new ≡ F.past folder.old }
 {
