@@ -248,6 +248,7 @@ impl<F: Folder + Drop> FolderDisk<F> {
         ensures sound { OnOk result (IsSoundSystem (F.Folder.modelled self.new.folder)) }
         ensures spoiled { OnOk result (self.new.is_spoiled ≡ false) }
         ensures file { IfOk result (λ found. IfSome found (λ path. IsStoreFile name × (string_bytes path ≡ path_text name))) }
+        ensures noted { IfOk result (λ found. IfSome found (λ _. IsTrue (contains ⟦<FileName as Ord>⟧.cmp self.new.unsynced name))) }
         ensures none { IfOk result (λ found. IfNone found (IsStoreFile name → ⊥)) }
         ensures spelled { IfOk result (λ found. IfSome found (λ path. IsPath (string_bytes path))) }
         ensures told { told_history (F.Folder.modelled self.new.folder) self.new.record.changes ≡ told_history (F.Folder.modelled self.old.folder) self.old.record.changes }
@@ -369,6 +370,7 @@ impl<F: Folder + Drop> FolderDisk<F> {
     pub(crate) fn fail(&mut self, change: &Change) -> Result<(), DiskError>
         requires { IsFailedChange change.now }
         ensures told { told_history (F.Folder.modelled self.new.folder) self.new.record.changes ≡ after (state_after change.now []) (told_history (F.Folder.modelled self.old.folder) self.old.record.changes) }
+        ensures last { self.new.is_spoiled ≡ true }
         ensures failed { IsErr result }
         ensures cause { ChangeCause result (record { reads = self.old.failed_reads; changes = self.old.failed_changes }) (record { reads = self.new.failed_reads; changes = self.new.failed_changes }) }
     {
