@@ -1,0 +1,4 @@
+pub mod Joining
+pub mod Judges
+pub mod Kept
+pub mod Reading
