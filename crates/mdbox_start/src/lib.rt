@@ -11,4 +11,5 @@ mod exits;
 mod folder;
 mod laws;
 mod outside;
+mod streams;
 mod words;
