@@ -20,7 +20,7 @@ use Rattle.store_seen.specs.Seeing.{IsAtOpening, seen_of}
 use Rattle.store_seen.proofs.SeeingLemmas.{comes_at_first}
 use Rattle.task_claims.specs.Claims.{Claims, ClaimsNothing, HasNoTask, Pinned, Thing, total_claims}
 use Rattle.task_claims.proofs.OpenedLemmas.{none_claimed}
-use Rattle.task_steps.specs.Step.{HasComeTo, ShowsSeen}
+use Rattle.task_steps.specs.Step.{IsFirmAt, HasComeTo, ShowsSeen}
 use Rattle.serving.specs.Accounts.{IsReadyLane, lane_claims}
 use Rattle.serving.specs.Lanes.{AreFresh, LaneAt, LaneValue, said_by}
 use Rattle.serving.specs.Serving.{HaveLanes, IsServing, unreplied}
@@ -109,9 +109,9 @@ lane_begins {D} script run k row store history fresh at = by_current row.current
 
 -- ---- all lanes
 
-serving_begins : {D : Type 0} → (start : Lists) (script : Requests) (run : Run) (rows : List LaneRow) (store : StoreValue D) (history : Option History) (faults : Faults) → run.events ≡ [] → HasComeTo run (seen_in store history faults) → ShowsSeen (seen_in store history faults) start → store.stopped ≡ false → AreFreshRows script rows
+serving_begins : {D : Type 0} → (start : Lists) (script : Requests) (run : Run) (rows : List LaneRow) (store : StoreValue D) (history : Option History) (faults : Faults) → run.events ≡ [] → HasComeTo run (seen_in store history faults) → ShowsSeen (seen_in store history faults) start → store.stopped ≡ false → IsFirmAt start (seen_in store history faults) → AreFreshRows script rows
     → IsServing (stands_in store history) start script run [] no_broken (unreplied script) (seen_in store history faults) (seen_in store history faults) (lanes_of rows)
-serving_begins {D} start script run rows store history faults empty come shows runs fresh = record {
+serving_begins {D} start script run rows store history faults empty come shows runs firm fresh = record {
   serves = s.serves;
   follows = s.follows;
   told = s.told;
@@ -128,7 +128,7 @@ serving_begins {D} start script run rows store history faults empty come shows r
     all_fresh k value there = let r = row_of untaken rows k value there in sym r.2 ∙ ap (λ (q : List ℕ). record (untaken r.0) { queue = q }) (fresh k r.0 r.1).all
 
     s : IsServing (stands_in store history) start script run [] no_broken (unreplied script) (seen_in store history faults) (seen_in store history faults) (map untaken rows)
-    s = serving_start (stands_in store history) start script run (seen_in store history faults) (map untaken rows) empty come shows runs all_fresh
+    s = serving_start (stands_in store history) start script run (seen_in store history faults) (map untaken rows) empty come shows runs firm all_fresh
 
 pub none_in_all : {T : Type 0} → (claims : T → Claims) (lanes : List (LaneValue T)) (thing : Thing) → ((k : ℕ) (value : LaneValue T) → slice_get lanes k ≡ Some value → ClaimsNothing (lane_claims claims value)) → 0 ≡ total_claims (map (lane_claims claims) lanes) thing
 none_in_all claims [] thing none = refl
@@ -150,11 +150,11 @@ none_undamaged script run empty = record {
     no_reply (asked ∷ script) zero given has = let z : Some None ≡ Some (Some given) = has in cc z
     no_reply (asked ∷ script) (suc i) given has = no_reply script i given has
 
-pub all_begin : {D : Type 0} → (start : Lists) (script : Requests) (run : Run) (rows : List LaneRow) (store : StoreValue D) (history : Option History) (faults : Faults) → IsAtOpening run store → HasCome run store.map store.drawn (told_calls history) → HasNoTask store → store.stopped ≡ false → ShowsSeen (seen_in store history faults) start
+pub all_begin : {D : Type 0} → (start : Lists) (script : Requests) (run : Run) (rows : List LaneRow) (store : StoreValue D) (history : Option History) (faults : Faults) → IsAtOpening run store → HasCome run store.map store.drawn (told_calls history) → HasNoTask store → store.stopped ≡ false → ShowsSeen (seen_in store history faults) start → IsFirmAt start (seen_in store history faults)
     → AreFreshRows script rows → HaveLanes script (lanes_of rows) → length rows ≤ 64 → ((place lane : ℕ) (name : List ℕ) (uid : Uid) → slice_get script place ≡ Some (lane, request.Fetch name uid) → IsSettledFor start history)
     → IsGoing start script run [] no_broken (unreplied script) (seen_in store history faults) store history faults rows
-all_begin {D} start script run rows store history faults at come none runs shows fresh lanes few settled = record {
-  serving = serving_begins start script run rows store history faults at.empty (seen_come run store history faults at come none) shows runs fresh;
+all_begin {D} start script run rows store history faults at come none runs shows firm fresh lanes few settled = record {
+  serving = serving_begins start script run rows store history faults at.empty (seen_come run store history faults at come none) shows runs firm fresh;
   lanes = lanes;
   few = few;
   waiting = λ k row there. (fresh k row there).behind;

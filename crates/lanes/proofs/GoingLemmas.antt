@@ -344,4 +344,4 @@ going_on {D} start script run journal broken replies began rows k row now event 
     goes : (failed : Broken) × IsServing (stands_in new after) start script then_run then_journal failed (replies_behind (ended_by event.ended) g.queued.place replies) began (seen_in new after second) (slice_set (lanes_of rows) k (lane_behind (ended_by event.ended) g.next (lane_value row)))
         × BreaksBy (did_of g.next) run d.0.makes.event (told_calls before) broken failed
     goes = lane_goes_on (stands_in old before) (stands_in new after) start script run journal broken replies began (seen_in old before first) (seen_in new after second) (lanes_of rows) k g.queued.place (map (λ (q : Queued). q.place) row.waiting) (lane_value row) turn.0 g.next (around_at g.queued.task turn.0 old nothing_around) nothing_around (did_of g.next) (ended_by event.ended)
-        s.serving (others_stand rows k row g.queued g.next old new before after there g.was ran g.goes.claims g.goes.leaves s.accounts) (value_at rows k row there) (queue_is row g.queued g.was) turn.1.asked d.0 g.goes.image d.1
+        s.serving (others_stand rows k row g.queued g.next old new before after there g.was ran g.goes.claims g.goes.leaves s.accounts) (value_at rows k row there) (queue_is row g.queued g.was) turn.1.asked d.0 g.goes.image (λ runs. (g.goes.leaves runs).firm.stays) d.1

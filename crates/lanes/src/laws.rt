@@ -15,7 +15,7 @@ ghost use Rattle.serving.specs.Serving.{AreIdle, HaveLanes, unreplied};
 ghost use Rattle.store_core.specs.Value.{StoreValue};
 ghost use Rattle.store_seen.specs.Seeing.{IsAtOpening};
 ghost use Rattle.task_claims.specs.Claims.{HasNoTask};
-ghost use Rattle.task_steps.specs.Step.{Seen, ShowsSeen, ended_by};
+ghost use Rattle.task_steps.specs.Step.{IsFirmAt, Seen, ShowsSeen, ended_by};
 ghost use Rattle.mail_fetch.specs.Task.{seen_in};
 ghost use Rattle.lanes.specs.Going.{AddsEvent, AreFreshRows, IsGoing};
 ghost use Rattle.lanes.specs.Rows.{LaneRow, RowGoesOn, lanes_of};
@@ -27,7 +27,7 @@ use disk_model::Disk;
 /// Lanes begin to serve a script over a store that was opened, and that no task has claimed anything of: each with all its requests, and
 /// with the tasks with which these begin.
 pub fn lanes_begin<D: Disk>()
-    ensures { (start : Lists) (script : Requests) (run : Run) (rows : List LaneRow) (store : StoreValue D) (history : Option History) (faults : Faults) → IsAtOpening run store → HasCome run store.map store.drawn (told_calls history) → HasNoTask store → store.stopped ≡ false → ShowsSeen (seen_in store history faults) start
+    ensures { (start : Lists) (script : Requests) (run : Run) (rows : List LaneRow) (store : StoreValue D) (history : Option History) (faults : Faults) → IsAtOpening run store → HasCome run store.map store.drawn (told_calls history) → HasNoTask store → store.stopped ≡ false → ShowsSeen (seen_in store history faults) start → IsFirmAt start (seen_in store history faults)
         → AreFreshRows script rows → HaveLanes script (lanes_of rows) → length rows ≤ 64
         → ((place lane : ℕ) (name : List ℕ) (uid : Uid) → slice_get script place ≡ Some (lane, request.Fetch name uid) → IsSettledFor start history) → IsGoing start script run [] no_broken (unreplied script) (seen_in store history faults) store history faults rows }
 {}

@@ -32,6 +32,7 @@ use Rattle.journal.specs.Journal.{halves_of, IsReplyOf}
 use Rattle.journal.specs.Events.{Around, DidPart, IsRecord, MayMeet, next_part, behind_event, piece_left, plain, IsRepliedBy, is_step_part, makes_step, begun_in, ended_in, pieces_to_read}
 use Rattle.journal.specs.Makes.{HasCome, Makes}
 use Rattle.journal.proofs.RunLemmas.{comes_on}
+use Rattle.sis_store.specs.declared.instance.KnownInstance.{KnownInstance}
 use Rattle.task_steps.specs.Step.{Seen, ShowsSeen, HasComeTo, Leads, IsFault, DidEvent, HasNotBegun, pins_of, and_told}
 use Rattle.task_steps.proofs.SeenLemmas.{comes_to_still, no_guids, doomed_still, used_still, given_still, gone_still, file_still_known, placed_still, there_before}
 use Rattle.task_steps.proofs.UnmovedLemmas.{mail_still}
@@ -40,9 +41,9 @@ use Rattle.mail_fetch.specs.Events.{NoChangeFault}
 
 -- ---- a store behind an event that reads
 
--- the same store, with another past, other counts of faults, and other pins
-abbrev pub behind_reading : Seen → Option History → Faults → (ℕ → ℕ) → Seen
-behind_reading old history faults pins = record old { history = history; faults = faults; pins = pins }
+-- the same store, with another past, other counts of faults, other pins, and others that hold what it knows
+abbrev pub behind_reading : Seen → Option History → Faults → (ℕ → ℕ) → List KnownInstance → Seen
+behind_reading old history faults pins known = record old { history = history; faults = faults; pins = pins; known = known }
 
 pub idle_grows : (old new : Option History) → IsIdle old new → Grows old new
 idle_grows None new idle = grows_none new
@@ -52,10 +53,10 @@ idle_grows None new idle = grows_none new
 idle_grows (Some old) None idle = absurd idle.same
 idle_grows (Some old) (Some new) idle = idle.each.later
 
-pub idle_leads : (lists : Lists) (old : Seen) (history : Option History) (faults : Faults) (pins : ℕ → ℕ) → IsIdle old.history history → Leads lists lists old (behind_reading old history faults pins)
-idle_leads lists old history faults pins idle = record {
-  stops = λ settled. leaves old.history history settled idle;
-  settled = λ settled. stays old.history history settled idle;
+pub idle_leads : (lists : Lists) (old : Seen) (history : Option History) (faults : Faults) (pins : ℕ → ℕ) (known : List KnownInstance) → IsIdle old.history history → Leads lists lists old (behind_reading old history faults pins known)
+idle_leads lists old history faults pins known idle = record {
+  stops = λ settled. leaves old.history history settled.0 idle;
+  settled = λ settled. stays old.history history settled.0 idle;
 }
   where
     leaves : (a b : Option History) → IsSettledFor lists a → IsIdle a b → Leaves lists lists a b
@@ -71,10 +72,10 @@ sum_push : {X : Type 0} → (f : X → ℕ) (xs : List X) (x : X) → sum_by f (
 sum_push f xs x = let h = sum_by-append f xs (x ∷ []) in let k = sum_by-cons f x [] in omega (arith, h, k)
 
 -- A run comes on with an event that may pin or unpin, and does nothing else.
-pub comes_with_pins : (run : Run) (event : RunEvent) (old : Seen) (history : Option History) (faults : Faults) (pins : ℕ → ℕ) → HasComeTo run old → HasCome (and_then run event) old.map old.drawn (told_calls history)
+pub comes_with_pins : (run : Run) (event : RunEvent) (old : Seen) (history : Option History) (faults : Faults) (pins : ℕ → ℕ) (known : List KnownInstance) → HasComeTo run old → HasCome (and_then run event) old.map old.drawn (told_calls history)
     → ((uid : ℕ) → begun_in uid event ≡ ended_in uid event) → event.made ≡ [] → event.doomed ≡ [] → event.removed ≡ [] → event.given ≡ [] → event.placed ≡ [] → event.gone ≡ [] → (old.stopped ≡ false → (file : ℕ) → pins_of (and_then run event) file ≡ pins file)
-    → HasComeTo (and_then run event) (behind_reading old history faults pins)
-comes_with_pins run event old history faults pins h come due made doomed removed given placed gone pinned = record {
+    → HasComeTo (and_then run event) (behind_reading old history faults pins known)
+comes_with_pins run event old history faults pins known h come due made doomed removed given placed gone pinned = record {
   come = come;
   keeps = λ runs.
       let k = h.keeps runs in
@@ -166,20 +167,20 @@ in_turn : (name : List ℕ) (uid : Uid) (said : List Reply) → said ≡ [] → 
 in_turn name uid said none = ap (λ (s : List Reply). slice_get (halves_of (request.Fetch name uid)) (length s)) none
 
 -- The first event pins the file of the record: a step that answers the octets of the message.
-pub did_pin : (around after : Around) (run : Run) (lane place : ℕ) (said : List Reply) (name : List ℕ) (uid : Uid) (lists : Lists) (old : Seen) (history : Option History) (faults : Faults) (pins : ℕ → ℕ) (entry : MapRecord) (octets : List ℕ) → HasComeTo run old → ShowsSeen old lists → HasNotBegun run place said
+pub did_pin : (around after : Around) (run : Run) (lane place : ℕ) (said : List Reply) (name : List ℕ) (uid : Uid) (lists : Lists) (old : Seen) (history : Option History) (faults : Faults) (pins : ℕ → ℕ) (known : List KnownInstance) (entry : MapRecord) (octets : List ℕ) → HasComeTo run old → ShowsSeen old lists → HasNotBegun run place said
     → old.stopped ≡ false → IsIdle old.history history → NoChangeFault old.faults faults → NoFault old.faults faults → IsRecord run lists name uid.0 entry → ((event : RunEvent) → PartAnswers run event lists (request.Fetch name uid) First (reply.Fetched octets) lists)
     → (old.stopped ≡ false → (file : ℕ) → pins_of (and_then run (pin_event lane place entry.file (pieces_to_read entry) entry.instances (told_calls history))) file ≡ pins file)
-    → DidSo around after run lane place said (request.Fetch name uid) lists old (behind_reading old history faults pins) (did.Step half.Whole) None (pin_event lane place entry.file (pieces_to_read entry) entry.instances (told_calls history)) (Some (reply.Fetched octets))
+    → DidSo around after run lane place said (request.Fetch name uid) lists old (behind_reading old history faults pins known) (did.Step half.Whole) None (pin_event lane place entry.file (pieces_to_read entry) entry.instances (told_calls history)) (Some (reply.Fetched octets))
 unfolding pin_makes
-did_pin around after run lane place said name uid lists old history faults pins entry octets come shows stage runs idle none quiet is_record answers pinned = record {
+did_pin around after run lane place said name uid lists old history faults pins known entry octets come shows stage runs idle none quiet is_record answers pinned = record {
   so = record {
     left = lists;
     shown = shows;
     makes = pin_makes around after run lane place name uid lists old.map old.drawn (told_calls old.history) (told_calls history) entry octets come.come (idle_grows old.history history idle) stage.0 is_record answers;
     found = tt;
-    come = comes_with_pins run event old history faults pins come (comes_on run event old.map old.drawn (told_calls old.history) come.come (idle_grows old.history history idle) refl refl) (λ other. refl) refl refl refl refl refl refl pinned;
+    come = comes_with_pins run event old history faults pins known come (comes_on run event old.map old.drawn (told_calls old.history) come.come (idle_grows old.history history idle) refl refl) (λ other. refl) refl refl refl refl refl refl pinned;
     gives = no_guids run event refl;
-    went = (refl, refl, runs, idle_leads lists old history faults pins idle);
+    went = (refl, refl, runs, idle_leads lists old history faults pins known idle);
     grows = idle_grows old.history history idle;
     mail = kept_idle old.map old.history history idle;
     ends = record {
@@ -389,23 +390,23 @@ late_makes around after run lane place name uid lists m drawn before calls part 
 }
 
 -- An event behind the first one: no step.
-pub did_late : (around after : Around) (run : Run) (lane place : ℕ) (said : List Reply) (name : List ℕ) (uid : Uid) (lists : Lists) (old : Seen) (history : Option History) (faults : Faults) (pins : ℕ → ℕ) (part : EventPart) (refused : Option Refusal) (ended : Option Reply) → IsLatePart name uid part
+pub did_late : (around after : Around) (run : Run) (lane place : ℕ) (said : List Reply) (name : List ℕ) (uid : Uid) (lists : Lists) (old : Seen) (history : Option History) (faults : Faults) (pins : ℕ → ℕ) (known : List KnownInstance) (part : EventPart) (refused : Option Refusal) (ended : Option Reply) → IsLatePart name uid part
     → HasComeTo run old → ShowsSeen old lists → IsIdle old.history history → NoChangeFault old.faults faults → (refused ≢ Some refusal.ReadFault → NoFault old.faults faults) → next_part around run (request.Fetch name uid) (own_events place run) ≡ Some part → IsLateRefusal refused → IfSome refused (MayMeet part (request.Fetch name uid))
     → ((ended ≢ None) ↔ (behind_event after (and_then run (fetch_event part lane place refused ended (told_calls history))) (request.Fetch name uid) (fetch_event part lane place refused ended (told_calls history)) refused ≡ None))
     → IsRepliedBy (own_events place run ++ fetch_event part lane place refused ended (told_calls history) ∷ []) ended
-    → ((given : Reply) → ended ≡ Some given → IsReplyOf (request.Fetch name uid) said given) → ((ended ≡ Some (reply.Refused refusal.Stopped)) ↔ (old.stopped ≡ true)) → (old.stopped ≡ true → behind_reading old history faults pins ≡ old)
+    → ((given : Reply) → ended ≡ Some given → IsReplyOf (request.Fetch name uid) said given) → ((ended ≡ Some (reply.Refused refusal.Stopped)) ↔ (old.stopped ≡ true)) → (old.stopped ≡ true → behind_reading old history faults pins known ≡ old)
     → (refused ≡ Some refusal.ReadFault → Rose old.faults.reads faults.reads) → (old.stopped ≡ false → (file : ℕ) → pins_of (and_then run (fetch_event part lane place refused ended (told_calls history))) file ≡ pins file)
-    → DidSo around after run lane place said (request.Fetch name uid) lists old (behind_reading old history faults pins) did.Quiet ended (fetch_event part lane place refused ended (told_calls history)) None
+    → DidSo around after run lane place said (request.Fetch name uid) lists old (behind_reading old history faults pins known) did.Quiet ended (fetch_event part lane place refused ended (told_calls history)) None
 unfolding late_makes
-did_late around after run lane place said name uid lists old history faults pins part refused ended late come shows idle none quiet next unstep may ends replied given halts still reads pinned = record {
+did_late around after run lane place said name uid lists old history faults pins known part refused ended late come shows idle none quiet next unstep may ends replied given halts still reads pinned = record {
   so = record {
     left = lists;
     shown = shows;
     makes = late_makes around after run lane place name uid lists old.map old.drawn (told_calls old.history) (told_calls history) part refused ended late come.come (idle_grows old.history history idle) next unstep may ends replied;
     found = tt;
-    come = comes_with_pins run event old history faults pins come (comes_on run event old.map old.drawn (told_calls old.history) come.come (idle_grows old.history history idle) refl refl) (λ other. refl) refl refl refl refl refl refl pinned;
+    come = comes_with_pins run event old history faults pins known come (comes_on run event old.map old.drawn (told_calls old.history) come.come (idle_grows old.history history idle) refl refl) (λ other. refl) refl refl refl refl refl refl pinned;
     gives = no_guids run event refl;
-    went = (refl, refl, idle_leads lists old history faults pins idle);
+    went = (refl, refl, idle_leads lists old history faults pins known idle);
     grows = idle_grows old.history history idle;
     mail = kept_idle old.map old.history history idle;
     ends = record {

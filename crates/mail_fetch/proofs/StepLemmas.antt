@@ -107,7 +107,7 @@ stopped_steps around after name uid stage.First store history faults left stoppe
 )
 stopped_steps around after name uid (stage.Reading region) store history faults left stopped = λ run lane place said lists come shows safe stood.
     let seen = seen_in store history faults in (
-      (did_late around after run lane place said name uid lists seen history faults seen.pins ReadsPiece (Some refusal.Stopped) (Some (reply.Refused refusal.Stopped)) (piece_is_late name uid) come shows (idle-begins history) (record { reads = omega arith; changes = refl }) (λ differs. refl)
+      (did_late around after run lane place said name uid lists seen history faults seen.pins seen.known ReadsPiece (Some refusal.Stopped) (Some (reply.Refused refusal.Stopped)) (piece_is_late name uid) come shows (idle-begins history) (record { reads = omega arith; changes = refl }) (λ differs. refl)
           (next_reads around name uid run place (pieces_left region.left) region.from stood.0 left.0) (refl, λ e. absurd (let k : refusal.Stopped ≡ refusal.NoMemory = e in cc k)) tt
           (record { 0 = λ e. refl; 1 = λ e f. some_given (reply.Refused refusal.Stopped) f })
           (last_with (own_events place run) (fetch_event ReadsPiece lane place (Some refusal.Stopped) (Some (reply.Refused refusal.Stopped)) (told_calls history)))
@@ -117,7 +117,7 @@ stopped_steps around after name uid (stage.Reading region) store history faults 
     )
 stopped_steps around after name uid (stage.Unpinning from given) store history faults left stopped = λ run lane place said lists come shows safe stood.
     let seen = seen_in store history faults in (
-      (did_late around after run lane place said name uid lists seen history faults seen.pins Unpins (Some refusal.Stopped) (Some (reply.Refused refusal.Stopped)) (unpin_is_late name uid) come shows (idle-begins history) (record { reads = omega arith; changes = refl }) (λ differs. refl)
+      (did_late around after run lane place said name uid lists seen history faults seen.pins seen.known Unpins (Some refusal.Stopped) (Some (reply.Refused refusal.Stopped)) (unpin_is_late name uid) come shows (idle-begins history) (record { reads = omega arith; changes = refl }) (λ differs. refl)
           (next_unpins around name uid run place from given stood.0) (refl, λ e. absurd (let k : refusal.Stopped ≡ refusal.NoMemory = e in cc k)) tt
           (record { 0 = λ e. refl; 1 = λ e f. some_given (reply.Refused refusal.Stopped) f })
           (last_with (own_events place run) (fetch_event Unpins lane place (Some refusal.Stopped) (Some (reply.Refused refusal.Stopped)) (told_calls history)))
@@ -170,7 +170,7 @@ first_pinned around after name uid store history faults row entry end is runs st
     let from : StoredAt = stored_at row entry in
     let seen : Seen = seen_in store history faults in
     let pins : ℕ → ℕ = pins_kept_in (with_claims from store) in
-    let new : Seen = behind_reading seen history faults pins in
+    let new : Seen = behind_reading seen history faults pins (held_for entry.instances store.instances.known) in
     let new_is : seen_in (with_claims from store) history faults ≡ new = use_seen from (pins_in entry.file store.files.files + 1) (held_for entry.instances store.instances.known) store history faults (λ id. rows_held entry.instances id store.instances.known) in
     let shown = shown_by store.map.boxes (indexes_of store.boxes) lists name uid.0 stored.mailbox row shows.1 stored.named stored.listed in
     let guid : row.guid ≡ shown.message.guid = ap (λ (r : ListRow). r.guid.0) shown.same in
@@ -181,7 +181,7 @@ first_pinned around after name uid store history faults row entry end is runs st
     subst (λ (s : Seen). (d : DidEvent around after run lane place said (request.Fetch name uid) lists seen s (did.Step half.Whole) None) × (◌≡◌ {A = Option Reply} None None → IsAtFetch (stage.Reading (unread from)) s.stopped s.history (and_then run d.makes.event) place (and_told said d.makes.answer))) (sym new_is)
     (stands_so around after run lane place said (request.Fetch name uid) lists seen new (did.Step half.Whole) None event (Some (reply.Fetched shown.message.octets))
     (IsAtFetch (stage.Reading (unread from)) new.stopped new.history)
-    (did_pin around after run lane place said name uid lists seen history faults pins entry shown.message.octets come shows stood runs (idle-begins history) (record { reads = omega arith; changes = refl }) refl
+    (did_pin around after run lane place said name uid lists seen history faults pins (held_for entry.instances store.instances.known) entry shown.message.octets come shows stood runs (idle-begins history) (record { reads = omega arith; changes = refl }) refl
     (shown.message, shown.there, ap (λ (m : MapMeaning). record_of m shown.message.guid) come.come.map_is ∙ found)
     (λ e. is_fetched run e store.map.boxes (indexes_of store.boxes) lists name uid stored.mailbox row shows.1 stored.named shown)
     (λ ran file.
@@ -341,9 +341,9 @@ goes_on_behind after run name uid lane place (Some refusal.Stopped) calls h e = 
 
 read_did : (around after : Around) (run : Run) (lane place : ℕ) (said : List Reply) (name : List ℕ) (uid : Uid) (lists : Lists) (old : Seen) (history : Option History) (faults : Faults) (region : RegionValue) (refused : Option Refusal) → HasComeTo run old → ShowsSeen old lists → IsIdle old.history history
     → NoChangeFault old.faults faults → (refused ≢ Some refusal.ReadFault → NoFault old.faults faults) → old.stopped ≡ false → HasReadAllBut region.from (pieces_left region.left) (own_events place run) → 0 < pieces_left region.left → IsPieceRefused refused → (refused ≡ Some refusal.ReadFault → Rose old.faults.reads faults.reads)
-    → DidSo around after run lane place said (request.Fetch name uid) lists old (behind_reading old history faults old.pins) did.Quiet None (fetch_event ReadsPiece lane place refused None (told_calls history)) None
+    → DidSo around after run lane place said (request.Fetch name uid) lists old (behind_reading old history faults old.pins old.known) did.Quiet None (fetch_event ReadsPiece lane place refused None (told_calls history)) None
 read_did around after run lane place said name uid lists old history faults region refused come shows idle none quiet runs read left may rose =
-    did_late around after run lane place said name uid lists old history faults old.pins ReadsPiece refused None (piece_is_late name uid) come shows idle none quiet (next_reads around name uid run place (pieces_left region.left) region.from read left) (piece_late refused may) (piece_may name uid refused may)
+    did_late around after run lane place said name uid lists old history faults old.pins old.known ReadsPiece refused None (piece_is_late name uid) come shows idle none quiet (next_reads around name uid run place (pieces_left region.left) region.from read left) (piece_late refused may) (piece_may name uid refused may)
     (record { 0 = λ h. absurd (h refl); 1 = λ e. absurd (goes_on_behind after run name uid lane place refused (told_calls history) may e) }) tt (λ given e. absurd (no_reply given e))
     (record { 0 = λ e. absurd (no_reply (reply.Refused refusal.Stopped) e); 1 = λ e. absurd (fall old.stopped e runs) }) (λ e. absurd (fall old.stopped e runs)) rose
     (λ ran file. pins_still run (fetch_event ReadsPiece lane place refused None (told_calls history)) file refl (reading_keeps lane place refused None (told_calls history)) ∙ (come.keeps ran).pins file)
@@ -486,14 +486,14 @@ pub unpin_steps : {D : Type 0} → (around after : Around) (name : List ℕ) (ui
 unpin_steps around after name uid from given store history faults runs undoomed claimed = λ run lane place said lists come shows safe stood.
     let seen : Seen = seen_in store history faults in
     let pins : ℕ → ℕ = pins_kept_in (without_claims from store) in
-    let new_is : seen_in (without_claims from store) history faults ≡ behind_reading seen history faults pins =
+    let new_is : seen_in (without_claims from store) history faults ≡ behind_reading seen history faults pins (found_let_go from.instances store.instances.known) =
     use_seen from (pins_in from.file.0 store.files.files - 1) (found_let_go from.instances store.instances.known) store history faults (λ id. rows_let_go from.instances id store.instances.known) in
     let event = fetch_event Unpins lane place None (Some given) (told_calls history) in
     let pin = holds_pin from given place run stood.0 in
     let own_still : All (λ e. All (λ p. p.file ≡ from.file.0) e.pins) (own_events place (and_then run event)) =
     subst (All (λ e. All (λ p. p.file ≡ from.file.0) e.pins)) (sym (own_more place run event (eq-eqb place place refl))) (All-push (λ (e : RunEvent). All (λ (p : Pin). p.file ≡ from.file.0) e.pins) (own_events place run) event (own_files from given place run stood.0) (All-nil (λ (p : Pin). p.file ≡ from.file.0))) in
     subst (λ (s : Seen). (d : DidEvent around after run lane place said (request.Fetch name uid) lists seen s did.Quiet (Some given)) × (Some given ≡ None → IsAtFetch stage.First s.stopped s.history (and_then run d.makes.event) place (and_told said d.makes.answer))) (sym new_is) (
-      (did_late around after run lane place said name uid lists seen history faults pins Unpins None (Some given) (unpin_is_late name uid) come shows (idle-begins history) (record { reads = omega arith; changes = refl }) (λ differs. refl) (next_unpins around name uid run place from given stood.0) tt tt
+      (did_late around after run lane place said name uid lists seen history faults pins (found_let_go from.instances store.instances.known) Unpins None (Some given) (unpin_is_late name uid) come shows (idle-begins history) (record { reads = omega arith; changes = refl }) (λ differs. refl) (next_unpins around name uid run place from given stood.0) tt tt
           (record { 0 = λ h. ends_here (leaves_doomed place (and_then run event)) (none_doomed place from.file.0 (and_then run event) own_still (doomed_still run event from.file.0 refl refl ∙ ((come.keeps runs).doomed from.file.0 ∙ undoomed))); 1 = λ e f. some_given given f })
           (last_with (own_events place run) event ∙ (none_or (last_refusal (own_events place run)) ∙ unpins_by from given (own_events place run) stood.0))
           (λ r e. subst (λ (x : Reply). IsReplyOf (request.Fetch name uid) said x) (let k : given ≡ r = cc e in k) (true_reply_of name uid stood.1.0 given said stood.1.1 stood.1.2))

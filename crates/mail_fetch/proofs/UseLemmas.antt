@@ -179,7 +179,7 @@ pinned_left from pins number known store history = record {
 
 -- with the same instances, and other pins
 pub keeps_beside : {D : Type 0} → (from : StoredAt) (pins : ℕ) (known : List KnownInstance) (old : StoreValue D) (before after : Option History) → KeepsInstances old (record old { instances = record old.instances { known = known } }) before after → KeepsInstances old (with_use from pins known old) before after
-keeps_beside from pins known old before after k = record { store = k.store; drawn = k.drawn; known = k.known; reads = k.reads; first = k.first; compared = k.compared }
+keeps_beside from pins known old before after k = record { store = k.store; drawn = k.drawn; known = k.known; reads = k.reads; first = k.first; compared = k.compared; firm = record { stays = k.firm.stays } }
 
 use_leaves_at : {D : Type 0} → (mine : Claims) (from : StoredAt) (pins : ℕ) (known : List KnownInstance) (store : StoreValue D) (history : Option History) → map (λ k. k.row) known ≡ map (λ k. k.row) store.instances.known → KeepsInstances store (with_use from pins known store) history history → LeavesOthers mine store (with_use from pins known store) history history
 use_leaves_at mine from pins known store history rows keeps = record {
@@ -192,6 +192,7 @@ use_leaves_at mine from pins known store history rows keeps = record {
   numbers = none_placed store.instances known rows;
   mailboxes = omega arith;
   compared = keeps.compared;
+  firm = keeps.firm;
   uids = λ name uid held k. record { m = k.m; named = k.named; below = k.below; same = k.same };
   room = omega arith;
   told = between-begins (λ a b. Unit {0}) history (λ disk. tt);
@@ -229,11 +230,11 @@ instance_same known other i rows =
     sym (map_twice (λ (r : InstRow). bytes_eq r.hash.0 i.hash.0) (λ (k : KnownInstance). k.row) false (instance_in i.id known))
     ∙ (ap (λ (o : Option InstRow). option_map_or (λ r. bytes_eq r.hash.0 i.hash.0) o false) rows ∙ map_twice (λ (r : InstRow). bytes_eq r.hash.0 i.hash.0) (λ (k : KnownInstance). k.row) false (instance_in i.id other))
 
--- It is seen as it was, but for its pins.
+-- It is seen as it was, but for its pins, and who holds the instances that it knows.
 pub use_seen : {D : Type 0} → (from : StoredAt) (pins : ℕ) (known : List KnownInstance) (store : StoreValue D) (history : Option History) (faults : Faults) → ((id : InstId) → option_map (λ k. k.row) (instance_in id known) ≡ option_map (λ k. k.row) (instance_in id store.instances.known))
-    → seen_in (with_use from pins known store) history faults ≡ record (seen_in store history faults) { pins = pins_kept_in (with_use from pins known store) }
+    → seen_in (with_use from pins known store) history faults ≡ record (seen_in store history faults) { pins = pins_kept_in (with_use from pins known store); known = known }
 use_seen from pins known store history faults rows =
-    seen_same (seen_in store history faults) (pins_kept_in (with_use from pins known store)) (λ f. is_doomed_in f (with_use from pins known store).files.files) (may_be_used (with_use from pins known store)) (may_be_barred (with_use from pins known store)) (may_have_given (with_use from pins known store))
+    seen_same (record (seen_in store history faults) { known = known }) (pins_kept_in (with_use from pins known store)) (λ f. is_doomed_in f (with_use from pins known store).files.files) (may_be_used (with_use from pins known store)) (may_be_barred (with_use from pins known store)) (may_have_given (with_use from pins known store))
     (knows_file (with_use from pins known store)) (knows_instance (with_use from pins known store))
     (λ f. doomed_still from.file.0 f pins store.files.files)
     (λ f. but_pins (λ (o : Option MailFile). nat_le f store.drawn.file && option_map_or (λ g. g.doomed || is_none g.end) o true) from.file.0 f pins store.files.files (λ g. refl))

@@ -185,7 +185,7 @@ raise_fell q name uid target half Stands old new before after began faulted c ra
     let seen = seen_of pins old before began in
     let later = seen_of pins new after faulted in (
       (did_fall around behind run lane place said q First lists seen later did.Failed (raise_refuses around run place q name uid target half refusal.Stopped c stood.0) come (map_fell_stays pins old new before after began faulted f) (shows_still pins old new before after began faulted lists f.appends shows) tt ran f.stopped f.rose
-          (record { refused = refl; unanswered = refl; ran = ran; stopped = f.stopped }, λ s. f.appends.moments lists s)).so,
+          (record { refused = refl; unanswered = refl; ran = ran; stopped = f.stopped }, λ s. f.appends.moments lists s.0)).so,
       λ e. absurd (never_more _ e),
     )
 

@@ -295,8 +295,8 @@ copy_added name uid target held given Stands old new before after began faulted 
             refl,
             r.took.runs,
             record {
-              stops = λ s. subst (λ (ls : Lists). Leaves lists ls before after) k.by (a.moments lists k.shown.message.octets (brings_copy before old name uid target r.row r.number given lists is ran r.at k s) s);
-              settled = λ s. subst (λ (ls : Lists). IsSettledFor ls after) k.by (r.took.settled lists k.shown.message.octets (brings_copy before old name uid target r.row r.number given lists is ran r.at k s) s);
+              stops = λ s. subst (λ (ls : Lists). Leaves lists ls before after) k.by (a.moments lists k.shown.message.octets (brings_copy before old name uid target r.row r.number given lists is ran r.at k s.0) s.0);
+              settled = λ s. subst (λ (ls : Lists). IsSettledFor ls after) k.by (r.took.settled lists k.shown.message.octets (brings_copy before old name uid target r.row r.number given lists is ran r.at k s.0) s.0);
             },
           )
           (ends_well q said event ended ended (did.Step half_is.Whole) seen later refl ran r.took.runs r.took.unfailed (λ x. x) (copied_runs given) (λ some. ap (λ (s : List Reply). slice_get (halves_of q) (length s)) stood.1)
@@ -332,7 +332,7 @@ add_fell q name uid target half held Stands old new before after began faulted c
                 left = add_message target k.shown.message lists;
                 made = (c.answers run lists would r.given (add_message target k.shown.message lists) allowed (is_copied old name uid target r.row r.number r.given lists k), refl);
               },
-              λ s. subst (λ (ls : Lists). Leaves lists ls before after) k.by (r.fell.appends.moments lists k.shown.message.octets (brings_copy before old name uid target r.row r.number r.given lists is ran r.at k s) s),
+              λ s. subst (λ (ls : Lists). Leaves lists ls before after) k.by (r.fell.appends.moments lists k.shown.message.octets (brings_copy before old name uid target r.row r.number r.given lists is ran r.at k s.0) s.0),
             ),
           )).so,
       λ e. absurd (never_more _ e),
@@ -376,7 +376,7 @@ back_fell q name uid target half held why Stands old new before after began faul
     let seen = seen_of pins old before began in
     let later = seen_of pins new after faulted in (
       (did_fall around behind run lane place said q GivesBack lists seen later did.Failed (back_stops around run place q name uid target half why stood.0.0 stood.0.1 c (given_for why stood.2) stood.0.2 stood.0.4) come (map_fell_stays pins old new before after began faulted f) (shows_still pins old new before after began faulted lists f.appends shows) tt ran f.stopped f.rose
-          (record { refused = refl; unanswered = refl; ran = ran; stopped = f.stopped }, λ s. f.appends.moments lists s)).so,
+          (record { refused = refl; unanswered = refl; ran = ran; stopped = f.stopped }, λ s. f.appends.moments lists s.0)).so,
       λ e. absurd (never_more _ e),
     )
 

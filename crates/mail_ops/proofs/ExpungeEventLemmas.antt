@@ -133,8 +133,8 @@ expunge_removed name uid owed old new before after began then is ran r = λ arou
       refl,
       r.took.runs,
       record {
-        stops = λ s. subst (λ (ls : Lists). Leaves lists ls before after) k.by (a.moments lists [] (brings_removal old.map uid [] before) s);
-        settled = λ s. subst (λ (ls : Lists). IsSettledFor ls after) k.by (r.took.settled lists [] (brings_removal old.map uid [] before) s);
+        stops = λ s. subst (λ (ls : Lists). Leaves lists ls before after) k.by (a.moments lists [] (brings_removal old.map uid [] before) s.0);
+        settled = λ s. subst (λ (ls : Lists). IsSettledFor ls after) k.by (r.took.settled lists [] (brings_removal old.map uid [] before) s.0);
       },
     )
     (ends_well q said event (Some reply.Done) None (did.Step half.Whole) seen later refl ran r.took.runs r.took.unfailed (λ x. x) (λ e. no_reply (reply.Refused refusal.Stopped) e)
@@ -173,7 +173,7 @@ expunge_broken name uid old new before after began then is ran r = λ around beh
                 left = expunge name uid.0 lists;
                 made = ((k.allowed, refl), refl);
               },
-              λ s. subst (λ (ls : Lists). Leaves lists ls before after) k.by (r.fell.appends.moments lists [] (brings_removal old.map uid [] before) s),
+              λ s. subst (λ (ls : Lists). Leaves lists ls before after) k.by (r.fell.appends.moments lists [] (brings_removal old.map uid [] before) s.0),
             ),
           )).so,
       λ e. absurd (never_more _ e),
@@ -251,6 +251,6 @@ expunge_unlowered name uid owed old new before after began then ran f = λ aroun
     let seen = seen_of pins old before began in
     let later = seen_of pins new after then in (
       (did_fall around behind run lane place said (request.Expunge name uid) GivesBack lists seen later did.Failed (last_stops around run place name uid owed.0 stood.0) come (map_fell_stays pins old new before after began then f) (shows_still pins old new before after began then lists f.appends shows) tt ran f.stopped f.rose
-          (record { refused = refl; unanswered = refl; ran = ran; stopped = f.stopped }, λ s. f.appends.moments lists s)).so,
+          (record { refused = refl; unanswered = refl; ran = ran; stopped = f.stopped }, λ s. f.appends.moments lists s.0)).so,
       λ e. absurd (never_more _ e),
     )

@@ -167,8 +167,8 @@ flag_done around after run lane place said lists name number uid flags bits old 
     refl,
     runs,
     record {
-      stops = λ s. subst (λ (ls : Lists). Leaves lists ls old.history new.history) f.by (a.moments lists s);
-      settled = λ s. subst (λ (ls : Lists). IsSettledFor ls new.history) f.by (settled lists s);
+      stops = λ s. subst (λ (ls : Lists). Leaves lists ls old.history new.history) f.by (a.moments lists s.0);
+      settled = λ s. subst (λ (ls : Lists). IsSettledFor ls new.history) f.by (settled lists s.0);
     },
   );
   grows = a.grows;
@@ -209,7 +209,7 @@ flag_broken around after run lane place said lists name number uid flags bits ol
     refl,
     (
       record { would = would; lane_is = refl; request_is = refl; part_is = refl; did = λ around e. (found.0, found.1, refl); answer = reply.Done; left = set_flags name uid.0 flags lists; made = (f.answers would, refl) },
-      λ s. subst (λ (ls : Lists). Leaves lists ls old.history new.history) f.by (a.moments lists s),
+      λ s. subst (λ (ls : Lists). Leaves lists ls old.history new.history) f.by (a.moments lists s.0),
     ),
   );
   grows = a.grows;

@@ -55,4 +55,4 @@ shows_still pins old new before after began now lists a shows =
     (shows.0, subst (λ (bs : List MapBox). ShowLists bs (indexes_of new.boxes) lists) (sym a.mailboxes) (subst (λ (ms : List BoxMeaning). ShowLists old.map.boxes ms lists) (sym a.indexes) shows.1))
 
 pub leads_still : {D : Type 0} → (pins : ℕ → ℕ) → (entry : MapEntry) (old new : StoreValue D) (before after : Option History) (began now : Faults) (lists : Lists) → MapTook entry old new before after began now → Leads lists lists (seen_of pins old before began) (seen_of pins new after now)
-leads_still pins entry old new before after began now lists t = record { stops = λ s. t.appends.moments lists s; settled = λ s. t.settled lists s }
+leads_still pins entry old new before after began now lists t = record { stops = λ s. t.appends.moments lists s.0; settled = λ s. t.settled lists s.0 }

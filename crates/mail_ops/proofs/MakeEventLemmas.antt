@@ -134,7 +134,7 @@ shows_of pins old new before after began then lists map boxes shows =
     (shows.0, shown_on (seen_of pins old before began) (seen_of pins new after then) (indexes_of old.boxes) lists map (ap indexes_of boxes) shows.1)
 
 pub leads_of : {D : Type 0} → (pins : ℕ → ℕ) → (old new : StoreValue D) (before after : Option History) (began then : Faults) (lists : Lists) → HasChangedDisk same_lists before after began then → Leads lists lists (seen_of pins old before began) (seen_of pins new after then)
-leads_of pins old new before after began then lists d = record { stops = λ s. d.change.moments lists s; settled = λ s. d.settled lists s }
+leads_of pins old new before after began then lists d = record { stops = λ s. d.change.moments lists s.0; settled = λ s. d.settled lists s.0 }
 
 -- ---- the store was stopped
 
@@ -297,7 +297,7 @@ making_unremembered name next store history faults runs = λ around behind pins 
     let later = seen_of pins new history faults in
     let event = drawing lane place (Some refusal.NoMemory) (Some (reply.Refused refusal.NoMemory)) (told_calls history) in (
       (did_drawing around behind run lane place said name lists seen later did.Quiet (Some refusal.NoMemory) (Some (reply.Refused refusal.NoMemory)) stood come (draws_of pins store new history history faults faults (λ runs. runs) refl refl refl refl refl (omega arith) (mail_still store.map history) (omega arith) (omega arith)) shows memory_steps tt
-          (λ e. absurd (some_refusal refusal.NoMemory e)) (record { 0 = λ e. refl; 1 = λ e f. some_reply (reply.Refused refusal.NoMemory) f }) (last_with (own_events place run) event refusal.NoMemory refl) refl (refl, refl, record { stops = leaves_none history lists lists; settled = λ s. s })
+          (λ e. absurd (some_refusal refusal.NoMemory e)) (record { 0 = λ e. refl; 1 = λ e f. some_reply (reply.Refused refusal.NoMemory) f }) (last_with (own_events place run) event refusal.NoMemory refl) refl (refl, refl, record { stops = λ s. leaves_none history lists lists s.0; settled = λ s. s.0 })
           (record {
             in_turn = λ some. absurd (let k : false ≡ true = some in cc k);
             replied = memory_replied name said stood.0.unanswered;
@@ -322,7 +322,7 @@ making_fell name next old new before after began then ran same f = λ around beh
       (did_drawing around behind run lane place said name lists seen later did.Failed (Some refusal.Stopped) (Some (reply.Refused refusal.Stopped)) stood come
           (draws_of pins old new before after began then (λ runs. ran) map_is (ap (λ (s : StoreValue _). s.drawn) same) (ap (λ (s : StoreValue _). s.files) same) (ap (λ (s : StoreValue _). s.instances) same) (ap (λ (s : StoreValue _). s.dues) same) f.change.grows (f.change.stays old.map) (let r = f.change.reads in omega (arith, r)) f.change.changes)
           (shows_of pins old new before after began then lists map_is (ap (λ (s : StoreValue _). s.boxes) same) shows) stopped_steps tt (λ e. absurd (some_refusal refusal.Stopped e)) (record { 0 = λ e. refl; 1 = λ e k. some_reply (reply.Refused refusal.Stopped) k })
-          (last_with (own_events place run) event refusal.Stopped refl) refl (record { refused = refl; unanswered = refl; ran = ran; stopped = stops }, λ s. f.change.moments lists s)
+          (last_with (own_events place run) event refusal.Stopped refl) refl (record { refused = refl; unanswered = refl; ran = ran; stopped = stops }, λ s. f.change.moments lists s.0)
           (record {
             in_turn = λ some. absurd (let k : false ≡ true = some in cc k);
             replied = λ given e. subst (λ (r : Reply). IsReplyOf (request.Make name) said r) (one_reply (reply.Refused refusal.Stopped) given e) tt;
@@ -445,7 +445,7 @@ removing_fell name number next old new before after began then ran same f = λ a
     let overtaken = nat_le number.0 old.map.highest.mailbox in
     let stops : new.stopped ≡ true = ap (λ (s : StoreValue _). s.stopped) same in (
       (did_fall around behind run lane place said (request.Make name) (naming_part overtaken) lists seen later did.Failed (naming_refuses around run place said name number.0 old.map overtaken refusal.Stopped refl stood come.come.map_is (λ e. absurd (stops_memory e))) come
-          (stopped_stays pins old new before after began then same_lists same f.change) (stopped_shows pins old new before after began then lists same shows) tt ran stops f.rose (record { refused = refl; unanswered = refl; ran = ran; stopped = stops }, λ s. f.change.moments lists s)).so,
+          (stopped_stays pins old new before after began then same_lists same f.change) (stopped_shows pins old new before after began then lists same shows) tt ran stops f.rose (record { refused = refl; unanswered = refl; ran = ran; stopped = stops }, λ s. f.change.moments lists s.0)).so,
       λ e. absurd (never_more _ e),
     )
 

@@ -147,7 +147,7 @@ naming_done name number next old new before after began then is ran n named d = 
           (comes_with run event (map_entry.B (record { 0 = number_of run place }) 1 name) seen later come (subst (λ (k : ℕ). new.map ≡ map_applied (map_entry.B (record { 0 = k }) 1 name) old.map) (sym stood.2) named.map) (ap (λ (s : StoreValue _). s.drawn) named.same) d.change.grows refl refl refl)
           (λ uid. let e = named_due old new number name uid named in omega (arith, e))
           (store_tells pins old new before after began then (λ runs. ran) (ap (λ (m : MapMeaning). m.store) named.map) (ap (λ (s : StoreValue _). s.drawn) named.same) (ap (λ (s : StoreValue _). s.files) named.same) (ap (λ (s : StoreValue _). s.instances) named.same)) shown d.change.grows (d.change.stays old.map) refl ((free, made), refl)
-          (refl, refl, runs, record { stops = λ s. d.change.moments lists s; settled = λ s. d.settled lists s })
+          (refl, refl, runs, record { stops = λ s. d.change.moments lists s.0; settled = λ s. d.settled lists s.0 })
           (ends_well (request.Make name) said event (Some reply.Done) (Some reply.Done) (did.Step half.Whole) seen later refl ran runs d.unfailed (λ x. x) done_stopped (λ some. in_turn name said Last none)
           (λ given e. subst (λ (r : Reply). IsReplyOf (request.Make name) (said ++ reply.Done ∷ []) r) (one_reply reply.Done given e) (ap (λ (before_it : List Reply). before_it ++ reply.Done ∷ []) none)))).so,
       λ e. absurd (never_more _ e),
@@ -178,7 +178,7 @@ naming_fell name number next old new before after began then is ran n same f = �
                 left = left;
                 made = ((no_check pins run name number.0 old before began lists shows n, made_so pins run lane place name number old before began lists (told_calls after) is come shows n stood.2), refl);
               },
-              λ s. f.change.moments lists s,
+              λ s. f.change.moments lists s.0,
             ),
           )).so,
       λ e. absurd (never_more _ e),

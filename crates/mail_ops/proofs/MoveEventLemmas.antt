@@ -102,8 +102,8 @@ move_added name uid target held copied old new before after began faulted is ran
       refl,
       r.took.runs,
       record {
-        stops = λ s. subst (λ (ls : Lists). Leaves lists ls before after) k.by (a.moments lists k.shown.message.octets (brings_copy before old name uid target r.row r.number copied lists is ran r.at k s) s);
-        settled = λ s. subst (λ (ls : Lists). IsSettledFor ls after) k.by (r.took.settled lists k.shown.message.octets (brings_copy before old name uid target r.row r.number copied lists is ran r.at k s) s);
+        stops = λ s. subst (λ (ls : Lists). Leaves lists ls before after) k.by (a.moments lists k.shown.message.octets (brings_copy before old name uid target r.row r.number copied lists is ran r.at k s.0) s.0);
+        settled = λ s. subst (λ (ls : Lists). IsSettledFor ls after) k.by (r.took.settled lists k.shown.message.octets (brings_copy before old name uid target r.row r.number copied lists is ran r.at k s.0) s.0);
       },
     )
     (ends_well q said event (Some (reply.Copied copied)) None (did.Step half.CopyHalf) seen later refl ran r.took.runs r.took.unfailed (λ x. x) (λ e. no_reply (reply.Refused refusal.Stopped) e) (λ some. ap (λ (s : List Reply). slice_get (halves_of q) (length s)) stood.1)
@@ -246,8 +246,8 @@ move_removed name uid target held copied old new before after began faulted is r
       refl,
       r.took.runs,
       record {
-        stops = λ s. subst (λ (ls : Lists). Leaves lists ls before after) k.by (a.moments lists [] (brings_removal old.map uid [] before) s);
-        settled = λ s. subst (λ (ls : Lists). IsSettledFor ls after) k.by (r.took.settled lists [] (brings_removal old.map uid [] before) s);
+        stops = λ s. subst (λ (ls : Lists). Leaves lists ls before after) k.by (a.moments lists [] (brings_removal old.map uid [] before) s.0);
+        settled = λ s. subst (λ (ls : Lists). IsSettledFor ls after) k.by (r.took.settled lists [] (brings_removal old.map uid [] before) s.0);
       },
     )
     (ends_well q said event (Some (reply.Moved copied false)) None (did.Step half.ExpungeHalf) seen later refl ran r.took.runs r.took.unfailed (λ x. x) (λ e. no_reply (reply.Refused refusal.Stopped) e)
@@ -285,7 +285,7 @@ move_broken name uid target held copied Stands old new before after began faulte
                 left = expunge name uid.0 lists;
                 made = ((refl, (copied_as place run held copied first second two h added, (sym (ap is_none k.shown.there), refl))), refl);
               },
-              λ s. subst (λ (ls : Lists). Leaves lists ls before after) k.by (r.fell.appends.moments lists [] (brings_removal old.map uid [] before) s),
+              λ s. subst (λ (ls : Lists). Leaves lists ls before after) k.by (r.fell.appends.moments lists [] (brings_removal old.map uid [] before) s.0),
             ),
           )).so,
       λ e. absurd (never_more _ e),
@@ -320,7 +320,7 @@ move_unlowered name uid target owed copied Stands old new before after began fau
     let seen = seen_of pins old before began in
     let later = seen_of pins new after faulted in (
       (did_fall around behind run lane place said (request.Move name uid target) GivesBack lists seen later did.Failed (lowers_stops around run place name uid target stood.0.0 stood.0.1 stood.0.2 stood.0.3 stood.0.6) come (map_fell_stays pins old new before after began faulted f) (shows_still pins old new before after began faulted lists f.appends shows) tt ran f.stopped f.rose
-          (record { refused = refl; unanswered = refl; ran = ran; stopped = f.stopped }, λ s. f.appends.moments lists s)).so,
+          (record { refused = refl; unanswered = refl; ran = ran; stopped = f.stopped }, λ s. f.appends.moments lists s.0)).so,
       λ e. absurd (never_more _ e),
     )
 

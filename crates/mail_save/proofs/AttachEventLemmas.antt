@@ -231,7 +231,7 @@ first_more name time size prepared parts attaching store history faults runs mes
   others = keeps_same (stage.First prepared) store store refl refl;
   moves = λ ran. nothing_moves (save_amounts (stage.First prepared)) (save_amounts (stage.Attaching parts attaching)) store store (λ uid. refl) (λ uid. refl);
   holds = subst (λ (v : AttachingValue). MovesHolds (λ id. 0) (holds_of v.found) store store) (sym is) (λ id. refl);
-  instances = λ ran. same_keeps store store history history refl (mail_itself history);
+  instances = λ ran. same_keeps store store history history refl refl (mail_itself history);
   stopped = more_runs store.stopped runs;
   faults = refl;
   grows = omega arith;
@@ -276,7 +276,7 @@ first_last name time size prepared parts named attaching store history faults ru
       others = keeps_same (stage.First prepared) store store refl refl;
       moves = λ ran. nothing_moves (save_amounts (stage.First prepared)) (save_amounts (stage.Taking named)) store store (λ uid. refl) (λ uid. refl);
       holds = subst (λ (rs : List InstRow). MovesHolds (λ id. 0) (holds_of rs) store store) (sym rows) (λ id. refl);
-      instances = λ ran. same_keeps store store history history refl (mail_itself history);
+      instances = λ ran. same_keeps store store history history refl refl (mail_itself history);
       stopped = more_runs store.stopped runs;
       faults = refl;
       grows = omega arith;

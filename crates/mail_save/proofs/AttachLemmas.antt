@@ -116,7 +116,7 @@ not_there (Some octets) none = absurd (none octets refl)
 pub next_is_fresh : {D : Type 0} → (hash : Hash) (store : StoreValue D) (history : Option History) → store.stopped ≡ false → HasKnownInstances history store → AreInstances store.instances → store.instances.highest < 4294967294
     → IfTold history (λ now. reading (now (next_instance_file hash store.instances)) ≡ None)
 next_is_fresh hash store history runs has are few =
-    if_told-map (AreInstancesThere store.instances.known store.map) (λ now. reading (now (next_instance_file hash store.instances)) ≡ None) history (λ disk there.
+    if_told-map (AreInstancesThere store.instances.known) (λ now. reading (now (next_instance_file hash store.instances)) ≡ None) history (λ disk there.
     not_there (reading (disk (next_instance_file hash store.instances))) (λ octets is.
     let k = there.only hash.0 (next_id store.instances).0 octets is in
     next_unknown store.instances k.0 are few k.1 (same_id k.0.row.id (next_id store.instances) (same_inst k.0.row.hash.0 k.0.row.id.0 hash.0 (next_id store.instances).0 k.2)))) (has.running runs)

@@ -1,21 +1,27 @@
 -- The instances that a delivery has found stay so, as other files change, and its record may name them.
 use Rattle.std.proofs.Common.{◌≡◌, ◌≤◌, ℕ, List, [], ◌∷◌, All, Option, length, sym, subst, arith}
 use Rattle.std.proofs.lemmas.List.Elements.{All-cons, All-head, All-nil, All-tail, All-weaker}
-use Rattle.disk_model.specs.Disk.{History, Between}
+use Rattle.disk_model.specs.Disk.{History, Between, IfTold}
+use Rattle.disk_model.specs.declared.name.FileName.TheVariants as file
 use Rattle.disk_model.proofs.BetweenLemmas.{between-map, between-on}
+use Rattle.disk_model.proofs.MomentLemmas.{if_told-map}
 use Rattle.mdbox_base.specs.declared.entries.InstRow.{InstRow}
 use Rattle.save_instances.proofs.FoundLemmas.{of_parts_kept, rows_first, rows_known}
 use Rattle.save_instances.specs.Attaching.{AreHeld}
 use Rattle.saved_message.proofs.ReferenceLemmas.{parts_few}
 use Rattle.sis_store.specs.Instances.{InstancesValue}
-use Rattle.store_core.proofs.InstanceKeepingLemmas.{kept_same}
-use Rattle.store_core.specs.Keeping.{KeepsInstances, ReadsInstances}
-use Rattle.store_core.specs.StoreInstances.{IsFirstKnown, IsKnownRow}
+use Rattle.store_core.proofs.InstanceAppendLemmas.{of_known}
+use Rattle.store_core.proofs.InstanceKeepingLemmas.{kept_same, names_same}
+use Rattle.store_core.proofs.KnownInstanceLemmas.{firm_same}
+use Rattle.store_core.specs.Keeping.{KeepsFirm, KeepsInstances, ReadsInstances, SyncsInstances}
+use Rattle.store_core.specs.StoreInstances.{AreInstancesFirm, IsFirmInstance, IsFirstKnown, IsKnownRow}
 use Rattle.store_core.specs.Value.{StoreValue}
 use Rattle.mail_save.specs.Left.{HoldsInstances}
 use Rattle.mail_save.specs.MailFiles.{HasAppended, ReadsOtherMail, ReadsSameMail, TakesWithHeader}
 use Rattle.mail_save.specs.Parts.{AreAttached}
+use Rattle.mail_save.specs.Record.{MayBeNamed}
 use Rattle.mail_save.specs.Task.{IsAttached}
+use Rattle.mail_save.proofs.MailFileLemmas.{synced_reads}
 use Rattle.mail_save.specs.declared.first.SavedParts.{SavedParts}
 
 -- ---- what leaves the instances leaves those that are held
@@ -45,21 +51,33 @@ is_attached_on name time parts old new before after keeps same a = ((a.0.0, a.0.
 
 -- ---- as storage files change
 
-read_other : (file : ℕ) (before after : Option History) → ReadsOtherMail file before after → Between ReadsInstances before after
-read_other file before after same = between-map _ ReadsInstances before after (λ a b both. both.1) same
+syncs_other : (file : ℕ) (before after : Option History) → ReadsOtherMail file before after → Between SyncsInstances before after
+syncs_other file before after same = between-map _ SyncsInstances before after (λ a b both. both.1) same
 
-read_same : (before after : Option History) → ReadsSameMail before after → Between ReadsInstances before after
-read_same before after same = between-map _ ReadsInstances before after (λ a b both. both.1) same
+syncs_same : (before after : Option History) → ReadsSameMail before after → Between SyncsInstances before after
+syncs_same before after same = between-map _ SyncsInstances before after (λ a b both. both.1) same
+
+syncs_read : (before after : Option History) → Between SyncsInstances before after → Between ReadsInstances before after
+syncs_read before after same = between-map SyncsInstances ReadsInstances before after (λ a b s hash id. synced_reads (a (file.Inst hash id)) (b (file.Inst hash id)) (s hash id)) same
+
+-- where the records name what they named
+kept_synced : {D : Type 0} → (old new : StoreValue D) (before after : Option History) → new.instances ≡ old.instances → new.map ≡ old.map → Between SyncsInstances before after → KeepsInstances old new before after
+kept_synced old new before after same map_is synced =
+    kept_same old new before after same (syncs_read before after synced) (firm_same old new before after same (names_same old.map new.map map_is) synced)
 
 -- a storage file was taken, a region placed, or nothing written to the storage files and instances
-pub taken_keeps : {D : Type 0} → (header : List ℕ) (file : ℕ) (old new : StoreValue D) (before after : Option History) → new.instances ≡ old.instances → TakesWithHeader header file old before after → KeepsInstances old new before after
-taken_keeps header file old new before after same t = kept_same old new before after same (read_other file before after t.others)
+pub taken_keeps : {D : Type 0} → (header : List ℕ) (file : ℕ) (old new : StoreValue D) (before after : Option History) → new.instances ≡ old.instances → new.map ≡ old.map → TakesWithHeader header file old before after → KeepsInstances old new before after
+taken_keeps header file old new before after same map_is t = kept_synced old new before after same map_is (syncs_other file before after t.others)
 
-pub placed_keeps : {D : Type 0} → (region : List ℕ) (file : ℕ) (old new : StoreValue D) (before after : Option History) → new.instances ≡ old.instances → HasAppended region file before after → KeepsInstances old new before after
-placed_keeps region file old new before after same a = kept_same old new before after same (read_other file before after a.others)
+pub placed_keeps : {D : Type 0} → (region : List ℕ) (file : ℕ) (old new : StoreValue D) (before after : Option History) → new.instances ≡ old.instances → new.map ≡ old.map → HasAppended region file before after → KeepsInstances old new before after
+placed_keeps region file old new before after same map_is a = kept_synced old new before after same map_is (syncs_other file before after a.others)
 
-pub same_keeps : {D : Type 0} → (old new : StoreValue D) (before after : Option History) → new.instances ≡ old.instances → ReadsSameMail before after → KeepsInstances old new before after
-same_keeps old new before after same reads = kept_same old new before after same (read_same before after reads)
+pub same_keeps : {D : Type 0} → (old new : StoreValue D) (before after : Option History) → new.instances ≡ old.instances → new.map ≡ old.map → ReadsSameMail before after → KeepsInstances old new before after
+same_keeps old new before after same map_is reads = kept_synced old new before after same map_is (syncs_same before after reads)
+
+-- an entry of the map log was added
+pub logged_keeps : {D : Type 0} → (old new : StoreValue D) (before after : Option History) → new.instances ≡ old.instances → KeepsFirm old new before after → ReadsSameMail before after → KeepsInstances old new before after
+logged_keeps old new before after same firm reads = kept_same old new before after same (syncs_read before after (syncs_same before after reads)) firm
 
 -- ---- its record may name them
 
@@ -68,3 +86,9 @@ holds_attached name time parts store history a =
     let at : AreAttached name time a.0.0 parts store history = a.0.2 in
     let few : length at.prepared.parts ≤ 512 = parts_few a.0.0 at.prepared a.0.1 at.form in
     record { known = rows_known parts.rows at.prepared.parts store.instances.known history at.found; held = a.1; first = rows_first parts.rows at.prepared.parts store.instances.known history at.found; few = (let one = at.one_each in omega (arith, few, one)) }
+
+-- what was found may be named, where all that is known may
+pub rows_firm : {D : Type 0} → (rows : List InstRow) (store : StoreValue D) (history : Option History) → All (IsKnownRow store.instances.known) rows → IfTold history (AreInstancesFirm store.instances.known store.map) → MayBeNamed rows store history
+rows_firm rows store history known firm =
+    if_told-map (AreInstancesFirm store.instances.known store.map) (λ now. All (IsFirmInstance store.map now) rows) history
+    (λ disk all. All-weaker (IsKnownRow store.instances.known) (IsFirmInstance store.map disk) (λ inst is. of_known (IsFirmInstance store.map disk) store.instances.known inst all is) rows known) firm

@@ -141,10 +141,10 @@ pub record LeavesMailBut (Own : ℕ → Type 0) (before after : Option History) 
   pub grows : Between GrowsMail before after
 
 abbrev SameMail : DiskState → DiskState → Type 0
-SameMail a b = ((number : ℕ) → IsSameOrSynced (a (Mail number)) (b (Mail number))) × ((hash id : List ℕ) → reading (b (Inst hash id)) ≡ reading (a (Inst hash id)))
+SameMail a b = ((number : ℕ) → IsSameOrSynced (a (Mail number)) (b (Mail number))) × ((hash id : List ℕ) → IsSameOrSynced (a (Inst hash id)) (b (Inst hash id)))
 
 abbrev OtherMail : ℕ → DiskState → DiskState → Type 0
-OtherMail file a b = ((number : ℕ) → number ≢ file → IsSameOrSynced (a (Mail number)) (b (Mail number))) × ((hash id : List ℕ) → reading (b (Inst hash id)) ≡ reading (a (Inst hash id)))
+OtherMail file a b = ((number : ℕ) → number ≢ file → IsSameOrSynced (a (Mail number)) (b (Mail number))) × ((hash id : List ℕ) → IsSameOrSynced (a (Inst hash id)) (b (Inst hash id)))
 
 -- it reads as it did, and nothing more
 no_more : (a b : Option (List ℕ)) (octets : List ℕ) → b ≡ a → a ≡ Some octets → (more : List ℕ) × (b ≡ Some (octets ++ more))
@@ -154,7 +154,7 @@ pub mail_same : (Own : ℕ → Type 0) (before after : Option History) → Reads
 mail_same Own before after same = record {
   files = between-map SameMail (SyncsBut Own) before after (λ a b s number other. s.0 number) same;
   grows = between-map SameMail GrowsMail before after
-      (λ a b s. (λ number octets is. no_more (reading (a (Mail number))) (reading (b (Mail number))) octets (synced_reads (a (Mail number)) (b (Mail number)) (s.0 number)) is, λ hash id octets is. s.1 hash id ∙ is)) same;
+      (λ a b s. (λ number octets is. no_more (reading (a (Mail number))) (reading (b (Mail number))) octets (synced_reads (a (Mail number)) (b (Mail number)) (s.0 number)) is, λ hash id octets is. synced_reads (a (Inst hash id)) (b (Inst hash id)) (s.1 hash id) ∙ is)) same;
 }
 
 one_octets : (o : Option (List ℕ)) (a b : List ℕ) → o ≡ Some a → o ≡ Some b → a ≡ b
@@ -164,7 +164,7 @@ pub mail_appended : (region : List ℕ) (file : ℕ) (before after : Option Hist
 mail_appended region file before after h = record {
   files = between-map (OtherMail file) (SyncsBut (λ number. number ≡ file)) before after (λ a b s number other. s.0 number other) h.others;
   grows = between-both (OtherMail file) (λ a b. IsAddedTo region (a (Mail file)) (b (Mail file))) GrowsMail before after
-      (λ a b s added. (λ number octets is. by_number a b s added number octets is (cases_eq number file), λ hash id octets is. s.1 hash id ∙ is)) h.others h.added;
+      (λ a b s added. (λ number octets is. by_number a b s added number octets is (cases_eq number file), λ hash id octets is. synced_reads (a (Inst hash id)) (b (Inst hash id)) (s.1 hash id) ∙ is)) h.others h.added;
 }
   where
     by_number : (a b : DiskState) → OtherMail file a b → IsAddedTo region (a (Mail file)) (b (Mail file)) → (number : ℕ) (octets : List ℕ) → reading (a (Mail number)) ≡ Some octets → (number ≡ file) ⊎ (number ≢ file) → (more : List ℕ) × (reading (b (Mail number)) ≡ Some (octets ++ more))
@@ -190,7 +190,7 @@ mail_taken header file old before after known t = by_end (end_in file old.files.
     by_end (Some end) e = mail_same (λ number. number ≡ file) before after (t.known end e)
     by_end None e = record {
       files = between-map (OtherMail file) (SyncsBut (λ number. number ≡ file)) before after (λ a b s number other. s.0 number other) t.others;
-      grows = between-if (OtherMail file) GrowsMail Absent before after (λ a b s none. (λ number octets is. by_number a b s (none ∙ e) number octets is (cases_eq number file), λ hash id octets is. s.1 hash id ∙ is)) t.others known;
+      grows = between-if (OtherMail file) GrowsMail Absent before after (λ a b s none. (λ number octets is. by_number a b s (none ∙ e) number octets is (cases_eq number file), λ hash id octets is. synced_reads (a (Inst hash id)) (b (Inst hash id)) (s.1 hash id) ∙ is)) t.others known;
     }
 
 abbrev FilesSync : DiskState → DiskState → Type 0
@@ -268,6 +268,7 @@ leaves_by mine Own old new before after keeps uids draws room rows known mail un
   numbers = draws.numbers;
   mailboxes = draws.mailboxes;
   compared = keeps.compared;
+  firm = keeps.firm;
   uids = uids;
   room = room;
   told = between-map GrowsMail (λ a b. Unit {0}) before after (λ a b m. tt) mail.grows;

@@ -23,7 +23,6 @@ pub mod SaveDoesLemmas
 pub mod SaveEventLemmas
 pub mod SaveFileLemmas
 pub mod SaveFrontLemmas
-pub mod SaveInstanceLemmas
 pub mod SaveKeptLemmas
 pub mod SaveLastLemmas
 pub mod SaveLeavesLemmas

@@ -23,23 +23,23 @@ synced_reads a b (inr synced) = ap reading synced ∙ named_reads a
 -- ---- nothing is written to them
 
 abbrev SameMail : DiskState → DiskState → Type 0
-SameMail a b = ((number : ℕ) → IsSameOrSynced (a (Mail number)) (b (Mail number))) × ((hash id : List ℕ) → reading (b (Inst hash id)) ≡ reading (a (Inst hash id)))
+SameMail a b = ((number : ℕ) → IsSameOrSynced (a (Mail number)) (b (Mail number))) × ((hash id : List ℕ) → IsSameOrSynced (a (Inst hash id)) (b (Inst hash id)))
 
 abbrev OtherMail : ℕ → DiskState → DiskState → Type 0
-OtherMail file a b = ((number : ℕ) → number ≢ file → IsSameOrSynced (a (Mail number)) (b (Mail number))) × ((hash id : List ℕ) → reading (b (Inst hash id)) ≡ reading (a (Inst hash id)))
+OtherMail file a b = ((number : ℕ) → number ≢ file → IsSameOrSynced (a (Mail number)) (b (Mail number))) × ((hash id : List ℕ) → IsSameOrSynced (a (Inst hash id)) (b (Inst hash id)))
 
 pub mail_itself : (h : Option History) → ReadsSameMail h h
-mail_itself h = between-begins SameMail h (λ disk. (λ number. inl refl, λ hash id. refl))
+mail_itself h = between-begins SameMail h (λ disk. (λ number. inl refl, λ hash id. inl refl))
 
 pub mail_unchanged : {D : Type 0} → (history : D → Option History) (old new : D) → new ≡ old → ReadsSameMail (history old) (history new)
 mail_unchanged history old new same = subst (λ d. ReadsSameMail (history old) (history d)) (sym same) (mail_itself (history old))
 
 pub mail_kept : (before after : Option History) → KeepsMail before after → ReadsSameMail before after
-mail_kept before after = between-map _ SameMail before after (λ a b k. (λ number. inl (k.0 number), λ hash id. ap reading (k.1 hash id)))
+mail_kept before after = between-map _ SameMail before after (λ a b k. (λ number. inl (k.0 number), λ hash id. inl (k.1 hash id)))
 
 -- calls that read
 pub mail_idle : (before after : Option History) → IsIdle before after → ReadsSameMail before after
-mail_idle before after idle = between-map (λ a b. b ≡ a) SameMail before after (λ a b e. (λ number. inl (ap (λ (d : DiskState). d (Mail number)) e), λ hash id. ap (λ (d : DiskState). reading (d (Inst hash id))) e)) idle.same
+mail_idle before after idle = between-map (λ a b. b ≡ a) SameMail before after (λ a b e. (λ number. inl (ap (λ (d : DiskState). d (Mail number)) e), λ hash id. inl (ap (λ (d : DiskState). d (Inst hash id)) e))) idle.same
 
 -- ---- one is written
 
@@ -55,10 +55,10 @@ no_instance hash id file = λ e. cc e
 others_named : (file : ℕ) (before after : Option History) → OthersAreNamed (Mail file) before after → ReadsOtherMail file before after
 others_named file before after =
     between-map _ (OtherMail file) before after
-    (λ a b k. (λ number apart. inr (k (Mail number) (other_number number file apart)), λ hash id. ap reading (k (Inst hash id) (no_instance hash id file)) ∙ named_reads (a (Inst hash id))))
+    (λ a b k. (λ number apart. inr (k (Mail number) (other_number number file apart)), λ hash id. inr (k (Inst hash id) (no_instance hash id file))))
 
 others_same : (file : ℕ) (before after : Option History) → SameButFor (Mail file) before after → ReadsOtherMail file before after
-others_same file before after = between-map _ (OtherMail file) before after (λ a b k. (λ number apart. inl (k (Mail number) (other_number number file apart)), λ hash id. ap reading (k (Inst hash id) (no_instance hash id file))))
+others_same file before after = between-map _ (OtherMail file) before after (λ a b k. (λ number apart. inl (k (Mail number) (other_number number file apart)), λ hash id. inl (k (Inst hash id) (no_instance hash id file))))
 
 -- ---- a storage file is taken
 

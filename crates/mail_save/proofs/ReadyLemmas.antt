@@ -95,11 +95,11 @@ pub instances_there : (rows : List InstRow) (parts : List Detached) (known : Lis
 instances_there rows parts known history are long =
     subst (λ (ps : List Detached). IfTold history (λ now. HasInstances (files_of now) rows (map (λ (d : Detached). d.octets) ps))) (ap (λ (n : ℕ). take n parts) long ∙ take-length parts) (rows_there rows parts known history are)
 
-same_instances : (a b : DiskState) (rows : List InstRow) (octets : List (List ℕ)) → ((hash id : List ℕ) → reading (b (file.Inst hash id)) ≡ reading (a (file.Inst hash id))) → HasInstances (files_of a) rows octets → HasInstances (files_of b) rows octets
+same_instances : (a b : DiskState) (rows : List InstRow) (octets : List (List ℕ)) → ((hash id : List ℕ) → IsSameOrSynced (a (file.Inst hash id)) (b (file.Inst hash id))) → HasInstances (files_of a) rows octets → HasInstances (files_of b) rows octets
 same_instances a b [] [] same h = tt
 same_instances a b [] (text ∷ rest) same h = absurd h
 same_instances a b (row ∷ rows) [] same h = absurd h
-same_instances a b (row ∷ rows) (text ∷ rest) same h = (same row.hash.0 row.id.0 ∙ h.0, same_instances a b rows rest same h.1)
+same_instances a b (row ∷ rows) (text ∷ rest) same h = (synced_reads (a (file.Inst row.hash.0 row.id.0)) (b (file.Inst row.hash.0 row.id.0)) (same row.hash.0 row.id.0) ∙ h.0, same_instances a b rows rest same h.1)
 
 -- ---- no mailbox lists a message with a new GUID
 
@@ -153,7 +153,7 @@ stored_alone at rows time size added old new before s made =
 -- a region that reads as it did
 written_reads : (row : MapRecord) (name : List ℕ) (time : ℕ) (prepared : Prepared) (before after : Option History) → ReadsSameMail before after → IfTold before (λ now. HasWritten (files_of now) row name time prepared) → IfTold after (λ now. HasWritten (files_of now) row name time prepared)
 written_reads row name time prepared before after same there =
-    between-on (λ a b. ((number : ℕ) → IsSameOrSynced (a (file.Mail number)) (b (file.Mail number))) × ((hash id : List ℕ) → reading (b (file.Inst hash id)) ≡ reading (a (file.Inst hash id)))) (λ now. HasWritten (files_of now) row name time prepared) (λ now. HasWritten (files_of now) row name time prepared) before after
+    between-on (λ a b. ((number : ℕ) → IsSameOrSynced (a (file.Mail number)) (b (file.Mail number))) × ((hash id : List ℕ) → IsSameOrSynced (a (file.Inst hash id)) (b (file.Inst hash id)))) (λ now. HasWritten (files_of now) row name time prepared) (λ now. HasWritten (files_of now) row name time prepared) before after
     (λ a b kept h. record {
       there = h.there;
       in_file = synced_reads (a (file.Mail row.file)) (b (file.Mail row.file)) (kept.0 row.file) ∙ h.in_file;

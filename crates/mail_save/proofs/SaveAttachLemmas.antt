@@ -233,7 +233,7 @@ attaching_refused pins parts attaching why name time size octets how old new bef
         with_did pins octets (stage.Attaching parts attaching) stage.Ended name time (progress.Done (reply.Refused why)) how did.Quiet old new before after began faulted (e.did_is ∙ ap failing_did is)
         (subst (λ (w : Refusal). DeliveryClause pins octets (stage.Attaching parts attaching) stage.Ended name time (progress.Done (reply.Refused w)) did.Quiet old new before after began faulted) (sym is)
         (λ behind. unread_save (around_saving octets (stage.Attaching parts attaching) old) behind name time octets Compares (IsTakingFile attaching.found) (IsAtSave stage.Ended) (seen_of pins old before began) (seen_of pins new after faulted) sees (ends_comparing name time octets)
-        (comparing_at (around_saving octets (stage.Attaching parts attaching) old) name time octets attaching.found candidate left (next)) refl e.ran run (λ lists. record { stops = λ t. e.moments lists t; settled = λ t. e.rests run lists t })
+        (comparing_at (around_saving octets (stage.Attaching parts attaching) old) name time octets attaching.found candidate left (next)) refl e.ran run (λ lists. record { stops = λ t. e.moments lists t.0; settled = λ t. e.rests run lists t.0 })
         (stays_told pins old new before after began faulted e.ran made.1 e.grows fault.reads (equal_changes began faulted fault.changes)) (fault.rose tt)))
 
     full : next_candidate attaching old.instances ≡ None → why ≡ refusal.StoreFull 4294967294 → nat_le 4294967294 old.drawn.instance ≡ true → DeliveryClause pins octets (stage.Attaching parts attaching) stage.Ended name time (progress.Done (reply.Refused why)) how old new before after began faulted
@@ -274,7 +274,7 @@ attaching_refused pins parts attaching why name time size octets how old new bef
         (stays_so pins (record no_numbers { instance = 1 }) old new before after began faulted e.ran (ap (λ (v : StoreValue _). v.map) k) (drawn ∙ drawn_instance old.drawn) (ap (λ (v : StoreValue _). v.dues) k) (ap (λ (v : StoreValue _). indexes_of v.boxes) k)
         (let d = ap (λ (h : Highest). h.file) drawn in omega (arith, d)) (same_ends old new (tells_same old new (let d = ap (λ (v : StoreValue _). v.drawn.file) k in omega (arith, d)) (ap (λ (v : StoreValue _). v.files.files) k)) (λ n. ap (λ (v : StoreValue _). end_in n v.files.files) k))
         (record { drawn = omega (arith, number); known = λ row. ap (λ (v : StoreValue _). knows_in v.instances.known row) k }) e.grows (equal_reads began faulted fault.reads) fault.changes)
-        e.ran (e.stopped.0 stop) (fault.rose tt) (λ lists t. e.moments lists t)))
+        e.ran (e.stopped.0 stop) (fault.rose tt) (λ lists t. e.moments lists t.0)))
 
     by_candidate : (o : Option InstRow) → next_candidate attaching old.instances ≡ o → IsAttachRefusal o old.drawn.instance why → DeliveryClause pins octets (stage.Attaching parts attaching) stage.Ended name time (progress.Done (reply.Refused why)) how old new before after began faulted
     by_candidate (Some candidate) next is = unread candidate next is

@@ -20,6 +20,7 @@ use Rattle.store_core.proofs.MailChangeLemmas.{Own}
 use Rattle.store_core.specs.Knows.{knows_instance}
 use Rattle.store_core.specs.Running.{IsStore}
 use Rattle.store_core.specs.StoreInstances.{AreInstancesKept}
+use Rattle.sis_store.specs.declared.instance.KnownInstance.{KnownInstance}
 use Rattle.store_core.specs.Value.{StoreValue}
 use Rattle.task_steps.specs.Step.{Seen, HasComeTo, FindsRoom, Leads, Fell, Went, EndsRequest, DidEvent, Steps, ended_by}
 use Rattle.store_seen.specs.Seeing.{seen_of}
@@ -68,23 +69,23 @@ with_did pins octets now next name time answer how known old new before after be
 -- ---- instances are let go
 
 -- a store that tells other instances
-abbrev telling : Seen → (InstRow → Bool) → Seen
-telling seen instances = record seen { instances = instances }
+abbrev telling : Seen → (InstRow → Bool) → List KnownInstance → Seen
+telling seen instances known = record seen { instances = instances; known = known }
 
-leads_as : (lists left : Lists) (old new : Seen) (f : InstRow → Bool) → Leads lists left old new → Leads lists left old (telling new f)
-leads_as lists left old new f l = record { stops = l.stops; settled = l.settled }
+leads_as : (lists left : Lists) (old new : Seen) (f : InstRow → Bool) (known : List KnownInstance) → Leads lists left old new → Leads lists left old (telling new f known)
+leads_as lists left old new f known l = record { stops = l.stops; settled = l.settled }
 
-fell_as : (event : RunEvent) (answer : Option Reply) (old new : Seen) (f : InstRow → Bool) → Fell event answer old new → Fell event answer old (telling new f)
-fell_as event answer old new f k = record { refused = k.refused; unanswered = k.unanswered; ran = k.ran; stopped = k.stopped }
+fell_as : (event : RunEvent) (answer : Option Reply) (old new : Seen) (f : InstRow → Bool) (known : List KnownInstance) → Fell event answer old new → Fell event answer old (telling new f known)
+fell_as event answer old new f known k = record { refused = k.refused; unanswered = k.unanswered; ran = k.ran; stopped = k.stopped }
 
-went_as : (how : Did) (q : Request) (run : Run) (lists left : Lists) (event : RunEvent) (answer : Option Reply) (old new : Seen) (f : InstRow → Bool) → Went how q run lists left event answer old new → Went how q run lists left event answer old (telling new f)
-went_as did.Quiet q run lists left event answer old new f w = (w.0, w.1, leads_as lists lists old new f w.2)
-went_as (did.Step half) q run lists left event answer old new f w = (w.0, w.1, w.2, leads_as lists left old new f w.3)
-went_as did.Failed q run lists left event answer old new f w = (fell_as event answer old new f w.0, w.1)
-went_as (did.Broken half) q run lists left event answer old new f w = (fell_as event answer old new f w.0, w.1, w.2)
+went_as : (how : Did) (q : Request) (run : Run) (lists left : Lists) (event : RunEvent) (answer : Option Reply) (old new : Seen) (f : InstRow → Bool) (known : List KnownInstance) → Went how q run lists left event answer old new → Went how q run lists left event answer old (telling new f known)
+went_as did.Quiet q run lists left event answer old new f known w = (w.0, w.1, leads_as lists lists old new f known w.2)
+went_as (did.Step half) q run lists left event answer old new f known w = (w.0, w.1, w.2, leads_as lists left old new f known w.3)
+went_as did.Failed q run lists left event answer old new f known w = (fell_as event answer old new f known w.0, w.1)
+went_as (did.Broken half) q run lists left event answer old new f known w = (fell_as event answer old new f known w.0, w.1, w.2)
 
-come_as : (run : Run) (new : Seen) (f : InstRow → Bool) → ((row : InstRow) → f row ≡ new.instances row) → HasComeTo run new → HasComeTo run (telling new f)
-come_as run new f same h = record {
+come_as : (run : Run) (new : Seen) (f : InstRow → Bool) (known : List KnownInstance) → ((row : InstRow) → f row ≡ new.instances row) → HasComeTo run new → HasComeTo run (telling new f known)
+come_as run new f known same h = record {
   come = h.come;
   keeps = λ runs. let k = h.keeps runs in record { due = k.due; pins = k.pins; doomed = k.doomed; instances = λ row. k.instances row ∙ sym (same row); files = k.files };
   used = h.used;
@@ -94,8 +95,8 @@ come_as run new f same h = record {
   files = h.files;
 }
 
-ends_as : (q : Request) (said : List Reply) (event : RunEvent) (answer ended : Option Reply) (how : Did) (old new : Seen) (f : InstRow → Bool) → old.stopped ≡ false → EndsRequest q said event answer ended how old new → EndsRequest q said event answer ended how old (telling new f)
-ends_as q said event answer ended how old new f ran e = record {
+ends_as : (q : Request) (said : List Reply) (event : RunEvent) (answer ended : Option Reply) (how : Did) (old new : Seen) (f : InstRow → Bool) (known : List KnownInstance) → old.stopped ≡ false → EndsRequest q said event answer ended how old new → EndsRequest q said event answer ended how old (telling new f known)
+ends_as q said event answer ended how old new f known ran e = record {
   in_turn = e.in_turn;
   replied = e.replied;
   halts = e.halts;
@@ -105,27 +106,27 @@ ends_as q said event answer ended how old new f ran e = record {
   unfailed = e.unfailed;
 }
 
-did_as : (around after : Around) (run : Run) (lane place : ℕ) (said : List Reply) (q : Request) (lists : Lists) (old new : Seen) (how : Did) (ended : Option Reply) (f : InstRow → Bool) → old.stopped ≡ false → ((row : InstRow) → f row ≡ new.instances row)
-    → DidEvent around after run lane place said q lists old new how ended → DidEvent around after run lane place said q lists old (telling new f) how ended
-did_as around after run lane place said q lists old new how ended f ran same d = record {
+did_as : (around after : Around) (run : Run) (lane place : ℕ) (said : List Reply) (q : Request) (lists : Lists) (old new : Seen) (how : Did) (ended : Option Reply) (f : InstRow → Bool) (known : List KnownInstance) → old.stopped ≡ false → ((row : InstRow) → f row ≡ new.instances row)
+    → DidEvent around after run lane place said q lists old new how ended → DidEvent around after run lane place said q lists old (telling new f known) how ended
+did_as around after run lane place said q lists old new how ended f known ran same d = record {
   left = d.left;
   shown = d.shown;
   makes = d.makes;
   found = d.found;
-  come = come_as (and_then run d.makes.event) new f same d.come;
+  come = come_as (and_then run d.makes.event) new f known same d.come;
   gives = d.gives;
-  went = went_as how q run lists d.left d.makes.event d.makes.answer old new f d.went;
+  went = went_as how q run lists d.left d.makes.event d.makes.answer old new f known d.went;
   grows = d.grows;
   mail = d.mail;
-  ends = ends_as q said d.makes.event d.makes.answer ended how old new f ran d.ends;
+  ends = ends_as q said d.makes.event d.makes.answer ended how old new f known ran d.ends;
 }
 
-steps_as : (Stood Stands : Run → ℕ → List Reply → Type 0) (around after : Around) (q : Request) (old new : Seen) (how : Did) (ended : Option Reply) (f : InstRow → Bool) → old.stopped ≡ false → ((row : InstRow) → f row ≡ new.instances row)
-    → Steps Stood Stands around after q old new how ended → Steps Stood Stands around after q old (telling new f) how ended
+steps_as : (Stood Stands : Run → ℕ → List Reply → Type 0) (around after : Around) (q : Request) (old new : Seen) (how : Did) (ended : Option Reply) (f : InstRow → Bool) (known : List KnownInstance) → old.stopped ≡ false → ((row : InstRow) → f row ≡ new.instances row)
+    → Steps Stood Stands around after q old new how ended → Steps Stood Stands around after q old (telling new f known) how ended
 unfolding did_as
-steps_as Stood Stands around after q old new how ended f ran same does = λ run lane place said lists come shows stood.
+steps_as Stood Stands around after q old new how ended f known ran same does = λ run lane place said lists come shows stood.
     let d = does run lane place said lists come shows stood in
-    (did_as around after run lane place said q lists old new how ended f ran same d.0, d.1)
+    (did_as around after run lane place said q lists old new how ended f known ran same d.0, d.1)
 
 abbrev let_go_of : {D : Type 0} → List InstRow → StoreValue D → StoreValue D
 let_go_of found store = record store { instances = record store.instances { known = found_let_go found store.instances.known } }
@@ -136,7 +137,7 @@ pub lets_go_does : {D : Type 0} → (pins : ℕ → ℕ) (octets : List ℕ) (no
 lets_go_does pins octets now next name time answer how old left new before after began faulted found ran gone does =
     subst (λ (n : StoreValue _). DeliveryClause pins octets now next name time answer how old n before after began faulted) (sym gone)
     (λ behind. steps_as (λ run place said. IsAtSave now run place said × (old.stopped ≡ false → FindsRoom (around_saving octets now old) run)) (IsAtSave next) (around_saving octets now old) behind (request.Deliver name time octets) (seen_of pins old before began) (seen_of pins left after faulted) how (ended_by answer)
-    (λ row. knows_instance (let_go_of found left) row) ran (λ row. knows_let_go row found left.instances.known) (does behind))
+    (λ row. knows_instance (let_go_of found left) row) (found_let_go found left.instances.known) ran (λ row. knows_let_go row found left.instances.known) (does behind))
 
 -- ---- the store in front of that
 

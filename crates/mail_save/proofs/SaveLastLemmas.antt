@@ -154,8 +154,8 @@ saved_message around after name time octets guid held number uid Stands old new 
             refl,
             a.runs,
             record {
-              stops = λ settled. subst (λ (ls : Lists). Leaves lists ls old.history new.history) k.by (a.moments lists settled);
-              settled = λ settled. subst (λ (ls : Lists). IsSettledFor ls new.history) k.by (a.settled lists settled);
+              stops = λ settled. subst (λ (ls : Lists). Leaves lists ls old.history new.history) k.by (a.moments lists settled.0);
+              settled = λ settled. subst (λ (ls : Lists). IsSettledFor ls new.history) k.by (a.settled lists settled.0);
             },
           )
           (ends_well q said event ended ended (did.Step half.Whole) old new refl a.ran a.runs a.quiet (λ x. x) (saved_runs uid guid) (λ some. ap (λ (r : List Reply). slice_get (halves_of q) (length r)) stood.0.2)
@@ -218,7 +218,7 @@ broken_save around after name time octets guid held number uid Stands old new se
             left = left;
             made = ((allowed, made), refl);
           },
-          λ settled. subst (λ (ls : Lists). Leaves lists ls old.history new.history) k.by (a.moments lists settled),
+          λ settled. subst (λ (ls : Lists). Leaves lists ls old.history new.history) k.by (a.moments lists settled.0),
         ),
       )).so,
       λ e. absurd (never_more _ e),

@@ -16,11 +16,13 @@ use Rattle.store_core.specs.Running.{IsStore}
 use Rattle.store_core.specs.Value.{StoreValue}
 use Rattle.mail_save.specs.Added.{HasRoomUnder}
 use Rattle.mail_save.specs.Ready.{IsReadyToSave, IsRecordReady, delivered_lists, save_lists, lists_delivered}
+use Rattle.mail_save.specs.Record.{IsSettledInStore}
 use Rattle.mail_save.specs.SaveEffects.{SaveEffects}
 use Rattle.mail_save.specs.Task.{HasLeft, Saves, RestsAt}
 use Rattle.mail_save.specs.declared.add.Added.{Added}
 use Rattle.mail_save.specs.declared.task.SaveStage.{SaveStage}
 use Rattle.mail_save.specs.declared.task.SaveStage.TheVariants as stage
+use Rattle.mail_save.proofs.HeldInstanceLemmas.{rows_firm}
 use Rattle.mail_save.proofs.PlacedLemmas.{placed_stores}
 use Rattle.mail_save.proofs.DeliveredListLemmas.{LogsShowLists, delivered_settled}
 
@@ -44,15 +46,15 @@ adding_moments added room name time size next answer how old new before after be
         (s.moments number uid there lists octets (ready.brings uid) at)
 
 pub save_moments : {D : Type 0} → (now next : SaveStage) (name : List ℕ) (time size : ℕ) (answer : Progress) (how : Did) (old new : StoreValue D) (before after : Option History) (began ended : Faults) → LogsShowLists → IsStore before old → old.stopped ≡ false → IfTold before Own → HasLeft now name time old before
-    → Saves now next name time size answer how old new before after began ended → (octets : List ℕ) → IsReadyToSave now name time size octets old before → (lists : Lists) → IsSettledFor lists before → Leaves lists (save_lists now name octets lists) before after
-save_moments (stage.First prepared) next name time size answer how old new before after began ended show is runs own left s octets ready lists at = s.moments lists at
-save_moments (stage.Attaching parts attaching) next name time size answer how old new before after began ended show is runs own left s octets ready lists at = s.moments lists at
-save_moments (stage.Taking parts) next name time size answer how old new before after began ended show is runs own left s octets ready lists at = s.moments lists at
-save_moments (stage.Placing parts file) next name time size answer how old new before after began ended show is runs own left s octets ready lists at = s.moments lists at
-save_moments (stage.Storing place rows room) next name time size answer how old new before after began ended show is runs own left s octets ready lists at = s.moments lists (placed_stores place rows name time octets old before is runs own left.0 ready.1 (record { 0 = old.drawn.map + 1 }) lists at) at
-save_moments (stage.Adding added room) next name time size answer how old new before after began ended show is runs own left s octets ready lists at = adding_moments added room name time size next answer how old new before after began ended show is runs s octets ready.1 lists at
-save_moments (stage.GivingBack uid why room) next name time size answer how old new before after began ended show is runs own left s octets ready lists at = s.moments lists at
-save_moments stage.Ended next name time size answer how old new before after began ended show is runs own left s octets ready lists at = s.moments lists at
+    → Saves now next name time size answer how old new before after began ended → (octets : List ℕ) → IsReadyToSave now name time size octets old before → (lists : Lists) → IsSettledInStore lists old before → Leaves lists (save_lists now name octets lists) before after
+save_moments (stage.First prepared) next name time size answer how old new before after began ended show is runs own left s octets ready lists at = s.moments lists at.0
+save_moments (stage.Attaching parts attaching) next name time size answer how old new before after began ended show is runs own left s octets ready lists at = s.moments lists at.0
+save_moments (stage.Taking parts) next name time size answer how old new before after began ended show is runs own left s octets ready lists at = s.moments lists at.0
+save_moments (stage.Placing parts file) next name time size answer how old new before after began ended show is runs own left s octets ready lists at = s.moments lists at.0
+save_moments (stage.Storing place rows room) next name time size answer how old new before after began ended show is runs own left s octets ready lists at = s.moments lists (placed_stores place rows name time octets old before is runs own left.0 ready.1 (record { 0 = old.drawn.map + 1 }) lists at.0) (rows_firm rows old before left.2.known at.1) at.0
+save_moments (stage.Adding added room) next name time size answer how old new before after began ended show is runs own left s octets ready lists at = adding_moments added room name time size next answer how old new before after began ended show is runs s octets ready.1 lists at.0
+save_moments (stage.GivingBack uid why room) next name time size answer how old new before after began ended show is runs own left s octets ready lists at = s.moments lists at.0
+save_moments stage.Ended next name time size answer how old new before after began ended show is runs own left s octets ready lists at = s.moments lists at.0
 
 -- ---- afterwards
 
@@ -72,12 +74,12 @@ adding_rests added room name time size next answer how old new before after bega
 ]
 
 pub save_rests : {D : Type 0} → (now next : SaveStage) (name : List ℕ) (time size : ℕ) (answer : Progress) (how : Did) (old new : StoreValue D) (before after : Option History) (began ended : Faults) → LogsShowLists → IsStore before old → old.stopped ≡ false → IfTold before Own → HasLeft now name time old before
-    → Saves now next name time size answer how old new before after began ended → new.stopped ≡ false → (octets : List ℕ) → IsReadyToSave now name time size octets old before → (lists : Lists) → IsSettledFor lists before → IsSettledFor (lists_delivered now name octets answer lists) after
-save_rests (stage.First prepared) next name time size answer how old new before after began ended show is runs own left s ran octets ready lists at = s.rests ran lists at
-save_rests (stage.Attaching parts attaching) next name time size answer how old new before after began ended show is runs own left s ran octets ready lists at = s.rests ran lists at
-save_rests (stage.Taking parts) next name time size answer how old new before after began ended show is runs own left s ran octets ready lists at = s.rests ran lists at
-save_rests (stage.Placing parts file) next name time size answer how old new before after began ended show is runs own left s ran octets ready lists at = s.rests ran lists at
-save_rests (stage.Storing place rows room) next name time size answer how old new before after began ended show is runs own left s ran octets ready lists at = s.rests ran lists (placed_stores place rows name time octets old before is runs own left.0 ready.1 (record { 0 = old.drawn.map + 1 }) lists at) at
-save_rests (stage.Adding added room) next name time size answer how old new before after began ended show is runs own left s ran octets ready lists at = adding_rests added room name time size next answer how old new before after began ended show is runs s ran octets ready.1 lists at
-save_rests (stage.GivingBack uid why room) next name time size answer how old new before after began ended show is runs own left s ran octets ready lists at = s.rests ran lists at
-save_rests stage.Ended next name time size answer how old new before after began ended show is runs own left s ran octets ready lists at = s.rests ran lists at
+    → Saves now next name time size answer how old new before after began ended → new.stopped ≡ false → (octets : List ℕ) → IsReadyToSave now name time size octets old before → (lists : Lists) → IsSettledInStore lists old before → IsSettledFor (lists_delivered now name octets answer lists) after
+save_rests (stage.First prepared) next name time size answer how old new before after began ended show is runs own left s ran octets ready lists at = s.rests ran lists at.0
+save_rests (stage.Attaching parts attaching) next name time size answer how old new before after began ended show is runs own left s ran octets ready lists at = s.rests ran lists at.0
+save_rests (stage.Taking parts) next name time size answer how old new before after began ended show is runs own left s ran octets ready lists at = s.rests ran lists at.0
+save_rests (stage.Placing parts file) next name time size answer how old new before after began ended show is runs own left s ran octets ready lists at = s.rests ran lists at.0
+save_rests (stage.Storing place rows room) next name time size answer how old new before after began ended show is runs own left s ran octets ready lists at = s.rests ran lists (placed_stores place rows name time octets old before is runs own left.0 ready.1 (record { 0 = old.drawn.map + 1 }) lists at.0) (rows_firm rows old before left.2.known at.1) at.0
+save_rests (stage.Adding added room) next name time size answer how old new before after began ended show is runs own left s ran octets ready lists at = adding_rests added room name time size next answer how old new before after began ended show is runs s ran octets ready.1 lists at.0
+save_rests (stage.GivingBack uid why room) next name time size answer how old new before after began ended show is runs own left s ran octets ready lists at = s.rests ran lists at.0
+save_rests stage.Ended next name time size answer how old new before after began ended show is runs own left s ran octets ready lists at = s.rests ran lists at.0

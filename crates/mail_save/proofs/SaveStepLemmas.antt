@@ -63,6 +63,7 @@ use Rattle.mail_save.specs.declared.place.SavedAt.{SavedAt}
 use Rattle.mail_save.specs.declared.record.LowerRoom.{LowerRoom}
 use Rattle.mail_save.specs.declared.task.SaveStage.{SaveStage}
 use Rattle.mail_save.specs.declared.task.SaveStage.TheVariants as stage
+use Rattle.mail_save.proofs.HeldInstanceLemmas.{rows_firm}
 use Rattle.mail_save.proofs.PlacedLemmas.{placed_stores}
 use Rattle.mail_save.proofs.SaveClauseLemmas.{EventOf, DeliveryClause, with_did}
 use Rattle.mail_save.proofs.SaveDidLemmas.{Lasts, or_none, same_changes, same_reads, step_calm, step_runs, HasRun, StaysSo}
@@ -71,7 +72,7 @@ use Rattle.mail_save.proofs.SaveLastLemmas.{FindsBox, saved_message, broken_save
 use Rattle.mail_save.proofs.SaveListLemmas.{box_checked, made_of}
 use Rattle.mail_save.proofs.SaveRefusedLemmas.{ends_first, ends_taking, ends_placing, ends_storing, ends_giving, first_at, taking_at, placing_at, storing_at, lowering_at, fallen_save, forgotten_save, checked_save, full_files, full_uids}
 use Rattle.mail_save.proofs.SaveRoomLemmas.{known_room, no_room, lt_true, true_lt}
-use Rattle.mail_save.proofs.SaveStoreLemmas.{TellsFiles, tells_begun, tells_ended, tells_made, tells_released, tells_same, tells_taken, sees_around, same_ends, gave_on, tells_store, has_run, due_stays, stays_so, drawn_file, drawn_map, less_due, place_long, place_octets, place_file, place_new, place_given, file_below, is_before}
+use Rattle.mail_save.proofs.SaveStoreLemmas.{TellsFiles, tells_begun, tells_ended, tells_made, tells_released, tells_same, tells_taken, sees_around, same_ends, gave_on, tells_store, has_run, has_run_in, due_stays, stays_so, drawn_file, drawn_map, less_due, place_long, place_octets, place_file, place_new, place_given, file_below, is_before}
 use Rattle.mail_save.proofs.SeenInstanceLemmas.{above, gone_on, knows_in, knows_same}
 
 -- ---- answers
@@ -381,7 +382,7 @@ taking_refused pins parts why name time size octets how old new before after beg
         (taking_at (around_saving octets (stage.Taking parts) old) name time octets parts.rows e.parts)
         (λ run event. inr (sym (ap (λ (o : Option ℕ). draws run event (request.Deliver name time octets) (TakesFile (is_none o))) (no_room (length parts.laid.region) old.files.files f.1.is.0))))
         (stays_so pins (record no_numbers { file = 1 }) old new before after began faulted e.ran map (drawn ∙ drawn_file old.drawn f.1.file.0 next) (ap (λ (v : StoreValue _). v.dues) k) (ap (λ (v : StoreValue _). indexes_of v.boxes) k) (omega (arith, number, next)) (same_ends old new (tells_begun old new f.1.file (none_begun f.1.file old.files e.order f.1.is.1) next (omega (arith, number, next)) (ap (λ (v : StoreValue _). v.files.files) k)) f.1.ends) (knows_same old new (ap (λ (v : StoreValue _). v.instances) k) (ap (λ (h : Highest). h.instance) drawn)) s.grows (equal_reads began faulted fault.reads) fault.changes)
-        e.ran (s.stopped.0 stop) (fault.rose tt) (λ lists t. s.moments lists t)))
+        e.ran (s.stopped.0 stop) (fault.rose tt) (λ lists t. s.moments lists t.0)))
 
 -- ---- the message is placed
 
@@ -452,7 +453,7 @@ placing_refused pins parts file why name time size octets how old new before aft
     with_did pins octets (stage.Placing parts file) stage.Ended name time (progress.Done (reply.Refused why)) how did.Failed old new before after began faulted (s.did_is ∙ ap failing_did is)
     (subst (λ (w : Refusal). DeliveryClause pins octets (stage.Placing parts file) stage.Ended name time (progress.Done (reply.Refused w)) did.Failed old new before after began faulted) (sym is)
     (λ behind. fallen_save (around_saving octets (stage.Placing parts file) old) behind name time octets PlacesMessage (IsPlacingMessage parts.rows file.0) (IsAtSave stage.Ended) no_numbers (seen_of pins old before began) (seen_of pins new after faulted) (sees_around pins octets (stage.Placing parts file) old before began e.is e.order e.ids) (ends_placing name time octets)
-    (placing_at (around_saving octets (stage.Placing parts file) old) name time octets parts.rows file.0) (λ run event. inl refl) (stays_alone pins old new before after began faulted e.ran alone s.grows fault.reads fault.changes) e.ran (s.stopped.0 stop) (fault.rose tt) (λ lists t. s.moments lists t)))
+    (placing_at (around_saving octets (stage.Placing parts file) old) name time octets parts.rows file.0) (λ run event. inl refl) (stays_alone pins old new before after began faulted e.ran alone s.grows fault.reads fault.changes) e.ran (s.stopped.0 stop) (fault.rose tt) (λ lists t. s.moments lists t.0)))
 
 -- ---- the message is stored
 
@@ -468,7 +469,7 @@ storing_more pins at rows room left added name time size octets how old new befo
     (λ behind. subst (λ (g : Guid). StepsWithRoom (IsStoringMessage rows at.file.0 at.guid.0) (IsAddingMessage g.0 added.map_uid.0) (around_saving octets (stage.Storing at rows room) old) behind (request.Deliver name time octets) (seen_of pins old before began) (seen_of pins new after faulted) did.Quiet None) (sym p.guid_is)
     (stores_message (around_saving octets (stage.Storing at rows room) old) behind name time octets rows at.file.0 at.guid.0 added.map_uid.0 at.size at.offset (seen_of pins old before began) (seen_of pins new after faulted) (sees_around pins octets (stage.Storing at rows room) old before began e.is e.order e.ids)
     p.uid_is p.few (sym e.left.0.guid_offset) p.fits
-    (has_run pins old new before after began faulted e.ran runs p.mailboxes (ap (λ (v : StoreValue _). indexes_of v.boxes) p.same) (λ lists t. s.moments lists (placed_stores at rows name time octets old before e.is e.ran e.own e.left.0 r (record { 0 = old.drawn.map + 1 }) lists t) t) (λ lists t. s.rests runs lists (placed_stores at rows name time octets old before e.is e.ran e.own e.left.0 r (record { 0 = old.drawn.map + 1 }) lists t) t) s.grows s.faults)
+    (has_run_in pins old new before after began faulted e.ran runs p.mailboxes (ap (λ (v : StoreValue _). indexes_of v.boxes) p.same) (λ lists t. s.moments lists (placed_stores at rows name time octets old before e.is e.ran e.own e.left.0 r (record { 0 = old.drawn.map + 1 }) lists t.0) (rows_firm rows old before e.left.2.known t.1) t.0) (λ lists t. s.rests runs lists (placed_stores at rows name time octets old before e.is e.ran e.own e.left.0 r (record { 0 = old.drawn.map + 1 }) lists t.0) (rows_firm rows old before e.left.2.known t.1) t.0) s.grows s.faults)
     p.map drawn (λ other. p.due other)
     (tells_store pins old new before after began faulted e.ran (ap (λ (m : MapMeaning). m.store) p.map) (omega (arith, number))
     (same_ends old new (tells_released old new at.file.0 e.left.0.end (omega (arith, number)) e.left.0.ends (ap (λ (v : StoreValue _). v.files.files) p.same)) p.ends)
@@ -486,8 +487,8 @@ storing_refused pins at rows room why name time size octets how old new before a
         let s = e in
         let r = e.ready.1 in
         let runs = not_stopped new.stopped (progress.Done (reply.Refused why) ≡ stopped_reply) s.stopped (refused_differs why other) in
-        has_run pins old new before after began faulted e.ran runs (ap (λ (v : StoreValue _). v.map.boxes) k.same) (ap (λ (v : StoreValue _). indexes_of v.boxes) k.same) (λ lists t. s.moments lists (placed_stores at rows name time octets old before e.is e.ran e.own e.left.0 r (record { 0 = old.drawn.map + 1 }) lists t) t)
-        (λ lists t. s.rests runs lists (placed_stores at rows name time octets old before e.is e.ran e.own e.left.0 r (record { 0 = old.drawn.map + 1 }) lists t) t) s.grows (untold_faults why began faulted other unread s.faults)
+        has_run_in pins old new before after began faulted e.ran runs (ap (λ (v : StoreValue _). v.map.boxes) k.same) (ap (λ (v : StoreValue _). indexes_of v.boxes) k.same) (λ lists t. s.moments lists (placed_stores at rows name time octets old before e.is e.ran e.own e.left.0 r (record { 0 = old.drawn.map + 1 }) lists t.0) (rows_firm rows old before e.left.2.known t.1) t.0)
+        (λ lists t. s.rests runs lists (placed_stores at rows name time octets old before e.is e.ran e.own e.left.0 r (record { 0 = old.drawn.map + 1 }) lists t.0) (rows_firm rows old before e.left.2.known t.1) t.0) s.grows (untold_faults why began faulted other unread s.faults)
 
     stays : (why ≡ refusal.Stopped → ⊥) → (why ≡ refusal.ReadFault → ⊥) → GivesFileBack at.file.0 old new → StaysSo no_numbers (seen_of pins old before began) (seen_of pins new after faulted)
     stays other unread k =
@@ -520,7 +521,7 @@ storing_refused pins at rows room why name time size octets how old new before a
         (subst (λ (w : Refusal). DeliveryClause pins octets (stage.Storing at rows room) stage.Ended name time (progress.Done (reply.Refused w)) did.Failed old new before after began faulted) (sym is)
         (λ behind. fallen_save (around_saving octets (stage.Storing at rows room) old) behind name time octets StoresRecord (IsAtSave (stage.Storing at rows room)) (IsAtSave stage.Ended) no_numbers (seen_of pins old before began) (seen_of pins new after faulted) sees (ends_storing name time octets)
         (storing_at (around_saving octets (stage.Storing at rows room) old) name time octets rows at.file.0 at.guid.0) (λ run event. inl refl) (stays_alone pins old new before after began faulted e.ran k s.grows fault.reads fault.changes) e.ran (s.stopped.0 stop) (fault.rose tt)
-        (λ lists t. s.moments lists (placed_stores at rows name time octets old before e.is e.ran e.own e.left.0 r (record { 0 = old.drawn.map + 1 }) lists t) t)))
+        (λ lists t. s.moments lists (placed_stores at rows name time octets old before e.is e.ran e.own e.left.0 r (record { 0 = old.drawn.map + 1 }) lists t.0) (rows_firm rows old before e.left.2.known t.1) t.0)))
 
     full_runs : why ≡ refusal.StoreFull 4294967294 → why ≡ refusal.Stopped → ⊥
     full_runs is k = step_runs why (ap is_step is) k
@@ -695,4 +696,4 @@ giving_refused pins uid cause room why name time size octets how old new before 
         with_did pins octets (stage.GivingBack uid cause room) stage.Ended name time (progress.Done (reply.Refused why)) how did.Failed old new before after began faulted (s.did_is ∙ ap (λ (w : Refusal). giving_did (progress.Done (reply.Refused w))) k.0)
         (subst (λ (w : Refusal). DeliveryClause pins octets (stage.GivingBack uid cause room) stage.Ended name time (progress.Done (reply.Refused w)) did.Failed old new before after began faulted) (sym k.0)
         (λ behind. fallen_save (around_saving octets (stage.GivingBack uid cause room) old) behind name time octets GivesBack (IsAtSave (stage.GivingBack uid cause room)) (IsAtSave stage.Ended) no_numbers (seen_of pins old before began) (seen_of pins new after faulted) sees (ends_giving name time octets)
-        (lowering_at (around_saving octets (stage.GivingBack uid cause room) old) name time octets uid.0 cause) (λ run event. inl refl) (stays_alone pins old new before after began faulted e.ran k.1 s.grows fault.reads fault.changes) e.ran (s.stopped.0 stop) (fault.rose tt) (λ lists t. s.moments lists t)))
+        (lowering_at (around_saving octets (stage.GivingBack uid cause room) old) name time octets uid.0 cause) (λ run event. inl refl) (stays_alone pins old new before after began faulted e.ran k.1 s.grows fault.reads fault.changes) e.ran (s.stopped.0 stop) (fault.rose tt) (λ lists t. s.moments lists t.0)))

@@ -31,7 +31,7 @@ use Rattle.store_core.specs.Running.{IsStore}
 use Rattle.store_core.specs.Value.{StoreValue, indexes_of}
 use Rattle.store_seen.specs.Seeing.{may_be_barred, may_be_used, seen_of}
 use Rattle.task_steps.specs.ExpungeStages.{one_due}
-use Rattle.task_steps.specs.Step.{ShowsSeen}
+use Rattle.task_steps.specs.Step.{IsSettledIn, ShowsSeen}
 use Rattle.mail_save.specs.SaveEffects.{AreEndsSame}
 use Rattle.mail_save.specs.SaveSeen.{around_saving, candidate_at, room_at}
 use Rattle.mail_save.specs.declared.task.SaveStage.{SaveStage}
@@ -63,7 +63,7 @@ sees_around pins octets now store history faults is order ids = record {
   candidate = λ instance e. candidate_seen now store instance ids e;
   some = λ file e. let r = room_known now store file order e in is.files.numbered file r.1.f r.1.found;
   known = λ file e. let r = room_known now store file order e in ap (λ (o : Option MailFile). is_some (option_and_then (λ f. f.end) o)) r.1.found ∙ ap (λ (o : Option ℕ). is_some o) r.1.has.ends;
-  unsealed = λ file e. let r = room_known now store file order e in never_both (is_sealed store.map file) (λ k. fall r.1.f.sealed (is.files.sealed file r.1.f r.1.found k) r.1.has.free.unsealed);
+  unsealed = λ file e. let r = room_known now store file order e in never_both (is_sealed store.map file) (λ k. fall r.1.f.sealed (is.files.sealed file r.1.f r.1.found ∙ k) r.1.has.free.unsealed);
   undoomed = λ file e. let r = room_known now store file order e in ap (λ (o : Option MailFile). option_map_or (λ f. f.doomed) o false) r.1.found ∙ r.1.has.free.free.undoomed;
   unbarred = λ file e. let r = room_known now store file order e in ap (λ (o : Option MailFile). nat_le file store.drawn.file && option_map_or (λ f. f.barred) o true) r.1.found ∙ (ap (λ (b : Bool). nat_le file store.drawn.file && b) r.1.has.free.unbarred ∙ none_both (nat_le file store.drawn.file));
 }
@@ -207,9 +207,9 @@ pub shows_on : {D : Type 0} → (pins : ℕ → ℕ) (old new : StoreValue D) (b
 shows_on pins old new before after began faulted lists boxes indexes shows =
     (shows.0, subst (λ (bs : List MapBox). ShowLists bs (indexes_of new.boxes) lists) (sym boxes) (subst (λ (ms : List BoxMeaning). ShowLists old.map.boxes ms lists) (sym indexes) shows.1))
 
-pub has_run : {D : Type 0} → (pins : ℕ → ℕ) (old new : StoreValue D) (before after : Option History) (began faulted : Faults) → old.stopped ≡ false → new.stopped ≡ false → new.map.boxes ≡ old.map.boxes → indexes_of new.boxes ≡ indexes_of old.boxes → ((lists : Lists) → IsSettledFor lists before → Leaves lists lists before after)
-    → ((lists : Lists) → IsSettledFor lists before → IsSettledFor lists after) → Lasts old.map before after → faulted ≡ began → HasRun (seen_of pins old before began) (seen_of pins new after faulted)
-has_run pins old new before after began faulted ran runs boxes indexes moments rests grows same = record {
+pub has_run_in : {D : Type 0} → (pins : ℕ → ℕ) (old new : StoreValue D) (before after : Option History) (began faulted : Faults) → old.stopped ≡ false → new.stopped ≡ false → new.map.boxes ≡ old.map.boxes → indexes_of new.boxes ≡ indexes_of old.boxes → ((lists : Lists) → IsSettledIn lists (seen_of pins old before began) → Leaves lists lists before after)
+    → ((lists : Lists) → IsSettledIn lists (seen_of pins old before began) → IsSettledFor lists after) → Lasts old.map before after → faulted ≡ began → HasRun (seen_of pins old before began) (seen_of pins new after faulted)
+has_run_in pins old new before after began faulted ran runs boxes indexes moments rests grows same = record {
   ran = ran;
   runs = runs;
   shown = λ lists shows. shows_on pins old new before after began faulted lists boxes indexes shows;
@@ -217,6 +217,11 @@ has_run pins old new before after began faulted ran runs boxes indexes moments r
   grows = grows;
   quiet = same;
 }
+
+-- where it is enough that the disk is settled
+pub has_run : {D : Type 0} → (pins : ℕ → ℕ) (old new : StoreValue D) (before after : Option History) (began faulted : Faults) → old.stopped ≡ false → new.stopped ≡ false → new.map.boxes ≡ old.map.boxes → indexes_of new.boxes ≡ indexes_of old.boxes → ((lists : Lists) → IsSettledFor lists before → Leaves lists lists before after)
+    → ((lists : Lists) → IsSettledFor lists before → IsSettledFor lists after) → Lasts old.map before after → faulted ≡ began → HasRun (seen_of pins old before began) (seen_of pins new after faulted)
+has_run pins old new before after began faulted ran runs boxes indexes moments rests grows same = has_run_in pins old new before after began faulted ran runs boxes indexes (λ lists s. moments lists s.0) (λ lists s. rests lists s.0) grows same
 
 pub due_stays : {D : Type 0} → (old new : StoreValue D) (uid : ℕ) → new.map ≡ old.map → new.dues ≡ old.dues → due_at uid new ≡ due_at uid old
 due_stays old new uid map dues = ap (λ (m : MapMeaning). number_beside uid m.records new.dues) map ∙ ap (number_beside uid old.map.records) dues

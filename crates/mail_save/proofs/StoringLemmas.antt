@@ -17,6 +17,7 @@ use Rattle.model_store.specs.Settled.{files_of}
 use Rattle.model_store.specs.Stands.{StoresMessage}
 use Rattle.storage_files.specs.Files.{end_in, is_taken_in, released_in}
 use Rattle.store_core.specs.Dues.{due_at, KeepsStored}
+use Rattle.store_core.specs.Keeping.{KeepsFirm}
 use Rattle.store_core.specs.MapAppend.{drawn_by}
 use Rattle.store_core.specs.Value.{StoreValue, indexes_of}
 use Rattle.mail_save.specs.Events.{uid_refusal}
@@ -138,6 +139,10 @@ spared_kept old new before after map keeps = λ uid row found. record {
   guid = refl;
   stores = λ octets. as_stored before after row octets keeps;
 }
+
+-- what may be named, with a storage file released
+pub released_firm : {D : Type 0} → (history : D → Option History) (file : ℕ) (old mid new : StoreValue D) → new ≡ giver_store file mid → KeepsFirm old mid (history old.disk) (history mid.disk) → KeepsFirm old new (history old.disk) (history new.disk)
+released_firm {D} history file old mid new same k = subst (λ (v : StoreValue D). KeepsFirm old v (history old.disk) (history v.disk)) (sym same) (record { stays = k.stays })
 
 -- a store with the same map
 pub spared_as : {D : Type 0} → (old mid new : StoreValue D) (before after : Option History) → new.map ≡ mid.map → AreSpared old mid before after → AreSpared old new before after

@@ -18,12 +18,12 @@ use Rattle.mail_save.specs.Parts.{AreLaidOut}
 use Rattle.mail_save.specs.declared.task.SaveStage.{SaveStage}
 use Rattle.mail_save.specs.declared.task.SaveStage.TheVariants as stage
 
--- All instances read as they did, and all storage files, or all but this one, are as they were, or their names were synced.
+-- All instances, and all storage files, or all but this one, are as they were, or their names were synced.
 abbrev pub ReadsSameMail : Option History → Option History → Type 0
-ReadsSameMail = Between (λ a b. ((number : ℕ) → IsSameOrSynced (a (Mail number)) (b (Mail number))) × ((hash id : List ℕ) → reading (b (Inst hash id)) ≡ reading (a (Inst hash id))))
+ReadsSameMail = Between (λ a b. ((number : ℕ) → IsSameOrSynced (a (Mail number)) (b (Mail number))) × ((hash id : List ℕ) → IsSameOrSynced (a (Inst hash id)) (b (Inst hash id))))
 
 abbrev pub ReadsOtherMail : ℕ → Option History → Option History → Type 0
-ReadsOtherMail file = Between (λ a b. ((number : ℕ) → number ≢ file → IsSameOrSynced (a (Mail number)) (b (Mail number))) × ((hash id : List ℕ) → reading (b (Inst hash id)) ≡ reading (a (Inst hash id))))
+ReadsOtherMail file = Between (λ a b. ((number : ℕ) → number ≢ file → IsSameOrSynced (a (Mail number)) (b (Mail number))) × ((hash id : List ℕ) → IsSameOrSynced (a (Inst hash id)) (b (Inst hash id))))
 
 -- A storage file was taken: it was there, or it has this header alone, which a crash leaves.
 pub record TakesWithHeader {D : Type 0} (header : List ℕ) (file : ℕ) (old : StoreValue D) (before after : Option History) : Type 0 where

@@ -42,7 +42,7 @@ use Rattle.mail_save.specs.MailFiles.{WritesMail}
 use Rattle.mail_save.specs.Others.{KeepsOthers}
 use Rattle.mail_save.specs.Parts.{AreAttached, AreBeingAttached}
 use Rattle.mail_save.specs.Ready.{IsReadyToSave}
-use Rattle.mail_save.specs.Record.{entry_stored}
+use Rattle.mail_save.specs.Record.{MayBeNamed, entry_stored}
 use Rattle.mail_save.specs.SaveEffects.{AreSpared, SaveEffects}
 use Rattle.mail_save.specs.SaveSeen.{HasItsParts, IsAtSave, StepsWithRoom, around_saving}
 use Rattle.mail_save.specs.declared.first.SavedParts.{SavedParts}
@@ -114,7 +114,7 @@ save_events_left stage.Ended instances = 0
 -- its region is ready; one that adds it may leave the lists with the message, of the octets that its record stores.
 abbrev pub MomentsAt : {D : Type 0} → SaveStage → List ℕ → StoreValue D → Option History → Option History → Type 0
 MomentsAt (stage.Storing at rows room) name store old new =
-    (lists : Lists) → IsReadyToStore (entry_stored rows (record { 0 = store.drawn.map + 1 }) at) old → IsSettledFor lists old → Leaves lists lists old new
+    (lists : Lists) → IsReadyToStore (entry_stored rows (record { 0 = store.drawn.map + 1 }) at) old → MayBeNamed rows store old → IsSettledFor lists old → Leaves lists lists old new
 MomentsAt (stage.Adding added room) name store old new =
     (number : BoxNo) (uid : Uid) → HasRoomUnder name number uid store → (lists : Lists) (octets : List ℕ) → Brings store.map (entry_added uid added) octets old → IsSettledFor lists old
     → Leaves lists (lists_by number.0 octets (entry_added uid added) lists) old new
@@ -124,7 +124,7 @@ MomentsAt other name store old new = (lists : Lists) → IsSettledFor lists old 
 -- message.
 abbrev pub RestsAt : {D : Type 0} → SaveStage → List ℕ → Progress → StoreValue D → Option History → Option History → Type 0
 RestsAt (stage.Storing at rows room) name answer store old new =
-    (lists : Lists) → IsReadyToStore (entry_stored rows (record { 0 = store.drawn.map + 1 }) at) old → IsSettledFor lists old → IsSettledFor lists new
+    (lists : Lists) → IsReadyToStore (entry_stored rows (record { 0 = store.drawn.map + 1 }) at) old → MayBeNamed rows store old → IsSettledFor lists old → IsSettledFor lists new
 RestsAt (stage.Adding added room) name (progress.Done (reply.Saved uid guid)) store old new =
     (number : BoxNo) → HasRoomUnder name number uid store → (lists : Lists) (octets : List ℕ) → Brings store.map (entry_added uid added) octets old → IsSettledFor lists old
     → IsSettledFor (lists_by number.0 octets (entry_added uid added) lists) new

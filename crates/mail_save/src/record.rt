@@ -10,11 +10,12 @@ ghost use Rattle.model_lists.specs.Lists.{Lists};
 ghost use Rattle.model_logs.specs.Entries.{RowInRange};
 ghost use Rattle.model_store.specs.Settled.{IsSettledFor, Leaves};
 ghost use Rattle.store_core.specs.Dues.{due_at, KeepsStored};
+ghost use Rattle.store_core.specs.Keeping.{KeepsFirm};
 ghost use Rattle.store_core.specs.MapAppend.{IsReadyToStore};
 ghost use Rattle.mail_save.specs.Events.{uid_refusal};
 ghost use Rattle.mail_save.specs.Left.{HoldsInstances, HoldsRegion};
 ghost use Rattle.mail_save.specs.MailFiles.{ReadsSameMail};
-ghost use Rattle.mail_save.specs.Record.{entry_stored, entry_lowered};
+ghost use Rattle.mail_save.specs.Record.{MayBeNamed, entry_stored, entry_lowered};
 ghost use Rattle.mail_save.specs.declared.place.SavedAt.{SavedAt as SavedAtValue};
 ghost use Rattle.mail_save.specs.SaveEffects.{AreSpared, IsLeftAlone, LowersRecord, StoresPlaced, StoresNone};
 
@@ -99,11 +100,12 @@ pub fn store_record<D: Disk>(
     ensures stores { IfOk result.0 (λ uid. (time size : ℕ) → StoresPlaced at rows time size (record { map_uid = uid; guid = at.guid; time = time; size = size }) store.old store.new) }
     ensures none { IfErr result.0 (λ why. StoresNone at why store.old store.new) }
     ensures spared { OnOk result.0 (AreSpared store.old store.new (D.history store.old.disk) (D.history store.new.disk)) }
-    ensures any_moment { (lists : Lists) → IsReadyToStore (entry_stored rows (record { 0 = store.old.drawn.map + 1 }) at) (D.history store.old.disk) → IsSettledFor lists (D.history store.old.disk) → Leaves lists lists (D.history store.old.disk) (D.history store.new.disk) }
+    ensures any_moment { (lists : Lists) → IsReadyToStore (entry_stored rows (record { 0 = store.old.drawn.map + 1 }) at) (D.history store.old.disk) → MayBeNamed rows store.old (D.history store.old.disk) → IsSettledFor lists (D.history store.old.disk) → Leaves lists lists (D.history store.old.disk) (D.history store.new.disk) }
     ensures mail_stays { MailIsKept store.old.map (D.history store.old.disk) (D.history store.new.disk) }
-    ensures settled { store.new.stopped ≡ false → (lists : Lists) → IsReadyToStore (entry_stored rows (record { 0 = store.old.drawn.map + 1 }) at) (D.history store.old.disk) → IsSettledFor lists (D.history store.old.disk) → IsSettledFor lists (D.history store.new.disk) }
+    ensures settled { store.new.stopped ≡ false → (lists : Lists) → IsReadyToStore (entry_stored rows (record { 0 = store.old.drawn.map + 1 }) at) (D.history store.old.disk) → MayBeNamed rows store.old (D.history store.old.disk) → IsSettledFor lists (D.history store.old.disk) → IsSettledFor lists (D.history store.new.disk) }
     ensures stored { store.new.stopped ≡ false → KeepsStored (D.history store.old.disk) (D.history store.new.disk) }
     ensures mail { OnOk result.0 (ReadsSameMail (D.history store.old.disk) (D.history store.new.disk)) }
+    ensures firm { OnOk result.0 (KeepsFirm store.old store.new (D.history store.old.disk) (D.history store.new.disk)) }
     ensures refused { IfErr result.0 (λ why. (uid_refusal store.old.drawn.map ≡ Some why) ⊎ ((uid_refusal store.old.drawn.map ≡ None) × ((why ≡ refusal.Stopped) ⊎ (why ≡ refusal.NoMemory)))) }
     ensures stopped { IsErrOf result.0 refusal.Stopped ↔ (store.new.stopped ≡ true) }
     ensures grows { Grows (D.history store.old.disk) (D.history store.new.disk) }
@@ -164,6 +166,7 @@ pub fn give_back<D: Disk>(store: &mut Store<D>, uid: MapUid, room: LowerRoom) ->
     ensures settled { OnOk result ((lists : Lists) → IsSettledFor lists (D.history store.old.disk) → IsSettledFor lists (D.history store.new.disk)) }
     ensures stored { OnOk result (KeepsStored (D.history store.old.disk) (D.history store.new.disk)) }
     ensures mail { OnOk result (ReadsSameMail (D.history store.old.disk) (D.history store.new.disk)) }
+    ensures firm { OnOk result (KeepsFirm store.old store.new (D.history store.old.disk) (D.history store.new.disk)) }
     ensures stopped { IsErr result ↔ (store.new.stopped ≡ true) }
     ensures grows { Grows (D.history store.old.disk) (D.history store.new.disk) }
     ensures fault { ChangeFaultCounted (IsErr result) (D.faults store.old.disk) (D.faults store.new.disk) }

@@ -21,6 +21,7 @@ ghost use Rattle.mail_save.specs.Claims.{save_claims};
 ghost use Rattle.mail_save.specs.SaveEffects.{NamesFound};
 ghost use Rattle.mail_save.specs.declared.first.SavedParts.{SavedParts as SavedPartsValue};
 ghost use Rattle.mail_save.specs.Ready.{IsReadyToSave, save_lists, lists_delivered};
+ghost use Rattle.mail_save.specs.Record.{IsSettledInStore};
 ghost use Rattle.mail_save.specs.Task.{EndsSave, HasLeft, IsAttached, IsReadyToDeliver, Saves, StepsDelivery, save_events_left, refused_did, failing_did};
 ghost use Rattle.mail_save.specs.declared.task.SaveStage.TheVariants as stage;
 
@@ -143,11 +144,11 @@ impl SaveTask {
         // to the store, with so many pins of each file, and in which no request has taken the file that it finds.
         ensures does { (octets : List ℕ) (pins : ℕ → ℕ) (after : Around) → StepsDelivery self.old self.new octets pins after store.old store.new (D.history store.old.disk) (D.history store.new.disk) (D.faults store.old.disk) (D.faults store.new.disk) (ended_by result) }
 
-        // Of the message with these octets, where the task is ready for it: of a settled disk each crash image at every moment is
-        // safe for its lists, or for those with the message, whatever fails. Unless the store is stopped then, the disk is
-        // settled for those that the answer tells.
-        ensures moments { (octets : List ℕ) → IsReadyToSave self.old.stage self.old.name self.old.time self.old.size octets store.old (D.history store.old.disk) → (lists : Lists) → IsSettledFor lists (D.history store.old.disk) → Leaves lists (save_lists self.old.stage self.old.name octets lists) (D.history store.old.disk) (D.history store.new.disk) }
-        ensures settled { store.new.stopped ≡ false → (octets : List ℕ) → IsReadyToSave self.old.stage self.old.name self.old.time self.old.size octets store.old (D.history store.old.disk) → (lists : Lists) → IsSettledFor lists (D.history store.old.disk) → IsSettledFor (lists_delivered self.old.stage self.old.name octets result lists) (D.history store.new.disk) }
+        // Of the message with these octets, where the task is ready for it: of a settled disk on which a record may name each known
+        // instance, each crash image at every moment is safe for its lists, or for those with the message, whatever fails. Unless
+        // the store is stopped then, the disk is settled for those that the answer tells.
+        ensures moments { (octets : List ℕ) → IsReadyToSave self.old.stage self.old.name self.old.time self.old.size octets store.old (D.history store.old.disk) → (lists : Lists) → IsSettledInStore lists store.old (D.history store.old.disk) → Leaves lists (save_lists self.old.stage self.old.name octets lists) (D.history store.old.disk) (D.history store.new.disk) }
+        ensures settled { store.new.stopped ≡ false → (octets : List ℕ) → IsReadyToSave self.old.stage self.old.name self.old.time self.old.size octets store.old (D.history store.old.disk) → (lists : Lists) → IsSettledInStore lists store.old (D.history store.old.disk) → IsSettledFor (lists_delivered self.old.stage self.old.name octets result lists) (D.history store.new.disk) }
 
         // Unless it stops the store, it moves only its own claims, and leaves to other tasks what is theirs.
         ensures claims { store.new.stopped ≡ false → MovesClaims (save_claims self.old.stage) (save_claims self.new.stage) store.old store.new }

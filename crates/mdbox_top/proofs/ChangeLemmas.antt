@@ -21,7 +21,7 @@ use Rattle.list_machine.specs.Run.{RunEvent, Run, and_then}
 use Rattle.journal.specs.Events.{Around}
 use Rattle.journal.specs.Journal.{IsReplyOf, is_read_fault}
 use Rattle.journal.specs.Makes.{StepOf}
-use Rattle.task_steps.specs.Step.{Seen, ShowsSeen, Steps, and_told, ended_by}
+use Rattle.task_steps.specs.Step.{Seen, ShowsSeen, StaysFirm, Steps, and_told, ended_by}
 use Rattle.task_steps.proofs.OneEventLemmas.{not_true}
 use Rattle.store_core.specs.Running.{IsStore}
 use Rattle.store_core.specs.Value.{StoreValue, indexes_of}
@@ -35,7 +35,7 @@ use Rattle.mdbox_top.specs.Changed.{ChangeMoments, AreOneOf, SafeForAmong, Momen
 use Rattle.mdbox_top.specs.ChangeEvents.{IsWayTo, ServesAlone, ChangesAlone}
 use Rattle.mdbox_top.specs.UnderWay.{IsUnderWay, seen_alone}
 use Rattle.mdbox_top.proofs.MailLemmas.{spares_then}
-use Rattle.mdbox_top.proofs.ServedLemmas.{comes}
+use Rattle.mdbox_top.proofs.ServedLemmas.{comes, opened_firm}
 use Rattle.script_run.proofs.ShownLemmas.{opens_again}
 use Rattle.mdbox_top.proofs.UnderWayLemmas.{nothing_found, way_begins, way_shows, way_goes_on, way_ends}
 
@@ -55,6 +55,7 @@ pub record ChangeEvent {D : Type 0} (history : D → Option History) (faults : D
   pub settled : t.stopped ≡ false → (lists : Lists) → IsSettledFor lists (history s.disk) → IsSettledFor (told lists) (history t.disk)
   pub mail : SparesMail (t.stopped ≡ s.stopped) (history s.disk) (history t.disk)
   pub reads : IfTold (history s.disk) ReadsImage
+  pub firm : t.stopped ≡ false → StaysFirm (seen_alone s (history s.disk) (faults s.disk)) (seen_alone t (history t.disk) (faults t.disk))
   pub stopped : (answer ≡ progress.Done (reply.Refused refusal.Stopped)) ↔ (t.stopped ≡ true)
   pub fault : s.stopped ≡ false → ChangeFaultCounted (answer ≡ progress.Done (reply.Refused refusal.Stopped)) (faults s.disk) (faults t.disk)
   pub unfailed : (answer ≡ progress.Done (reply.Refused refusal.Stopped) → ⊥) → NoFault (faults s.disk) (faults t.disk)
@@ -113,7 +114,7 @@ so_far_on history faults Began Stood Stands request Among left next may told fir
   way = λ lists seen u0.
       let u = so.way lists seen u0 in
       let d = event.does nothing_found nothing_found u.run 1 0 u.said (left lists) u.goes.serves.come (way_shows Stood request lists (left lists) seen from u) u.stands in
-      let v = way_goes_on Stood Stands request lists (left lists) seen from to nothing_found nothing_found how u d.0 event.reads (d.1 refl) in
+      let v = way_goes_on Stood Stands request lists (left lists) seen from to nothing_found nothing_found how u d.0 event.reads event.firm (d.1 refl) in
       subst (λ (ls : Lists). IsUnderWay Stands request lists seen to ls) (kept u.run u.said d.0.makes.event d.0.makes.answer (left lists) d.0.left u.stands (d.1 refl) d.0.makes.made ∙ told_is lists) v;
 }
   where
@@ -141,7 +142,7 @@ so_far_serves history faults Began Stood Stands request Among tells left may tol
   served = λ lists seen u0.
       let u = so.way lists seen u0 in
       let d = event.does nothing_found nothing_found u.run 1 0 u.said (left lists) u.goes.serves.come (way_shows Stood request lists (left lists) seen from u) u.stands in
-      way_ends Stood request lists (left lists) given seen from to nothing_found nothing_found how t u k refl refl d.0 event.reads (λ e. absurd (let z : true ≡ false = sym e ∙ unread in cc z));
+      way_ends Stood request lists (left lists) given seen from to nothing_found nothing_found how t u k refl refl d.0 event.reads event.firm (λ e. absurd (let z : true ≡ false = sym e ∙ unread in cc z));
   moments = λ lists at. moments_on Among lists (left lists) (may (left lists)) (history first.disk) (history s.disk) (history t.disk) (within lists) (may_within lists) (so.moments lists at) (event.moments (left lists) (so.settled lists at));
   settled = λ runs lists at. subst (λ (ls : Lists). IsSettledFor ls (history t.disk)) (told_is runs lists) (event.settled runs (left lists) (so.settled lists at));
   mail = spares_then (Unit {0}) (t.stopped ≡ s.stopped) (t.stopped ≡ false) (history first.disk) (history s.disk) (history t.disk) event.reads (λ runs. tt) (λ runs. runs ∙ sym so.running) so.mail event.mail;
@@ -190,7 +191,7 @@ so_far_ends history faults Began Stood Stands request Among change left may told
 pub way_shown : {D : Type 0} → (Stands : Run → ℕ → List Reply → Type 0) (request : Request) (lists : Lists) (old mid : Option History) (began : Faults) (s : StoreValue D) → (o : OpenedNow old mid s) → AreWellFormed lists × ShowLists s.map.boxes (indexes_of s.boxes) lists
     → Stands (beginning s.map o.store.entries) 0 [] → IsUnderWay Stands request lists (before_opening (seen_alone s mid began) old) (seen_alone s mid began) lists
 way_shown Stands request lists old mid began s o shown stands =
-    way_begins Stands request lists s.map o.store.entries (seen_alone s mid began) old (comes old mid began s o) shown o.running o.drawn (o.safe lists) (o.settled_again lists) (opening_keeps old mid s.map (indexes_of s.boxes) o.opened o.stays) (opening_begins old mid s o) stands
+    way_begins Stands request lists s.map o.store.entries (seen_alone s mid began) old (comes old mid began s o) shown o.running o.drawn (o.safe lists) (o.settled_again lists) (opening_keeps old mid s.map (indexes_of s.boxes) o.opened o.stays) (opened_firm lists old mid began s o) (opening_begins old mid s o) stands
 
 -- a store that is as it was opened
 pub opens_unchanged : {D : Type 0} → (old mid new : Option History) (s : StoreValue D) → OpenedNow old mid s → new ≡ mid → OpensUnchanged s.map (indexes_of s.boxes) old new

@@ -40,7 +40,7 @@ use Rattle.storage_files.specs.Files.{end_in, is_doomed_in}
 use Rattle.storage_files.specs.OnDisk.{piece_read}
 use Rattle.store_core.specs.Running.{IsStore}
 use Rattle.store_core.specs.Value.{StoreValue, list_named}
-use Rattle.task_steps.specs.Step.{Seen, ended_by}
+use Rattle.task_steps.specs.Step.{Seen, StaysFirm, ended_by}
 use Rattle.mail_fetch.specs.Claims.{HasFetchRoom, used_by}
 use Rattle.mail_fetch.specs.Clause.{FetchSteps, FetchesAlone, ReadsSafe}
 use Rattle.mail_fetch.specs.Events.{fetch_refusal, IsAbsent, IsStoredBy, IsBegun, next_piece, with_piece, IsPieceRead, FetchesNext, NoChangeFault}
@@ -181,6 +181,7 @@ pub record FetchEvent {D : Type 0} (history : D → Option History) (faults : D 
   pub does : (around after : Around) → FetchSteps around after name uid now next (at_use first d) (at_use first e) (history d.disk) (history e.disk) (faults d.disk) (faults e.disk) how (ended_by answer)
   pub replies : FetchesNext name uid.0 now next answer (at_use first d) (history d.disk) (faults d.disk) (faults e.disk)
   pub reads : IfTold (history d.disk) ReadsImage
+  pub firm : (at_use first e).stopped ≡ false → StaysFirm (seen_in (at_use first d) (history d.disk) (faults d.disk)) (seen_in (at_use first e) (history e.disk) (faults e.disk))
   pub idle : IsIdle (history d.disk) (history e.disk)
   pub fault : NoChangeFault (faults d.disk) (faults e.disk)
   pub unfailed : (HasFailedRead next → ⊥) → NoFault (faults d.disk) (faults e.disk)
@@ -338,7 +339,7 @@ fetching_on history faults name uid first d e now next how running so event k = 
       let to : Seen = seen_in (at_use first e) (history e.disk) (faults e.disk) in
       let u = so.served lists seen u0 safe in
       let s = event.does nothing_found nothing_found u.run 1 0 u.said lists u.goes.serves.come (way_shows (IsAtFetch now from.stopped from.history) (request.Fetch name uid) lists lists seen from u) (λ runs. safe_fetched now name uid (at_use first d) (history d.disk) lists k running (reads_on lists (history first.disk) (history d.disk) so.idle safe)) u.stands in
-      let v = way_goes_on (IsAtFetch now from.stopped from.history) (IsAtFetch next to.stopped to.history) (request.Fetch name uid) lists lists seen from to nothing_found nothing_found how u s.0 event.reads (s.1 refl) in
+      let v = way_goes_on (IsAtFetch now from.stopped from.history) (IsAtFetch next to.stopped to.history) (request.Fetch name uid) lists lists seen from to nothing_found nothing_found how u s.0 event.reads event.firm (s.1 refl) in
       kept_lists name uid lists seen to (IsAtFetch next to.stopped to.history) s.0.left (fetch_leaves u.run s.0.makes.event name uid lists s.0.left s.0.makes.answer s.0.makes.made) v;
 }
 
@@ -543,7 +544,7 @@ served_ends history faults name uid first d e now next how given running so even
     let to : Seen = seen_in (at_use first e) (history e.disk) (faults e.disk) in
     let u = so.served lists seen u0 safe in
     let s = event.does nothing_found nothing_found u.run 1 0 u.said lists u.goes.serves.come (way_shows (IsAtFetch now from.stopped from.history) (request.Fetch name uid) lists lists seen from u) (λ runs. safe_fetched now name uid (at_use first d) (history d.disk) lists before running (reads_on lists (history first.disk) (history d.disk) so.idle safe)) u.stands in
-    way_ends (IsAtFetch now from.stopped from.history) (request.Fetch name uid) lists lists given seen from to nothing_found nothing_found how (at_use first e) u k refl refl s.0 event.reads
+    way_ends (IsAtFetch now from.stopped from.history) (request.Fetch name uid) lists lists given seen from to nothing_found nothing_found how (at_use first e) u k refl refl s.0 event.reads event.firm
     (λ fault.
     let one = fault_seen name uid.0 now next given (at_use first d) (history d.disk) (faults d.disk) (faults e.disk) from u.run u.said running event.replies u.stands fault in
     let more = count_front is_faulted u.run.events (s.0.makes.event ∷ []) in
@@ -560,6 +561,7 @@ unpins_undoomed (stage.Reading region) s none = tt
 -- What a step of the task says, of the store as it was and as it is.
 pub record StepSaid {D : Type 0} (history : D → Option History) (faults : D → Faults) (s t : StoreValue D) (task next : FetchValue) (answer : Progress) : Type 0 where
   pub reads : IfTold (history s.disk) ReadsImage
+  pub firm : t.stopped ≡ false → StaysFirm (seen_in s (history s.disk) (faults s.disk)) (seen_in t (history t.disk) (faults t.disk))
   pub does : (around after : Around) → FetchSteps around after task.name task.uid task.stage next.stage s t (history s.disk) (history t.disk) (faults s.disk) (faults t.disk) next.did (ended_by answer)
   pub alone : FetchesAlone task.name task.uid.0 task.stage next.stage next.did answer s t (history s.disk) (history t.disk) (faults s.disk) (faults t.disk)
 
@@ -586,6 +588,9 @@ event_of {D = D} history faults name uid first s t task next answer names uids s
       (subst (λ (u : Uid). FetchesNext task.name u.0 task.stage next.stage answer (at_use first s) (history s.disk) (faults s.disk) (faults t.disk)) uids
       (subst (λ (v : StoreValue D). FetchesNext task.name task.uid.0 task.stage next.stage answer v (history s.disk) (faults s.disk) (faults t.disk)) same step.alone.replies));
   reads = step.reads;
+  firm =
+      subst (λ (v : StoreValue D). v.stopped ≡ false → StaysFirm (seen_in (at_use first s) (history s.disk) (faults s.disk)) (seen_in v (history t.disk) (faults t.disk))) (still_first first s t task.stage next.stage same step.alone.same)
+      (subst (λ (v : StoreValue D). t.stopped ≡ false → StaysFirm (seen_in v (history s.disk) (faults s.disk)) (seen_in t (history t.disk) (faults t.disk))) same step.firm);
   idle = step.alone.idle;
   fault = step.alone.fault;
   unfailed = step.alone.unfailed;

@@ -14,6 +14,7 @@ use Rattle.save_instances.specs.Attaching.{found_let_go}
 use Rattle.sis_store.specs.Instances.{has_id, holders_in, instance_in, with_holders}
 use Rattle.sis_store.specs.declared.instance.KnownInstance.{KnownInstance}
 use Rattle.store_core.specs.StoreInstances.{IsFirstKnown, IsKnownRow, IsOtherThan}
+use Rattle.mail_save.proofs.MailFileLemmas.{synced_reads}
 use Rattle.mail_save.specs.MailFiles.{ReadsSameMail}
 use Rattle.mdbox_top.specs.DeliverRun.{AreFirstNamed}
 
@@ -40,7 +41,7 @@ first_on known a b row reads h = λ n k lt kind before same. h n k lt kind befor
 -- an event that writes to none
 pub firsts_on : (rows : List InstRow) (known : List KnownInstance) (before after : Option History) → ReadsSameMail before after → AreFirstKnown rows known before → AreFirstKnown rows known after
 firsts_on rows known before after same told =
-    between-on _ (λ (now : DiskState). All (IsFirstKnown known now) rows) (λ (now : DiskState). All (IsFirstKnown known now) rows) before after (λ a b s h. λ n row lt. first_on known a b (get_or rows n row) s.1 (h n row lt)) same told
+    between-on _ (λ (now : DiskState). All (IsFirstKnown known now) rows) (λ (now : DiskState). All (IsFirstKnown known now) rows) before after (λ a b s h. λ n row lt. first_on known a b (get_or rows n row) (λ hash id. synced_reads (a (Inst hash id)) (b (Inst hash id)) (s.1 hash id)) (h n row lt)) same told
 
 pub firsts_let_go : (rows found : List InstRow) (known : List KnownInstance) (history : Option History) → AreFirstKnown rows known history → AreFirstKnown rows (found_let_go found known) history
 firsts_let_go rows found known history told =

@@ -11,6 +11,7 @@ use Rattle.attach_detach.specs.declared.message.Detached.{Detached}
 use Rattle.attach_detach.specs.declared.message.Prepared.{Prepared}
 use Rattle.disk_model.specs.Disk.{DiskState, History, Faults, IfTold}
 use Rattle.disk_model.specs.FaultCounts.{NoFault}
+use Rattle.disk_model.specs.declared.name.FileName.TheVariants.{Inst}
 use Rattle.disk_model.proofs.BetweenLemmas.{between-on}
 use Rattle.mdbox_base.specs.declared.entries.InstRow.{InstRow}
 use Rattle.mdbox_base.specs.declared.ids.BoxNo.{BoxNo}
@@ -54,8 +55,9 @@ use Rattle.storage_files.specs.Files.{FilesValue, IsTakeFor, end_in, file_in, is
 use Rattle.storage_files.specs.declared.file.MailFile.{MailFile}
 use Rattle.storage_files.specs.declared.file.Take.{Take}
 use Rattle.storage_files.specs.declared.file.Take.TheVariants as take
+use Rattle.store_core.specs.Keeping.{KeepsFirm}
 use Rattle.store_core.specs.Running.{IsStore}
-use Rattle.store_core.specs.StoreInstances.{HasKnownInstances}
+use Rattle.store_core.specs.StoreInstances.{AreInstancesFirm, HasKnownInstances}
 use Rattle.store_core.specs.Value.{StoreValue, indexes_of, list_named}
 use Rattle.mail_ops.proofs.CopyPlaceLemmas.{ShownBox, ShowsBox, shows_box}
 use Rattle.mail_ops.proofs.FlagListLemmas.{numbered}
@@ -64,8 +66,9 @@ use Rattle.mail_ops.specs.CopyStages.{answered_by}
 use Rattle.mail_save.specs.Added.{HasRoomUnder, entry_added}
 use Rattle.mail_save.specs.Events.{box_refusal, instance_refusal, uid_refusal, save_refusal}
 use Rattle.mail_save.specs.Left.{HoldsRegion}
+use Rattle.mail_save.proofs.MailFileLemmas.{synced_reads}
 use Rattle.mail_save.specs.MailFiles.{HasAppended, TakesWithHeader, ReadsSameMail, WritesAttachment, WritesMail}
-use Rattle.mail_save.specs.Record.{entry_stored}
+use Rattle.mail_save.specs.Record.{IsSettledInStore, entry_stored}
 use Rattle.mail_save.specs.SaveEffects.{AttachesNext, AttachesNone, LetsGo, TakesFileFor, TookAs, TakesNone, PlacesParts, StoresPlaced, StoresNone, AddsStored, LowersRecord, SaveEffects}
 use Rattle.mail_save.specs.Ready.{IsReadyToSave, IsPlacedReady, delivered_lists, save_lists, lists_delivered}
 use Rattle.mail_save.specs.SaveSeen.{IsAtSave, StepsWithRoom, around_saving}
@@ -169,8 +172,8 @@ pub record SaveEvent {D : Type 0} (history : D → Option History) (faults : D �
   pub after : Around
   pub does : StepsWithRoom (IsAtSave now) (IsAtSave next) around after (request.Deliver name time octets) (seen_alone s (history s.disk) (faults s.disk)) (seen_alone t (history t.disk) (faults t.disk)) how (ended_by answer)
   pub finds : (run : Run) (said : List Reply) → All (λ e. e.request ≡ 0) run.events → IsAtSave now run 0 said → FindsRoom around run
-  pub moments : (lists : Lists) → IsSettledFor lists (history s.disk) → Leaves lists (save_lists now name octets lists) (history s.disk) (history t.disk)
-  pub settled : t.stopped ≡ false → (lists : Lists) → IsSettledFor lists (history s.disk) → IsSettledFor (lists_delivered now name octets answer lists) (history t.disk)
+  pub moments : (lists : Lists) → IsSettledInStore lists s (history s.disk) → Leaves lists (save_lists now name octets lists) (history s.disk) (history t.disk)
+  pub settled : t.stopped ≡ false → (lists : Lists) → IsSettledInStore lists s (history s.disk) → IsSettledFor (lists_delivered now name octets answer lists) (history t.disk)
   pub stopped : (answer ≡ stopped_reply) ↔ (t.stopped ≡ true)
   pub failed : FaultsAt answer (faults s.disk) (faults t.disk)
   pub replies : RepliesAt now name answer next s
@@ -182,6 +185,7 @@ pub record SaveEvent {D : Type 0} (history : D → Option History) (faults : D �
   pub mail : t.stopped ≡ false → WritesMail now next name time s (history s.disk) (history t.disk)
   pub stays : MailIsKept s.map (history s.disk) (history t.disk)
   pub reads : IfTold (history s.disk) ReadsImage
+  pub firm : t.stopped ≡ false → KeepsFirm s t (history s.disk) (history t.disk)
 
 -- ---- so far
 
@@ -198,7 +202,7 @@ logs_alike first s k = record { indexes = k.indexes; mailboxes = ap (λ (m : Map
 
 -- the instances have these octets still
 attachments_on : (rows : List InstRow) (octets : List (List ℕ)) (before after : Option History) → ReadsSameMail before after → IfTold before (λ now. HasInstances (files_of now) rows octets) → IfTold after (λ now. HasInstances (files_of now) rows octets)
-attachments_on rows octets before after same told = between-on _ (λ (now : DiskState). HasInstances (files_of now) rows octets) (λ (now : DiskState). HasInstances (files_of now) rows octets) before after (λ a b s h. instances_on rows octets a b s.1 h) same told
+attachments_on rows octets before after same told = between-on _ (λ (now : DiskState). HasInstances (files_of now) rows octets) (λ (now : DiskState). HasInstances (files_of now) rows octets) before after (λ a b s h. instances_on rows octets a b (λ hash id. synced_reads (a (Inst hash id)) (b (Inst hash id)) (s.1 hash id)) h) same told
 
 -- Behind the events that find these instances: some of them are new on the disk.
 pub record AttachedAlone {D : Type 0} (history : D → Option History) (name : List ℕ) (prepared : Prepared) (rows : List InstRow) (first s : StoreValue D) : Type 0 where
@@ -273,7 +277,7 @@ pub record IsSavingAlone {D : Type 0} (history : D → Option History) (faults :
   pub running : s.stopped ≡ false
   pub unfailed : NoFault (faults first.disk) (faults s.disk)
   pub moments : MomentsAmong (AreAlongSave name time octets) (history first.disk) (history s.disk)
-  pub settled : (lists : Lists) → IsSettledFor lists (history first.disk) → IsSettledFor lists (history s.disk)
+  pub settled : (lists : Lists) → IsSettledFor lists (history first.disk) → IsSettledInStore lists s (history s.disk)
   pub way : (lists : Lists) (seen : Seen) → IsWayTo HasNotBegun (request.Deliver name time octets) lists seen first (history first.disk) (faults first.disk) lists → IsWayTo (IsAtSave now) (request.Deliver name time octets) lists seen s (history s.disk) (faults s.disk) lists
   pub knows : SaveKnows history name time octets prepared first s now
   pub stays : MailIsKept first.map (history first.disk) (history s.disk)
@@ -297,13 +301,13 @@ stays_on history faults name time octets prepared first s t now next how answer 
     (kept_for_less s.map first.map (history s.disk) (history t.disk) (needs_still history name time octets prepared first s now so.knows event.had) event.stays)
 
 pub saving_begins : {D : Type 0} → (history : D → Option History) (faults : D → Faults) (name : List ℕ) (time : ℕ) (octets : List ℕ) (prepared : Prepared) (first : StoreValue D) → IsPrepared octets prepared → first.stopped ≡ false
-    → IsSavingAlone history faults name time octets prepared first first (stage.First prepared)
-saving_begins history faults name time octets prepared first form running = record {
+    → ((lists : Lists) → IsSettledFor lists (history first.disk) → IfTold (history first.disk) (AreInstancesFirm first.instances.known first.map)) → IsSavingAlone history faults name time octets prepared first first (stage.First prepared)
+saving_begins history faults name time octets prepared first form running firm = record {
   form = form;
   running = running;
   unfailed = refl;
   moments = λ lists at. still_among (AreAlongSave name time octets) lists (history first.disk) (inl refl) at;
-  settled = λ lists at. at;
+  settled = λ lists at. (at, firm lists at);
   way = λ lists seen u. u;
   knows = refl;
   stays = kept_begins first.map (history first.disk);
@@ -323,6 +327,11 @@ said_none stage.Ended why run said at only = absurd at
 known_only : {D : Type 0} → (history : D → Option History) (name : List ℕ) (time : ℕ) (octets : List ℕ) (prepared : Prepared) (first s : StoreValue D) (now : SaveStage) → SaveKnows history name time octets prepared first s now → (uid : _) (cause : Refusal) (room : _) → now ≡ stage.GivingBack uid cause room → cause ≡ refusal.NoMemory
 known_only history name time octets prepared first s now knows uid cause room e = (subst (λ (x : SaveStage). SaveKnows history name time octets prepared first s x) e knows).2
 
+-- what may be named, behind one event more
+firm_then : {D : Type 0} → (s t : StoreValue D) (before after : Option History) → KeepsFirm s t before after → IfTold before (AreInstancesFirm s.instances.known s.map) → IfTold after (AreInstancesFirm t.instances.known t.map)
+firm_then s t before after k firm =
+    between-on (λ a b. AreInstancesFirm s.instances.known s.map a → AreInstancesFirm t.instances.known t.map b) (AreInstancesFirm s.instances.known s.map) (AreInstancesFirm t.instances.known t.map) before after (λ a b stays f. stays f) k.stays firm
+
 -- An event that goes on.
 saving_by : {D : Type 0} → (history : D → Option History) (faults : D → Faults) (name : List ℕ) (time : ℕ) (octets : List ℕ) (prepared : Prepared) (first s t : StoreValue D) (now next : SaveStage) (how : Did) → IsSavingAlone history faults name time octets prepared first s now
     → SaveEvent history faults name time octets now next s t how progress.More → SaveKnows history name time octets prepared first t next → IsSavingAlone history faults name time octets prepared first t next
@@ -331,11 +340,11 @@ saving_by history faults name time octets prepared first s t now next how so eve
   running = running;
   unfailed = event.failed ∙ so.unfailed;
   moments = λ lists at. moments_on (AreAlongSave name time octets) lists lists (save_lists now name octets lists) (history first.disk) (history s.disk) (history t.disk) (inl refl) (along history name time octets prepared first s now so.knows lists) (so.moments lists at) (event.moments lists (so.settled lists at));
-  settled = λ lists at. subst (λ (ls : Lists). IsSettledFor ls (history t.disk)) (more_lists now name octets lists) (event.settled running lists (so.settled lists at));
+  settled = λ lists at. (subst (λ (ls : Lists). IsSettledFor ls (history t.disk)) (more_lists now name octets lists) (event.settled running lists (so.settled lists at)), firm_then s t (history s.disk) (history t.disk) (event.firm running) (so.settled lists at).1);
   way = λ lists seen u0.
       let u = so.way lists seen u0 in
       let d = event.does u.run 1 0 u.said lists u.goes.serves.come (way_shows (IsAtSave now) asked lists lists seen from u) (u.stands, λ runs. event.finds u.run u.said (of_one asked lists u.run u.journal u.broken seen from u.goes) u.stands) in
-      let v = way_goes_on (IsAtSave now) (IsAtSave next) asked lists lists seen from to event.around event.after how u d.0 event.reads (d.1 refl) in
+      let v = way_goes_on (IsAtSave now) (IsAtSave next) asked lists lists seen from to event.around event.after how u d.0 event.reads (λ runs. (event.firm runs).stays) (d.1 refl) in
       let was : u.said ≡ [] = said_none now refusal.NoMemory u.run u.said u.stands (known_only history name time octets prepared first s now so.knows) in
       let is : and_told u.said d.0.makes.answer ≡ [] = said_none next refusal.NoMemory (and_then u.run d.0.makes.event) (and_told u.said d.0.makes.answer) (d.1 refl) (known_only history name time octets prepared first t next knows) in
       subst (λ (ls : Lists). IsUnderWay (IsAtSave next) asked lists seen to ls) (none_made u.run asked d.0.makes.event u.said d.0.makes.answer lists d.0.left was is d.0.makes.made) v;
@@ -490,7 +499,7 @@ taken_unsealed number s now k taken sealed = by_file (file_in number s.files.fil
     by_file None e = let no : false ≡ true = sym (ap (λ (o : Option MailFile). option_map_or (λ f. f.taken) o false) e) ∙ taken in absurd (cc no)
     by_file (Some f) e =
         let own : f.taken ≡ true = sym (ap (λ (o : Option MailFile). option_map_or (λ g. g.taken) o false) e) ∙ taken in
-        let no : false ≡ true = sym (k.files.taken number f e own).unsealed ∙ k.files.sealed number f e sealed in
+        let no : false ≡ true = sym (k.files.taken number f e own).unsealed ∙ (k.files.sealed number f e ∙ sealed) in
         absurd (cc no)
 
 one_end : (a b : ℕ) → Some a ≡ Some b → a ≡ b
@@ -628,7 +637,7 @@ saving_ended history faults name time octets prepared first s t now next how giv
   served = λ lists seen u0.
       let u = so.way lists seen u0 in
       let d = event.does u.run 1 0 u.said lists u.goes.serves.come (way_shows (IsAtSave now) asked lists lists seen from u) (u.stands, λ runs. event.finds u.run u.said (of_one asked lists u.run u.journal u.broken seen from u.goes) u.stands) in
-      way_ends (IsAtSave now) asked lists lists given seen from to event.around event.after how t u k refl refl d.0 event.reads (λ fault. fault_event event.around event.after u.run u.said asked from to how given d.0 fault);
+      way_ends (IsAtSave now) asked lists lists given seen from to event.around event.after how t u k refl refl d.0 event.reads (λ runs. (event.firm runs).stays) (λ fault. fault_event event.around event.after u.run u.said asked from to how given d.0 fault);
   moments = λ lists at. moments_on (AreAlongSave name time octets) lists lists (save_lists now name octets lists) (history first.disk) (history s.disk) (history t.disk) (inl refl) (along history name time octets prepared first s now so.knows lists) (so.moments lists at) (event.moments lists (so.settled lists at));
   settled = λ runs lists at. subst (λ (ls : Lists). IsSettledFor ls (history t.disk)) (told lists) (event.settled runs lists (so.settled lists at));
   halts = record { 0 = λ e. event.stopped.0 (ap progress.Done e); 1 = λ e. one_done given (reply.Refused refusal.Stopped) (event.stopped.1 e) };
@@ -1005,10 +1014,11 @@ has_size stage.Ended name time size octets s h ready = ready.0
 pub record SaveSaid {D : Type 0} (history : D → Option History) (faults : D → Faults) (name : List ℕ) (time size : ℕ) (octets : List ℕ) (now next : SaveStage) (s t : StoreValue D) (how : Did) (answer : Progress) : Type 0 where
   pub is : IsStore (history s.disk) s
   pub reads : IfTold (history s.disk) ReadsImage
+  pub firm : t.stopped ≡ false → KeepsFirm s t (history s.disk) (history t.disk)
   pub ready : IsReadyToSave now name time size octets s (history s.disk)
   pub had : HasLeft now name time s (history s.disk)
-  pub moments : (lists : Lists) → IsSettledFor lists (history s.disk) → Leaves lists (save_lists now name octets lists) (history s.disk) (history t.disk)
-  pub settled : t.stopped ≡ false → (lists : Lists) → IsSettledFor lists (history s.disk) → IsSettledFor (lists_delivered now name octets answer lists) (history t.disk)
+  pub moments : (lists : Lists) → IsSettledInStore lists s (history s.disk) → Leaves lists (save_lists now name octets lists) (history s.disk) (history t.disk)
+  pub settled : t.stopped ≡ false → (lists : Lists) → IsSettledInStore lists s (history s.disk) → IsSettledFor (lists_delivered now name octets answer lists) (history t.disk)
   pub says : s.stopped ≡ false → Saves now next name time size answer how s t (history s.disk) (history t.disk) (faults s.disk) (faults t.disk)
   pub does : StepsWithRoom (IsAtSave now) (IsAtSave next) (around_saving octets now s) nothing_found (request.Deliver name time octets) (seen_alone s (history s.disk) (faults s.disk)) (seen_alone t (history t.disk) (faults t.disk)) how (ended_by answer)
 
@@ -1048,6 +1058,7 @@ save_event history faults name time size octets now next s t how answer runs sai
       mail = says.mail;
       stays = says.stays;
       reads = said.reads;
+      firm = said.firm;
     }
 
 pub save_goes_on : {D : Type 0} → (history : D → Option History) (faults : D → Faults) (name : List ℕ) (time size : ℕ) (octets : List ℕ) (prepared : Prepared) (first s t : StoreValue D) (now next : SaveStage) (how : Did) (answer : Progress) → answer ≡ progress.More → IsSavingAlone history faults name time octets prepared first s now

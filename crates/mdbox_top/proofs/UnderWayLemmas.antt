@@ -25,7 +25,7 @@ use Rattle.journal.specs.Journal.{JournalStep, Broken, no_broken, left_by, steps
 use Rattle.journal.specs.Makes.{StepOf, steps_made, AreReplies, StaysStopped}
 use Rattle.journal.proofs.ReachedLemmas.{reached_last}
 use Rattle.task_steps.specs.Serves.{IsReached, Serves, IsTurn}
-use Rattle.task_steps.specs.Step.{Seen, ShowsSeen, HasComeTo, and_told, DidEvent}
+use Rattle.task_steps.specs.Step.{IsFirmAt, Seen, ShowsSeen, StaysFirm, HasComeTo, and_told, DidEvent}
 use Rattle.task_steps.proofs.FollowingLemmas.{follows_on, replies_on, replies_stay, told_on}
 use Rattle.task_steps.proofs.GoingLemmas.{serves_on}
 use Rattle.task_steps.proofs.OneEventLemmas.{never_more, not_true}
@@ -102,10 +102,10 @@ stays_on run event stays unrefused = pairs_push StopsLater run.events event stay
 
 -- The event that answers it: it was served.
 pub goes_ended : (request : Request) (lists : Lists) (given : Reply) (run : Run) (journal : List JournalStep) (broken : Broken) (began now new : Seen) (around after : Around) (how : Did) → GoesAlone request lists run journal broken began now → began.drawn ≡ began.map.highest → RunBegins run began.history
-    → (new.stopped ≡ false → RunHasCome run new.map new.history) → (d : DidEvent around after run 1 0 (map (λ s. s.answer) (steps_of 0 journal)) request (left_by lists journal) now new how (Some given)) → IfTold now.history ReadsImage
+    → (new.stopped ≡ false → RunHasCome run new.map new.history) → (d : DidEvent around after run 1 0 (map (λ s. s.answer) (steps_of 0 journal)) request (left_by lists journal) now new how (Some given)) → IfTold now.history ReadsImage → (new.stopped ≡ false → StaysFirm now new)
     → count_by is_read_fault (Some given ∷ []) ≤ count_by is_faulted (run.events ++ d.makes.event ∷ []) → ServesRequest request lists given began.faults new.faults began.history new.history
-goes_ended request lists given run journal broken began now new around after how g opened begins ends d reads few =
-    let s1 = serves_on lists (alone request) run journal broken (None ∷ []) began now new around after 1 0 request how (Some given) g.serves g.turn d reads in
+goes_ended request lists given run journal broken began now new around after how g opened begins ends d reads firm few =
+    let s1 = serves_on lists (alone request) run journal broken (None ∷ []) began now new around after 1 0 request how (Some given) g.serves g.turn d reads firm in
     let s2 = reply_on lists (alone request) run journal broken s1.0 (None ∷ []) (Some given ∷ []) began now new around after 1 0 request how given g.serves g.turn d (replied_also given) few s1.1 in
     let f = follows_on lists (alone request) run journal broken (None ∷ []) began now new around after 1 0 request how (Some given) g.serves g.turn g.given (none_earlier run request) (omega arith) d g.follows in
     let runs : (given ≡ reply.Refused refusal.Stopped → ⊥) → new.stopped ≡ false = λ unstopped. not_true new.stopped (λ e. unstopped (some_one given (reply.Refused refusal.Stopped) (d.ends.halts.1 e))) in
@@ -150,10 +150,10 @@ left_more run request lists journal event (Some given) left made = left_push lis
 
 -- No event has happened since: of a disk that was settled before the opening, each crash image since is safe for the lists.
 opened_serves : (request : Request) (lists : Lists) (m : MapMeaning) (entries : List MapEntry) (seen : Seen) (old : Option History) → HasComeTo (beginning m entries) seen → ShowsSeen seen lists → seen.stopped ≡ false
-    → (IsSettledFor lists old → EachImage (λ _ image. Safe image lists) old seen.history) → (IsSettledFor lists old → IsSettledFor lists seen.history) → MailIsKept seen.map old seen.history
+    → (IsSettledFor lists old → EachImage (λ _ image. Safe image lists) old seen.history) → (IsSettledFor lists old → IsSettledFor lists seen.history) → MailIsKept seen.map old seen.history → IsFirmAt lists seen
     → Serves lists (alone request) (beginning m entries) [] no_broken (None ∷ []) (before_opening seen old) seen
-opened_serves request lists m entries seen old come shows running safe settled mail =
-    let s = serves_start lists (alone request) (beginning m entries) (None ∷ []) seen refl come shows running unreplied refl in
+opened_serves request lists m entries seen old come shows running safe settled mail firm =
+    let s = serves_start lists (alone request) (beginning m entries) (None ∷ []) seen refl come shows running unreplied refl firm in
     record {
       legal = s.legal;
       begins = s.begins;
@@ -168,6 +168,7 @@ opened_serves request lists m entries seen old come shows running safe settled m
       stopped_by = s.stopped_by;
       unrefused = s.unrefused;
       settled = λ e at. settled at;
+      firm = λ e at. firm (settled at);
       mail = λ none. mail;
       reads = s.reads;
       changes = s.changes;
@@ -193,13 +194,13 @@ goes_first request lists m entries began now s running = record {
 
 -- A request of which no event has happened is under way, behind the opening of the store.
 pub way_begins : (Stands : Run → ℕ → List Reply → Type 0) (request : Request) (lists : Lists) (m : MapMeaning) (entries : List MapEntry) (seen : Seen) (old : Option History) → HasComeTo (beginning m entries) seen → ShowsSeen seen lists → seen.stopped ≡ false → seen.drawn ≡ seen.map.highest
-    → (IsSettledFor lists old → EachImage (λ _ image. Safe image lists) old seen.history) → (IsSettledFor lists old → IsSettledFor lists seen.history) → MailIsKept seen.map old seen.history → RunBegins (beginning m entries) old → Stands (beginning m entries) 0 []
+    → (IsSettledFor lists old → EachImage (λ _ image. Safe image lists) old seen.history) → (IsSettledFor lists old → IsSettledFor lists seen.history) → MailIsKept seen.map old seen.history → IsFirmAt lists seen → RunBegins (beginning m entries) old → Stands (beginning m entries) 0 []
     → IsUnderWay Stands request lists (before_opening seen old) seen lists
-way_begins Stands request lists m entries seen old come shows running drawn safe settled mail begins stands = record {
+way_begins Stands request lists m entries seen old come shows running drawn safe settled mail firm begins stands = record {
   run = beginning m entries;
   journal = [];
   broken = no_broken;
-  goes = goes_first request lists m entries (before_opening seen old) seen (opened_serves request lists m entries seen old come shows running safe settled mail) running;
+  goes = goes_first request lists m entries (before_opening seen old) seen (opened_serves request lists m entries seen old come shows running safe settled mail firm) running;
   begins = begins;
   opened = drawn;
   said = [];
@@ -217,12 +218,12 @@ way_shows Stands request lists left began now u = subst (λ (ls : Lists). ShowsS
 -- an event of a request that goes on
 abbrev GoesOnAlone : Request → Run → Seen → Seen → Around → Around → Did → (Run → ℕ → List Reply → Type 0) → Lists → Seen → List Reply → Lists → Type 0
 GoesOnAlone request run now new around after how Stands lists began said left =
-    (d : DidEvent around after run 1 0 said request left now new how None) → IfTold now.history ReadsImage → Stands (and_then run d.makes.event) 0 (and_told said d.makes.answer) → IsUnderWay Stands request lists began new d.left
+    (d : DidEvent around after run 1 0 said request left now new how None) → IfTold now.history ReadsImage → (new.stopped ≡ false → StaysFirm now new) → Stands (and_then run d.makes.event) 0 (and_told said d.makes.answer) → IsUnderWay Stands request lists began new d.left
 
 goes_on_alone : (Stands : Run → ℕ → List Reply → Type 0) (request : Request) (lists : Lists) (run : Run) (journal : List JournalStep) (broken : Broken) (began now new : Seen) (around after : Around) (how : Did) → GoesAlone request lists run journal broken began now → RunBegins run began.history
     → began.drawn ≡ began.map.highest → GoesOnAlone request run now new around after how Stands lists began (map (λ s. s.answer) (steps_of 0 journal)) (left_by lists journal)
-goes_on_alone Stands request lists run journal broken began now new around after how g begins opened d reads stands =
-    let s1 = serves_on lists (alone request) run journal broken (None ∷ []) began now new around after 1 0 request how None g.serves g.turn d reads in
+goes_on_alone Stands request lists run journal broken began now new around after how g begins opened d reads firm stands =
+    let s1 = serves_on lists (alone request) run journal broken (None ∷ []) began now new around after 1 0 request how None g.serves g.turn d reads firm in
     record {
       run = and_then run d.makes.event;
       journal = journal ++ steps_made run request d.makes.event d.makes.answer d.left;
@@ -246,7 +247,7 @@ goes_on_alone Stands request lists run journal broken began now new around after
     }
 
 -- An event that doesn't end it: it is still under way, where its task says that it stands now.
-pub way_goes_on : (Stood Stands : Run → ℕ → List Reply → Type 0) (request : Request) (lists left : Lists) (began now new : Seen) (around after : Around) (how : Did) → (u : IsUnderWay Stood request lists began now left) → (d : DidEvent around after u.run 1 0 u.said request left now new how None) → IfTold now.history ReadsImage
+pub way_goes_on : (Stood Stands : Run → ℕ → List Reply → Type 0) (request : Request) (lists left : Lists) (began now new : Seen) (around after : Around) (how : Did) → (u : IsUnderWay Stood request lists began now left) → (d : DidEvent around after u.run 1 0 u.said request left now new how None) → IfTold now.history ReadsImage → (new.stopped ≡ false → StaysFirm now new)
     → Stands (and_then u.run d.makes.event) 0 (and_told u.said d.makes.answer) → IsUnderWay Stands request lists began new d.left
 way_goes_on Stood Stands request lists left began now new around after how u =
     subst (λ (ls : Lists). GoesOnAlone request u.run now new around after how Stands lists began u.said ls) u.left_is
@@ -258,22 +259,22 @@ way_goes_on Stood Stands request lists left began now new around after how u =
 -- an event that answers a request
 abbrev EndsAlone : Request → Reply → Run → Seen → Seen → Around → Around → Did → Lists → Seen → List Reply → Lists → Type 0
 EndsAlone request given run now new around after how lists began said left =
-    (d : DidEvent around after run 1 0 said request left now new how (Some given)) → IfTold now.history ReadsImage → (is_read_fault (Some given) ≡ true → 1 ≤ count_by is_faulted (run.events ++ d.makes.event ∷ []))
+    (d : DidEvent around after run 1 0 said request left now new how (Some given)) → IfTold now.history ReadsImage → (new.stopped ≡ false → StaysFirm now new) → (is_read_fault (Some given) ≡ true → 1 ≤ count_by is_faulted (run.events ++ d.makes.event ∷ []))
     → ServesRequest request lists given began.faults new.faults began.history new.history
 
 ends_alone : {D : Type 0} → (request : Request) (lists : Lists) (given : Reply) (run : Run) (journal : List JournalStep) (broken : Broken) (began now new : Seen) (around after : Around) (how : Did) (t : StoreValue D) → GoesAlone request lists run journal broken began now → RunBegins run began.history
     → began.drawn ≡ began.map.highest → IsStore new.history t → new.map ≡ t.map → new.stopped ≡ t.stopped → EndsAlone request given run now new around after how lists began (map (λ s. s.answer) (steps_of 0 journal)) (left_by lists journal)
-ends_alone request lists given run journal broken began now new around after how t g begins opened k map_is stopped_is d reads faulted =
+ends_alone request lists given run journal broken began now new around after how t g begins opened k map_is stopped_is d reads firm faulted =
     goes_ended request lists given run journal broken began now new around after how g opened begins
     (λ runs.
     let same : t.map.store ≡ run.store = sym (ap (λ (m : MapMeaning). m.store) (d.makes.come.map_is ∙ map_is)) in
     run_ends run new.map new.history k.entries k.logs (subst (λ (store : List ℕ). IfTold new.history (λ disk. Opens (files_of disk) store k.entries k.logs)) same (k.running (sym stopped_is ∙ runs)).opens)
     (map_is ∙ (k.map_is ∙ ap (λ (store : List ℕ). map_meaning store k.entries) same)))
-    d reads (few_reads given _ faulted)
+    d reads firm (few_reads given _ faulted)
 
 -- An event that answers it, from where its task stood: it was served. A read fault that is replied has an event that was refused by it.
 pub way_ends : {D : Type 0} → (Stood : Run → ℕ → List Reply → Type 0) (request : Request) (lists left : Lists) (given : Reply) (began now new : Seen) (around after : Around) (how : Did) (t : StoreValue D) → (u : IsUnderWay Stood request lists began now left) → IsStore new.history t → new.map ≡ t.map
-    → new.stopped ≡ t.stopped → (d : DidEvent around after u.run 1 0 u.said request left now new how (Some given)) → IfTold now.history ReadsImage → (is_read_fault (Some given) ≡ true → 1 ≤ count_by is_faulted (u.run.events ++ d.makes.event ∷ []))
+    → new.stopped ≡ t.stopped → (d : DidEvent around after u.run 1 0 u.said request left now new how (Some given)) → IfTold now.history ReadsImage → (new.stopped ≡ false → StaysFirm now new) → (is_read_fault (Some given) ≡ true → 1 ≤ count_by is_faulted (u.run.events ++ d.makes.event ∷ []))
     → ServesRequest request lists given began.faults new.faults began.history new.history
 way_ends Stood request lists left given began now new around after how t u k map_is stopped_is =
     subst (λ (ls : Lists). EndsAlone request given u.run now new around after how lists began u.said ls) u.left_is

@@ -36,10 +36,10 @@ use Rattle.mdbox_top.specs.SavedMail.{AddsAttachments, AddsOnly, IsNewAttachment
 -- ---- what is written
 
 abbrev OtherMail : ℕ → DiskState → DiskState → Type 0
-OtherMail file a b = ((number : ℕ) → number ≢ file → IsSameOrSynced (a (Mail number)) (b (Mail number))) × ((hash id : List ℕ) → reading (b (Inst hash id)) ≡ reading (a (Inst hash id)))
+OtherMail file a b = ((number : ℕ) → number ≢ file → IsSameOrSynced (a (Mail number)) (b (Mail number))) × ((hash id : List ℕ) → IsSameOrSynced (a (Inst hash id)) (b (Inst hash id)))
 
 abbrev SameMail : DiskState → DiskState → Type 0
-SameMail a b = ((number : ℕ) → IsSameOrSynced (a (Mail number)) (b (Mail number))) × ((hash id : List ℕ) → reading (b (Inst hash id)) ≡ reading (a (Inst hash id)))
+SameMail a b = ((number : ℕ) → IsSameOrSynced (a (Mail number)) (b (Mail number))) × ((hash id : List ℕ) → IsSameOrSynced (a (Inst hash id)) (b (Inst hash id)))
 
 -- ---- instances
 
@@ -64,8 +64,8 @@ same_among parts rows more hash id a b among (inl same) = inl same
 same_among parts rows more hash id a b among (inr new) =
     inr (record { part = new.part; among = new.among; row = new.row; of_rows = among new.row new.of_rows; hash_is = new.hash_is; id_is = new.id_is; of_part = new.of_part; none = new.none; has = new.has })
 
-same_attachments : (parts : List Detached) (rows : List InstRow) (a b : DiskState) → ((hash id : List ℕ) → reading (b (Inst hash id)) ≡ reading (a (Inst hash id))) → AddsAttachments parts rows a b
-same_attachments parts rows a b same = λ hash id. inl (same hash id)
+same_attachments : (parts : List Detached) (rows : List InstRow) (a b : DiskState) → ((hash id : List ℕ) → IsSameOrSynced (a (Inst hash id)) (b (Inst hash id))) → AddsAttachments parts rows a b
+same_attachments parts rows a b same = λ hash id. inl (synced_reads (a (Inst hash id)) (b (Inst hash id)) (same hash id))
 
 attachments_then : (parts : List Detached) (rows : List InstRow) (a b c : DiskState) → AddsAttachments parts rows a b → AddsAttachments parts rows b c → AddsAttachments parts rows a c
 attachments_then parts rows a b c first last = λ hash id. same_then parts rows hash id (reading (a (Inst hash id))) (reading (b (Inst hash id))) (reading (c (Inst hash id))) (first hash id) (last hash id)

@@ -1,9 +1,13 @@
 // A delivery: the message is read, the clock asked, the store opened, and each event of the delivery done.
 ghost use Rattle.std.specs.Prelude.{◌≡◌, ◌≢◌, ◌≤◌, ◌⊎◌, ◌∷◌, [], ℕ, List, length, false, IfOk, IfErr, OnOk};
 ghost use Rattle.attach_detach.specs.Prepared.{IsPrepared};
+ghost use Rattle.disk_model.specs.Disk.{IfTold};
 ghost use Rattle.disk_model.specs.FaultCounts.{NoFault, AnyFaultCounted};
 ghost use Rattle.mdbox_base.specs.Streams.{Rose};
 ghost use Rattle.mdbox_base.specs.declared.requests.Request.TheVariants as request;
+ghost use Rattle.model_lists.specs.Lists.{Lists};
+ghost use Rattle.model_store.specs.Settled.{IsSettledFor};
+ghost use Rattle.store_core.specs.StoreInstances.{AreInstancesFirm};
 ghost use Rattle.store_instances.specs.FoundInstances.{IsFoundInstances};
 ghost use Rattle.script_run.specs.Opening.{IsUnopened};
 ghost use Rattle.mdbox_top.specs.Alone.{IsDoneAlone};
@@ -151,11 +155,13 @@ fn save_alone<D: Disk>(
     }
 }
 
-/// Does the events of a delivery, one behind another, and answers its reply. Nobody holds an instance before.
+/// Does the events of a delivery, one behind another, and answers its reply. Nobody holds an instance before, and on a settled disk a
+/// record may name each that is known.
 fn save_message<D: Disk>(store: &mut Store<D>, name: Name, time: u64, prepared: Prepared) -> Reply
     requires running { store.old.stopped ≡ false }
     requires form { (octets : List ℕ) × (length octets ≤ 67108864) × IsPrepared octets prepared }
     requires unheld { IsFoundInstances store.old.map store.old.instances }
+    requires firm { (lists : Lists) → IsSettledFor lists (D.history store.old.disk) → IfTold (D.history store.old.disk) (AreInstancesFirm store.old.instances.known store.old.map) }
     ensures { (octets : List ℕ) → length octets ≤ 67108864 → IsPrepared octets prepared → SavesAlone name time octets prepared store.old store.new (D.history store.old.disk) (D.history store.new.disk) (D.faults store.old.disk) (D.faults store.new.disk) result }
 {
     attachments_are_few();

@@ -22,12 +22,13 @@ use Rattle.journal.specs.Makes.{AreNextEvents, HasCome}
 use Rattle.journal.specs.Journal.{Broken, HasReply, IsLegal, JournalStep, Requests, left_by, no_broken}
 use Rattle.serving.specs.Serving.{AreIdle, HaveLanes, unreplied}
 use Rattle.sis_store.specs.Instances.{AreInstances}
+use Rattle.store_core.proofs.InstanceFirmLemmas.{named_all_firm}
 use Rattle.store_core.specs.Running.{IsStore}
 use Rattle.store_core.specs.Value.{StoreValue, indexes_of, list_named}
 use Rattle.store_open.specs.Opened.{KeepsOpenedMail}
 use Rattle.store_seen.specs.Seeing.{IsAtOpening}
 use Rattle.task_claims.specs.Claims.{HasNoTask}
-use Rattle.task_steps.specs.Step.{Seen, ShowsSeen, ended_by}
+use Rattle.task_steps.specs.Step.{IsFirmAt, Seen, ShowsSeen, ended_by}
 use Rattle.task_steps.proofs.OneEventLemmas.{not_true}
 use Rattle.mail_fetch.specs.Task.{seen_in}
 use Rattle.lanes.specs.Going.{AreFreshRows, IsGoing}
@@ -158,7 +159,7 @@ LanesEnd D = (start : Lists) (script : Requests) (run : Run) (journal : List Jou
 
 -- the law of lanes that begin
 abbrev pub LanesBegin : (D : Type 0) → Type 0
-LanesBegin D = (start : Lists) (script : Requests) (run : Run) (rows : List LaneRow) (store : StoreValue D) (history : Option History) (faults : Faults) → IsAtOpening run store → HasCome run store.map store.drawn (told_calls history) → HasNoTask store → store.stopped ≡ false → ShowsSeen (seen_in store history faults) start
+LanesBegin D = (start : Lists) (script : Requests) (run : Run) (rows : List LaneRow) (store : StoreValue D) (history : Option History) (faults : Faults) → IsAtOpening run store → HasCome run store.map store.drawn (told_calls history) → HasNoTask store → store.stopped ≡ false → ShowsSeen (seen_in store history faults) start → IsFirmAt start (seen_in store history faults)
     → AreFreshRows script rows → HaveLanes script (lanes_of rows) → length rows ≤ 64
     → ((place lane : ℕ) (name : List ℕ) (uid : Uid) → slice_get script place ≡ Some (lane, request.Fetch name uid) → IsSettledFor start history) → IsGoing start script run [] no_broken (unreplied script) (seen_in store history faults) store history faults rows
 
@@ -465,7 +466,7 @@ run_done {D} history faults script lanes prepared parts old s world ended turns 
   where
     going : (start : Lists) → MayRead script start old → LogsShowLists s.map (indexes_of s.boxes) start → (run : Run) → IsAtOpening run s → HasCome run s.map s.drawn (told_calls (history s.disk)) → IsGoing start script run [] no_broken (unreplied script) (seen_in s (history s.disk) (faults s.disk)) s (history s.disk) (faults s.disk) parts.rows
     going start may shows run at come =
-        begin start script run parts.rows s (history s.disk) (faults s.disk) at come unused o.running shows are.rows (of_lanes script lanes parts.rows are.many in_lanes) (subst (λ (n : ℕ). n ≤ 64) (sym are.many) few)
+        begin start script run parts.rows s (history s.disk) (faults s.disk) at come unused o.running shows (λ settled. named_all_firm s (history s.disk) start o.store o.known o.running o.reads o.instances.only settled) are.rows (of_lanes script lanes parts.rows are.many in_lanes) (subst (λ (n : ℕ). n ≤ 64) (sym are.many) few)
         (λ place lane name uid there. o.settled_again start (may (fetches script place lane name uid there)))
 
     went : GoesOnBy turns world ended (history s.disk) (history ended.store.disk) (faults s.disk) (faults ended.store.disk)

@@ -50,6 +50,7 @@ serves_from start script run replies seen old empty s safe settled mail = record
   stopped_by = s.stopped_by;
   unrefused = s.unrefused;
   settled = λ e at. settled at;
+  firm = λ e at. s.firm e (settled at);
   mail = λ none. mail;
   reads = s.reads;
   changes = s.changes;

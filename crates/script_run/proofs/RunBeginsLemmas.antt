@@ -18,6 +18,7 @@ use Rattle.list_machine.specs.Run.{Run, before, map_of}
 use Rattle.journal.specs.Makes.{HasCome}
 use Rattle.task_steps.specs.Step.{Seen}
 use Rattle.storage_files.specs.Files.{AreFilesInOrder}
+use Rattle.store_core.specs.StoreInstances.{HasKnownInstances}
 use Rattle.store_core.specs.Running.{IsStore}
 use Rattle.store_core.specs.Value.{none_due, StoreValue, indexes_of}
 use Rattle.store_files.specs.Found.{IsFoundFiles}
@@ -59,6 +60,7 @@ run_ends run m (Some h) entries logs opens is = (entries, logs, opens, subst (λ
 pub record OpenedNow {D : Type 0} (old mid : Option History) (s : StoreValue D) : Type 0 where
   pub opened : IsOpenedAs old s.map (indexes_of s.boxes)
   pub store : IsStore mid s
+  pub known : HasKnownInstances mid s
   pub drawn : s.drawn ≡ s.map.highest
   pub free : s.dues ≡ none_due s.map.records
   pub order : AreFilesInOrder s.files

@@ -24,7 +24,7 @@ use Rattle.journal.proofs.FaultLemmas.{faults_have_events}
 use Rattle.journal.proofs.StoppedLemmas.{stopped_is_replied}
 use Rattle.model_octets.proofs.PairLemmas.{pairs_push}
 use Rattle.task_steps.specs.Serves.{BreaksBy, Follows, IsTurn, Serves}
-use Rattle.task_steps.specs.Step.{Seen, DidEvent, and_told}
+use Rattle.task_steps.specs.Step.{StaysFirm, Seen, DidEvent, and_told}
 use Rattle.task_steps.proofs.FollowingLemmas.{follows_on, replies_on, replies_stay, told_on}
 use Rattle.task_steps.proofs.GoingLemmas.{serves_by}
 use Rattle.task_steps.proofs.ReplyingLemmas.{reply_on}
@@ -128,14 +128,14 @@ stays_on start script run journal replies place began now new around after lane 
 pub serving_more : {T : Type 0} → (Was Is : T → Request → Run → ℕ → List Reply → Type 0) (start : Lists) (script : Requests) (run : Run) (journal : List JournalStep) (broken : Broken) (replies : List (Option Reply))
     (began now new : Seen) (lanes : List (LaneValue T)) (k place : ℕ) (rest : List ℕ) (value : LaneValue T) (request : Request) (task : T) (around after : Around) (how : Did)
     → IsServing Was start script run journal broken replies began now lanes → OthersStandOn Was Is lanes k → slice_get lanes k ≡ Some value → value.queue ≡ place ∷ rest → slice_get script place ≡ Some (k + 1, request)
-    → (d : DidEvent around after run (k + 1) place (said_by journal place) request (left_by start journal) now new how None) → IfTold now.history ReadsImage → Is task request (and_then run d.makes.event) place (and_told (said_by journal place) d.makes.answer)
+    → (d : DidEvent around after run (k + 1) place (said_by journal place) request (left_by start journal) now new how None) → IfTold now.history ReadsImage → (new.stopped ≡ false → StaysFirm now new) → Is task request (and_then run d.makes.event) place (and_told (said_by journal place) d.makes.answer)
     → (next : Broken) × IsServing Is start script (and_then run d.makes.event) (journal_behind run request journal d.makes.event d.makes.answer d.left) next replies began new (slice_set lanes k (lane_behind None task value))
     × BreaksBy how run d.makes.event (told_calls now.history) broken next
-serving_more Was Is start script run journal broken replies began now new lanes k place rest value request task around after how s stays there queue asked d reads stands =
+serving_more Was Is start script run journal broken replies began now new lanes k place rest value request task around after how s stays there queue asked d reads firm stands =
     let first = first_turn Was script run journal replies (k + 1) place rest value request (s.lanes_at k value there) queue asked in
     let turn = first.0 in
     let behind = first.2 in
-    let s1 = serves_by start script run journal broken replies began now new around after (k + 1) place request how None s.serves turn d reads in
+    let s1 = serves_by start script run journal broken replies began now new around after (k + 1) place request how None s.serves turn d reads firm in
     let l = s.lanes_at k value there in (
       s1.0,
       record {
@@ -159,14 +159,14 @@ serving_more Was Is start script run journal broken replies began now new lanes 
 pub serving_done : {T : Type 0} → (Was Is : T → Request → Run → ℕ → List Reply → Type 0) (start : Lists) (script : Requests) (run : Run) (journal : List JournalStep) (broken : Broken) (replies : List (Option Reply))
     (began now new : Seen) (lanes : List (LaneValue T)) (k place : ℕ) (rest : List ℕ) (value : LaneValue T) (request : Request) (task : T) (around after : Around) (how : Did) (given : Reply)
     → IsServing Was start script run journal broken replies began now lanes → OthersStandOn Was Is lanes k → slice_get lanes k ≡ Some value → value.queue ≡ place ∷ rest → slice_get script place ≡ Some (k + 1, request)
-    → (d : DidEvent around after run (k + 1) place (said_by journal place) request (left_by start journal) now new how (Some given)) → IfTold now.history ReadsImage
+    → (d : DidEvent around after run (k + 1) place (said_by journal place) request (left_by start journal) now new how (Some given)) → IfTold now.history ReadsImage → (new.stopped ≡ false → StaysFirm now new)
     → (next : Broken) × IsServing Is start script (and_then run d.makes.event) (journal_behind run request journal d.makes.event d.makes.answer d.left) next (slice_set replies place (Some given)) began new (slice_set lanes k (lane_behind (Some given) task value))
     × BreaksBy how run d.makes.event (told_calls now.history) broken next
-serving_done Was Is start script run journal broken replies began now new lanes k place rest value request task around after how given s stays there queue asked d reads =
+serving_done Was Is start script run journal broken replies began now new lanes k place rest value request task around after how given s stays there queue asked d reads firm =
     let first = first_turn Was script run journal replies (k + 1) place rest value request (s.lanes_at k value there) queue asked in
     let turn = first.0 in
     let behind = first.2 in
-    let s1 = serves_by start script run journal broken replies began now new around after (k + 1) place request how (Some given) s.serves turn d reads in
+    let s1 = serves_by start script run journal broken replies began now new around after (k + 1) place request how (Some given) s.serves turn d reads firm in
     let l = s.lanes_at k value there in
     let f = follows_on start script run journal broken replies began now new around after (k + 1) place request how (Some given) s.serves turn s.given (none_earlier Was script run journal replies (k + 1) place rest value queue behind l s.given) (slice_get_within script place (k + 1, request) turn.asked) d s.follows in
     let also : RepliesAlso replies (slice_set replies place (Some given)) place given = record {
@@ -198,13 +198,13 @@ serving_done Was Is start script run journal broken replies began now new lanes 
 pub lane_goes_on : {T : Type 0} → (Was Is : T → Request → Run → ℕ → List Reply → Type 0) (start : Lists) (script : Requests) (run : Run) (journal : List JournalStep) (broken : Broken) (replies : List (Option Reply))
     (began now new : Seen) (lanes : List (LaneValue T)) (k place : ℕ) (rest : List ℕ) (value : LaneValue T) (request : Request) (next : T) (around after : Around) (how : Did) (ended : Option Reply)
     → IsServing Was start script run journal broken replies began now lanes → OthersStandOn Was Is lanes k → slice_get lanes k ≡ Some value → value.queue ≡ place ∷ rest → slice_get script place ≡ Some (k + 1, request)
-    → (d : DidEvent around after run (k + 1) place (said_by journal place) request (left_by start journal) now new how ended) → IfTold now.history ReadsImage → (ended ≡ None → Is next request (and_then run d.makes.event) place (and_told (said_by journal place) d.makes.answer))
+    → (d : DidEvent around after run (k + 1) place (said_by journal place) request (left_by start journal) now new how ended) → IfTold now.history ReadsImage → (new.stopped ≡ false → StaysFirm now new) → (ended ≡ None → Is next request (and_then run d.makes.event) place (and_told (said_by journal place) d.makes.answer))
     → (failed : Broken) × IsServing Is start script (and_then run d.makes.event) (journal_behind run request journal d.makes.event d.makes.answer d.left) failed (replies_behind ended place replies) began new (slice_set lanes k (lane_behind ended next value))
     × BreaksBy how run d.makes.event (told_calls now.history) broken failed
-lane_goes_on Was Is start script run journal broken replies began now new lanes k place rest value request next around after how None s stays there queue asked d reads stands =
-    serving_more Was Is start script run journal broken replies began now new lanes k place rest value request next around after how s stays there queue asked d reads (stands refl)
-lane_goes_on Was Is start script run journal broken replies began now new lanes k place rest value request next around after how (Some given) s stays there queue asked d reads stands =
-    serving_done Was Is start script run journal broken replies began now new lanes k place rest value request next around after how given s stays there queue asked d reads
+lane_goes_on Was Is start script run journal broken replies began now new lanes k place rest value request next around after how None s stays there queue asked d reads firm stands =
+    serving_more Was Is start script run journal broken replies began now new lanes k place rest value request next around after how s stays there queue asked d reads firm (stands refl)
+lane_goes_on Was Is start script run journal broken replies began now new lanes k place rest value request next around after how (Some given) s stays there queue asked d reads firm stands =
+    serving_done Was Is start script run journal broken replies began now new lanes k place rest value request next around after how given s stays there queue asked d reads firm
 
 -- ---- the end
 

@@ -13,7 +13,7 @@ use Rattle.journal.specs.Makes.{StaysStopped}
 use Rattle.model_octets.proofs.PairLemmas.{pairs_nil}
 use Rattle.journal.specs.Journal.{Requests, HasReply, is_read_fault, no_broken}
 use Rattle.journal.specs.JournalExamples.{nothing_around}
-use Rattle.task_steps.specs.Step.{Seen, HasComeTo, ShowsSeen}
+use Rattle.task_steps.specs.Step.{IsFirmAt, Seen, HasComeTo, ShowsSeen}
 use Rattle.task_steps.proofs.ReplyingLemmas.{serves_start}
 use Rattle.serving.specs.Lanes.{AreBehind, AreFresh, IsInTurn, LaneAt, LaneValue, queue_of}
 use Rattle.serving.specs.Serving.{IsServing, unreplied}
@@ -132,10 +132,10 @@ fresh_lane {T} At script run lane empty = record {
 none_at : (run : Run) (n : ℕ) (event : RunEvent) → run.events ≡ [] → slice_get run.events n ≡ Some event → ⊥
 none_at run n event empty there = let z : None ≡ Some event = sym (ap (λ (es : List RunEvent). slice_get es n) empty) ∙ there in cc z
 
-pub serving_start : {T : Type 0} → (At : T → Request → Run → ℕ → List Reply → Type 0) (start : Lists) (script : Requests) (run : Run) (now : Seen) (lanes : List (LaneValue T)) → run.events ≡ [] → HasComeTo run now → ShowsSeen now start → now.stopped ≡ false → AreFresh script lanes
+pub serving_start : {T : Type 0} → (At : T → Request → Run → ℕ → List Reply → Type 0) (start : Lists) (script : Requests) (run : Run) (now : Seen) (lanes : List (LaneValue T)) → run.events ≡ [] → HasComeTo run now → ShowsSeen now start → now.stopped ≡ false → IsFirmAt start now → AreFresh script lanes
     → IsServing At start script run [] no_broken (unreplied script) now now lanes
-serving_start At start script run now lanes empty come shows runs fresh = record {
-  serves = serves_start start script run (unreplied script) now empty come shows runs (none_given script) (none_faulted script);
+serving_start At start script run now lanes empty come shows runs firm fresh = record {
+  serves = serves_start start script run (unreplied script) now empty come shows runs (none_given script) (none_faulted script) firm;
   follows = record {
     around = λ n. nothing_around;
     after = λ n. nothing_around;

@@ -13,7 +13,7 @@ ghost use Rattle.journal.specs.Makes.{steps_made};
 ghost use Rattle.store_core.specs.Value.{StoreValue};
 ghost use Rattle.task_claims.specs.Claims.{AddsUp, Claims};
 ghost use Rattle.task_steps.specs.Serves.{BreaksBy, IsTurn};
-ghost use Rattle.task_steps.specs.Step.{Seen, HasComeTo, ShowsSeen, DidEvent, and_told};
+ghost use Rattle.task_steps.specs.Step.{IsFirmAt, StaysFirm, Seen, HasComeTo, ShowsSeen, DidEvent, and_told};
 ghost use Rattle.serving.specs.Lanes.{AreFresh, LaneValue, lane_behind, replies_behind, said_by};
 ghost use Rattle.serving.specs.OwnWork.{HasWorked, OwnWork};
 ghost use Rattle.serving.specs.Serving.{AreIdle, HaveLanes, IsServing, unreplied};
@@ -23,7 +23,7 @@ ghost use Rattle.serving.specs.Turns.{IsTraceOf, LaneTurn, lanes_worked};
 
 /// A script begins to be served from what a store shows: each lane waits with all its requests.
 pub fn serving_start()
-    ensures { (start : Lists) (script : Requests) (run : Run) (now : Seen) (lanes : List (LaneValue OwnWork)) → run.events ≡ [] → HasComeTo run now → ShowsSeen now start → now.stopped ≡ false → AreFresh script lanes
+    ensures { (start : Lists) (script : Requests) (run : Run) (now : Seen) (lanes : List (LaneValue OwnWork)) → run.events ≡ [] → HasComeTo run now → ShowsSeen now start → now.stopped ≡ false → IsFirmAt start now → AreFresh script lanes
         → IsServing HasWorked start script run [] no_broken (unreplied script) now now lanes }
 {}
 
@@ -31,7 +31,7 @@ pub fn serving_start()
 pub fn serving_more()
     ensures { (start : Lists) (script : Requests) (run : Run) (journal : List JournalStep) (broken : Broken) (replies : List (Option Reply)) (began now new : Seen) (lanes : List (LaneValue OwnWork)) (k place : ℕ) (rest : List ℕ) (value : LaneValue OwnWork) (request : Request) (around after : Around) (how : Did)
         → IsServing HasWorked start script run journal broken replies began now lanes → slice_get lanes k ≡ Some value → value.queue ≡ place ∷ rest → slice_get script place ≡ Some (k + 1, request)
-        → (d : DidEvent around after run (k + 1) place (said_by journal place) request (left_by start journal) now new how None) → IfTold now.history (λ disk. IsImage disk (λ name. reading (disk name)))
+        → (d : DidEvent around after run (k + 1) place (said_by journal place) request (left_by start journal) now new how None) → IfTold now.history (λ disk. IsImage disk (λ name. reading (disk name))) → (new.stopped ≡ false → StaysFirm now new)
         → (next : Broken) × IsServing HasWorked start script (and_then run d.makes.event) (journal ++ steps_made run request d.makes.event d.makes.answer d.left) next replies began new
         (slice_set lanes k (lane_behind None (record { events = own_events place (and_then run d.makes.event); answers = and_told (said_by journal place) d.makes.answer }) value)) × BreaksBy how run d.makes.event (told_calls now.history) broken next }
 {}
@@ -40,7 +40,7 @@ pub fn serving_more()
 pub fn serving_done()
     ensures { (start : Lists) (script : Requests) (run : Run) (journal : List JournalStep) (broken : Broken) (replies : List (Option Reply)) (began now new : Seen) (lanes : List (LaneValue OwnWork)) (k place : ℕ) (rest : List ℕ) (value : LaneValue OwnWork) (request : Request) (work : OwnWork) (around after : Around) (how : Did) (given : Reply)
         → IsServing HasWorked start script run journal broken replies began now lanes → slice_get lanes k ≡ Some value → value.queue ≡ place ∷ rest → slice_get script place ≡ Some (k + 1, request)
-        → (d : DidEvent around after run (k + 1) place (said_by journal place) request (left_by start journal) now new how (Some given)) → IfTold now.history (λ disk. IsImage disk (λ name. reading (disk name)))
+        → (d : DidEvent around after run (k + 1) place (said_by journal place) request (left_by start journal) now new how (Some given)) → IfTold now.history (λ disk. IsImage disk (λ name. reading (disk name))) → (new.stopped ≡ false → StaysFirm now new)
         → (next : Broken) × IsServing HasWorked start script (and_then run d.makes.event) (journal ++ steps_made run request d.makes.event d.makes.answer d.left) next (replies_behind (Some given) place replies) began new (slice_set lanes k (lane_behind (Some given) work value))
         × BreaksBy how run d.makes.event (told_calls now.history) broken next }
 {}

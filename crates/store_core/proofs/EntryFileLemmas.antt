@@ -100,7 +100,7 @@ kept_applied files drawn later m e l same made k = record {
   highest = k.highest ∙ sym same;
   numbered = k.numbered;
   taken = k.taken;
-  sealed = λ number f found is. k.sealed number f found (sym (ap (λ (ns : List ℕ). list_any (λ n. n == number) ns) (none_sealed e m.sealed l)) ∙ is);
+  sealed = λ number f found. k.sealed number f found ∙ sym (ap (λ (ns : List ℕ). list_any (λ n. n == number) ns) (none_sealed e m.sealed l));
   pinned = λ number f found is. elim (k.pinned number f found is) [
     | inl doomed ↦ inl doomed
     | inr has ↦ inr (any_append (λ row. row.file == number) (kept_rows record_rules e m.records) (record_made e) (any_kept e number m.records l ∙ has))

@@ -28,8 +28,8 @@ use Rattle.sis_store.proofs.KeysLemmas.{found-among}
 use Rattle.sis_store.specs.Instances.{instance_in, is_of_kind}
 use Rattle.sis_store.specs.OnDisk.{instance_file}
 use Rattle.sis_store.specs.declared.instance.KnownInstance.{KnownInstance}
-use Rattle.store_core.specs.MapAppend.{NamesKnown, HasItsHash}
-use Rattle.store_core.specs.StoreInstances.{IsOtherThan, IsFirstKnown, IsFirmInstance, IsKnownRow, IsNamedOrFirm, AreInstancesThere}
+use Rattle.store_core.specs.MapAppend.{NamesFirm, NamesKnown, HasItsHash}
+use Rattle.store_core.specs.StoreInstances.{IsOtherThan, IsFirstKnown, IsFirmInstance, IsKnownRow, AreInstancesThere}
 
 -- ---- instances that are known
 
@@ -85,20 +85,26 @@ first_none is known (Some h) none = subst (All (IsFirstKnown known h.now)) (sym 
 
 -- ---- a crash leaves them
 
--- where it leaves those that records name
-pub left_known : (known : List KnownInstance) (m : MapMeaning) (disk : DiskState) (image : Files) → AreInstancesThere known m disk → All (HasSameInstance (files_of disk) image) (named_instances m) → IsImage disk image → All (λ k. HasSameInstance (files_of disk) image k.row) known
-left_known known m disk image there same is =
-    All-weaker (IsNamedOrFirm m disk) (λ (k : KnownInstance). HasSameInstance (files_of disk) image k.row) (λ k f. elim f [
-      | inl named ↦ All-contains (HasSameInstance (files_of disk) image) (named_instances m) k.row same named
-      | inr firm ↦ firm.left (image (instance_file k.row)) (is (instance_file k.row))
-    ]) known there.firm
+-- those that the entry names
+pub left_firm : (e : MapEntry) (m : MapMeaning) (h : History) (image : Files) → NamesFirm e m (Some h) → IsImage h.now image → All (λ row. All (HasSameInstance (files_of h.now) image) row.instances) (record_made e)
+left_firm (entry.S o c u f p z g is) m h image firm i =
+    All-cons (λ (row : MapRecord). All (HasSameInstance (files_of h.now) image) row.instances) (stored_row o c u f p z g is) []
+    (All-weaker (IsFirmInstance m h.now) (HasSameInstance (files_of h.now) image) (λ inst k. k.left (image (instance_file inst)) (i (instance_file inst))) is firm) (All-nil (λ (row : MapRecord). All (HasSameInstance (files_of h.now) image) row.instances))
+left_firm (entry.U u) m h image firm i = All-nil (λ (row : MapRecord). All (HasSameInstance (files_of h.now) image) row.instances)
+left_firm (entry.D us) m h image firm i = All-nil (λ (row : MapRecord). All (HasSameInstance (files_of h.now) image) row.instances)
+left_firm (entry.T cs) m h image firm i = All-nil (λ (row : MapRecord). All (HasSameInstance (files_of h.now) image) row.instances)
+left_firm (entry.H x) m h image firm i = All-nil (λ (row : MapRecord). All (HasSameInstance (files_of h.now) image) row.instances)
+left_firm (entry.B b g n) m h image firm i = All-nil (λ (row : MapRecord). All (HasSameInstance (files_of h.now) image) row.instances)
+left_firm (entry.G b g) m h image firm i = All-nil (λ (row : MapRecord). All (HasSameInstance (files_of h.now) image) row.instances)
+left_firm (entry.P f t ms us) m h image firm i = All-nil (λ (row : MapRecord). All (HasSameInstance (files_of h.now) image) row.instances)
+left_firm (entry.E f) m h image firm i = All-nil (λ (row : MapRecord). All (HasSameInstance (files_of h.now) image) row.instances)
 
 -- ---- each attachment once
 
 -- what a store has of its instances, which records of this map name
 pub record KnowsNamed (known : List KnownInstance) (m : MapMeaning) (disk : DiskState) : Type 0 where
   pub named : All (IsKnownRow known) (named_instances m)
-  pub there : AreInstancesThere known m disk
+  pub there : AreInstancesThere known disk
 
 -- two whole instances of one hash and the same octets are of one kind
 same_kind : (files : Files) (a b : InstRow) (octets : List ℕ) → IsThereWhole files a → IsThereWhole files b → files (instance_file a) ≡ Some octets → files (instance_file b) ≡ Some octets → b.hash ≡ a.hash → is_of_kind a.hash a.size b ≡ true
@@ -145,18 +151,14 @@ known_any known files m inst octets named h =
 any_own : (files : Files) (m : MapMeaning) (inst : InstRow) (octets : List ℕ) → NamesOwn files m inst octets → NamesAny files m inst octets
 any_own files m inst octets h = record { row = h.row; is_record = h.is_record; is_named = h.is_named; there = h.there }
 
--- no known instance with a lesser id has the octets of one that an own save names
-none_less : (known : List KnownInstance) (m : MapMeaning) (disk : DiskState) (a b : InstRow) (octets : List ℕ) → KnowsNamed known m disk → StoredOnce (files_of disk) m → NamesOwn (files_of disk) m a octets → IsKnownRow known b
+-- none with a lesser id that a record may name has the octets of one that an own save names
+none_less : (known : List KnownInstance) (m : MapMeaning) (disk : DiskState) (a b : InstRow) (octets : List ℕ) → KnowsNamed known m disk → IsFirmInstance m disk b → NamesOwn (files_of disk) m a octets → IsKnownRow known b
     → reading (disk (instance_file b)) ≡ Some octets → b.hash ≡ a.hash → IsLess b.id.0 a.id.0 → ⊥
-none_less known m disk a b octets k once own kb there same less =
-    elim (of_known (λ (row : InstRow). Contains (named_instances m) row ⊎ IsFirmInstance m disk row) known b k.there.firm kb) [
-      | inl named ↦ once.least a b octets own (named_by (files_of disk) m b octets named there) same less
-      | inr firm ↦
-          let ka : IsKnownRow known a = known_any known (files_of disk) m a octets k.named (any_own (files_of disk) m a octets own) in
-          let others : All (λ inst. IsOtherThan disk inst b) own.row.instances =
-          All-contains (λ (row : MapRecord). row.origin ≡ 0 → All (λ inst. IsOtherThan disk inst b) row.instances) m.records own.row firm.other own.is_record own.own in
-          other_octets known disk a b octets k.there.whole ka kb (All-contains (λ (inst : InstRow). IsOtherThan disk inst b) own.row.instances a others own.is_named) own.there there same less
-    ]
+none_less known m disk a b octets k firm own kb there same less =
+    let ka : IsKnownRow known a = known_any known (files_of disk) m a octets k.named (any_own (files_of disk) m a octets own) in
+    let others : All (λ inst. IsOtherThan disk inst b) own.row.instances =
+    All-contains (λ (row : MapRecord). row.origin ≡ 0 → All (λ inst. IsOtherThan disk inst b) row.instances) m.records own.row firm.other own.is_record own.own in
+    other_octets known disk a b octets k.there.whole ka kb (All-contains (λ (inst : InstRow). IsOtherThan disk inst b) own.row.instances a others own.is_named) own.there there same less
 
 -- ---- with a record more
 
@@ -173,8 +175,9 @@ was_there m n row other records there = elim (Contains-append_cases m.records (r
 ]
 
 -- what the record names beside the others
-pub record NamesMore (known : List KnownInstance) (disk : DiskState) (row : MapRecord) : Type 0 where
+pub record NamesMore (known : List KnownInstance) (m : MapMeaning) (disk : DiskState) (row : MapRecord) : Type 0 where
   pub known_rows : All (IsKnownRow known) row.instances
+  pub firm : All (IsFirmInstance m disk) row.instances
   pub first : row.origin ≡ 0 → All (IsFirstKnown known disk) row.instances
   pub hashes : row.origin ≡ 0 → All (HasItsHash (files_of disk)) row.instances
 
@@ -191,19 +194,22 @@ any_named known files m n row inst octets records named more h = elim (was_there
   | inr is ↦ All-contains (IsKnownRow known) row.instances inst more (subst (λ (r : MapRecord). Contains r.instances inst) is h.is_named)
 ]
 
-least_with : (known : List KnownInstance) (disk : DiskState) (m n : MapMeaning) (row : MapRecord) → n.records ≡ m.records ++ row ∷ [] → KnowsNamed known m disk → NamesMore known disk row → StoredOnce (files_of disk) m → (a b : InstRow) (octets : List ℕ) → NamesOwn (files_of disk) n a octets
+least_with : (known : List KnownInstance) (disk : DiskState) (m n : MapMeaning) (row : MapRecord) → n.records ≡ m.records ++ row ∷ [] → KnowsNamed known m disk → NamesMore known m disk row → StoredOnce (files_of disk) m → (a b : InstRow) (octets : List ℕ) → NamesOwn (files_of disk) n a octets
     → NamesAny (files_of disk) n b octets → b.hash ≡ a.hash → IsLess b.id.0 a.id.0 → ⊥
 least_with known disk m n row records k more once a b octets own any same less =
     let kb : IsKnownRow known b = any_named known (files_of disk) m n row b octets records k.named more.known_rows any in
     elim (own_named (files_of disk) m n row a octets records own) [
-      | inl before ↦ none_less known m disk a b octets k once before kb any.there same less
+      | inl before ↦ elim (was_there m n row any.row records any.is_record) [
+        | inl there ↦ once.least a b octets before (record { row = any.row; is_record = there; is_named = any.is_named; there = any.there }) same less
+        | inr is ↦ none_less known m disk a b octets k (All-contains (IsFirmInstance m disk) row.instances b more.firm (subst (λ (r : MapRecord). Contains r.instances b) is any.is_named)) before kb any.there same less
+      ]
       | inr new ↦
           let ka : IsKnownRow known a = All-contains (IsKnownRow known) row.instances a more.known_rows new.1 in
           let first : IsFirstKnown known disk a = All-contains (IsFirstKnown known disk) row.instances a (more.first new.0) new.1 in
           other_octets known disk a b octets k.there.whole ka kb (of_known (IsOtherThan disk a) known b first kb) own.there any.there same less
     ]
 
-hash_with : (known : List KnownInstance) (disk : DiskState) (m n : MapMeaning) (row : MapRecord) → n.records ≡ m.records ++ row ∷ [] → NamesMore known disk row → StoredOnce (files_of disk) m → (a : InstRow) (octets : List ℕ) → NamesOwn (files_of disk) n a octets → a.hash.0 ≡ sha1 octets
+hash_with : (known : List KnownInstance) (disk : DiskState) (m n : MapMeaning) (row : MapRecord) → n.records ≡ m.records ++ row ∷ [] → NamesMore known m disk row → StoredOnce (files_of disk) m → (a : InstRow) (octets : List ℕ) → NamesOwn (files_of disk) n a octets → a.hash.0 ≡ sha1 octets
 hash_with known disk m n row records more once a octets own = elim (own_named (files_of disk) m n row a octets records own) [
   | inl before ↦ once.hash a octets before
   | inr new ↦ All-contains (HasItsHash (files_of disk)) row.instances a (more.hashes new.0) new.1 octets own.there
@@ -227,7 +233,7 @@ once_by disk n least hash a b octets p q =
     by_order same Equal e = same_id a.id b.id (same_octets a.id.0 b.id.0 e)
     by_order same Greater e = absurd (least a b octets p (any_own (files_of disk) n b octets q) (sym same) (lt_less (slice_cmp nat_cmp b.id.0 a.id.0) (turned a.id.0 b.id.0 Greater e)))
 
-pub once_with : (known : List KnownInstance) (disk : DiskState) (m n : MapMeaning) (row : MapRecord) → n.records ≡ m.records ++ row ∷ [] → KnowsNamed known m disk → NamesMore known disk row → StoredOnce (files_of disk) m → StoredOnce (files_of disk) n
+pub once_with : (known : List KnownInstance) (disk : DiskState) (m n : MapMeaning) (row : MapRecord) → n.records ≡ m.records ++ row ∷ [] → KnowsNamed known m disk → NamesMore known m disk row → StoredOnce (files_of disk) m → StoredOnce (files_of disk) n
 once_with known disk m n row records k more once = record {
   once = once_by disk n (least_with known disk m n row records k more once) (hash_with known disk m n row records more once);
   least = least_with known disk m n row records k more once;

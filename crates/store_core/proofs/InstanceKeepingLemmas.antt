@@ -1,7 +1,7 @@
 -- What events leave to a task that compares instances, or has found some.
 use Rattle.std.specs.Prelude.{AllPairs, IsSome}
 use Rattle.std.specs.Option.{option_map, option_map_or}
-use Rattle.std.proofs.Common.{◌≡◌, ◌≢◌, ℕ, true, false, List, [], get_or, Option, Some, None, All, refl, sym, ◌∙◌, ap, subst, arith}
+use Rattle.std.proofs.Common.{inl, inr, ◌≡◌, ◌≢◌, ℕ, true, false, List, [], get_or, Option, Some, None, All, map, refl, sym, ◌∙◌, ap, subst, arith}
 use Rattle.std.proofs.lemmas.List.Elements.{All-weaker}
 use Rattle.std.proofs.lemmas.Option.{same_Some}
 use Rattle.disk_model.specs.Disk.{DiskState, History, Between, IfTold, IsIdle, SameButFor, named, reading}
@@ -15,7 +15,7 @@ use Rattle.mdbox_base.specs.declared.ids.Hash.{Hash}
 use Rattle.mdbox_base.specs.declared.ids.InstId.{InstId}
 use Rattle.mdbox_base.specs.declared.ids.StoreId.{StoreId}
 use Rattle.model_meaning.specs.MapFits.{AgreesOn}
-use Rattle.model_meaning.specs.MapMeaning.{MapRecord}
+use Rattle.model_meaning.specs.MapMeaning.{MapMeaning, MapRecord}
 use Rattle.sis_store.specs.Comparing.{IsUnlikeCompared, IsUnlikeUpTo}
 use Rattle.sis_store.specs.Instances.{InstancesValue, HasDrawnNumber, IsInstanceKnown, candidate_in, instance_in, is_id_past, is_of_kind, with_holders}
 use Rattle.sis_store.specs.OnDisk.{file_of, instance_file}
@@ -23,11 +23,11 @@ use Rattle.sis_store.specs.declared.instance.KnownInstance.{KnownInstance}
 use Rattle.sis_store.proofs.CandidateLemmas.{candidate_row, candidate_first}
 use Rattle.sis_store.proofs.IdLemmas.{Rise}
 use Rattle.storage_files.specs.OnDisk.{OthersAreNamed}
-use Rattle.store_core.specs.Keeping.{KeepsInstances, KeepsMail, ReadsInstances}
-use Rattle.store_core.specs.StoreInstances.{HasKnownInstances, IsFirstKnown, IsFirstWith, IsKnownRow, IsOtherThan}
+use Rattle.store_core.specs.Keeping.{KeepsFirm, KeepsInstances, KeepsMail, NameTheSame, ReadsInstances, SyncsInstances, origin_and_names}
+use Rattle.store_core.specs.StoreInstances.{AreInstancesFirm, HasKnownInstances, IsFirmInstance, IsFirstKnown, IsFirstWith, IsKnownRow, IsOtherThan}
 use Rattle.store_core.specs.Value.{StoreValue}
 use Rattle.store_core.proofs.InstanceAppendLemmas.{parts_of}
-use Rattle.store_core.proofs.KnownInstanceLemmas.{all_held, mail_is_none, row_held}
+use Rattle.store_core.proofs.KnownInstanceLemmas.{all_held, firm_same, mail_is_none, row_held}
 use Rattle.store_core.proofs.MailChangeLemmas.{named_reads}
 
 -- ---- what is read
@@ -53,6 +53,28 @@ reads_logs number generation (Some before) None same = absurd same
 reads_logs number generation (Some before) (Some after) same = λ hash id.
     ap reading (same (file.Inst hash id) (λ e. absurd (let w : file.Inst hash id ≡ file.Box number generation = e in cc w))) ∙ named_reads (before.now (file.Inst hash id))
 
+-- ---- names that are synced at the most
+
+pub syncs_idle : (before after : Option History) → IsIdle before after → Between SyncsInstances before after
+syncs_idle before after idle = between-map (λ a b. b ≡ a) SyncsInstances before after (λ a b e hash id. inl (ap (λ (d : DiskState). d (file.Inst hash id)) e)) idle.same
+
+pub syncs_mail : (before after : Option History) → KeepsMail before after → Between SyncsInstances before after
+syncs_mail before after kept =
+    between-map (λ a b. ((number : ℕ) → b (file.Mail number) ≡ a (file.Mail number)) × ((hash id : List ℕ) → b (file.Inst hash id) ≡ a (file.Inst hash id))) SyncsInstances before after (λ a b m hash id. inl (m.1 hash id)) kept
+
+pub syncs_placed : (number : ℕ) (before after : Option History) → SameButFor (file.Mail number) before after → Between SyncsInstances before after
+syncs_placed number before after same =
+    between-map (λ a b. (other : FileName) → other ≢ file.Mail number → b other ≡ a other) SyncsInstances before after (λ a b s hash id. inl (s (file.Inst hash id) (mail_is_none number hash id))) same
+
+pub syncs_made : (number : ℕ) (before after : Option History) → OthersAreNamed (file.Mail number) before after → Between SyncsInstances before after
+syncs_made number before after same =
+    between-map (λ a b. (other : FileName) → other ≢ file.Mail number → b other ≡ named (a other)) SyncsInstances before after (λ a b s hash id. inr (s (file.Inst hash id) (mail_is_none number hash id))) same
+
+pub syncs_logs : (number generation : ℕ) (before after : Option History) → NamedButFor (file.Box number generation) before after → Between SyncsInstances before after
+syncs_logs number generation None after same = same
+syncs_logs number generation (Some before) None same = absurd same
+syncs_logs number generation (Some before) (Some after) same = λ hash id. inr (same (file.Inst hash id) (λ e. absurd (let w : file.Inst hash id ≡ file.Box number generation = e in cc w)))
+
 -- ---- instances that are as they were
 
 -- reads of known instances
@@ -70,8 +92,8 @@ first_same : (known : List KnownInstance) (a b : DiskState) (row : InstRow) → 
 first_same known a b row reads first = λ i d lt kind earlier e.
     first i d lt kind earlier (sym (reads (get_or known i d).row.hash.0 (get_or known i d).row.id.0) ∙ e ∙ reads row.hash.0 row.id.0)
 
-pub kept_same : {D : Type 0} → (old new : StoreValue D) (before after : Option History) → new.instances ≡ old.instances → Between ReadsInstances before after → KeepsInstances old new before after
-kept_same old new before after is reads =
+pub kept_same : {D : Type 0} → (old new : StoreValue D) (before after : Option History) → new.instances ≡ old.instances → Between ReadsInstances before after → KeepsFirm old new before after → KeepsInstances old new before after
+kept_same old new before after is reads firm =
     let known : new.instances.known ≡ old.instances.known = ap (λ (i : InstancesValue). i.known) is in
     let highest : new.instances.highest ≡ old.instances.highest = ap (λ (i : InstancesValue). i.highest) is in
     record {
@@ -84,9 +106,16 @@ kept_same old new before after is reads =
       compared = λ hash size octets last drawn le unlike. subst (λ (ks : List KnownInstance). IsUnlikeCompared old.instances.store hash size octets last drawn ks after) (sym known)
           (between-on ReadsInstances (λ disk. All (λ k. Unlike old.instances.store hash size octets last drawn disk k.row) old.instances.known) (λ disk. All (λ k. Unlike old.instances.store hash size octets last drawn disk k.row) old.instances.known) before after
           (λ a b r u. All-weaker (λ (k : KnownInstance). Unlike old.instances.store hash size octets last drawn a k.row) (λ (k : KnownInstance). Unlike old.instances.store hash size octets last drawn b k.row) (λ k h of past has e. h of past has (sym (r k.row.hash.0 k.row.id.0) ∙ e)) old.instances.known u) reads unlike);
+      firm = firm;
     }
 
 -- one event behind another
+pub firm_both : {D : Type 0} → (old now new : StoreValue D) (before between after : Option History) → KeepsFirm old now before between → KeepsFirm now new between after → KeepsFirm old new before after
+firm_both old now new before between after p q = record {
+  stays = between-then (λ a b. AreInstancesFirm old.instances.known old.map a → AreInstancesFirm now.instances.known now.map b) (λ a b. AreInstancesFirm now.instances.known now.map a → AreInstancesFirm new.instances.known new.map b)
+      (λ a b. AreInstancesFirm old.instances.known old.map a → AreInstancesFirm new.instances.known new.map b) before between after (λ a b c r s firm. s (r firm)) p.stays q.stays;
+}
+
 pub kept_both : {D : Type 0} → (old now new : StoreValue D) (before between after : Option History) → KeepsInstances old now before between → KeepsInstances now new between after → KeepsInstances old new before after
 kept_both old now new before between after p q = record {
   store = q.store ∙ p.store;
@@ -98,7 +127,13 @@ kept_both old now new before between after p q = record {
       let up = p.drawn in
       let once : IsUnlikeCompared now.instances.store hash size octets last drawn now.instances.known between = subst (λ (s : StoreId). IsUnlikeCompared s hash size octets last drawn now.instances.known between) (sym p.store) (p.compared hash size octets last drawn le unlike) in
       subst (λ (s : StoreId). IsUnlikeCompared s hash size octets last drawn new.instances.known after) p.store (q.compared hash size octets last drawn (omega (arith, le, up)) once);
+  firm = firm_both old now new before between after p.firm q.firm;
 }
+
+-- where nothing happened
+pub kept_none : {D : Type 0} → (store : StoreValue D) (history : Option History) → KeepsInstances store store history history
+kept_none store history =
+    kept_same store store history history refl (between-begins ReadsInstances history (λ disk hash id. refl)) (record { stays = between-begins (λ a b. AreInstancesFirm store.instances.known store.map a → AreInstancesFirm store.instances.known store.map b) history (λ disk firm. firm) })
 
 -- what was found is found
 pub found_kept : {D : Type 0} → (old new : StoreValue D) (before after : Option History) (octets : List ℕ) (row : InstRow) → KeepsInstances old new before after → IsFirstWith octets row old.instances.known before → IsFirstWith octets row new.instances.known after
@@ -120,12 +155,30 @@ kept_held v h id holders = record {
   compared = λ hash size octets last drawn le unlike.
       if_told-map (λ disk. All (λ k. Unlike v.instances.store hash size octets last drawn disk k.row) v.instances.known) (λ disk. All (λ k. Unlike v.instances.store hash size octets last drawn disk k.row) (with_holders id holders v.instances.known)) h
       (λ disk a. all_held (Unlike v.instances.store hash size octets last drawn disk) id holders v.instances.known a) unlike;
+  firm = record { stays = between-begins (λ a b. AreInstancesFirm v.instances.known v.map a → AreInstancesFirm (with_holders id holders v.instances.known) v.map b) h (λ disk firm. all_held (IsFirmInstance v.map disk) id holders v.instances.known firm) };
 }
 
 pub kept_holding : {D : Type 0} → (H : D → Option History) (v now : StoreValue D) (instances : InstancesValue) (id : InstId) (holders : ℕ) → v ≡ now → instances ≡ record v.instances { known = with_holders id holders v.instances.known } → KeepsInstances now (record v { instances = instances }) (H now.disk) (H v.disk)
 kept_holding H v now instances id holders same is =
     subst (λ (n : StoreValue _). KeepsInstances n (record v { instances = instances }) (H n.disk) (H v.disk)) same
     (subst (λ (i : InstancesValue). KeepsInstances v (record v { instances = i }) (H v.disk) (H v.disk)) (sym is) (kept_held v (H v.disk) id holders))
+
+-- ---- a call that reads, or does nothing
+
+pub names_same : (m n : MapMeaning) → n ≡ m → NameTheSame m n
+names_same m n same = ap (λ (x : MapMeaning). map origin_and_names x.records) same
+
+pub kept_read : {D : Type 0} → (H : D → Option History) (v now w : StoreValue D) → v ≡ now → w.instances ≡ v.instances → w.map ≡ v.map → IsIdle (H v.disk) (H w.disk) → KeepsInstances now w (H now.disk) (H w.disk)
+kept_read H v now w same is map_is idle =
+    subst (λ (n : StoreValue _). KeepsInstances n w (H n.disk) (H w.disk)) same
+    (kept_same v w (H v.disk) (H w.disk) is (reads_idle (H v.disk) (H w.disk) idle) (firm_same v w (H v.disk) (H w.disk) is (names_same v.map w.map map_is) (syncs_idle (H v.disk) (H w.disk) idle)))
+
+pub kept_untouched : {D : Type 0} → (H : D → Option History) (v now w : StoreValue D) → v ≡ now → w.instances ≡ v.instances → w.map ≡ v.map → H w.disk ≡ H v.disk → KeepsInstances now w (H now.disk) (H w.disk)
+kept_untouched H v now w same is map_is untouched =
+    subst (λ (n : StoreValue _). KeepsInstances n w (H n.disk) (H w.disk)) same
+    (subst (λ (h : Option History). KeepsInstances v w (H v.disk) h) (sym untouched)
+    (kept_same v w (H v.disk) (H v.disk) is (between-begins ReadsInstances (H v.disk) (λ disk hash id. refl))
+    (firm_same v w (H v.disk) (H v.disk) is (names_same v.map w.map map_is) (between-begins SyncsInstances (H v.disk) (λ disk hash id. inl refl)))))
 
 -- ---- candidates
 

@@ -7,7 +7,7 @@ use Rattle.std.proofs.Common.{inl, inr, ◌≡◌, ◌≢◌, ℕ, Bool, true, f
 use Rattle.std.proofs.lemmas.Bool.{cases_Bool, cond-true, cond-false, true≢false}
 use Rattle.std.proofs.lemmas.List.Elements.{All-nil, All-cons, All-head, All-tail, All-contains, All-contains_itself, All-weaker}
 use Rattle.std.proofs.lemmas.Slice.Eq.{bytes_eq-Decides}
-use Rattle.disk_model.specs.Disk.{Files, FileState, DiskState, History, IfTold, SameButFor, EachImage, Grows, OthersStay, IsImage, MayLeave, after, change, removed, reading}
+use Rattle.disk_model.specs.Disk.{Files, FileState, DiskState, History, Between, IfTold, SameButFor, EachImage, Grows, OthersStay, IsImage, MayLeave, after, change, removed, reading}
 use Rattle.disk_model.specs.Name.{same_name}
 use Rattle.disk_model.specs.declared.name.FileName.{FileName}
 use Rattle.disk_model.specs.declared.name.FileName.TheVariants as file
@@ -42,9 +42,10 @@ use Rattle.sis_store.specs.Instances.{InstancesValue, AreInstances, has_id, inst
 use Rattle.sis_store.specs.OnDisk.{instance_file}
 use Rattle.sis_store.specs.declared.instance.KnownInstance.{KnownInstance}
 use Rattle.sis_store.proofs.IdLemmas.{instance-in, same_id}
+use Rattle.store_core.specs.Keeping.{KeepsFirm}
 use Rattle.store_core.specs.Removing.{NameOthers, KeepsStoredBeside}
 use Rattle.store_core.specs.Running.{AreBoxLogs, ReadBoxLogs, IsRunning, IsStore, HasEntryRoom}
-use Rattle.store_core.specs.StoreInstances.{IsKnownRow, IsNamedOrFirm, IsOtherThan, AreInstancesThere, HasKnownInstances}
+use Rattle.store_core.specs.StoreInstances.{IsFirmInstance, IsKnownRow, IsOtherThan, AreInstancesFirm, AreInstancesThere, HasKnownInstances}
 use Rattle.store_core.specs.Value.{StoreValue}
 use Rattle.store_core.specs.declared.store.OpenBox.{OpenBox}
 use Rattle.store_core.proofs.InstanceAppendLemmas.{of_named}
@@ -299,26 +300,28 @@ other_besides h i a b row rows same apart others all = λ k d lt origin j e lt2 
     inst_apart : (inst : InstRow) → inst.id.0 ≢ i → instance_file inst ≢ file.Inst h i
     inst_apart inst other e = other (let w : file.Inst inst.hash.0 inst.id.0 ≡ file.Inst h i = e in cc w)
 
-there_besides : (h : List ℕ) (id : InstId) (known : List KnownInstance) (m : MapMeaning) (a b : DiskState) → SameBesides h id.0 a b → reading (b (file.Inst h id.0)) ≡ None → NameOthers id.0 m.records → ((k : KnownInstance) → Contains known k → k.row.id.0 ≡ id.0 → k.row.hash.0 ≡ h)
-    → AreInstancesThere known m a → AreInstancesThere (without_instance id known) m b
-there_besides h id known m a b same gone others one t = record {
+there_besides : (h : List ℕ) (id : InstId) (known : List KnownInstance) (a b : DiskState) → SameBesides h id.0 a b → reading (b (file.Inst h id.0)) ≡ None → ((k : KnownInstance) → Contains known k → k.row.id.0 ≡ id.0 → k.row.hash.0 ≡ h) → AreInstancesThere known a → AreInstancesThere (without_instance id known) b
+there_besides h id known a b same gone one t = record {
   whole = All-weaker (λ (k : KnownInstance). IsThereWhole (files_of a) k.row × (k.row.id.0 ≢ id.0)) (λ (k : KnownInstance). IsThereWhole (files_of b) k.row)
       (λ k w. record { octets = w.0.octets; there = inst_besides h id.0 a b k.row same w.1 ∙ w.0.there; size = w.0.size }) (without_instance id known) (all_without id (λ k. IsThereWhole (files_of a) k.row) known t.whole);
-  firm = All-weaker (λ (k : KnownInstance). IsNamedOrFirm m a k × (k.row.id.0 ≢ id.0)) (IsNamedOrFirm m b) (λ k w. still k w.1 w.0) (without_instance id known) (all_without id (IsNamedOrFirm m a) known t.firm);
   only = λ hash other octets e.
       let apart : file.Inst hash other ≢ file.Inst h id.0 = λ is. let w : None ≡ Some octets = sym gone ∙ ap (λ (n : FileName). reading (b n)) (sym is) ∙ e in cc w in
       let k = t.only hash other octets (sym (besides_reads h id.0 a b (file.Inst hash other) same apart) ∙ e) in
       (k.0, contains_without id known k.0 (λ same_id. apart (sym k.2 ∙ ap (λ (x : List ℕ). file.Inst x k.0.row.id.0) (one k.0 k.1 same_id) ∙ ap (file.Inst h) same_id)) k.1, k.2);
 }
+
+-- the others may be named by a record that is made, if they could be before
+firm_besides : (h : List ℕ) (id : InstId) (known : List KnownInstance) (m : MapMeaning) (a b : DiskState) → SameBesides h id.0 a b → NameOthers id.0 m.records → AreInstancesFirm known m a → AreInstancesFirm (without_instance id known) m b
+firm_besides h id known m a b same others firm =
+    All-weaker (λ (k : KnownInstance). IsFirmInstance m a k.row × (k.row.id.0 ≢ id.0)) (λ (k : KnownInstance). IsFirmInstance m b k.row) (λ k w. still k w.1 w.0) (without_instance id known) (all_without id (λ k. IsFirmInstance m a k.row) known firm)
   where
-    still : (k : KnownInstance) → k.row.id.0 ≢ id.0 → IsNamedOrFirm m a k → IsNamedOrFirm m b k
-    still k apart (inl named) = inl named
-    still k apart (inr firm) =
+    still : (k : KnownInstance) → k.row.id.0 ≢ id.0 → IsFirmInstance m a k.row → IsFirmInstance m b k.row
+    still k apart f =
         let file_apart : instance_file k.row ≢ file.Inst h id.0 = λ e. apart (let w : file.Inst k.row.hash.0 k.row.id.0 ≡ file.Inst h id.0 = e in cc w) in
-        inr (record {
-          left = λ left may. firm.left left (subst (λ (f : FileState). MayLeave f left) (same (instance_file k.row) file_apart) may) ∙ sym (besides_reads h id.0 a b (instance_file k.row) same file_apart);
-          other = other_besides h id.0 a b k.row m.records same apart others firm.other;
-        })
+        record {
+          left = λ left may. f.left left (subst (λ (g : FileState). MayLeave g left) (same (instance_file k.row) file_apart) may) ∙ sym (besides_reads h id.0 a b (instance_file k.row) same file_apart);
+          other = other_besides h id.0 a b k.row m.records same apart others f.other;
+        }
 
 named_apart : (id : InstId) (rows : List MapRecord) → NameOthers id.0 rows → All (λ row. row.id.0 ≢ id.0) (flat_map (λ row. row.instances) rows)
 named_apart id rows all = of_named (λ (i : InstRow). i.id.0 ≢ id.0) rows all
@@ -353,10 +356,17 @@ known_without h id old new v disk instances k runs others one is same gone = sub
   running = λ _. go old new same gone (k.running runs);
 })
   where
-    go : (a b : Option History) → SameButFor (file.Inst h id.0) a b → IfTold b (λ now. reading (now (file.Inst h id.0)) ≡ None) → IfTold a (AreInstancesThere v.instances.known v.map) → IfTold b (AreInstancesThere (without_instance id v.instances.known) v.map)
-    go None b s g t = subst (λ (x : Option History). IfTold x (AreInstancesThere (without_instance id v.instances.known) v.map)) (sym s) tt
+    go : (a b : Option History) → SameButFor (file.Inst h id.0) a b → IfTold b (λ now. reading (now (file.Inst h id.0)) ≡ None) → IfTold a (AreInstancesThere v.instances.known) → IfTold b (AreInstancesThere (without_instance id v.instances.known))
+    go None b s g t = subst (λ (x : Option History). IfTold x (AreInstancesThere (without_instance id v.instances.known))) (sym s) tt
     go (Some a) None s g t = absurd s
-    go (Some a) (Some b) s g t = there_besides h id v.instances.known v.map a.now b.now s g others one t
+    go (Some a) (Some b) s g t = there_besides h id v.instances.known a.now b.now s g one t
+
+pub firm_without : {D : Type 0} → (h : List ℕ) (id : InstId) (old new : Option History) (v : StoreValue D) (disk : D) (instances : InstancesValue) → NameOthers id.0 v.map.records → instances ≡ record v.instances { known = without_instance id v.instances.known } → SameButFor (file.Inst h id.0) old new
+    → KeepsFirm v (record v { disk = disk; instances = instances }) old new
+firm_without h id old new v disk instances others is same = record {
+  stays = subst (λ (x : InstancesValue). Between (λ a b. AreInstancesFirm v.instances.known v.map a → AreInstancesFirm x.known v.map b) old new) (sym is)
+      (between-map (SameBesides h id.0) (λ a b. AreInstancesFirm v.instances.known v.map a → AreInstancesFirm (without_instance id v.instances.known) v.map b) old new (λ a b s firm. firm_besides h id v.instances.known v.map a b s others firm) same);
+}
 
 -- the records of a settled disk's map are the store's
 settled_others : {D : Type 0} → (i : List ℕ) (old : History) (v : StoreValue D) (lists : Lists) → IsStore (Some old) v → v.stopped ≡ false → NameOthers i v.map.records → (s : IsSettled old.now lists) → NameOthers i (map_meaning s.store s.entries).records

@@ -4,7 +4,7 @@ use Rattle.std.proofs.Common.{inl, inr, ◌≡◌, ◌≢◌, ◌<◌, ◌≤◌
 use Rattle.std.specs.Prelude.{is_some, if◌then◌else◌, ◌==◌}
 use Rattle.std.specs.List.{list_any}
 use Rattle.std.specs.Option.{option_map, option_map_or, option_and_then}
-use Rattle.std.proofs.lemmas.Bool.{cases_eq, false≢true, true≢false}
+use Rattle.std.proofs.lemmas.Bool.{cases_Bool, cases_eq, false≢true, true≢false}
 use Rattle.std.proofs.lemmas.Option.{same_Some, slice_get-get_or}
 use Rattle.std.proofs.lemmas.List.Elements.{All-weaker}
 use Rattle.mdbox_base.specs.declared.entries.Highest.{Highest}
@@ -72,7 +72,7 @@ kept_on old new drawn m came same pinned k = record {
   highest = same ∙ k.highest;
   numbered = λ number f found. let c = came number f found in k.numbered number c.was c.found;
   taken = λ number f found is. taken_on old drawn m number f k (came number f found) is;
-  sealed = λ number f found is. let c = came number f found in c.sealed ∙ k.sealed number c.was c.found is;
+  sealed = λ number f found. let c = came number f found in c.sealed ∙ k.sealed number c.was c.found;
   pinned = pinned;
   below = All-weaker (LiesBelowEnd m.store old.files) (LiesBelowEnd m.store new.files) (λ row b. below_on m.store old.files new.files row came b) m.records k.below;
 }
@@ -255,9 +255,12 @@ kept_begun old file spare drawn m order next last up rows names k =
         | inl begun ↦ subst MayGrow begun.1 (record { unsealed = refl; unbarred = refl; undoomed = refl })
         | inr before ↦ k.taken number f before is
       ];
-      sealed = λ number f found is. elim (begun_or_before file old.files number f none found) [
-        | inl begun ↦ let l : number ≤ m.highest.file = sealed_low m number names is in let e : number ≡ file.0 = begun.0 in absurd (omega (arith, l, e, next, high, up))
-        | inr before ↦ k.sealed number f before is
+      sealed = λ number f found. elim (begun_or_before file old.files number f none found) [
+        | inl begun ↦ elim (cases_Bool (is_sealed m number)) [
+          | inl is ↦ let l : number ≤ m.highest.file = sealed_low m number names is in let e : number ≡ file.0 = begun.0 in absurd (omega (arith, l, e, next, high, up))
+          | inr apart ↦ ap (λ (g : MailFile). g.sealed) (sym begun.1) ∙ sym apart
+        ]
+        | inr before ↦ k.sealed number f before
       ];
       pinned = λ number f found is. elim (begun_or_before file old.files number f none found) [
         | inl begun ↦ absurd (let l : 1 ≤ 0 = subst (λ (g : MailFile). 1 ≤ g.pins) (sym begun.1) is in omega (arith, l))
@@ -317,7 +320,7 @@ pub record AreKeptBut (n : ℕ) (files : FilesValue) (drawn : Highest) (m : MapM
   pub highest : files.highest ≡ drawn.file
   pub numbered : (number : ℕ) (f : MailFile) → file_in number files.files ≡ Some f → 1 ≤ number
   pub taken : (number : ℕ) (f : MailFile) → file_in number files.files ≡ Some f → f.taken ≡ true → MayGrow f
-  pub sealed : (number : ℕ) (f : MailFile) → file_in number files.files ≡ Some f → is_sealed m number ≡ true → f.sealed ≡ true
+  pub sealed : (number : ℕ) (f : MailFile) → file_in number files.files ≡ Some f → f.sealed ≡ is_sealed m number
   pub pinned : (number : ℕ) (f : MailFile) → number ≢ n → file_in number files.files ≡ Some f → 1 ≤ f.pins → (f.doomed ≡ true) ⊎ (list_any (λ row. row.file == number) m.records ≡ true)
   pub below : All (LiesBelowEnd m.store files.files) m.records
   pub none : All (λ row. row.file ≢ n) m.records
@@ -336,11 +339,11 @@ kept_doomed n old new drawn m is k = subst (λ (v : FilesValue). AreFilesKept v 
     | inl same ↦ absurd (true≢false (sym is ∙ untaken_now (file_in n old.files) f (here number f same found)))
     | inr apart ↦ k.taken number f (sym (file-other n number made_doomed old.files (λ g. refl) apart) ∙ found) is
   ];
-  sealed = λ number f found is. elim (cases_eq number n) [
+  sealed = λ number f found. elim (cases_eq number n) [
     | inl same ↦
         let was = stepped made_doomed (file_in n old.files) f (here number f same found) in
-        ap (λ (g : MailFile). g.sealed) (sym was.2) ∙ k.sealed n was.0 was.1 (ap (λ (i : ℕ). is_sealed m i) (sym same) ∙ is)
-    | inr apart ↦ k.sealed number f (sym (file-other n number made_doomed old.files (λ g. refl) apart) ∙ found) is
+        ap (λ (g : MailFile). g.sealed) (sym was.2) ∙ k.sealed n was.0 was.1 ∙ ap (λ (i : ℕ). is_sealed m i) (sym same)
+    | inr apart ↦ k.sealed number f (sym (file-other n number made_doomed old.files (λ g. refl) apart) ∙ found)
   ];
   pinned = λ number f found is. elim (cases_eq number n) [
     | inl same ↦ inl (doomed_now (file_in n old.files) f (here number f same found))

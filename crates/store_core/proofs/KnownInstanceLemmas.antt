@@ -30,9 +30,10 @@ use Rattle.model_store.specs.Settled.{files_of}
 use Rattle.sis_store.specs.Instances.{InstancesValue, instance_in, has_id, with_holders}
 use Rattle.sis_store.specs.declared.instance.KnownInstance.{KnownInstance}
 use Rattle.storage_files.specs.OnDisk.{OthersAreNamed}
+use Rattle.store_core.specs.Keeping.{KeepsFirm, NameTheSame, SyncsInstances, origin_and_names}
 use Rattle.store_core.specs.MapAppend.{IsAppendable, NamesKnown, NamesFirst, drawn_by}
 use Rattle.store_core.specs.Running.{IsStore}
-use Rattle.store_core.specs.StoreInstances.{IsOtherThan, IsFirstKnown, IsFirmInstance, IsNamedOrFirm, IsKnownRow, AreInstancesKept, AreInstancesThere, HasKnownInstances}
+use Rattle.store_core.specs.StoreInstances.{IsOtherThan, IsFirstKnown, IsFirmInstance, IsKnownRow, AreInstancesFirm, AreInstancesKept, AreInstancesThere, HasKnownInstances}
 use Rattle.store_core.specs.Value.{StoreValue}
 use Rattle.store_core.specs.declared.store.OpenBox.{OpenBox}
 use Rattle.store_core.proofs.BoxAppendLemmas.{Placed, own_box}
@@ -84,10 +85,6 @@ box_is_none name number generation is = λ h i e. absurd (let w : file.Inst h i 
 
 -- ---- what is there
 
--- whatever a record names, a record of the other map does
-abbrev pub NamesAll : MapMeaning → MapMeaning → Type 0
-NamesAll m n = (row : InstRow) → Contains (named_instances m) row → Contains (named_instances n) row
-
 -- no own save names a later instance with this one's octets
 abbrev pub IsOtherAll : MapMeaning → DiskState → InstRow → Type 0
 IsOtherAll m disk row = All (λ own. own.origin ≡ 0 → All (λ inst. IsOtherThan disk inst row) own.instances) m.records
@@ -102,22 +99,21 @@ other_on m a b row c h =
     (λ own f origin. All-weaker (λ (inst : InstRow). IsOtherThan a inst row) (λ (inst : InstRow). IsOtherThan b inst row)
     (λ inst g kind before e. g kind before (sym (c.reads row.hash.0 row.id.0) ∙ e ∙ c.reads inst.hash.0 inst.id.0)) own.instances (f origin)) m.records h
 
-there_on : (known : List KnownInstance) (m n : MapMeaning) (a b : DiskState) → NamesAll m n → KeepsOther known m n a → SameInstances a b → AreInstancesThere known m a → AreInstancesThere known n b
-there_on known m n a b names others c t = record {
+there_on : (known : List KnownInstance) (a b : DiskState) → SameInstances a b → AreInstancesThere known a → AreInstancesThere known b
+there_on known a b c t = record {
   whole = All-weaker (λ (k : KnownInstance). IsThereWhole (files_of a) k.row) (λ (k : KnownInstance). IsThereWhole (files_of b) k.row)
       (λ k w. record { octets = w.octets; there = c.reads k.row.hash.0 k.row.id.0 ∙ w.there; size = w.size }) known t.whole;
-  firm = λ i d lt. elim (t.firm i d lt) [
-    | inl is ↦ inl (names (get_or known i d).row is)
-    | inr firm ↦ inr (record {
-      left = λ left may. firm.left left (c.leaves (get_or known i d).row.hash.0 (get_or known i d).row.id.0 left may) ∙ sym (c.reads (get_or known i d).row.hash.0 (get_or known i d).row.id.0);
-      other = other_on n a b (get_or known i d).row c (others i d lt firm.other);
-    })
-  ];
   only = λ hash id octets e. t.only hash id octets (sym (c.reads hash id) ∙ e);
 }
 
-other_stays : (known : List KnownInstance) (m : MapMeaning) (disk : DiskState) → KeepsOther known m m disk
-other_stays known m disk = λ i d lt h. h
+-- and those that may be named may be so still
+pub firm_on : (known : List KnownInstance) (m n : MapMeaning) (a b : DiskState) → KeepsOther known m n a → SameInstances a b → AreInstancesFirm known m a → AreInstancesFirm known n b
+firm_on known m n a b others c firm = λ i d lt.
+    let row : InstRow = (get_or known i d).row in
+    record {
+      left = λ left may. (firm i d lt).left left (c.leaves row.hash.0 row.id.0 left may) ∙ sym (c.reads row.hash.0 row.id.0);
+      other = other_on n a b row c (others i d lt (firm i d lt).other);
+    }
 
 -- ---- the store
 
@@ -127,9 +123,8 @@ pub instances_on : {D : Type 0} → (old new : Option History) (v w : StoreValue
 instances_on old new v w k change instances drawn m runs = record {
   kept = subst (λ (i : InstancesValue). AreInstancesKept i w.drawn w.map) (sym instances)
       (subst (λ (n : MapMeaning). AreInstancesKept v.instances w.drawn n) (sym m) (record { store = k.kept.store; highest = k.kept.highest ∙ sym drawn; named = k.kept.named }));
-  running = λ on. subst (λ (i : InstancesValue). IfTold new (AreInstancesThere i.known w.map)) (sym instances)
-      (subst (λ (n : MapMeaning). IfTold new (AreInstancesThere v.instances.known n)) (sym m)
-      (between-on SameInstances (AreInstancesThere v.instances.known v.map) (AreInstancesThere v.instances.known v.map) old new (λ a b c t. there_on v.instances.known v.map v.map a b (λ row is. is) (other_stays v.instances.known v.map a) c t) change (k.running (runs on))));
+  running = λ on. subst (λ (i : InstancesValue). IfTold new (AreInstancesThere i.known)) (sym instances)
+      (between-on SameInstances (AreInstancesThere v.instances.known) (AreInstancesThere v.instances.known) old new (λ a b c t. there_on v.instances.known a b c t) change (k.running (runs on)));
 }
 
 -- stopped after a change that failed
@@ -195,10 +190,9 @@ contains_map f xs x c = All-contains (λ y. Contains (map f xs) (f y)) xs x (bac
     back [] a = All-nil (λ y. Contains (map f xs) (f y))
     back (y ∷ ys) a = All-cons (λ z. Contains (map f xs) (f z)) y ys (All-head (Contains (map f xs)) (f y) (map f ys) a) (back ys (All-tail (Contains (map f xs)) (f y) (map f ys) a))
 
-there_held : (id : InstId) (holders : ℕ) (known : List KnownInstance) (m : MapMeaning) (disk : DiskState) → AreInstancesThere known m disk → AreInstancesThere (with_holders id holders known) m disk
-there_held id holders known m disk t = record {
+there_held : (id : InstId) (holders : ℕ) (known : List KnownInstance) (disk : DiskState) → AreInstancesThere known disk → AreInstancesThere (with_holders id holders known) disk
+there_held id holders known disk t = record {
   whole = all_held (IsThereWhole (files_of disk)) id holders known t.whole;
-  firm = all_held (λ row. Contains (named_instances m) row ⊎ IsFirmInstance m disk row) id holders known t.firm;
   only = λ hash other octets e.
       let k = t.only hash other octets e in
       (if has_id id k.0 then record k.0 { holders = holders } else k.0, contains_map (λ (j : KnownInstance). if has_id id j then record j { holders = holders } else j) known k.0 k.1, ap (λ (row : InstRow). file.Inst row.hash.0 row.id.0) (same_row (has_id id k.0) k.0) ∙ k.2);
@@ -216,7 +210,7 @@ instances_holding h v instances id holders is k =
         highest = k.kept.highest;
         named = All-weaker (IsKnownRow v.instances.known) (IsKnownRow (with_holders id holders v.instances.known)) (λ row known. row_held id row.id holders v.instances.known ∙ known) (named_instances v.map) k.kept.named;
       };
-      running = λ on. if_told-map (AreInstancesThere v.instances.known v.map) (AreInstancesThere (with_holders id holders v.instances.known) v.map) h (λ disk t. there_held id holders v.instances.known v.map disk t) (k.running on);
+      running = λ on. if_told-map (AreInstancesThere v.instances.known) (AreInstancesThere (with_holders id holders v.instances.known)) h (λ disk t. there_held id holders v.instances.known disk t) (k.running on);
     })
 
 -- of all else nothing changes
@@ -267,9 +261,6 @@ names_kept e (row ∷ rows) l =
 pub names_with : (e : MapEntry) (m : MapMeaning) → LeavesPlaces e → named_instances (map_applied e m) ≡ named_instances m ++ names_of (record_made e)
 names_with e m l = flat_map-append (λ (row : MapRecord). row.instances) (kept_rows record_rules e m.records) (record_made e) ∙ ap (λ (is : List InstRow). is ++ names_of (record_made e)) (names_kept e m.records l)
 
-names_more : (e : MapEntry) (m : MapMeaning) → LeavesPlaces e → NamesAll m (map_applied e m)
-names_more e m l = λ row is. subst (λ (rows : List InstRow). Contains rows row) (sym (names_with e m l)) (Contains-append_left (named_instances m) (names_of (record_made e)) row is)
-
 all_known : (known : List KnownInstance) (e : MapEntry) (m : MapMeaning) → LeavesPlaces e → NamesKnown e known → All (IsKnownRow known) (named_instances m) → All (IsKnownRow known) (named_instances (map_applied e m))
 all_known known e m l names all =
     subst (All (IsKnownRow known)) (sym (names_with e m l)) (All-append (IsKnownRow known) (named_instances m) (names_of (record_made e)) all (names_made e known names))
@@ -298,10 +289,18 @@ other_with known e m h first = λ i d lt others.
     (λ own f origin. let same = changed_same e own in subst (All (λ (inst : InstRow). IsOtherThan h.now inst row)) (sym same.instances) (f (sym same.origin ∙ origin))) others)
     (other_made known e h first i d lt)
 
-there_with : (known : List KnownInstance) (e : MapEntry) (m : MapMeaning) (old new : Option History) → LeavesPlaces e → NamesFirst e known old → Between SameInstances old new → IfTold old (AreInstancesThere known m) → IfTold new (AreInstancesThere known (map_applied e m))
-there_with known e m None new l first change t = subst (λ (h : Option History). IfTold h (AreInstancesThere known (map_applied e m))) (sym change) tt
-there_with known e m (Some old) None l first change t = absurd change
-there_with known e m (Some old) (Some new) l first change t = there_on known m (map_applied e m) old.now new.now (names_more e m l) (other_with known e m old first) change t
+firm_entry : (known : List KnownInstance) (e : MapEntry) (m : MapMeaning) (old new : Option History) → NamesFirst e known old → Between SameInstances old new → Between (λ a b. AreInstancesFirm known m a → AreInstancesFirm known (map_applied e m) b) old new
+firm_entry known e m None new first change = change
+firm_entry known e m (Some old) None first change = absurd change
+firm_entry known e m (Some old) (Some new) first change = λ firm. firm_on known m (map_applied e m) old.now new.now (other_with known e m old first) change firm
+
+-- of a store, once such an entry was taken in
+pub firm_with : {D : Type 0} → (name : FileName) (generation : ℕ) (old new : Option History) (v w : StoreValue D) (e : MapEntry) → NamesFirst e v.instances.known old → name ≡ file.Map generation → SameButFor name old new → w.instances ≡ v.instances → w.map ≡ map_applied e v.map → KeepsFirm v w old new
+firm_with name generation old new v w e first is same instances m = record {
+  stays = subst (λ (i : InstancesValue). Between (λ a b. AreInstancesFirm v.instances.known v.map a → AreInstancesFirm i.known w.map b) old new) (sym instances)
+      (subst (λ (n : MapMeaning). Between (λ a b. AreInstancesFirm v.instances.known v.map a → AreInstancesFirm v.instances.known n b) old new) (sym m)
+      (firm_entry v.instances.known e v.map old new first (instances_beside name old new (map_is_none name generation is) same)));
+}
 
 none_drawn : (e : MapEntry) (drawn : Highest) → (drawn_by e drawn).instance ≡ drawn.instance
 none_drawn (entry.U u) drawn = refl
@@ -323,9 +322,8 @@ instances_with name generation old new v w e k kind names first is same instance
         highest = k.kept.highest ∙ sym (none_drawn e v.drawn) ∙ ap (λ (d : Highest). d.instance) (sym drawn);
         named = all_known v.instances.known e v.map (leaves_places e kind) names k.kept.named;
       }));
-  running = λ on. subst (λ (i : InstancesValue). IfTold new (AreInstancesThere i.known w.map)) (sym instances)
-      (subst (λ (n : MapMeaning). IfTold new (AreInstancesThere v.instances.known n)) (sym m)
-      (there_with v.instances.known e v.map old new (leaves_places e kind) first (instances_beside name old new (map_is_none name generation is) same) (k.running (runs on))));
+  running = λ on. subst (λ (i : InstancesValue). IfTold new (AreInstancesThere i.known)) (sym instances)
+      (between-on SameInstances (AreInstancesThere v.instances.known) (AreInstancesThere v.instances.known) old new (λ a b c t. there_on v.instances.known a b c t) (instances_beside name old new (map_is_none name generation is) same) (k.running (runs on)));
 }
 
 -- ---- the log of a mailbox
@@ -334,9 +332,6 @@ instances_with name generation old new v w e k kind names first is same instance
 pub instances_logged : {D : Type 0} → (number : ℕ) (old new : Option History) (v w : StoreValue D) → HasKnownInstances old v → OthersAreNamed (file.Box number 1) old new → w.instances ≡ v.instances → w.drawn.instance ≡ v.drawn.instance → w.map ≡ v.map → (w.stopped ≡ false → v.stopped ≡ false)
     → HasKnownInstances new w
 instances_logged number old new v w k same instances drawn m runs = instances_on old new v w k (instances_named (file.Box number 1) old new (box_is_none (file.Box number 1) number 1 refl) same) instances drawn m runs
-
-other_named : (known : List KnownInstance) (m n : MapMeaning) (disk : DiskState) → n.records ≡ m.records → KeepsOther known m n disk
-other_named known m n disk records = λ i d lt h. subst (All (λ (own : MapRecord). own.origin ≡ 0 → All (λ inst. IsOtherThan disk inst (get_or known i d).row) own.instances)) (sym records) h
 
 -- named by an entry of the map log, which leaves the records as they are
 pub instances_naming : {D : Type 0} → (name : FileName) (generation : ℕ) (old new : Option History) (v w : StoreValue D) → HasKnownInstances old v → name ≡ file.Map generation → SameButFor name old new → w.instances ≡ v.instances → w.drawn.instance ≡ v.drawn.instance
@@ -347,9 +342,52 @@ instances_naming name generation old new v w k is same instances drawn store rec
     highest = k.kept.highest ∙ sym drawn;
     named = subst (λ (rows : List MapRecord). All (IsKnownRow v.instances.known) (names_of rows)) (sym records) k.kept.named;
   });
-  running = λ on. subst (λ (i : InstancesValue). IfTold new (AreInstancesThere i.known w.map)) (sym instances)
-      (between-on SameInstances (AreInstancesThere v.instances.known v.map) (AreInstancesThere v.instances.known w.map) old new
-      (λ a b c t. there_on v.instances.known v.map w.map a b (λ row in_it. subst (λ (rows : List MapRecord). Contains (names_of rows) row) (sym records) in_it) (other_named v.instances.known v.map w.map a records) c t) (instances_beside name old new (map_is_none name generation is) same) (k.running (runs on)));
+  running = λ on. subst (λ (i : InstancesValue). IfTold new (AreInstancesThere i.known)) (sym instances)
+      (between-on SameInstances (AreInstancesThere v.instances.known) (AreInstancesThere v.instances.known) old new (λ a b c t. there_on v.instances.known a b c t) (instances_beside name old new (map_is_none name generation is) same) (k.running (runs on)));
+}
+
+-- by what the caller sees of the store
+pub firm_seen : {D : Type 0} → (H : D → Option History) (v now w : StoreValue D) → v ≡ now → KeepsFirm v w (H v.disk) (H w.disk) → KeepsFirm now w (H now.disk) (H w.disk)
+firm_seen H v now w same firm = subst (λ (n : StoreValue _). KeepsFirm n w (H n.disk) (H w.disk)) same firm
+
+-- ---- maps that name the same
+
+all_back : (P : ℕ × List InstRow → Type 0) (rows : List MapRecord) → All P (map origin_and_names rows) → All (λ row. P (origin_and_names row)) rows
+all_back P [] a = All-nil (λ (row : MapRecord). P (origin_and_names row))
+all_back P (row ∷ rows) a =
+    All-cons (λ (r : MapRecord). P (origin_and_names r)) row rows (All-head P (origin_and_names row) (map origin_and_names rows) a)
+    (all_back P rows (All-tail P (origin_and_names row) (map origin_and_names rows) a))
+
+all_on : (P : ℕ × List InstRow → Type 0) (rows : List MapRecord) → All (λ row. P (origin_and_names row)) rows → All P (map origin_and_names rows)
+all_on P [] a = All-nil P
+all_on P (row ∷ rows) a =
+    All-cons P (origin_and_names row) (map origin_and_names rows) (All-head (λ (r : MapRecord). P (origin_and_names r)) row rows a)
+    (all_on P rows (All-tail (λ (r : MapRecord). P (origin_and_names r)) row rows a))
+
+other_same : (known : List KnownInstance) (m n : MapMeaning) (disk : DiskState) → NameTheSame m n → KeepsOther known m n disk
+other_same known m n disk names = λ i d lt others.
+    let row : InstRow = (get_or known i d).row in
+    let P : ℕ × List InstRow → Type 0 = λ p. p.0 ≡ 0 → All (λ inst. IsOtherThan disk inst row) p.1 in
+    all_back P n.records (subst (All P) (sym names) (all_on P m.records others))
+
+-- names that were synced
+same_synced : (a b : DiskState) → SyncsInstances a b → SameInstances a b
+same_synced a b s = record {
+  reads = λ h i. elim (s h i) [
+    | inl same ↦ ap reading same
+    | inr synced ↦ ap reading synced ∙ named_reads (a (file.Inst h i))
+  ];
+  leaves = λ h i left may. elim (s h i) [
+    | inl same ↦ subst (λ (f : FileState). MayLeave f left) same may
+    | inr synced ↦ named-narrows (a (file.Inst h i)) left (subst (λ (f : FileState). MayLeave f left) synced may)
+  ];
+}
+
+pub firm_same : {D : Type 0} → (old new : StoreValue D) (before after : Option History) → new.instances ≡ old.instances → NameTheSame old.map new.map → Between SyncsInstances before after → KeepsFirm old new before after
+firm_same old new before after instances names synced = record {
+  stays = subst (λ (i : InstancesValue). Between (λ a b. AreInstancesFirm old.instances.known old.map a → AreInstancesFirm i.known new.map b) before after) (sym instances)
+      (between-map SyncsInstances (λ a b. AreInstancesFirm old.instances.known old.map a → AreInstancesFirm old.instances.known new.map b) before after
+      (λ a b s firm. firm_on old.instances.known old.map new.map a b (other_same old.instances.known old.map new.map a names) (same_synced a b s) firm) synced);
 }
 
 -- ---- a storage file is switched
@@ -360,35 +398,32 @@ names_switched f t ms us known rows all =
     (kept_all record_rules (entry.P f t ms us) rows (λ row. All (IsKnownRow known) row.instances) (λ row. All (IsKnownRow known) row.instances)
     (λ row a. subst (All (IsKnownRow known)) (sym (changed_same (entry.P f t ms us) row).instances) a) (parts_of (IsKnownRow known) rows all))
 
-firm_there : (known : List KnownInstance) (m n : MapMeaning) (a b : DiskState) → SameInstances a b → AreInstancesThere known m a → All (IsNamedOrFirm n a) known → AreInstancesThere known n b
-firm_there known m n a b c t firm = record {
-  whole = All-weaker (λ (k : KnownInstance). IsThereWhole (files_of a) k.row) (λ (k : KnownInstance). IsThereWhole (files_of b) k.row)
-      (λ k w. record { octets = w.octets; there = c.reads k.row.hash.0 k.row.id.0 ∙ w.there; size = w.size }) known t.whole;
-  firm = λ i d lt. elim (firm i d lt) [
-    | inl is ↦ inl is
-    | inr g ↦ inr (record {
-      left = λ left may. g.left left (c.leaves (get_or known i d).row.hash.0 (get_or known i d).row.id.0 left may) ∙ sym (c.reads (get_or known i d).row.hash.0 (get_or known i d).row.id.0);
-      other = other_on n a b (get_or known i d).row c g.other;
-    })
-  ];
-  only = λ hash id octets e. t.only hash id octets (sym (c.reads hash id) ∙ e);
+-- fewer records name no more of them
+other_switched : (f : FileNo) (t : ℕ) (ms : List MapPlace) (us : List MapUid) (known : List KnownInstance) (m : MapMeaning) (disk : DiskState) → KeepsOther known m (map_applied (entry.P f t ms us) m) disk
+other_switched f t ms us known m disk = λ i d lt others.
+    let row : InstRow = (get_or known i d).row in
+    subst (All (λ (own : MapRecord). own.origin ≡ 0 → All (λ inst. IsOtherThan disk inst row) own.instances)) (sym (records_by_purged f t ms us m.records))
+    (kept_all record_rules (entry.P f t ms us) m.records (λ own. own.origin ≡ 0 → All (λ inst. IsOtherThan disk inst row) own.instances) (λ own. own.origin ≡ 0 → All (λ inst. IsOtherThan disk inst row) own.instances)
+    (λ own g origin. let same = changed_same (entry.P f t ms us) own in subst (All (λ (inst : InstRow). IsOtherThan disk inst row)) (sym same.instances) (g (sym same.origin ∙ origin))) others)
+
+-- so those that may be named may be so still
+pub firm_switched : {D : Type 0} → (generation : ℕ) (old new : Option History) (v w : StoreValue D) (f : FileNo) (t : ℕ) (ms : List MapPlace) (us : List MapUid) → v.map_log.name ≡ file.Map generation → SameButFor v.map_log.name old new → w.instances ≡ v.instances → w.map ≡ map_applied (entry.P f t ms us) v.map → KeepsFirm v w old new
+firm_switched generation old new v w f t ms us name same instances m = record {
+  stays = subst (λ (i : InstancesValue). Between (λ a b. AreInstancesFirm v.instances.known v.map a → AreInstancesFirm i.known w.map b) old new) (sym instances)
+      (subst (λ (n : MapMeaning). Between (λ a b. AreInstancesFirm v.instances.known v.map a → AreInstancesFirm v.instances.known n b) old new) (sym m)
+      (between-map SameInstances (λ a b. AreInstancesFirm v.instances.known v.map a → AreInstancesFirm v.instances.known (map_applied (entry.P f t ms us) v.map) b) old new
+      (λ a b c firm. firm_on v.instances.known v.map (map_applied (entry.P f t ms us) v.map) a b (other_switched f t ms us v.instances.known v.map a) c firm) (instances_beside v.map_log.name old new (map_is_none v.map_log.name generation name) same)));
 }
 
-firm_on : (known : List KnownInstance) (m n : MapMeaning) (old new : Option History) → Between SameInstances old new → IfTold old (λ now. All (IsNamedOrFirm n now) known) → IfTold old (AreInstancesThere known m) → IfTold new (AreInstancesThere known n)
-firm_on known m n None new change firm t = subst (λ (h : Option History). IfTold h (AreInstancesThere known n)) (sym change) tt
-firm_on known m n (Some old) None change firm t = absurd change
-firm_on known m n (Some old) (Some new) change firm t = firm_there known m n old.now new.now change t firm
-
 pub instances_switched : {D : Type 0} → (old new : Option History) (v w : StoreValue D) (generation : ℕ) → v.map_log.name ≡ file.Map generation → (f : FileNo) (t : ℕ) (ms : List MapPlace) (us : List MapUid) → w.map ≡ map_applied (entry.P f t ms us) v.map → w.instances ≡ v.instances → w.drawn ≡ v.drawn → w.stopped ≡ v.stopped
-    → IfTold old (λ now. All (IsNamedOrFirm (map_applied (entry.P f t ms us) v.map) now) v.instances.known) → SameButFor v.map_log.name old new → HasKnownInstances old v → HasKnownInstances new w
-instances_switched old new v w generation name f t ms us m instances drawn stopped firm same k = record {
+    → SameButFor v.map_log.name old new → HasKnownInstances old v → HasKnownInstances new w
+instances_switched old new v w generation name f t ms us m instances drawn stopped same k = record {
   kept = subst (λ (i : InstancesValue). AreInstancesKept i w.drawn w.map) (sym instances)
       (subst (λ (n : MapMeaning). AreInstancesKept v.instances w.drawn n) (sym m) (record {
         store = k.kept.store;
         highest = k.kept.highest ∙ ap (λ (d : Highest). d.instance) (sym drawn);
         named = subst (λ (rows : List MapRecord). All (IsKnownRow v.instances.known) (names_of rows)) (sym (records_by_purged f t ms us v.map.records)) (names_switched f t ms us v.instances.known v.map.records k.kept.named);
       }));
-  running = λ on. subst (λ (i : InstancesValue). IfTold new (AreInstancesThere i.known w.map)) (sym instances)
-      (subst (λ (n : MapMeaning). IfTold new (AreInstancesThere v.instances.known n)) (sym m)
-      (firm_on v.instances.known v.map (map_applied (entry.P f t ms us) v.map) old new (instances_beside v.map_log.name old new (map_is_none v.map_log.name generation name) same) firm (k.running (sym stopped ∙ on))));
+  running = λ on. subst (λ (i : InstancesValue). IfTold new (AreInstancesThere i.known)) (sym instances)
+      (between-on SameInstances (AreInstancesThere v.instances.known) (AreInstancesThere v.instances.known) old new (λ a b c t. there_on v.instances.known a b c t) (instances_beside v.map_log.name old new (map_is_none v.map_log.name generation name) same) (k.running (sym stopped ∙ on)));
 }

@@ -46,7 +46,7 @@ box_log_kept m name number generation old new is each = kept_beside m name old n
 -- it isn't sealed
 taken_unsealed : {D : Type 0} → (h : Option History) (v : StoreValue D) (n : ℕ) (f : MailFile) → IsStore h v → file_in n v.files.files ≡ Some f → f.taken ≡ true → is_sealed v.map n ≡ false
 taken_unsealed h v n f s found taken = elim (cases_Bool (is_sealed v.map n)) [
-  | inl is ↦ absurd (true≢false (sym (s.files.sealed n f found is) ∙ (s.files.taken n f found taken).unsealed))
+  | inl is ↦ absurd (true≢false (sym (s.files.sealed n f found ∙ is) ∙ (s.files.taken n f found taken).unsealed))
   | inr apart ↦ apart
 ]
 
@@ -111,7 +111,7 @@ own_unsealed h v n s order own = elim (cases_Bool (is_sealed v.map n)) [
     by_found is None found = true≢false (sym own ∙ ap told found)
     by_found is (Some f) found =
         let u : IsUsedFile f = (found_holds (λ (g : MailFile). g.file.0 == n) v.files.files f IsUsedFile found order.used).0 in
-        let none = u.sealed (s.files.sealed n f found is) in
+        let none = u.sealed (s.files.sealed n f found ∙ is) in
         true≢false (sym own ∙ ap told found ∙ ap (λ (b : Bool). b || f.emptied) none.1 ∙ none.0)
 
 -- one that isn't made yet

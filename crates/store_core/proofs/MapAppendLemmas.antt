@@ -166,7 +166,7 @@ readied h v now log m dues e s is a b c running in_range kind fits drawn due bel
 -- its instances are there with their sizes
 pub there_made : {D : Type 0} → (h : Option History) (v : StoreValue D) (e : MapEntry) → Readied h v e → IfTold h (λ now. All (λ row. All (IsThereWhole (files_of now)) row.instances) (record_made e))
 there_made h v e r =
-    if_told-map (AreInstancesThere v.instances.known v.map) (λ now. All (λ row. All (IsThereWhole (files_of now)) row.instances) (record_made e)) h
+    if_told-map (AreInstancesThere v.instances.known) (λ now. All (λ row. All (IsThereWhole (files_of now)) row.instances) (record_made e)) h
     (λ now t. rows_made (IsThereWhole (files_of now)) e v.instances.known t.whole r.names) (r.known.running r.running)
 
 -- ---- good logs

@@ -37,12 +37,12 @@ use Rattle.model_store.specs.Stands.{KeepsDetached, StoresMessage}
 use Rattle.sis_store.specs.declared.instance.KnownInstance.{KnownInstance}
 use Rattle.store_core.specs.Append.{AddsText}
 use Rattle.store_core.specs.Dues.{KeepsStored}
-use Rattle.store_core.specs.MapAppend.{IsAppendable, NamesKnown, NamesFirst, StoresDetached, IsOwnSave, IsReadyToStore}
-use Rattle.store_core.specs.StoreInstances.{IsKnownRow, IsFirstKnown, AreInstancesThere}
+use Rattle.store_core.specs.MapAppend.{IsAppendable, NamesKnown, NamesFirst, NamesFirm, StoresDetached, IsOwnSave, IsReadyToStore}
+use Rattle.store_core.specs.StoreInstances.{IsFirmInstance, IsKnownRow, IsFirstKnown, AreInstancesThere}
 use Rattle.store_core.specs.Value.{StoreValue}
 use Rattle.store_core.proofs.BoxAppendLemmas.{is_log, disk_more}
 use Rattle.store_core.proofs.BoxCrashLemmas.{ReadsImage}
-use Rattle.store_core.proofs.InstanceAppendLemmas.{KnowsNamed, NamesMore, of_known, of_named, rows_made, left_known, was_there, once_with}
+use Rattle.store_core.proofs.InstanceAppendLemmas.{KnowsNamed, NamesMore, of_known, of_named, left_firm, was_there, once_with}
 use Rattle.store_core.proofs.MapAppendLemmas.{Readied, fits_there, good_made, lies_there}
 use Rattle.store_core.proofs.MapDueLemmas.{adds, no_box}
 
@@ -74,23 +74,23 @@ keeps_form (entry.P f t ms us) h ready = tt
 keeps_form (entry.E f) h ready = tt
 
 -- what is known of its instances
-abbrev NamesInstances : MapEntry → List KnownInstance → DiskState → Type 0
-NamesInstances (entry.S o c u f p z g is) known disk = All (IsKnownRow known) is × (o ≡ 0 → All (IsFirstKnown known disk) is)
-NamesInstances e known disk = Unit {0}
+abbrev NamesInstances : MapEntry → List KnownInstance → MapMeaning → DiskState → Type 0
+NamesInstances (entry.S o c u f p z g is) known m disk = All (IsKnownRow known) is × (o ≡ 0 → All (IsFirstKnown known disk) is) × All (IsFirmInstance m disk) is
+NamesInstances e known m disk = Unit {0}
 
-names_known : (e : MapEntry) (known : List KnownInstance) (h : History) → NamesKnown e known → NamesFirst e known (Some h) → NamesInstances e known h.now
-names_known (entry.S o c u f p z g is) known h names first = (names, first)
-names_known (entry.U u) known h names first = tt
-names_known (entry.D us) known h names first = tt
-names_known (entry.T cs) known h names first = tt
-names_known (entry.H x) known h names first = tt
-names_known (entry.B b g n) known h names first = tt
-names_known (entry.G b g) known h names first = tt
-names_known (entry.P f t ms us) known h names first = tt
-names_known (entry.E f) known h names first = tt
+names_known : (e : MapEntry) (known : List KnownInstance) (m : MapMeaning) (h : History) → NamesKnown e known → NamesFirst e known (Some h) → NamesFirm e m (Some h) → NamesInstances e known m h.now
+names_known (entry.S o c u f p z g is) known m h names first firm = (names, first, firm)
+names_known (entry.U u) known m h names first firm = tt
+names_known (entry.D us) known m h names first firm = tt
+names_known (entry.T cs) known m h names first firm = tt
+names_known (entry.H x) known m h names first firm = tt
+names_known (entry.B b g n) known m h names first firm = tt
+names_known (entry.G b g) known m h names first firm = tt
+names_known (entry.P f t ms us) known m h names first firm = tt
+names_known (entry.E f) known m h names first firm = tt
 
 can_append : (disk : DiskState) (known : List KnownInstance) (id : List ℕ) (entries : List MapEntry) (lists : Lists) (e : MapEntry) → SafeBy (files_of disk) id entries lists → IsAppendable e → KeepsForm e (files_of disk) → MapInRange e → MapFits (map_meaning id entries) e → All (LiesInFile (files_of disk)) (record_made e)
-    → KnowsNamed known (map_meaning id entries) disk → NamesInstances e known disk
+    → KnowsNamed known (map_meaning id entries) disk → NamesInstances e known (map_meaning id entries) disk
     → ((guid : List ℕ) → refs_of lists guid ≤ count_of (map_meaning id (entries ++ e ∷ [])) guid) → IsMapAppend (files_of disk) id entries lists lists e
 can_append disk known id entries lists (entry.U u) s k form in_range fits lies knows names counts = counts_append (files_of disk) id entries lists (entry.U u) s tt in_range fits counts
 can_append disk known id entries lists (entry.D us) s k form in_range fits lies knows names counts = counts_append (files_of disk) id entries lists (entry.D us) s tt in_range fits counts
@@ -103,7 +103,7 @@ can_append disk known id entries lists (entry.S o c u f p z g is) s k form in_ra
     let records : n.records ≡ m.records ++ row ∷ [] = ap (λ (x : MapMeaning). x.records) (map_more id entries e) ∙ records_by_stored o c u f p z g is m.records in
     let files : Files = files_of disk in
     let there : All (IsThereWhole files) is = All-weaker (IsKnownRow known) (IsThereWhole files) (λ inst h. of_known (IsThereWhole files) known inst knows.there.whole h) is names.0 in
-    let more : NamesMore known disk row = record { known_rows = names.0; first = names.1; hashes = λ own. (form own).1 } in
+    let more : NamesMore known m disk row = record { known_rows = names.0; firm = names.2; first = names.1; hashes = λ own. (form own).1 } in
     stored_append files id entries lists o c u f p z g is s in_range fits (All-head (LiesInFile files) row [] lies) there
     (once_with known disk m n row records knows more s.stands.once) (detached_with files m n row records (λ own. (form own).0) s.stands.detached) counts
 can_append disk known id entries lists (entry.H h) s k form in_range fits lies knows names counts = absurd k
@@ -114,7 +114,7 @@ can_append disk known id entries lists (entry.E f) s k form in_range fits lies k
 
 -- of a disk that opens with these entries
 append_with : (disk : DiskState) (lists : Lists) (s : IsSettled disk lists) (id : List ℕ) (entries : List MapEntry) (logs : List (List BoxEntry)) (e : MapEntry) → Opens (files_of disk) id entries logs → IsAppendable e → KeepsForm e (files_of disk) → MapInRange e
-    → MapFits (map_meaning id entries) e → All (LiesInFile (files_of disk)) (record_made e) → (known : List KnownInstance) → KnowsNamed known (map_meaning id entries) disk → NamesInstances e known disk → AreGoodLogs id (entries ++ e ∷ []) (logs_made e logs) → IsMapAppend (files_of disk) s.store s.entries lists lists e
+    → MapFits (map_meaning id entries) e → All (LiesInFile (files_of disk)) (record_made e) → (known : List KnownInstance) → KnowsNamed known (map_meaning id entries) disk → NamesInstances e known (map_meaning id entries) disk → AreGoodLogs id (entries ++ e ∷ []) (logs_made e logs) → IsMapAppend (files_of disk) s.store s.entries lists lists e
 append_with disk lists s id entries logs e o kind form in_range fits lies known knows names good =
     let same = map_same (files_of disk) id s.store entries s.entries o.passed.map_log s.safe.stands.map_log in
     (subst (λ (t : List ℕ). SafeBy (files_of disk) t s.entries lists → IsMapAppend (files_of disk) t s.entries lists lists e) same.0
@@ -159,23 +159,22 @@ pub record MapAppends (old : History) (lists : Lists) (s : IsSettled old.now lis
   pub name : log.name ≡ file.Map s.safe.stands.map_log.generation
   pub held : IsLogHeld log texts old.now
 
-map_appends : {D : Type 0} → (old : History) (v : StoreValue D) (e : MapEntry) (lists : Lists) (s : IsSettled old.now lists) → Readied (Some old) v e → ReadsImage old.now → IsReadyToStore e (Some old) → MapAppends old lists s v.map_log e
-map_appends old v e lists s r own synced =
+map_appends : {D : Type 0} → (old : History) (v : StoreValue D) (e : MapEntry) (lists : Lists) (s : IsSettled old.now lists) → Readied (Some old) v e → ReadsImage old.now → IsReadyToStore e (Some old) → NamesFirm e v.map (Some old) → MapAppends old lists s v.map_log e
+map_appends old v e lists s r own synced firm =
     let runs = r.store.running r.running in
     let g : ℕ = s.safe.stands.map_log.generation in
     let known : List KnownInstance = v.instances.known in
-    let there : AreInstancesThere known v.map old.now = r.known.running r.running in
+    let there : AreInstancesThere known old.now = r.known.running r.running in
     let knows : KnowsNamed known (map_meaning v.map.store r.store.entries) old.now =
     subst (λ (m : MapMeaning). KnowsNamed known m old.now) r.store.map_is (record { named = r.known.kept.named; there = there }) in
     let same = map_same (files_of old.now) v.map.store s.store r.store.entries s.entries runs.opens.passed.map_log s.safe.stands.map_log in
     let is : map_meaning s.store s.entries ≡ v.map = sym (r.store.map_is ∙ ap (λ (id : List ℕ). map_meaning id r.store.entries) same.0 ∙ ap (map_meaning s.store) same.1) in
-    let left : (image : Files) → IsImage old.now image → All (λ row. All (HasSameInstance (files_of old.now) image) row.instances) (record_made e) =
-    λ image i. rows_made (HasSameInstance (files_of old.now) image) e known
-    (left_known known v.map old.now image there (subst (λ (m : MapMeaning). All (HasSameInstance (files_of old.now) image) (named_instances m)) is (of_named (HasSameInstance (files_of old.now) image) (map_meaning s.store s.entries).records (s.alike image i).instances)) i) r.names in
+    let left : (image : Files) → IsImage old.now image → All (λ row. All (HasSameInstance (files_of old.now) image) row.instances) (record_made e) = λ image i. left_firm e v.map old image firm i in
+    let named : NamesInstances e known (map_meaning v.map.store r.store.entries) old.now = subst (λ (m : MapMeaning). NamesInstances e known m old.now) r.store.map_is (names_known e known v.map old r.names r.first firm) in
     let name : v.map_log.name ≡ file.Map g = r.store.map_name ∙ ap (λ (n : ℕ). file.Map n) (root_same (files_of old.now) v.map.store s.store r.store.generation g runs.root s.safe.stands.map_log.root).1 in
     record {
       texts = map map_text r.store.entries;
-      append = append_with old.now lists s v.map.store r.store.entries r.store.logs e runs.opens r.kind (keeps_form e old synced) r.in_range (fits_there (Some old) v e r) (lies_there e r.kind old r.region) known knows (names_known e known old r.names r.first) (good_made (Some old) v e r);
+      append = append_with old.now lists s v.map.store r.store.entries r.store.logs e runs.opens r.kind (keeps_form e old synced) r.in_range (fits_there (Some old) v e r) (lies_there e r.kind old r.region) known knows named (good_made (Some old) v e r);
       alike = leaves_added old.now lists e s (adds e r.kind) (added_synced e r.kind old synced left);
       name = name;
       held = held_map old.now lists s v.map_log (map map_text r.store.entries) own name runs.map_log_reads;
@@ -193,10 +192,10 @@ image_safe disk lists s e head texts image own a alike is (inr more) left =
     let name : FileName = file.Map s.safe.stands.map_log.generation in
     safe_with_map_entry disk lists lists e image s own a alike left (more_log (reading (disk name)) (image name) head texts (map_text e) is more)
 
-pub leaves_with : {D : Type 0} → (old new : Option History) (v : StoreValue D) (e : MapEntry) → Readied old v e → IfTold old ReadsImage → AddsText v.map_log (map_text e) old new → (lists : Lists) → IsReadyToStore e old → IsSettledFor lists old → Leaves lists lists old new
-leaves_with None new v e r own adds lists synced settled = absurd settled
-leaves_with (Some old) new v e r own adds lists synced s =
-    let a : MapAppends old lists s v.map_log e = map_appends old v e lists s r own synced in
+pub leaves_with : {D : Type 0} → (old new : Option History) (v : StoreValue D) (e : MapEntry) → Readied old v e → IfTold old ReadsImage → AddsText v.map_log (map_text e) old new → (lists : Lists) → IsReadyToStore e old → NamesFirm e v.map old → IsSettledFor lists old → Leaves lists lists old new
+leaves_with None new v e r own adds lists synced firm settled = absurd settled
+leaves_with (Some old) new v e r own adds lists synced firm s =
+    let a : MapAppends old lists s v.map_log e = map_appends old v e lists s r own synced firm in
     let is : IsLogFile (reading (old.now (file.Map s.safe.stands.map_log.generation))) v.map_log.head a.texts = subst (λ (n : FileName). IsLogFile (reading (old.now n)) v.map_log.head a.texts) a.name (is_log v.map_log a.texts old.now a.held.reads) in
     each_image-map (λ _ image. IsLogWithOrWithout v.map_log.head a.texts (map_text e) (image v.map_log.name) × OthersStay v.map_log.name (Some old) image) (λ _ image. Safe image lists ⊎ Safe image lists) (Some old) new
     (λ moment image i. inl (image_safe old.now lists s e v.map_log.head a.texts image own a.append a.alike is
@@ -204,11 +203,11 @@ leaves_with (Some old) new v e r own adds lists synced s =
     (adds a.texts a.held)
 
 pub settled_with : {D : Type 0} → (old new : Option History) (v : StoreValue D) (log : LogState) (e : MapEntry) → Readied old v e → IfTold old ReadsImage → IsSameLog v.map_log log → SameButFor v.map_log.name old new
-    → ((texts : List (List ℕ)) → Holds v.map_log texts old → Holds log (texts ++ map_text e ∷ []) new) → (lists : Lists) → IsReadyToStore e old → IsSettledFor lists old → IsSettledFor lists new
-settled_with None new v log e r own same others hold lists synced settled = absurd settled
-settled_with (Some old) None v log e r own same others hold lists synced settled = absurd others
-settled_with (Some old) (Some new) v log e r own same others hold lists synced s =
-    let a : MapAppends old lists s v.map_log e = map_appends old v e lists s r own synced in
+    → ((texts : List (List ℕ)) → Holds v.map_log texts old → Holds log (texts ++ map_text e ∷ []) new) → (lists : Lists) → IsReadyToStore e old → NamesFirm e v.map old → IsSettledFor lists old → IsSettledFor lists new
+settled_with None new v log e r own same others hold lists synced firm settled = absurd settled
+settled_with (Some old) None v log e r own same others hold lists synced firm settled = absurd others
+settled_with (Some old) (Some new) v log e r own same others hold lists synced firm s =
+    let a : MapAppends old lists s v.map_log e = map_appends old v e lists s r own synced firm in
     let now : IsLogHeld log (a.texts ++ map_text e ∷ []) new.now = hold a.texts a.held in
     settled_by_map_append old.now new.now lists lists e s own a.append a.alike (λ other apart. others other (λ q. apart (q ∙ a.name)))
     (subst (λ (n : FileName). HasOneMore (map_text e) (reading (old.now n)) (reading (new.now n))) a.name (disk_more v.map_log log a.texts (map_text e) old.now new.now same.name same.head a.held.reads now.reads))

@@ -54,7 +54,7 @@ use Rattle.store_core.specs.Dues.{KeepsStored}
 use Rattle.store_core.specs.Files.{StayThere}
 use Rattle.store_core.specs.PlaceStops.{IsPlaceStop}
 use Rattle.store_core.specs.Running.{AreBoxLogs, ReadBoxLogs, HasEntryRoom, IsStore}
-use Rattle.store_core.specs.StoreInstances.{IsOtherThan, IsKnownRow, IsNamedOrFirm, AreInstancesThere, HasKnownInstances}
+use Rattle.store_core.specs.StoreInstances.{IsOtherThan, IsFirmInstance, IsKnownRow, AreInstancesFirm, AreInstancesThere, HasKnownInstances}
 use Rattle.store_core.specs.Value.{StoreValue}
 use Rattle.store_core.specs.declared.error.PlaceStop.TheVariants as stop
 use Rattle.store_core.specs.declared.store.OpenBox.{OpenBox}
@@ -348,9 +348,9 @@ row_placed hash size value row are less later known =
 -- so its file isn't there
 pub next_absent : {D : Type 0} → (hash : Hash) (h : Option History) (v : StoreValue D) → HasKnownInstances h v → v.stopped ≡ false → AreInstances v.instances → v.instances.highest < 4294967294 → IfTold h (λ now. reading (now (next_instance_file hash v.instances)) ≡ None)
 next_absent hash h v k runs are less =
-    if_told-map (AreInstancesThere v.instances.known v.map) (λ now. reading (now (next_instance_file hash v.instances)) ≡ None) h (λ disk t. none disk t (reading (disk (next_instance_file hash v.instances))) refl) (k.running runs)
+    if_told-map (AreInstancesThere v.instances.known) (λ now. reading (now (next_instance_file hash v.instances)) ≡ None) h (λ disk t. none disk t (reading (disk (next_instance_file hash v.instances))) refl) (k.running runs)
   where
-    none : (disk : DiskState) → AreInstancesThere v.instances.known v.map disk → (o : Option (List ℕ)) → reading (disk (next_instance_file hash v.instances)) ≡ o → o ≡ None
+    none : (disk : DiskState) → AreInstancesThere v.instances.known disk → (o : Option (List ℕ)) → reading (disk (next_instance_file hash v.instances)) ≡ o → o ≡ None
     none disk t None e = refl
     none disk t (Some octets) e =
         let there = t.only hash.0 (next_id v.instances).0 octets e in
@@ -392,25 +392,33 @@ other_still known m a b row named same here others = λ i d lt origin j e le kin
     others i d lt origin j e le kind before
     (sym here ∙ is ∙ of_known (λ (r : InstRow). reading (b (instance_file r)) ≡ reading (a (instance_file r))) known (get_or (get_or m.records i d).instances j e) same (all_parts (IsKnownRow known) (λ (r : MapRecord). r.instances) m.records named i d lt j e le))
 
-there_placed : (hash : Hash) (octets : List ℕ) (value : InstancesValue) (m : MapMeaning) (a b : DiskState) → AreInstances value → value.highest < 4294967294 → IsUnlike hash octets value.known a → All (IsKnownRow value.known) (named_instances m) → FileMade (next_instance_file hash value) a b
-    → Keeps (b (next_instance_file hash value)) octets → AreInstancesThere value.known m a → AreInstancesThere (with_instance (instance_placed value hash (length octets)) value.known) m b
-there_placed hash octets value m a b are less unlike named c keeps t =
+-- the file of none that is there is the new one's
+apart_placed : (hash : Hash) (value : InstancesValue) (a b : DiskState) → FileMade (next_instance_file hash value) a b → AreInstancesThere value.known a → All (λ k. instance_file k.row ≢ next_instance_file hash value) value.known
+apart_placed hash value a b c t =
+    All-weaker (λ (k : KnownInstance). IsThereWhole (files_of a) k.row) (λ (k : KnownInstance). instance_file k.row ≢ next_instance_file hash value) (λ k w. apart_read (next_instance_file hash value) (instance_file k.row) a w.octets c.absent w.there) value.known t.whole
+
+-- a record that is made may name the new one, and each that it might have named
+pub firm_placed : (hash : Hash) (octets : List ℕ) (value : InstancesValue) (m : MapMeaning) (a b : DiskState) → IsUnlike hash octets value.known a → All (IsKnownRow value.known) (named_instances m) → FileMade (next_instance_file hash value) a b → Keeps (b (next_instance_file hash value)) octets → AreInstancesThere value.known a
+    → AreInstancesFirm value.known m a → AreInstancesFirm (with_instance (instance_placed value hash (length octets)) value.known) m b
+firm_placed hash octets value m a b unlike named c keeps t firm =
     let new : KnownInstance = instance_placed value hash (length octets) in
     let name : FileName = next_instance_file hash value in
-    let apart : All (λ k. instance_file k.row ≢ name) value.known =
-    All-weaker (λ (k : KnownInstance). IsThereWhole (files_of a) k.row) (λ (k : KnownInstance). instance_file k.row ≢ name) (λ k w. apart_read name (instance_file k.row) a w.octets c.absent w.there) value.known t.whole in
+    let apart : All (λ k. instance_file k.row ≢ name) value.known = apart_placed hash value a b c t in
     let same : All (λ k. reading (b (instance_file k.row)) ≡ reading (a (instance_file k.row))) value.known = λ k d lt. reads_made name _ a b c (apart k d lt) in
+    all_with (λ k. IsFirmInstance m b k.row) value.known new (record { left = λ left may. (keeps.leaves left).0 may ∙ sym keeps.reads; other = other_placed hash octets value m a b unlike named same keeps.reads }) (λ k d lt. record {
+      left = λ left may. (firm k d lt).left left (leaves_made name _ a b left c (apart k d lt) may) ∙ sym (same k d lt);
+      other = other_still value.known m a b (get_or value.known k d).row named same (same k d lt) (firm k d lt).other;
+    })
+
+there_placed : (hash : Hash) (octets : List ℕ) (value : InstancesValue) (a b : DiskState) → AreInstances value → value.highest < 4294967294 → FileMade (next_instance_file hash value) a b → Keeps (b (next_instance_file hash value)) octets → AreInstancesThere value.known a
+    → AreInstancesThere (with_instance (instance_placed value hash (length octets)) value.known) b
+there_placed hash octets value a b are less c keeps t =
+    let new : KnownInstance = instance_placed value hash (length octets) in
+    let name : FileName = next_instance_file hash value in
+    let apart : All (λ k. instance_file k.row ≢ name) value.known = apart_placed hash value a b c t in
     record {
       whole = all_with (λ k. IsThereWhole (files_of b) k.row) value.known new (record { octets = octets; there = keeps.reads; size = refl })
           (λ k d lt. let w = t.whole k d lt in record { octets = w.octets; there = reads_made name _ a b c (apart k d lt) ∙ w.there; size = w.size });
-      firm = all_with (IsNamedOrFirm m b) value.known new (inr (record { left = λ left may. (keeps.leaves left).0 may ∙ sym keeps.reads; other = other_placed hash octets value m a b unlike named same keeps.reads }))
-          (λ k d lt. elim (t.firm k d lt) [
-            | inl is ↦ inl is
-            | inr firm ↦ inr (record {
-              left = λ left may. firm.left left (leaves_made name _ a b left c (apart k d lt) may) ∙ sym (same k d lt);
-              other = other_still value.known m a b (get_or value.known k d).row named same (same k d lt) firm.other;
-            })
-          ]);
       only = λ h i read e. by_name h i read e (same_name (file.Inst h i) name) refl;
     }
   where
@@ -435,14 +443,9 @@ placed_known hash octets old new v disk instances drawn k runs are later less un
         highest = ap (λ (n : ℕ). n + 1) k.kept.highest;
         named = All-weaker (IsKnownRow v.instances.known) (IsKnownRow placed.known) (λ row known. row_placed hash (length octets) v.instances row are less rise known) (named_instances v.map) k.kept.named;
       };
-      running = λ on. between-since-if (FileMade (next_instance_file hash v.instances)) (λ now. AreInstancesThere v.instances.known v.map now × IsUnlike hash octets v.instances.known now) (λ now. Keeps (now (next_instance_file hash v.instances)) octets) (AreInstancesThere placed.known v.map) old new
-          (λ a b c t keep. there_placed hash octets v.instances v.map a b are less t.1 k.kept.named c keep t.0) change (told_both (AreInstancesThere v.instances.known v.map) (IsUnlike hash octets v.instances.known) old (k.running runs) unlike) keeps;
+      running = λ on. between-since-if (FileMade (next_instance_file hash v.instances)) (AreInstancesThere v.instances.known) (λ now. Keeps (now (next_instance_file hash v.instances)) octets) (AreInstancesThere placed.known) old new (λ a b c t keep. there_placed hash octets v.instances a b are less c keep t) change (k.running runs) keeps;
     }))
   where
-    told_both : (P Q : DiskState → Type 0) (h : Option History) → IfTold h P → IfTold h Q → IfTold h (λ now. P now × Q now)
-    told_both P Q None p q = tt
-    told_both P Q (Some h) p q = (p, q)
-
     between-since-if : (R : DiskState → DiskState → Type 0) (P Q S : DiskState → Type 0) (old new : Option History) → ((a b : DiskState) → R a b → P a → Q b → S b) → Between R old new → IfTold old P → IfTold new Q → IfTold new S
     between-since-if R P Q S None new f r p q = subst (λ (h : Option History). IfTold h S) (sym r) tt
     between-since-if R P Q S (Some old) None f r p q = absurd r

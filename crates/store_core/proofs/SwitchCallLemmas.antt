@@ -20,16 +20,17 @@ use Rattle.model_octets.proofs.PairLemmas.{found_holds}
 use Rattle.model_meaning.proofs.MapPlaceLemmas.{equal_is}
 use Rattle.store_core.specs.Append.{AddsText}
 use Rattle.store_core.specs.Dues.{number_beside, due_at, leak_at, listed_at, IsSpared, KeepsStored}
+use Rattle.store_core.specs.Keeping.{KeepsFirm}
 use Rattle.store_core.specs.MadeLogs.{KeepsMadeLogs}
 use Rattle.store_core.specs.Running.{IsStore}
-use Rattle.store_core.specs.StoreInstances.{IsNamedOrFirm, HasKnownInstances}
+use Rattle.store_core.specs.StoreInstances.{HasKnownInstances}
 use Rattle.store_core.specs.Switching.{Switches, PlacesLieBelow, HasCopies, HasCopiesSynced, dues_switched}
 use Rattle.store_core.specs.Value.{StoreValue}
 use Rattle.store_core.proofs.BoxCrashLemmas.{ReadsImage}
 use Rattle.store_core.proofs.DueChangeLemmas.{as_many}
 use Rattle.store_core.proofs.DueLemmas.{dues_each}
 use Rattle.store_core.proofs.KeptFileLemmas.{with_change}
-use Rattle.store_core.proofs.KnownInstanceLemmas.{instances_switched}
+use Rattle.store_core.proofs.KnownInstanceLemmas.{firm_switched, instances_switched}
 use Rattle.store_core.proofs.MadePlaceLemmas.{made_with_map}
 use Rattle.store_core.proofs.SwitchLemmas.{Switching, store_after_switch, due_stays, leak_stays, boxes_stay}
 use Rattle.store_core.proofs.SwitchCrashLemmas.{leaves_switched, settled_switched, stored_switched, spared_switched}
@@ -126,10 +127,12 @@ made_call old new v w e n o a d made stopped same kept =
     made_with_map old new v w o.ready.store.generation o.ready.store.map_name (boxes_call old v w.map e n o a) (ap (λ (x : MapMeaning). x.store) a) d made stopped same kept
 
 pub instances_call : {D : Type 0} → (old new : Option History) (v w : StoreValue D) (e : MapEntry) (n : ℕ) → SwitchOf old v e n → w.map ≡ map_applied e v.map → w.instances ≡ v.instances → w.drawn ≡ v.drawn → w.stopped ≡ v.stopped
-    → IfTold old (λ now. All (IsNamedOrFirm (map_applied e v.map) now) v.instances.known) → SameButFor v.map_log.name old new → HasKnownInstances old v → HasKnownInstances new w
-instances_call old new v w e n o a i d stopped firm same k =
-    instances_switched old new v w o.ready.store.generation o.ready.store.map_name o.f o.t o.ms o.us (a ∙ ap (λ (x : MapEntry). map_applied x v.map) o.is) i d stopped
-    (subst (λ (x : MapEntry). IfTold old (λ now. All (IsNamedOrFirm (map_applied x v.map) now) v.instances.known)) o.is firm) same k
+    → SameButFor v.map_log.name old new → HasKnownInstances old v → HasKnownInstances new w
+instances_call old new v w e n o a i d stopped same k =
+    instances_switched old new v w o.ready.store.generation o.ready.store.map_name o.f o.t o.ms o.us (a ∙ ap (λ (x : MapEntry). map_applied x v.map) o.is) i d stopped same k
+
+pub firm_call : {D : Type 0} → (old new : Option History) (v w : StoreValue D) (e : MapEntry) (n : ℕ) → SwitchOf old v e n → w.map ≡ map_applied e v.map → w.instances ≡ v.instances → SameButFor v.map_log.name old new → KeepsFirm v w old new
+firm_call old new v w e n o a i same = firm_switched o.ready.store.generation old new v w o.f o.t o.ms o.us o.ready.store.map_name same i (a ∙ ap (λ (x : MapEntry). map_applied x v.map) o.is)
 
 pub spared_as : {D : Type 0} → (w : StoreValue D) (uid : ℕ) (row : MapRecord) (a b new : Option History) → a ≡ b → IsSpared uid row w a new → IsSpared uid row w b new
 spared_as w uid row a b new is s = subst (λ (h : Option History). IsSpared uid row w h new) is s

@@ -34,13 +34,13 @@ abbrev pub ArePinsOfRecords : List MailFile → List MapRecord → Type 0
 ArePinsOfRecords files rows = (number : ℕ) (f : MailFile) → file_in number files ≡ Some f → 1 ≤ f.pins → (f.doomed ≡ true) ⊎ (list_any (λ row. row.file == number) rows ≡ true)
 
 -- What the store knows of its storage files: the greatest number is the one that was drawn, the least is at least 1, somebody
--- who has taken a file may add to it, files that the map has sealed are sealed, a pinned file has a region or is doomed, and all
+-- who has taken a file may add to it, those files are sealed that the map has sealed, a pinned file has a region or is doomed, and all
 -- that records name lies below the ends. So what is added overlaps no region, and its GUID is new.
 pub record AreFilesKept (files : FilesValue) (drawn : Highest) (m : MapMeaning) : Type 0 where
   pub highest : files.highest ≡ drawn.file
   pub numbered : (number : ℕ) (f : MailFile) → file_in number files.files ≡ Some f → 1 ≤ number
   pub taken : (number : ℕ) (f : MailFile) → file_in number files.files ≡ Some f → f.taken ≡ true → MayGrow f
-  pub sealed : (number : ℕ) (f : MailFile) → file_in number files.files ≡ Some f → is_sealed m number ≡ true → f.sealed ≡ true
+  pub sealed : (number : ℕ) (f : MailFile) → file_in number files.files ≡ Some f → f.sealed ≡ is_sealed m number
   pub pinned : ArePinsOfRecords files.files m.records
   pub below : All (LiesBelowEnd m.store files.files) m.records
 

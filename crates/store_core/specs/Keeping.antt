@@ -1,16 +1,17 @@
 -- What calls and events leave to tasks that have begun.
-use Rattle.std.specs.Prelude.{◌≡◌, ◌<◌, ◌≤◌, ◌+◌, ℕ, List, count_by, Option, Some}
+use Rattle.std.specs.Prelude.{◌≡◌, ◌⊎◌, ◌<◌, ◌≤◌, ◌+◌, ℕ, List, count_by, map, Option, Some}
 use Rattle.std.specs.Str.{bytes_eq}
-use Rattle.disk_model.specs.Disk.{DiskState, History, Between, reading}
+use Rattle.disk_model.specs.Disk.{DiskState, History, Between, named, reading}
 use Rattle.disk_model.specs.declared.name.FileName.TheVariants as file
 use Rattle.mdbox_base.specs.declared.entries.InstRow.{InstRow}
 use Rattle.mdbox_base.specs.declared.ids.Hash.{Hash}
 use Rattle.mdbox_base.specs.declared.ids.InstId.{InstId}
 use Rattle.model_meaning.specs.BoxMeaning.{LogRow, BoxMeaning, row_at}
+use Rattle.model_meaning.specs.MapMeaning.{MapMeaning, MapRecord}
 use Rattle.sis_store.specs.Comparing.{IsUnlikeCompared}
 use Rattle.sis_store.specs.Instances.{holders_in}
 use Rattle.sis_store.specs.OnDisk.{instance_file}
-use Rattle.store_core.specs.StoreInstances.{IsKnownRow, IsFirstKnown}
+use Rattle.store_core.specs.StoreInstances.{AreInstancesFirm, IsKnownRow, IsFirstKnown}
 use Rattle.store_core.specs.Value.{StoreValue, list_named}
 
 -- each storage file and each instance is as it was
@@ -36,8 +37,23 @@ KeepsUids old new = (name : List ℕ) (uid held : ℕ) → KeepsUid name uid hel
 
 -- ---- instances
 
+-- an instance is as it was, or its name was synced
+abbrev pub SyncsInstances : DiskState → DiskState → Type 0
+SyncsInstances a b = (hash id : List ℕ) → (b (file.Inst hash id) ≡ a (file.Inst hash id)) ⊎ (b (file.Inst hash id) ≡ named (a (file.Inst hash id)))
+
+-- the records of two maps are of the same origins and name the same instances
+abbrev pub origin_and_names : MapRecord → ℕ × List InstRow
+origin_and_names row = (row.origin, row.instances)
+
+abbrev pub NameTheSame : MapMeaning → MapMeaning → Type 0
+NameTheSame m n = map origin_and_names n.records ≡ map origin_and_names m.records
+
+-- Where a record that is made may name whichever instance is known, it may afterwards.
+pub record KeepsFirm {D : Type 0} (old new : StoreValue D) (before after : Option History) : Type 0 where
+  pub stays : Between (λ a b. AreInstancesFirm old.instances.known old.map a → AreInstancesFirm new.instances.known new.map b) before after
+
 -- What an event leaves to a task that compares instances, or has found some: each known instance is known and reads as it did, and
--- is the first of its octets if it was; and what was compared stays compared.
+-- is the first of its octets if it was; what was compared stays compared; and those that may be named may be so still.
 pub record KeepsInstances {D : Type 0} (old new : StoreValue D) (before after : Option History) : Type 0 where
   pub store : new.instances.store ≡ old.instances.store
   pub drawn : old.instances.highest ≤ new.instances.highest
@@ -46,6 +62,7 @@ pub record KeepsInstances {D : Type 0} (old new : StoreValue D) (before after : 
   pub first : Between (λ a b. (row : InstRow) → IsKnownRow old.instances.known row → IsFirstKnown old.instances.known a row → IsFirstKnown new.instances.known b row) before after
   pub compared : (hash : Hash) (size : ℕ) (octets : List ℕ) (last : Option InstId) (drawn : ℕ) → drawn ≤ old.instances.highest
       → IsUnlikeCompared old.instances.store hash size octets last drawn old.instances.known before → IsUnlikeCompared old.instances.store hash size octets last drawn new.instances.known after
+  pub firm : KeepsFirm old new before after
 
 -- each instance reads as it did
 abbrev pub ReadsInstances : DiskState → DiskState → Type 0

@@ -14,13 +14,13 @@ use Rattle.mdbox_base.specs.declared.entries.MapEntry.TheVariants as map_entry
 use Rattle.model_appends.specs.MapAppending.{stored_row}
 use Rattle.model_attach.specs.Detached.{AreDetached}
 use Rattle.model_logs.specs.Entries.{map_text}
-use Rattle.model_meaning.specs.MapMeaning.{MapRecord, guid_file}
+use Rattle.model_meaning.specs.MapMeaning.{MapMeaning, MapRecord, guid_file}
 use Rattle.model_store.specs.Safe.{LiesInFile}
 use Rattle.model_store.specs.Settled.{files_of, HasSameRegion}
 use Rattle.model_store.specs.Stands.{StoresMessage}
 use Rattle.sis_store.specs.declared.instance.KnownInstance.{KnownInstance}
 use Rattle.store_core.specs.Append.{change_beside}
-use Rattle.store_core.specs.StoreInstances.{IsKnownRow, IsFirstKnown}
+use Rattle.store_core.specs.StoreInstances.{IsFirmInstance, IsKnownRow, IsFirstKnown}
 use Rattle.store_core.specs.Value.{entry_room}
 
 -- ---- what it asks
@@ -62,6 +62,11 @@ abbrev pub NamesFirst : MapEntry → List KnownInstance → Option History → T
 NamesFirst (map_entry.S origin count uid file offset size guid instances) known history = origin ≡ 0 → IfTold history (λ now. All (IsFirstKnown known now) instances)
 NamesFirst entry known history = Unit {0}
 
+-- A record that is made may name those that a message names.
+abbrev pub NamesFirm : MapEntry → MapMeaning → Option History → Type 0
+NamesFirm (map_entry.S origin count uid file offset size guid instances) m history = IfTold history (λ now. All (IsFirmInstance m now) instances)
+NamesFirm entry m history = Unit {0}
+
 -- a crash leaves a record's region as the disk reads it
 abbrev pub IsSyncedRegion : DiskState → MapRecord → Type 0
 IsSyncedRegion now row = (image : Files) → IsImage now image → HasSameRegion (files_of now) image row
@@ -78,8 +83,7 @@ HasItsHash files inst = (octets : List ℕ) → files (Inst inst.hash.0 inst.id.
 abbrev pub IsOwnSave : Files → MapRecord → Type 0
 IsOwnSave files row = StoresDetached files row × All (HasItsHash files) row.instances
 
--- A crash leaves the region of a message that is stored as the disk reads it, and a record of origin 0 is an own save. What a
--- crash leaves of the instances is known to the store.
+-- A crash leaves the region of a message that is stored as the disk reads it, and a record of origin 0 is an own save.
 abbrev pub IsReadyToStore : MapEntry → Option History → Type 0
 IsReadyToStore (map_entry.S origin count uid file offset size guid instances) history =
     IfTold history (λ now. IsSyncedRegion now (stored_row origin count uid file offset size guid instances) × (origin ≡ 0 → IsOwnSave (files_of now) (stored_row origin count uid file offset size guid instances)))

@@ -39,28 +39,27 @@ pub record IsFirstWith (octets : List ℕ) (row : InstRow) (known : List KnownIn
   pub reads : IfTold history (λ now. reading (now (instance_file row)) ≡ Some octets)
   pub first : IfTold history (λ now. IsFirstKnown known now row)
 
--- An instance that no record names yet may be named: a crash leaves it as the disk reads it, and no own save (a record of
--- origin 0) names a later instance with its octets.
+-- A record that is made may name the instance: a crash leaves it as the disk reads it, and no own save (a record of origin 0) names a
+-- later instance with its octets.
 pub record IsFirmInstance (m : MapMeaning) (disk : DiskState) (row : InstRow) : Type 0 where
   pub left : LeavesAsRead (instance_file row) disk
   pub other : All (λ own. own.origin ≡ 0 → All (λ inst. IsOtherThan disk inst row) own.instances) m.records
 
--- a record names the instance, or it may be named
-abbrev pub IsNamedOrFirm : MapMeaning → DiskState → KnownInstance → Type 0
-IsNamedOrFirm m disk k = Contains (named_instances m) k.row ⊎ IsFirmInstance m disk k.row
+-- It may name whichever is known. So it is of a settled disk as a store is opened over it; once an entry of the map log has dropped
+-- records, it isn't known of every disk.
+abbrev pub AreInstancesFirm : List KnownInstance → MapMeaning → DiskState → Type 0
+AreInstancesFirm known m disk = All (λ k. IsFirmInstance m disk k.row) known
 
--- Each known instance is there with its size, and no other is there. One that no record names yet is left by every crash, and
--- is none that an own save should have named; on a settled disk so is one that a record names.
-pub record AreInstancesThere (known : List KnownInstance) (m : MapMeaning) (disk : DiskState) : Type 0 where
+-- Each known instance is there with its size, and no other is there.
+pub record AreInstancesThere (known : List KnownInstance) (disk : DiskState) : Type 0 where
   pub whole : All (λ k. IsThereWhole (files_of disk) k.row) known
-  pub firm : All (IsNamedOrFirm m disk) known
   pub only : (hash id octets : List ℕ) → reading (disk (Inst hash id)) ≡ Some octets → (k : KnownInstance) × Contains known k × (instance_file k.row ≡ Inst hash id)
 
 -- A store has the instances that its records name, and knows those that are there. What a failed change leaves of them on the
 -- disk of a stopped store is said by the clauses of the call that made it.
 pub record HasKnownInstances {D : Type 0} (history : Option History) (store : StoreValue D) : Type 0 where
   pub kept : AreInstancesKept store.instances store.drawn store.map
-  pub running : store.stopped ≡ false → IfTold history (AreInstancesThere store.instances.known store.map)
+  pub running : store.stopped ≡ false → IfTold history (AreInstancesThere store.instances.known)
 
 -- a store in which an instance was placed, with a number that was drawn for it
 abbrev pub with_placed : {D : Type 0} → D → InstancesValue → StoreValue D → StoreValue D

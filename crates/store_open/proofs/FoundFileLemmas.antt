@@ -129,9 +129,9 @@ files_kept m history files drawn sound highest found =
       taken = λ number f e taken.
           let w = was_found m found.states number f found.found.marks e in
           absurd (true≢false (sym taken ∙ ap (λ (x : MailFile). x.taken) w.is));
-      sealed = λ number f e is.
+      sealed = λ number f e.
           let w = was_found m found.states number f found.found.marks e in
-          ap (λ (x : MailFile). x.sealed) w.is ∙ w.marks.0 ∙ ap (is_sealed m) w.has_number ∙ is;
+          ap (λ (x : MailFile). x.sealed) w.is ∙ w.marks.0 ∙ ap (is_sealed m) w.has_number;
       pinned = λ number f e pinned.
           let w = was_found m found.states number f found.found.marks e in
           absurd (let l : 1 ≤ 0 = subst (λ (x : MailFile). 1 ≤ x.pins) w.is pinned in omega (arith, l));

@@ -24,7 +24,7 @@ use Rattle.sis_store.specs.Instances.{InstancesValue, has_id, instance_found, in
 use Rattle.sis_store.specs.OnDisk.{instance_file}
 use Rattle.sis_store.specs.declared.instance.KnownInstance.{KnownInstance}
 use Rattle.store_core.specs.Running.{IsStore}
-use Rattle.store_core.specs.StoreInstances.{IsKnownRow, IsNamedOrFirm, AreInstancesThere, HasKnownInstances}
+use Rattle.store_core.specs.StoreInstances.{IsKnownRow, AreInstancesThere, HasKnownInstances}
 use Rattle.store_core.specs.Value.{StoreValue}
 use Rattle.store_instances.specs.FoundInstances.{IsFoundInstances}
 use Rattle.store_sweep.specs.Wanted.{row_names, is_wanted}
@@ -64,11 +64,10 @@ only_found generation m known new found swept =
     (instance_found n.0, k.0, n.2)) swept
 
 -- those that records name are there, since the files open
-instances_there : (m : MapMeaning) (known : InstancesValue) (disk : DiskState) → IsFoundInstances m known → All (IsThereWhole (files_of disk)) (named_instances m) → AreKnown known.known disk → AreInstancesThere known.known m disk
+instances_there : (m : MapMeaning) (known : InstancesValue) (disk : DiskState) → IsFoundInstances m known → All (IsThereWhole (files_of disk)) (named_instances m) → AreKnown known.known disk → AreInstancesThere known.known disk
 instances_there m known disk found there only = record {
   only = only;
   whole = All-weaker (λ (k : KnownInstance). Contains (named_instances m) k.row) (λ (k : KnownInstance). IsThereWhole (files_of disk) k.row) (λ k c. All-contains (IsThereWhole (files_of disk)) (named_instances m) k.row there c) known.known found.only;
-  firm = All-weaker (λ (k : KnownInstance). Contains (named_instances m) k.row) (IsNamedOrFirm m disk) (λ k c. inl c) known.known found.only;
 }
 
 pub instances_opened : {D : Type 0} → (h : Option History) (v : StoreValue D) → IsStore h v → v.stopped ≡ false → IsFoundInstances v.map v.instances → v.drawn ≡ v.map.highest → IfTold h (AreKnown v.instances.known) → HasKnownInstances h v
@@ -78,7 +77,7 @@ instances_opened h v s runs found drawn only = record {
     highest = found.highest ∙ ap (λ (d : Highest). d.instance) (sym drawn);
     named = All-weaker (λ (row : InstRow). instance_in row.id v.instances.known ≡ Some (instance_found row)) (IsKnownRow v.instances.known) (λ row e. ap (option_map (λ (k : KnownInstance). k.row)) e) (named_instances v.map) found.named;
   };
-  running = λ on. if_told-both (λ (disk : DiskState). Opens (files_of disk) v.map.store s.entries s.logs) (AreKnown v.instances.known) (AreInstancesThere v.instances.known v.map) h
+  running = λ on. if_told-both (λ (disk : DiskState). Opens (files_of disk) v.map.store s.entries s.logs) (AreKnown v.instances.known) (AreInstancesThere v.instances.known) h
       (λ disk o known. instances_there v.map v.instances disk found (subst (λ (m : MapMeaning). All (IsThereWhole (files_of disk)) (named_instances m)) (sym s.map_is) o.instances) known) (s.running runs).opens only;
 }
 

@@ -26,7 +26,7 @@ use Rattle.storage_files.specs.Files.{file_in}
 use Rattle.storage_files.specs.declared.file.MailFile.{MailFile}
 use Rattle.store_core.specs.Files.{LiesBelowEnd, StayThere}
 use Rattle.store_core.specs.Running.{IsStore}
-use Rattle.store_core.specs.StoreInstances.{IsKnownRow, IsNamedOrFirm, AreInstancesThere, HasKnownInstances}
+use Rattle.store_core.specs.StoreInstances.{IsKnownRow, AreInstancesThere, HasKnownInstances}
 use Rattle.store_core.specs.Value.{StoreValue, none_due, newly_open}
 use Rattle.store_core.specs.declared.store.OpenBox.{OpenBox}
 use Rattle.store_core.specs.declared.store.OpenLogs.{OpenLogs}
@@ -103,7 +103,7 @@ new_store alloc disk store box o instances new is l number index one =
       boxes_are = ap (λ (i : _). i ∷ []) index;
       counts = tt;
       drawn = record { file = omega arith; map = omega arith; instance = omega arith; mailbox = omega arith };
-      files = record { highest = refl; numbered = λ number f e. absurd (no_file_in number f e); taken = λ number f e taken. absurd (no_file_in number f e); sealed = λ number f e is. absurd (no_file_in number f e); pinned = λ number f e is. absurd (no_file_in number f e); below = All-nil (LiesBelowEnd store []) };
+      files = record { highest = refl; numbered = λ number f e. absurd (no_file_in number f e); taken = λ number f e taken. absurd (no_file_in number f e); sealed = λ number f e. absurd (no_file_in number f e); pinned = λ number f e is. absurd (no_file_in number f e); below = All-nil (LiesBelowEnd store []) };
       root_name = l.root_name;
       root_head = l.root_head_is;
       map_name = l.map_name;
@@ -130,9 +130,8 @@ new_instances alloc disk id o instances new is none made =
     let G : MapMeaning → Type 0 = λ k. HasKnownInstances new (opened_with alloc disk o (no_instances id) k o.boxes.items) in
     subst F (sym none) (subst G (sym is) (record {
       kept = record { store = refl; highest = refl; named = All-nil (IsKnownRow []) };
-      running = λ on. if_told-map (IsMadeStore id.0) (AreInstancesThere [] (map_meaning id.0 (first_box ∷ []))) new (λ disk m. record {
+      running = λ on. if_told-map (IsMadeStore id.0) (AreInstancesThere []) new (λ disk m. record {
         whole = All-nil (λ (k : KnownInstance). IsThereWhole (files_of disk) k.row);
-        firm = All-nil (IsNamedOrFirm (map_meaning id.0 (first_box ∷ [])) disk);
         only = λ hash i octets e. absurd (let w : None ≡ Some octets = sym (ap reading (m.nothing_else (file.Inst hash i) (λ e. cc e) (λ e. cc e) (λ e. cc e))) ∙ e in cc w);
       }) made;
     }))

@@ -39,6 +39,7 @@ seen_of pins store history faults = record {
   gone = λ instance. may_be_gone store instance;
   files = λ file. knows_file store file;
   instances = λ instance. knows_instance store instance;
+  known = store.instances.known;
 }
 
 -- A run has no events yet, and a store is as it was opened: nothing is due, no file is doomed, the map tells of those that are

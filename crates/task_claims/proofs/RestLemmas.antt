@@ -1,21 +1,22 @@
 -- An event that leaves the rest of a store and its files leaves to the other tasks what is theirs.
 use Rattle.std.specs.Option.{option_map}
-use Rattle.std.proofs.Common.{◌≡◌, ◌≢◌, ◌≤◌, ◌+◌, ℕ, List, [], ◌++◌, get_or, Option, Some, refl, sym, ◌∙◌, ap, subst, arith, inl, inr}
+use Rattle.std.proofs.Common.{◌≡◌, ◌≢◌, ◌≤◌, ◌+◌, ℕ, List, [], ◌∷◌, ◌++◌, get_or, map, Option, Some, refl, sym, ◌∙◌, ap, subst, arith, inl, inr}
 use Rattle.std.proofs.lemmas.List.{append-nil}
 use Rattle.disk_model.specs.Disk.{DiskState, FileState, History, IsIdle, reading}
 use Rattle.disk_model.specs.declared.name.FileName.TheVariants as file
 use Rattle.disk_model.proofs.BetweenLemmas.{between-map}
 use Rattle.mdbox_base.specs.declared.entries.InstRow.{InstRow}
-use Rattle.model_meaning.specs.MapMeaning.{MapRecord, record_at}
+use Rattle.model_meaning.specs.MapMeaning.{MapMeaning, MapRecord, record_at}
 use Rattle.model_store.specs.Settled.{files_of}
 use Rattle.sis_store.specs.Instances.{InstancesValue}
 use Rattle.sis_store.specs.OnDisk.{instance_file}
 use Rattle.storage_files.specs.Files.{FilesValue, end_in, file_in, with_pins}
-use Rattle.store_core.specs.Keeping.{KeepsInstances, KeepsMail, KeepsRest, KeepsUids, ReadsInstances}
+use Rattle.store_core.specs.Keeping.{KeepsInstances, KeepsMail, KeepsRest, KeepsUids, NameTheSame, ReadsInstances, SyncsInstances, origin_and_names}
 use Rattle.store_core.specs.StoreInstances.{IsKnownRow, IsFirstKnown}
 use Rattle.store_core.specs.Dues.{due_at}
 use Rattle.store_core.specs.Value.{StoreValue}
 use Rattle.store_core.proofs.InstanceKeepingLemmas.{kept_same}
+use Rattle.store_core.proofs.KnownInstanceLemmas.{firm_same}
 use Rattle.store_core.proofs.MailChangeLemmas.{named_reads}
 use Rattle.task_claims.specs.Claims.{Claims, ClaimsNothing, Due, Emptied, Held, Made, MovesClaims, Pinned, PlacingPieces, Removing, Taken, Thing, amount_in, claims_of_dues}
 use Rattle.task_claims.specs.Leaving.{HasRegionOctets, HaveSameInstances, LeavesRecord, LeavesFile, LeavesInstance, OnlyGrows, IsSameOrSynced, LeavesOthers, LeavesUnlisted, PlacesFew, SameButCounts, SyncsMail, but_count}
@@ -90,10 +91,19 @@ none_placed instances = record { drawn = omega arith; few = omega arith; candida
 
 -- ---- all of it
 
+-- records that are the same but for their counts name the same
+counts_name : (rows : List MapRecord) → map origin_and_names (map but_count rows) ≡ map origin_and_names rows
+counts_name [] = refl
+counts_name (row ∷ rows) = ap (λ (ps : List (ℕ × List InstRow)). origin_and_names row ∷ ps) (counts_name rows)
+
+pub counts_name_same : (m n : MapMeaning) → SameButCounts m n → NameTheSame m n
+counts_name_same m n same = sym (counts_name n.records) ∙ ap (map origin_and_names) same ∙ counts_name m.records
+
 pub rest_leaves : {D : Type 0} → (mine : Claims) (old new : StoreValue D) (before after : Option History) → new.files ≡ old.files → new.instances ≡ old.instances → SyncsMail before after → SameButCounts old.map new.map → old.map.highest.mailbox ≤ new.map.highest.mailbox → KeepsUids old new → old.map_log.room ≤ new.map_log.room → LeavesUnlisted mine old new
     → LeavesOthers mine old new before after
 rest_leaves mine old new before after files instances mail same mailboxes uids room unlisted =
-    let keeps = kept_same old new before after instances (between-map Mails ReadsInstances before after (λ a b m hash id. synced_reads (a (file.Inst hash id)) (b (file.Inst hash id)) (m.1 hash id)) mail) in
+    let firm = firm_same old new before after instances (counts_name_same old.map new.map same) (between-map Mails SyncsInstances before after (λ a b m. m.1) mail) in
+    let keeps = kept_same old new before after instances (between-map Mails ReadsInstances before after (λ a b m hash id. synced_reads (a (file.Inst hash id)) (b (file.Inst hash id)) (m.1 hash id)) mail) firm in
     record {
       records = λ uid row more there. record_kept uid row old new before after mail same there;
       unlisted = unlisted;
@@ -104,6 +114,7 @@ rest_leaves mine old new before after files instances mail same mailboxes uids r
       numbers = subst (λ (v : InstancesValue). PlacesFew old.instances v) (sym instances) (none_placed old.instances);
       mailboxes = mailboxes;
       compared = keeps.compared;
+      firm = firm;
       uids = uids;
       room = room;
       told = between-map Mails (λ a b. Unit {0}) before after (λ a b m. tt) mail;

@@ -14,7 +14,7 @@ use Rattle.sis_store.specs.OnDisk.{instance_file}
 use Rattle.storage_files.specs.Files.{end_in, file_in, with_pins}
 use Rattle.storage_files.specs.declared.file.MailFile.{MailFile}
 use Rattle.store_core.specs.Dues.{due_at}
-use Rattle.store_core.specs.Keeping.{KeepsUids}
+use Rattle.store_core.specs.Keeping.{KeepsFirm, KeepsUids}
 use Rattle.store_core.specs.StoreInstances.{IsKnownRow, IsFirstKnown}
 use Rattle.store_core.specs.Value.{StoreValue, references_to}
 use Rattle.task_claims.specs.Claims.{Claims, Due, Emptied, Held, OthersClaim, Pinned, Removing, Taken}
@@ -115,9 +115,9 @@ KeepsCompared old new before after = (hash : Hash) (size : ℕ) (octets : List �
     → IsUnlikeCompared old.instances.store hash size octets last drawn old.instances.known before → IsUnlikeCompared old.instances.store hash size octets last drawn new.instances.known after
 
 -- An event of a task that had these claims as it began, and that didn't stop the store, leaves to the other tasks what is theirs, and
--- every storage file that it doesn't claim to empty or to remove. The last seven are of no claim: the store of the
--- instances, whose numbers rise; the numbers of mailboxes; what was compared; the message with a UID; the room for an entry of the map
--- log; and a disk that is modelled stays so. What grows here is what a task's work left is counted by, so that no event of another task adds to it.
+-- every storage file that it doesn't claim to empty or to remove. The last eight are of no claim: the store of the
+-- instances, whose numbers rise; the numbers of mailboxes; what was compared; which instances a record that is made may name; the
+-- message with a UID; the room for an entry of the map log; and a disk that is modelled stays so. What grows here is what a task's work left is counted by, so that no event of another task adds to it.
 pub record LeavesOthers {D : Type 0} (mine : Claims) (old new : StoreValue D) (before after : Option History) : Type 0 where
   pub records : (uid : ℕ) (row : MapRecord) → OthersClaim mine old (Due uid) → record_at old.map uid ≡ Some row → LeavesRecord uid row new before after
   pub unlisted : LeavesUnlisted mine old new
@@ -128,6 +128,7 @@ pub record LeavesOthers {D : Type 0} (mine : Claims) (old new : StoreValue D) (b
   pub numbers : PlacesFew old.instances new.instances
   pub mailboxes : old.map.highest.mailbox ≤ new.map.highest.mailbox
   pub compared : KeepsCompared old new before after
+  pub firm : KeepsFirm old new before after
   pub uids : KeepsUids old new
   pub room : old.map_log.room ≤ new.map_log.room
   pub told : Between (λ a b. Unit {0}) before after

@@ -56,8 +56,8 @@ pub fn counts_leave_records()
 {}
 
 /// An event that leaves the storage files and the instances as they were but for synced names, and of each record all but its count,
-/// leaves to the other tasks what is theirs, if it leaves unlisted records so, and the map log no less room. One that changes nothing does. Where no more of the
-/// value changes than what logs mean and what is due, the claims are those of dues.
+/// leaves to the other tasks what is theirs, if it leaves unlisted records so, and the map log no less room. One that changes nothing
+/// does. Where no more of the value changes than what logs mean and what is due, the claims are those of dues.
 pub fn log_events_leave_others<D>()
     ensures logs { (mine : Claims) (old new : StoreValue D) (before after : Option History) → new.files ≡ old.files → new.instances ≡ old.instances → SyncsMail before after → SameButCounts old.map new.map → old.map.highest.mailbox ≤ new.map.highest.mailbox → KeepsUids old new → old.map_log.room ≤ new.map_log.room → LeavesUnlisted mine old new
         → LeavesOthers mine old new before after }

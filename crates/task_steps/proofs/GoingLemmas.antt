@@ -7,9 +7,11 @@ use Rattle.std.proofs.lemmas.List.{append-nil, length-append, map-append, take-a
 use Rattle.std.proofs.lemmas.Option.{slice_get_within}
 use Rattle.std.proofs.lemmas.List.Elements.{All-nil, All-cons, All-head, All-tail, All-push, All-append, All-weaker, filter-append}
 use Rattle.std.proofs.lemmas.List.Sums.{sum_by-append, sum_by-cons}
+use Rattle.disk_model.proofs.BetweenLemmas.{between-on}
+use Rattle.store_core.specs.StoreInstances.{AreInstancesFirm}
 use Rattle.disk_model.specs.Disk.{Files, DiskState, History, IfTold, IsImage, EachImage, calls, state_at, told_calls}
 use Rattle.mdbox_base.specs.Streams.{Rose}
-use Rattle.task_steps.specs.Step.{FaultsGrow, Seen, ShowsSeen, HasComeTo, Leads, Stops, Fell, Went, IsFault, DidEvent}
+use Rattle.task_steps.specs.Step.{FaultsGrow, Seen, ShowsSeen, StaysFirm, HasComeTo, Leads, Stops, Fell, Went, IsFault, DidEvent}
 use Rattle.disk_model.proofs.MomentLemmas.{each_image-map, each_image-then, state_at-only}
 use Rattle.mdbox_base.specs.declared.requests.Request.{Request}
 use Rattle.mdbox_base.specs.declared.replies.Refusal.{Refusal}
@@ -395,9 +397,12 @@ falls_so request run lists left event answer now new (did.Step half) w ran e = a
 falls_so request run lists left event answer now new did.Failed w ran e = w.0.refused
 falls_so request run lists left event answer now new (did.Broken half) w ran e = w.0.refused
 
+firm_on : (now new : Seen) → StaysFirm now new → IfTold now.history (AreInstancesFirm now.known now.map) → IfTold new.history (AreInstancesFirm new.known new.map)
+firm_on now new stays firm = between-on (λ a b. AreInstancesFirm now.known now.map a → AreInstancesFirm new.known new.map b) (AreInstancesFirm now.known now.map) (AreInstancesFirm new.known new.map) now.history new.history (λ a b s f. s f) stays firm
+
 quiet_on : (start : Lists) (script : Requests) (run : Run) (journal : List JournalStep) (broken : Broken) (replies : List (Option Reply)) (began now new : Seen) (request : Request) (event : RunEvent) (answer : Option Reply) (left : Lists) → Serves start script run journal broken replies began now
-    → Told start script run journal replies began now new request event answer left did.Quiet → answer ≡ None → new.stopped ≡ now.stopped → Leads (left_by start journal) (left_by start journal) now new → Going start script run journal broken (and_then run event) (journal_by run request journal event answer left) replies began new did.Quiet event (told_calls now.history)
-quiet_on start script run journal broken replies began now new request event answer left s t none same leads = (
+    → Told start script run journal replies began now new request event answer left did.Quiet → answer ≡ None → new.stopped ≡ now.stopped → Leads (left_by start journal) (left_by start journal) now new → (new.stopped ≡ false → StaysFirm now new) → Going start script run journal broken (and_then run event) (journal_by run request journal event answer left) replies began new did.Quiet event (told_calls now.history)
+quiet_on start script run journal broken replies began now new request event answer left s t none same leads firm = (
   broken,
   subst (λ (j : List JournalStep). Kept start script (and_then run event) j replies began new → Serves start script (and_then run event) j broken replies began new) (sym (unmade run request journal event answer left none)) all t.kept,
   unmade_would script start run request journal broken event answer left s.within none,
@@ -406,13 +411,13 @@ quiet_on start script run journal broken replies began now new request event ans
   where
     crash : IsSettledFor start began.history → (b : Bool) → now.stopped ≡ b → EachImage (IsReached start (and_then run event) journal broken) began.history new.history
     crash at true e = still_images start run journal broken began now new event t.within (ap (λ (x : Seen). x.history) (t.still e)) (s.crash at)
-    crash at false e = quiet_images start run journal broken began now new event t.within (s.crash at) (leads.stops (s.settled e at))
+    crash at false e = quiet_images start run journal broken began now new event t.within (s.crash at) (leads.stops (s.settled e at, s.firm e at))
 
     timely : IsSettledFor start began.history → (b : Bool) → now.stopped ≡ b → AreTimely start (and_then run event) journal new.history
     timely at true e = quiet_timely start run request journal now new event answer left none t.within t.moments t.moment_is (s.timely at) (λ m state le is. subst (λ (h : Option History). WasAt h m state) (ap (λ (x : Seen). x.history) (t.still e)) is)
         (λ free. absurd (s.stopped_by e (front_unrefused run.events event free)))
-    timely at false e = quiet_timely start run request journal now new event answer left none t.within t.moments t.moment_is (s.timely at) (same_states (left_by start journal) (left_by start journal) now new (leads.stops (s.settled e at)))
-        (λ free. leads.settled (s.settled e at))
+    timely at false e = quiet_timely start run request journal now new event answer left none t.within t.moments t.moment_is (s.timely at) (same_states (left_by start journal) (left_by start journal) now new (leads.stops (s.settled e at, s.firm e at)))
+        (λ free. leads.settled (s.settled e at, s.firm e at))
 
     all : Kept start script (and_then run event) journal replies began new → Serves start script (and_then run event) journal broken replies began new
     all k = record {
@@ -426,7 +431,8 @@ quiet_on start script run journal broken replies began now new request event ans
       crash = λ at. crash at now.stopped refl;
       timely = λ at. timely at now.stopped refl;
       unbroken = λ e. s.unbroken (sym same ∙ e);
-      settled = λ e at. leads.settled (s.settled (sym same ∙ e) at);
+      settled = λ e at. leads.settled (s.settled (sym same ∙ e) at, s.firm (sym same ∙ e) at);
+      firm = λ e at. firm_on now new (firm e) (s.firm (sym same ∙ e) at);
       mail = k.mail;
       reads = k.reads;
       changes = k.changes;
@@ -437,8 +443,8 @@ quiet_on start script run journal broken replies began now new request event ans
     }
 
 step_on : (start : Lists) (script : Requests) (run : Run) (journal : List JournalStep) (broken : Broken) (replies : List (Option Reply)) (began now new : Seen) (request : Request) (event : RunEvent) (answer : Option Reply) (left : Lists) (half : Half) → Serves start script run journal broken replies began now
-    → Told start script run journal replies began now new request event answer left (did.Step half) → is_some answer ≡ true → new.stopped ≡ false → now.stopped ≡ false → Leads (left_by start journal) left now new → Going start script run journal broken (and_then run event) (journal_by run request journal event answer left) replies began new (did.Step half) event (told_calls now.history)
-step_on start script run journal broken replies began now new request event answer left half s t some runs ran leads = (
+    → Told start script run journal replies began now new request event answer left (did.Step half) → is_some answer ≡ true → new.stopped ≡ false → now.stopped ≡ false → Leads (left_by start journal) left now new → StaysFirm now new → Going start script run journal broken (and_then run event) (journal_by run request journal event answer left) replies began new (did.Step half) event (told_calls now.history)
+step_on start script run journal broken replies began now new request event answer left half s t some runs ran leads firm = (
   no_broken,
   record {
     legal = t.kept.legal;
@@ -449,11 +455,12 @@ step_on start script run journal broken replies began now new request event answ
     broken_is = tt;
     of_failure = none_failed (and_then run event);
     crash = λ at. step_reached start run request journal began now new event answer left some t.within t.moment_is
-        (subst (λ (b : Broken). EachImage (IsReached start run journal b) began.history now.history) (s.unbroken ran) (s.crash at)) (leads.stops (s.settled ran at)) (leads.settled (s.settled ran at));
-    timely = λ at. timely_on start run request journal now new event answer left t.within t.moments t.moment_is (s.timely at) (same_states (left_by start journal) left now new (leads.stops (s.settled ran at)))
-        (λ none. subst (λ (ls : Lists). IsSettledFor ls new.history) (sym (left_made run request start journal event answer left t.made)) (leads.settled (s.settled ran at)));
+        (subst (λ (b : Broken). EachImage (IsReached start run journal b) began.history now.history) (s.unbroken ran) (s.crash at)) (leads.stops (s.settled ran at, s.firm ran at)) (leads.settled (s.settled ran at, s.firm ran at));
+    timely = λ at. timely_on start run request journal now new event answer left t.within t.moments t.moment_is (s.timely at) (same_states (left_by start journal) left now new (leads.stops (s.settled ran at, s.firm ran at)))
+        (λ none. subst (λ (ls : Lists). IsSettledFor ls new.history) (sym (left_made run request start journal event answer left t.made)) (leads.settled (s.settled ran at, s.firm ran at)));
     unbroken = λ e. refl;
-    settled = λ e at. subst (λ (ls : Lists). IsSettledFor ls new.history) (sym (left_made run request start journal event answer left t.made)) (leads.settled (s.settled ran at));
+    settled = λ e at. subst (λ (ls : Lists). IsSettledFor ls new.history) (sym (left_made run request start journal event answer left t.made)) (leads.settled (s.settled ran at, s.firm ran at));
+    firm = λ e at. firm_on now new firm (s.firm ran at);
     mail = t.kept.mail;
     reads = t.kept.reads;
     changes = t.kept.changes;
@@ -484,10 +491,11 @@ failed_on start script run journal broken replies began now new request event an
       within = more_events run event broken.place s.within;
       broken_is = broken_stays run script start journal broken event s.within s.broken_is;
       of_failure = failure_still run event broken s.within s.of_failure;
-      crash = λ at. quiet_images start run journal broken began now new event t.within (s.crash at) (stops (s.settled f.ran at));
-      timely = λ at. failed_timely start run request journal now new event answer left t.within t.moments t.moment_is (s.timely at) (same_states (left_by start journal) (left_by start journal) now new (stops (s.settled f.ran at))) f.refused f.unanswered;
+      crash = λ at. quiet_images start run journal broken began now new event t.within (s.crash at) (stops (s.settled f.ran at, s.firm f.ran at));
+      timely = λ at. failed_timely start run request journal now new event answer left t.within t.moments t.moment_is (s.timely at) (same_states (left_by start journal) (left_by start journal) now new (stops (s.settled f.ran at, s.firm f.ran at))) f.refused f.unanswered;
       unbroken = λ e. absurd (fall new.stopped f.stopped e);
       settled = λ e at. absurd (fall new.stopped f.stopped e);
+      firm = λ e at. absurd (fall new.stopped f.stopped e);
       mail = k.mail;
       reads = k.reads;
       changes = k.changes;
@@ -526,7 +534,7 @@ broken_on start script run journal broken replies began now new lane place reque
         (each_image-map (λ m image. (told_calls now.history ≤ m) × (Safe image (left_by start journal) ⊎ Safe image w.left)) (IsReached start (and_then run event) journal next) now.history new.history (λ m image h. elim h.1 [
           | inl safe ↦ (left_by start journal, reached_last start (and_then run event) journal next m, safe)
           | inr safe ↦ (w.left, reached_broken start (and_then run event) journal next m h.0, safe)
-        ]) (each_from (λ _ image. Safe image (left_by start journal) ⊎ Safe image w.left) now.history new.history (stops (s.settled f.ran settled))))
+        ]) (each_from (λ _ image. Safe image (left_by start journal) ⊎ Safe image w.left) now.history new.history (stops (s.settled f.ran settled, s.firm f.ran settled))))
 
     all : Kept start script (and_then run event) journal replies began new → Serves start script (and_then run event) journal next replies began new
     all k = record {
@@ -538,9 +546,10 @@ broken_on start script run journal broken replies began now new lane place reque
       broken_is = broken_is run script start journal event w.would (told_calls now.history) step is_step;
       of_failure = failure_is run event w.would (told_calls now.history) step (s.unrefused f.ran) s.come.come.moments f.refused w.lane_is w.request_is w.part_is refl;
       crash = crash;
-      timely = λ at. failed_timely start run request journal now new event answer left t.within t.moments t.moment_is (s.timely at) (same_states (left_by start journal) w.left now new (stops (s.settled f.ran at))) f.refused f.unanswered;
+      timely = λ at. failed_timely start run request journal now new event answer left t.within t.moments t.moment_is (s.timely at) (same_states (left_by start journal) w.left now new (stops (s.settled f.ran at, s.firm f.ran at))) f.refused f.unanswered;
       unbroken = λ e. absurd (fall new.stopped f.stopped e);
       settled = λ e at. absurd (fall new.stopped f.stopped e);
+      firm = λ e at. absurd (fall new.stopped f.stopped e);
       mail = k.mail;
       reads = k.reads;
       changes = k.changes;
@@ -559,12 +568,12 @@ ran_on now new runs still = by_test now.stopped refl
 
 by_way : (start : Lists) (script : Requests) (run : Run) (journal : List JournalStep) (broken : Broken) (replies : List (Option Reply)) (began now new : Seen) (lane place : ℕ) (request : Request) (event : RunEvent) (answer : Option Reply) (left : Lists) (how : Did)
     → slice_get script place ≡ Some (lane, request) → event.lane ≡ lane → event.request ≡ place → Serves start script run journal broken replies began now
-    → Told start script run journal replies began now new request event answer left how → Went how request run (left_by start journal) left event answer now new → Going start script run journal broken (and_then run event) (journal_by run request journal event answer left) replies began new how event (told_calls now.history)
-by_way start script run journal broken replies began now new lane place request event answer left did.Quiet asked on at s t w = quiet_on start script run journal broken replies began now new request event answer left s t w.0 w.1 w.2
-by_way start script run journal broken replies began now new lane place request event answer left (did.Step half) asked on at s t w =
-    step_on start script run journal broken replies began now new request event answer left half s t w.0 w.2 (ran_on now new w.2 t.still) w.3
-by_way start script run journal broken replies began now new lane place request event answer left did.Failed asked on at s t w = failed_on start script run journal broken replies began now new request event answer left s t w.0 w.1
-by_way start script run journal broken replies began now new lane place request event answer left (did.Broken half) asked on at s t w =
+    → Told start script run journal replies began now new request event answer left how → Went how request run (left_by start journal) left event answer now new → (new.stopped ≡ false → StaysFirm now new) → Going start script run journal broken (and_then run event) (journal_by run request journal event answer left) replies began new how event (told_calls now.history)
+by_way start script run journal broken replies began now new lane place request event answer left did.Quiet asked on at s t w firm = quiet_on start script run journal broken replies began now new request event answer left s t w.0 w.1 w.2 firm
+by_way start script run journal broken replies began now new lane place request event answer left (did.Step half) asked on at s t w firm =
+    step_on start script run journal broken replies began now new request event answer left half s t w.0 w.2 (ran_on now new w.2 t.still) w.3 (firm w.2)
+by_way start script run journal broken replies began now new lane place request event answer left did.Failed asked on at s t w firm = failed_on start script run journal broken replies began now new request event answer left s t w.0 w.1
+by_way start script run journal broken replies began now new lane place request event answer left (did.Broken half) asked on at s t w firm =
     broken_on start script run journal broken replies began now new lane place request event answer left half asked on at w.1 s t w.0 w.2.0 w.2.1
 
 -- a step is made only by a store that runs
@@ -576,12 +585,12 @@ makes_running request run lists left event answer now new (did.Broken half) w so
 
 -- A run of events goes on with one more, of any task that does as its clause says, in its turn.
 pub serves_by : (start : Lists) (script : Requests) (run : Run) (journal : List JournalStep) (broken : Broken) (replies : List (Option Reply)) (began now new : Seen) (around after : Around) (lane place : ℕ) (request : Request) (how : Did) (ended : Option Reply) → Serves start script run journal broken replies began now
-    → IsTurn script journal replies lane place request → (d : DidEvent around after run lane place (map (λ s. s.answer) (steps_of place journal)) request (left_by start journal) now new how ended) → IfTold now.history ReadsImage
+    → IsTurn script journal replies lane place request → (d : DidEvent around after run lane place (map (λ s. s.answer) (steps_of place journal)) request (left_by start journal) now new how ended) → IfTold now.history ReadsImage → (new.stopped ≡ false → StaysFirm now new)
     → (next : Broken) × Serves start script (and_then run d.makes.event) (journal ++ steps_made run request d.makes.event d.makes.answer d.left) next replies began new
     × (WouldDo script start run journal broken → WouldDo script start (and_then run d.makes.event) (journal ++ steps_made run request d.makes.event d.makes.answer d.left) next)
     × BreaksBy how run d.makes.event (told_calls now.history) broken next
-serves_by start script run journal broken replies began now new around after lane place request how ended s turn d reads =
-    by_way start script run journal broken replies began now new lane place request d.makes.event d.makes.answer d.left how turn.asked d.makes.lane_is d.makes.request_is s told d.went
+serves_by start script run journal broken replies began now new around after lane place request how ended s turn d reads firm =
+    by_way start script run journal broken replies began now new lane place request d.makes.event d.makes.answer d.left how turn.asked d.makes.lane_is d.makes.request_is s told d.went firm
   where
     halted : (i : ℕ) → HasReply replies i (reply.Refused refusal.Stopped) → new.stopped ≡ true
     halted i h = let e = s.halted i h in ap (λ (x : Seen). x.stopped) (d.ends.still e) ∙ e
@@ -632,7 +641,7 @@ serves_by start script run journal broken replies began now new around after lan
 
 -- The same, but for which steps are broken.
 pub serves_on : (start : Lists) (script : Requests) (run : Run) (journal : List JournalStep) (broken : Broken) (replies : List (Option Reply)) (began now new : Seen) (around after : Around) (lane place : ℕ) (request : Request) (how : Did) (ended : Option Reply) → Serves start script run journal broken replies began now
-    → IsTurn script journal replies lane place request → (d : DidEvent around after run lane place (map (λ s. s.answer) (steps_of place journal)) request (left_by start journal) now new how ended) → IfTold now.history ReadsImage
+    → IsTurn script journal replies lane place request → (d : DidEvent around after run lane place (map (λ s. s.answer) (steps_of place journal)) request (left_by start journal) now new how ended) → IfTold now.history ReadsImage → (new.stopped ≡ false → StaysFirm now new)
     → (next : Broken) × Serves start script (and_then run d.makes.event) (journal ++ steps_made run request d.makes.event d.makes.answer d.left) next replies began new
     × (WouldDo script start run journal broken → WouldDo script start (and_then run d.makes.event) (journal ++ steps_made run request d.makes.event d.makes.answer d.left) next)
-serves_on start script run journal broken replies began now new around after lane place request how ended s turn d reads = let s = serves_by start script run journal broken replies began now new around after lane place request how ended s turn d reads in (s.0, s.1, s.2)
+serves_on start script run journal broken replies began now new around after lane place request how ended s turn d reads firm = let s = serves_by start script run journal broken replies began now new around after lane place request how ended s turn d reads firm in (s.0, s.1, s.2)

@@ -144,7 +144,7 @@ leaves_none None later lists settled = absurd settled
 leaves_none (Some old) later lists settled = each_image-begins (λ _ image. Safe image lists ⊎ Safe image later) (Some old) (λ moment image is. inl (settled_safe old.now lists image settled is))
 
 pub nothing : (lists : Lists) (seen : Seen) → Leads lists lists seen seen
-nothing lists seen = record { stops = leaves_none seen.history lists lists; settled = λ s. s }
+nothing lists seen = record { stops = λ s. leaves_none seen.history lists lists s.0; settled = λ s. s.0 }
 
 one_given : (a b : Reply) → Some a ≡ Some b → a ≡ b
 one_given a b e = cc e

@@ -26,7 +26,7 @@ use Rattle.journal.specs.Makes.{HasCome, steps_made}
 use Rattle.mdbox_base.specs.declared.progress.Did.{Did}
 use Rattle.mdbox_base.specs.declared.progress.Did.TheVariants as did
 use Rattle.task_steps.proofs.UnmovedLemmas.{mail_still}
-use Rattle.task_steps.specs.Step.{Seen, ShowsSeen, HasComeTo, Went, and_told, DidEvent}
+use Rattle.task_steps.specs.Step.{IsFirmAt, Seen, ShowsSeen, HasComeTo, Went, and_told, DidEvent}
 use Rattle.task_steps.specs.Serves.{IsReached, Serves, IsTurn}
 
 one_test : {X : Type 0} → (p : X → Bool) (x : X) (b : Bool) → p x ≡ b → filter p (x ∷ []) ≡ cond b (x ∷ []) []
@@ -165,6 +165,7 @@ reply_on start script run journal broken next replies given_also began now new a
   stopped_by = t.stopped_by;
   unrefused = t.unrefused;
   settled = t.settled;
+  firm = t.firm;
   mail = t.mail;
   reads = t.reads;
   changes = t.changes;
@@ -222,8 +223,8 @@ none_there events n event empty there = none_at n event (sym (ap (λ (es : List 
 
 -- A store that isn't stopped serves from the lists that it shows, before any event.
 pub serves_start : (start : Lists) (script : Requests) (run : Run) (replies : List (Option Reply)) (now : Seen) → run.events ≡ [] → HasComeTo run now → ShowsSeen now start → now.stopped ≡ false
-    → ((i : ℕ) (given : Reply) → HasReply replies i given → ⊥) → count_by is_read_fault replies ≡ 0 → Serves start script run [] no_broken replies now now
-serves_start start script run replies now empty come shows runs none faultless = record {
+    → ((i : ℕ) (given : Reply) → HasReply replies i given → ⊥) → count_by is_read_fault replies ≡ 0 → IsFirmAt start now → Serves start script run [] no_broken replies now now
+serves_start start script run replies now empty come shows runs none faultless firm = record {
   legal = legal_start start script run replies now.faults empty none faultless;
   begins = record { map_is = at_start.map_is; drawn_is = at_start.drawn_is; moments = All-nil _ };
   come = come;
@@ -237,6 +238,7 @@ serves_start start script run replies now empty come shows runs none faultless =
   stopped_by = λ e. absurd (fall now.stopped e runs);
   unrefused = λ e. subst (λ (es : List RunEvent). All (λ event. event.refused ≢ Some refusal.Stopped) es) (sym empty) (All-nil _);
   settled = λ e at. at;
+  firm = λ e at. firm at;
   mail = λ none. mail_still now.map now.history;
   reads = subst (λ (es : List RunEvent). RoseBy (count_by is_faulted es) now.faults.reads now.faults.reads) (sym empty) (omega arith);
   changes = omega arith;

@@ -2,7 +2,8 @@
 use Rattle.journal.specs.Events.{is_faulted, Around}
 use Rattle.std.specs.Prelude.{◌≡◌, ◌≢◌, ◌≤◌, ◌<◌, ◌+◌, ℕ, count_by, Bool, true, false, List, [], All, Option, Some, None, length, slice_get, take}
 use Rattle.std.specs.List.{list_any}
-use Rattle.disk_model.specs.Disk.{Files, DiskState, History, EachImage, state_at}
+use Rattle.disk_model.specs.Disk.{Files, DiskState, History, EachImage, IfTold, state_at}
+use Rattle.store_core.specs.StoreInstances.{AreInstancesFirm}
 use Rattle.mdbox_base.specs.Streams.{Rose}
 use Rattle.mdbox_base.specs.declared.entries.MapEntry.{MapEntry}
 use Rattle.mdbox_base.specs.declared.entries.MapEntry.TheVariants as map_entry
@@ -59,7 +60,7 @@ AreTimely start run journal history = (n : ℕ) (event : RunEvent) (state : Disk
 -- come to the store, which shows what the journal left; a store that is stopped replied so, and no other. Of a disk that was
 -- settled at the start each image since is safe for lists that are reached, and at the moment of each event before the store
 -- stopped it was settled for what the steps up to it left; unless the store is stopped, no step is broken, no event was refused
--- as by one that is, and the disk is settled for the present lists. Broken steps are those of the append that stopped the store.
+-- as by one that is, the disk is settled for the present lists, and a record that is made may name each known instance. Broken steps are those of the append that stopped the store.
 -- Until an event moves or drops records, storage files and instances have at each moment what the map needed at the start, of a
 -- damaged store too.
 pub record Serves (start : Lists) (script : Requests) (run : Run) (journal : List JournalStep) (broken : Broken) (replies : List (Option Reply)) (began now : Seen) : Type 0 where
@@ -76,6 +77,7 @@ pub record Serves (start : Lists) (script : Requests) (run : Run) (journal : Lis
   pub stopped_by : now.stopped ≡ true → NoneStopped run.events → ⊥
   pub unrefused : now.stopped ≡ false → NoneStopped run.events
   pub settled : now.stopped ≡ false → IsSettledFor start began.history → IsSettledFor (left_by start journal) now.history
+  pub firm : now.stopped ≡ false → IsSettledFor start began.history → IfTold now.history (AreInstancesFirm now.known now.map)
   pub mail : NoneMoved run.events → MailIsKept began.map began.history now.history
   pub reads : RoseBy (count_by is_faulted run.events) began.faults.reads now.faults.reads
   pub changes : began.faults.changes ≤ now.faults.changes

@@ -22,7 +22,9 @@ use Rattle.journal.specs.Journal.{half_of, halves_of, IsReplyOf}
 use Rattle.journal.specs.Events.{Around, begun_in, ended_in}
 use Rattle.journal.specs.Found.{AgreesWithRun, is_known_file, is_taken, is_same_instance, is_known_instance}
 use Rattle.journal.specs.Makes.{HasCome, WouldMake, Makes}
-use Rattle.disk_model.specs.Disk.{told_calls, Grows}
+use Rattle.disk_model.specs.Disk.{told_calls, Between, Grows, IfTold}
+use Rattle.sis_store.specs.declared.instance.KnownInstance.{KnownInstance}
+use Rattle.store_core.specs.StoreInstances.{AreInstancesFirm}
 use Rattle.model_store.specs.Settled.{Leaves}
 use Rattle.model_store.specs.Settled.{IsSettledFor}
 use Rattle.mdbox_base.specs.declared.progress.Did.{Did}
@@ -35,8 +37,8 @@ use Rattle.mdbox_base.specs.declared.progress.Progress.TheVariants as progress
 -- What is seen of a store: what its map and the logs of its mailboxes mean, the numbers drawn, what its disk tells, the
 -- faults counted, and whether it is stopped. Then what it keeps of its tasks: how much is due of each record, how many pins
 -- each file has, which files are doomed, which are no new ones, that it may have doomed or removed, and which may have been
--- barred; the GUIDs that it may have given; the instances that it may have removed; the files that it knows to be there, and the
--- instances that are.
+-- barred; the GUIDs that it may have given; the instances that it may have removed; the files that it knows to be there, the
+-- instances that are, and which are known with who holds them.
 pub record Seen : Type 0 where
   pub map : MapMeaning
   pub meanings : List BoxMeaning
@@ -53,6 +55,7 @@ pub record Seen : Type 0 where
   pub gone : InstRow → Bool
   pub files : ℕ → Bool
   pub instances : InstRow → Bool
+  pub known : List KnownInstance
 
 -- it shows the lists, which are well formed
 abbrev pub ShowsSeen : Seen → Lists → Type 0
@@ -97,14 +100,26 @@ pub record HasComeTo (run : Run) (seen : Seen) : Type 0 where
 
 -- ---- the disk
 
--- Of a settled disk each image at every moment is safe for the lists before or for those behind.
+-- The disk is settled for these lists, and a record that is made may name each instance that is known.
+abbrev pub IsSettledIn : Lists → Seen → Type 0
+IsSettledIn lists seen = IsSettledFor lists seen.history × IfTold seen.history (AreInstancesFirm seen.known seen.map)
+
+-- If the disk is settled for these lists, a record that is made may name each instance that is known.
+abbrev pub IsFirmAt : Lists → Seen → Type 0
+IsFirmAt lists seen = IsSettledFor lists seen.history → IfTold seen.history (AreInstancesFirm seen.known seen.map)
+
+-- Where a record may name each that is known, it may afterwards.
+abbrev pub StaysFirm : Seen → Seen → Type 0
+StaysFirm old new = Between (λ a b. AreInstancesFirm old.known old.map a → AreInstancesFirm new.known new.map b) old.history new.history
+
+-- Of a disk that is so settled each image at every moment is safe for the lists before or for those behind.
 abbrev pub Stops : Lists → Lists → Seen → Seen → Type 0
-Stops lists left old new = IsSettledFor lists old.history → Leaves lists left old.history new.history
+Stops lists left old new = IsSettledIn lists old → Leaves lists left old.history new.history
 
 -- It is so, and afterwards the disk is settled for the lists behind.
 pub record Leads (lists left : Lists) (old new : Seen) : Type 0 where
   pub stops : Stops lists left old new
-  pub settled : IsSettledFor lists old.history → IsSettledFor left new.history
+  pub settled : IsSettledIn lists old → IsSettledFor left new.history
 
 -- A change of the disk failed in this event, which stopped the store.
 pub record Fell (event : RunEvent) (answer : Option Reply) (old new : Seen) : Type 0 where

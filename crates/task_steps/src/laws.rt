@@ -26,7 +26,7 @@ ghost use Rattle.journal.specs.Stages.{Stage, ToRemove, ToLower, removal};
 ghost use Rattle.task_steps.specs.ExpungeStages.{StandsAtStage, one_due, behind_box, behind_lowering};
 ghost use Rattle.mdbox_base.specs.declared.progress.Did.TheVariants as did;
 ghost use Rattle.mdbox_base.specs.declared.script.Half.TheVariants as half;
-ghost use Rattle.task_steps.specs.Step.{Seen, ShowsSeen, was_given, was_used, HasComeTo, Leads, and_told, GivesNew, DidEvent, IsKept, HasNotBegun};
+ghost use Rattle.task_steps.specs.Step.{IsFirmAt, StaysFirm, Seen, ShowsSeen, was_given, was_used, HasComeTo, Leads, and_told, GivesNew, DidEvent, IsKept, HasNotBegun};
 ghost use Rattle.task_steps.specs.Tells.{LeavesFiles, TellsSame};
 ghost use Rattle.task_steps.specs.Serves.{Serves, IsTurn, Follows};
 ghost use Rattle.mdbox_base.specs.declared.progress.Did.{Did};
@@ -34,9 +34,9 @@ ghost use Rattle.mdbox_base.specs.declared.progress.Did.{Did};
 /// A run of events goes on with one more, whatever task it is of.
 pub fn events_go_on()
     ensures start { (start : Lists) (script : Requests) (run : Run) (replies : List (Option Reply)) (now : Seen) → run.events ≡ [] → HasComeTo run now → ShowsSeen now start → now.stopped ≡ false
-        → ((i : ℕ) (given : Reply) → HasReply replies i given → ⊥) → count_by is_read_fault replies ≡ 0 → Serves start script run [] no_broken replies now now }
+        → ((i : ℕ) (given : Reply) → HasReply replies i given → ⊥) → count_by is_read_fault replies ≡ 0 → IsFirmAt start now → Serves start script run [] no_broken replies now now }
     ensures on { (start : Lists) (script : Requests) (run : Run) (journal : List JournalStep) (broken : Broken) (replies : List (Option Reply)) (began now new : Seen) (around after : Around) (lane place : ℕ) (request : Request) (how : Did) (ended : Option Reply) → Serves start script run journal broken replies began now
-        → IsTurn script journal replies lane place request → (d : DidEvent around after run lane place (map (λ s. s.answer) (steps_of place journal)) request (left_by start journal) now new how ended) → IfTold now.history (λ disk. IsImage disk (λ name. reading (disk name)))
+        → IsTurn script journal replies lane place request → (d : DidEvent around after run lane place (map (λ s. s.answer) (steps_of place journal)) request (left_by start journal) now new how ended) → IfTold now.history (λ disk. IsImage disk (λ name. reading (disk name))) → (new.stopped ≡ false → StaysFirm now new)
         → (next : Broken) × Serves start script (and_then run d.makes.event) (journal ++ steps_made run request d.makes.event d.makes.answer d.left) next replies began new
         × (WouldDo script start run journal broken → WouldDo script start (and_then run d.makes.event) (journal ++ steps_made run request d.makes.event d.makes.answer d.left) next) }
 

@@ -16,8 +16,8 @@ ghost use Rattle.model_store.specs.Settled.{IsSettledFor, Leaves};
 ghost use Rattle.store_core.specs.Append.{AddsText};
 ghost use Rattle.store_core.specs.Dues.{due_at, listed_at, leak_at, IsSpared, KeepsStored};
 ghost use Rattle.store_core.specs.Files.{LiesBelowEnd};
-ghost use Rattle.store_core.specs.Keeping.{KeepsMail};
-ghost use Rattle.store_core.specs.MapAppend.{IsAppendable, HasDrawnNumbers, FitsDue, HasRegion, NamesKnown, NamesFirst, IsReadyToStore, drawn_by, IsLongEntry, HasOctetIds, IsLaidOut, IsSpareCopy};
+ghost use Rattle.store_core.specs.Keeping.{KeepsFirm, KeepsMail};
+ghost use Rattle.store_core.specs.MapAppend.{IsAppendable, HasDrawnNumbers, FitsDue, HasRegion, NamesFirm, NamesKnown, NamesFirst, IsReadyToStore, drawn_by, IsLongEntry, HasOctetIds, IsLaidOut, IsSpareCopy};
 ghost use Rattle.store_core.specs.Value.{entry_room};
 ghost use Rattle.store_core.specs.declared.error.StepError.TheVariants as step_error;
 
@@ -81,10 +81,11 @@ impl<D: Disk> Store<D> {
         requires once { NamesFirst entry.now self.old.instances.known (D.history self.old.disk) }
 
         // Of a settled disk each image at every moment is safe for its lists, whichever call fails; and after Ok it is settled
-        // for them still. The region of a message that is stored has to be synced, and an own save to store its detached form.
-        ensures any_moment { (lists : Lists) → IsReadyToStore entry.now (D.history self.old.disk) → IsSettledFor lists (D.history self.old.disk) → Leaves lists lists (D.history self.old.disk) (D.history self.new.disk) }
+        // for them still. The region of a message that is stored has to be synced, an own save to store its detached form, and what
+        // it names to be such as may be named.
+        ensures any_moment { (lists : Lists) → IsReadyToStore entry.now (D.history self.old.disk) → NamesFirm entry.now self.old.map (D.history self.old.disk) → IsSettledFor lists (D.history self.old.disk) → Leaves lists lists (D.history self.old.disk) (D.history self.new.disk) }
         ensures mail_stays { (m : MapMeaning) → MailIsKept m (D.history self.old.disk) (D.history self.new.disk) }
-        ensures settled { OnOk result ((lists : Lists) → IsReadyToStore entry.now (D.history self.old.disk) → IsSettledFor lists (D.history self.old.disk) → IsSettledFor lists (D.history self.new.disk)) }
+        ensures settled { OnOk result ((lists : Lists) → IsReadyToStore entry.now (D.history self.old.disk) → NamesFirm entry.now self.old.map (D.history self.old.disk) → IsSettledFor lists (D.history self.old.disk) → IsSettledFor lists (D.history self.new.disk)) }
 
         // After Ok the map means what it did, with the entry, and so do what is due and what leaks. Mailboxes stay.
         ensures taken { OnOk result (self.new.map ≡ map_applied entry.now self.old.map) }
@@ -99,6 +100,7 @@ impl<D: Disk> Store<D> {
         ensures spared { OnOk result ((uid : ℕ) (row : MapRecord) → record_at self.old.map uid ≡ Some row → IsSpared uid row self.new (D.history self.old.disk) (D.history self.new.disk)) }
         ensures made { OnOk result (All (λ row. record_at self.new.map row.uid ≡ Some row) (record_made entry.now)) }
         ensures others { OnOk result (KeepsMail (D.history self.old.disk) (D.history self.new.disk)) }
+        ensures firm { OnOk result (KeepsFirm self.old self.new (D.history self.old.disk) (D.history self.new.disk)) }
 
         // The room of the map log never falls.
         ensures room { self.old.map_log.room ≤ self.new.map_log.room }

@@ -10,7 +10,7 @@ ghost use Rattle.model_store.specs.Settled.{IsSettledFor, Leaves};
 ghost use Rattle.sis_store.specs.Instances.{IsInstanceKnown, after_placing, candidate_in, holders_in, instance_past, next_id, with_holders, without_instance};
 ghost use Rattle.sis_store.specs.OnDisk.{IsUnlikeKnown, OnlyNamesSynced, file_of, next_instance_file, octets_read};
 ghost use Rattle.store_core.specs.Dues.{KeepsStored};
-ghost use Rattle.store_core.specs.Keeping.{KeepsInstances, MovesHolds, holds_of};
+ghost use Rattle.store_core.specs.Keeping.{KeepsFirm, KeepsInstances, MovesHolds, holds_of};
 ghost use Rattle.store_core.specs.PlaceStops.{IsPlaceStop};
 ghost use Rattle.store_core.specs.Removing.{KeepsStoredBeside, useless_past};
 ghost use Rattle.store_core.specs.StoreInstances.{IsFirstWith, with_placed};
@@ -191,6 +191,7 @@ impl<D: Disk> Store<D> {
         ensures gone { OnOk result (IfTold (D.history self.new.disk) (λ now. reading (now (file_of id self.old.instances.known)) ≡ None)) }
         ensures others { OnOk result (SameButFor (file_of id self.old.instances.known) (D.history self.old.disk) (D.history self.new.disk)) }
         ensures stored { OnOk result (KeepsStoredBeside id.0 (D.history self.old.disk) (D.history self.new.disk)) }
+        ensures firm { OnOk result (KeepsFirm self.old self.new (D.history self.old.disk) (D.history self.new.disk)) }
 
         ensures ok { OnOk result (self.new ≡ record self.old { disk = self.new.disk; instances = record self.old.instances { known = without_instance id self.old.instances.known } }) }
         ensures err { OnErr result (self.new ≡ record self.old { disk = self.new.disk; stopped = true }) }

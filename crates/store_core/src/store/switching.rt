@@ -16,8 +16,7 @@ ghost use Rattle.std.specs.Prelude.{slice_get};
 ghost use Rattle.storage_files.specs.Files.{changed_in, is_emptied_in, made_doomed, pins_in};
 ghost use Rattle.store_core.specs.Append.{AddsText};
 ghost use Rattle.store_core.specs.Dues.{due_at, leak_at, IsSpared, KeepsStored};
-ghost use Rattle.store_core.specs.Keeping.{KeepsMail};
-ghost use Rattle.store_core.specs.StoreInstances.{IsNamedOrFirm};
+ghost use Rattle.store_core.specs.Keeping.{KeepsFirm, KeepsMail};
 ghost use Rattle.store_core.specs.Switching.{Switches, PlacesLieBelow, HasCopies, HasCopiesSynced, dues_switched, dues_without};
 
 use super::Store;
@@ -29,16 +28,6 @@ use map_index::MapIndex;
 use mdbox_base::{FileNo, MapEntry, MapUid, NoMemory};
 
 impl<D: Disk> Store<D> {
-    /// Of a settled disk, each known instance may be named again once the entry has switched a file: what `switch_file` asks.
-    pub fn known_firm(&self, entry: &MapEntry)
-        requires running { self.now.stopped ≡ false }
-        requires switches { (number : ℕ) × Switches entry.now number }
-        ensures { (lists : Lists) → IsSettledFor lists (D.history self.now.disk) → IfTold (D.history self.now.disk) (λ now. All (IsNamedOrFirm (map_applied entry.now self.now.map) now) self.now.instances.known) }
-    {
-        let _ = &self.map;
-        let _ = entry;
-    }
-
     /// Switches a storage file that was taken to be emptied: an entry of the map log moves its records to where they were
     /// copied, and drops those with count 0; then the file is doomed. Answers whether it has no pin. The room for the entry was
     /// made before, and `text` is where it is laid out. A change of the disk that fails stops the store.
@@ -58,9 +47,6 @@ impl<D: Disk> Store<D> {
         requires places { PlacesLieBelow entry.now self.old.map self.old.files.files self.old.drawn.file }
         requires copies { HasCopies entry.now self.old.map (D.history self.old.disk) }
 
-        // An instance that no record names any more may be named again.
-        requires instances { IfTold (D.history self.old.disk) (λ now. All (IsNamedOrFirm (map_applied entry.now self.old.map) now) self.old.instances.known) }
-
         // Of a settled disk each image at every moment is safe for its lists, whichever call fails; and after Ok it is settled
         // for them still. What is moved has to be synced where it was copied to.
         ensures any_moment { (lists : Lists) → HasCopiesSynced entry.now self.old.map (D.history self.old.disk) → IsSettledFor lists (D.history self.old.disk) → Leaves lists lists (D.history self.old.disk) (D.history self.new.disk) }
@@ -78,6 +64,7 @@ impl<D: Disk> Store<D> {
         ensures stored { OnOk result (KeepsStored (D.history self.old.disk) (D.history self.new.disk)) }
         ensures spared { OnOk result ((uid : ℕ) (row : MapRecord) → record_at self.old.map uid ≡ Some row → 1 ≤ row.count → IsSpared uid row self.new (D.history self.old.disk) (D.history self.new.disk)) }
         ensures others { OnOk result (KeepsMail (D.history self.old.disk) (D.history self.new.disk)) }
+        ensures firm { OnOk result (KeepsFirm self.old self.new (D.history self.old.disk) (D.history self.new.disk)) }
 
         ensures unpinned { IfOk result (λ unpinned. unpinned ≡ (pins_in file.0 self.old.files.files == 0)) }
         ensures laid { text.new ≡ map_text entry.now }

@@ -1,7 +1,5 @@
 use Rattle.std.proofs.Common.{◌≤◌, ◌+◌, [], length, drop, get_or, refl, arith}
-use Rattle.disk_model.proofs.BetweenLemmas.{between-begins}
 use Rattle.mdbox_base.specs.declared.entries.InstRow.{InstRow}
-use Rattle.store_core.specs.Keeping.{ReadsInstances}
 use Rattle.save_instances.proofs.LetGoLemmas.{same_more}
 use Rattle.mail_fetch.specs.Claims.{held_for}
 use Rattle.mail_fetch.proofs.HoldLemmas.{held_all, held_more, holds_all, holds_more, next_has_room, next_is_known}
@@ -13,7 +11,7 @@ none = record { hash = record { 0 = [] }; id = record { 0 = [] }; size = 0 }
 pub loop-row-init : goal.loop-row-init
 loop-row-init g c = record {
   moves = λ id. refl;
-  keeps = c.instances_are_kept.ensures.same c.args.store.now c.args.store.now (g.D.Disk.history c.args.store.now.disk) (g.D.Disk.history c.args.store.now.disk) refl (between-begins ReadsInstances (g.D.Disk.history c.args.store.now.disk) (λ disk hash id. refl));
+  keeps = c.instances_are_kept.ensures.none c.args.store.now (g.D.Disk.history c.args.store.now.disk);
   same = refl;
   known = refl;
 }

@@ -23,7 +23,7 @@ returns-in-Ok-clause-raised g c =
       keeps = keeps_row _ c.args.store.now c.args.name.now c.args.uid.0 at.source c.in_ok-held.held.0 (row_of c.in_ok-at.at.row) c.facts.ensures.store at.from holds;
       took = record {
         appends = record {
-          moments = λ lists s. o.any_moment lists tt s;
+          moments = λ lists s. o.any_moment lists tt tt s;
           indexes = ap (λ v. indexes_of v.boxes) o.same;
           mailboxes = o.mailboxes;
           drawn = o.drawn;
@@ -36,7 +36,7 @@ returns-in-Ok-clause-raised g c =
           changes = o.fault.changes;
         };
         runs = not_true _ (λ e. ok_is_none _ (o.stopped.1 e));
-        settled = λ lists s. o.settled lists tt s;
+        settled = λ lists s. o.settled lists tt tt s;
         fits = rw c.in_ok-held.ensures (raise_fits _ c.args.store.now c.args.name.now c.args.uid.0 at.source (row_of c.in_ok-at.at.row) c.facts.ensures.store at.from (omega (arith, c.count_of.ensures, c.if-count_of-ge-MOST_COPIES.false)));
         taken = rw c.in_ok-held.ensures o.taken;
         due = rw c.in_ok-held.ensures o.due;

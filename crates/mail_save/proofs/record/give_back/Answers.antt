@@ -1,12 +1,12 @@
 use Rattle.std.proofs.Common.{refl, sym, subst}
 use Rattle.mdbox_base.specs.declared.entries.MapEntry.{MapEntry}
-use Rattle.store_core.specs.MapAppend.{IsReadyToStore}
+use Rattle.store_core.specs.MapAppend.{IsReadyToStore, NamesFirm}
 use Rattle.mail_save.proofs.StoringLemmas.{left_alone, lowers_record}
 use Rattle.mail_save.proofs.MailFileLemmas.{mail_kept}
 use Rattle.mail_save.proofs.record.give_back.Goals as goal
 
 pub returns-in-Ok-clause-settled : goal.returns-in-Ok-clause-settled
-returns-in-Ok-clause-settled g c = λ lists s. c.in-Ok.ensures.settled lists (subst (λ (e : MapEntry). IsReadyToStore e (g.D.Disk.history c.args.store.now.disk)) (sym c.entry_of.ensures) tt) s
+returns-in-Ok-clause-settled g c = λ lists s. c.in-Ok.ensures.settled lists (subst (λ (e : MapEntry). IsReadyToStore e (g.D.Disk.history c.args.store.now.disk)) (sym c.entry_of.ensures) tt) (subst (λ (e : MapEntry). NamesFirm e c.args.store.now.map (g.D.Disk.history c.args.store.now.disk)) (sym c.entry_of.ensures) tt) s
 
 pub returns-in-Ok-clause-lowers : goal.returns-in-Ok-clause-lowers
 returns-in-Ok-clause-lowers g c =

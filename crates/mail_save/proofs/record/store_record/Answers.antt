@@ -9,13 +9,13 @@ use Rattle.mail_save.proofs.StayingLemmas.{kept_same}
 use Rattle.mail_save.proofs.PlaceLemmas.{unchanged_leaves, unchanged_settled}
 use Rattle.mail_save.proofs.RecordLemmas.{rows_in_range, file_drawn, guid_drawn, record_fits, record_below, record_lies, ready_as}
 use Rattle.mail_save.proofs.SaveEventLemmas.{uids_full, unfallen}
-use Rattle.mail_save.proofs.StoringLemmas.{gives_back, left_alone, spared_as, stores_placed}
+use Rattle.mail_save.proofs.StoringLemmas.{gives_back, left_alone, released_firm, spared_as, stores_placed}
 use Rattle.mail_save.specs.SaveEffects.{AreSpared, saved_row}
 use Rattle.mail_save.proofs.record.store_record.Goals.{in-Ok, in-Err-Stopped, in-Err-NoMemory}
 use Rattle.mail_save.proofs.record.store_record.Goals as goal
 
 pub returns-in_default-clause-any_moment : goal.returns-in_default-clause-any_moment
-returns-in_default-clause-any_moment g c = λ lists ready s. unchanged_leaves g.D.Disk.history c.args.store.now.disk c.release.new.self.disk (ap (λ v. v.disk) c.release.ensures.same) lists lists s
+returns-in_default-clause-any_moment g c = λ lists ready named s. unchanged_leaves g.D.Disk.history c.args.store.now.disk c.release.new.self.disk (ap (λ v. v.disk) c.release.ensures.same) lists lists s
 
 pub append_map-requires-clause-fits : goal.append_map-requires-clause-fits
 append_map-requires-clause-fits g c =
@@ -54,18 +54,18 @@ append_map-requires-clause-range g c =
 -- ---- by how the append went
 
 pub returns-clause-any_moment : goal.returns-clause-any_moment
-returns-clause-any_moment g c = λ lists ready s.
+returns-clause-any_moment g c = λ lists ready named s.
     let at_next = ready_as c.args.rows c.in-Some.uid c.args.at _ _ c.in-Some.ensures.some.0 ready in
     elim c.match-append_map.branch [
       | in-Ok w ↦
           subst (λ d. Leaves lists lists (g.D.Disk.history c.args.store.now.disk) (g.D.Disk.history d)) (ap (λ v. v.disk) (sym (w.store-is ∙ w.release-in-Ok.ensures.same)))
-          (c.append_map.ensures.any_moment lists at_next s)
+          (c.append_map.ensures.any_moment lists at_next named s)
       | in-Err-Stopped w ↦
           subst (λ d. Leaves lists lists (g.D.Disk.history c.args.store.now.disk) (g.D.Disk.history d)) (ap (λ v. v.disk) (sym w.store-is))
-          (c.append_map.ensures.any_moment lists at_next s)
+          (c.append_map.ensures.any_moment lists at_next named s)
       | in-Err-NoMemory w ↦
           subst (λ d. Leaves lists lists (g.D.Disk.history c.args.store.now.disk) (g.D.Disk.history d)) (ap (λ v. v.disk) (sym (w.store-is ∙ w.release-in-Err-NoMemory.ensures.same)))
-          (c.append_map.ensures.any_moment lists at_next s)
+          (c.append_map.ensures.any_moment lists at_next named s)
     ]
 
 pub returns-clause-stores : goal.returns-clause-stores
@@ -91,6 +91,14 @@ returns-clause-spared g c = elim c.match-append_map.branch [
   | in-Err-NoMemory w ↦ rw w.stored-is tt
 ]
 
+pub returns-clause-firm : goal.returns-clause-firm
+returns-clause-firm g c = elim c.match-append_map.branch [
+  | in-Ok w ↦
+      rw (w.stored-is, w.store-is) (released_firm g.D.Disk.history c.args.at.file.0 c.args.store.now c.append_map.new.self w.release-in-Ok.new.self w.release-in-Ok.ensures.same w.in-Ok.ensures.firm)
+  | in-Err-Stopped w ↦ rw w.stored-is tt
+  | in-Err-NoMemory w ↦ rw w.stored-is tt
+]
+
 pub returns-clause-none : goal.returns-clause-none
 returns-clause-none g c = elim c.match-append_map.branch [
   | in-Ok w ↦ rw w.stored-is tt
@@ -105,11 +113,11 @@ returns-clause-none g c = elim c.match-append_map.branch [
 pub returns-clause-settled : goal.returns-clause-settled
 returns-clause-settled g c = elim c.match-append_map.branch [
   | in-Ok w ↦
-      rw w.store-is (λ ran lists ready s.
+      rw w.store-is (λ ran lists ready named s.
       subst (λ d. IsSettledFor lists (g.D.Disk.history d)) (ap (λ v. v.disk) (sym w.release-in-Ok.ensures.same))
-      (w.in-Ok.ensures.settled lists (ready_as c.args.rows c.in-Some.uid c.args.at _ _ c.in-Some.ensures.some.0 ready) s))
+      (w.in-Ok.ensures.settled lists (ready_as c.args.rows c.in-Some.uid c.args.at _ _ c.in-Some.ensures.some.0 ready) named s))
   | in-Err-Stopped w ↦ rw w.store-is (λ ran. absurd (unfallen c.append_map.new.self.stopped (w.in-Err-Stopped.ensures.stopped.0 (ap Err w.in-Err-Stopped.field-0-is)) ran))
-  | in-Err-NoMemory w ↦ rw w.store-is (λ ran lists ready s.
+  | in-Err-NoMemory w ↦ rw w.store-is (λ ran lists ready named s.
       unchanged_settled g.D.Disk.history c.args.store.now.disk w.release-in-Err-NoMemory.new.self.disk (ap (λ v. v.disk) w.release-in-Err-NoMemory.ensures.same ∙ ap (λ v. v.disk) (w.in-Err-NoMemory.ensures.memory (ap Err w.in-Err-NoMemory.field-0-is)).0) lists s)
 ]
 

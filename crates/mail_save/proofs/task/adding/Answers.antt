@@ -36,7 +36,7 @@ returns-in-Ok g c = λ size.
       moves = λ ran. one_less c.args.added.map_uid (save_amounts (stage.Adding c.args.added c.args.room)) (save_amounts stage.Ended) c.args.store.now c.add_message.new.store (λ uid. refl) (λ uid. refl) c.requires.left.1 (λ uid. o.due o.uid.1.mailbox uid o.uid.1.named);
       stopped = saved_runs _ _ c.add_message.new.store.stopped runs;
       holds = moves_same (λ id. 0) c.args.store.now c.add_message.new.store (ap (λ v. v.instances) o.same);
-      instances = λ ran. same_keeps c.args.store.now c.add_message.new.store _ _ (ap (λ v. v.instances) o.same) o.mail;
+      instances = λ ran. same_keeps c.args.store.now c.add_message.new.store _ _ (ap (λ v. v.instances) o.same) (ap (λ v. v.map) o.same) o.mail;
       faults = o.unfailed runs;
       grows = o.grows;
     }
@@ -90,7 +90,7 @@ returns-else-stopped g c = λ size.
       moves = λ ran. nothing_moves (save_amounts (stage.Adding c.args.added c.args.room)) (save_amounts (stage.GivingBack c.args.added.map_uid c.in-Err.why c.args.room)) c.args.store.now c.add_message.new.store (λ uid. refl) (λ uid. ap (λ v. due_at uid v) same);
       stopped = more_runs c.add_message.new.store.stopped runs;
       holds = moves_same (λ id. 0) c.args.store.now c.add_message.new.store (ap (λ v. v.instances) o.same);
-      instances = λ ran. same_keeps c.args.store.now c.add_message.new.store _ _ (ap (λ v. v.instances) o.same) (mail_unchanged g.D.Disk.history c.args.store.now.disk c.add_message.new.store.disk (ap (λ v. v.disk) same));
+      instances = λ ran. same_keeps c.args.store.now c.add_message.new.store _ _ (ap (λ v. v.instances) o.same) (ap (λ v. v.map) o.same) (mail_unchanged g.D.Disk.history c.args.store.now.disk c.add_message.new.store.disk (ap (λ v. v.disk) same));
       faults = o.unfailed runs;
       grows = o.grows;
     }

@@ -4,7 +4,7 @@ use Rattle.mail_save.specs.Task.{Saves}
 use Rattle.mail_save.specs.declared.task.SaveStage.TheVariants as stage
 use Rattle.mail_save.proofs.SaveEventLemmas.{done_goes_on, faults_by, gives_quietly, is_false, never_stops, never_true, refused_stops, unfallen}
 use Rattle.mail_save.proofs.FaultLemmas.{calm_faults}
-use Rattle.mail_save.proofs.HeldInstanceLemmas.{same_keeps}
+use Rattle.mail_save.proofs.HeldInstanceLemmas.{logged_keeps}
 use Rattle.mail_save.proofs.HeldLemmas.{one_less}
 use Rattle.mail_save.proofs.LettingLemmas.{moves_same}
 use Rattle.mail_save.specs.Held.{save_amounts}
@@ -32,7 +32,7 @@ returns-in-Ok g c = λ name time size.
       moves = λ ran. one_less c.args.uid (save_amounts (stage.GivingBack c.args.uid c.args.why c.args.room)) (save_amounts stage.Ended) c.args.store.now c.give_back.new.store (λ uid. refl) (λ uid. refl) c.requires.due o.lowers.due;
       stopped = refused_stops c.args.why c.give_back.new.store.stopped (never_stops c.args.why c.give_back.new.store.stopped runs c.requires.why);
       holds = moves_same (λ id. 0) c.args.store.now c.give_back.new.store (ap (λ v. v.instances) o.lowers.same);
-      instances = λ ran. same_keeps c.args.store.now c.give_back.new.store _ _ (ap (λ v. v.instances) o.lowers.same) o.mail;
+      instances = λ ran. logged_keeps c.args.store.now c.give_back.new.store _ _ (ap (λ v. v.instances) o.lowers.same) o.firm o.mail;
       faults = calm_faults c.args.why _ _ c.requires.unread c.requires.why o.unfailed;
       grows = o.grows;
     })

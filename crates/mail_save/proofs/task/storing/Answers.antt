@@ -7,9 +7,9 @@ use Rattle.mdbox_base.specs.declared.replies.Reply.TheVariants as reply
 use Rattle.model_meaning.specs.MapMeaning.{record_at}
 use Rattle.save_instances.specs.Attaching.{AreHeld}
 use Rattle.store_core.specs.Dues.{due_at}
-use Rattle.store_core.specs.Keeping.{MovesHolds, holds_of}
+use Rattle.store_core.specs.Keeping.{KeepsFirm, MovesHolds, holds_of}
 use Rattle.mail_save.proofs.FaultLemmas.{change_faults}
-use Rattle.mail_save.proofs.HeldInstanceLemmas.{held_same, same_keeps}
+use Rattle.mail_save.proofs.HeldInstanceLemmas.{held_same, logged_keeps, same_keeps}
 use Rattle.mail_save.proofs.HeldLemmas.{nothing_moves, one_more, unstored_due}
 use Rattle.mail_save.proofs.LettingLemmas.{keeps_let_go, moves_same, moves_then, saves_let_go}
 use Rattle.mail_save.proofs.MailFileLemmas.{unstored_mail}
@@ -46,6 +46,7 @@ returns-in-Ok g c =
     let added : Added = record { map_uid = c.in-Ok.map_uid; guid = c.args.at.guid; time = c.args.time; size = c.args.size } in
     let made : StoresPlaced c.args.at rows c.args.time c.args.size added old left = (rw c.in-Ok.is at o.stores) c.args.time c.args.size in
     let mail : ReadsSameMail before after = rw c.in-Ok.is at o.mail in
+    let firm : KeepsFirm old left before after = rw c.in-Ok.is at o.firm in
     let spared : AreSpared old left before after = rw c.in-Ok.is at o.spared in
     let runs = is_false left.stopped (λ e. ok_apart _ _ (sym c.in-Ok.is ∙ o.stopped.1 e)) in
     let found = c.as_slice.ensures ∙ o.rows in
@@ -67,7 +68,7 @@ returns-in-Ok g c =
       others = storing_keeps c.args.at rows c.args.time c.args.size c.args.room added old left c.requires.left.0 made;
       moves = λ ran. one_more c.in-Ok.map_uid (save_amounts (stage.Storing c.args.at rows c.args.room)) (save_amounts (stage.Adding added c.args.room)) old left (λ uid. refl) (λ uid. refl) made.due;
       holds = moves_then (holds_of rows) (holds_of rows) (λ id. 0) old left new (moves_same (holds_of rows) old left kept) (subst (λ (is : List InstRow). MovesHolds (holds_of is) (λ id. 0) left new) found c.let_go_all.ensures.moves);
-      instances = λ ran. keeps_let_go g.D.Disk.history rows old left new same c.let_go_all.ensures.keeps (same_keeps old left before after kept mail);
+      instances = λ ran. keeps_let_go g.D.Disk.history rows old left new same c.let_go_all.ensures.keeps (logged_keeps old left before after kept firm mail);
       stopped = more_runs left.stopped runs;
       faults = o.unfailed runs;
       grows = o.grows;
@@ -108,7 +109,7 @@ returns-in-Err g c =
       holds = moves_then (holds_of rows) (holds_of rows) (λ id. 0) old left new (moves_same (holds_of rows) old left kept) (subst (λ (is : List InstRow). MovesHolds (holds_of is) (λ id. 0) left new) found c.let_go_all.ensures.moves);
       instances = λ ran.
           keeps_let_go g.D.Disk.history rows old left new same c.let_go_all.ensures.keeps
-          (same_keeps old left before after kept (unstored_mail g.D.Disk.history c.args.at why old left none (λ e. unfallen left.stopped (fell e) (sym (ap (λ v. v.stopped) same) ∙ ran))));
+          (same_keeps old left before after kept (unstored_map c.args.at why old left none) (unstored_mail g.D.Disk.history c.args.at why old left none (λ e. unfallen left.stopped (fell e) (sym (ap (λ v. v.stopped) same) ∙ ran))));
       stopped = refused_stops why left.stopped (record { 0 = fell; 1 = stops });
       faults = change_faults why _ _ _ (unstored_unread old.drawn.map why refused) (λ e. c.in-Err.is ∙ ap Err e) o.fault (λ calm. o.unfailed (is_false left.stopped (λ s. calm (stops s))));
       grows = o.grows;

@@ -57,7 +57,7 @@ returns-in-Ok g c = λ size.
     let runs = is_false new.stopped (λ e. ok_apart _ _ (o.stopped.1 e)) in
     let long : length c.region.result.now ≡ length c.args.parts.laid.region = ap length c.region.ensures in
     let same = ap (λ v. v.instances) o.same in
-    let keeps = taken_keeps c.as_slice.result.now c.in-Ok.file.0 old new before after same o.mail in
+    let keeps = taken_keeps c.as_slice.result.now c.in-Ok.file.0 old new before after same (ap (λ v. v.map) o.same) o.mail in
     subst (λ l. Saves (stage.Taking c.args.parts) l.next c.args.name.now c.args.time size l.answer l.did old new before after (g.D.Disk.faults old.disk) (g.D.Disk.faults new.disk)) (sym c.goes_on.ensures) (record {
       replies = tt;
       did_is = refl;
@@ -109,7 +109,7 @@ returns-in-Err g c = λ size.
       holds = moves_then (holds_of c.args.parts.rows) (holds_of c.args.parts.rows) (λ id. 0) old left new (moves_same (holds_of c.args.parts.rows) old left kept) (subst (λ (rows : List InstRow). MovesHolds (holds_of rows) (λ id. 0) left new) c.as_slice-in-Err.ensures c.let_go_all.ensures.moves);
       instances = λ ran.
           keeps_let_go g.D.Disk.history c.args.parts.rows old left new same c.let_go_all.ensures.keeps
-          (same_keeps old left _ _ kept (untaken_mail g.D.Disk.history _ c.in-Err.why old left none (λ e. unfallen left.stopped (o.stopped.0 (ap Err e)) (sym (ap (λ v. v.stopped) same) ∙ ran))));
+          (same_keeps old left _ _ kept (ap (λ v. v.map) o.same) (untaken_mail g.D.Disk.history _ c.in-Err.why old left none (λ e. unfallen left.stopped (o.stopped.0 (ap Err e)) (sym (ap (λ v. v.stopped) same) ∙ ran))));
       stopped = stop;
       faults = change_faults c.in-Err.why _ _ _ (untaken_unread _ c.in-Err.why old left none) (λ e. ap Err e) o.fault (λ calm. o.unfailed (is_false left.stopped (λ s. calm (one_error _ _ (o.stopped.1 s)))));
       grows = o.grows;

@@ -1,8 +1,12 @@
 use Rattle.std.proofs.Common.{sym, ap, subst}
 use Rattle.mdbox_base.specs.declared.requests.Request.TheVariants as request
+use Rattle.store_core.proofs.InstanceFirmLemmas.{named_all_firm}
 use Rattle.mdbox_top.specs.Alone.{IsDoneAlone}
 use Rattle.mdbox_top.proofs.DeliverLemmas.{deliver_done}
 use Rattle.mdbox_top.proofs.deliver.save_alone.Goals as goal
+
+pub save_message-reply-requires-clause-firm : goal.save_message-reply-requires-clause-firm
+save_message-reply-requires-clause-firm g c = λ lists settled. named_all_firm c.in-Ok.store (g.D.Disk.history c.in-Ok.store.disk) lists c.facts.ensures.store c.facts.ensures.instances c.in-Ok.ensures.state.1 (g.met.D.Disk.reads_image c.in-Ok.store.disk) c.in-Ok.ensures.instances.only settled
 
 pub returns-in-Ok-clause-done : goal.returns-in-Ok-clause-done
 returns-in-Ok-clause-done g c = λ octets small form.
@@ -14,6 +18,7 @@ returns-in-Ok-clause-done g c = λ octets small form.
       opened = record {
         opened = o.opened;
         store = c.facts.ensures.store;
+        known = c.facts.ensures.instances;
         drawn = o.state.3;
         free = o.state.4;
         order = c.facts.ensures.files;

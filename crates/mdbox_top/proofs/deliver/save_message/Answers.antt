@@ -16,7 +16,7 @@ loop-reply-init g c =
       running = c.requires.running;
       left = rw c.of-task.ensures (form, λ (id : InstId). let none = none_held c.args.store.now c.requires.unheld id in let few = c.attachments_are_few.ensures form.0 c.args.prepared form.1 form.2 in omega (arith, none, few));
       ready = rw c.of-task.ensures (λ octets small is. ((is.whole, small), is));
-      so_far = rw c.of-task.ensures (λ octets small is. saving_begins g.D.Disk.history g.D.Disk.faults c.args.name c.args.time octets c.args.prepared c.args.store.now is c.requires.running);
+      so_far = rw c.of-task.ensures (λ octets small is. saving_begins g.D.Disk.history g.D.Disk.faults c.args.name c.args.time octets c.args.prepared c.args.store.now is c.requires.running c.requires.firm);
     }
 
 pub loop-reply-preserved : goal.loop-reply-preserved
@@ -36,7 +36,7 @@ loop-reply-preserved g c =
           let parts = c.ready_saves_have_parts.ensures c.loop-reply.task.stage c.loop-reply.task.name c.loop-reply.task.time c.loop-reply.task.size octets c.loop-reply.store (g.D.Disk.history c.loop-reply.store.disk) ready in
           save_goes_on g.D.Disk.history g.D.Disk.faults c.args.name c.args.time c.loop-reply.task.size octets c.args.prepared c.args.store.now c.loop-reply.store c.step.new.store c.loop-reply.task.stage c.step.new.self.stage c.step.new.self.did c.step.result c.in_default.is (now.so_far octets small is)
           (save_said_of g.D.Disk.history g.D.Disk.faults c.args.name c.loop-reply.task.name c.args.time c.loop-reply.task.time c.loop-reply.task.size octets c.loop-reply.task.stage c.step.new.self.stage c.loop-reply.store c.step.new.store c.step.new.self.did c.step.result now.name_is now.time_is
-          (record { is = c.facts.ensures.store; reads = g.met.D.Disk.reads_image c.loop-reply.store.disk; ready = ready; had = now.left; moments = step.moments octets ready; settled = λ runs. step.settled runs octets ready; says = step.saves; does = step.does octets (λ file. 0) _ parts (λ runs. ready) }));
+          (record { is = c.facts.ensures.store; reads = g.met.D.Disk.reads_image c.loop-reply.store.disk; firm = λ runs. (step.leaves runs).firm; ready = ready; had = now.left; moments = step.moments octets ready; settled = λ runs. step.settled runs octets ready; says = step.saves; does = step.does octets (λ file. 0) _ parts (λ runs. ready) }));
     }
 
 pub returns-in-Done : goal.returns-in-Done
@@ -47,7 +47,7 @@ returns-in-Done g c = λ octets small is.
     let parts = c.ready_saves_have_parts.ensures c.loop-reply.task.stage c.loop-reply.task.name c.loop-reply.task.time c.loop-reply.task.size octets c.loop-reply.store (g.D.Disk.history c.loop-reply.store.disk) ready in
     save_ends g.D.Disk.history g.D.Disk.faults c.args.name c.args.time c.loop-reply.task.size octets c.args.prepared c.args.store.now c.loop-reply.store c.step.new.store c.loop-reply.task.stage c.step.new.self.stage c.step.new.self.did c.step.result c.in-Done.reply c.in-Done.is (now.so_far octets small is)
     (save_said_of g.D.Disk.history g.D.Disk.faults c.args.name c.loop-reply.task.name c.args.time c.loop-reply.task.time c.loop-reply.task.size octets c.loop-reply.task.stage c.step.new.self.stage c.loop-reply.store c.step.new.store c.step.new.self.did c.step.result now.name_is now.time_is
-    (record { is = c.facts.ensures.store; reads = g.met.D.Disk.reads_image c.loop-reply.store.disk; ready = ready; had = now.left; moments = step.moments octets ready; settled = λ runs. step.settled runs octets ready; says = step.saves; does = step.does octets (λ file. 0) _ parts (λ runs. ready) }))
+    (record { is = c.facts.ensures.store; reads = g.met.D.Disk.reads_image c.loop-reply.store.disk; firm = λ runs. (step.leaves runs).firm; ready = ready; had = now.left; moments = step.moments octets ready; settled = λ runs. step.settled runs octets ready; says = step.saves; does = step.does octets (λ file. 0) _ parts (λ runs. ready) }))
     c.facts-in-Done.ensures.store c.facts-in-Done.ensures.instances
 
 pub loop-reply-smaller : goal.loop-reply-smaller

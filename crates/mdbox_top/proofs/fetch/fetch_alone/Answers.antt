@@ -26,6 +26,7 @@ returns-in-Ok-clause-done g c =
       opened = record {
         opened = o.opened;
         store = c.facts.ensures.store;
+        known = c.facts.ensures.instances;
         drawn = o.state.3;
         free = o.state.4;
         order = c.facts.ensures.files;

@@ -28,7 +28,7 @@ loop-reply-preserved g c =
     let step = c.step.ensures in
     let runs = runs_on c.args.store.now c.loop-reply.store now.same c.requires.running in
     let event = event_of g.D.Disk.history g.D.Disk.faults c.args.name c.args.uid c.args.store.now c.loop-reply.store c.step.new.store c.loop-reply.task c.step.new.self c.step.result now.name_is now.uid_is now.same
-    (record { reads = g.met.D.Disk.reads_image c.loop-reply.store.disk; does = λ around after. step.does around after (λ runs. unpins_undoomed c.loop-reply.task.stage c.loop-reply.store now.undoomed); alone = step.alone }) in
+    (record { reads = g.met.D.Disk.reads_image c.loop-reply.store.disk; does = λ around after. step.does around after (λ runs. unpins_undoomed c.loop-reply.task.stage c.loop-reply.store now.undoomed); firm = λ runs. (step.leaves runs).firm.stays; alone = step.alone }) in
     let same = still_first c.args.store.now c.loop-reply.store c.step.new.store c.loop-reply.task.stage c.step.new.self.stage now.same step.alone.same in
     record {
       name_is = step.request.0 ∙ now.name_is;
@@ -49,7 +49,7 @@ returns-in-Done-clause-refused g c =
     let step = c.step.ensures in
     let same = still_first c.args.store.now c.loop-reply.store c.step.new.store c.loop-reply.task.stage c.step.new.self.stage now.same step.alone.same in
     let event = event_of g.D.Disk.history g.D.Disk.faults c.args.name c.args.uid c.args.store.now c.loop-reply.store c.step.new.store c.loop-reply.task c.step.new.self c.step.result now.name_is now.uid_is now.same
-    (record { reads = g.met.D.Disk.reads_image c.loop-reply.store.disk; does = λ around after. step.does around after (λ runs. unpins_undoomed c.loop-reply.task.stage c.loop-reply.store now.undoomed); alone = step.alone }) in
+    (record { reads = g.met.D.Disk.reads_image c.loop-reply.store.disk; does = λ around after. step.does around after (λ runs. unpins_undoomed c.loop-reply.task.stage c.loop-reply.store now.undoomed); firm = λ runs. (step.leaves runs).firm.stays; alone = step.alone }) in
     let said = said_at_end g.D.Disk.history g.D.Disk.faults c.args.name c.args.uid c.args.store.now c.loop-reply.store c.step.new.store c.loop-reply.task.stage c.step.new.self.stage c.step.new.self.did c.step.result c.in-Done.reply c.in-Done.is c.requires.running now.so_far event
     (subst (λ v. IsStore (g.D.Disk.history c.loop-reply.store.disk) v) now.same c.facts.ensures.store) (subst (λ v. IsStore (g.D.Disk.history c.step.new.store.disk) v) same c.facts-in-Done.ensures.store) in
     said.refused
@@ -60,7 +60,7 @@ returns-in-Done-clause-found g c =
     let step = c.step.ensures in
     let same = still_first c.args.store.now c.loop-reply.store c.step.new.store c.loop-reply.task.stage c.step.new.self.stage now.same step.alone.same in
     let event = event_of g.D.Disk.history g.D.Disk.faults c.args.name c.args.uid c.args.store.now c.loop-reply.store c.step.new.store c.loop-reply.task c.step.new.self c.step.result now.name_is now.uid_is now.same
-    (record { reads = g.met.D.Disk.reads_image c.loop-reply.store.disk; does = λ around after. step.does around after (λ runs. unpins_undoomed c.loop-reply.task.stage c.loop-reply.store now.undoomed); alone = step.alone }) in
+    (record { reads = g.met.D.Disk.reads_image c.loop-reply.store.disk; does = λ around after. step.does around after (λ runs. unpins_undoomed c.loop-reply.task.stage c.loop-reply.store now.undoomed); firm = λ runs. (step.leaves runs).firm.stays; alone = step.alone }) in
     let said = said_at_end g.D.Disk.history g.D.Disk.faults c.args.name c.args.uid c.args.store.now c.loop-reply.store c.step.new.store c.loop-reply.task.stage c.step.new.self.stage c.step.new.self.did c.step.result c.in-Done.reply c.in-Done.is c.requires.running now.so_far event
     (subst (λ v. IsStore (g.D.Disk.history c.loop-reply.store.disk) v) now.same c.facts.ensures.store) (subst (λ v. IsStore (g.D.Disk.history c.step.new.store.disk) v) same c.facts-in-Done.ensures.store) in
     said.found
@@ -71,7 +71,7 @@ returns-in-Done-clause-served g c =
     let step = c.step.ensures in
     let same = still_first c.args.store.now c.loop-reply.store c.step.new.store c.loop-reply.task.stage c.step.new.self.stage now.same step.alone.same in
     let event = event_of g.D.Disk.history g.D.Disk.faults c.args.name c.args.uid c.args.store.now c.loop-reply.store c.step.new.store c.loop-reply.task c.step.new.self c.step.result now.name_is now.uid_is now.same
-    (record { reads = g.met.D.Disk.reads_image c.loop-reply.store.disk; does = λ around after. step.does around after (λ runs. unpins_undoomed c.loop-reply.task.stage c.loop-reply.store now.undoomed); alone = step.alone }) in
+    (record { reads = g.met.D.Disk.reads_image c.loop-reply.store.disk; does = λ around after. step.does around after (λ runs. unpins_undoomed c.loop-reply.task.stage c.loop-reply.store now.undoomed); firm = λ runs. (step.leaves runs).firm.stays; alone = step.alone }) in
     let said = said_at_end g.D.Disk.history g.D.Disk.faults c.args.name c.args.uid c.args.store.now c.loop-reply.store c.step.new.store c.loop-reply.task.stage c.step.new.self.stage c.step.new.self.did c.step.result c.in-Done.reply c.in-Done.is c.requires.running now.so_far event
     (subst (λ v. IsStore (g.D.Disk.history c.loop-reply.store.disk) v) now.same c.facts.ensures.store) (subst (λ v. IsStore (g.D.Disk.history c.step.new.store.disk) v) same c.facts-in-Done.ensures.store) in
     said.served
@@ -82,7 +82,7 @@ returns-in-Done-clause-idle g c =
     let step = c.step.ensures in
     let same = still_first c.args.store.now c.loop-reply.store c.step.new.store c.loop-reply.task.stage c.step.new.self.stage now.same step.alone.same in
     let event = event_of g.D.Disk.history g.D.Disk.faults c.args.name c.args.uid c.args.store.now c.loop-reply.store c.step.new.store c.loop-reply.task c.step.new.self c.step.result now.name_is now.uid_is now.same
-    (record { reads = g.met.D.Disk.reads_image c.loop-reply.store.disk; does = λ around after. step.does around after (λ runs. unpins_undoomed c.loop-reply.task.stage c.loop-reply.store now.undoomed); alone = step.alone }) in
+    (record { reads = g.met.D.Disk.reads_image c.loop-reply.store.disk; does = λ around after. step.does around after (λ runs. unpins_undoomed c.loop-reply.task.stage c.loop-reply.store now.undoomed); firm = λ runs. (step.leaves runs).firm.stays; alone = step.alone }) in
     let said = said_at_end g.D.Disk.history g.D.Disk.faults c.args.name c.args.uid c.args.store.now c.loop-reply.store c.step.new.store c.loop-reply.task.stage c.step.new.self.stage c.step.new.self.did c.step.result c.in-Done.reply c.in-Done.is c.requires.running now.so_far event
     (subst (λ v. IsStore (g.D.Disk.history c.loop-reply.store.disk) v) now.same c.facts.ensures.store) (subst (λ v. IsStore (g.D.Disk.history c.step.new.store.disk) v) same c.facts-in-Done.ensures.store) in
     said.idle
@@ -93,7 +93,7 @@ returns-in-Done-clause-faults g c =
     let step = c.step.ensures in
     let same = still_first c.args.store.now c.loop-reply.store c.step.new.store c.loop-reply.task.stage c.step.new.self.stage now.same step.alone.same in
     let event = event_of g.D.Disk.history g.D.Disk.faults c.args.name c.args.uid c.args.store.now c.loop-reply.store c.step.new.store c.loop-reply.task c.step.new.self c.step.result now.name_is now.uid_is now.same
-    (record { reads = g.met.D.Disk.reads_image c.loop-reply.store.disk; does = λ around after. step.does around after (λ runs. unpins_undoomed c.loop-reply.task.stage c.loop-reply.store now.undoomed); alone = step.alone }) in
+    (record { reads = g.met.D.Disk.reads_image c.loop-reply.store.disk; does = λ around after. step.does around after (λ runs. unpins_undoomed c.loop-reply.task.stage c.loop-reply.store now.undoomed); firm = λ runs. (step.leaves runs).firm.stays; alone = step.alone }) in
     let said = said_at_end g.D.Disk.history g.D.Disk.faults c.args.name c.args.uid c.args.store.now c.loop-reply.store c.step.new.store c.loop-reply.task.stage c.step.new.self.stage c.step.new.self.did c.step.result c.in-Done.reply c.in-Done.is c.requires.running now.so_far event
     (subst (λ v. IsStore (g.D.Disk.history c.loop-reply.store.disk) v) now.same c.facts.ensures.store) (subst (λ v. IsStore (g.D.Disk.history c.step.new.store.disk) v) same c.facts-in-Done.ensures.store) in
     said.faults_are

@@ -14,7 +14,7 @@ loop-reply-preserved g c =
     let now = c.loop-reply.invariant in
     let step = c.step.ensures in
     let said = make_said_of g.D.Disk.history g.D.Disk.faults c.args.name c.loop-reply.task.name c.loop-reply.task.stage c.step.new.self.stage c.loop-reply.store c.step.new.store c.step.new.self.did c.step.result now.name_is
-    (record { event = record { does = λ around after. step.does around after (λ file. 0); moments = step.moments; settled = step.settled; mail = step.mail; reads = g.met.D.Disk.reads_image c.loop-reply.store.disk; stopped = step.stopped; fault = step.fault; unfailed = step.unfailed }; replies = step.replies }) in
+    (record { event = record { does = λ around after. step.does around after (λ file. 0); moments = step.moments; settled = step.settled; mail = step.mail; reads = g.met.D.Disk.reads_image c.loop-reply.store.disk; firm = λ runs. (step.leaves runs).firm.stays; stopped = step.stopped; fault = step.fault; unfailed = step.unfailed }; replies = step.replies }) in
     record {
       name_is = step.request ∙ now.name_is;
       ready = step.ready;
@@ -26,5 +26,5 @@ returns-in-Done g c =
     let now = c.loop-reply.invariant in
     let step = c.step.ensures in
     let said = make_said_of g.D.Disk.history g.D.Disk.faults c.args.name c.loop-reply.task.name c.loop-reply.task.stage c.step.new.self.stage c.loop-reply.store c.step.new.store c.step.new.self.did c.step.result now.name_is
-    (record { event = record { does = λ around after. step.does around after (λ file. 0); moments = step.moments; settled = step.settled; mail = step.mail; reads = g.met.D.Disk.reads_image c.loop-reply.store.disk; stopped = step.stopped; fault = step.fault; unfailed = step.unfailed }; replies = step.replies }) in
+    (record { event = record { does = λ around after. step.does around after (λ file. 0); moments = step.moments; settled = step.settled; mail = step.mail; reads = g.met.D.Disk.reads_image c.loop-reply.store.disk; firm = λ runs. (step.leaves runs).firm.stays; stopped = step.stopped; fault = step.fault; unfailed = step.unfailed }; replies = step.replies }) in
     make_ends g.D.Disk.history g.D.Disk.faults c.args.name c.args.store.now c.loop-reply.store c.step.new.store c.loop-reply.task.stage c.step.new.self.stage c.step.new.self.did c.step.result c.in-Done.reply c.in-Done.is now.so_far said c.facts.ensures.store

@@ -16,7 +16,7 @@ loop-reply-preserved g c =
     let now = c.loop-reply.invariant in
     let step = c.step.ensures in
     let said = move_said_of g.D.Disk.history g.D.Disk.faults c.args.name c.loop-reply.task.name c.args.uid c.loop-reply.task.uid c.args.target c.loop-reply.task.target c.loop-reply.task.stage c.step.new.self.stage c.loop-reply.store c.step.new.store c.step.new.self.did c.step.result now.name_is now.uid_is now.target_is
-    (record { event = record { does = λ around after. step.does around after (λ file. 0); moments = step.moments; settled = step.settled; mail = step.mail; reads = g.met.D.Disk.reads_image c.loop-reply.store.disk; stopped = step.stopped; fault = step.fault; unfailed = step.unfailed }; replies = step.replies }) in
+    (record { event = record { does = λ around after. step.does around after (λ file. 0); moments = step.moments; settled = step.settled; mail = step.mail; reads = g.met.D.Disk.reads_image c.loop-reply.store.disk; firm = λ runs. (step.leaves runs).firm.stays; stopped = step.stopped; fault = step.fault; unfailed = step.unfailed }; replies = step.replies }) in
     record {
       name_is = step.request.0 ∙ now.name_is;
       uid_is = step.request.1 ∙ now.uid_is;
@@ -30,5 +30,5 @@ returns-in-Done g c =
     let now = c.loop-reply.invariant in
     let step = c.step.ensures in
     let said = move_said_of g.D.Disk.history g.D.Disk.faults c.args.name c.loop-reply.task.name c.args.uid c.loop-reply.task.uid c.args.target c.loop-reply.task.target c.loop-reply.task.stage c.step.new.self.stage c.loop-reply.store c.step.new.store c.step.new.self.did c.step.result now.name_is now.uid_is now.target_is
-    (record { event = record { does = λ around after. step.does around after (λ file. 0); moments = step.moments; settled = step.settled; mail = step.mail; reads = g.met.D.Disk.reads_image c.loop-reply.store.disk; stopped = step.stopped; fault = step.fault; unfailed = step.unfailed }; replies = step.replies }) in
+    (record { event = record { does = λ around after. step.does around after (λ file. 0); moments = step.moments; settled = step.settled; mail = step.mail; reads = g.met.D.Disk.reads_image c.loop-reply.store.disk; firm = λ runs. (step.leaves runs).firm.stays; stopped = step.stopped; fault = step.fault; unfailed = step.unfailed }; replies = step.replies }) in
     move_ends g.D.Disk.history g.D.Disk.faults c.args.name c.args.uid c.args.target c.args.store.now c.loop-reply.store c.step.new.store c.loop-reply.task.stage c.step.new.self.stage c.step.new.self.did c.step.result c.in-Done.reply c.in-Done.is now.so_far said c.facts.ensures.store

@@ -1,8 +1,6 @@
 use Rattle.std.proofs.Common.{◌≤◌, ◌+◌, [], length, drop, get_or, refl, arith}
-use Rattle.disk_model.proofs.BetweenLemmas.{between-begins}
 use Rattle.mdbox_base.specs.declared.entries.InstRow.{InstRow}
 use Rattle.save_instances.specs.Attaching.{found_let_go}
-use Rattle.store_core.specs.Keeping.{ReadsInstances}
 use Rattle.save_instances.proofs.LetGoLemmas.{known_all, known_more, moves_all, moves_more, next_is_held, same_more}
 use Rattle.save_instances.proofs.letting_go.let_go_all.Goals as goal
 
@@ -12,7 +10,7 @@ none = record { hash = record { 0 = [] }; id = record { 0 = [] }; size = 0 }
 pub loop-row-init : goal.loop-row-init
 loop-row-init g c = record {
   moves = λ id. refl;
-  keeps = c.instances_are_kept.ensures.same c.args.store.now c.args.store.now (g.D.Disk.history c.args.store.now.disk) (g.D.Disk.history c.args.store.now.disk) refl (between-begins ReadsInstances (g.D.Disk.history c.args.store.now.disk) (λ disk hash id. refl));
+  keeps = c.instances_are_kept.ensures.none c.args.store.now (g.D.Disk.history c.args.store.now.disk);
   same = refl;
   known = refl;
 }

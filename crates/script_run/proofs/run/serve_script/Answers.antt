@@ -42,6 +42,7 @@ returns-in-Ok-open_store-clause-served g c =
     let opened : OpenedNow (history c.args.disk) (history s.disk) s = record {
       opened = o.opened;
       store = c.facts.ensures.store;
+      known = c.facts.ensures.instances;
       drawn = o.state.3;
       free = o.state.4;
       order = c.facts.ensures.files;

@@ -1,4 +1,4 @@
-use Rattle.store_core.proofs.InstanceKeepingLemmas.{found_kept, kept_both, kept_same}
+use Rattle.store_core.proofs.InstanceKeepingLemmas.{found_kept, kept_both, kept_none, kept_same}
 use Rattle.store_core.proofs.laws.instances_are_kept.Goals as goal
 
 pub returns-clause-same : goal.returns-clause-same
@@ -9,3 +9,6 @@ returns-clause-both g c = kept_both
 
 pub returns-clause-found : goal.returns-clause-found
 returns-clause-found g c = found_kept
+
+pub returns-clause-none : goal.returns-clause-none
+returns-clause-none g c = kept_none

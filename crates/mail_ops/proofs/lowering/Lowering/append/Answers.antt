@@ -1,7 +1,7 @@
 use Rattle.std.proofs.Common.{◌∙◌, ap, sym, subst, arith}
 use Rattle.mdbox_base.specs.declared.entries.MapEntry.{MapEntry}
 use Rattle.model_logs.specs.Entries.{MapInRange}
-use Rattle.store_core.specs.MapAppend.{IsReadyToStore, drawn_by}
+use Rattle.store_core.specs.MapAppend.{IsReadyToStore, NamesFirm, drawn_by}
 use Rattle.store_core.specs.Value.{indexes_of}
 use Rattle.task_steps.proofs.OneEventLemmas.{not_true, ok_is_none}
 use Rattle.model_meaning.specs.MapFits.{MapFits}
@@ -16,10 +16,11 @@ pub returns-in-Ok : goal.returns-in-Ok
 returns-in-Ok g c =
     let is = c.self.invariant.0 ∙ ap lowering_of c.self.view_is in
     let synced = subst (λ (e : MapEntry). IsReadyToStore e (g.D.Disk.history c.args.store.now.disk)) (sym c.self.invariant.0) tt in
+    let named = subst (λ (e : MapEntry). NamesFirm e c.args.store.now.map (g.D.Disk.history c.args.store.now.disk)) (sym c.self.invariant.0) tt in
     let o = c.in-Ok.ensures in
     subst (λ (e : MapEntry). MapTook e c.args.store.now c.append_map.new.self (g.D.Disk.history c.args.store.now.disk) (g.D.Disk.history c.append_map.new.self.disk) (g.D.Disk.faults c.args.store.now.disk) (g.D.Disk.faults c.append_map.new.self.disk)) is (record {
       appends = record {
-        moments = λ lists s. o.any_moment lists synced s;
+        moments = λ lists s. o.any_moment lists synced named s;
         indexes = ap (λ v. indexes_of v.boxes) o.same;
         mailboxes = o.mailboxes;
         drawn = o.drawn ∙ ap (λ (e : MapEntry). drawn_by e c.args.store.now.drawn) c.self.invariant.0;
@@ -32,7 +33,7 @@ returns-in-Ok g c =
         changes = o.fault.changes;
       };
       runs = not_true _ (λ e. ok_is_none _ (o.stopped.1 e));
-      settled = λ lists s. o.settled lists synced s;
+      settled = λ lists s. o.settled lists synced named s;
       fits = subst (λ (e : MapEntry). MapFits c.args.store.now.map e) (sym is) (one_lowered_fits c.args.store.now.map _ (c.known_dues.ensures _ c.requires.due));
       taken = o.taken;
       due = o.due;

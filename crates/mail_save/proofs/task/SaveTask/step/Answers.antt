@@ -40,7 +40,7 @@ returns-clause-does g c = λ octets pins after parts ready.
     seen_does pins g.D.Disk.history g.D.Disk.faults _ c.args.self.now c.replace-now.result _ octets _ _ c.args.store.now c.next_event-next.new.store c.self.view_is c.replace-now.ensures.value known timed ran (c.requires.left ran) parts (ready ran) c.next_event-next.ensures after
 
 pub returns-then-stopped-clause-moments : goal.returns-then-stopped-clause-moments
-returns-then-stopped-clause-moments g c = λ octets ready lists at. leaves_none _ lists _ at
+returns-then-stopped-clause-moments g c = λ octets ready lists at. leaves_none _ lists _ at.0
 
 pub returns-then-stopped-clause-settled : goal.returns-then-stopped-clause-settled
 returns-then-stopped-clause-settled g c = λ ran octets ready lists at. absurd (unfallen c.args.store.now.stopped (sym c.stopped.ensures ∙ c.if-stopped.true) ran)

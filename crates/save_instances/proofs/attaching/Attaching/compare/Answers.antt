@@ -52,3 +52,7 @@ returns-else-alike-clause-attaching g c =
     let drawn : c.args.store.now.instances.highest ≡ c.last_instance-self-inside.result = sym (c.last_instance-self-inside.ensures ∙ ap (λ (i : InstancesValue). i.highest) same) in
     subst (λ (n : ℕ). IsAttaching (record { parts = c.self.inside.parts; found = c.self.inside.found.items; after = Some c.args.candidate.id; drawn = n }) c.same_octets.new.self (H c.same_octets.new.self.disk)) drawn
     (subst (λ (v : AttachingValue). IsAttaching (record { parts = v.parts; found = v.found; after = Some c.args.candidate.id; drawn = c.args.store.now.instances.highest }) c.same_octets.new.self (H c.same_octets.new.self.disk)) (sym c.self.view_is) on)
+
+pub returns-then-alike-clause-keeps : goal.returns-then-alike-clause-keeps
+returns-then-alike-clause-keeps g c =
+    c.instances_are_kept.ensures.both c.args.store.now c.same_octets.new.self c.hold.new.self (g.D.Disk.history c.args.store.now.disk) (g.D.Disk.history c.same_octets.new.self.disk) (g.D.Disk.history c.hold.new.self.disk) c.same_octets.ensures.keeps c.hold.ensures.keeps

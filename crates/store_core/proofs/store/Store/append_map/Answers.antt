@@ -8,14 +8,14 @@ use Rattle.model_store.specs.Settled.{files_of, IsSettledFor, Leaves}
 use Rattle.model_store.specs.Stands.{StoresMessage}
 use Rattle.store_core.specs.Dues.{KeepsStored}
 use Rattle.store_core.specs.Keeping.{KeepsMail}
-use Rattle.store_core.specs.MapAppend.{HasRegion, NamesKnown, NamesFirst, IsReadyToStore}
+use Rattle.store_core.specs.MapAppend.{HasRegion, NamesFirm, NamesKnown, NamesFirst, IsReadyToStore}
 use Rattle.store_core.proofs.BoxCrashLemmas.{leaves_none}
 use Rattle.store_core.proofs.KeptMailLemmas.{mail_mapped}
 use Rattle.store_core.proofs.MapAppendLemmas.{readied, seen_prepared, store_after, room_after, read_with, size_with, room_to_rise, due_seen, leak_seen, made_with}
 use Rattle.store_core.proofs.MapCrashLemmas.{leaves_with, settled_with, stored_with, still_stored}
 use Rattle.store_core.proofs.MapDueLemmas.{adds, mailboxes_stay, found_with}
 use Rattle.store_core.proofs.MadePlaceLemmas.{made_with_entry}
-use Rattle.store_core.proofs.KnownInstanceLemmas.{instances_with}
+use Rattle.store_core.proofs.KnownInstanceLemmas.{firm_seen, firm_with, instances_with}
 use Rattle.model_kept.specs.Kept.{MailIsKept}
 use Rattle.model_kept.proofs.KeptLemmas.{kept_begins}
 use Rattle.store_core.proofs.MailStayLemmas.{map_log_kept}
@@ -41,26 +41,26 @@ invariant_of-self-in-Ok g c = (
 
 pub returns-in_err-text-clause-any_moment : goal.returns-in_err-text-clause-any_moment
 returns-in_err-text-clause-any_moment g c =
-    subst (λ v. (lists : Lists) → IsReadyToStore c.args.entry.now (g.D.Disk.history v.disk) → IsSettledFor lists (g.D.Disk.history v.disk) → Leaves lists lists (g.D.Disk.history v.disk) (g.D.Disk.history c.self.inside.disk)) c.self.view_is
-    (λ lists synced settled. leaves_none _ lists lists settled)
+    subst (λ v. (lists : Lists) → IsReadyToStore c.args.entry.now (g.D.Disk.history v.disk) → NamesFirm c.args.entry.now v.map (g.D.Disk.history v.disk) → IsSettledFor lists (g.D.Disk.history v.disk) → Leaves lists lists (g.D.Disk.history v.disk) (g.D.Disk.history c.self.inside.disk)) c.self.view_is
+    (λ lists synced firm settled. leaves_none _ lists lists settled)
 
 pub returns-in-Ok-clause-any_moment : goal.returns-in-Ok-clause-any_moment
 returns-in-Ok-clause-any_moment g c =
-    subst (λ v. (lists : Lists) → IsReadyToStore c.args.entry.now (g.D.Disk.history v.disk) → IsSettledFor lists (g.D.Disk.history v.disk) → Leaves lists lists (g.D.Disk.history v.disk) (g.D.Disk.history c.append_entry.new.disk)) c.self.view_is
-    (leaves_with _ _ _ c.args.entry.now (readied _ _ c.args.self.now c.take_room.new.log c.take_room.new.map.meaning c.take_room.new.dues.items c.args.entry.now c.self.invariant.1 c.self.view_is c.take_room.ensures.log c.take_room.ensures.map c.take_room.ensures.dues c.requires.running c.requires.range c.requires.kind c.requires.fits c.requires.drawn c.requires.due c.requires.below (subst (λ v. HasRegion c.args.entry.now (g.D.Disk.history v.disk)) (sym c.self.view_is) c.requires.region) c.self.invariant.4 c.known_facts.ensures c.requires.instances (subst (λ v. NamesFirst c.args.entry.now c.args.self.now.instances.known (g.D.Disk.history v.disk)) (sym c.self.view_is) c.requires.once) c.in_ok-text.ensures.ids) (g.met.D.Disk.reads_image c.self.inside.disk) c.append_entry.ensures.any_moment)
+    subst (λ v. (lists : Lists) → IsReadyToStore c.args.entry.now (g.D.Disk.history v.disk) → NamesFirm c.args.entry.now v.map (g.D.Disk.history v.disk) → IsSettledFor lists (g.D.Disk.history v.disk) → Leaves lists lists (g.D.Disk.history v.disk) (g.D.Disk.history c.append_entry.new.disk)) c.self.view_is
+    (λ lists synced firm settled. leaves_with _ _ _ c.args.entry.now (readied _ _ c.args.self.now c.take_room.new.log c.take_room.new.map.meaning c.take_room.new.dues.items c.args.entry.now c.self.invariant.1 c.self.view_is c.take_room.ensures.log c.take_room.ensures.map c.take_room.ensures.dues c.requires.running c.requires.range c.requires.kind c.requires.fits c.requires.drawn c.requires.due c.requires.below (subst (λ v. HasRegion c.args.entry.now (g.D.Disk.history v.disk)) (sym c.self.view_is) c.requires.region) c.self.invariant.4 c.known_facts.ensures c.requires.instances (subst (λ v. NamesFirst c.args.entry.now c.args.self.now.instances.known (g.D.Disk.history v.disk)) (sym c.self.view_is) c.requires.once) c.in_ok-text.ensures.ids) (g.met.D.Disk.reads_image c.self.inside.disk) c.append_entry.ensures.any_moment lists synced (subst (λ m. NamesFirm c.args.entry.now m (g.D.Disk.history c.self.inside.disk)) (sym c.take_room.ensures.map) firm) settled)
 
 pub returns-in-Err-clause-any_moment : goal.returns-in-Err-clause-any_moment
 returns-in-Err-clause-any_moment g c =
-    let left : (lists : Lists) → IsReadyToStore c.args.entry.now (g.D.Disk.history c.args.self.now.disk) → IsSettledFor lists (g.D.Disk.history c.args.self.now.disk) → Leaves lists lists (g.D.Disk.history c.args.self.now.disk) (g.D.Disk.history c.append_entry.new.disk) =
-    subst (λ v. (lists : Lists) → IsReadyToStore c.args.entry.now (g.D.Disk.history v.disk) → IsSettledFor lists (g.D.Disk.history v.disk) → Leaves lists lists (g.D.Disk.history v.disk) (g.D.Disk.history c.append_entry.new.disk)) c.self.view_is
-    (leaves_with _ _ _ c.args.entry.now (readied _ _ c.args.self.now c.take_room.new.log c.take_room.new.map.meaning c.take_room.new.dues.items c.args.entry.now c.self.invariant.1 c.self.view_is c.take_room.ensures.log c.take_room.ensures.map c.take_room.ensures.dues c.requires.running c.requires.range c.requires.kind c.requires.fits c.requires.drawn c.requires.due c.requires.below (subst (λ v. HasRegion c.args.entry.now (g.D.Disk.history v.disk)) (sym c.self.view_is) c.requires.region) c.self.invariant.4 c.known_facts.ensures c.requires.instances (subst (λ v. NamesFirst c.args.entry.now c.args.self.now.instances.known (g.D.Disk.history v.disk)) (sym c.self.view_is) c.requires.once) c.in_ok-text.ensures.ids) (g.met.D.Disk.reads_image c.self.inside.disk) c.append_entry.ensures.any_moment) in
+    let left : (lists : Lists) → IsReadyToStore c.args.entry.now (g.D.Disk.history c.args.self.now.disk) → NamesFirm c.args.entry.now c.args.self.now.map (g.D.Disk.history c.args.self.now.disk) → IsSettledFor lists (g.D.Disk.history c.args.self.now.disk) → Leaves lists lists (g.D.Disk.history c.args.self.now.disk) (g.D.Disk.history c.append_entry.new.disk) =
+    subst (λ v. (lists : Lists) → IsReadyToStore c.args.entry.now (g.D.Disk.history v.disk) → NamesFirm c.args.entry.now v.map (g.D.Disk.history v.disk) → IsSettledFor lists (g.D.Disk.history v.disk) → Leaves lists lists (g.D.Disk.history v.disk) (g.D.Disk.history c.append_entry.new.disk)) c.self.view_is
+    (λ lists synced firm settled. leaves_with _ _ _ c.args.entry.now (readied _ _ c.args.self.now c.take_room.new.log c.take_room.new.map.meaning c.take_room.new.dues.items c.args.entry.now c.self.invariant.1 c.self.view_is c.take_room.ensures.log c.take_room.ensures.map c.take_room.ensures.dues c.requires.running c.requires.range c.requires.kind c.requires.fits c.requires.drawn c.requires.due c.requires.below (subst (λ v. HasRegion c.args.entry.now (g.D.Disk.history v.disk)) (sym c.self.view_is) c.requires.region) c.self.invariant.4 c.known_facts.ensures c.requires.instances (subst (λ v. NamesFirst c.args.entry.now c.args.self.now.instances.known (g.D.Disk.history v.disk)) (sym c.self.view_is) c.requires.once) c.in_ok-text.ensures.ids) (g.met.D.Disk.reads_image c.self.inside.disk) c.append_entry.ensures.any_moment lists synced (subst (λ m. NamesFirm c.args.entry.now m (g.D.Disk.history c.self.inside.disk)) (sym c.take_room.ensures.map) firm) settled) in
     let same : c.match-copy.self.disk ≡ c.append_entry.new.disk = search rules in
-    subst (λ d. (lists : Lists) → IsReadyToStore c.args.entry.now (g.D.Disk.history c.args.self.now.disk) → IsSettledFor lists (g.D.Disk.history c.args.self.now.disk) → Leaves lists lists (g.D.Disk.history c.args.self.now.disk) (g.D.Disk.history d)) (sym same) left
+    subst (λ d. (lists : Lists) → IsReadyToStore c.args.entry.now (g.D.Disk.history c.args.self.now.disk) → NamesFirm c.args.entry.now c.args.self.now.map (g.D.Disk.history c.args.self.now.disk) → IsSettledFor lists (g.D.Disk.history c.args.self.now.disk) → Leaves lists lists (g.D.Disk.history c.args.self.now.disk) (g.D.Disk.history d)) (sym same) left
 
 pub returns-in-Ok-clause-settled : goal.returns-in-Ok-clause-settled
 returns-in-Ok-clause-settled g c =
-    subst (λ v. (lists : Lists) → IsReadyToStore c.args.entry.now (g.D.Disk.history v.disk) → IsSettledFor lists (g.D.Disk.history v.disk) → IsSettledFor lists (g.D.Disk.history c.append_entry.new.disk)) c.self.view_is
-    (settled_with _ _ _ c.append_entry.new.log c.args.entry.now (readied _ _ c.args.self.now c.take_room.new.log c.take_room.new.map.meaning c.take_room.new.dues.items c.args.entry.now c.self.invariant.1 c.self.view_is c.take_room.ensures.log c.take_room.ensures.map c.take_room.ensures.dues c.requires.running c.requires.range c.requires.kind c.requires.fits c.requires.drawn c.requires.due c.requires.below (subst (λ v. HasRegion c.args.entry.now (g.D.Disk.history v.disk)) (sym c.self.view_is) c.requires.region) c.self.invariant.4 c.known_facts.ensures c.requires.instances (subst (λ v. NamesFirst c.args.entry.now c.args.self.now.instances.known (g.D.Disk.history v.disk)) (sym c.self.view_is) c.requires.once) c.in_ok-text.ensures.ids) (g.met.D.Disk.reads_image c.self.inside.disk) c.in-Ok.ensures.log c.in-Ok.ensures.others c.in-Ok.ensures.held)
+    subst (λ v. (lists : Lists) → IsReadyToStore c.args.entry.now (g.D.Disk.history v.disk) → NamesFirm c.args.entry.now v.map (g.D.Disk.history v.disk) → IsSettledFor lists (g.D.Disk.history v.disk) → IsSettledFor lists (g.D.Disk.history c.append_entry.new.disk)) c.self.view_is
+    (λ lists synced firm settled. settled_with _ _ _ c.append_entry.new.log c.args.entry.now (readied _ _ c.args.self.now c.take_room.new.log c.take_room.new.map.meaning c.take_room.new.dues.items c.args.entry.now c.self.invariant.1 c.self.view_is c.take_room.ensures.log c.take_room.ensures.map c.take_room.ensures.dues c.requires.running c.requires.range c.requires.kind c.requires.fits c.requires.drawn c.requires.due c.requires.below (subst (λ v. HasRegion c.args.entry.now (g.D.Disk.history v.disk)) (sym c.self.view_is) c.requires.region) c.self.invariant.4 c.known_facts.ensures c.requires.instances (subst (λ v. NamesFirst c.args.entry.now c.args.self.now.instances.known (g.D.Disk.history v.disk)) (sym c.self.view_is) c.requires.once) c.in_ok-text.ensures.ids) (g.met.D.Disk.reads_image c.self.inside.disk) c.in-Ok.ensures.log c.in-Ok.ensures.others c.in-Ok.ensures.held lists synced (subst (λ m. NamesFirm c.args.entry.now m (g.D.Disk.history c.self.inside.disk)) (sym c.take_room.ensures.map) firm) settled)
 
 pub returns-in-Ok-clause-due : goal.returns-in-Ok-clause-due
 returns-in-Ok-clause-due g c = λ uid. due_seen _ _ c.args.self.now _ c.args.entry.now c.take_in.new.map.meaning c.change_dues.new.dues.items uid (readied _ _ c.args.self.now c.take_room.new.log c.take_room.new.map.meaning c.take_room.new.dues.items c.args.entry.now c.self.invariant.1 c.self.view_is c.take_room.ensures.log c.take_room.ensures.map c.take_room.ensures.dues c.requires.running c.requires.range c.requires.kind c.requires.fits c.requires.drawn c.requires.due c.requires.below (subst (λ v. HasRegion c.args.entry.now (g.D.Disk.history v.disk)) (sym c.self.view_is) c.requires.region) c.self.invariant.4 c.known_facts.ensures c.requires.instances (subst (λ v. NamesFirst c.args.entry.now c.args.self.now.instances.known (g.D.Disk.history v.disk)) (sym c.self.view_is) c.requires.once) c.in_ok-text.ensures.ids) (seen_prepared _ c.args.self.now c.take_room.new.log c.take_room.new.map.meaning c.take_room.new.dues.items c.self.view_is c.take_room.ensures.log c.take_room.ensures.map c.take_room.ensures.dues) c.take_in.ensures c.change_dues.ensures
@@ -111,3 +111,9 @@ returns-in-Err-clause-mail_stays g c = λ m.
     (map_log_kept m c.take_room.new.log.name c.self.invariant.1.generation _ _ (ap (λ (l : LogState). l.name) c.take_room.ensures.log ∙ c.self.invariant.1.map_name) c.append_entry.ensures.others_stay) in
     let same : c.match-copy.self.disk ≡ c.append_entry.new.disk = search rules in
     subst (λ d. MailIsKept m (g.D.Disk.history c.args.self.now.disk) (g.D.Disk.history d)) (sym same) left
+
+pub returns-in-Ok-clause-firm : goal.returns-in-Ok-clause-firm
+returns-in-Ok-clause-firm g c =
+    firm_seen g.D.Disk.history _ c.args.self.now _ c.self.view_is
+    (firm_with c.take_room.new.log.name c.self.invariant.1.generation _ _ _ _ c.args.entry.now (subst (λ v. NamesFirst c.args.entry.now v.instances.known (g.D.Disk.history v.disk)) (sym c.self.view_is) c.requires.once) (ap (λ (l : LogState). l.name) c.take_room.ensures.log ∙ c.self.invariant.1.map_name) c.in-Ok.ensures.others refl
+    (c.take_in.ensures ∙ ap (map_applied c.args.entry.now) c.take_room.ensures.map))

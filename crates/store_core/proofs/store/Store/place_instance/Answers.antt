@@ -10,6 +10,7 @@ use Rattle.store_core.proofs.BoxCrashLemmas.{leaves_none}
 use Rattle.store_core.proofs.HolderLemmas.{placing_moves}
 use Rattle.store_core.proofs.MadeLogLemmas.{made_named, made_stopped}
 use Rattle.store_core.proofs.PlacedInstanceLemmas.{next_absent, file_made, placed_safe, placed_settled, placed_stored, placed_store, placed_known, stopped_store, stopped_known, room_placed, number_left, stopped_full, stopped_memory, stopped_fault}
+use Rattle.store_core.proofs.InstanceKeepingLemmas.{kept_untouched}
 use Rattle.store_core.proofs.PlacedKeepingLemmas.{found_placed, is_placed, placing_kept}
 use Rattle.model_kept.specs.Kept.{MailIsKept}
 use Rattle.model_kept.proofs.KeptLemmas.{kept_begins, kept_beside}
@@ -94,8 +95,8 @@ returns-in-Ok-clause-found g c =
     let less = number_left c.self.inside.instances.highest c.known_facts.ensures.last (λ e. absurd (cc (c.in-Ok.ensures.full e))) in
     let change = file_made _ _ _ (next_absent c.args.hash _ _ c.self.invariant.4 runs c.known_facts.ensures less) c.in-Ok.ensures.others in
     let unlike = subst (λ v. IsUnlikeKnown c.args.hash (length c.args.octets.now) c.args.octets.now v.instances.known (g.D.Disk.history v.disk)) (sym c.self.view_is) c.requires.new in
-    let placed = is_placed c.args.hash c.args.octets.now c.self.inside.instances _ (g.D.Disk.history c.self.inside.disk) (g.D.Disk.history c.place_instance.new.disk) (c.self.invariant.4.running runs) unlike change c.in-Ok.ensures.made in
-    found_placed c.args.hash c.args.octets.now _ _ c.self.inside.instances c.place_instance.new.self _ c.in-Ok.id c.known_facts-in-Ok.ensures c.in-Ok.ensures.ok c.in-Ok.ensures.id placed
+    let placed = is_placed c.args.hash c.args.octets.now c.self.inside.instances (g.D.Disk.history c.self.inside.disk) (g.D.Disk.history c.place_instance.new.disk) (c.self.invariant.4.running runs) unlike change c.in-Ok.ensures.made in
+    found_placed c.args.hash c.args.octets.now _ _ c.self.inside.instances c.place_instance.new.self c.in-Ok.id c.known_facts-in-Ok.ensures c.in-Ok.ensures.ok c.in-Ok.ensures.id placed
 
 pub returns-in-Ok-clause-keeps : goal.returns-in-Ok-clause-keeps
 returns-in-Ok-clause-keeps g c = λ _.
@@ -103,8 +104,8 @@ returns-in-Ok-clause-keeps g c = λ _.
     let less = number_left c.self.inside.instances.highest c.known_facts.ensures.last (λ e. absurd (cc (c.in-Ok.ensures.full e))) in
     let change = file_made _ _ _ (next_absent c.args.hash _ _ c.self.invariant.4 runs c.known_facts.ensures less) c.in-Ok.ensures.others in
     let unlike = subst (λ v. IsUnlikeKnown c.args.hash (length c.args.octets.now) c.args.octets.now v.instances.known (g.D.Disk.history v.disk)) (sym c.self.view_is) c.requires.new in
-    let placed = is_placed c.args.hash c.args.octets.now c.self.inside.instances _ (g.D.Disk.history c.self.inside.disk) (g.D.Disk.history c.place_instance.new.disk) (c.self.invariant.4.running runs) unlike change c.in-Ok.ensures.made in
-    placing_kept g.D.Disk.history c.args.hash c.args.octets.now _ c.args.self.now _ c.self.view_is c.known_facts.ensures less c.known_facts-in-Ok.ensures c.in-Ok.ensures.ok placed
+    let placed = is_placed c.args.hash c.args.octets.now c.self.inside.instances (g.D.Disk.history c.self.inside.disk) (g.D.Disk.history c.place_instance.new.disk) (c.self.invariant.4.running runs) unlike change c.in-Ok.ensures.made in
+    placing_kept g.D.Disk.history c.args.hash c.args.octets.now _ c.args.self.now _ c.self.view_is c.known_facts.ensures less c.known_facts-in-Ok.ensures c.in-Ok.ensures.ok refl c.self.invariant.4.kept.named placed
 
 pub returns-in-Ok-clause-moves : goal.returns-in-Ok-clause-moves
 returns-in-Ok-clause-moves g c =
@@ -132,3 +133,13 @@ pub returns-in-Err-NoMemory-clause-mail_stays : goal.returns-in-Err-NoMemory-cla
 returns-in-Err-NoMemory-clause-mail_stays g c =
     subst (λ v. MailIsKept v.map (g.D.Disk.history v.disk) (g.D.Disk.history c.place_instance.new.disk)) c.self.view_is
     (subst (λ h. MailIsKept c.self.inside.map.meaning (g.D.Disk.history c.self.inside.disk) h) (sym (c.in-Err-NoMemory.ensures.untouched (λ e. absurd (cc (e, c.in-Err-NoMemory.field-0-is))))) (kept_begins _ _))
+
+pub returns-in-Err-Full-clause-keeps : goal.returns-in-Err-Full-clause-keeps
+returns-in-Err-Full-clause-keeps g c = λ _.
+    let failed = subst (λ (f : PlaceFault). IsPlaceError c.self.inside.instances c.place_instance.new.self f) c.in-Err-Full.field-0-is c.in-Err-Full.ensures.refused in
+    kept_untouched g.D.Disk.history _ c.args.self.now _ c.self.view_is failed.2 refl (c.in-Err-Full.ensures.untouched (λ e. absurd (cc (e, c.in-Err-Full.field-0-is))))
+
+pub returns-in-Err-NoMemory-clause-keeps : goal.returns-in-Err-NoMemory-clause-keeps
+returns-in-Err-NoMemory-clause-keeps g c = λ _.
+    let failed = subst (λ (f : PlaceFault). IsPlaceError c.self.inside.instances c.place_instance.new.self f) c.in-Err-NoMemory.field-0-is c.in-Err-NoMemory.ensures.refused in
+    kept_untouched g.D.Disk.history _ c.args.self.now _ c.self.view_is failed.1 refl (c.in-Err-NoMemory.ensures.untouched (λ e. absurd (cc (e, c.in-Err-NoMemory.field-0-is))))

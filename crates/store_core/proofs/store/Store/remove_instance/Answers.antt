@@ -7,7 +7,8 @@ use Rattle.model_lists.specs.Lists.{Lists}
 use Rattle.model_store.specs.Settled.{IsSettledFor, Leaves}
 use Rattle.sis_store.specs.OnDisk.{file_of}
 use Rattle.store_core.specs.Removing.{KeepsStoredBeside}
-use Rattle.store_core.proofs.InstanceRemovalLemmas.{names_others, hash_of, one_known, grown, same_removed, gone_removed, store_without, room_without, known_without, leaves_without, settled_without, stored_without, mail_without}
+use Rattle.store_core.proofs.KnownInstanceLemmas.{firm_seen}
+use Rattle.store_core.proofs.InstanceRemovalLemmas.{names_others, hash_of, one_known, grown, same_removed, gone_removed, store_without, room_without, firm_without, known_without, leaves_without, settled_without, stored_without, mail_without}
 use Rattle.store_core.proofs.MadeLogLemmas.{made_beside}
 use Rattle.store_core.proofs.store.Store.remove_instance.Goals as goal
 
@@ -77,3 +78,9 @@ returns-clause-grows g c = subst (λ v. Grows (g.D.Disk.history v.disk) (g.D.Dis
 
 pub returns-in-Err-clause-grows : goal.returns-in-Err-clause-grows
 returns-in-Err-clause-grows g c = subst (λ v. Grows (g.D.Disk.history v.disk) (g.D.Disk.history c.remove_instance.new.disk)) c.self.view_is (grown _ _ _ c.remove_instance.ensures.others_stay)
+
+pub returns-clause-firm : goal.returns-clause-firm
+returns-clause-firm g c =
+    let others = names_others c.self.inside.map.meaning c.args.id.0 (ap (λ v. is_instance_named v.map c.args.id.0) c.self.view_is ∙ c.requires.unnamed) in
+    firm_seen g.D.Disk.history _ c.args.self.now _ c.self.view_is
+    (firm_without (hash_of c.args.id c.self.inside.instances.known) c.args.id _ _ _ c.remove_instance.new.disk c.remove_instance.new.self others c.in_default.ensures.ok (same_removed (file_of c.args.id c.self.inside.instances.known) _ _ c.in_default.ensures.gone))

@@ -2,6 +2,7 @@ use Rattle.std.proofs.Common.{refl}
 use Rattle.store_core.proofs.KnownInstanceLemmas.{instances_since}
 use Rattle.store_core.proofs.MadeLogLemmas.{made_idle}
 use Rattle.store_core.proofs.StoreFileLemmas.{store_idle, room_kept}
+use Rattle.store_core.proofs.InstanceKeepingLemmas.{kept_read}
 use Rattle.store_core.proofs.store.Store.same_octets.Goals as goal
 
 pub invariant_of-self : goal.invariant_of-self
@@ -12,3 +13,6 @@ invariant_of-self g c = (
   made_idle _ _ _ _ refl refl refl refl refl c.same_octets.ensures.idle.same c.self.invariant.3,
   instances_since _ _ _ _ c.self.invariant.4 c.same_octets.ensures.idle.same refl refl refl (λ on. on),
 )
+
+pub returns-clause-keeps : goal.returns-clause-keeps
+returns-clause-keeps g c = kept_read g.D.Disk.history _ c.args.self.now _ c.self.view_is refl refl c.same_octets.ensures.idle

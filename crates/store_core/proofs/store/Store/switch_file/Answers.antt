@@ -7,11 +7,11 @@ use Rattle.store_core.specs.Dues.{KeepsStored, due_at, leak_at}
 use Rattle.model_kept.specs.Kept.{MailIsKept}
 use Rattle.store_core.proofs.MailStayLemmas.{map_log_kept}
 use Rattle.store_core.specs.Keeping.{KeepsMail}
-use Rattle.store_core.specs.StoreInstances.{IsNamedOrFirm}
 use Rattle.store_core.specs.Switching.{HasCopies, HasCopiesSynced}
+use Rattle.store_core.proofs.KnownInstanceLemmas.{firm_seen}
 use Rattle.store_core.proofs.KeptMailLemmas.{mail_mapped}
 use Rattle.store_core.proofs.MapAppendLemmas.{room_after}
-use Rattle.store_core.proofs.SwitchCallLemmas.{switch_of, size_call, store_call, leaves_call, settled_call, due_call, leak_call, boxes_call, stored_call, spared_call, made_call, instances_call, spared_as}
+use Rattle.store_core.proofs.SwitchCallLemmas.{switch_of, size_call, store_call, leaves_call, settled_call, due_call, leak_call, boxes_call, stored_call, spared_call, made_call, instances_call, firm_call, spared_as}
 use Rattle.store_core.proofs.store.Store.switch_file.Goals as goal
 
 pub drop_dues-requires-clause-size : goal.drop_dues-requires-clause-size
@@ -24,7 +24,7 @@ invariant_of-self g c =
       store_call _ _ _ c.append_laid.new.disk c.append_laid.new.log c.apply_switch.new.map.meaning c.doom.new.self c.drop_dues.new.dues.items c.args.entry.now c.args.file.0 o c.apply_switch.ensures c.doom.ensures.files c.drop_dues.ensures c.in-Ok.ensures.log c.in-Ok.ensures.others c.in-Ok.ensures.added,
       room_after _ _ c.self.inside.map_log c.self.invariant.2 (omega arith) c.in-Ok.ensures.log.room refl,
       made_call _ _ _ _ c.args.entry.now c.args.file.0 o c.apply_switch.ensures refl refl refl c.in-Ok.ensures.others c.self.invariant.3,
-      instances_call _ _ _ _ c.args.entry.now c.args.file.0 o c.apply_switch.ensures refl refl refl (subst (λ v. IfTold (g.D.Disk.history v.disk) (λ now. All (IsNamedOrFirm (map_applied c.args.entry.now v.map) now) v.instances.known)) (sym c.self.view_is) c.requires.instances) c.in-Ok.ensures.others c.self.invariant.4,
+      instances_call _ _ _ _ c.args.entry.now c.args.file.0 o c.apply_switch.ensures refl refl refl c.in-Ok.ensures.others c.self.invariant.4,
     )
 
 pub returns-in-Ok-clause-any_moment : goal.returns-in-Ok-clause-any_moment
@@ -84,3 +84,8 @@ pub returns-in-Err-clause-mail_stays : goal.returns-in-Err-clause-mail_stays
 returns-in-Err-clause-mail_stays g c = λ m.
     subst (λ v. MailIsKept m (g.D.Disk.history v.disk) (g.D.Disk.history c.append_laid.new.disk)) c.self.view_is
     (map_log_kept m c.self.inside.map_log.name c.self.invariant.1.generation _ _ c.self.invariant.1.map_name c.append_laid.ensures.others_stay)
+
+pub returns-in-Ok-clause-firm : goal.returns-in-Ok-clause-firm
+returns-in-Ok-clause-firm g c =
+    let o = switch_of _ _ c.args.self.now c.args.entry.now c.args.file.0 c.self.invariant.1 c.self.view_is c.known_facts.ensures c.requires.running c.requires.switches c.requires.range c.requires.fits c.requires.emptied c.requires.places (subst (λ v. HasCopies c.args.entry.now c.args.self.now.map (g.D.Disk.history v.disk)) (sym c.self.view_is) c.requires.copies) in
+    firm_seen g.D.Disk.history _ c.args.self.now _ c.self.view_is (firm_call _ _ _ _ c.args.entry.now c.args.file.0 o c.apply_switch.ensures refl c.in-Ok.ensures.others)
