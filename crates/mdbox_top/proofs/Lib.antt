@@ -22,6 +22,8 @@ pub mod NumbersLemmas
 pub mod OneEventLemmas
 pub mod PlaceLemmas
 pub mod ReplyFaultLemmas
+pub mod ReplyKindLemmas
+pub mod ReplyReadLemmas
 pub mod RequestLemmas
 pub mod RoomLemmas
 pub mod RunLemmas
@@ -30,5 +32,6 @@ pub mod SavedFormLemmas
 pub mod ServeLemmas
 pub mod ServedLemmas
 pub mod StaysLemmas
+pub mod TextReadLemmas
 pub mod UnderWayLemmas
 pub mod WroteLemmas
