@@ -1,5 +1,5 @@
 -- Replies are read from their text in one way, alone and one after another.
-use Rattle.std.specs.Prelude.{◌≡◌, ◌<◌, ◌+◌, ◌%◌, ◌/◌, ◌==◌, ◌&&◌, ℕ, zero, suc, Bool, true, false, List, [], ◌∷◌, ◌++◌, length, drop, take, map, flat_map, slice_index, codes, IsTrue, Option, Some, None, refl, if◌then◌else◌}
+use Rattle.std.specs.Prelude.{◌≡◌, ◌<◌, ◌+◌, ◌%◌, ◌/◌, ◌==◌, ◌&&◌, ℕ, zero, suc, All, Bool, true, false, List, [], ◌∷◌, ◌++◌, length, drop, take, map, flat_map, slice_index, codes, IsTrue, Option, Some, None, refl, if◌then◌else◌}
 use Rattle.std.specs.List.{list_all, AllByRecursion}
 use Rattle.std.specs.Fmt.{digits, digits_onto, digit_glyph, decimal}
 use Rattle.std.proofs.Common.{sym, ◌∙◌, ap, arith, append_assoc, append-nil}
@@ -21,8 +21,13 @@ use Rattle.request_text.specs.BatchText.{front_text, numbered_text, place_text, 
 use Rattle.request_text.specs.ReplyText.{gone_text, guid_text, listing_text, numbers_text, ok_line, refusal_text, reply_text, row_text}
 use Rattle.request_text.specs.declared.places.Places.{Places}
 use Rattle.request_text.specs.declared.places.Places.TheVariants as places
-use Rattle.mdbox_top.specs.PrintedReplies.{AreRepliesTo, AreWords, IsReplyTo, ReplyHasWords}
+use Rattle.mdbox_top.specs.PrintedReplies.{AreRepliesTo, AreWords, IsReplyTo, ReplyHasWords, RowHasWords}
 use Rattle.mdbox_top.proofs.TextReadLemmas.{guid_read, mark_read, number_read, numbers_read, refusal_read, rows_read, uid_same}
+
+-- of each, one by one
+each_of : {X : Type 0} → (P : X → Type 0) (xs : List X) → All P xs → AllByRecursion P xs
+each_of P [] h = tt
+each_of P (x ∷ xs) h = (h 0 x (omega arith), each_of P xs (λ k d lt. h (suc k) d (omega (arith, lt))))
 
 -- ---- a line
 
@@ -63,7 +68,7 @@ listed_read : (a b : List ListRow) (x y : List ℕ) → ReplyHasWords (reply.Lis
 listed_read a b x y p q e =
     let f = sym (append_assoc (ok_line (numbers_text (length a ∷ []))) (flat_map row_text a) x) ∙ e ∙ append_assoc (ok_line (numbers_text (length b ∷ []))) (flat_map row_text b) y in
     let r = numbers_line (length a ∷ []) (length b ∷ []) _ _ refl p.0 q.0 f in
-    let s = rows_read a b x y (ap (λ (l : List ℕ). slice_index l 0) r.0) p.1 q.1 r.1 in
+    let s = rows_read a b x y (ap (λ (l : List ℕ). slice_index l 0) r.0) (each_of RowHasWords a p.1) (each_of RowHasWords b q.1) r.1 in
     (ap (λ (l : List ListRow). reply.Listed l) s.0, s.1)
 
 fetched_read : (a b : List ℕ) (x y : List ℕ) → ReplyHasWords (reply.Fetched a) → ReplyHasWords (reply.Fetched b) → reply_text (reply.Fetched a) ++ x ≡ reply_text (reply.Fetched b) ++ y → (reply.Fetched a ≡ reply.Fetched b) × (x ≡ y)
@@ -235,20 +240,24 @@ numbered_read n at by asked a b x y p q v w e =
 
 -- ---- the replies of a script
 
-pub batch_read : (script : List (ℕ × Request)) (i j : List JournalEntry) (n : ℕ) (a b : List Reply) (x y : List ℕ) → AreRepliesTo script a → AreRepliesTo script b → AllByRecursion ReplyHasWords a → AllByRecursion ReplyHasWords b
+script_read : (script : List (ℕ × Request)) (i j : List JournalEntry) (n : ℕ) (a b : List Reply) (x y : List ℕ) → AreRepliesTo script a → AreRepliesTo script b → AllByRecursion ReplyHasWords a → AllByRecursion ReplyHasWords b
     → replies_from i n (map Some a) ++ x ≡ replies_from j n (map Some b) ++ y → (a ≡ b) × (x ≡ y)
-batch_read [] i j n [] [] x y p q v w e = (refl, e)
-batch_read [] i j n (g ∷ a) b x y p q v w e = absurd p
-batch_read [] i j n [] (h ∷ b) x y p q v w e = absurd q
-batch_read (asked ∷ script) i j n [] b x y p q v w e = absurd p
-batch_read (asked ∷ script) i j n (g ∷ a) [] x y p q v w e = absurd q
-batch_read (asked ∷ script) i j n (g ∷ a) (h ∷ b) x y p q v w e =
+script_read [] i j n [] [] x y p q v w e = (refl, e)
+script_read [] i j n (g ∷ a) b x y p q v w e = absurd p
+script_read [] i j n [] (h ∷ b) x y p q v w e = absurd q
+script_read (asked ∷ script) i j n [] b x y p q v w e = absurd p
+script_read (asked ∷ script) i j n (g ∷ a) [] x y p q v w e = absurd q
+script_read (asked ∷ script) i j n (g ∷ a) (h ∷ b) x y p q v w e =
     let at = places_told (request_steps i n) g in
     let by = places_told (request_steps j n) h in
     let f = sym (append_assoc (numbered_text (n + 1) at g) (replies_from i (n + 1) (map Some a)) x) ∙ e ∙ append_assoc (numbered_text (n + 1) by h) (replies_from j (n + 1) (map Some b)) y in
     let r = numbered_read (n + 1) at by asked.1 g h _ _ p.0 q.0 v.0 w.0 f in
-    let s = batch_read script i j (n + 1) a b x y p.1 q.1 v.1 w.1 r.1 in
+    let s = script_read script i j (n + 1) a b x y p.1 q.1 v.1 w.1 r.1 in
     (ap (λ (k : Reply). k ∷ a) r.0 ∙ ap (λ (t : List Reply). h ∷ t) s.0, s.1)
+
+pub batch_read : (script : List (ℕ × Request)) (i j : List JournalEntry) (a b : List Reply) (x y : List ℕ) → AreRepliesTo script a → AreRepliesTo script b → All ReplyHasWords a → All ReplyHasWords b
+    → replies_from i 0 (map Some a) ++ x ≡ replies_from j 0 (map Some b) ++ y → (a ≡ b) × (x ≡ y)
+batch_read script i j a b x y p q v w e = script_read script i j 0 a b x y p q (each_of ReplyHasWords a v) (each_of ReplyHasWords b w) e
 
 -- ---- a prefix
 
@@ -272,9 +281,9 @@ first_words a zero v = tt
 first_words [] (suc n) v = tt
 first_words (g ∷ a) (suc n) v = (v.0, first_words a n v.1)
 
-pub prefix_read : (script : List (ℕ × Request)) (i j : List JournalEntry) (a b : List Reply) (n : ℕ) (printed cut rest : List ℕ) → AreRepliesTo script a → AreRepliesTo script b → AllByRecursion ReplyHasWords a → AllByRecursion ReplyHasWords b
+pub prefix_read : (script : List (ℕ × Request)) (i j : List JournalEntry) (a b : List Reply) (n : ℕ) (printed cut rest : List ℕ) → AreRepliesTo script a → AreRepliesTo script b → All ReplyHasWords a → All ReplyHasWords b
     → printed ≡ replies_from i 0 (map Some (take n a)) ++ cut → printed ++ rest ≡ replies_from j 0 (map Some b) → take n a ≡ take n b
 prefix_read script i j a b n printed cut rest p q v w front whole =
     let r = replies_cut j 0 b n in
     let e = sym (append_assoc (replies_from i 0 (map Some (take n a))) cut rest) ∙ ap (λ (l : List ℕ). l ++ rest) (sym front) ∙ whole ∙ r.1 in
-    (batch_read (take n script) i j 0 (take n a) (take n b) (cut ++ rest) r.0 (first_replies script a n p) (first_replies script b n q) (first_words a n v) (first_words b n w) e).0
+    (script_read (take n script) i j 0 (take n a) (take n b) (cut ++ rest) r.0 (first_replies script a n p) (first_replies script b n q) (first_words a n (each_of ReplyHasWords a v)) (first_words b n (each_of ReplyHasWords b w)) e).0

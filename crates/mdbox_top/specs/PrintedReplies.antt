@@ -1,6 +1,5 @@
 -- What the printed replies of a script tell.
-use Rattle.std.specs.Prelude.{◌<◌, ◌^◌, ℕ, List, [], ◌∷◌, length}
-use Rattle.std.specs.List.{AllByRecursion}
+use Rattle.std.specs.Prelude.{◌<◌, ◌^◌, ℕ, List, [], ◌∷◌, All, length}
 use Rattle.mdbox_base.specs.Words.{IsOctets}
 use Rattle.mdbox_base.specs.declared.replies.ListRow.{ListRow}
 use Rattle.mdbox_base.specs.declared.replies.Refusal.{Refusal}
@@ -51,7 +50,7 @@ RefusalHasWords other = Unit {0}
 -- The numbers and lengths of a reply are below 2 ^ 64, and a GUID has octets: so it is with every reply that a program holds.
 abbrev pub ReplyHasWords : Reply → Type 0
 ReplyHasWords (reply.Saved uid guid) = AreWords (uid.0 ∷ []) × IsOctets guid.0
-ReplyHasWords (reply.Listed rows) = AreWords (length rows ∷ []) × AllByRecursion RowHasWords rows
+ReplyHasWords (reply.Listed rows) = AreWords (length rows ∷ []) × All RowHasWords rows
 ReplyHasWords (reply.Fetched octets) = AreWords (length octets ∷ [])
 ReplyHasWords reply.Done = Unit {0}
 ReplyHasWords (reply.Copied uid) = AreWords (uid.0 ∷ [])

@@ -1,6 +1,5 @@
 // Laws of what is printed.
-ghost use Rattle.std.specs.Prelude.{◌≡◌, ◌≤◌, ◌++◌, ℕ, AllPairs, List, Option, Some, length, map, sum_by, take};
-ghost use Rattle.std.specs.List.{AllByRecursion};
+ghost use Rattle.std.specs.Prelude.{◌≡◌, ◌≤◌, ◌++◌, ℕ, All, AllPairs, List, Option, Some, length, map, sum_by, take};
 ghost use Rattle.disk_model.specs.Disk.{Faults, History};
 ghost use Rattle.journal.specs.Journal.{IsLegal, JournalStep, Requests};
 ghost use Rattle.lanes.specs.Worlds.{AreOfLanes};
@@ -42,14 +41,14 @@ pub fn no_reply_begins_another()
 
 /// So are the replies to the requests of a script, from what `batch` prints of them.
 pub fn printed_replies_are_read_in_one_way()
-    ensures { (script : Requests) (i j : List JournalEntry) (a b : List Reply) (x y : List ℕ) → AreRepliesTo script a → AreRepliesTo script b → AllByRecursion ReplyHasWords a → AllByRecursion ReplyHasWords b
+    ensures { (script : Requests) (i j : List JournalEntry) (a b : List Reply) (x y : List ℕ) → AreRepliesTo script a → AreRepliesTo script b → All ReplyHasWords a → All ReplyHasWords b
         → batch_text i (map Some a) ++ x ≡ batch_text j (map Some b) ++ y → (a ≡ b) × (x ≡ y) }
 {}
 
 /// What was printed of a script, whole or not, tells the replies that are whole in it: if it begins with the first n replies of one run, and
 /// is a prefix of what another run prints, that run's first n replies are the same.
 pub fn a_printed_prefix_tells_its_replies()
-    ensures { (script : Requests) (i j : List JournalEntry) (a b : List Reply) (n : ℕ) (printed cut rest : List ℕ) → AreRepliesTo script a → AreRepliesTo script b → AllByRecursion ReplyHasWords a → AllByRecursion ReplyHasWords b
+    ensures { (script : Requests) (i j : List JournalEntry) (a b : List Reply) (n : ℕ) (printed cut rest : List ℕ) → AreRepliesTo script a → AreRepliesTo script b → All ReplyHasWords a → All ReplyHasWords b
         → printed ≡ batch_text i (map Some (take n a)) ++ cut → printed ++ rest ≡ batch_text j (map Some b) → take n a ≡ take n b }
 {}
 

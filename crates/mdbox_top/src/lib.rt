@@ -16,6 +16,7 @@ mod expunge;
 mod fetch;
 mod init;
 mod input_commands;
+mod known;
 mod laws;
 mod making;
 mod moving;
