@@ -17,6 +17,7 @@ ghost use Rattle.request_text.specs.BatchText.{batch_text};
 ghost use Rattle.request_text.specs.ReplyText.{reply_text};
 ghost use Rattle.request_text.specs.declared.outcome.Outcome.{Outcome};
 ghost use Rattle.request_text.specs.declared.outcome.Outcome.TheVariants as outcome;
+ghost use Rattle.mdbox_top.specs.BatchRun.{IsBatchDone};
 ghost use Rattle.mdbox_top.specs.CountsRun.{counts_of};
 ghost use Rattle.mdbox_top.specs.ExerciseRun.{IsCountedUp, made_requests};
 ghost use Rattle.mdbox_top.specs.Numbers.{messages_listed, octets_listed, summary_of};
@@ -50,6 +51,14 @@ pub fn printed_replies_are_read_in_one_way()
 pub fn a_printed_prefix_tells_its_replies()
     ensures { (script : Requests) (i j : List JournalEntry) (a b : List Reply) (n : ℕ) (printed cut rest : List ℕ) → AreRepliesTo script a → AreRepliesTo script b → All ReplyHasWords a → All ReplyHasWords b
         → printed ≡ batch_text i (map Some (take n a)) ++ cut → printed ++ rest ≡ batch_text j (map Some b) → take n a ≡ take n b }
+{}
+
+/// So `batch` with status 5 or 8: of two runs of a script that print the same, whole or cut off, the replies that are whole in it are the same.
+pub fn batch_tells_the_replies_that_are_whole()
+    ensures { (script : Requests) (held printed cut : List ℕ) (old new older newer : Option History) (began now before after : Faults) (one other : Outcome) (n : ℕ)
+        (a : IsBatchDone script (Some held) (Some (held ++ printed)) old new began now one) (b : IsBatchDone script (Some held) (Some (held ++ printed)) older newer before after other)
+        → AreRepliesTo script a.given → AreRepliesTo script b.given → All ReplyHasWords a.given → All ReplyHasWords b.given
+        → printed ≡ batch_text a.journal (map Some (take n a.given)) ++ cut → take n a.given ≡ take n b.given }
 {}
 
 /// The replies of a script that was served are those of their requests' kinds.
