@@ -1,8 +1,8 @@
 -- Replies are read from their text in one way, alone and one after another.
-use Rattle.std.specs.Prelude.{◌≡◌, ◌<◌, ◌+◌, ◌%◌, ◌/◌, ◌==◌, ◌&&◌, ℕ, zero, suc, All, Bool, true, false, List, [], ◌∷◌, ◌++◌, length, drop, take, map, flat_map, slice_index, codes, IsTrue, Option, Some, None, refl, if◌then◌else◌}
+use Rattle.std.specs.Prelude.{◌≡◌, ◌<◌, ◌+◌, ◌%◌, ◌/◌, ◌==◌, ℕ, zero, suc, All, Bool, true, false, List, [], ◌∷◌, ◌++◌, length, drop, take, map, flat_map, slice_index, IsTrue, Option, Some, None, refl, if◌then◌else◌}
 use Rattle.std.specs.List.{list_all, AllByRecursion}
-use Rattle.std.specs.Fmt.{digits, digits_onto, digit_glyph, decimal}
-use Rattle.std.proofs.Common.{sym, ◌∙◌, ap, arith, append_assoc, append-nil}
+use Rattle.std.specs.Fmt.{digits, digits_onto, digit_glyph}
+use Rattle.std.proofs.Common.{sym, ◌∙◌, ap, arith, append_assoc}
 use Rattle.std.proofs.lemmas.Grind.{common_steps}
 use Rattle.mdbox_base.specs.Numbers.{decimal_text}
 use Rattle.mdbox_base.specs.Words.{is_other_than}
@@ -18,7 +18,7 @@ use Rattle.mdbox_base.specs.declared.script.JournalEntry.{JournalEntry}
 use Rattle.model_octets.proofs.PiecesLemmas.{split_same}
 use Rattle.model_storage.proofs.ReferenceLemmas.{both, first, second, others, is_digit, until_same}
 use Rattle.request_text.specs.BatchText.{front_text, numbered_text, place_text, places_text, places_told, replies_from, request_steps}
-use Rattle.request_text.specs.ReplyText.{gone_text, guid_text, listing_text, numbers_text, ok_line, refusal_text, reply_text, row_text}
+use Rattle.request_text.specs.ReplyText.{gone_text, guid_text, numbers_text, ok_line, refusal_text, reply_text, row_text}
 use Rattle.request_text.specs.declared.places.Places.{Places}
 use Rattle.request_text.specs.declared.places.Places.TheVariants as places
 use Rattle.mdbox_top.specs.PrintedReplies.{AreRepliesTo, AreWords, IsReplyTo, ReplyHasWords, RowHasWords}

@@ -1,20 +1,17 @@
 -- Numbers, digits and refusals are read from their text in one way.
-use Rattle.std.specs.Prelude.{◌≡◌, ◌<◌, ◌^◌, ◌+◌, ◌%◌, ◌/◌, ◌==◌, ℕ, zero, suc, nat_le, ◌&&◌, Bool, true, false, List, [], ◌∷◌, ◌++◌, length, drop, flat_map, slice_index, codes, IsTrue, refl, if◌then◌else◌}
+use Rattle.std.specs.Prelude.{◌≡◌, ◌<◌, ◌^◌, ◌+◌, ◌==◌, ℕ, nat_le, ◌&&◌, false, List, [], ◌∷◌, ◌++◌, length, drop, flat_map, slice_index, IsTrue, refl, if◌then◌else◌}
 use Rattle.std.specs.List.{list_all, AllByRecursion}
-use Rattle.std.specs.Fmt.{digits, digits_onto, digit_glyph, decimal}
 use Rattle.std.proofs.Common.{sym, ◌∙◌, ap, arith, append_assoc, append-nil}
 use Rattle.std.proofs.lemmas.Grind.{common_steps}
-use Rattle.hex.specs.Hex.{encode_lower}
 use Rattle.mdbox_base.specs.Numbers.{decimal_text}
-use Rattle.mdbox_base.specs.Words.{IsOctets, is_other_than}
-use Rattle.mdbox_base.specs.declared.ids.FileNo.{FileNo}
+use Rattle.mdbox_base.specs.Words.{IsOctets}
 use Rattle.mdbox_base.specs.declared.ids.Guid.{Guid}
 use Rattle.mdbox_base.specs.declared.ids.Uid.{Uid}
 use Rattle.mdbox_base.specs.declared.replies.ListRow.{ListRow}
 use Rattle.mdbox_base.specs.declared.replies.Refusal.{Refusal}
 use Rattle.mdbox_base.specs.declared.replies.Refusal.TheVariants as refusal
 use Rattle.file_paths.proofs.InstLemmas.{same_digits}
-use Rattle.model_storage.proofs.ReferenceLemmas.{both, first, second, is_digit, decimal_digits, number_until}
+use Rattle.model_storage.proofs.ReferenceLemmas.{first, second, is_digit, decimal_digits, number_until}
 use Rattle.request_text.specs.ReplyText.{guid_text, numbers_text, row_text, refusal_text}
 use Rattle.mdbox_top.specs.PrintedReplies.{AreWords, RowHasWords, RefusalHasWords}
 
