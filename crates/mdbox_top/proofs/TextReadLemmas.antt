@@ -1,5 +1,5 @@
 -- Numbers, digits and refusals are read from their text in one way.
-use Rattle.std.specs.Prelude.{◌≡◌, ◌<◌, ◌^◌, ◌+◌, ◌==◌, ℕ, nat_le, ◌&&◌, false, List, [], ◌∷◌, ◌++◌, length, drop, flat_map, slice_index, IsTrue, refl, if◌then◌else◌}
+use Rattle.std.specs.Prelude.{◌≡◌, ◌<◌, ◌^◌, ◌==◌, ℕ, nat_le, ◌&&◌, false, List, [], ◌∷◌, ◌++◌, length, drop, flat_map, slice_index, IsTrue, refl, if◌then◌else◌}
 use Rattle.std.specs.List.{list_all, AllByRecursion}
 use Rattle.std.proofs.Common.{sym, ◌∙◌, ap, arith, append_assoc, append-nil}
 use Rattle.std.proofs.lemmas.Grind.{common_steps}
