@@ -1,0 +1,6 @@
+pub mod BoxLemmas
+pub mod CourseLemmas
+pub mod LegalLemmas
+pub mod PlaceLemmas
+pub mod ReadyLemmas
+pub mod RoundLemmas
