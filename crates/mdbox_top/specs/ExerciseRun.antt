@@ -1,10 +1,13 @@
 -- How `exercise` ends.
-use Rattle.std.specs.Prelude.{◌≡◌, ◌≢◌, ◌⊎◌, ℕ, true, List, map, Option, Some}
+use Rattle.std.specs.Prelude.{◌≡◌, ◌≢◌, ◌⊎◌, ℕ, true, All, List, map, Option, Some}
 use Rattle.std.specs.List.{list_any}
 use Rattle.disk_model.specs.Disk.{History, Faults}
 use Rattle.disk_model.specs.FaultCounts.{AnyFaultCounted, NoFault}
+use Rattle.exercise_course.specs.Hindered.{is_ok}
+use Rattle.exercise_course.specs.InOrder.{lists_in_order, messages_in, octets_in}
 use Rattle.mdbox_base.specs.declared.replies.Reply.{Reply}
 use Rattle.mdbox_base.specs.declared.script.JournalEntry.{JournalEntry}
+use Rattle.model_lists.specs.Lists.{Lists}
 use Rattle.model_meaning.specs.BoxMeaning.{BoxMeaning}
 use Rattle.model_meaning.specs.MapMeaning.{MapMeaning}
 use Rattle.journal.specs.Journal.{Requests}
@@ -15,7 +18,7 @@ use Rattle.script_run.specs.Done.{IsScriptDone}
 use Rattle.script_run.specs.LeftOpen.{ComesTo}
 use Rattle.script_text.specs.MadeScript.{made_script}
 use Rattle.mdbox_top.specs.BatchRun.{OpenedOutcome, ScriptMoments, ScriptRests, ShowsReplies}
-use Rattle.mdbox_top.specs.Numbers.{exercise_text}
+use Rattle.mdbox_top.specs.Numbers.{exercise_text, messages_listed, octets_listed}
 
 -- The store was opened and the script done, and the numbers are printed of its replies and of what the logs mean to which it came. It
 -- ends as a fault of the disk whenever a reply says that the disk failed, and only if a call of it failed; with any other end none failed.
@@ -30,6 +33,14 @@ pub record IsCountedUp (script : Requests) (held later : Option (List ℕ)) (old
   pub told : list_any is_disk_no (map Some given) ≡ true → ended ≡ outcome.DiskFault
   pub fault : AnyFaultCounted (ended ≡ outcome.DiskFault) began now
   pub quiet : ended ≢ outcome.DiskFault → NoFault began now
+
+-- A script over a store that shows these lists: each request is replied OK, it ends with status 0, and the logs that it leaves list as many
+-- messages and octets as if it were done in its own order.
+pub record IsDoneInOrder (script : Requests) (lists : Lists) (given : List Reply) (ended : Outcome) (m : MapMeaning) (meanings : List BoxMeaning) : Type 0 where
+  pub ok : All (λ one. is_ok one ≡ true) given
+  pub done : ended ≡ outcome.Done
+  pub messages : messages_listed meanings ≡ messages_in (lists_in_order script lists)
+  pub octets : octets_listed meanings ≡ octets_in (lists_in_order script lists)
 
 -- So a made script ends; or the store was not opened.
 abbrev pub CountedOutcome : Requests → Option (List ℕ) → Option (List ℕ) → Option History → Option History → Faults → Faults → Outcome → Type 0
