@@ -166,7 +166,7 @@ pub all_left : (count lanes : ℕ) (xs : List ℕ) → AreAllPlaces count xs →
 all_left count lanes xs a j lt = a.once j lt ∙ sym (le_test (j / lanes) 0 0 1 (omega arith))
 
 -- a sum over the places below a number, of what is at one place alone
-abbrev at_place : (ℕ → ℕ) → ℕ → ℕ → ℕ
+abbrev pub at_place : (ℕ → ℕ) → ℕ → ℕ → ℕ
 at_place f i j = if i == j then f j else 0
 
 sum_below : (f : ℕ → ℕ) (n : ℕ) → sum_by f (below (suc n)) ≡ sum_by f (below n) + f n
@@ -184,7 +184,7 @@ at_none f i (suc n) le =
     by_test true e = let k = eqb-true i n e in absurd (omega (arith, k, le))
     by_test false e = ap (λ (b : Bool). cond b (f n) 0) e
 
-at_one : (f : ℕ → ℕ) (i n : ℕ) → i < n → sum_by (at_place f i) (below n) ≡ f i
+pub at_one : (f : ℕ → ℕ) (i n : ℕ) → i < n → sum_by (at_place f i) (below n) ≡ f i
 at_one f i zero lt = absurd (omega (arith, lt))
 at_one f i (suc n) lt = by_last (λ less. at_one f i n less) (i == n) refl
   where
@@ -224,7 +224,7 @@ once_more f i xs j = by_test (i == j) refl
         let p : times j (i ∷ xs) * f j ≡ times j xs * f j = ap (λ (m : ℕ). m * f j) t in
         omega (arith, p, z)
 
-sum_both : (f g h : ℕ → ℕ) → ((j : ℕ) → f j ≡ g j + h j) → (xs : List ℕ) → sum_by f xs ≡ sum_by g xs + sum_by h xs
+pub sum_both : (f g h : ℕ → ℕ) → ((j : ℕ) → f j ≡ g j + h j) → (xs : List ℕ) → sum_by f xs ≡ sum_by g xs + sum_by h xs
 sum_both f g h is [] = refl
 sum_both f g h is (x ∷ xs) =
     let a = sum_by-cons f x xs in

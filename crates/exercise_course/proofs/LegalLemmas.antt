@@ -23,7 +23,7 @@ use Rattle.list_machine.specs.Machine.{Answers}
 use Rattle.journal.specs.Journal.{AreReplied, AreSteps, HasAllSteps, HasReply, IsLegal, IsReplyOf, IsStep, JournalStep, Requests, left_by, steps_of}
 use Rattle.script_text.specs.MadeScript.{below, made_request, made_round, made_turn}
 use Rattle.exercise_course.specs.Hindered.{BeginsFree, is_hindered, is_ok}
-use Rattle.exercise_course.specs.InOrder.{lists_in_order, messages_in, octets_in}
+use Rattle.exercise_course.specs.InOrder.{lists_in_order, message_total, octet_total}
 use Rattle.exercise_course.proofs.BoxLemmas.{weight_in, weight_of}
 use Rattle.exercise_course.proofs.CourseLemmas.{AreAllPlaces, AreTurns, IsWhole, Turn, all_are_whole, left_of, place_of, weighs_in_order}
 use Rattle.exercise_course.proofs.PlaceLemmas.{RiseInLanes, times}
@@ -31,7 +31,7 @@ use Rattle.exercise_course.proofs.ReadyLemmas.{ready_answers}
 
 -- ---- the script
 
-abbrev script_of : ℕ → ℕ → ℕ → Requests
+abbrev pub script_of : ℕ → ℕ → ℕ → Requests
 script_of lanes count number = map (made_request lanes number) (below count)
 
 length_below : (n : ℕ) → length (below n) ≡ n
@@ -63,7 +63,7 @@ get_below (suc n) i lt = by_last (λ less. get_below n i less) (i == n) refl
     by_last next true e = let k = eqb-true i n e in get_last (below n) n i (omega (arith, k, many)) ∙ ap Some (sym k)
     by_last next false e = let apart = eqb-false i n e in let less : i < n = omega (arith, lt, apart) in get_push (below n) n i (omega (arith, less, many)) ∙ next less
 
-asked_is : (lanes count number i : ℕ) → i < count → slice_get (script_of lanes count number) i ≡ Some (made_request lanes number i)
+pub asked_is : (lanes count number i : ℕ) → i < count → slice_get (script_of lanes count number) i ≡ Some (made_request lanes number i)
 asked_is lanes count number i lt = slice_get-map (made_request lanes number) (below count) i ∙ ap (option_map (made_request lanes number)) (get_below count i lt)
 
 -- ---- what its requests have of steps
@@ -213,10 +213,10 @@ of_each P count (step ∷ journal) w each =
 -- ---- replies
 
 -- each request has one step, which answered its reply
-abbrev OneStepEach : ℕ → List Reply → List JournalStep → Type 0
+abbrev pub OneStepEach : ℕ → List Reply → List JournalStep → Type 0
 OneStepEach count given journal = (i : ℕ) → i < count → (one : Reply) × (slice_get given i ≡ Some one) × (map answer_of (steps_of i journal) ≡ one ∷ [])
 
-one_each : (lanes count number : ℕ) (journal : List JournalStep) (given : List Reply) → length given ≡ count → All (λ one. is_hindered one ≡ false) given → AreReplied (script_of lanes count number) journal (map Some given) → OneStepEach count given journal
+pub one_each : (lanes count number : ℕ) (journal : List JournalStep) (given : List Reply) → length given ≡ count → All (λ one. is_hindered one ≡ false) given → AreReplied (script_of lanes count number) journal (map Some given) → OneStepEach count given journal
 one_each lanes count number journal given many free replied i lt =
     let lt_given : i < length given = omega (arith, lt, many) in
     let one = slice_index_or given i reply.Done in
@@ -285,7 +285,7 @@ same_sum : {X : Type 0} → (f g : X → ℕ) → ((x : X) → f x ≡ g x) → 
 same_sum f g e [] = refl
 same_sum f g e (x ∷ xs) = let a = sum_by-cons f x xs in let b = sum_by-cons g x xs in let k = e x in let r = same_sum f g e xs in omega (arith, a, b, k, r)
 
-messages_weigh : (lists : Lists) → weight_of (λ size. 1) lists ≡ messages_in lists
+messages_weigh : (lists : Lists) → weight_of (λ size. 1) lists ≡ message_total lists
 messages_weigh lists = same_sum (weight_in (λ size. 1)) (λ (mailbox : Mailbox). length mailbox.messages) (λ mailbox. count_all mailbox.messages) lists
 
 weigh_alike : (v : ℕ → ℕ) (lanes count number : ℕ) (start : Lists) (run : Run) (journal : List JournalStep) (given : List Reply) (old new : Faults) → 1 ≤ lanes → lanes ≤ 64 → count ≤ 100000 → BeginsFree lanes start → length given ≡ count → All (λ one. is_hindered one ≡ false) given
@@ -295,10 +295,10 @@ weigh_alike v lanes count number start run journal given old new one most few be
     sym (ap (weight_of v) (left_are start journal)) ∙ weighs_in_order v lanes number count one most few (map turn_of journal) start c.all begins.free begins.room c.whole
 
 pub messages_alike : (lanes count number : ℕ) (start : Lists) (run : Run) (journal : List JournalStep) (given : List Reply) (old new : Faults) → 1 ≤ lanes → lanes ≤ 64 → count ≤ 100000 → BeginsFree lanes start → length given ≡ count → All (λ one. is_hindered one ≡ false) given
-    → IsLegal start (script_of lanes count number) run journal (map Some given) old new → messages_in (left_by start journal) ≡ messages_in (lists_in_order (script_of lanes count number) start)
+    → IsLegal start (script_of lanes count number) run journal (map Some given) old new → message_total (left_by start journal) ≡ message_total (lists_in_order (script_of lanes count number) start)
 messages_alike lanes count number start run journal given old new one most few begins many free legal =
     sym (messages_weigh (left_by start journal)) ∙ weigh_alike (λ size. 1) lanes count number start run journal given old new one most few begins many free legal ∙ messages_weigh (lists_in_order (script_of lanes count number) start)
 
 pub octets_alike : (lanes count number : ℕ) (start : Lists) (run : Run) (journal : List JournalStep) (given : List Reply) (old new : Faults) → 1 ≤ lanes → lanes ≤ 64 → count ≤ 100000 → BeginsFree lanes start → length given ≡ count → All (λ one. is_hindered one ≡ false) given
-    → IsLegal start (script_of lanes count number) run journal (map Some given) old new → octets_in (left_by start journal) ≡ octets_in (lists_in_order (script_of lanes count number) start)
+    → IsLegal start (script_of lanes count number) run journal (map Some given) old new → octet_total (left_by start journal) ≡ octet_total (lists_in_order (script_of lanes count number) start)
 octets_alike lanes count number start run journal given old new one most few begins many free legal = weigh_alike (λ size. size) lanes count number start run journal given old new one most few begins many free legal

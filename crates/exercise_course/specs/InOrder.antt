@@ -26,8 +26,16 @@ abbrev pub lists_in_order : Requests → Lists → Lists
 lists_in_order script lists = fold (λ now asked. lists_done asked.1 now) lists script
 
 -- how many messages lists have, and how many octets these have
-abbrev pub messages_in : Lists → ℕ
-messages_in lists = sum_by (λ mailbox. length mailbox.messages) lists
+abbrev pub message_total : Lists → ℕ
+message_total lists = sum_by (λ mailbox. length mailbox.messages) lists
 
-abbrev pub octets_in : Lists → ℕ
-octets_in lists = sum_by (λ mailbox. sum_by (λ message. length message.octets) mailbox.messages) lists
+abbrev pub octet_total : Lists → ℕ
+octet_total lists = sum_by (λ mailbox. sum_by (λ message. length message.octets) mailbox.messages) lists
+
+-- how many messages a script delivers
+abbrev pub delivered_by : Request → ℕ
+delivered_by (request.Deliver name time octets) = 1
+delivered_by other = 0
+
+abbrev pub deliveries_in : Requests → ℕ
+deliveries_in script = sum_by (λ asked. delivered_by asked.1) script
