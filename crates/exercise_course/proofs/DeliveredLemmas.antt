@@ -47,22 +47,22 @@ turn_simple number i lane round (suc zero) = tt
 turn_simple number i lane round (suc (suc zero)) = tt
 turn_simple number i lane round (suc (suc (suc turn))) = tt
 
-round_simple : (number i lane s : ℕ) → IsSimple (made_round number i lane s)
+pub round_simple : (number i lane s : ℕ) → IsSimple (made_round number i lane s)
 round_simple number i lane zero = tt
 round_simple number i lane (suc s) = turn_simple number i lane (s / 4) (s % 4)
 
 -- ---- a request that is answered
 
 -- nothing stands behind the last of its events
-record IsEnded (q : Request) (last : Option RunEvent) : Type 0 where
-  event : RunEvent
-  around : Around
-  run : Run
-  last_is : last ≡ Some event
-  ended : behind_event around run q event event.refused ≡ None
+pub record IsEnded (q : Request) (last : Option RunEvent) : Type 0 where
+  pub event : RunEvent
+  pub around : Around
+  pub run : Run
+  pub last_is : last ≡ Some event
+  pub ended : behind_event around run q event event.refused ≡ None
 
 -- its events give no reply, or one, which is a refusal only if one of them was refused
-abbrev IsAnswered : Request → List RunEvent → Type 0
+abbrev pub IsAnswered : Request → List RunEvent → Type 0
 IsAnswered q own = (first_in (λ e. e.reply) own ≡ None) ⊎ ((given : Reply) × (first_in (λ e. e.reply) own ≡ Some given) × (last_refusal own ≡ refusal_in given) × IsEnded q (last_of own))
 
 first_push : (own : List RunEvent) (e : RunEvent) → first_in (λ e. e.reply) own ≡ None → first_in (λ e. e.reply) (own ++ e ∷ []) ≡ e.reply
@@ -101,13 +101,13 @@ or_both : (a b : Option Refusal) → option_or a b ≡ None → (a ≡ None) × 
 or_both None b e = (refl, e)
 or_both (Some why) b e = absurd (cc e)
 
-last_unrefused : (own : List RunEvent) (e : RunEvent) → last_of own ≡ Some e → last_refusal own ≡ None → e.refused ≡ None
+pub last_unrefused : (own : List RunEvent) (e : RunEvent) → last_of own ≡ Some e → last_refusal own ≡ None → e.refused ≡ None
 unfolding last_of
 last_unrefused [] e is none = absurd (cc is)
 last_unrefused (x ∷ []) e is none = let k : x ≡ e = cc is in ap (λ (y : RunEvent). y.refused) (sym k) ∙ (or_both None x.refused none).1
 last_unrefused (x ∷ more ∷ rest) e is none = last_unrefused (more ∷ rest) e is (or_both (last_refusal (more ∷ rest)) x.refused none).0
 
-looking_none : (b c new : Bool) → (if b then (if c then Some Compares else Some PlacesInstance) else Some (TakesFile new)) ≡ None → ⊥
+pub looking_none : (b c new : Bool) → (if b then (if c then Some Compares else Some PlacesInstance) else Some (TakesFile new)) ≡ None → ⊥
 looking_none true true new e = cc e
 looking_none true false new e = cc e
 looking_none false c new e = cc e
@@ -151,7 +151,7 @@ own_stored q own given s o a r ok = absurd s
 -- ---- the run
 
 -- what the events of each request have come to
-abbrev AreOwn : ℕ → ℕ → Run → Type 0
+abbrev pub AreOwn : ℕ → ℕ → Run → Type 0
 AreOwn lanes number run = (i : ℕ) → OwnStored (made_request lanes number i).1 (own_events i run) × IsAnswered (made_request lanes number i).1 (own_events i run)
 
 abbrev OwnOf : ℕ → ℕ → ℕ → List RunEvent → Type 0
@@ -185,16 +185,16 @@ event_on lanes count number around after run lists event own next = (each, run_w
         by_place false e = subst (OwnOf lanes number i) (sym (own_other i run event e)) (own i)
 
 -- the run up to an event
-record UpTo (lanes count number : ℕ) (run : Run) (n : ℕ) : Type 0 where
-  own : AreOwn lanes number (before n run)
-  more : HasMore (sum_by stored_in (take n run.events)) (map_of (before 0 run)) (map_of (before n run))
-  within : AllByRecursion (λ e. e.request < count) (take n run.events)
+pub record UpTo (lanes count number : ℕ) (run : Run) (n : ℕ) : Type 0 where
+  pub own : AreOwn lanes number (before n run)
+  pub more : HasMore (sum_by stored_in (take n run.events)) (map_of (before 0 run)) (map_of (before n run))
+  pub within : AllByRecursion (λ e. e.request < count) (take n run.events)
 
-all_push : (P : RunEvent → Type 0) (xs : List RunEvent) (y : RunEvent) → AllByRecursion P xs → P y → AllByRecursion P (xs ++ y ∷ [])
+pub all_push : (P : RunEvent → Type 0) (xs : List RunEvent) (y : RunEvent) → AllByRecursion P xs → P y → AllByRecursion P (xs ++ y ∷ [])
 all_push P [] y a h = (h, tt)
 all_push P (x ∷ xs) y a h = (a.0, all_push P xs y a.1 h)
 
-up_to : (lanes count number : ℕ) (around after : ℕ → Around) (start : Lists) (run : Run) (journal : List JournalStep) → AreNextEvents around after (script_of lanes count number) start run journal → (n : ℕ) → n ≤ length run.events → UpTo lanes count number run n
+pub up_to : (lanes count number : ℕ) (around after : ℕ → Around) (start : Lists) (run : Run) (journal : List JournalStep) → AreNextEvents around after (script_of lanes count number) start run journal → (n : ℕ) → n ≤ length run.events → UpTo lanes count number run n
 up_to lanes count number around after start run journal next zero le = record {
   own = λ i. (own_none (made_request lanes number i).1, inl refl);
   more = no_more (map_of (before 0 run));
@@ -238,7 +238,7 @@ zero_sum : (xs : List ℕ) → sum_by (λ (i : ℕ). 0) xs ≡ 0
 zero_sum [] = refl
 zero_sum (x ∷ xs) = let c = sum_by-cons (λ (i : ℕ). 0) x xs in let r = zero_sum xs in omega (arith, c, r)
 
-sum_by_requests : (count : ℕ) (f : RunEvent → ℕ) (es : List RunEvent) → AllByRecursion (λ e. e.request < count) es → sum_by f es ≡ sum_by (λ i. sum_by f (filter (λ x. x.request == i) es)) (below count)
+pub sum_by_requests : (count : ℕ) (f : RunEvent → ℕ) (es : List RunEvent) → AllByRecursion (λ e. e.request < count) es → sum_by f es ≡ sum_by (λ i. sum_by f (filter (λ x. x.request == i) es)) (below count)
 sum_by_requests count f [] w = sym (zero_sum (below count))
 sum_by_requests count f (e ∷ es) w =
     let both = sum_both (λ i. sum_by f (filter (λ x. x.request == i) (e ∷ es))) (at_place (λ _. f e) e.request) (λ i. sum_by f (filter (λ x. x.request == i) es)) (parts_more count f e es) (below count) in
@@ -247,7 +247,7 @@ sum_by_requests count f (e ∷ es) w =
     let c = sum_by-cons f e es in
     omega (arith, both, one, r, c)
 
-same_below : (f g : ℕ → ℕ) (n : ℕ) → ((i : ℕ) → i < n → f i ≡ g i) → sum_by f (below n) ≡ sum_by g (below n)
+pub same_below : (f g : ℕ → ℕ) (n : ℕ) → ((i : ℕ) → i < n → f i ≡ g i) → sum_by f (below n) ≡ sum_by g (below n)
 same_below f g zero same = refl
 same_below f g (suc n) same =
     let a = sum_by_push f (below n) n in

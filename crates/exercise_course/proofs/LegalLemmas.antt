@@ -119,7 +119,7 @@ places_are : (journal : List JournalStep) → map place_of (map turn_of journal)
 places_are [] = refl
 places_are (step ∷ journal) = ap (λ (t : List ℕ). step.request ∷ t) (places_are journal)
 
-left_are : (old : Lists) (journal : List JournalStep) → left_of old (map turn_of journal) ≡ left_by old journal
+pub left_are : (old : Lists) (journal : List JournalStep) → left_of old (map turn_of journal) ≡ left_by old journal
 left_are old [] = refl
 left_are old (step ∷ journal) = left_are step.left journal
 
@@ -240,7 +240,7 @@ pub record IsCourse (lanes count number : ℕ) (start : Lists) (journal : List J
   pub each : OneStepEach count given journal
   pub whole : IsWhole lanes number start (map turn_of journal)
 
-legal_course : (lanes count number : ℕ) (start : Lists) (run : Run) (journal : List JournalStep) (given : List Reply) (old new : Faults) → 1 ≤ lanes → lanes ≤ 64 → count ≤ 100000 → BeginsFree lanes start → length given ≡ count → All (λ one. is_hindered one ≡ false) given
+pub legal_course : (lanes count number : ℕ) (start : Lists) (run : Run) (journal : List JournalStep) (given : List Reply) (old new : Faults) → 1 ≤ lanes → lanes ≤ 64 → count ≤ 100000 → BeginsFree lanes start → length given ≡ count → All (λ one. is_hindered one ≡ false) given
     → IsLegal start (script_of lanes count number) run journal (map Some given) old new → IsCourse lanes count number start journal given
 legal_course lanes count number start run journal given old new one most few begins many free legal =
     let each = one_each lanes count number journal given many free legal.replied in
@@ -285,7 +285,7 @@ same_sum : {X : Type 0} → (f g : X → ℕ) → ((x : X) → f x ≡ g x) → 
 same_sum f g e [] = refl
 same_sum f g e (x ∷ xs) = let a = sum_by-cons f x xs in let b = sum_by-cons g x xs in let k = e x in let r = same_sum f g e xs in omega (arith, a, b, k, r)
 
-messages_weigh : (lists : Lists) → weight_of (λ size. 1) lists ≡ message_total lists
+pub messages_weigh : (lists : Lists) → weight_of (λ size. 1) lists ≡ message_total lists
 messages_weigh lists = same_sum (weight_in (λ size. 1)) (λ (mailbox : Mailbox). length mailbox.messages) (λ mailbox. count_all mailbox.messages) lists
 
 weigh_alike : (v : ℕ → ℕ) (lanes count number : ℕ) (start : Lists) (run : Run) (journal : List JournalStep) (given : List Reply) (old new : Faults) → 1 ≤ lanes → lanes ≤ 64 → count ≤ 100000 → BeginsFree lanes start → length given ≡ count → All (λ one. is_hindered one ≡ false) given

@@ -1,4 +1,6 @@
+pub mod BalanceLemmas
 pub mod BoxLemmas
+pub mod CountingLemmas
 pub mod CourseLemmas
 pub mod DeliveredLemmas
 pub mod LegalLemmas

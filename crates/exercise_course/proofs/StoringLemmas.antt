@@ -192,11 +192,11 @@ last_of [] = None
 last_of (e ∷ []) = Some e
 last_of (e ∷ more ∷ rest) = last_of (more ∷ rest)
 
-pub part_after : Around → Run → Request → Option RunEvent → Option EventPart
+unfoldable pub part_after : Around → Run → Request → Option RunEvent → Option EventPart
 part_after around run q None = Some First
 part_after around run q (Some e) = behind_event around run q e e.refused
 
-next_is : (around : Around) (run : Run) (q : Request) (own : List RunEvent) → next_part around run q own ≡ part_after around run q (last_of own)
+pub next_is : (around : Around) (run : Run) (q : Request) (own : List RunEvent) → next_part around run q own ≡ part_after around run q (last_of own)
 unfolding last_of part_after
 next_is around run q [] = refl
 next_is around run q (e ∷ []) = refl

@@ -1,5 +1,5 @@
 // Laws of exercises.
-ghost use Rattle.std.specs.Prelude.{◌≡◌, ◌≤◌, ◌+◌, ℕ, All, List, Some, false, length, map, true};
+ghost use Rattle.std.specs.Prelude.{◌≡◌, ◌<◌, ◌≤◌, ◌+◌, ℕ, All, AllPairs, List, Some, false, length, map, sum_by, true};
 ghost use Rattle.disk_model.specs.Disk.{Faults};
 ghost use Rattle.journal.specs.Journal.{Broken, IsLegal, JournalStep, left_by};
 ghost use Rattle.journal.specs.Makes.{IsServed};
@@ -22,6 +22,14 @@ pub fn exercises_are_done()
         → IsLegal start (made_script lanes count number).requests run journal (map Some given) old new → message_total (left_by start journal) ≡ message_total (lists_in_order (made_script lanes count number).requests start) }
     ensures octets { (lanes count number : ℕ) (start : Lists) (run : Run) (journal : List JournalStep) (given : List Reply) (old new : Faults) → 1 ≤ lanes → lanes ≤ 64 → count ≤ 100000 → BeginsFree lanes start → length given ≡ count → All (λ one. is_hindered one ≡ false) given
         → IsLegal start (made_script lanes count number).requests run journal (map Some given) old new → octet_total (left_by start journal) ≡ octet_total (lists_in_order (made_script lanes count number).requests start) }
+{}
+
+/// A made script is served from lists as `exercises_are_done` asks, by a run whose map has rising map uids, up to the highest, as it begins:
+/// then the counts that are kept grow as the messages that are listed do.
+pub fn exercises_keep_counts()
+    ensures { (lanes count number : ℕ) (start : Lists) (run : Run) (journal : List JournalStep) (broken : Broken) (given : List Reply) (old new : Faults) (first m : MapMeaning) (drawn : Highest) (calls : ℕ) → AllPairs (λ a b. a.uid < b.uid) first.records → All (λ row. row.uid ≤ first.highest.map) first.records
+        → 1 ≤ lanes → lanes ≤ 64 → count ≤ 100000 → BeginsFree lanes start → length given ≡ count → All (λ one. is_hindered one ≡ false) given → IsServed start (made_script lanes count number).requests run journal broken (map Some given) old new first m drawn calls
+        → sum_by (λ row. row.count) m.records + message_total start ≡ sum_by (λ row. row.count) first.records + message_total (left_by start journal) }
 {}
 
 /// A made script was served, and each reply is OK: then each delivery added one record to the map, and no other request did; and the
