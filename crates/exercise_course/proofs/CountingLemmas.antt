@@ -107,9 +107,10 @@ pub record Counted (up down : ℕ) (before after : MapMeaning) : Type 0 where
 changed_countable : (m : MapMeaning) (e : MapEntry) (changed : MapRecord → MapRecord) → ((row : MapRecord) → (changed row).uid ≡ row.uid) → IsCountable m
     → AllPairs Rises (map changed (filter (λ row. not false) m.records) ++ []) × All (λ row. row.uid ≤ (map_applied e m).highest.map) (map changed (filter (λ row. not false) m.records) ++ [])
 changed_countable m e changed same c =
-    let rows : map changed m.records ≡ map changed (filter (λ row. not false) m.records) ++ [] = sym (append-nil (map changed (filter (λ row. not false) m.records)) ∙ ap (map changed) (all_kept m.records)) in
-    (subst (AllPairs Rises) rows (pairs_map Rises Rises changed (λ a b lt. let x = same a in let y = same b in omega (arith, x, y, lt)) m.records c.rising),
-    subst (All (λ (row : MapRecord). row.uid ≤ (map_applied e m).highest.map)) rows (all_map (λ (row : MapRecord). row.uid ≤ m.highest.map) (λ (row : MapRecord). row.uid ≤ (map_applied e m).highest.map) changed (λ a le. let x = same a in omega (arith, x, le)) m.records c.below))
+    let rows : map changed m.records ≡ map changed (filter (λ row. not false) m.records) ++ [] = sym (append-nil (map changed (filter (λ row. not false) m.records)) ∙ ap (map changed) (all_kept m.records)) in (
+      subst (AllPairs Rises) rows (pairs_map Rises Rises changed (λ a b lt. let x = same a in let y = same b in omega (arith, x, y, lt)) m.records c.rising),
+      subst (All (λ (row : MapRecord). row.uid ≤ (map_applied e m).highest.map)) rows (all_map (λ (row : MapRecord). row.uid ≤ m.highest.map) (λ (row : MapRecord). row.uid ≤ (map_applied e m).highest.map) changed (λ a le. let x = same a in omega (arith, x, le)) m.records c.below),
+    )
 
 still_sum : (rows : List MapRecord) → sum_by count_of_row (map (λ row. row) (filter (λ row. not false) rows) ++ []) ≡ sum_by count_of_row rows
 still_sum [] = refl

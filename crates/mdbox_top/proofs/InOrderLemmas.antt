@@ -1,11 +1,13 @@
 -- An exercise of a store that has none of its mailboxes: each request is done, and what is counted is as in the script's own order.
-use Rattle.std.specs.Prelude.{◌≡◌, ◌≤◌, ◌⊎◌, ◌||◌, ◌+◌, flat_map, ℕ, Bool, true, false, if◌then◌else◌, All, List, [], ◌∷◌, length, map, None, Option, Some}
+use Rattle.std.specs.Prelude.{◌≡◌, ◌<◌, ◌≤◌, ◌⊎◌, ◌||◌, ◌+◌, AllPairs, flat_map, sum_by, ℕ, Bool, true, false, if◌then◌else◌, All, List, [], ◌∷◌, length, map, None, Option, Some}
 use Rattle.std.specs.List.{list_any}
-use Rattle.std.proofs.Common.{refl, sym, ◌∙◌, ap, inl, inr}
-use Rattle.std.proofs.lemmas.List.Elements.{All-cons, All-head, All-nil, All-tail}
+use Rattle.std.proofs.Common.{refl, sym, ◌∙◌, ap, arith, inl, inr, subst}
+use Rattle.std.proofs.lemmas.List.Elements.{All-cons, All-head, All-nil, All-tail, All-weaker}
 use Rattle.disk_model.specs.Disk.{Faults, History, IsTold, told_calls}
 use Rattle.exercise_course.specs.Hindered.{BeginsFree, is_full, is_hindered, is_ok}
 use Rattle.exercise_course.specs.InOrder.{deliveries_in}
+use Rattle.exercise_course.proofs.BalanceLemmas.{counts_grow}
+use Rattle.exercise_course.proofs.CountingLemmas.{IsCountable}
 use Rattle.exercise_course.proofs.DeliveredLemmas.{records_delivered}
 use Rattle.exercise_course.proofs.LegalLemmas.{all_ok, messages_alike, octets_alike, script_length}
 use Rattle.journal.specs.Journal.{Requests}
@@ -14,10 +16,13 @@ use Rattle.mdbox_base.specs.declared.replies.Reply.{Reply}
 use Rattle.mdbox_base.specs.declared.replies.Reply.TheVariants as reply
 use Rattle.list_machine.specs.Machine.{count_different}
 use Rattle.list_machine.specs.Run.{Run}
+use Rattle.mdbox_base.specs.declared.entries.Highest.{Highest}
 use Rattle.mdbox_base.specs.declared.entries.InstRow.{InstRow}
 use Rattle.model_lists.specs.Lists.{Lists}
 use Rattle.model_meaning.specs.BoxMeaning.{BoxMeaning}
 use Rattle.model_meaning.specs.MapMeaning.{MapMeaning, MapRecord, map_meaning}
+use Rattle.model_meaning.specs.Sound.{IsSoundRecord}
+use Rattle.model_meaning.proofs.MapSoundLemmas.{map_sound}
 use Rattle.model_store.specs.Settled.{files_of}
 use Rattle.model_store.proofs.OpeningLemmas.{one_store}
 use Rattle.request_text.specs.Outcomes.{is_disk_no, is_lack, is_no, replies_outcome}
@@ -83,6 +88,20 @@ same_records (Some history) m run later meanings o c told =
     let one = one_store (files_of history.now) m.store run.store o.entries c.0 o.logs c.1 o.opens c.2 in
     o.means.records ∙ ap (λ (x : MapMeaning). x.records) (ap (λ (s : List ℕ). map_meaning s o.entries) one.0 ∙ ap (map_meaning run.store) one.1) ∙ sym c.3.records
 
+-- map uids rise in the logs with which a store opens
+opened_countable : (old : Option History) (m : MapMeaning) (meanings : List BoxMeaning) → IsOpenedAs old m meanings → IsCountable m
+opened_countable old m meanings o =
+    let sound = map_sound m.store o.entries o.good.map_entries.1 o.good.map_entries.0 in
+    record {
+      rising = subst (AllPairs (λ (a b : MapRecord). a.uid < b.uid)) (sym o.means.records) sound.rising;
+      below = subst (All (λ (row : MapRecord). row.uid ≤ m.highest.map)) (sym o.means.records)
+          (All-weaker (IsSoundRecord (map_meaning m.store o.entries).highest.map) (λ (row : MapRecord). row.uid ≤ m.highest.map)
+          (λ row s. let high = ap (λ (h : Highest). h.map) o.means.highest in let b = s.below in omega (arith, high, b)) _ sound.records);
+    }
+
+abbrev counts_in : List MapRecord → ℕ
+counts_in rows = sum_by (λ row. row.count) rows
+
 -- how many different instances rows name
 abbrev ids_different : List InstRow → ℕ
 ids_different rows = count_different (map (λ instance. instance.id.0) rows)
@@ -114,6 +133,12 @@ done_in_order lanes count number held later old new began now ended d one most f
       messages = counted.0 ∙ messages_alike lanes count number lists serves.run serves.journal d.given began now one most few begins many free serves.served.legal;
       octets = counted.1 ∙ octets_alike lanes count number lists serves.run serves.journal d.given began now one most few begins many free serves.served.legal;
       records = λ told. ap length (same told) ∙ more.records ∙ ap (λ (x : MapMeaning). length x.records + deliveries_in script) first;
+      counts = λ told.
+          let k = counts_grow lanes count number lists serves.run serves.journal serves.broken d.given began now (map_meaning serves.run.store serves.run.start) serves.m serves.drawn (told_calls new) (subst IsCountable (sym first) (opened_countable old d.done.m d.done.meanings d.done.opened)) one most few begins many free serves.served in
+          let now_is = ap counts_in (same told) in
+          let first_is = ap (λ (x : MapMeaning). counts_in x.records) first in
+          let listed = counted.0 in
+          omega (arith, k, now_is, first_is, listed);
       instances = λ told. ap count_rows (same told) ∙ ap ids_different more.instances ∙ ap (λ (x : MapMeaning). count_rows x.records) first;
     }
   where
