@@ -1,0 +1,10 @@
+pub mod BalanceLemmas
+pub mod BoxLemmas
+pub mod CountingLemmas
+pub mod CourseLemmas
+pub mod DeliveredLemmas
+pub mod LegalLemmas
+pub mod PlaceLemmas
+pub mod ReadyLemmas
+pub mod RoundLemmas
+pub mod StoringLemmas
