@@ -212,3 +212,18 @@ one_safe change lists some image (inr e) s = inr (subst (λ (ls : Lists). Safe i
 pub changed_moments : {D : Type 0} → (change : Lists → Lists) (old mid new : Option History) (s : StoreValue D) → OpenedNow old mid s → MomentsAmong (AreOneOf change) mid new → ChangeMoments change old new
 changed_moments change old mid new s o moments =
     moments_as (AreOneOf change) (λ lists. SafeForOne lists (change lists)) old mid new s o moments (λ lists moment image safe. inl safe) (λ lists some moment image a safe. one_safe change lists some image a safe)
+
+-- ---- what it leaves
+
+-- an event that answered nothing
+pub none_made : (run : Run) (q : Request) (event : RunEvent) (said : List Reply) (answer : Option Reply) (lists later : Lists) → said ≡ [] → and_told said answer ≡ [] → StepOf run q lists event answer later → later ≡ lists
+none_made run q event said None lists later a b made = made
+none_made run q event said (Some given) lists later a b made = absurd (let k : given ∷ [] ≡ [] = subst (λ (rs : List Reply). rs ++ given ∷ [] ≡ []) a b in cc k)
+
+pub opens_as_before : {D : Type 0} → (new : Option History) (s t : StoreValue D) → IsStore new t → t.stopped ≡ false → IsAsBefore s t → OpensAsBefore s.map (indexes_of s.boxes) new
+opens_as_before new s t k runs b = record {
+  map = t.map;
+  opened = subst (λ ms. IsOpenedAs new t.map ms) b.indexes (opens_again new t k runs);
+  mailboxes = b.mailboxes;
+  records = b.records;
+}

@@ -3,10 +3,8 @@ pub mod BatchLemmas
 pub mod CountsLemmas
 pub mod ChangedLemmas
 pub mod ChangeLemmas
-pub mod CopyLemmas
 pub mod DeliverLemmas
 pub mod ExerciseLemmas
-pub mod ExpungeLemmas
 pub mod FetchLemmas
 pub mod FetchedLemmas
 pub mod FirstLemmas
@@ -19,7 +17,7 @@ pub mod MakeFileLemmas
 pub mod MakeLemmas
 pub mod MoveLemmas
 pub mod NumbersLemmas
-pub mod OneEventLemmas
+pub mod OneStepLemmas
 pub mod PlaceLemmas
 pub mod ReplyFaultLemmas
 pub mod RequestLemmas

@@ -39,8 +39,10 @@ use Rattle.script_run.specs.One.{lists_behind, lists_told, moved_lists}
 use Rattle.mdbox_top.specs.ChangeEvents.{IsWayTo, ChangesAlone, MovesAlone, IsAsBefore}
 use Rattle.mdbox_top.specs.MoveRun.{IsMovedAs, AreAlongMove, IsMoveAnswer, IsMoveReply, MoveRests}
 use Rattle.mdbox_top.proofs.AloneLemmas.{alone_faults}
-use Rattle.mdbox_top.proofs.ChangeLemmas.{ChangeEvent, SoFar, so_far_begins, so_far_on, IsUnrefused, so_far_ends, way_shown, opens_unchanged, moments_as}
-use Rattle.mdbox_top.proofs.CopyLemmas.{CauseIn, raise_cause, may_cause, one_refusal, memory_runs, step_calm, none_made, given_back, still_before, HoldsRaised, raised_first, named_kept, only_memory, opens_as_before, unremembered_runs}
+use Rattle.mdbox_top.proofs.ChangeLemmas.{ChangeEvent, SoFar, so_far_begins, so_far_on, IsUnrefused, so_far_ends, way_shown, opens_unchanged, moments_as, none_made, opens_as_before}
+use Rattle.script_run.proofs.CopyTaskLemmas.{CauseIn, HoldsRaised, given_back, may_cause, memory_runs, named_kept, only_memory, raise_cause, raised_first, step_calm, still_alike}
+use Rattle.script_run.proofs.OneTaskLemmas.{one_refusal}
+use Rattle.mdbox_top.proofs.OneStepLemmas.{unremembered_runs}
 use Rattle.mdbox_top.proofs.MailLemmas.{opened_mail}
 use Rattle.mdbox_top.proofs.ServedLemmas.{way_opens}
 use Rattle.script_run.proofs.ShownLemmas.{LogsShow, opens_again}
@@ -343,7 +345,7 @@ early_moves history faults name uid target first s t how why so event k same e =
     record {
       given_is = raise_answers name uid.0 target first why (subst (λ (v : StoreValue _). IsRaiseRefusal name uid.0 target v why) so.knows e);
       refused = λ other q running memory. same ∙ so.knows;
-      memory = λ q. still_before first t (same ∙ so.knows);
+      memory = λ q. still_alike first t (same ∙ so.knows);
       calm = calm;
       here = λ moved q. absurd (cc q);
       changes = refused_moves history faults name uid target first s t stage.First stage.First how why so event k calm (λ runs lists. refl);
@@ -354,7 +356,7 @@ first_moves : {D : Type 0} → (history : D → Option History) (faults : D → 
 first_moves history faults name uid target first s t how why so event k (inl a) = stopped_moves history faults name uid target first s t stage.First stage.First how why so event k (subst (λ (v : StoreValue _). MayBeRaised name uid.0 target v) so.knows a.2) a.0 a.1
 first_moves history faults name uid target first s t how why so event k (inr (same, inl e)) = early_moves history faults name uid target first s t how why so event k same e
 first_moves history faults name uid target first s t how why so event k (inr (same, inr e)) =
-    late_moves history faults name uid target first s t stage.First stage.First how why so event k (λ lists. refl) (subst (λ (v : StoreValue _). MayBeRaised name uid.0 target v) so.knows e.1) e.0 (still_before first t (same ∙ so.knows))
+    late_moves history faults name uid target first s t stage.First stage.First how why so event k (λ lists. refl) (subst (λ (v : StoreValue _). MayBeRaised name uid.0 target v) so.knows e.1) e.0 (still_alike first t (same ∙ so.knows))
 
 moved_as : {D : Type 0} → (name : List ℕ) (uid : ℕ) (target : List ℕ) (copied given : Uid) (gone : Bool) (first : StoreValue D) → WasNext name uid target copied first → given ≡ copied → AnswerIn name uid target first (reply.Moved given gone)
 moved_as name uid target copied given gone first w e = may_answers name uid target first (reply.Moved given gone) w.may (inl (w.m, given, gone, w.named, ap (λ (u : Uid). u.0) e ∙ w.next_is, refl))

@@ -26,24 +26,18 @@ use Rattle.journal.specs.Journal.{is_read_fault}
 use Rattle.list_machine.specs.Run.{Run}
 use Rattle.store_core.specs.Value.{StoreValue, indexes_of, list_named}
 use Rattle.task_steps.specs.Step.{Seen, ShowsSeen, HasNotBegun}
-use Rattle.mail_ops.specs.Copy.{IsAtCopy, copied_lists}
-use Rattle.mail_ops.specs.Expunging.{IsAtExpunge}
 use Rattle.mail_ops.specs.Making.{IsAtMake, making_refusal, with_mailbox}
 use Rattle.mail_ops.specs.Moving.{IsAtMove}
 use Rattle.mail_ops.specs.SparedMail.{SparesMail}
-use Rattle.mail_ops.specs.declared.copy.CopyStage.TheVariants as copy_stage
-use Rattle.mail_ops.specs.declared.expunging.ExpungeStage.TheVariants as expunge_stage
 use Rattle.mail_ops.specs.declared.making.MakeStage.TheVariants as make_stage
 use Rattle.mail_ops.specs.declared.moving.MoveStage.TheVariants as move_stage
 use Rattle.model_store.specs.Stands.{HasInstances}
 use Rattle.saved_message.specs.Region.{written_region}
 use Rattle.saved_message.specs.Saved.{ids_in}
 use Rattle.mail_save.specs.declared.place.SavedAt.{SavedAt}
-use Rattle.script_run.specs.One.{ServesRequest, lists_told, saved_lists, missing_cause}
-use Rattle.mdbox_top.specs.Changed.{IsChangeAnswer, AreOneOf, MomentsAmong}
-use Rattle.mdbox_top.specs.CopyRun.{uncopied_cause, IsCopyAnswer}
+use Rattle.script_run.specs.One.{IsChangeAnswer, MeansAlike, ServesRequest, lists_told, saved_lists, uncopied_cause}
+use Rattle.mdbox_top.specs.Changed.{AreOneOf, MomentsAmong}
 use Rattle.mdbox_top.specs.DeliverRun.{undelivered_cause, AreFirstNamed, attachment_octets, region_length, HasRecordLeft, HasRecordMore, IsDeliverAnswer, AreSaved}
-use Rattle.mdbox_top.specs.ExpungeRun.{lists_without}
 use Rattle.mdbox_top.specs.MakeRun.{lists_by_making}
 use Rattle.mdbox_top.specs.MoveRun.{AreAlongMove, IsMoveAnswer}
 use Rattle.mdbox_top.specs.SavedMail.{AddedMail, LeftMail, WroteMail}
@@ -78,12 +72,6 @@ pub record ChangesAlone {D : Type 0} (Began : Run → ℕ → List Reply → Typ
   pub halts : (given ≡ reply.Refused refusal.Stopped) ↔ (later.stopped ≡ true)
   pub fault : ChangeFaultCounted (given ≡ reply.Refused refusal.Stopped) began now
   pub unfailed : (given ≡ reply.Refused refusal.Stopped → ⊥) → NoFault began now
-
--- What the events of an expunge did.
-pub record RemovesAlone {D : Type 0} (name : List ℕ) (uid : Uid) (store later : StoreValue D) (old new : Option History) (began now : Faults) (given : Reply) : Type 0 where
-  pub given_is : IsChangeAnswer (missing_cause (list_named store name) uid.0) given
-  pub refused : (why : Refusal) → given ≡ reply.Refused why → (why ≡ refusal.Stopped → ⊥) → later ≡ store
-  pub changes : ChangesAlone (IsAtExpunge expunge_stage.First) (request.Expunge name uid) (AreOneOf (lists_without name uid)) (lists_without name uid) store later old new began now given
 
 -- The store has the same listings and mailboxes.
 pub record IsAlike {D : Type 0} (store later : StoreValue D) : Type 0 where
@@ -128,18 +116,8 @@ pub record SavesAlone {D : Type 0} (name : List ℕ) (time : ℕ) (octets : List
   pub stays : MailIsKept store.map old new
 
 -- The store has the same listings, and the same mailboxes and records of the map, and their counts.
-pub record IsAsBefore {D : Type 0} (store later : StoreValue D) : Type 0 where
-  pub indexes : indexes_of later.boxes ≡ indexes_of store.boxes
-  pub mailboxes : later.map.boxes ≡ store.map.boxes
-  pub records : later.map.records ≡ store.map.records
-
--- What the events of a copy did.
-pub record CopiesAlone {D : Type 0} (name : List ℕ) (uid : Uid) (target : List ℕ) (store later : StoreValue D) (old new : Option History) (began now : Faults) (given : Reply) : Type 0 where
-  pub given_is : IsCopyAnswer (uncopied_cause (list_named store name) (list_named store target) store.map uid.0) (list_named store target) given
-  pub refused : (why : Refusal) → given ≡ reply.Refused why → (why ≡ refusal.Stopped → ⊥) → (why ≡ refusal.NoMemory → ⊥) → later ≡ store
-  pub memory : given ≡ reply.Refused refusal.NoMemory → IsAsBefore store later
-  pub calm : is_read_fault (Some given) ≡ false
-  pub changes : ChangesAlone (IsAtCopy copy_stage.First) (request.Copy name uid target) (AreOneOf (copied_lists name uid target)) (copied_lists name uid target) store later old new began now given
+abbrev pub IsAsBefore : {D : Type 0} → StoreValue D → StoreValue D → Type 0
+IsAsBefore store later = MeansAlike store.map (indexes_of store.boxes) later.map (indexes_of later.boxes)
 
 -- What the events of a move did.
 pub record MovesAlone {D : Type 0} (name : List ℕ) (uid : Uid) (target : List ℕ) (store later : StoreValue D) (old new : Option History) (began now : Faults) (given : Reply) : Type 0 where
@@ -181,18 +159,14 @@ pub record MakesAlone {D : Type 0} (name : List ℕ) (store later : StoreValue D
 
 -- ---- of any of these requests
 
--- a request of several events that changes the lists, but for a delivery
+-- a request of several events that changes the lists, but for a delivery, an expunge and a copy
 abbrev pub HasMoreEvents : Request → Type 0
-HasMoreEvents (request.Expunge name uid) = Unit {0}
-HasMoreEvents (request.Copy name uid target) = Unit {0}
 HasMoreEvents (request.Move name uid target) = Unit {0}
 HasMoreEvents (request.Make name) = Unit {0}
 HasMoreEvents other = ⊥
 
 -- what its events did
 abbrev pub DoesAlone : {D : Type 0} → Request → StoreValue D → StoreValue D → Option History → Option History → Faults → Faults → Reply → Type 0
-DoesAlone (request.Expunge name uid) store later old new began now given = RemovesAlone name uid store later old new began now given
-DoesAlone (request.Copy name uid target) store later old new began now given = CopiesAlone name uid target store later old new began now given
 DoesAlone (request.Move name uid target) store later old new began now given = MovesAlone name uid target store later old new began now given
 DoesAlone (request.Make name) store later old new began now given = MakesAlone name store later old new began now given
 DoesAlone other store later old new began now given = ⊥

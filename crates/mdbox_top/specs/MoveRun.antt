@@ -18,9 +18,8 @@ use Rattle.store_open.specs.Opened.{IsOpenedAs}
 use Rattle.store_sweep.specs.Moments.{NoFailedChange}
 use Rattle.request_text.specs.declared.outcome.Outcome.{Outcome}
 use Rattle.script_run.specs.Opening.{AreSafeFor}
-use Rattle.script_run.specs.One.{OpensUnchanged, lists_behind, lists_told, moved_lists}
+use Rattle.script_run.specs.One.{OpensUnchanged, lists_behind, lists_told, moved_lists, uncopied_cause}
 use Rattle.mdbox_top.specs.Changed.{OpensChanged, OpensAsBefore, LeavesMail}
-use Rattle.mdbox_top.specs.CopyRun.{uncopied_cause}
 use Rattle.mdbox_top.specs.Served.{RequestOutcome}
 
 -- the copy has the target's next UID

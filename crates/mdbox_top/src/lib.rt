@@ -9,10 +9,8 @@ pub use run::{mdbox_alone, mdbox_run};
 
 mod alone;
 mod batch;
-mod copy;
 mod deliver;
 mod exercise;
-mod expunge;
 mod fetch;
 mod init;
 mod input_commands;
