@@ -1,5 +1,5 @@
 -- What the events of a request alone say together that may change the lists.
-use Rattle.std.specs.Prelude.{◌≡◌, ◌⊎◌, ◌↔◌, ℕ, true, false, List, [], Option, Some, None}
+use Rattle.std.specs.Prelude.{◌≡◌, ◌⊎◌, ◌↔◌, ◌∷◌, ◌++◌, ℕ, true, false, List, [], Option, Some, None}
 use Rattle.std.proofs.Common.{refl, sym, ◌∙◌, ap, subst, inl, inr}
 use Rattle.disk_model.specs.Disk.{Files, History, Faults, EachImage, IfTold}
 use Rattle.disk_model.specs.FaultCounts.{NoFault, ChangeFaultCounted}
@@ -27,12 +27,13 @@ use Rattle.store_core.specs.Running.{IsStore}
 use Rattle.store_core.specs.Value.{StoreValue, indexes_of}
 use Rattle.mail_ops.specs.SparedMail.{SparesMail}
 use Rattle.mail_ops.proofs.KeptMailLemmas.{spared_none}
+use Rattle.store_open.specs.Opened.{IsOpenedAs}
 use Rattle.model_kept.proofs.KeptLemmas.{ReadsImage}
 use Rattle.script_run.proofs.MailStaysLemmas.{opening_keeps}
 use Rattle.script_run.proofs.RunBeginsLemmas.{OpenedNow, before_opening, beginning, opening_begins}
 use Rattle.script_run.specs.One.{OpensUnchanged, lists_told}
-use Rattle.mdbox_top.specs.Changed.{ChangeMoments, AreOneOf, SafeForAmong, MomentsAmong}
-use Rattle.mdbox_top.specs.ChangeEvents.{IsWayTo, ServesAlone, ChangesAlone}
+use Rattle.mdbox_top.specs.Changed.{ChangeMoments, AreOneOf, OpensAsBefore, SafeForAmong, MomentsAmong}
+use Rattle.mdbox_top.specs.ChangeEvents.{IsAsBefore, IsWayTo, ServesAlone, ChangesAlone}
 use Rattle.mdbox_top.specs.UnderWay.{IsUnderWay, seen_alone}
 use Rattle.mdbox_top.proofs.MailLemmas.{spares_then}
 use Rattle.mdbox_top.proofs.ServedLemmas.{comes, opened_firm}

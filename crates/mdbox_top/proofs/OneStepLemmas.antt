@@ -264,6 +264,7 @@ flag_change name uid flags given entries old new began now done = record {
 }
 
 flag_tells : (name : List ℕ) (uid : Uid) (flags : ℕ) (given : Reply) (old new : Option History) (began now : Faults) → IsRequestDone (flagging name uid flags) given old new began now → IsFlagReply name uid flags old new given
+unfolding flag_change
 flag_tells name uid flags given old new began now w =
     let asked : Request = flagging name uid flags in
     let change : Lists → Lists = λ lists. set_flags name uid.0 flags lists in
@@ -304,6 +305,7 @@ expunge_change name uid given old new began now w = record {
 }
 
 expunge_tells : (name : List ℕ) (uid : Uid) (given : Reply) (old new : Option History) (began now : Faults) → IsRequestDone (expunging name uid) given old new began now → IsExpungeReply name uid old new given
+unfolding expunge_change
 expunge_tells name uid given old new began now w =
     let asked : Request = expunging name uid in
     let k = expunge_change name uid given old new began now w in
@@ -345,6 +347,7 @@ pub unremembered_runs : (given : Reply) → given ≡ reply.Refused refusal.NoMe
 unremembered_runs given d s = memory_runs (one_refusal refusal.NoMemory refusal.Stopped (sym d ∙ s))
 
 copy_tells : (name : List ℕ) (uid : Uid) (target : List ℕ) (given : Reply) (old new : Option History) (began now : Faults) → IsRequestDone (copying name uid target) given old new began now → IsCopyReply name uid target old new given
+unfolding copy_change
 copy_tells name uid target given old new began now w =
     let asked : Request = copying name uid target in
     let k = copy_change name uid target given old new began now w in

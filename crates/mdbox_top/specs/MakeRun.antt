@@ -22,7 +22,7 @@ use Rattle.store_open.specs.Opened.{IsOpenedAs, KeepsOpenedMail}
 use Rattle.store_sweep.specs.Moments.{NoFailedChange}
 use Rattle.store_sweep.specs.Swept.{IsSwept}
 use Rattle.request_text.specs.declared.outcome.Outcome.{Outcome}
-use Rattle.script_run.specs.One.{OpensUnchanged}
+use Rattle.script_run.specs.One.{IsChangeAnswer, OpensUnchanged}
 use Rattle.mdbox_top.specs.Changed.{OpensChanged}
 use Rattle.mdbox_top.specs.Served.{RequestOutcome}
 
