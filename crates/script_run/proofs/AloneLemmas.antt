@@ -1,5 +1,5 @@
 -- A request alone: of which events its run consists, and what it is replied by the first.
-use Rattle.std.specs.Prelude.{◌≡◌, ◌≤◌, ◌+◌, ◌==◌, ℕ, zero, suc, Bool, true, false, cond, List, [], ◌∷◌, ◌⊎◌, IfSome, count_by, filter, length, map, slice_get, take, Option, Some, None, ◌<◌, ◌++◌, All, AllPairs, drop}
+use Rattle.std.specs.Prelude.{◌≡◌, ◌≤◌, ◌+◌, ◌==◌, ℕ, zero, suc, Bool, true, false, cond, List, [], ◌∷◌, ◌⊎◌, IfSome, count_by, filter, if◌then◌else◌, nat_lt, length, map, slice_get, take, Option, Some, None, ◌<◌, ◌++◌, All, AllPairs, drop}
 use Rattle.std.proofs.Common.{refl, sym, ◌∙◌, ap, subst, arith, inl, inr}
 use Rattle.std.proofs.lemmas.Grind.{common_steps}
 use Rattle.std.proofs.lemmas.Option.{slice_get_within}
@@ -19,8 +19,8 @@ use Rattle.mdbox_base.specs.declared.requests.Request.TheVariants as request
 use Rattle.mdbox_base.specs.declared.script.JournalEntry.{JournalEntry}
 use Rattle.model_lists.specs.Lists.{Lists}
 use Rattle.list_machine.specs.Machine.{Answers, PartAnswers, is_step}
-use Rattle.list_machine.specs.Run.{EventPart, First, GivesBack, Last, Run, RunEvent, before, own_events, first_in, reply_of}
-use Rattle.journal.specs.Events.{Around, IsEvent, MayMeet, behind_addition, behind_copy, behind_event, behind_expunge, is_fault, is_faulted, next_part, reads_octets}
+use Rattle.list_machine.specs.Run.{EventPart, First, GivesBack, Last, SecondHalf, Run, RunEvent, before, own_events, first_in, reply_of}
+use Rattle.journal.specs.Events.{Around, IsEvent, MayMeet, behind_addition, behind_copy, behind_event, behind_expunge, behind_move, is_fault, is_faulted, next_part, reads_octets}
 use Rattle.journal.specs.GoesOn.{IsOneStep}
 use Rattle.journal.specs.Journal.{Requests, AreSteps, Broken, IsReplyOf, JournalStep, Reached, as_if, is_read_fault, left_by, WouldHaveBeen, refusal_in}
 use Rattle.journal.specs.Makes.{AreNextEvents, lists_before, IsServed}
@@ -29,7 +29,7 @@ use Rattle.journal.proofs.FaultLemmas.{faults_have_events}
 use Rattle.store_core.specs.Value.{StoreValue, indexes_of}
 use Rattle.script_run.specs.Done.{IsScriptDone, MayRead}
 use Rattle.script_run.specs.LeftOpen.{IsRequestDone, IsServedOpen}
-use Rattle.script_run.specs.One.{AreListsTold, HasOneEvent, IsAnsweredFirst, IsUnanswered, MakesOneStep, alone}
+use Rattle.script_run.specs.One.{AreListsTold, HasOneEvent, IsAnsweredFirst, IsUnanswered, MakesSteps, alone}
 use Rattle.script_run.specs.Opening.{LogsShowLists}
 use Rattle.script_run.specs.Script.{only_reads, IsRefusedAtOnce}
 use Rattle.script_run.proofs.SomeListsLemmas.{some_lists}
@@ -107,37 +107,50 @@ calm_addition Last refusal.Stopped next is asked calm = absurd (let k : None ≡
 calm_addition Last why next is asked calm = let k : Some GivesBack ≡ Some next = is in let z : GivesBack ≡ next = cc k in ap (λ (p : EventPart). reads_octets p asked) (sym z) ∙ calm
 calm_addition part why next is asked calm = absurd (let k : None ≡ Some next = is in cc k)
 
-calm_behind : (asked : Request) → MakesOneStep asked → (around : Around) (run : Run) (event : RunEvent) (why : Option Refusal) (part : EventPart) → behind_event around run asked event why ≡ Some part → reads_octets part asked ≡ false
+calm_move : (event : RunEvent) (part next : EventPart) → behind_move event part ≡ Some next → (asked : Request) → reads_octets Last asked ≡ false → reads_octets SecondHalf asked ≡ false → reads_octets GivesBack asked ≡ false → reads_octets next asked ≡ false
+calm_move event First next is asked last second back = let k : Some Last ≡ Some next = is in let z : Last ≡ next = cc k in ap (λ (p : EventPart). reads_octets p asked) (sym z) ∙ last
+calm_move event Last next is asked last second back = let k : Some SecondHalf ≡ Some next = is in let z : SecondHalf ≡ next = cc k in ap (λ (p : EventPart). reads_octets p asked) (sym z) ∙ second
+calm_move event SecondHalf next is asked last second back = by_test (nat_lt 0 (length event.box_entries)) is
+  where
+    by_test : (b : Bool) → (if b then Some GivesBack else None) ≡ Some next → reads_octets next asked ≡ false
+    by_test true is = let k : Some GivesBack ≡ Some next = is in let z : GivesBack ≡ next = cc k in ap (λ (p : EventPart). reads_octets p asked) (sym z) ∙ back
+    by_test false is = absurd (let k : None ≡ Some next = is in cc k)
+calm_move event part next is asked last second back = absurd (let k : None ≡ Some next = is in cc k)
+
+calm_behind : (asked : Request) → MakesSteps asked → (around : Around) (run : Run) (event : RunEvent) (why : Option Refusal) (part : EventPart) → behind_event around run asked event why ≡ Some part → reads_octets part asked ≡ false
 calm_behind (request.Expunge name uid) one around run event None part is = calm_expunge event.part part is (request.Expunge name uid) refl
 calm_behind (request.Expunge name uid) one around run event (Some why) part is = absurd (let k : None ≡ Some part = is in cc k)
 calm_behind (request.Copy name uid target) one around run event None part is = calm_copy event.part part is (request.Copy name uid target) refl
 calm_behind (request.Copy name uid target) one around run event (Some why) part is = calm_addition event.part why part is (request.Copy name uid target) refl
+calm_behind (request.Move name uid target) one around run event None part is = calm_move event event.part part is (request.Move name uid target) refl refl refl
+calm_behind (request.Move name uid target) one around run event (Some why) part is = calm_addition event.part why part is (request.Move name uid target) refl
 calm_behind (request.List name) one around run event why part is = absurd (none_behind (request.List name) one around run event why part is)
 calm_behind (request.Flag name uid flags) one around run event why part is = absurd (none_behind (request.Flag name uid flags) one around run event why part is)
 calm_behind request.Counts one around run event why part is = absurd (none_behind request.Counts one around run event why part is)
 calm_behind other one around run event why part is = absurd one
 
-calm_first : (asked : Request) → MakesOneStep asked → reads_octets First asked ≡ false
+calm_first : (asked : Request) → MakesSteps asked → reads_octets First asked ≡ false
 calm_first request.Purge one = absurd one
 calm_first asked one = refl
 
-calm_parts : (asked : Request) → MakesOneStep asked → (around : Around) (run : Run) (own : List RunEvent) (part : EventPart) → next_part around run asked own ≡ Some part → reads_octets part asked ≡ false
+calm_parts : (asked : Request) → MakesSteps asked → (around : Around) (run : Run) (own : List RunEvent) (part : EventPart) → next_part around run asked own ≡ Some part → reads_octets part asked ≡ false
 calm_parts asked one around run [] part is = let k : Some First ≡ Some part = is in let z : First ≡ part = cc k in ap (λ (p : EventPart). reads_octets p asked) (sym z) ∙ calm_first asked one
 calm_parts asked one around run (event ∷ []) part is = calm_behind asked one around run event event.refused part is
 calm_parts asked one around run (event ∷ more ∷ rest) part is = calm_parts asked one around run (more ∷ rest) part is
 
-pub one_makes : (asked : Request) → HasOneEvent asked → MakesOneStep asked
+pub one_makes : (asked : Request) → HasOneEvent asked → MakesSteps asked
 one_makes (request.List name) one = one
 one_makes (request.Flag name uid flags) one = one
 one_makes request.Counts one = one
 one_makes other one = absurd one
 
 -- they read no message
-pub may_read : (asked : Request) → MakesOneStep asked → (lists : Lists) (old : Option History) → MayRead (alone asked) lists old
+pub may_read : (asked : Request) → MakesSteps asked → (lists : Lists) (old : Option History) → MayRead (alone asked) lists old
 may_read (request.List name) one lists old = λ f. absurd (let e : false ≡ true = f in cc e)
 may_read (request.Flag name uid flags) one lists old = λ f. absurd (let e : false ≡ true = f in cc e)
 may_read (request.Expunge name uid) one lists old = λ f. absurd (let e : false ≡ true = f in cc e)
 may_read (request.Copy name uid target) one lists old = λ f. absurd (let e : false ≡ true = f in cc e)
+may_read (request.Move name uid target) one lists old = λ f. absurd (let e : false ≡ true = f in cc e)
 may_read request.Counts one lists old = λ f. absurd (let e : false ≡ true = f in cc e)
 may_read other one lists old = absurd one
 
@@ -159,7 +172,7 @@ unfaulted part asked none None may = refl
 unfaulted part asked none (Some refusal.ReadFault) may = absurd (let e : false ≡ true = sym none ∙ may in cc e)
 unfaulted part asked none (Some why) may = refl
 
-pub unread : (asked : Request) (given : Reply) (entries : List JournalEntry) (old new : Option History) (began now : Faults) → IsScriptDone (alone asked) (given ∷ []) entries old new began now → MakesOneStep asked → given ≡ reply.Refused refusal.ReadFault → ⊥
+pub unread : (asked : Request) (given : Reply) (entries : List JournalEntry) (old new : Option History) (began now : Faults) → IsScriptDone (alone asked) (given ∷ []) entries old new began now → MakesSteps asked → given ≡ reply.Refused refusal.ReadFault → ⊥
 unread asked given entries old new began now done one is =
     let some = some_lists old done.m done.meanings done.opened in
     let s = done.serves some.0 some.1 (may_read asked one some.0 old) in

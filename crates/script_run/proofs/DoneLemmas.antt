@@ -54,6 +54,7 @@ use Rattle.script_run.proofs.MailStaysLemmas.{opening_keeps, run_keeps, stays_fr
 use Rattle.script_run.proofs.CopyTaskLemmas.{IsCopyTold, StandsCopy, begun_copy, keeps_copy}
 use Rattle.script_run.proofs.ChainLemmas.{HasCounted, HasNotDelivered, HasOnlyRead, NoDelivery, counted_first, counted_on, reads_on, stays_over, syncs_first, undelivered_on, HasReadNoOctets, unread_on}
 use Rattle.script_run.proofs.SinceLemmas.{ServedSince, begun_first, fresh_tasks, reads_first, served_since, undelivered_first, unread_first}
+use Rattle.script_run.proofs.MoveTaskLemmas.{IsMoveTold, StandsMove, begun_move, keeps_move}
 use Rattle.script_run.proofs.MovedLemmas.{Purges, all_at, none_moved}
 use Rattle.script_run.proofs.OneTaskLemmas.{IsAloneSo, IsExpungeTold, IsFlagTold, KeepsAlone, StandsExpunge, StandsFlag, alone_fresh, alone_on, begun_expunge, keeps_expunge, keeps_flag}
 use Rattle.script_run.proofs.OpenedLemmas.{none_holds, none_used}
@@ -337,19 +338,27 @@ copy_told : {D : Type 0} → (at : ℕ) (name : List ℕ) (uid : Uid) (target : 
 copy_told at name uid target one old mid new first last s world ended r are =
     alone_told (StandsCopy name uid target s mid) (IsCopyTold name uid target s mid) at (request.Copy name uid target) one old mid new first last s world ended r are refl (keeps_copy name uid target s mid) (begun_copy name uid target s mid r.opened.running)
 
+move_told : {D : Type 0} → (at : ℕ) (name : List ℕ) (uid : Uid) (target : List ℕ) (one : Reply) (old mid new : Option History) (first last : Faults) (s : StoreValue D) (world ended : WorldValue D) → ScriptRan ((at, request.Move name uid target) ∷ []) old mid new first last s world ended → ended.replies ≡ Some one ∷ []
+    → IsMoveTold name uid target s mid one ended.store new
+move_told at name uid target one old mid new first last s world ended r are =
+    alone_told (StandsMove name uid target s mid) (IsMoveTold name uid target s mid) at (request.Move name uid target) one old mid new first last s world ended r are refl (keeps_move name uid target s mid) (begun_move name uid target s mid r.opened.running)
+
 told_alone : {D : Type 0} → (script : Requests) (old mid new : Option History) (first last : Faults) (s : StoreValue D) (world ended : WorldValue D) → ScriptRan script old mid new first last s world ended → (given : List Reply) → ended.replies ≡ map Some given → IsToldAlone script s.map (indexes_of s.boxes) given
 told_alone ((at, request.Flag name uid flags) ∷ []) old mid new first last s world ended r (one ∷ []) are = flag_told at name uid flags one old mid new first last s world ended r are
 told_alone ((at, request.Expunge name uid) ∷ []) old mid new first last s world ended r (one ∷ []) are = (expunge_told at name uid one old mid new first last s world ended r are).given_is
 told_alone ((at, request.Copy name uid target) ∷ []) old mid new first last s world ended r (one ∷ []) are = (copy_told at name uid target one old mid new first last s world ended r are).given_is
+told_alone ((at, request.Move name uid target) ∷ []) old mid new first last s world ended r (one ∷ []) are = (move_told at name uid target one old mid new first last s world ended r are).given_is
 told_alone script old mid new first last s world ended r given are = tt
 
 undone_alone : {D : Type 0} → (script : Requests) (old mid new : Option History) (first last : Faults) (s : StoreValue D) (world ended : WorldValue D) → ScriptRan script old mid new first last s world ended → (given : List Reply) → ended.replies ≡ map Some given → IsUndoneAlone script given → IsIdle mid new
 undone_alone ((at, request.Expunge name uid) ∷ []) old mid new first last s world ended r (reply.Refused why ∷ []) are running = (expunge_told at name uid (reply.Refused why) old mid new first last s world ended r are).unchanged why refl running
 undone_alone ((at, request.Copy name uid target) ∷ []) old mid new first last s world ended r (reply.Refused why ∷ []) are runs = (copy_told at name uid target (reply.Refused why) old mid new first last s world ended r are).unchanged why refl runs.0 runs.1
+undone_alone ((at, request.Move name uid target) ∷ []) old mid new first last s world ended r (reply.Refused why ∷ []) are runs = (move_told at name uid target (reply.Refused why) old mid new first last s world ended r are).unchanged why refl runs.0 runs.1
 undone_alone script old mid new first last s world ended r given are none = absurd none
 
 alike_alone : {D : Type 0} → (script : Requests) (old mid new : Option History) (first last : Faults) (s : StoreValue D) (world ended : WorldValue D) → ScriptRan script old mid new first last s world ended → (given : List Reply) → ended.replies ≡ map Some given → IsGivenBackAlone script given → MeansAlike s.map (indexes_of s.boxes) ended.store.map (indexes_of ended.store.boxes)
 alike_alone ((at, request.Copy name uid target) ∷ []) old mid new first last s world ended r (reply.Refused refusal.NoMemory ∷ []) are back = (copy_told at name uid target (reply.Refused refusal.NoMemory) old mid new first last s world ended r are).alike refl
+alike_alone ((at, request.Move name uid target) ∷ []) old mid new first last s world ended r (reply.Refused refusal.NoMemory ∷ []) are back = (move_told at name uid target (reply.Refused refusal.NoMemory) old mid new first last s world ended r are).alike refl
 alike_alone script old mid new first last s world ended r given are none = absurd none
 
 -- what it left of the store

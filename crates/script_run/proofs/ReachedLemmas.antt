@@ -69,7 +69,7 @@ get_before (y ∷ xs) zero x at = (y, refl)
 get_before (y ∷ xs) (suc n) x at = get_before xs n x at
 
 -- The part of an event is the first, or the one behind that of the event before it.
-part_after : (around after : ℕ → Around) (start : Lists) (asked : Request) (run : Run) (journal : List JournalStep) → AreNextEvents around after (alone asked) start run journal → (n : ℕ) (event : RunEvent) → slice_get run.events (suc n) ≡ Some event
+pub part_after : (around after : ℕ → Around) (start : Lists) (asked : Request) (run : Run) (journal : List JournalStep) → AreNextEvents around after (alone asked) start run journal → (n : ℕ) (event : RunEvent) → slice_get run.events (suc n) ≡ Some event
     → (e : RunEvent) × (slice_get run.events n ≡ Some e) × (behind_event (around (suc n)) (before (suc n) run) asked e e.refused ≡ Some event.part)
 part_after around after start asked run journal next n event at =
     let e = get_before run.events n event at in
@@ -82,14 +82,14 @@ part_after around after start asked run journal next n event at =
       sym (next_behind (around (suc n)) (before (suc n) run) asked (filter (λ x. x.request == 0) (take n run.events)) e.0) ∙ (ap (λ (es : List RunEvent). next_part (around (suc n)) (before (suc n) run) asked es) (sym own) ∙ part),
     )
 
-part_first : (around after : ℕ → Around) (start : Lists) (asked : Request) (run : Run) (journal : List JournalStep) → AreNextEvents around after (alone asked) start run journal → (event : RunEvent) → slice_get run.events 0 ≡ Some event → event.part ≡ First
+pub part_first : (around after : ℕ → Around) (start : Lists) (asked : Request) (run : Run) (journal : List JournalStep) → AreNextEvents around after (alone asked) start run journal → (event : RunEvent) → slice_get run.events 0 ≡ Some event → event.part ≡ First
 part_first around after start asked run journal next event at =
     let k = own_event around after start asked run journal next 0 event at in
     let e : Some First ≡ Some event.part = k.1.part_is in
     let f : First ≡ event.part = cc e in
     sym f
 
-some_part : (a b : EventPart) → Some a ≡ Some b → a ≡ b
+pub some_part : (a b : EventPart) → Some a ≡ Some b → a ≡ b
 some_part a b e = cc e
 
 -- no first part stands behind another
@@ -205,7 +205,7 @@ few_made start asked run journal replies old new one l =
     let same = length-map (steps_of 0 journal) (λ (s : JournalStep). s.half) ∙ ap length (all_own run (1, asked) start journal l.steps) in
     omega (arith, total, most, same)
 
-few_of : (k : ℕ) (steps : List JournalStep) → AllPairs (λ a b. a.event < b.event) steps → All (λ s. s.event ≡ k) steps → length steps ≤ 1
+pub few_of : (k : ℕ) (steps : List JournalStep) → AllPairs (λ a b. a.event < b.event) steps → All (λ s. s.event ≡ k) steps → length steps ≤ 1
 few_of k [] order at = omega arith
 few_of k (a ∷ []) order at = omega arith
 few_of k (a ∷ b ∷ rest) order at =
@@ -215,14 +215,14 @@ few_of k (a ∷ b ∷ rest) order at =
     absurd (omega (arith, lt, first, second))
 
 -- an event that would have been is that of the failed append, of the same part
-record IsWould (events : List RunEvent) (place n : ℕ) (would : RunEvent) : Type 0 where
-  here : n ≡ place
-  failed : RunEvent
-  failed_is : slice_get events place ≡ Some failed
-  stopped : failed.refused ≡ Some refusal.Stopped
-  part_is : would.part ≡ failed.part
+pub record IsWould (events : List RunEvent) (place n : ℕ) (would : RunEvent) : Type 0 where
+  pub here : n ≡ place
+  pub failed : RunEvent
+  pub failed_is : slice_get events place ≡ Some failed
+  pub stopped : failed.refused ≡ Some refusal.Stopped
+  pub part_is : would.part ≡ failed.part
 
-would_at : (events would : List RunEvent) (place n : ℕ) (b : RunEvent) → WouldHaveBeen (drop place events) would → length would ≤ 1 → place ≤ n → slice_get (take place events ++ would) n ≡ Some b → IsWould events place n b
+pub would_at : (events would : List RunEvent) (place n : ℕ) (b : RunEvent) → WouldHaveBeen (drop place events) would → length would ≤ 1 → place ≤ n → slice_get (take place events ++ would) n ≡ Some b → IsWould events place n b
 would_at [] [] zero n b w one l at = absurd (let k : None ≡ Some b = at in cc k)
 would_at [] [] (suc place) n b w one l at = absurd (let k : None ≡ Some b = at in cc k)
 would_at [] (x ∷ rest) zero n b w one l at = absurd w
@@ -239,7 +239,7 @@ would_at (e ∷ events) would (suc place) (suc n) b w one l at =
     let k = would_at events would place n b w one (omega (arith, l)) at in
     record { here = ap suc k.here; failed = k.failed; failed_is = k.failed_is; stopped = k.stopped; part_is = k.part_is }
 
-broken_at : (asked : Request) (run : Run) (broken : Broken) (start : Lists) (steps : List JournalStep) → WouldHaveBeen (drop broken.place run.events) broken.events → length broken.events ≤ 1 → AreSteps (as_if run broken) (alone asked) start steps → All (λ step. broken.place ≤ step.event) steps → All (λ step. step.event ≡ broken.place) steps
+pub broken_at : (asked : Request) (run : Run) (broken : Broken) (start : Lists) (steps : List JournalStep) → WouldHaveBeen (drop broken.place run.events) broken.events → length broken.events ≤ 1 → AreSteps (as_if run broken) (alone asked) start steps → All (λ step. broken.place ≤ step.event) steps → All (λ step. step.event ≡ broken.place) steps
 broken_at asked run broken start [] w one s place = All-nil (λ (x : JournalStep). x.event ≡ broken.place)
 broken_at asked run broken start (step ∷ steps) w one s place =
     All-cons (λ (x : JournalStep). x.event ≡ broken.place) step steps (would_at run.events broken.events broken.place step.event s.0.event w one (All-head (λ (x : JournalStep). broken.place ≤ x.event) step steps place) s.0.event_is).here

@@ -82,6 +82,11 @@ MakesOneStep (request.Expunge name uid) = Unit {0}
 MakesOneStep (request.Copy name uid target) = Unit {0}
 MakesOneStep asked = HasOneEvent asked
 
+-- or a move, which makes two
+abbrev pub MakesSteps : Request → Type 0
+MakesSteps (request.Move name uid target) = Unit {0}
+MakesSteps asked = MakesOneStep asked
+
 -- It was replied what the machine answers, on these lists, at its first event: of a run whose map is this then.
 pub record IsAnsweredFirst (request : Request) (m : MapMeaning) (lists : Lists) (given : Reply) : Type 0 where
   pub run : Run
@@ -156,24 +161,42 @@ abbrev pub IsCopyAnswer : Option Refusal → Option BoxMeaning → Reply → Typ
 IsCopyAnswer (Some why) to given = given ≡ reply.Refused why
 IsCopyAnswer None to given = IsCopiedAs to given ⊎ ((given ≡ reply.Refused refusal.NoMemory) ⊎ (given ≡ reply.Refused refusal.Stopped))
 
--- The reply to a setting of flags, an expunge or a copy alone is so by the logs with which the store opened.
+-- the copy has the target's next UID
+abbrev pub IsMovedAs : Option BoxMeaning → Reply → Type 0
+IsMovedAs to given = (target : BoxMeaning) × (uid : Uid) × (gone : Bool) × (to ≡ Some target) × (uid.0 ≡ target.next) × (given ≡ reply.Moved uid gone)
+
+-- Why it isn't moved is replied, if it isn't, which is why a copy would not be made. Else it is; or there was no memory; or a
+-- change of the disk failed, and the store is stopped.
+abbrev pub IsMoveAnswer : Option Refusal → Option BoxMeaning → Reply → Type 0
+IsMoveAnswer (Some why) to given = given ≡ reply.Refused why
+IsMoveAnswer None to given = IsMovedAs to given ⊎ ((given ≡ reply.Refused refusal.NoMemory) ⊎ (given ≡ reply.Refused refusal.Stopped))
+
+-- these lists, those with the copy, or those that are moved: with the copy and without the message
+abbrev pub AreAlongMove : List ℕ → Uid → List ℕ → Lists → Lists → Type 0
+AreAlongMove name uid target lists some = (some ≡ lists) ⊎ ((some ≡ copied_lists name uid target lists) ⊎ (some ≡ moved_lists name uid target lists))
+
+-- The reply to a setting of flags, an expunge, a copy or a move alone is so by the logs with which the store opened.
 abbrev pub IsToldAlone : Requests → MapMeaning → List BoxMeaning → List Reply → Type 0
 IsToldAlone ((lane, request.Flag name uid flags) ∷ []) m meanings (given ∷ []) = IsFlagAnswer (missing_cause (meaning_named name m.boxes meanings) uid.0) given
 IsToldAlone ((lane, request.Expunge name uid) ∷ []) m meanings (given ∷ []) = IsChangeAnswer (missing_cause (meaning_named name m.boxes meanings) uid.0) given
 IsToldAlone ((lane, request.Copy name uid target) ∷ []) m meanings (given ∷ []) =
     IsCopyAnswer (uncopied_cause (meaning_named name m.boxes meanings) (meaning_named target m.boxes meanings) m uid.0) (meaning_named target m.boxes meanings) given
+IsToldAlone ((lane, request.Move name uid target) ∷ []) m meanings (given ∷ []) =
+    IsMoveAnswer (uncopied_cause (meaning_named name m.boxes meanings) (meaning_named target m.boxes meanings) m uid.0) (meaning_named target m.boxes meanings) given
 IsToldAlone script m meanings given = Unit {0}
 
--- An expunge or a copy alone was refused, and the store isn't stopped: nothing has changed since the opening. So it is of an expunge
--- also for want of memory.
+-- An expunge, a copy or a move alone was refused, and the store isn't stopped: nothing has changed since the opening. So it is of an
+-- expunge also for want of memory.
 abbrev pub IsUndoneAlone : Requests → List Reply → Type 0
 IsUndoneAlone ((lane, request.Expunge name uid) ∷ []) (reply.Refused why ∷ []) = why ≡ refusal.Stopped → ⊥
 IsUndoneAlone ((lane, request.Copy name uid target) ∷ []) (reply.Refused why ∷ []) = (why ≡ refusal.Stopped → ⊥) × (why ≡ refusal.NoMemory → ⊥)
+IsUndoneAlone ((lane, request.Move name uid target) ∷ []) (reply.Refused why ∷ []) = (why ≡ refusal.Stopped → ⊥) × (why ≡ refusal.NoMemory → ⊥)
 IsUndoneAlone script given = ⊥
 
--- There was no memory for a copy alone, which gives back the count that it may have raised.
+-- There was no memory for a copy or a move alone, which gives back the count that it may have raised.
 abbrev pub IsGivenBackAlone : Requests → List Reply → Type 0
 IsGivenBackAlone ((lane, request.Copy name uid target) ∷ []) (reply.Refused refusal.NoMemory ∷ []) = Unit {0}
+IsGivenBackAlone ((lane, request.Move name uid target) ∷ []) (reply.Refused refusal.NoMemory ∷ []) = Unit {0}
 IsGivenBackAlone script given = ⊥
 
 -- Logs have the same listings, and the same mailboxes and records of the map, and their counts.
