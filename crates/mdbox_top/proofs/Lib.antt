@@ -15,7 +15,6 @@ pub mod ListLemmas
 pub mod MailLemmas
 pub mod MakeFileLemmas
 pub mod MakeLemmas
-pub mod MoveLemmas
 pub mod NumbersLemmas
 pub mod OneStepLemmas
 pub mod PlaceLemmas

@@ -1,4 +1,4 @@
--- A request alone that makes one step, by the script that it is.
+-- A request alone of one step, or a move of two, by the script that it is.
 use Rattle.std.specs.Prelude.{◌≡◌, ◌⊎◌, ℕ, zero, suc, false, true, List, [], ◌∷◌, Contains, Option, Some, Bool, None, is_some, if◌then◌else◌}
 use Rattle.std.proofs.Common.{refl, sym, ap, subst, inl, inr, arith, ◌∙◌}
 use Rattle.disk_model.specs.Disk.{Faults, History}
@@ -16,12 +16,13 @@ use Rattle.list_machine.specs.Run.{EventPart, First, Run, RunEvent, map_of}
 use Rattle.list_machine.proofs.OneStepLemmas.{answers_one}
 use Rattle.script_run.specs.Done.{IsScriptDone, MayBeServed}
 use Rattle.script_run.specs.LeftOpen.{IsRequestDone}
-use Rattle.script_run.specs.One.{AreListsTold, HasOneEvent, IsAnsweredFirst, IsGivenBackAlone, IsUnanswered, IsUndoneAlone, MakesOneStep, alone, IsFlagAnswer, IsUnfailed, lists_told, missing_cause}
+use Rattle.script_run.specs.One.{AreAlongMove, AreListsTold, HasOneEvent, IsAnsweredFirst, IsGivenBackAlone, IsUnanswered, IsUndoneAlone, MakesOneStep, MakesSteps, alone, IsFlagAnswer, IsUnfailed, lists_behind, lists_told, missing_cause, moved_lists}
 use Rattle.script_run.specs.Script.{HasStopped, only_reads, has_delivery, has_mail_read}
 use Rattle.script_run.proofs.AloneLemmas.{answered_first, may_read, unread, refused_idle}
 use Rattle.script_run.proofs.CopyTaskLemmas.{memory_runs}
 use Rattle.script_run.proofs.OneTaskLemmas.{one_refusal}
 use Rattle.script_run.proofs.ReachedLemmas.{reached_once}
+use Rattle.script_run.proofs.ReachedMoveLemmas.{never_gone, reached_moved}
 use Rattle.script_run.proofs.ShownLemmas.{ListsAnswer}
 use Rattle.script_run.proofs.SomeListsLemmas.{some_lists}
 use Rattle.script_run.proofs.ToldLemmas.{serves_one, told_left}
@@ -32,7 +33,7 @@ use Rattle.mdbox_base.specs.declared.ids.Uid.{Uid}
 use Rattle.model_meaning.specs.BoxMeaning.{BoxMeaning, row_at}
 use Rattle.model_store.specs.Safe.{Safe}
 use Rattle.model_store.specs.Settled.{IsSettledFor}
-use Rattle.journal.specs.Journal.{left_by}
+use Rattle.journal.specs.Journal.{IsLegal, left_by}
 use Rattle.mail_ops.specs.Copy.{copied_lists}
 use Rattle.mail_ops.specs.Requests.{lists_by_reply}
 use Rattle.store_open.specs.Opened.{IsOpenedAs}
@@ -43,6 +44,7 @@ use Rattle.mdbox_top.specs.Changed.{ChangeMoments, ChangeRests, LeavesMail, Open
 use Rattle.mdbox_top.specs.CopyRun.{IsCopyReply}
 use Rattle.mdbox_top.specs.ExpungeRun.{IsExpungeReply, lists_without}
 use Rattle.mdbox_top.specs.FlagRun.{IsFlagReply}
+use Rattle.mdbox_top.specs.MoveRun.{IsMoveReply, MoveMoments, MoveRests}
 use Rattle.mdbox_top.specs.Alone.{IsDoneAlone, IsOfScript}
 use Rattle.mdbox_top.specs.CountsRun.{IsCountsReply, counts_of}
 use Rattle.mdbox_top.specs.ListRun.{IsListReply, ListMoments, ListRests}
@@ -59,21 +61,22 @@ one_of : (given one : Reply) → Contains (given ∷ []) one → given ≡ one
 one_of given one (zero, l, is) = is
 one_of given one (suc n, l, is) = absurd (omega (arith, l))
 
-served_from : (asked : Request) (given : Reply) (entries : List JournalEntry) (old new : Option History) (began now : Faults) → IsDone asked given entries old new began now → MakesOneStep asked → MayBeServed (alone asked) old
+served_from : (asked : Request) (given : Reply) (entries : List JournalEntry) (old new : Option History) (began now : Faults) → IsDone asked given entries old new began now → MakesSteps asked → MayBeServed (alone asked) old
 served_from asked given entries old new began now done one = let some = some_lists old done.m done.meanings done.opened in (some.0, may_read asked one some.0 old)
 
-never_stopped : (asked : Request) (given : Reply) (entries : List JournalEntry) (old new : Option History) (began now : Faults) → IsDone asked given entries old new began now → MakesOneStep asked → only_reads asked ≡ true → given ≡ reply.Refused refusal.Stopped → ⊥
+never_stopped : (asked : Request) (given : Reply) (entries : List JournalEntry) (old new : Option History) (began now : Faults) → IsDone asked given entries old new began now → MakesSteps asked → only_reads asked ≡ true → given ≡ reply.Refused refusal.Stopped → ⊥
 never_stopped asked given entries old new began now done one reads e = done.running (served_from asked given entries old new began now done one) (changes_none asked reads) (0, omega arith, e)
 
-reads_no_mail : (asked : Request) → MakesOneStep asked → has_mail_read (alone asked) ≡ false
+reads_no_mail : (asked : Request) → MakesSteps asked → has_mail_read (alone asked) ≡ false
 reads_no_mail (request.List name) one = refl
 reads_no_mail (request.Flag name uid flags) one = refl
 reads_no_mail (request.Expunge name uid) one = refl
 reads_no_mail (request.Copy name uid target) one = refl
+reads_no_mail (request.Move name uid target) one = refl
 reads_no_mail request.Counts one = refl
 reads_no_mail other one = absurd one
 
-one_faults : (asked : Request) (given : Reply) (entries : List JournalEntry) (old new : Option History) (began now : Faults) → IsDone asked given entries old new began now → MakesOneStep asked → (given ≡ reply.Refused refusal.ReadFault → ⊥) → FaultsByReply given began now
+one_faults : (asked : Request) (given : Reply) (entries : List JournalEntry) (old new : Option History) (began now : Faults) → IsDone asked given entries old new began now → MakesSteps asked → (given ≡ reply.Refused refusal.ReadFault → ⊥) → FaultsByReply given began now
 one_faults asked given entries old new began now done one read =
     let f = done.faults (served_from asked given entries old new began now done one) in
     record {
@@ -88,7 +91,7 @@ one_faults asked given entries old new began now done one read =
 
 -- ---- what it leaves
 
-read_leaves : (asked : Request) (given : Reply) (entries : List JournalEntry) (old new : Option History) (began now : Faults) → IsDone asked given entries old new began now → MakesOneStep asked → only_reads asked ≡ true → ListMoments old new
+read_leaves : (asked : Request) (given : Reply) (entries : List JournalEntry) (old new : Option History) (began now : Faults) → IsDone asked given entries old new began now → MakesSteps asked → only_reads asked ≡ true → ListMoments old new
 read_leaves asked given entries old new began now done one reads = record {
   safe = λ lists at. (reads_safe asked given entries old new began now done reads lists at).0;
   stays = done.stays (λ delivers. served_from asked given entries old new began now done one);
@@ -151,54 +154,52 @@ counts_tells given entries old new began now done =
       swept = same.2;
     }
 
--- ---- a change of the lists by one step
+-- ---- a change of the lists
 
 unfailed_by : (given : Reply) → (given ≡ reply.Refused refusal.ReadFault → ⊥) → (given ≡ reply.Refused refusal.Stopped → ⊥) → IsUnfailed given
 unfailed_by (reply.Refused refusal.ReadFault) read running = read refl
 unfailed_by (reply.Refused refusal.Stopped) read running = running refl
 unfailed_by given read running = tt
 
--- A request that was done, makes one step, and was not replied that a read failed. Its reply tells the lists that it leaves: these, or
--- those that the change makes of them.
-record IsOneChange (asked : Request) (change : Lists → Lists) (given : Reply) (entries : List JournalEntry) (old new : Option History) (began now : Faults) : Type 0 where
+-- A request that was done, and was not replied that a read failed. Its reply tells the lists that it leaves.
+record IsOneChange (asked : Request) (given : Reply) (entries : List JournalEntry) (old new : Option History) (began now : Faults) : Type 0 where
   done : IsDone asked given entries old new began now
-  one : MakesOneStep asked
+  one : MakesSteps asked
   calm : given ≡ reply.Refused refusal.ReadFault → ⊥
   told : (answer : Reply) (lists left : Lists) → AreListsTold asked answer lists left → left ≡ lists_told asked answer lists
-  along : (answer : Reply) (lists : Lists) → (lists_told asked answer lists ≡ lists) ⊎ (lists_told asked answer lists ≡ change lists)
   delivers : has_delivery (alone asked) ≡ false
 
 stopped_one : (given : Reply) → (given ≡ reply.Refused refusal.Stopped → ⊥) → HasStopped (given ∷ []) → ⊥
 stopped_one given running c = running (one_of given (reply.Refused refusal.Stopped) c)
 
 -- the lists that it leaves, unless the store is stopped
-change_left : (asked : Request) (change : Lists → Lists) (given : Reply) (entries : List JournalEntry) (old new : Option History) (began now : Faults) → (k : IsOneChange asked change given entries old new began now) → (given ≡ reply.Refused refusal.Stopped → ⊥) → (lists : Lists) → (shows : LogsShowLists k.done.m k.done.meanings lists)
+change_left : (asked : Request) (given : Reply) (entries : List JournalEntry) (old new : Option History) (began now : Faults) → (k : IsOneChange asked given entries old new began now) → (given ≡ reply.Refused refusal.Stopped → ⊥) → (lists : Lists) → (shows : LogsShowLists k.done.m k.done.meanings lists)
     → left_by lists (k.done.serves lists shows (may_read asked k.one lists old)).journal ≡ lists_told asked given lists
-change_left asked change given entries old new began now k running lists shows =
+change_left asked given entries old new began now k running lists shows =
     let s = k.done.serves lists shows (may_read asked k.one lists old) in
     k.told given lists (left_by lists s.journal) (told_left lists asked s.run s.journal given began now s.served.legal (unfailed_by given k.calm running))
 
-change_settles : (asked : Request) (change : Lists → Lists) (given : Reply) (entries : List JournalEntry) (old new : Option History) (began now : Faults) → IsOneChange asked change given entries old new began now → (given ≡ reply.Refused refusal.Stopped → ⊥) → (lists : Lists) → IsSettledFor lists old
+change_settles : (asked : Request) (given : Reply) (entries : List JournalEntry) (old new : Option History) (began now : Faults) → IsOneChange asked given entries old new began now → (given ≡ reply.Refused refusal.Stopped → ⊥) → (lists : Lists) → IsSettledFor lists old
     → IsSettledFor (lists_told asked given lists) new
-change_settles asked change given entries old new began now k running lists at =
+change_settles asked given entries old new began now k running lists at =
     let shows = k.done.shown lists (settled_safe lists old at) in
-    subst (λ (ls : Lists). IsSettledFor ls new) (change_left asked change given entries old new began now k running lists shows)
+    subst (λ (ls : Lists). IsSettledFor ls new) (change_left asked given entries old new began now k running lists shows)
     ((k.done.serves lists shows (may_read asked k.one lists old)).settled (stopped_one given running) at)
 
 -- the logs behind it show the lists with the change, where the reply tells it
-change_opens : (asked : Request) (change : Lists → Lists) (given : Reply) (old new : Option History) (began now : Faults) → (w : IsRequestDone asked given old new began now) → IsOneChange asked change given w.entries old new began now → (given ≡ reply.Refused refusal.Stopped → ⊥) → ((lists : Lists) → lists_told asked given lists ≡ change lists)
+change_opens : (asked : Request) (change : Lists → Lists) (given : Reply) (old new : Option History) (began now : Faults) → (w : IsRequestDone asked given old new began now) → IsOneChange asked given w.entries old new began now → (given ≡ reply.Refused refusal.Stopped → ⊥) → ((lists : Lists) → lists_told asked given lists ≡ change lists)
     → OpensChanged change w.done.m w.done.meanings new
 change_opens asked change given old new began now w k running tells = record {
   map = w.later;
   changed = w.later_meanings;
   opened = w.comes.again (stopped_one given running);
   shows = λ lists formed shows.
-      let c : IsOneChange asked change given w.entries old new began now = record { done = w.done; one = k.one; calm = k.calm; told = k.told; along = k.along; delivers = k.delivers } in
-      subst (λ (ls : Lists). ShowLists w.later.boxes w.later_meanings ls) (change_left asked change given w.entries old new began now c running lists (formed, shows) ∙ tells lists) (w.comes.shows lists (formed, shows) (may_read asked k.one lists old)).1;
+      let c : IsOneChange asked given w.entries old new began now = record { done = w.done; one = k.one; calm = k.calm; told = k.told; delivers = k.delivers } in
+      subst (λ (ls : Lists). ShowLists w.later.boxes w.later_meanings ls) (change_left asked given w.entries old new began now c running lists (formed, shows) ∙ tells lists) (w.comes.shows lists (formed, shows) (may_read asked k.one lists old)).1;
 }
 
-change_mail : (asked : Request) (change : Lists → Lists) (given : Reply) (entries : List JournalEntry) (old new : Option History) (began now : Faults) → (k : IsOneChange asked change given entries old new began now) → LeavesMail k.done.m given old new
-change_mail asked change given entries old new began now k = record {
+change_mail : (asked : Request) (given : Reply) (entries : List JournalEntry) (old new : Option History) (began now : Faults) → (k : IsOneChange asked given entries old new began now) → LeavesMail k.done.m given old new
+change_mail asked given entries old new began now k = record {
   generation = k.done.leaves.generation;
   opened = k.done.leaves.opened;
   swept = k.done.leaves.swept;
@@ -206,24 +207,24 @@ change_mail asked change given entries old new began now k = record {
   mail = λ running. k.done.leaves.mail k.delivers (stopped_one given running);
 }
 
-change_leaves : (asked : Request) (change : Lists → Lists) (given : Reply) (entries : List JournalEntry) (old new : Option History) (began now : Faults) → IsOneChange asked change given entries old new began now → ChangeMoments change old new
-change_leaves asked change given entries old new began now k = λ lists at.
+change_leaves : (asked : Request) (change : Lists → Lists) (given : Reply) (entries : List JournalEntry) (old new : Option History) (began now : Faults) → IsOneChange asked given entries old new began now → MakesOneStep asked → ((answer : Reply) (lists : Lists) → (lists_told asked answer lists ≡ lists) ⊎ (lists_told asked answer lists ≡ change lists)) → ChangeMoments change old new
+change_leaves asked change given entries old new began now k one along = λ lists at.
     let s = k.done.serves lists (k.done.shown lists (settled_safe lists old at)) (may_read asked k.one lists old) in
     each_image-map (IsReached lists s.run s.journal s.broken) (λ _ image. Safe image lists ⊎ Safe image (change lists)) old new
     (λ m image is.
-    let one = reached_once asked lists s.run s.journal s.broken (Some given ∷ []) began now _ s.m s.drawn _ k.one s.served m is.0 is.1 in
-    let left = k.told one.0 lists is.0 one.1 in
-    elim (k.along one.0 lists) [
+    let reached = reached_once asked lists s.run s.journal s.broken (Some given ∷ []) began now _ s.m s.drawn _ one s.served m is.0 is.1 in
+    let left = k.told reached.0 lists is.0 reached.1 in
+    elim (along reached.0 lists) [
       | inl same ↦ inl (subst (λ (ls : Lists). Safe image ls) (left ∙ same) is.2)
       | inr changed ↦ inr (subst (λ (ls : Lists). Safe image ls) (left ∙ changed) is.2)
     ])
     (s.crash at)
 
-change_rests : (asked : Request) (change : Lists → Lists) (given : Reply) (entries : List JournalEntry) (old new : Option History) (began now : Faults) → IsOneChange asked change given entries old new began now → ChangeRests change (given ≡ reply.Refused refusal.Stopped) began now old new
-change_rests asked change given entries old new began now k = λ none lists at.
+change_rests : (asked : Request) (change : Lists → Lists) (given : Reply) (entries : List JournalEntry) (old new : Option History) (began now : Faults) → IsOneChange asked given entries old new began now → ((answer : Reply) (lists : Lists) → (lists_told asked answer lists ≡ lists) ⊎ (lists_told asked answer lists ≡ change lists)) → ChangeRests change (given ≡ reply.Refused refusal.Stopped) began now old new
+change_rests asked change given entries old new began now k along = λ none lists at.
     let faults = one_faults asked given entries old new began now k.done k.one k.calm in
-    let settled = change_settles asked change given entries old new began now k (λ e. none e (faults.stopped e)) lists at in
-    elim (k.along given lists) [
+    let settled = change_settles asked given entries old new began now k (λ e. none e (faults.stopped e)) lists at in
+    elim (along given lists) [
       | inl same ↦ inl (subst (λ (ls : Lists). IsSettledFor ls new) same settled)
       | inr changed ↦ inr (subst (λ (ls : Lists). IsSettledFor ls new) changed settled)
     ]
@@ -253,13 +254,12 @@ by_reply : (name : List ℕ) (uid : Uid) (flags : ℕ) (given : Reply) (lists : 
 by_reply name uid flags reply.Done lists = refl
 by_reply name uid flags other lists = refl
 
-flag_change : (name : List ℕ) (uid : Uid) (flags : ℕ) (given : Reply) (entries : List JournalEntry) (old new : Option History) (began now : Faults) → IsDone (flagging name uid flags) given entries old new began now → IsOneChange (flagging name uid flags) (λ lists. set_flags name uid.0 flags lists) given entries old new began now
+flag_change : (name : List ℕ) (uid : Uid) (flags : ℕ) (given : Reply) (entries : List JournalEntry) (old new : Option History) (began now : Faults) → IsDone (flagging name uid flags) given entries old new began now → IsOneChange (flagging name uid flags) given entries old new began now
 flag_change name uid flags given entries old new began now done = record {
   done = done;
   one = tt;
   calm = unread (flagging name uid flags) given entries old new began now done tt;
   told = λ answer lists left is. is;
-  along = along_flag name uid flags;
   delivers = refl;
 }
 
@@ -281,8 +281,8 @@ flag_tells name uid flags given old new began now w =
       done = λ e.
           let o = change_opens asked change given old new began now w k (done_runs given e) (λ lists. ap (λ (r : Reply). lists_told asked r lists) e) in
           record { map = o.map; flagged = o.changed; opened = o.opened; shows = o.shows };
-      settled = λ running lists at. subst (λ (ls : Lists). IsSettledFor ls new) (by_reply name uid flags given lists) (change_settles asked change given w.entries old new began now k running lists at);
-      mail = change_mail asked change given w.entries old new began now k;
+      settled = λ running lists at. subst (λ (ls : Lists). IsSettledFor ls new) (by_reply name uid flags given lists) (change_settles asked given w.entries old new began now k running lists at);
+      mail = change_mail asked given w.entries old new began now k;
     }
 
 -- ---- an expunge
@@ -294,13 +294,12 @@ along_expunge : (name : List ℕ) (uid : Uid) (answer : Reply) (lists : Lists) �
 along_expunge name uid reply.Done lists = inr refl
 along_expunge name uid other lists = inl refl
 
-expunge_change : (name : List ℕ) (uid : Uid) (given : Reply) (old new : Option History) (began now : Faults) → (w : IsRequestDone (expunging name uid) given old new began now) → IsOneChange (expunging name uid) (lists_without name uid) given w.entries old new began now
+expunge_change : (name : List ℕ) (uid : Uid) (given : Reply) (old new : Option History) (began now : Faults) → (w : IsRequestDone (expunging name uid) given old new began now) → IsOneChange (expunging name uid) given w.entries old new began now
 expunge_change name uid given old new began now w = record {
   done = w.done;
   one = tt;
   calm = unread (expunging name uid) given w.entries old new began now w.done tt;
   told = λ answer lists left is. is;
-  along = along_expunge name uid;
   delivers = refl;
 }
 
@@ -316,8 +315,8 @@ expunge_tells name uid given old new began now w =
       given_is = w.told;
       refused = λ why is running. unchanged_since asked given w.entries old new began now w.done (w.undone (subst (λ (r : Reply). IsUndoneAlone (alone asked) (r ∷ [])) (sym is) running));
       done = λ e. change_opens asked (lists_without name uid) given old new began now w k (done_runs given e) (λ lists. ap (λ (r : Reply). lists_told asked r lists) e);
-      settled = change_settles asked (lists_without name uid) given w.entries old new began now k;
-      mail = change_mail asked (lists_without name uid) given w.entries old new began now k;
+      settled = change_settles asked given w.entries old new began now k;
+      mail = change_mail asked given w.entries old new began now k;
     }
 
 -- ---- a copy
@@ -329,13 +328,12 @@ along_copy : (name : List ℕ) (uid : Uid) (target : List ℕ) (answer : Reply) 
 along_copy name uid target (reply.Copied given) lists = inr refl
 along_copy name uid target other lists = inl refl
 
-copy_change : (name : List ℕ) (uid : Uid) (target : List ℕ) (given : Reply) (old new : Option History) (began now : Faults) → (w : IsRequestDone (copying name uid target) given old new began now) → IsOneChange (copying name uid target) (copied_lists name uid target) given w.entries old new began now
+copy_change : (name : List ℕ) (uid : Uid) (target : List ℕ) (given : Reply) (old new : Option History) (began now : Faults) → (w : IsRequestDone (copying name uid target) given old new began now) → IsOneChange (copying name uid target) given w.entries old new began now
 copy_change name uid target given old new began now w = record {
   done = w.done;
   one = tt;
   calm = unread (copying name uid target) given w.entries old new began now w.done tt;
   told = λ answer lists left is. is;
-  along = along_copy name uid target;
   delivers = refl;
 }
 
@@ -361,9 +359,74 @@ copy_tells name uid target given old new began now w =
           let same = w.comes.alike (subst (λ (r : Reply). IsGivenBackAlone (alone asked) (r ∷ [])) (sym e) tt) in
           record { map = w.later; opened = subst (λ (ms : List BoxMeaning). IsOpenedAs new w.later ms) same.indexes (w.comes.again (stopped_one given (unremembered_runs given e))); mailboxes = same.mailboxes; records = same.records };
       done = λ u e. change_opens asked (copied_lists name uid target) given old new began now w k (copied_runs given u e) (λ lists. ap (λ (r : Reply). lists_told asked r lists) e);
-      settled = change_settles asked (copied_lists name uid target) given w.entries old new began now k;
-      mail = change_mail asked (copied_lists name uid target) given w.entries old new began now k;
+      settled = change_settles asked given w.entries old new began now k;
+      mail = change_mail asked given w.entries old new began now k;
     }
+
+-- ---- a move
+
+abbrev moving : List ℕ → Uid → List ℕ → Request
+moving name uid target = request.Move name uid target
+
+move_change : (name : List ℕ) (uid : Uid) (target : List ℕ) (given : Reply) (old new : Option History) (began now : Faults) → (w : IsRequestDone (moving name uid target) given old new began now) → IsOneChange (moving name uid target) given w.entries old new began now
+move_change name uid target given old new began now w = record {
+  done = w.done;
+  one = tt;
+  calm = unread (moving name uid target) given w.entries old new began now w.done tt;
+  told = λ answer lists left is. is;
+  delivers = refl;
+}
+
+moved_runs : (given : Reply) (uid : Uid) (gone : Bool) → given ≡ reply.Moved uid gone → given ≡ reply.Refused refusal.Stopped → ⊥
+moved_runs given uid gone d s = let k : reply.Moved uid gone ≡ reply.Refused refusal.Stopped = sym d ∙ s in cc k
+
+along_move : (name : List ℕ) (uid : Uid) (target : List ℕ) (answer : Reply) (lists : Lists) → AreAlongMove name uid target lists (lists_told (moving name uid target) answer lists)
+along_move name uid target (reply.Moved given true) lists = inr (inl refl)
+along_move name uid target (reply.Moved given false) lists = inr (inr refl)
+along_move name uid target other lists = inl refl
+
+move_tells : (name : List ℕ) (uid : Uid) (target : List ℕ) (given : Reply) (old new : Option History) (began now : Faults) → IsRequestDone (moving name uid target) given old new began now → IsMoveReply name uid target old new given
+unfolding move_change
+move_tells name uid target given old new began now w =
+    let asked : Request = moving name uid target in
+    let k = move_change name uid target given old new began now w in
+    record {
+      m = w.done.m;
+      meanings = w.done.meanings;
+      opened = w.done.opened;
+      given_is = w.told;
+      refused = λ why is running memory. unchanged_since asked given w.entries old new began now w.done (w.undone (subst (λ (r : Reply). IsUndoneAlone (alone asked) (r ∷ [])) (sym is) (running, memory)));
+      memory = λ e.
+          let same = w.comes.alike (subst (λ (r : Reply). IsGivenBackAlone (alone asked) (r ∷ [])) (sym e) tt) in
+          record { map = w.later; opened = subst (λ (ms : List BoxMeaning). IsOpenedAs new w.later ms) same.indexes (w.comes.again (stopped_one given (unremembered_runs given e))); mailboxes = same.mailboxes; records = same.records };
+      done = λ u gone e. change_opens asked (lists_behind name uid target gone) given old new began now w k (moved_runs given u gone e) (λ lists. ap (λ (r : Reply). lists_told asked r lists) e);
+      here = λ lists safe moved e.
+          let s = w.done.serves lists (w.done.shown lists safe) (may_read asked tt lists old) in
+          never_gone name uid target lists s.run s.journal moved began now (subst (λ (r : Reply). IsLegal lists (alone asked) s.run s.journal (Some r ∷ []) began now) e s.served.legal);
+      settled = change_settles asked given w.entries old new began now k;
+      mail = change_mail asked given w.entries old new began now k;
+    }
+
+move_leaves : (name : List ℕ) (uid : Uid) (target : List ℕ) (given : Reply) (entries : List JournalEntry) (old new : Option History) (began now : Faults) → IsOneChange (moving name uid target) given entries old new began now → MoveMoments name uid target old new
+move_leaves name uid target given entries old new began now k = λ lists at.
+    let s = k.done.serves lists (k.done.shown lists (settled_safe lists old at)) (may_read (moving name uid target) tt lists old) in
+    each_image-map (IsReached lists s.run s.journal s.broken) (λ _ image. Safe image lists ⊎ (Safe image (copied_lists name uid target lists) ⊎ Safe image (moved_lists name uid target lists))) old new
+    (λ m image is. elim (reached_moved name uid target lists s.run s.journal s.broken (Some given ∷ []) began now _ s.m s.drawn _ s.served m is.0 is.1) [
+      | inl same ↦ inl (subst (λ (ls : Lists). Safe image ls) same is.2)
+      | inr (inl copied) ↦ inr (inl (subst (λ (ls : Lists). Safe image ls) copied is.2))
+      | inr (inr moved) ↦ inr (inr (subst (λ (ls : Lists). Safe image ls) moved is.2))
+    ])
+    (s.crash at)
+
+move_rests : (name : List ℕ) (uid : Uid) (target : List ℕ) (given : Reply) (entries : List JournalEntry) (old new : Option History) (began now : Faults) → IsOneChange (moving name uid target) given entries old new began now → MoveRests name uid target (given ≡ reply.Refused refusal.Stopped) began now old new
+move_rests name uid target given entries old new began now k = λ none lists at.
+    let faults = one_faults (moving name uid target) given entries old new began now k.done k.one k.calm in
+    let settled = change_settles (moving name uid target) given entries old new began now k (λ e. none e (faults.stopped e)) lists at in
+    elim (along_move name uid target given lists) [
+      | inl same ↦ inl (subst (λ (ls : Lists). IsSettledFor ls new) same settled)
+      | inr (inl copied) ↦ inr (inl (subst (λ (ls : Lists). IsSettledFor ls new) copied settled))
+      | inr (inr moved) ↦ inr (inr (subst (λ (ls : Lists). IsSettledFor ls new) moved settled))
+    ]
 
 -- ---- it was done
 
@@ -387,8 +450,8 @@ done_one (request.Flag name uid flags) given old new began now w one answer =
     record {
       tells = flag_tells name uid flags given old new began now w;
       serves = λ lists safe. serves_one (flagging name uid flags) given w.entries old new began now w.done lists safe (may_read (flagging name uid flags) tt lists old);
-      moments = change_leaves (flagging name uid flags) (λ lists. set_flags name uid.0 flags lists) given w.entries old new began now k;
-      rests = change_rests (flagging name uid flags) (λ lists. set_flags name uid.0 flags lists) given w.entries old new began now k;
+      moments = change_leaves (flagging name uid flags) (λ lists. set_flags name uid.0 flags lists) given w.entries old new began now k tt (along_flag name uid flags);
+      rests = change_rests (flagging name uid flags) (λ lists. set_flags name uid.0 flags lists) given w.entries old new began now k (along_flag name uid flags);
       faults = one_faults (flagging name uid flags) given w.entries old new began now w.done tt k.calm;
     }
 done_one (request.Expunge name uid) given old new began now w one answer =
@@ -396,8 +459,8 @@ done_one (request.Expunge name uid) given old new began now w one answer =
     record {
       tells = expunge_tells name uid given old new began now w;
       serves = λ lists safe. serves_one (expunging name uid) given w.entries old new began now w.done lists safe (may_read (expunging name uid) tt lists old);
-      moments = change_leaves (expunging name uid) (lists_without name uid) given w.entries old new began now k;
-      rests = change_rests (expunging name uid) (lists_without name uid) given w.entries old new began now k;
+      moments = change_leaves (expunging name uid) (lists_without name uid) given w.entries old new began now k tt (along_expunge name uid);
+      rests = change_rests (expunging name uid) (lists_without name uid) given w.entries old new began now k (along_expunge name uid);
       faults = one_faults (expunging name uid) given w.entries old new began now w.done tt k.calm;
     }
 done_one (request.Copy name uid target) given old new began now w one answer =
@@ -405,8 +468,17 @@ done_one (request.Copy name uid target) given old new began now w one answer =
     record {
       tells = copy_tells name uid target given old new began now w;
       serves = λ lists safe. serves_one (copying name uid target) given w.entries old new began now w.done lists safe (may_read (copying name uid target) tt lists old);
-      moments = change_leaves (copying name uid target) (copied_lists name uid target) given w.entries old new began now k;
-      rests = change_rests (copying name uid target) (copied_lists name uid target) given w.entries old new began now k;
+      moments = change_leaves (copying name uid target) (copied_lists name uid target) given w.entries old new began now k tt (along_copy name uid target);
+      rests = change_rests (copying name uid target) (copied_lists name uid target) given w.entries old new began now k (along_copy name uid target);
       faults = one_faults (copying name uid target) given w.entries old new began now w.done tt k.calm;
+    }
+done_one (request.Move name uid target) given old new began now w one answer =
+    let k = move_change name uid target given old new began now w in
+    record {
+      tells = move_tells name uid target given old new began now w;
+      serves = λ lists safe. serves_one (moving name uid target) given w.entries old new began now w.done lists safe (may_read (moving name uid target) tt lists old);
+      moments = move_leaves name uid target given w.entries old new began now k;
+      rests = move_rests name uid target given w.entries old new began now k;
+      faults = one_faults (moving name uid target) given w.entries old new began now w.done tt k.calm;
     }
 done_one other given old new began now w one answer = absurd one

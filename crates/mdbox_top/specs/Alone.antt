@@ -26,6 +26,7 @@ use Rattle.mdbox_top.specs.CountsRun.{IsCountsReply, CountsMoments, CountsRests}
 abbrev pub IsOfScript : Request → Type 0
 IsOfScript (request.Expunge name uid) = Unit {0}
 IsOfScript (request.Copy name uid target) = Unit {0}
+IsOfScript (request.Move name uid target) = Unit {0}
 IsOfScript asked = HasOneEvent asked
 
 -- the requests that one function serves: all but a delivery, which reads its message first, and a fetch, which prints octets

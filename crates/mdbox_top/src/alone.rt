@@ -11,7 +11,6 @@ ghost use Rattle.request_text.specs.ReplyText.{reply_text};
 ghost use Rattle.request_text.specs.declared.outcome.Outcome.TheVariants as outcome;
 
 use crate::making::make_mailbox;
-use crate::moving::move_message;
 use crate::opening::outcome_of;
 use disk_model::Disk;
 use mail_ops::listings_are_answered;
@@ -69,7 +68,7 @@ fn reply_alone<D: Disk>(
             script_alone(alloc, Request::Copy { name, uid, target }, disk)
         }
         Request::Move { name, uid, target } => {
-            change_alone(alloc, Request::Move { name, uid, target }, disk)
+            script_alone(alloc, Request::Move { name, uid, target }, disk)
         }
         Request::Make { name } => change_alone(alloc, Request::Make { name }, disk),
         _ => unreachable!(),
@@ -123,7 +122,6 @@ fn do_events<D: Disk>(store: &mut Store<D>, request: Request) -> Reply
     ensures { DoesAlone request store.old store.new (D.history store.old.disk) (D.history store.new.disk) (D.faults store.old.disk) (D.faults store.new.disk) result }
 {
     match request {
-        Request::Move { name, uid, target } => move_message(store, name, uid, target),
         Request::Make { name } => make_mailbox(store, name),
         _ => unreachable!(),
     }

@@ -16,7 +16,6 @@ mod init;
 mod input_commands;
 mod laws;
 mod making;
-mod moving;
 mod numbers;
 mod opening;
 mod run;
