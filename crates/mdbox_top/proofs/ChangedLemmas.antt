@@ -11,10 +11,7 @@ use Rattle.script_run.proofs.RunBeginsLemmas.{OpenedNow}
 use Rattle.script_run.proofs.ShownLemmas.{LogsShow}
 use Rattle.mdbox_top.specs.Alone.{IsDoneAlone}
 use Rattle.mdbox_top.specs.ChangeEvents.{DoesAlone, HasMoreEvents}
-use Rattle.mdbox_top.proofs.CopyLemmas.{copy_done}
-use Rattle.mdbox_top.proofs.ExpungeLemmas.{expunge_done}
 use Rattle.mdbox_top.proofs.MakeLemmas.{make_done, next_of}
-use Rattle.mdbox_top.proofs.MoveLemmas.{move_done}
 
 pub record Changing {D : Type 0} (asked : Request) (given : Reply) (old mid new : Option History) (began now : Faults) (s t : StoreValue D) : Type 0 where
   pub opened : OpenedNow old mid s
@@ -24,8 +21,5 @@ pub record Changing {D : Type 0} (asked : Request) (given : Reply) (old mid new 
   pub fresh : IsUnnamed (next_of s) s.map
 
 pub change_done : {D : Type 0} → (asked : Request) (given : Reply) (old mid new : Option History) (began now : Faults) (s t : StoreValue D) → HasMoreEvents asked → Changing asked given old mid new began now s t → LogsShow → IsDoneAlone asked given old new began now
-change_done (request.Expunge name uid) given old mid new began now s t many w show = expunge_done name uid given old mid new began now s t (record { opened = w.opened; later = w.later; removes = w.does; back = w.back }) show
-change_done (request.Copy name uid target) given old mid new began now s t many w show = copy_done name uid target given old mid new began now s t (record { opened = w.opened; later = w.later; copies = w.does; back = w.back }) show
-change_done (request.Move name uid target) given old mid new began now s t many w show = move_done name uid target given old mid new began now s t (record { opened = w.opened; later = w.later; moves = w.does; back = w.back }) show
 change_done (request.Make name) given old mid new began now s t many w show = make_done name given old mid new began now s t (record { opened = w.opened; later = w.later; makes = w.does; back = w.back; fresh = w.fresh }) show
 change_done other given old mid new began now s t many w show = absurd many

@@ -2,11 +2,9 @@ pub mod AloneLemmas
 pub mod BatchLemmas
 pub mod ChangeLemmas
 pub mod ChangedLemmas
-pub mod CopyLemmas
 pub mod CountsLemmas
 pub mod DeliverLemmas
 pub mod ExerciseLemmas
-pub mod ExpungeLemmas
 pub mod FetchLemmas
 pub mod FetchedLemmas
 pub mod FirstLemmas
@@ -18,9 +16,8 @@ pub mod ListLemmas
 pub mod MailLemmas
 pub mod MakeFileLemmas
 pub mod MakeLemmas
-pub mod MoveLemmas
 pub mod NumbersLemmas
-pub mod OneEventLemmas
+pub mod OneStepLemmas
 pub mod PlaceLemmas
 pub mod PrefixLemmas
 pub mod ReplyFaultLemmas

@@ -22,9 +22,16 @@ use Rattle.mdbox_top.specs.MoveRun.{IsMoveReply, MoveMoments, MoveRests}
 use Rattle.mdbox_top.specs.ExpungeRun.{IsExpungeReply, ExpungeMoments, ExpungeRests}
 use Rattle.mdbox_top.specs.CountsRun.{IsCountsReply, CountsMoments, CountsRests}
 
+-- the requests that are done as a script of one
+abbrev pub IsOfScript : Request → Type 0
+IsOfScript (request.Expunge name uid) = Unit {0}
+IsOfScript (request.Copy name uid target) = Unit {0}
+IsOfScript (request.Move name uid target) = Unit {0}
+IsOfScript asked = HasOneEvent asked
+
 -- the requests that one function serves: all but a delivery, which reads its message first, and a fetch, which prints octets
 abbrev pub IsServedAlone : Request → Type 0
-IsServedAlone asked = HasOneEvent asked ⊎ HasMoreEvents asked
+IsServedAlone asked = IsOfScript asked ⊎ HasMoreEvents asked
 
 -- what its reply tells
 abbrev pub ReplyTells : Request → Option History → Option History → Reply → Type 0

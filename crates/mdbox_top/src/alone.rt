@@ -2,19 +2,15 @@
 ghost use Rattle.std.specs.Prelude.{◌≡◌, ◌≢◌, ◌≤◌, false, IfOk, IfErr};
 ghost use Rattle.disk_model.specs.FaultCounts.{NoFault, AnyFaultCounted};
 ghost use Rattle.mdbox_base.specs.Streams.{Rose};
-ghost use Rattle.script_run.specs.One.{HasOneEvent};
 ghost use Rattle.script_run.specs.Opening.{IsUnopened};
-ghost use Rattle.mdbox_top.specs.Alone.{IsServedAlone, ReplyTells, RequestMoments, RequestRests, MayFail, IsDoneAlone};
+ghost use Rattle.mdbox_top.specs.Alone.{IsOfScript, IsServedAlone, ReplyTells, RequestMoments, RequestRests, MayFail, IsDoneAlone};
 ghost use Rattle.mdbox_top.specs.ChangeEvents.{DoesAlone, HasMoreEvents};
 ghost use Rattle.mdbox_top.specs.Served.{RequestOutcome, ShowsReply};
 ghost use Rattle.request_text.specs.Outcomes.{status_of};
 ghost use Rattle.request_text.specs.ReplyText.{reply_text};
 ghost use Rattle.request_text.specs.declared.outcome.Outcome.TheVariants as outcome;
 
-use crate::copy::copy_message;
-use crate::expunge::remove_message;
 use crate::making::make_mailbox;
-use crate::moving::move_message;
 use crate::opening::outcome_of;
 use disk_model::Disk;
 use mail_ops::listings_are_answered;
@@ -66,26 +62,26 @@ fn reply_alone<D: Disk>(
             script_alone(alloc, Request::Flag { name, uid, flags }, disk)
         }
         Request::Expunge { name, uid } => {
-            change_alone(alloc, Request::Expunge { name, uid }, disk)
+            script_alone(alloc, Request::Expunge { name, uid }, disk)
         }
         Request::Copy { name, uid, target } => {
-            change_alone(alloc, Request::Copy { name, uid, target }, disk)
+            script_alone(alloc, Request::Copy { name, uid, target }, disk)
         }
         Request::Move { name, uid, target } => {
-            change_alone(alloc, Request::Move { name, uid, target }, disk)
+            script_alone(alloc, Request::Move { name, uid, target }, disk)
         }
         Request::Make { name } => change_alone(alloc, Request::Make { name }, disk),
         _ => unreachable!(),
     }
 }
 
-/// Opens the store, does a request of one event as a script of one, and answers its reply.
+/// Opens the store, does a request as a script of one, and answers its reply.
 fn script_alone<D: Disk>(
     alloc: Global,
     request: Request,
     disk: D,
 ) -> Result<(Reply, D), OpenRefused<D>>
-    requires { HasOneEvent request }
+    requires { IsOfScript request }
     ensures done { IfOk result (λ done. IsDoneAlone request done.0 (D.history disk) (D.history done.1) (D.faults disk) (D.faults done.1)) }
     ensures refused { IfErr result (λ refused. IsUnopened refused.error (D.history disk) (D.history refused.disk) (D.faults disk) (D.faults refused.disk)) }
 {
@@ -126,9 +122,6 @@ fn do_events<D: Disk>(store: &mut Store<D>, request: Request) -> Reply
     ensures { DoesAlone request store.old store.new (D.history store.old.disk) (D.history store.new.disk) (D.faults store.old.disk) (D.faults store.new.disk) result }
 {
     match request {
-        Request::Expunge { name, uid } => remove_message(store, name, uid),
-        Request::Copy { name, uid, target } => copy_message(store, name, uid, target),
-        Request::Move { name, uid, target } => move_message(store, name, uid, target),
         Request::Make { name } => make_mailbox(store, name),
         _ => unreachable!(),
     }

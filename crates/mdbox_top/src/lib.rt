@@ -10,17 +10,14 @@ pub use run::{mdbox_alone, mdbox_run};
 
 mod alone;
 mod batch;
-mod copy;
 mod deliver;
 mod exercise;
-mod expunge;
 mod fetch;
 mod init;
 mod input_commands;
 mod known;
 mod laws;
 mod making;
-mod moving;
 mod numbers;
 mod opening;
 mod run;
