@@ -10,7 +10,6 @@ use Rattle.mdbox_base.specs.declared.replies.Refusal.{Refusal}
 use Rattle.mdbox_base.specs.declared.replies.Refusal.TheVariants as refusal
 use Rattle.mdbox_base.specs.declared.replies.Reply.{Reply}
 use Rattle.mdbox_base.specs.declared.replies.Reply.TheVariants as reply
-use Rattle.mdbox_base.specs.declared.requests.Request.{Request}
 use Rattle.mdbox_base.specs.declared.requests.Request.TheVariants as request
 use Rattle.model_meaning.specs.BoxMeaning.{LogRow, BoxMeaning, row_at}
 use Rattle.model_meaning.specs.MapMeaning.{MapRecord, MapBox, MapMeaning, record_changed, count_of}
@@ -27,7 +26,7 @@ use Rattle.mail_ops.specs.Copying.{CopyPlace, copy_refusal, room_refusal, raisin
 use Rattle.mail_ops.specs.Requests.{IsOpsRequest}
 use Rattle.mail_ops.specs.declared.copy.CopyStage.{CopyStage}
 use Rattle.mail_ops.specs.declared.copy.CopyStage.TheVariants as copy_stage
-use Rattle.mail_ops.proofs.CopyFirstLemmas.{no_room, place_free, too_many, few_copies, raise_steps}
+use Rattle.mail_ops.proofs.CopyFirstLemmas.{no_room, place_free, too_many, few_copies}
 use Rattle.lane_tasks.specs.Clause.{StaysOfRequest, TellsStore, progress_by}
 use Rattle.lane_tasks.specs.Tasks.{BeginsTask}
 use Rattle.lane_tasks.specs.declared.task.Task.{Task}
