@@ -1,7 +1,6 @@
 pub mod AloneLemmas
 pub mod BatchLemmas
 pub mod CountsLemmas
-pub mod ChangedLemmas
 pub mod ChangeLemmas
 pub mod DeliverLemmas
 pub mod ExerciseLemmas
