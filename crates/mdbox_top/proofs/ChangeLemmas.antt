@@ -7,38 +7,33 @@ use Rattle.disk_model.proofs.MomentLemmas.{each_image-map, each_image-then, sinc
 use Rattle.mdbox_base.specs.declared.progress.Did.{Did}
 use Rattle.mdbox_base.specs.declared.progress.Progress.{Progress}
 use Rattle.mdbox_base.specs.declared.progress.Progress.TheVariants as progress
-use Rattle.mdbox_base.specs.declared.replies.Refusal.{Refusal}
 use Rattle.mdbox_base.specs.declared.replies.Refusal.TheVariants as refusal
 use Rattle.mdbox_base.specs.declared.replies.Reply.{Reply}
 use Rattle.mdbox_base.specs.declared.replies.Reply.TheVariants as reply
 use Rattle.mdbox_base.specs.declared.requests.Request.{Request}
-use Rattle.model_lists.specs.Lists.{Lists, AreWellFormed}
-use Rattle.model_store.specs.Listing.{ShowLists}
+use Rattle.model_lists.specs.Lists.{Lists}
 use Rattle.model_store.specs.Safe.{Safe}
 use Rattle.model_store.specs.Settled.{IsSettledFor, Leaves}
 use Rattle.model_store.proofs.SettledLemmas.{settled_safe}
 use Rattle.list_machine.specs.Run.{RunEvent, Run, and_then}
 use Rattle.journal.specs.Events.{Around}
-use Rattle.journal.specs.Journal.{IsReplyOf, is_read_fault}
+use Rattle.journal.specs.Journal.{is_read_fault}
 use Rattle.journal.specs.Makes.{StepOf}
-use Rattle.task_steps.specs.Step.{Seen, ShowsSeen, StaysFirm, Steps, and_told, ended_by}
+use Rattle.task_steps.specs.Step.{Seen, StaysFirm, Steps, and_told, ended_by}
 use Rattle.task_steps.proofs.OneEventLemmas.{not_true}
 use Rattle.store_core.specs.Running.{IsStore}
 use Rattle.store_core.specs.Value.{StoreValue, indexes_of}
 use Rattle.mail_ops.specs.SparedMail.{SparesMail}
 use Rattle.mail_ops.proofs.KeptMailLemmas.{spared_none}
-use Rattle.store_open.specs.Opened.{IsOpenedAs}
 use Rattle.model_kept.proofs.KeptLemmas.{ReadsImage}
-use Rattle.script_run.proofs.MailStaysLemmas.{opening_keeps}
-use Rattle.script_run.proofs.RunBeginsLemmas.{OpenedNow, before_opening, beginning, opening_begins}
-use Rattle.script_run.specs.One.{OpensUnchanged, lists_told}
+use Rattle.script_run.proofs.RunBeginsLemmas.{OpenedNow}
+use Rattle.script_run.specs.One.{OpensUnchanged}
 use Rattle.mdbox_top.specs.Changed.{SafeForAmong, MomentsAmong}
 use Rattle.mdbox_top.specs.ChangeEvents.{IsWayTo, ServesAlone}
 use Rattle.mdbox_top.specs.UnderWay.{IsUnderWay, seen_alone}
 use Rattle.mdbox_top.proofs.MailLemmas.{spares_then}
-use Rattle.mdbox_top.proofs.ServedLemmas.{comes, opened_firm}
 use Rattle.script_run.proofs.ShownLemmas.{opens_again}
-use Rattle.mdbox_top.proofs.UnderWayLemmas.{nothing_found, way_begins, way_shows, way_goes_on, way_ends}
+use Rattle.mdbox_top.proofs.UnderWayLemmas.{nothing_found, way_shows, way_goes_on, way_ends}
 
 pub more_done : (given : Reply) → progress.More ≡ progress.Done given → ⊥
 more_done given e = cc e

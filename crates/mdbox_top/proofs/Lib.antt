@@ -1,8 +1,7 @@
 pub mod AloneLemmas
 pub mod BatchLemmas
-pub mod ChangeLemmas
-pub mod ChangedLemmas
 pub mod CountsLemmas
+pub mod ChangeLemmas
 pub mod DeliverLemmas
 pub mod ExerciseLemmas
 pub mod FetchLemmas

@@ -16,7 +16,7 @@ use Rattle.list_machine.specs.Run.{EventPart, First, Run, RunEvent, map_of}
 use Rattle.list_machine.proofs.OneStepLemmas.{answers_one}
 use Rattle.script_run.specs.Done.{IsScriptDone, MayBeServed}
 use Rattle.script_run.specs.LeftOpen.{IsRequestDone}
-use Rattle.script_run.specs.One.{AreAlongMove, AreListsTold, HasOneEvent, IsAnsweredFirst, IsGivenBackAlone, IsUnanswered, IsUndoneAlone, MakesOneStep, MakesSteps, alone, IsFlagAnswer, IsUnfailed, lists_behind, lists_told, missing_cause, moved_lists}
+use Rattle.script_run.specs.One.{AreAlongMove, AreListsTold, IsAnsweredFirst, IsGivenBackAlone, IsUnanswered, IsUndoneAlone, MakesOneStep, MakesSteps, alone, IsFlagAnswer, IsUnfailed, lists_behind, lists_told, missing_cause, moved_lists}
 use Rattle.script_run.specs.Script.{HasStopped, only_reads, has_delivery, has_mail_read}
 use Rattle.script_run.proofs.AloneLemmas.{answered_first, may_read, unread, refused_idle}
 use Rattle.script_run.proofs.CopyTaskLemmas.{memory_runs}

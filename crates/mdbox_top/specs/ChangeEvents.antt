@@ -127,15 +127,3 @@ pub record MakesAlone {D : Type 0} (name : List ℕ) (store later : StoreValue D
   pub files : MakingLeaves (store.drawn.mailbox + 1) given old new
   pub calm : is_read_fault (Some given) ≡ false
   pub serves : ServesAlone (IsAtMake make_stage.First) (request.Make name) (AreOneOf (with_mailbox (store.drawn.mailbox + 1) name)) (lists_by_making (store.drawn.mailbox + 1) name given) store later old new began now given
-
--- ---- of any of these requests
-
--- a request of several events that changes the lists, but for a delivery: a make
-abbrev pub HasMoreEvents : Request → Type 0
-HasMoreEvents (request.Make name) = Unit {0}
-HasMoreEvents other = ⊥
-
--- what its events did
-abbrev pub DoesAlone : {D : Type 0} → Request → StoreValue D → StoreValue D → Option History → Option History → Faults → Faults → Reply → Type 0
-DoesAlone (request.Make name) store later old new began now given = MakesAlone name store later old new began now given
-DoesAlone other store later old new began now given = ⊥

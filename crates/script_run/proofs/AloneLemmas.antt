@@ -1,14 +1,11 @@
 -- A request alone: of which events its run consists, and what it is replied by the first.
-use Rattle.std.specs.Prelude.{◌≡◌, ◌≤◌, ◌+◌, ◌==◌, ℕ, zero, suc, Bool, true, false, cond, List, [], ◌∷◌, ◌⊎◌, IfSome, count_by, filter, if◌then◌else◌, nat_lt, length, map, slice_get, take, Option, Some, None, ◌<◌, ◌++◌, All, AllPairs, drop}
+use Rattle.std.specs.Prelude.{◌≡◌, ◌≤◌, ◌+◌, ◌==◌, ℕ, zero, suc, Bool, true, false, cond, List, [], ◌∷◌, ◌⊎◌, IfSome, count_by, filter, if◌then◌else◌, nat_lt, length, map, slice_get, take, Option, Some, None, All}
 use Rattle.std.proofs.Common.{refl, sym, ◌∙◌, ap, subst, arith, inl, inr}
 use Rattle.std.proofs.lemmas.Grind.{common_steps}
 use Rattle.std.proofs.lemmas.Option.{slice_get_within}
 use Rattle.std.proofs.lemmas.List.Sums.{sum_by-cons}
 use Rattle.std.specs.Option.{option_or}
-use Rattle.std.proofs.lemmas.List.Elements.{All-cons, All-head, All-nil, All-tail}
-use Rattle.model_octets.proofs.PairLemmas.{pairs_head}
-use Rattle.mdbox_base.specs.declared.entries.Highest.{Highest}
-use Rattle.model_meaning.specs.MapMeaning.{MapMeaning}
+use Rattle.std.proofs.lemmas.List.Elements.{All-cons, All-nil}
 use Rattle.disk_model.specs.Disk.{Faults, History, IsIdle}
 use Rattle.mdbox_base.specs.declared.replies.Refusal.{Refusal}
 use Rattle.mdbox_base.specs.declared.replies.Refusal.TheVariants as refusal
@@ -18,12 +15,12 @@ use Rattle.mdbox_base.specs.declared.requests.Request.{Request}
 use Rattle.mdbox_base.specs.declared.requests.Request.TheVariants as request
 use Rattle.mdbox_base.specs.declared.script.JournalEntry.{JournalEntry}
 use Rattle.model_lists.specs.Lists.{Lists}
-use Rattle.list_machine.specs.Machine.{Answers, PartAnswers, is_step}
+use Rattle.list_machine.specs.Machine.{Answers, is_step}
 use Rattle.list_machine.specs.Run.{EventPart, First, GivesBack, Last, SecondHalf, Run, RunEvent, before, own_events, first_in, reply_of}
 use Rattle.journal.specs.Events.{Around, IsEvent, MayMeet, behind_addition, behind_copy, behind_event, behind_expunge, behind_move, is_fault, is_faulted, next_part, reads_octets}
 use Rattle.journal.specs.GoesOn.{IsOneStep}
-use Rattle.journal.specs.Journal.{Requests, AreSteps, Broken, IsReplyOf, JournalStep, Reached, as_if, is_read_fault, left_by, WouldHaveBeen, refusal_in}
-use Rattle.journal.specs.Makes.{AreNextEvents, lists_before, IsServed}
+use Rattle.journal.specs.Journal.{Requests, AreSteps, Broken, IsReplyOf, JournalStep, Reached, as_if, is_read_fault, left_by}
+use Rattle.journal.specs.Makes.{AreNextEvents, lists_before}
 use Rattle.journal.proofs.AloneLemmas.{reply_alone}
 use Rattle.journal.proofs.FaultLemmas.{faults_have_events}
 use Rattle.store_core.specs.Value.{StoreValue, indexes_of}
@@ -33,7 +30,7 @@ use Rattle.script_run.specs.One.{AreListsTold, HasOneEvent, IsAnsweredFirst, IsU
 use Rattle.script_run.specs.Opening.{LogsShowLists}
 use Rattle.script_run.specs.Script.{only_reads, IsRefusedAtOnce}
 use Rattle.script_run.proofs.SomeListsLemmas.{some_lists}
-use Rattle.script_run.proofs.ToldLemmas.{IsMove, replied_one, step_answers, step_told, refused_told}
+use Rattle.script_run.proofs.ToldLemmas.{IsMove, replied_one, step_answers, step_told}
 
 -- ---- its events
 

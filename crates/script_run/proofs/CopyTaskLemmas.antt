@@ -10,7 +10,6 @@ use Rattle.mdbox_base.specs.declared.replies.Refusal.{Refusal}
 use Rattle.mdbox_base.specs.declared.replies.Refusal.TheVariants as refusal
 use Rattle.mdbox_base.specs.declared.replies.Reply.{Reply}
 use Rattle.mdbox_base.specs.declared.replies.Reply.TheVariants as reply
-use Rattle.mdbox_base.specs.declared.requests.Request.{Request}
 use Rattle.mdbox_base.specs.declared.requests.Request.TheVariants as request
 use Rattle.model_meaning.specs.BoxMeaning.{LogRow, BoxMeaning, row_at}
 use Rattle.model_meaning.specs.MapMeaning.{MapRecord, MapBox, MapMeaning, record_changed, count_of}
@@ -27,7 +26,7 @@ use Rattle.mail_ops.specs.Copying.{CopyPlace, copy_refusal, room_refusal, raisin
 use Rattle.mail_ops.specs.Requests.{IsOpsRequest}
 use Rattle.mail_ops.specs.declared.copy.CopyStage.{CopyStage}
 use Rattle.mail_ops.specs.declared.copy.CopyStage.TheVariants as copy_stage
-use Rattle.mail_ops.proofs.CopyFirstLemmas.{no_room, place_free, too_many, few_copies, raise_steps}
+use Rattle.mail_ops.proofs.CopyFirstLemmas.{no_room, place_free, too_many, few_copies}
 use Rattle.lane_tasks.specs.Clause.{StaysOfRequest, TellsStore, progress_by}
 use Rattle.lane_tasks.specs.Tasks.{BeginsTask}
 use Rattle.lane_tasks.specs.declared.task.Task.{Task}
@@ -178,79 +177,83 @@ StandsCopy name uid target s mid (task.Copy t) store history = (t.name ≡ name)
 StandsCopy name uid target s mid (task.Ops t) store history = request.Copy name uid target ≡ t.request
 StandsCopy name uid target s mid other store history = ⊥
 
--- Its reply is by what the store had that was opened, whose disk a refusal by a check leaves as it was, and whose listings and counts
--- want of memory does.
-pub record IsCopyTold {D : Type 0} (name : List ℕ) (uid : Uid) (target : List ℕ) (s : StoreValue D) (mid : Option History) (given : Reply) (store : StoreValue D) (history : Option History) : Type 0 where
-  pub given_is : IsCopyAnswer (CauseIn name uid.0 target s) (list_named s target) given
+-- The reply to a copy or a move is by what the store had that was opened, whose disk a refusal by a check leaves as it was, and whose
+-- listings and counts want of memory does.
+pub record IsRaiseTold {D : Type 0} (Answers : Reply → Type 0) (s : StoreValue D) (mid : Option History) (given : Reply) (store : StoreValue D) (history : Option History) : Type 0 where
+  pub given_is : Answers given
   pub unchanged : (why : Refusal) → given ≡ reply.Refused why → (why ≡ refusal.Stopped → ⊥) → (why ≡ refusal.NoMemory → ⊥) → IsIdle mid history
   pub alike : given ≡ reply.Refused refusal.NoMemory → IsAlikeStore s store
 
 -- it was stopped
-stopped_copy : {D : Type 0} → (name : List ℕ) (uid : Uid) (target : List ℕ) (s : StoreValue D) (mid : Option History) (why : Refusal) (store : StoreValue D) (history : Option History) → MayBeRaised name uid.0 target s → why ≡ refusal.Stopped → IsCopyTold name uid target s mid (reply.Refused why) store history
-stopped_copy name uid target s mid why store history may is = record {
-  given_is = may_answers name uid.0 target s (reply.Refused why) may (inr (inr (ap reply.Refused is)));
+pub stopped_raise : {D : Type 0} → (Answers : Reply → Type 0) (s : StoreValue D) (mid : Option History) (why : Refusal) (store : StoreValue D) (history : Option History) → ((reply.Refused why ≡ reply.Refused refusal.Stopped) → Answers (reply.Refused why)) → why ≡ refusal.Stopped → IsRaiseTold Answers s mid (reply.Refused why) store history
+stopped_raise Answers s mid why store history answers is = record {
+  given_is = answers (ap reply.Refused is);
   unchanged = λ other e running memory. absurd (running (sym (one_refusal why other e) ∙ is));
   alike = λ e. absurd (memory_runs (sym (one_refusal why refusal.NoMemory e) ∙ is));
 }
 
 -- there was no memory
-short_copy : {D : Type 0} → (name : List ℕ) (uid : Uid) (target : List ℕ) (s : StoreValue D) (mid : Option History) (why : Refusal) (store : StoreValue D) (history : Option History) → MayBeRaised name uid.0 target s → why ≡ refusal.NoMemory → IsAlikeStore s store → IsCopyTold name uid target s mid (reply.Refused why) store history
-short_copy name uid target s mid why store history may is alike = record {
-  given_is = may_answers name uid.0 target s (reply.Refused why) may (inr (inl (ap reply.Refused is)));
+pub short_raise : {D : Type 0} → (Answers : Reply → Type 0) (s : StoreValue D) (mid : Option History) (why : Refusal) (store : StoreValue D) (history : Option History) → ((reply.Refused why ≡ reply.Refused refusal.NoMemory) → Answers (reply.Refused why)) → why ≡ refusal.NoMemory → IsAlikeStore s store → IsRaiseTold Answers s mid (reply.Refused why) store history
+short_raise Answers s mid why store history answers is alike = record {
+  given_is = answers (ap reply.Refused is);
   unchanged = λ other e running memory. absurd (memory (sym (one_refusal why other e) ∙ is));
   alike = λ e. alike;
 }
 
--- the first event
-first_copy : {D : Type 0} → (name : List ℕ) (uid : Uid) (target : List ℕ) (s : StoreValue D) (mid : Option History) (why : Refusal) (new : StoreValue D) (before after : Option History) → before ≡ mid → (new ≡ s → IsIdle before after) → CopyAnswers name uid target copy_stage.First s new copy_stage.First (progress_by (Some (reply.Refused why)))
-    → IsCopyTold name uid target s mid (reply.Refused why) new after
-first_copy name uid target s mid why new before after was same (inl a) = stopped_copy name uid target s mid why new after a.2 a.0
-first_copy name uid target s mid why new before after was same (inr (back, inl e)) = record {
-  given_is = raise_answers name uid.0 target s why e;
+-- it was done
+pub done_raise : {D : Type 0} → (Answers : Reply → Type 0) (s : StoreValue D) (mid : Option History) (given : Reply) (store : StoreValue D) (history : Option History) → Answers given → ((why : Refusal) → given ≡ reply.Refused why → ⊥) → IsRaiseTold Answers s mid given store history
+done_raise Answers s mid given store history answers unrefused = record { given_is = answers; unchanged = λ why e. absurd (unrefused why e); alike = λ e. absurd (unrefused refusal.NoMemory e) }
+
+-- the first event of either refused it, or stopped the store, or found no memory
+pub first_raise : {D : Type 0} → (Answers : Reply → Type 0) (name : List ℕ) (uid : Uid) (target : List ℕ) (s : StoreValue D) (mid : Option History) (why : Refusal) (new : StoreValue D) (before after : Option History) → (IsRaiseRefusal name uid.0 target s why → Answers (reply.Refused why))
+    → (MayBeRaised name uid.0 target s → (reply.Refused why ≡ reply.Refused refusal.NoMemory) ⊎ (reply.Refused why ≡ reply.Refused refusal.Stopped) → Answers (reply.Refused why)) → before ≡ mid → (new ≡ s → IsIdle before after) → CopyAnswers name uid target copy_stage.First s new copy_stage.First (progress_by (Some (reply.Refused why)))
+    → IsRaiseTold Answers s mid (reply.Refused why) new after
+first_raise Answers name uid target s mid why new before after refuses may was same (inl a) = stopped_raise Answers s mid why new after (λ e. may a.2 (inr e)) a.0
+first_raise Answers name uid target s mid why new before after refuses may was same (inr (back, inl e)) = record {
+  given_is = refuses e;
   unchanged = λ other q running memory. subst (λ (h : Option History). IsIdle h after) was (same back);
   alike = λ q. still_alike s new back;
 }
-first_copy name uid target s mid why new before after was same (inr (back, inr e)) = short_copy name uid target s mid why new after e.1 e.0 (still_alike s new back)
+first_raise Answers name uid target s mid why new before after refuses may was same (inr (back, inr e)) = short_raise Answers s mid why new after (λ q. may e.1 (inl q)) e.0 (still_alike s new back)
 
-copy_told_so : {D : Type 0} → (name : List ℕ) (uid : Uid) (target : List ℕ) (s : StoreValue D) (mid : Option History) (one : Reply) (store : StoreValue D) (history : Option History) → IsCopyTold name uid target s mid one store history → (given : Reply) → Some one ≡ Some given → IsCopyTold name uid target s mid given store history
-copy_told_so name uid target s mid one store history is given e = subst (λ (r : Reply). IsCopyTold name uid target s mid r store history) (some_reply one given e) is
+pub raise_told_so : {D : Type 0} → (Answers : Reply → Type 0) (s : StoreValue D) (mid : Option History) (one : Reply) (store : StoreValue D) (history : Option History) → IsRaiseTold Answers s mid one store history → (given : Reply) → Some one ≡ Some given → IsRaiseTold Answers s mid given store history
+raise_told_so Answers s mid one store history is given e = subst (λ (r : Reply). IsRaiseTold Answers s mid r store history) (some_reply one given e) is
+
+-- an event that goes on, and one that ends it
+abbrev pub GoesOrEnds : {D : Type 0} → Type 0 → (Reply → Type 0) → StoreValue D → Option History → StoreValue D → Option History → Option Reply → Type 0
+GoesOrEnds Stands Answers s mid new after ended = (ended ≡ None → Stands) × ((given : Reply) → ended ≡ Some given → IsRaiseTold Answers s mid given new after)
+
+pub goes_raise : {D : Type 0} → (Stands : Type 0) (Answers : Reply → Type 0) (s : StoreValue D) (mid : Option History) (new : StoreValue D) (after : Option History) → Stands → GoesOrEnds Stands Answers s mid new after None
+goes_raise Stands Answers s mid new after at = (λ more. at, λ given e. absurd (let k : None ≡ Some given = e in cc k))
+
+pub ends_raise : {D : Type 0} → (Stands : Type 0) (Answers : Reply → Type 0) (s : StoreValue D) (mid : Option History) (new : StoreValue D) (after : Option History) (one : Reply) → IsRaiseTold Answers s mid one new after → GoesOrEnds Stands Answers s mid new after (Some one)
+ends_raise Stands Answers s mid new after one told = (λ more. absurd (let k : Some one ≡ None = more in cc k), raise_told_so Answers s mid one new after told)
+
+abbrev pub IsCopyTold : {D : Type 0} → List ℕ → Uid → List ℕ → StoreValue D → Option History → Reply → StoreValue D → Option History → Type 0
+IsCopyTold name uid target s mid = IsRaiseTold (AnswerIn name uid.0 target s) s mid
 
 copy_at : {D : Type 0} → (name : List ℕ) (uid : Uid) (target : List ℕ) (s : StoreValue D) (mid : Option History) (now next : CopyStage) (old new : StoreValue D) (before after : Option History) (ended : Option Reply) → AtCopy name uid target s mid now old before → CopyAnswers name uid target now old new next (progress_by ended) → (new ≡ old → IsIdle before after)
-    → (ended ≡ None → AtCopy name uid target s mid next new after) × ((given : Reply) → ended ≡ Some given → IsCopyTold name uid target s mid given new after)
-copy_at name uid target s mid copy_stage.First (copy_stage.Adding held) old new before after None at a same = (
-  λ more. raised_first name uid.0 target held s old new at.0 (record { row = a.0; number = a.1; next = a.2; at = a.3; few = a.5 }) a.6,
-  λ given e. absurd (let k : None ≡ Some given = e in cc k),
-)
-copy_at name uid target s mid copy_stage.First copy_stage.First old new before after (Some (reply.Refused why)) at a same = (
-  λ more. absurd (let k : Some (reply.Refused why) ≡ None = more in cc k),
-  copy_told_so name uid target s mid (reply.Refused why) new after
-      (first_copy name uid target s mid why new before after at.1 (λ back. same (back ∙ sym at.0)) (subst (λ (v : StoreValue _). CopyAnswers name uid target copy_stage.First v new copy_stage.First (progress_by (Some (reply.Refused why)))) at.0 a)),
-)
-copy_at name uid target s mid (copy_stage.Adding held) copy_stage.First old new before after (Some (reply.Copied given)) at a same = (
-  λ more. absurd (let k : Some (reply.Copied given) ≡ None = more in cc k),
-  copy_told_so name uid target s mid (reply.Copied given) new after
-      (record {
-        given_is = may_answers name uid.0 target s (reply.Copied given) at.may (inl (a.2.m, given, sym (named_kept target (raising_of held) s old at.raised) ∙ a.2.to.named, a.2.next_is, refl));
-        unchanged = λ why e. absurd (let k : reply.Copied given ≡ reply.Refused why = e in cc k);
-        alike = λ e. absurd (let k : reply.Copied given ≡ reply.Refused refusal.NoMemory = e in cc k);
-      }),
-)
-copy_at name uid target s mid (copy_stage.Adding held) (copy_stage.Adding still) old new before after (Some (reply.Refused why)) at a same = (
-  λ more. absurd (let k : Some (reply.Refused why) ≡ None = more in cc k),
-  copy_told_so name uid target s mid (reply.Refused why) new after (stopped_copy name uid target s mid why new after at.may a.1),
-)
-copy_at name uid target s mid (copy_stage.Adding held) (copy_stage.GivingBack still why) old new before after None at a same = (
-  λ more. (subst (λ (v : StoreValue _). HoldsRaised name uid.0 target still s v) (sym a.1) (subst (λ (h : MapUid). HoldsRaised name uid.0 target h s old) (sym a.0) at), only_memory name uid.0 target held s old why at a.2),
-  λ given e. absurd (let k : None ≡ Some given = e in cc k),
-)
-copy_at name uid target s mid (copy_stage.GivingBack held why) copy_stage.First old new before after (Some (reply.Refused given)) at a same = (
-  λ more. absurd (let k : Some (reply.Refused given) ≡ None = more in cc k),
-  copy_told_so name uid target s mid (reply.Refused given) new after (short_copy name uid target s mid given new after at.0.may (a.0 ∙ at.1) (given_back held s old new at.0.raised a.1)),
-)
-copy_at name uid target s mid (copy_stage.GivingBack held why) (copy_stage.GivingBack still cause) old new before after (Some (reply.Refused given)) at a same = (
-  λ more. absurd (let k : Some (reply.Refused given) ≡ None = more in cc k),
-  copy_told_so name uid target s mid (reply.Refused given) new after (stopped_copy name uid target s mid given new after at.0.may a.2),
-)
+    → GoesOrEnds (AtCopy name uid target s mid next new after) (AnswerIn name uid.0 target s) s mid new after ended
+copy_at name uid target s mid copy_stage.First (copy_stage.Adding held) old new before after None at a same =
+    goes_raise _ (AnswerIn name uid.0 target s) s mid new after (raised_first name uid.0 target held s old new at.0 (record { row = a.0; number = a.1; next = a.2; at = a.3; few = a.5 }) a.6)
+copy_at name uid target s mid copy_stage.First copy_stage.First old new before after (Some (reply.Refused why)) at a same =
+    ends_raise _ (AnswerIn name uid.0 target s) s mid new after (reply.Refused why)
+    (first_raise (AnswerIn name uid.0 target s) name uid target s mid why new before after (raise_answers name uid.0 target s why) (λ may is. may_answers name uid.0 target s (reply.Refused why) may (inr is)) at.1 (λ back. same (back ∙ sym at.0))
+    (subst (λ (v : StoreValue _). CopyAnswers name uid target copy_stage.First v new copy_stage.First (progress_by (Some (reply.Refused why)))) at.0 a))
+copy_at name uid target s mid (copy_stage.Adding held) copy_stage.First old new before after (Some (reply.Copied given)) at a same =
+    ends_raise _ (AnswerIn name uid.0 target s) s mid new after (reply.Copied given)
+    (done_raise (AnswerIn name uid.0 target s) s mid (reply.Copied given) new after (may_answers name uid.0 target s (reply.Copied given) at.may (inl (a.2.m, given, sym (named_kept target (raising_of held) s old at.raised) ∙ a.2.to.named, a.2.next_is, refl)))
+    (λ why e. let k : reply.Copied given ≡ reply.Refused why = e in cc k))
+copy_at name uid target s mid (copy_stage.Adding held) (copy_stage.Adding still) old new before after (Some (reply.Refused why)) at a same =
+    ends_raise _ (AnswerIn name uid.0 target s) s mid new after (reply.Refused why) (stopped_raise (AnswerIn name uid.0 target s) s mid why new after (λ e. may_answers name uid.0 target s (reply.Refused why) at.may (inr (inr e))) a.1)
+copy_at name uid target s mid (copy_stage.Adding held) (copy_stage.GivingBack still why) old new before after None at a same =
+    goes_raise _ (AnswerIn name uid.0 target s) s mid new after
+    (subst (λ (v : StoreValue _). HoldsRaised name uid.0 target still s v) (sym a.1) (subst (λ (h : MapUid). HoldsRaised name uid.0 target h s old) (sym a.0) at), only_memory name uid.0 target held s old why at a.2)
+copy_at name uid target s mid (copy_stage.GivingBack held why) copy_stage.First old new before after (Some (reply.Refused given)) at a same =
+    ends_raise _ (AnswerIn name uid.0 target s) s mid new after (reply.Refused given)
+    (short_raise (AnswerIn name uid.0 target s) s mid given new after (λ e. may_answers name uid.0 target s (reply.Refused given) at.0.may (inr (inl e))) (a.0 ∙ at.1) (given_back held s old new at.0.raised a.1))
+copy_at name uid target s mid (copy_stage.GivingBack held why) (copy_stage.GivingBack still cause) old new before after (Some (reply.Refused given)) at a same =
+    ends_raise _ (AnswerIn name uid.0 target s) s mid new after (reply.Refused given) (stopped_raise (AnswerIn name uid.0 target s) s mid given new after (λ e. may_answers name uid.0 target s (reply.Refused given) at.0.may (inr (inr e))) a.2)
 copy_at name uid target s mid now next old new before after ended at a same = absurd a
 
 copy_on : {D : Type 0} → (name : List ℕ) (uid : Uid) (target : List ℕ) (s : StoreValue D) (mid : Option History) (t next : Task) (old new : StoreValue D) (before after : Option History) (ended : Option Reply) → StandsCopy name uid target s mid t old before → StaysOfRequest t next → TellsStore t next old new before after ended → (new ≡ old → IsIdle before after) → (ended ≡ None → new.stopped ≡ false)

@@ -28,7 +28,7 @@ use Rattle.store_core.specs.Value.{StoreValue, indexes_of, list_named}
 use Rattle.store_open.specs.Opened.{KeepsOpenedMail}
 use Rattle.store_seen.specs.Seeing.{IsAtOpening}
 use Rattle.task_claims.specs.Claims.{HasNoTask}
-use Rattle.task_steps.specs.Step.{IsFirmAt, Seen, ShowsSeen, ended_by}
+use Rattle.task_steps.specs.Step.{IsFirmAt, Seen, ShowsSeen}
 use Rattle.task_steps.proofs.OneEventLemmas.{not_true}
 use Rattle.mail_fetch.specs.Task.{seen_in}
 use Rattle.lanes.specs.Going.{AreFreshRows, IsGoing}
@@ -42,7 +42,6 @@ use Rattle.lane_tasks.specs.Tasks.{BeginsTask}
 use Rattle.mail_ops.specs.Flagging.{flag_refusal}
 use Rattle.mail_ops.specs.Requests.{Replies}
 use Rattle.lane_tasks.specs.declared.task.Task.{Task}
-use Rattle.lane_tasks.specs.declared.task.Task.TheVariants as task
 use Rattle.script_run.specs.One.{IsFlagAnswer, IsGivenBackAlone, IsToldAlone, IsUndoneAlone, MeansAlike, missing_cause}
 use Rattle.script_run.specs.Done.{IsScriptDone, LeavesStore, MayBeKept, MayBeServed, MayRead}
 use Rattle.script_run.specs.Faults.{FaultsByReplies, HasReadFault}

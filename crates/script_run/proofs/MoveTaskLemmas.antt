@@ -1,5 +1,5 @@
 -- A move alone: what its task knows from one event to the next.
-use Rattle.std.specs.Prelude.{◌≡◌, ◌⊎◌, ℕ, true, false, Bool, List, Option, Some, None}
+use Rattle.std.specs.Prelude.{◌≡◌, ◌⊎◌, ℕ, false, Bool, List, Option, Some, None}
 use Rattle.std.proofs.Common.{refl, sym, ◌∙◌, ap, subst, inl, inr}
 use Rattle.disk_model.specs.Disk.{History, IsIdle}
 use Rattle.mdbox_base.specs.declared.ids.MapUid.{MapUid}
@@ -8,7 +8,6 @@ use Rattle.mdbox_base.specs.declared.replies.Refusal.{Refusal}
 use Rattle.mdbox_base.specs.declared.replies.Refusal.TheVariants as refusal
 use Rattle.mdbox_base.specs.declared.replies.Reply.{Reply}
 use Rattle.mdbox_base.specs.declared.replies.Reply.TheVariants as reply
-use Rattle.mdbox_base.specs.declared.requests.Request.{Request}
 use Rattle.mdbox_base.specs.declared.requests.Request.TheVariants as request
 use Rattle.model_meaning.specs.BoxMeaning.{BoxMeaning, LogRow}
 use Rattle.task_steps.specs.Step.{ended_by}
@@ -25,10 +24,13 @@ use Rattle.lane_tasks.specs.declared.task.Task.{Task}
 use Rattle.lane_tasks.specs.declared.task.Task.TheVariants as task
 use Rattle.lane_tasks.proofs.StepLemmas.{ops_asked}
 use Rattle.script_run.specs.One.{IsMoveAnswer, IsMovedAs}
-use Rattle.script_run.proofs.CopyTaskLemmas.{CauseIn, HoldsRaised, IsAlikeStore, given_back, may_cause, memory_runs, named_kept, only_memory, raise_cause, raised_first, still_alike}
-use Rattle.script_run.proofs.OneTaskLemmas.{KeepsAlone, one_refusal, some_reply}
+use Rattle.script_run.proofs.CopyTaskLemmas.{CauseIn, GoesOrEnds, HoldsRaised, IsRaiseTold, done_raise, ends_raise, first_raise, given_back, goes_raise, may_cause, named_kept, only_memory, raise_cause, raised_first, short_raise, stopped_raise}
+use Rattle.script_run.proofs.OneTaskLemmas.{KeepsAlone}
 
 -- ---- its replies
+
+abbrev pub MovesIn : {D : Type 0} → List ℕ → ℕ → List ℕ → StoreValue D → Reply → Type 0
+MovesIn name uid target s given = IsMoveAnswer (CauseIn name uid target s) (list_named s target) given
 
 may_move : {D : Type 0} → (name : List ℕ) (uid : ℕ) (target : List ℕ) (s : StoreValue D) (given : Reply) → MayBeRaised name uid target s → IsMovedAs (list_named s target) given ⊎ ((given ≡ reply.Refused refusal.NoMemory) ⊎ (given ≡ reply.Refused refusal.Stopped)) → IsMoveAnswer (CauseIn name uid target s) (list_named s target) given
 may_move name uid target s given may is = subst (λ (o : Option Refusal). IsMoveAnswer o (list_named s target) given) (sym (may_cause name uid target s may)) is
@@ -60,88 +62,49 @@ StandsMove name uid target s mid (task.Move t) store history = (t.name ≡ name)
 StandsMove name uid target s mid (task.Ops t) store history = request.Move name uid target ≡ t.request
 StandsMove name uid target s mid other store history = ⊥
 
--- Its reply is by what the store had that was opened, as a copy's is (`IsCopyTold`).
-pub record IsMoveTold {D : Type 0} (name : List ℕ) (uid : Uid) (target : List ℕ) (s : StoreValue D) (mid : Option History) (given : Reply) (store : StoreValue D) (history : Option History) : Type 0 where
-  pub given_is : IsMoveAnswer (CauseIn name uid.0 target s) (list_named s target) given
-  pub unchanged : (why : Refusal) → given ≡ reply.Refused why → (why ≡ refusal.Stopped → ⊥) → (why ≡ refusal.NoMemory → ⊥) → IsIdle mid history
-  pub alike : given ≡ reply.Refused refusal.NoMemory → IsAlikeStore s store
-
--- it was stopped
-stopped_move : {D : Type 0} → (name : List ℕ) (uid : Uid) (target : List ℕ) (s : StoreValue D) (mid : Option History) (why : Refusal) (store : StoreValue D) (history : Option History) → MayBeRaised name uid.0 target s → why ≡ refusal.Stopped → IsMoveTold name uid target s mid (reply.Refused why) store history
-stopped_move name uid target s mid why store history may is = record {
-  given_is = may_move name uid.0 target s (reply.Refused why) may (inr (inr (ap reply.Refused is)));
-  unchanged = λ other e running memory. absurd (running (sym (one_refusal why other e) ∙ is));
-  alike = λ e. absurd (memory_runs (sym (one_refusal why refusal.NoMemory e) ∙ is));
-}
-
--- there was no memory
-short_move : {D : Type 0} → (name : List ℕ) (uid : Uid) (target : List ℕ) (s : StoreValue D) (mid : Option History) (why : Refusal) (store : StoreValue D) (history : Option History) → MayBeRaised name uid.0 target s → why ≡ refusal.NoMemory → IsAlikeStore s store → IsMoveTold name uid target s mid (reply.Refused why) store history
-short_move name uid target s mid why store history may is alike = record {
-  given_is = may_move name uid.0 target s (reply.Refused why) may (inr (inl (ap reply.Refused is)));
-  unchanged = λ other e running memory. absurd (memory (sym (one_refusal why other e) ∙ is));
-  alike = λ e. alike;
-}
+abbrev pub IsMoveTold : {D : Type 0} → List ℕ → Uid → List ℕ → StoreValue D → Option History → Reply → StoreValue D → Option History → Type 0
+IsMoveTold name uid target s mid = IsRaiseTold (MovesIn name uid.0 target s) s mid
 
 -- it is moved
 done_move : {D : Type 0} → (name : List ℕ) (uid : Uid) (target : List ℕ) (s : StoreValue D) (mid : Option History) (copied given : Uid) (gone : Bool) (store : StoreValue D) (history : Option History) → WasNext name uid.0 target copied s → given ≡ copied → IsMoveTold name uid target s mid (reply.Moved given gone) store history
-done_move name uid target s mid copied given gone store history w is = record {
-  given_is = may_move name uid.0 target s (reply.Moved given gone) w.may (inl (w.m, given, gone, w.named, ap (λ (u : Uid). u.0) is ∙ w.next_is, refl));
-  unchanged = λ why e. absurd (let k : reply.Moved given gone ≡ reply.Refused why = e in cc k);
-  alike = λ e. absurd (let k : reply.Moved given gone ≡ reply.Refused refusal.NoMemory = e in cc k);
-}
+done_move name uid target s mid copied given gone store history w is =
+    done_raise (MovesIn name uid.0 target s) s mid (reply.Moved given gone) store history (may_move name uid.0 target s (reply.Moved given gone) w.may (inl (w.m, given, gone, w.named, ap (λ (u : Uid). u.0) is ∙ w.next_is, refl)))
+    (λ why e. let k : reply.Moved given gone ≡ reply.Refused why = e in cc k)
 
--- the first event
-first_move : {D : Type 0} → (name : List ℕ) (uid : Uid) (target : List ℕ) (s : StoreValue D) (mid : Option History) (why : Refusal) (new : StoreValue D) (before after : Option History) → before ≡ mid → (new ≡ s → IsIdle before after) → MoveAnswers name uid target move_stage.First s new move_stage.First (progress_by (Some (reply.Refused why)))
-    → IsMoveTold name uid target s mid (reply.Refused why) new after
-first_move name uid target s mid why new before after was same (inl a) = stopped_move name uid target s mid why new after a.2 a.0
-first_move name uid target s mid why new before after was same (inr (back, inl e)) = record {
-  given_is = raise_moves name uid.0 target s why e;
-  unchanged = λ other q running memory. subst (λ (h : Option History). IsIdle h after) was (same back);
-  alike = λ q. still_alike s new back;
-}
-first_move name uid target s mid why new before after was same (inr (back, inr e)) = short_move name uid target s mid why new after e.1 e.0 (still_alike s new back)
-
-move_told_so : {D : Type 0} → (name : List ℕ) (uid : Uid) (target : List ℕ) (s : StoreValue D) (mid : Option History) (one : Reply) (store : StoreValue D) (history : Option History) → IsMoveTold name uid target s mid one store history → (given : Reply) → Some one ≡ Some given → IsMoveTold name uid target s mid given store history
-move_told_so name uid target s mid one store history is given e = subst (λ (r : Reply). IsMoveTold name uid target s mid r store history) (some_reply one given e) is
-
--- what an event that goes on, or that ends it, leaves
-abbrev GoesOrEnds : {D : Type 0} → List ℕ → Uid → List ℕ → StoreValue D → Option History → MoveStage → StoreValue D → Option History → Option Reply → Type 0
-GoesOrEnds name uid target s mid next new after ended = (ended ≡ None → AtMove name uid target s mid next new after) × ((given : Reply) → ended ≡ Some given → IsMoveTold name uid target s mid given new after)
-
-goes_move : {D : Type 0} → (name : List ℕ) (uid : Uid) (target : List ℕ) (s : StoreValue D) (mid : Option History) (next : MoveStage) (new : StoreValue D) (after : Option History) → AtMove name uid target s mid next new after → GoesOrEnds name uid target s mid next new after None
-goes_move name uid target s mid next new after at = (λ more. at, λ given e. absurd (let k : None ≡ Some given = e in cc k))
-
-ends_move : {D : Type 0} → (name : List ℕ) (uid : Uid) (target : List ℕ) (s : StoreValue D) (mid : Option History) (next : MoveStage) (new : StoreValue D) (after : Option History) (one : Reply) → IsMoveTold name uid target s mid one new after → GoesOrEnds name uid target s mid next new after (Some one)
-ends_move name uid target s mid next new after one told = (λ more. absurd (let k : Some one ≡ None = more in cc k), move_told_so name uid target s mid one new after told)
+-- it was stopped
+stopped_move : {D : Type 0} → (name : List ℕ) (uid : Uid) (target : List ℕ) (s : StoreValue D) (mid : Option History) (why : Refusal) (store : StoreValue D) (history : Option History) → MayBeRaised name uid.0 target s → why ≡ refusal.Stopped → IsMoveTold name uid target s mid (reply.Refused why) store history
+stopped_move name uid target s mid why store history may is = stopped_raise (MovesIn name uid.0 target s) s mid why store history (λ e. may_move name uid.0 target s (reply.Refused why) may (inr (inr e))) is
 
 move_at : {D : Type 0} → (name : List ℕ) (uid : Uid) (target : List ℕ) (s : StoreValue D) (mid : Option History) (now next : MoveStage) (old new : StoreValue D) (before after : Option History) (ended : Option Reply) → AtMove name uid target s mid now old before → MoveAnswers name uid target now old new next (progress_by ended) → (new ≡ old → IsIdle before after)
-    → GoesOrEnds name uid target s mid next new after ended
+    → GoesOrEnds (AtMove name uid target s mid next new after) (MovesIn name uid.0 target s) s mid new after ended
 move_at name uid target s mid move_stage.First (move_stage.Adding held) old new before after None at a same =
-    goes_move name uid target s mid (move_stage.Adding held) new after (raised_first name uid.0 target held s old new at.0 (record { row = a.0; number = a.1; next = a.2; at = a.3; few = a.5 }) a.6)
+    goes_raise _ (MovesIn name uid.0 target s) s mid new after (raised_first name uid.0 target held s old new at.0 (record { row = a.0; number = a.1; next = a.2; at = a.3; few = a.5 }) a.6)
 move_at name uid target s mid move_stage.First move_stage.First old new before after (Some (reply.Refused why)) at a same =
-    ends_move name uid target s mid move_stage.First new after (reply.Refused why)
-    (first_move name uid target s mid why new before after at.1 (λ back. same (back ∙ sym at.0)) (subst (λ (v : StoreValue _). MoveAnswers name uid target move_stage.First v new move_stage.First (progress_by (Some (reply.Refused why)))) at.0 a))
+    ends_raise _ (MovesIn name uid.0 target s) s mid new after (reply.Refused why)
+    (first_raise (MovesIn name uid.0 target s) name uid target s mid why new before after (raise_moves name uid.0 target s why) (λ may is. may_move name uid.0 target s (reply.Refused why) may (inr is)) at.1 (λ back. same (back ∙ sym at.0))
+    (subst (λ (v : StoreValue _). MoveAnswers name uid target move_stage.First v new move_stage.First (progress_by (Some (reply.Refused why)))) at.0 a))
 move_at name uid target s mid (move_stage.Adding held) (move_stage.Removing still copied) old new before after None at a same =
-    goes_move name uid target s mid (move_stage.Removing still copied) new after (was_next name uid.0 target held copied a.1.0 a.1.1 s old at a.1.2)
+    goes_raise _ (MovesIn name uid.0 target s) s mid new after (was_next name uid.0 target held copied a.1.0 a.1.1 s old at a.1.2)
 move_at name uid target s mid (move_stage.Adding held) (move_stage.Adding still) old new before after (Some (reply.Refused why)) at a same =
-    ends_move name uid target s mid (move_stage.Adding still) new after (reply.Refused why) (stopped_move name uid target s mid why new after at.may a.1)
+    ends_raise _ (MovesIn name uid.0 target s) s mid new after (reply.Refused why) (stopped_move name uid target s mid why new after at.may a.1)
 move_at name uid target s mid (move_stage.Adding held) (move_stage.GivingBack still why) old new before after None at a same =
-    goes_move name uid target s mid (move_stage.GivingBack still why) new after
+    goes_raise _ (MovesIn name uid.0 target s) s mid new after
     (subst (λ (v : StoreValue _). HoldsRaised name uid.0 target still s v) (sym a.1) (subst (λ (h : MapUid). HoldsRaised name uid.0 target h s old) (sym a.0) at), only_memory name uid.0 target held s old why at a.2)
 move_at name uid target s mid (move_stage.GivingBack held why) move_stage.First old new before after (Some (reply.Refused given)) at a same =
-    ends_move name uid target s mid move_stage.First new after (reply.Refused given) (short_move name uid target s mid given new after at.0.may (a.0 ∙ at.1) (given_back held s old new at.0.raised a.1))
+    ends_raise _ (MovesIn name uid.0 target s) s mid new after (reply.Refused given)
+    (short_raise (MovesIn name uid.0 target s) s mid given new after (λ e. may_move name uid.0 target s (reply.Refused given) at.0.may (inr (inl e))) (a.0 ∙ at.1) (given_back held s old new at.0.raised a.1))
 move_at name uid target s mid (move_stage.GivingBack held why) (move_stage.GivingBack still cause) old new before after (Some (reply.Refused given)) at a same =
-    ends_move name uid target s mid (move_stage.GivingBack still cause) new after (reply.Refused given) (stopped_move name uid target s mid given new after at.0.may a.2)
+    ends_raise _ (MovesIn name uid.0 target s) s mid new after (reply.Refused given) (stopped_move name uid target s mid given new after at.0.may a.2)
 move_at name uid target s mid (move_stage.Removing held copied) (move_stage.Owing owed same_uid) old new before after None at a same =
-    goes_move name uid target s mid (move_stage.Owing owed same_uid) new after (subst (λ (u : Uid). WasNext name uid.0 target u s) (sym a.1) at)
+    goes_raise _ (MovesIn name uid.0 target s) s mid new after (subst (λ (u : Uid). WasNext name uid.0 target u s) (sym a.1) at)
 move_at name uid target s mid (move_stage.Removing held copied) move_stage.First old new before after (Some (reply.Moved given gone)) at a same =
-    ends_move name uid target s mid move_stage.First new after (reply.Moved given gone) (done_move name uid target s mid copied given gone new after at a.0)
+    ends_raise _ (MovesIn name uid.0 target s) s mid new after (reply.Moved given gone) (done_move name uid target s mid copied given gone new after at a.0)
 move_at name uid target s mid (move_stage.Removing held copied) (move_stage.Removing still same_uid) old new before after (Some (reply.Refused why)) at a same =
-    ends_move name uid target s mid (move_stage.Removing still same_uid) new after (reply.Refused why) (stopped_move name uid target s mid why new after at.may a.2)
+    ends_raise _ (MovesIn name uid.0 target s) s mid new after (reply.Refused why) (stopped_move name uid target s mid why new after at.may a.2)
 move_at name uid target s mid (move_stage.Owing owed copied) move_stage.First old new before after (Some (reply.Moved given gone)) at a same =
-    ends_move name uid target s mid move_stage.First new after (reply.Moved given gone) (done_move name uid target s mid copied given gone new after at a.0)
+    ends_raise _ (MovesIn name uid.0 target s) s mid new after (reply.Moved given gone) (done_move name uid target s mid copied given gone new after at a.0)
 move_at name uid target s mid (move_stage.Owing owed copied) (move_stage.Owing still same_uid) old new before after (Some (reply.Refused why)) at a same =
-    ends_move name uid target s mid (move_stage.Owing still same_uid) new after (reply.Refused why) (stopped_move name uid target s mid why new after at.may a.2)
+    ends_raise _ (MovesIn name uid.0 target s) s mid new after (reply.Refused why) (stopped_move name uid target s mid why new after at.may a.2)
 move_at name uid target s mid now next old new before after ended at a same = absurd a
 
 move_on : {D : Type 0} → (name : List ℕ) (uid : Uid) (target : List ℕ) (s : StoreValue D) (mid : Option History) (t next : Task) (old new : StoreValue D) (before after : Option History) (ended : Option Reply) → StandsMove name uid target s mid t old before → StaysOfRequest t next → TellsStore t next old new before after ended → (new ≡ old → IsIdle before after) → (ended ≡ None → new.stopped ≡ false)

@@ -1,9 +1,8 @@
 -- A script of one request: what its task knows, from one event to the next.
 use Rattle.std.specs.Prelude.{◌≢◌, ◌⊎◌, ◌==◌, Bool, length, map, slice_get, slice_set, if◌then◌else◌}
-use Rattle.std.proofs.Common.{◌≡◌, ◌≤◌, ◌+◌, ◌-◌, ℕ, zero, suc, true, false, List, [], ◌∷◌, Option, Some, None, refl, sym, ◌∙◌, ap, subst, arith, inl, inr}
+use Rattle.std.proofs.Common.{◌≡◌, ◌+◌, ◌-◌, ℕ, zero, suc, true, false, List, [], ◌∷◌, Option, Some, None, refl, sym, ◌∙◌, ap, subst, arith, inl, inr}
 use Rattle.std.proofs.lemmas.Option.{slice_get_within}
 use Rattle.disk_model.specs.Disk.{Faults, History, IsIdle}
-use Rattle.disk_model.proofs.IdleLemmas.{idle-begins}
 use Rattle.mdbox_base.specs.declared.ids.Uid.{Uid}
 use Rattle.mdbox_base.specs.declared.replies.Refusal.{Refusal}
 use Rattle.mdbox_base.specs.declared.replies.Refusal.TheVariants as refusal
@@ -28,7 +27,7 @@ use Rattle.lane_tasks.specs.Tasks.{BeginsTask, IsTaskOf}
 use Rattle.lane_tasks.specs.declared.task.Task.{Task}
 use Rattle.lane_tasks.specs.declared.task.Task.TheVariants as task
 use Rattle.lane_tasks.proofs.StepLemmas.{ops_asked}
-use Rattle.lanes.specs.Going.{AreFreshRows, IsFreshRow}
+use Rattle.lanes.specs.Going.{AreFreshRows}
 use Rattle.lanes.specs.Rows.{LaneRow, TaskGoesOn, after_event, queue_in}
 use Rattle.lanes.specs.Worlds.{WorldValue}
 use Rattle.lanes.specs.declared.lane.LaneEvent.{LaneEvent}

@@ -2,7 +2,6 @@
 use Rattle.std.specs.Prelude.{◌≡◌, ◌≤◌, ◌<◌, ◌==◌, ◌++◌, ℕ, zero, suc, Bool, true, false, cond, List, [], ◌∷◌, ◌⊎◌, All, AllPairs, drop, filter, length, map, slice_get, take, Option, Some, None}
 use Rattle.std.proofs.Common.{refl, sym, ◌∙◌, ap, subst, arith, inl, inr}
 use Rattle.std.proofs.lemmas.Grind.{common_steps}
-use Rattle.std.proofs.lemmas.Option.{slice_get_within}
 use Rattle.std.proofs.lemmas.List.{length-map, length-append}
 use Rattle.std.proofs.lemmas.List.Elements.{All-cons, All-head, All-nil, All-tail}
 use Rattle.model_octets.proofs.PairLemmas.{pairs_head}
@@ -20,7 +19,7 @@ use Rattle.model_meaning.specs.MapMeaning.{MapMeaning}
 use Rattle.list_machine.specs.Machine.{Does, PartAnswers}
 use Rattle.list_machine.specs.Run.{EventPart, First, GivesBack, Last, Run, RunEvent, before, own_events}
 use Rattle.journal.specs.Events.{Around, behind_addition, behind_copy, behind_event, behind_expunge, next_part}
-use Rattle.journal.specs.Journal.{AreSteps, Broken, IsFirstPart, IsLegal, IsStep, JournalStep, Reached, WouldHaveBeen, as_if, halves_of, left_by, refusal_in, steps_of}
+use Rattle.journal.specs.Journal.{AreSteps, Broken, IsLegal, IsStep, JournalStep, Reached, WouldHaveBeen, as_if, halves_of, left_by, refusal_in, steps_of}
 use Rattle.journal.specs.Makes.{AreNextEvents, IsServed}
 use Rattle.journal.proofs.AloneLemmas.{all_own}
 use Rattle.script_run.specs.One.{IsAlongOne, MakesOneStep, alone}
@@ -75,8 +74,7 @@ part_after around after start asked run journal next n event at =
     let e = get_before run.events n event at in
     let k = own_event around after start asked run journal next (suc n) event at in
     let own = own_taken run.events n e.0 (λ m x there. (own_event around after start asked run journal next m x there).0) e.1 in
-    let part = ap (λ (r : ℕ). next_part (around (suc n)) (before (suc n) run) asked (own_events r (before (suc n) run))) (sym k.0) ∙ k.1.part_is in
-    (
+    let part = ap (λ (r : ℕ). next_part (around (suc n)) (before (suc n) run) asked (own_events r (before (suc n) run))) (sym k.0) ∙ k.1.part_is in (
       e.0,
       e.1,
       sym (next_behind (around (suc n)) (before (suc n) run) asked (filter (λ x. x.request == 0) (take n run.events)) e.0) ∙ (ap (λ (es : List RunEvent). next_part (around (suc n)) (before (suc n) run) asked es) (sym own) ∙ part),

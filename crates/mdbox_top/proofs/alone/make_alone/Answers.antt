@@ -1,14 +1,14 @@
 use Rattle.std.proofs.Common.{◌+◌, sym, ap, subst, arith}
 use Rattle.mdbox_top.specs.Alone.{IsDoneAlone}
-use Rattle.mdbox_top.proofs.ChangedLemmas.{change_done}
-use Rattle.mdbox_top.proofs.alone.change_alone.Goals as goal
+use Rattle.mdbox_base.specs.declared.requests.Request.TheVariants as request
+use Rattle.mdbox_top.proofs.MakeLemmas.{make_done}
+use Rattle.mdbox_top.proofs.alone.make_alone.Goals as goal
 
 pub returns-in-Ok-clause-done : goal.returns-in-Ok-clause-done
 returns-in-Ok-clause-done g c =
     let o = c.in-Ok.ensures in
-    let asked = c.args.request in
-    let given = c.do_events-reply.result in
-    let done = change_done asked given (g.D.Disk.history c.args.disk) (g.D.Disk.history c.in-Ok.store.disk) (g.D.Disk.history c.do_events-reply.new.store.disk) (g.D.Disk.faults c.in-Ok.store.disk) (g.D.Disk.faults c.do_events-reply.new.store.disk) c.in-Ok.store c.do_events-reply.new.store c.requires
+    let given = c.make_mailbox-reply.result in
+    let done = make_done c.args.name given (g.D.Disk.history c.args.disk) (g.D.Disk.history c.in-Ok.store.disk) (g.D.Disk.history c.make_mailbox-reply.new.store.disk) (g.D.Disk.faults c.in-Ok.store.disk) (g.D.Disk.faults c.make_mailbox-reply.new.store.disk) c.in-Ok.store c.make_mailbox-reply.new.store
     (record {
       opened = record {
         opened = o.opened;
@@ -29,13 +29,13 @@ returns-in-Ok-clause-done g c =
         closed_well = o.closed_well;
       };
       later = c.facts-in-Ok.ensures.store;
-      does = c.do_events-reply.ensures;
+      makes = c.make_mailbox-reply.ensures;
       back = λ same. ap (λ v. g.D.Disk.history v.disk) same;
       fresh = (c.known_logs.ensures.fresh (c.in-Ok.store.drawn.mailbox + 1) (omega arith)).0;
     })
     c.listings_are_shown.ensures.logs in
-    subst (λ d. IsDoneAlone asked given (g.D.Disk.history c.args.disk) (g.D.Disk.history d) (g.D.Disk.faults c.args.disk) (g.D.Disk.faults d)) (sym c.into_disk.ensures)
-    (subst (λ f. IsDoneAlone asked given (g.D.Disk.history c.args.disk) (g.D.Disk.history c.do_events-reply.new.store.disk) f (g.D.Disk.faults c.do_events-reply.new.store.disk)) (o.unfailed (λ f. f)) done)
+    subst (λ d. IsDoneAlone (request.Make c.args.name) given (g.D.Disk.history c.args.disk) (g.D.Disk.history d) (g.D.Disk.faults c.args.disk) (g.D.Disk.faults d)) (sym c.into_disk.ensures)
+    (subst (λ f. IsDoneAlone (request.Make c.args.name) given (g.D.Disk.history c.args.disk) (g.D.Disk.history c.make_mailbox-reply.new.store.disk) f (g.D.Disk.faults c.make_mailbox-reply.new.store.disk)) (o.unfailed (λ f. f)) done)
 
 pub returns-in-Err-clause-refused : goal.returns-in-Err-clause-refused
 returns-in-Err-clause-refused g c =
