@@ -5,6 +5,9 @@ use Rattle.std.proofs.lemmas.List.{take-append-le, drop-append-le}
 use Rattle.std.proofs.lemmas.List.Elements.{All-nil, All-cons, All-append}
 use Rattle.std.proofs.lemmas.List.Sums.{sum_by-cons, sum_by-append}
 use Rattle.gate_log.specs.Log.{cut_by}
+use Rattle.mdbox_base.specs.declared.entries.RootEntry.{RootEntry}
+use Rattle.mdbox_base.specs.declared.entries.RootEntry.TheVariants as root
+use Rattle.model_logs.specs.Entries.{root_text}
 
 pub cut-more : (lengths octets : List ℕ) (size : ℕ) (text : List ℕ) → sum lengths ≡ length octets → size ≡ length text → cut_by (lengths ++ size ∷ []) (octets ++ text) ≡ cut_by lengths octets ++ text ∷ []
 cut-more [] [] size text whole e = ap (λ (t : List ℕ). t ∷ []) (ap (λ (n : ℕ). take n text) e ∙ take-length text)
@@ -26,3 +29,6 @@ sum-more lengths size octets text whole e =
 
 pub some-more : (lengths : List ℕ) (size : ℕ) → All (λ n. 1 ≤ n) lengths → 1 ≤ size → All (λ n. 1 ≤ n) (lengths ++ size ∷ [])
 some-more lengths size all one = All-append (λ n. 1 ≤ n) lengths (size ∷ []) all (All-cons (λ n. 1 ≤ n) size [] one (All-nil (λ n. 1 ≤ n)))
+
+pub root_length : (entry : RootEntry) → 5 ≡ length (root_text entry)
+root_length (root.M generation) = refl

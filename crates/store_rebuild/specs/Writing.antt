@@ -5,6 +5,7 @@ use Rattle.disk_model.specs.Name.{IsLogName}
 use Rattle.disk_model.specs.declared.name.FileName.{FileName}
 use Rattle.disk_model.specs.declared.name.FileName.TheVariants as file
 use Rattle.gate_log.specs.Log.{IsAtMostAsLong}
+use Rattle.mdbox_base.specs.Words.{IsNumber}
 use Rattle.mdbox_base.specs.declared.entries.InstRow.{InstRow}
 use Rattle.mdbox_base.specs.declared.entries.RootEntry.TheVariants as root
 use Rattle.model_logs.specs.declared.log_head.LogHead.{LogHead}
@@ -27,6 +28,7 @@ IsInstanceThere disk i = IsThere (disk (file.Inst i.hash.0 i.id.0))
 
 -- the storage file of a message is there, and so are its instances
 pub record AreFilesThere (disk : DiskState) (row : TakenRow) : Type 0 where
+  pub number : IsNumber row.file.0
   pub storage : IsThere (disk (file.Mail row.file.0))
   pub instances : All (IsInstanceThere disk) row.instances
 

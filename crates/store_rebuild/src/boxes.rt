@@ -18,9 +18,11 @@ pub fn new_boxes(alloc: Global, names: &[Name], taken: &[TakenRow]) -> Result<Ve
     ensures one_each { IfOk result (λ logs. length logs.items ≡ length names.now) }
 {
     let mut logs = Vec::new(alloc);
-    for name in names {
+    let mut rest = names;
+    while let Some((name, others)) = rest.split_first() {
         let log = new_box(alloc, name, taken)?;
         logs.push(log)?;
+        rest = others;
     }
     Ok(logs)
 }
@@ -32,12 +34,14 @@ fn new_box(alloc: Global, name: &Name, taken: &[TakenRow]) -> Result<NewLog, NoM
     let mut draft = Draft::empty(alloc);
     let mut uid = 1;
     let mut map_uid = 1;
-    for row in taken {
+    let mut rest = taken;
+    while let Some((row, others)) = rest.split_first() {
         if row.mailbox.as_octets() == name.as_octets() {
             draft = draft.push_box(&added(uid, map_uid, row))?;
             uid = next_number(uid)?;
         }
         map_uid = next_number(map_uid)?;
+        rest = others;
     }
     draft.with_room(alloc)
 }

@@ -33,10 +33,12 @@ pub fn write_log<D: Disk>(
     } = new;
     let mut log = make_empty_log(alloc, disk, name, head)?;
     log.take_room(room);
-    if lengths.is_empty() {
+    let sizes = lengths.as_slice();
+    if sizes.is_empty() {
         return Ok(());
     }
-    log.append_many(disk, octets.as_slice(), &lengths)
+    log.append_many(disk, octets.as_slice(), sizes)?;
+    Ok(())
 }
 
 /// Makes an empty log.

@@ -46,7 +46,8 @@ pub fn write_logs<D: Disk>(
     let head = head_of(id, LogKind::Map, 0, map_generation);
     write_log(alloc, disk, FileName::Map(map_generation), head, map_log)?;
     let head = head_of(id, LogKind::Root, 0, 0);
-    write_log(alloc, disk, FileName::Root, head, root_log)
+    write_log(alloc, disk, FileName::Root, head, root_log)?;
+    Ok(())
 }
 
 /// Writes the logs of mailboxes, numbered from 1.

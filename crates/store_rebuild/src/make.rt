@@ -110,5 +110,6 @@ fn write_all<D: Disk>(
         rows.map_generation,
         rows.box_generation,
         logs,
-    )
+    )?;
+    Ok(())
 }

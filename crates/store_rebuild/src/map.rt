@@ -44,7 +44,8 @@ fn push_made(
 {
     let mut draft = draft;
     let mut number = 1;
-    for name in names {
+    let mut rest = names;
+    while let Some((name, others)) = rest.split_first() {
         let name = copy_of(alloc, name.as_octets())?;
         let entry = MapEntry::B {
             mailbox: BoxNo(number),
@@ -53,6 +54,7 @@ fn push_made(
         };
         draft = draft.push_map(alloc, &entry)?;
         number = next_number(number)?;
+        rest = others;
     }
     Ok(draft)
 }
@@ -63,10 +65,12 @@ fn push_stored(alloc: Global, draft: Draft, taken: &[TakenRow]) -> Result<Draft,
 {
     let mut draft = draft;
     let mut uid = 1;
-    for row in taken {
+    let mut rest = taken;
+    while let Some((row, others)) = rest.split_first() {
         let entry = stored(alloc, uid, row)?;
         draft = draft.push_map(alloc, &entry)?;
         uid = next_number(uid)?;
+        rest = others;
     }
     Ok(draft)
 }
@@ -109,8 +113,10 @@ fn push_sealed(alloc: Global, draft: Draft, skipped: &[SkippedAt]) -> Result<Dra
 {
     let files = files_skipped(alloc, skipped)?;
     let mut draft = draft;
-    for file in files.as_slice() {
+    let mut rest = files.as_slice();
+    while let Some((file, others)) = rest.split_first() {
         draft = draft.push_map(alloc, &MapEntry::E { file: *file })?;
+        rest = others;
     }
     Ok(draft)
 }

@@ -19,8 +19,10 @@ pub fn names_met(alloc: Global, taken: &[TakenRow]) -> Result<Vec<Name>, NoMemor
     let mut names = Vec::new(alloc);
     let inbox = copy_of(alloc, b"INBOX")?;
     names.push(inbox)?;
-    for row in taken {
+    let mut rest = taken;
+    while let Some((row, others)) = rest.split_first() {
         names = with_name(alloc, names, row.mailbox.as_octets())?;
+        rest = others;
     }
     Ok(names)
 }
