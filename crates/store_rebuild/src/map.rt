@@ -30,7 +30,8 @@ pub fn new_map(alloc: Global, rows: &RebuildRows, names: &[Name]) -> Result<NewL
     let draft = push_made(alloc, draft, rows.box_generation, names)?;
     let draft = push_stored(alloc, draft, rows.taken.as_slice())?;
     let draft = push_sealed(alloc, draft, rows.skipped.as_slice())?;
-    draft.with_room(alloc)
+    let log = draft.with_room(alloc)?;
+    Ok(log)
 }
 
 /// Adds the entries of mailboxes with these names, numbered from 1.
@@ -101,8 +102,10 @@ fn copy_rows(alloc: Global, rows: &[InstRow]) -> Result<Seq<InstRow>, NoMemory>
     ensures { IfOk result (λ copy. copy ≡ rows.now) }
 {
     let mut copy = Seq::empty(alloc);
-    for row in rows {
+    let mut rest = rows;
+    while let Some((row, others)) = rest.split_first() {
         copy.push(*row)?;
+        rest = others;
     }
     Ok(copy)
 }

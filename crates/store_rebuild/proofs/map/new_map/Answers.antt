@@ -1,0 +1,6 @@
+use Rattle.store_rebuild.proofs.MapTextLemmas.{map_is}
+use Rattle.store_rebuild.proofs.map.new_map.Goals as goal
+
+pub returns : goal.returns
+returns c = λ plan r n.
+    map_is plan c.args.rows.now c.args.names.now _ _ _ _ _ _ r n c.empty-draft.ensures c.in_ok-draft.ensures c.in_ok-draft-2.ensures (c.in_ok-draft-3.ensures plan.taken ?) (c.in_ok-draft-4.ensures plan.skipped ?) c.in_ok-log.ensures
