@@ -1,7 +1,8 @@
 -- The entries of mailbox logs, and the names of mailboxes, one message after another.
 use Rattle.std.proofs.Common.{◌≡◌, ◌+◌, ℕ, Bool, true, false, cond, List, [], ◌∷◌, ◌++◌, map, fold, filter, codes, refl, sym, ◌∙◌, ap, append_assoc, append-nil}
-use Rattle.std.specs.Prelude.{if◌then◌else◌}
+use Rattle.std.specs.Prelude.{if◌then◌else◌, not}
 use Rattle.std.specs.Str.{bytes_eq}
+use Rattle.mdbox_base.specs.declared.entries.BoxEntry.{BoxEntry}
 use Rattle.mdbox_base.specs.declared.entries.BoxEntry.TheVariants as box
 use Rattle.model_logs.specs.Entries.{box_text}
 use Rattle.model_rebuild.specs.RebuiltLogs.{MappedMessage, added_from, mapped_from, rebuilt_box}
@@ -109,3 +110,18 @@ meet_ends messages rest names none h = by h.after (sym none ∙ h.rest_is) h.all
     by : (after : List TakenMessage) → [] ≡ map taken_row after → fold (λ ns t. and_name ns t.mailbox) names after ≡ mailboxes_met messages → names ≡ mailboxes_met messages
     by [] e all = all
     by (t ∷ ts) e all = absurd (let k : [] ≡ taken_row t ∷ map taken_row ts = e in cc k)
+
+-- ---- one message
+
+-- the message goes to the mailbox with this name
+pub is_with : (name mailbox own : List ℕ) (uid map_uid : ℕ) (row : TakenRow) (draft more : List (List ℕ)) (next : ℕ) (given : BoxEntry) → mailbox ≡ row.mailbox → own ≡ name → false ≡ not (bytes_eq mailbox own)
+    → given ≡ box.A (record { 0 = uid }) 0 row.time row.whole (record { 0 = map_uid }) row.guid → more ≡ draft ++ box_text given ∷ [] → next ≡ uid + 1 → IsWithMessage name uid map_uid row draft more next
+is_with name mailbox own uid map_uid row draft more next given m o e g d n =
+    let t : true ≡ bytes_eq row.mailbox name = sym (goes (bytes_eq mailbox own) e) ∙ ap (λ (x : List ℕ). bytes_eq x own) m ∙ ap (λ (x : List ℕ). bytes_eq row.mailbox x) o in (
+      d ∙ ap (λ (x : BoxEntry). draft ++ box_text x ∷ []) g ∙ ap (λ (b : Bool). with_entry b uid map_uid row draft) t,
+      n ∙ ap (λ (b : Bool). if b then uid + 1 else uid) t,
+    )
+  where
+    goes : (b : Bool) → false ≡ not b → b ≡ true
+    goes true e = refl
+    goes false e = absurd (let k : false ≡ true = e in cc k)

@@ -4,5 +4,6 @@ pub mod DraftLemmas
 pub mod FileLemmas
 pub mod LogLemmas
 pub mod MapTextLemmas
+pub mod SealLemmas
 pub mod StoreLemmas
 pub mod SyncLemmas

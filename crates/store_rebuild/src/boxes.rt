@@ -8,7 +8,7 @@ ghost use Rattle.rebuild_judge.specs.Kept.{taken_row};
 ghost use Rattle.store_rebuild.specs.NewLogs.{IsWithMessage, box_logs_for};
 
 use crate::draft::{Draft, NewLog};
-use mdbox_base::{BoxEntry, MapUid, Name, NoMemory, Uid};
+use mdbox_base::{BoxEntry, Guid, MapUid, Name, NoMemory, Uid};
 use rebuild_judge::TakenRow;
 use std::alloc::Global;
 
@@ -59,19 +59,17 @@ fn with_message(
     if row.mailbox.as_octets() != name.as_octets() {
         return Ok((draft, uid));
     }
-    let draft = draft.push_box(&added(uid, map_uid, row))?;
+    let entry = added(uid, map_uid, row.time, row.whole, row.guid);
+    let draft = draft.push_box(&entry)?;
     let next = next_number(uid)?;
     Ok((draft, next))
 }
 
 /// The entry of a message that is added, without flags.
-fn added(uid: u32, map_uid: u32, row: &TakenRow) -> BoxEntry
-    ensures entry { result ≡ entry.A (record { 0 = uid }) 0 row.now.time row.now.whole (record { 0 = map_uid }) row.now.guid }
+fn added(uid: u32, map_uid: u32, time: u64, size: u32, guid: Guid) -> BoxEntry
+    ensures entry { result ≡ entry.A (record { 0 = uid }) 0 time size (record { 0 = map_uid }) guid }
     ensures range { BoxInRange result }
 {
-    let time = row.time;
-    let size = row.whole;
-    let guid = row.guid;
     BoxEntry::A {
         uid: Uid(uid),
         flags: 0,

@@ -1,4 +1,4 @@
-use Rattle.std.proofs.Common.{List, ap, map}
+use Rattle.std.proofs.Common.{List, ap, arith, length, map}
 use Rattle.std.proofs.lemmas.List.{nil_from_length}
 use Rattle.mdbox_base.specs.declared.ids.FileNo.{FileNo}
 use Rattle.store_rebuild.proofs.MapTextLemmas.{rows_end, rows_more, with_rows}
@@ -7,7 +7,7 @@ use Rattle.store_rebuild.proofs.map.files_skipped.Goals as goal
 pub loop-last-init : goal.loop-last-init
 loop-last-init c = record {
   left = ap (λ (fs : List FileNo). with_rows c.args.skipped.now (map (λ (f : FileNo). f.0) fs)) c.new-files.ensures.items;
-  rising = ?;
+  rising = let e = ap length c.new-files.ensures.items in λ i j d l m. absurd (omega (arith, e, m));
 }
 
 pub loop-last-preserved : goal.loop-last-preserved
