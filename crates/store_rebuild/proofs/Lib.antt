@@ -4,6 +4,7 @@ pub mod DraftLemmas
 pub mod FileLemmas
 pub mod LogLemmas
 pub mod MapTextLemmas
+pub mod PlannedLemmas
 pub mod SealLemmas
 pub mod StoreLemmas
 pub mod SyncLemmas

@@ -23,14 +23,14 @@ behind_from n m a b = grind (arith, nat_tests, a, b)
 
 rises_with : (n : ℕ) (ns : List ℕ) → AllPairs Below ns → AllPairs Below (with_number n ns)
 rises_with n [] h = AllPairs-cons Below n [] (All-nil (Below n)) (pairs_nil Below)
-rises_with n (m ∷ rest) h = put (nat_lt n m) (n == m) refl refl
+rises_with n (m ∷ rest) h = put (nat_lt n m) (n == m) refl refl (rises_with n rest (pairs_tail Below m rest h))
   where
-    put : (less same : Bool) → nat_lt n m ≡ less → (n == m) ≡ same → AllPairs Below (if less then n ∷ m ∷ rest else (if same then m ∷ rest else m ∷ with_number n rest))
-    put true same l s =
+    put : (less same : Bool) → nat_lt n m ≡ less → (n == m) ≡ same → AllPairs Below (with_number n rest) → AllPairs Below (if less then n ∷ m ∷ rest else (if same then m ∷ rest else m ∷ with_number n rest))
+    put true same l s r =
         let lt : n < m = below_from n m l in
         AllPairs-cons Below n (m ∷ rest) (All-cons (Below n) m rest lt (All-weaker (Below m) (Below n) (λ k b. omega (arith, lt, b)) rest (pairs_head Below m rest h))) h
-    put false true l s = h
-    put false false l s = AllPairs-cons Below m (with_number n rest) (all_with (Below m) n rest (behind_from n m l s) (pairs_head Below m rest h)) (rises_with n rest (pairs_tail Below m rest h))
+    put false true l s r = h
+    put false false l s r = AllPairs-cons Below m (with_number n rest) (all_with (Below m) n rest (behind_from n m l s) (pairs_head Below m rest h)) r
 
 files_from : (files : List FileNo) → AllPairs Below (map (λ (f : FileNo). f.0) files) → FilesRise files
 files_from [] h = pairs_nil (λ (a b : FileNo). a.0 < b.0)

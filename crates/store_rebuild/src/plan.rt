@@ -61,8 +61,8 @@ pub fn plan_of<D: Disk>(
 fn last_of(numbers: &[FileNo]) -> u32
     ensures { result ≡ last_number numbers.now }
 {
-    match numbers.last() {
-        Some(number) => number.0,
+    match numbers.split_last() {
+        Some((last, _before)) => last.0,
         None => 0,
     }
 }
