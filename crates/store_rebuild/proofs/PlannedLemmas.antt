@@ -42,6 +42,9 @@ last_push (b ∷ d ∷ rest) n = last_push (d ∷ rest) n
 is_there : (f : FileState) → (reading f ≢ None) → IsThere f
 is_there f some = elim (cases_Bool f.is_there) [ inl there ↦ there | inr gone ↦ absurd (some (cond-false f.is_there (Some f.octets) None gone)) ]
 
+pub there_from : (f : FileState) (octets : List ℕ) → reading f ≡ Some octets → IsThere f
+there_from f octets e = is_there f (λ none. let k : None ≡ Some octets = sym none ∙ e in cc k)
+
 reads_some : (f : FileState) → IsThere f → reading f ≢ None
 reads_some f there e = let k : Some f.octets ≡ None = sym (subst (λ (b : Bool). cond b (Some f.octets) None ≡ Some f.octets) (sym there) refl) ∙ e in cc k
 

@@ -19,6 +19,7 @@ use crate::sync::sync_taken;
 use disk_model::Disk;
 use gate_log::DiskFault;
 use mdbox_base::StoreId;
+use model_taken::one_rebuild_of_files;
 use rebuild_files::{RebuildError, check_lost};
 use std::alloc::Global;
 
@@ -101,6 +102,7 @@ fn write_all<D: Disk>(
     ensures fault { AnyFaultCounted (IsErr result) (D.faults disk.old) (D.faults disk.new) }
     ensures unfailed { OnOk result (NoFault (D.faults disk.old) (D.faults disk.new)) }
 {
+    one_rebuild_of_files();
     sync_taken(disk, rows.taken.as_slice())?;
     remove_root(disk)?;
     write_logs(

@@ -11,7 +11,7 @@ is_with : (c : In_ok-insert-in-Err) → map (λ f. f.0) c.insert.new.self.items 
 is_with c =
     let by_key = rw c.deref.ensures.value at (c.in-Err.ensures.position (λ f. f.0) (answers_always _ _ _ (λ f a r g called. search rules))) in
     let bound = rw c.deref.ensures.value at c.in-Err.ensures.bound in
-    ap (map (λ f. f.0)) c.in_ok-insert.ensures.items ∙ added c.args.file c.args.files.items c.in-Err.place c.requires bound by_key
+    ap (map (λ f. f.0)) c.in_ok-insert-in-Err.ensures.items ∙ added c.args.file c.args.files.items c.in-Err.place c.requires bound by_key
 
 pub returns-in_ok-insert-in-Err-clause-files : goal.returns-in_ok-insert-in-Err-clause-files
 returns-in_ok-insert-in-Err-clause-files c = is_with c

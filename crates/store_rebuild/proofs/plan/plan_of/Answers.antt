@@ -12,8 +12,9 @@ use Rattle.store_rebuild.proofs.PlannedLemmas.{is_planned}
 use Rattle.store_rebuild.proofs.plan.plan_of.Goals as goal
 
 pub judge_all-requires : goal.judge_all-requires
-judge_all-requires g c =
-    subst (λ (ps : List FoundAt). IfTold (g.D.Disk.history c.find_all.new.disk) (AreAllFindings ps)) (sym c.as_slice.ensures) (idle-on (AreAllFindings c.in_ok-places.places) _ _ c.in_ok-places.ensures.idle c.in_ok-places.ensures.found)
+judge_all-requires g c = record {
+  found = subst (λ (ps : List FoundAt). IfTold (g.D.Disk.history c.find_all.new.disk) (AreAllFindings ps)) (sym c.as_slice.ensures) (idle-on (AreAllFindings c.in_ok-places.places) _ _ c.in_ok-places.ensures.idle c.in_ok-places.ensures.found);
+}
 
 pub returns-clause-planned : goal.returns-clause-planned
 returns-clause-planned g c =
@@ -27,3 +28,21 @@ returns-clause-planned g c =
     (idle-back (λ disk. IsGreatest (IsInstanceNumber (files_of disk) c.args.id.0) c.in_ok-instance.instance) _ _ i3 c.in_ok-instance.ensures.greatest)
     (idle-back (λ disk. IsFreeGeneration (IsMapUsed (files_of disk)) c.in_ok-map_generation.map_generation) _ _ i4 c.in_ok-map_generation.ensures.free)
     (idle-back (λ disk. IsFreeGeneration (IsBoxUsed (files_of disk)) c.in_ok-box_generation.box_generation) _ _ i5 c.in_ok-box_generation.ensures.free)
+
+pub returns-in_err-judged-clause-idle : goal.returns-in_err-judged-clause-idle
+returns-in_err-judged-clause-idle g c = idle-then _ _ _ c.in_ok-places.ensures.idle c.in_err-judged.ensures.idle
+
+pub returns-in_err-numbers-clause-idle : goal.returns-in_err-numbers-clause-idle
+returns-in_err-numbers-clause-idle g c = idle-then _ _ _ (idle-then _ _ _ c.in_ok-places.ensures.idle c.in_ok-judged.ensures.idle) c.in_err-numbers.ensures.idle
+
+pub returns-in_err-instance-clause-idle : goal.returns-in_err-instance-clause-idle
+returns-in_err-instance-clause-idle g c = idle-then _ _ _ (idle-then _ _ _ (idle-then _ _ _ c.in_ok-places.ensures.idle c.in_ok-judged.ensures.idle) c.in_ok-numbers.ensures.idle) c.in_err-instance.ensures.idle
+
+pub returns-in_err-map_generation-clause-idle : goal.returns-in_err-map_generation-clause-idle
+returns-in_err-map_generation-clause-idle g c = idle-then _ _ _ (idle-then _ _ _ (idle-then _ _ _ (idle-then _ _ _ c.in_ok-places.ensures.idle c.in_ok-judged.ensures.idle) c.in_ok-numbers.ensures.idle) c.in_ok-instance.ensures.idle) c.in_err-map_generation.ensures.idle
+
+pub returns-in_err-box_generation-clause-idle : goal.returns-in_err-box_generation-clause-idle
+returns-in_err-box_generation-clause-idle g c = idle-then _ _ _ (idle-then _ _ _ (idle-then _ _ _ (idle-then _ _ _ (idle-then _ _ _ c.in_ok-places.ensures.idle c.in_ok-judged.ensures.idle) c.in_ok-numbers.ensures.idle) c.in_ok-instance.ensures.idle) c.in_ok-map_generation.ensures.idle) c.in_err-box_generation.ensures.idle
+
+pub returns-clause-idle : goal.returns-clause-idle
+returns-clause-idle g c = idle-then _ _ _ (idle-then _ _ _ (idle-then _ _ _ (idle-then _ _ _ (idle-then _ _ _ c.in_ok-places.ensures.idle c.in_ok-judged.ensures.idle) c.in_ok-numbers.ensures.idle) c.in_ok-instance.ensures.idle) c.in_ok-map_generation.ensures.idle) c.in_ok-box_generation.ensures.idle
