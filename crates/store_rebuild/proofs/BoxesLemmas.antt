@@ -5,17 +5,16 @@ use Rattle.disk_model.specs.Disk.{Files, FileState, DiskState, History, Between,
 use Rattle.disk_model.specs.Name.{IsLogName}
 use Rattle.disk_model.specs.declared.name.FileName.{FileName}
 use Rattle.disk_model.specs.declared.name.FileName.TheVariants as file
-use Rattle.disk_model.proofs.BetweenLemmas.{between-map, between-on, between-since, between-then}
+use Rattle.disk_model.proofs.BetweenLemmas.{between-on}
 use Rattle.disk_model.proofs.MomentLemmas.{each_image-begins, each_image-map, if_told-both, if_told-map}
 use Rattle.disk_model.proofs.OneFileLemmas.{named-narrows}
-use Rattle.gate_log.specs.Log.{NamedButFor}
 use Rattle.model_logs.specs.declared.log_head.LogHead.{LogHead}
 use Rattle.model_logs.specs.declared.log_head.LogKind.TheVariants as kind
-use Rattle.model_rebuild.specs.RebuildMoments.{IsBeforeRoot, KeepsLog}
+use Rattle.model_rebuild.specs.RebuildMoments.{KeepsLog}
 use Rattle.model_store.specs.Opening.{HasNoEntry}
 use Rattle.model_store.specs.Stands.{head_of}
 use Rattle.store_rebuild.specs.Writing.{IsRootless, IsWithoutStore, KeepBoxLogs, KeepsMailFiles}
-use Rattle.store_rebuild.proofs.FileLemmas.{NamedOthers, named_between, named_keeps, named_reads}
+use Rattle.store_rebuild.proofs.FileLemmas.{NamedOthers, named_keeps, named_reads}
 
 -- ---- a file that isn't the log that is made
 

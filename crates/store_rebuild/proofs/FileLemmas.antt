@@ -1,12 +1,12 @@
 -- Files of which a crash leaves what they read, through a sync and a sync of names.
-use Rattle.std.proofs.Common.{◌≡◌, ◌≢◌, ◌⊎◌, inl, inr, ℕ, ◌≤◌, true, false, List, [], length, Option, Some, None, refl, sym, ◌∙◌, ap, subst, arith}
+use Rattle.std.proofs.Common.{◌≡◌, ◌≢◌, ◌⊎◌, inl, inr, ℕ, ◌≤◌, true, false, List, length, Option, Some, None, refl, sym, ◌∙◌, ap, subst, arith}
 use Rattle.std.proofs.lemmas.Bool.{cases_Bool, cond-true, cond-false, true≢false, false≢true}
-use Rattle.disk_model.specs.Disk.{FileState, DiskState, History, IsThere, IfTold, Between, Keeps, MayHold, MayLeave, named, no_file, reading, synced}
+use Rattle.disk_model.specs.Disk.{FileState, DiskState, History, IsThere, Between, Keeps, MayHold, MayLeave, named, no_file, reading, synced}
 use Rattle.disk_model.specs.declared.name.FileName.{FileName}
-use Rattle.disk_model.proofs.FirmLemmas.{IsFirm, firm_from_keeps, keeps_from_firm, reads_there, reading_from_there}
+use Rattle.disk_model.proofs.FirmLemmas.{firm_from_keeps, keeps_from_firm, reading_from_there}
 use Rattle.disk_model.proofs.OneFileLemmas.{named-narrows, same_by_get}
 use Rattle.gate_log.specs.Log.{NamedButFor}
-use Rattle.store_rebuild.specs.Writing.{IsSyncedFile}
+use Rattle.store_rebuild.specs.Writing.{IsFileSynced}
 
 -- ---- names are synced
 
@@ -33,7 +33,7 @@ named_keeps f octets k =
     (record { there = firm.there; octets = firm.octets; least = firm.least; greatest = firm.greatest; firm = firm.firm; name = refl; are_octets = firm.are_octets }))
 
 -- a synced file is durable once its name is synced
-pub synced_keeps : (f : FileState) → IsSyncedFile f → MayLeave f (reading f) → Keeps (named f) f.octets
+pub synced_keeps : (f : FileState) → IsFileSynced f → MayLeave f (reading f) → Keeps (named f) f.octets
 synced_keeps f s leaves = record {
   reads = named_reads f ∙ reading_from_there f s.there;
   leaves = λ left. (λ h. only left h, λ e. subst (MayLeave (named f)) (sym e) back);
@@ -55,7 +55,7 @@ synced_keeps f s leaves = record {
 
 -- ---- a file is synced
 
-pub synced_synced : (f : FileState) → IsThere f → IsSyncedFile (synced f)
+pub synced_synced : (f : FileState) → IsThere f → IsFileSynced (synced f)
 synced_synced f there = record {
   there = there;
   octets = λ left h.

@@ -1,5 +1,5 @@
 -- A log that is made with its entries.
-use Rattle.std.proofs.Common.{◌≡◌, ◌==◌, true, inl, inr, ℕ, max, List, [], ◌++◌, length, Option, Some, None, refl, sym, ◌∙◌, ap, subst}
+use Rattle.std.proofs.Common.{◌≡◌, ◌==◌, true, inl, inr, ℕ, max, List, [], length, Option, Some, None, refl, sym, ◌∙◌, ap, subst}
 use Rattle.std.proofs.lemmas.Bool.{cases_eq, ne_eqb, true≢false}
 use Rattle.std.proofs.lemmas.List.{nil_from_length}
 use Rattle.disk_model.specs.Disk.{Files, DiskState, History, IfTold, EachImage, OthersStay, Keeps, MayLeave, FileState}
@@ -7,7 +7,7 @@ use Rattle.disk_model.specs.declared.name.FileName.{FileName}
 use Rattle.disk_model.proofs.MomentLemmas.{if_told-all, if_told-map, each_image-map, each_image-then}
 use Rattle.disk_model.proofs.OneFileLemmas.{named-narrows}
 use Rattle.model_logs.specs.declared.log_head.LogHead.{LogHead}
-use Rattle.gate_log.specs.State.{LogState, IsSameLog}
+use Rattle.gate_log.specs.State.{LogState}
 use Rattle.gate_log.specs.Log.{Holds, IsLogHeld, IsAtMostAsLong, IsLogWithOrWithoutAll, NamedButFor, cut_by, log_text}
 use Rattle.model_logs.specs.LogFile.{HeadFits}
 use Rattle.model_rebuild.specs.RebuildMoments.{KeepsLog}

@@ -1,8 +1,8 @@
 -- A whole rebuild: what a crash leaves at each moment, and what is there at the end.
-use Rattle.std.proofs.Common.{◌≡◌, ◌≢◌, ◌⊎◌, inl, inr, ℕ, ◌+◌, List, [], ◌∷◌, length, map, All, Option, Some, None, Result, Ok, Err, refl, sym, ◌∙◌, ap, subst}
+use Rattle.std.proofs.Common.{inr, ◌≡◌, ◌≢◌, inl, ℕ, List, [], ◌∷◌, map, All, Option, Some, None, Result, Ok, Err, refl, sym, ◌∙◌, ap, subst}
 use Rattle.std.proofs.lemmas.Bool.{cond-true}
 use Rattle.std.proofs.lemmas.List.Elements.{All-nil, All-cons, All-head, All-tail, All-weaker}
-use Rattle.disk_model.specs.Disk.{Between, DiskState, EachImage, Files, FileState, History, IfTold, IsIdle, IsImage, IsThere, Keeps, named, reading}
+use Rattle.disk_model.specs.Disk.{Between, DiskState, EachImage, FileState, History, IfTold, IsIdle, IsImage, IsThere, Keeps, named, reading}
 use Rattle.disk_model.specs.Name.{IsLogName}
 use Rattle.disk_model.specs.declared.name.FileName.{FileName}
 use Rattle.disk_model.specs.declared.name.FileName.TheVariants as file
@@ -17,7 +17,6 @@ use Rattle.model_store.specs.Safe.{IsThereWhole}
 use Rattle.model_store.specs.Settled.{files_of}
 use Rattle.model_taken.proofs.GoodListLemmas.{IsStored}
 use Rattle.model_taken.proofs.GoodRebuildLemmas.{rebuild_good}
-use Rattle.model_taken.specs.Rebuild.{Rebuild, SkippedPlace}
 use Rattle.model_taken.specs.Taken.{TakenMessage}
 use Rattle.std.specs.Prelude.{IfErr}
 use Rattle.rebuild_files.specs.Refused.{IsStoreWhole}
@@ -25,11 +24,9 @@ use Rattle.rebuild_files.specs.declared.error.RebuildError.{RebuildError}
 use Rattle.rebuild_files.specs.declared.error.RebuildError.TheVariants as rebuild
 use Rattle.rebuild_judge.specs.Kept.{taken_row}
 use Rattle.rebuild_judge.specs.declared.taken.TakenRow.{TakenRow}
-use Rattle.store_rebuild.specs.NewLogs.{AreNewLogs}
 use Rattle.store_rebuild.specs.Planned.{AreRowsOf, IsPlanned}
-use Rattle.store_rebuild.specs.Rebuilding.{LeavesRebuild, LeavesWhole}
-use Rattle.store_rebuild.specs.Writing.{AreFilesSynced, AreFilesThere, HasNewStore, HasStoreOf, IsInstanceThere, IsOnlySynced, IsReady, IsRootless, IsSyncedFile, ReadsSameMail}
-use Rattle.store_rebuild.specs.declared.new_logs.NewLogs.{NewLogs}
+use Rattle.store_rebuild.specs.Rebuilding.{IsLeftOf, LeavesRebuild, LeavesWhole}
+use Rattle.store_rebuild.specs.Writing.{AreFilesSynced, AreFilesThere, HasNewStore, HasStoreOf, IsInstanceThere, IsOnlySynced, IsReady, IsRootless, IsFileSynced, MailReadsSame}
 use Rattle.store_rebuild.specs.declared.plan.RebuildRows.{RebuildRows}
 use Rattle.store_rebuild.proofs.FileLemmas.{named_reads, synced_keeps}
 use Rattle.store_rebuild.proofs.PlannedLemmas.{there_from}
@@ -59,7 +56,7 @@ planned_there store rows taken (Some h) e p =
 -- ---- files are durable
 
 -- a file that was synced, once its name is synced
-file_durable : (first synced now : DiskState) (name : FileName) → reading (synced name) ≡ reading (first name) → now name ≡ named (synced name) → IsImage synced (files_of synced) → IsSyncedFile (synced name) → KeepsOld first now name
+file_durable : (first synced now : DiskState) (name : FileName) → reading (synced name) ≡ reading (first name) → now name ≡ named (synced name) → IsImage synced (files_of synced) → IsFileSynced (synced name) → KeepsOld first now name
 file_durable first synced now name same is image s = record {
   octets = (synced name).octets;
   read = sym same ∙ reading_there (synced name) s.there;
@@ -82,7 +79,7 @@ inst_no_root hash id e = let h : file.Inst hash id ≡ file.Root = e in cc h
 message_durable : (first synced now : DiskState) → IsOnlySynced first synced → ButRoot synced now → IsImage synced (files_of synced) → (t : TakenMessage) → AreFilesSynced synced (taken_row t) → KeepsMessage first now t
 message_durable first synced now same is image t s = record {
   storage = file_durable first synced now (file.Mail t.file) (same.reads (file.Mail t.file)) (is (file.Mail t.file) (mail_no_root t.file)) image s.storage;
-  instances = All-weaker (λ (i : InstRow). IsSyncedFile (synced (file.Inst i.hash.0 i.id.0))) (λ (i : InstRow). KeepsOld first now (file.Inst i.hash.0 i.id.0))
+  instances = All-weaker (λ (i : InstRow). IsFileSynced (synced (file.Inst i.hash.0 i.id.0))) (λ (i : InstRow). KeepsOld first now (file.Inst i.hash.0 i.id.0))
       (λ i k. file_durable first synced now (file.Inst i.hash.0 i.id.0) (same.reads (file.Inst i.hash.0 i.id.0)) (is (file.Inst i.hash.0 i.id.0) (inst_no_root i.hash.0 i.id.0)) image k) t.instances s.instances;
 }
 
@@ -107,16 +104,13 @@ ready_then store plan rows first before (Some synced) (Some now) is e same s ima
 pub before_itself : (disk : DiskState) → IsBeforeLogs disk disk
 before_itself disk = (λ name apart image h. h, λ image h. inl h)
 
-left_old : (first : DiskState) (taken : List TakenMessage) (image : Files) → IsOldButForRoot first image → IsLeftByRebuild first (lists_of taken) image
-left_old first taken image is = record { mail = λ name mail. is.0 name (λ e. mail (subst IsLogName (sym e) refl)); way = inl is }
-
 -- while files are synced and the root log is removed
 abbrev OldMoments : Option History → Option History → Type 0
 OldMoments old new = (first : DiskState) → IfTold old (IsBeforeLogs first) → EachImage (λ _ image. IsOldButForRoot first image) old new
 
 pub old_moments : (old new : Option History) → OldMoments old new → LeavesRebuild old new
 old_moments None new each = tt
-old_moments (Some old) new each = λ taken skipped r. each_image-map _ _ (Some old) new (λ m image is. left_old old.now taken image is) (each old.now (before_itself old.now))
+old_moments (Some old) new each = each_image-map _ _ (Some old) new (λ m image is. inl is) (each old.now (before_itself old.now))
 
 pub moments_then : (old now new : Option History) → OldMoments old now → ((first : DiskState) → IfTold old (IsBeforeLogs first) → IfTold now (IsBeforeLogs first)) → OldMoments now new → OldMoments old new
 moments_then old now new first_each stays each = λ first b. each_image-then _ old now new (first_each first b) (each first (stays first b))
@@ -124,9 +118,7 @@ moments_then old now new first_each stays each = λ first b. each_image-then _ o
 -- while nothing changes
 pub idle_leaves : (old new : Option History) → IsIdle old new → LeavesRebuild old new
 idle_leaves None new idle = tt
-idle_leaves (Some old) new idle = λ taken skipped r.
-    idle-images (IsLeftByRebuild old.now (lists_of taken)) (Some old) new idle
-    (λ image is. left_old old.now taken image ((λ name apart. is name), inl (is file.Root)))
+idle_leaves (Some old) new idle = idle-images (IsLeftOf old.now) (Some old) new idle (λ image is. inl ((λ name apart. is name), inl (is file.Root)))
 
 pub err_idle : {T : Type 0} → (r : Result T RebuildError) (old new : Option History) → IsIdle old new → IfErr r (λ error. (error ≡ rebuild.DiskFault → ⊥) → IsIdle old new)
 err_idle (Ok v) old new idle = tt
@@ -136,35 +128,32 @@ err_idle (Err e) old new idle = λ other. idle
 pub leaves_behind : (old now new : Option History) → IsIdle old now → LeavesRebuild now new → LeavesRebuild old new
 leaves_behind None now new idle leaves = tt
 leaves_behind (Some old) None new idle leaves = elim idle.same [ ]
-leaves_behind (Some old) (Some now) new idle leaves = λ taken skipped r.
-    each_image-then _ (Some old) (Some now) new (idle_leaves (Some old) (Some now) idle taken skipped r)
-    (subst (λ (d : DiskState). EachImage (λ _ image. IsLeftByRebuild d (lists_of taken) image) (Some now) new) idle.same (leaves taken skipped (subst (λ (d : DiskState). Rebuild (files_of d) taken skipped) (sym idle.same) r)))
+leaves_behind (Some old) (Some now) new idle leaves =
+    each_image-then _ (Some old) (Some now) new (idle_leaves (Some old) (Some now) idle) (subst (λ (d : DiskState). EachImage (λ _ image. IsLeftOf d image) (Some now) new) idle.same leaves)
 
 -- while the logs are written too
 pub all_moments : (store : List ℕ) (rows : RebuildRows) (old mid now new : Option History) → IfTold old (IsPlanned store rows) → OldMoments old mid → ((first : DiskState) → IfTold old (IsBeforeLogs first) → IfTold mid (IsBeforeLogs first)) → OldMoments mid now
-    → ((first : DiskState) (before : List DiskState) (plan : RebuildPlan) → old ≡ Some (record { now = first; before = before }) → IsPlanFor (files_of first) store plan → AreRowsOf plan rows → EachImage (λ _ image. IsLeftByRebuild first (lists_of plan.taken) image) now new)
-    → ((files : Files) (ts us : List TakenMessage) (ss rs : List SkippedPlace) → Rebuild files ts ss → Rebuild files us rs → (ts ≡ us) × (ss ≡ rs)) → LeavesRebuild old new
-all_moments store rows None mid now new planned sync stays root write one = tt
-all_moments store rows (Some old) mid now new planned sync stays root write one = λ taken skipped r.
-    each_image-then _ (Some old) now new (old_moments (Some old) now (moments_then (Some old) mid now sync stays root) taken skipped r)
-    (subst (λ (ts : List TakenMessage). EachImage (λ _ image. IsLeftByRebuild old.now (lists_of ts) image) now new) (one (files_of old.now) planned.plan.taken taken planned.plan.skipped skipped planned.is_plan.rebuild r).0
-    (write old.now old.before planned.plan refl planned.is_plan planned.rows_are))
+    → ((first : DiskState) (before : List DiskState) (plan : RebuildPlan) → old ≡ Some (record { now = first; before = before }) → IsPlanFor (files_of first) store plan → AreRowsOf plan rows → EachImage (λ _ image. IsLeftByRebuild first (lists_of plan.taken) image) now new) → LeavesRebuild old new
+all_moments store rows None mid now new planned sync stays root write = tt
+all_moments store rows (Some old) mid now new planned sync stays root write =
+    each_image-then _ (Some old) now new (old_moments (Some old) now (moments_then (Some old) mid now sync stays root))
+    (each_image-map _ _ now new (λ m image is. inr (planned.plan.taken, planned.plan.skipped, planned.is_plan.rebuild, is)) (write old.now old.before planned.plan refl planned.is_plan planned.rows_are))
 
 -- ---- what is there at the end
 
-reads_synced : (a b : DiskState) → IsOnlySynced a b → ReadsSameMail a b
+reads_synced : (a b : DiskState) → IsOnlySynced a b → MailReadsSame a b
 reads_synced a b s = λ name mail. s.reads name
 
-reads_but_root : (a b : DiskState) → ButRoot a b → ReadsSameMail a b
+reads_but_root : (a b : DiskState) → ButRoot a b → MailReadsSame a b
 reads_but_root a b is = λ name mail. ap reading (is name (λ e. mail (subst IsLogName (sym e) refl))) ∙ named_reads (a name)
 
-pub reads_then : (a b c : DiskState) → ReadsSameMail a b → ReadsSameMail b c → ReadsSameMail a c
+pub reads_then : (a b c : DiskState) → MailReadsSame a b → MailReadsSame b c → MailReadsSame a c
 reads_then a b c r s = λ name mail. s name mail ∙ r name mail
 
-pub mail_reads : (old mid now new : Option History) → Between IsOnlySynced old mid → Between ButRoot mid now → Between ReadsSameMail now new → Between ReadsSameMail old new
+pub mail_reads : (old mid now new : Option History) → Between IsOnlySynced old mid → Between ButRoot mid now → Between MailReadsSame now new → Between MailReadsSame old new
 mail_reads old mid now new s r w =
-    between-then ReadsSameMail ReadsSameMail ReadsSameMail old now new reads_then
-    (between-then ReadsSameMail ReadsSameMail ReadsSameMail old mid now reads_then (between-map IsOnlySynced ReadsSameMail old mid reads_synced s) (between-map ButRoot ReadsSameMail mid now reads_but_root r)) w
+    between-then MailReadsSame MailReadsSame MailReadsSame old now new reads_then
+    (between-then MailReadsSame MailReadsSame MailReadsSame old mid now reads_then (between-map IsOnlySynced MailReadsSame old mid reads_synced s) (between-map ButRoot MailReadsSame mid now reads_but_root r)) w
 
 -- a fact of the last state by the first
 pub between_from : (R S : DiskState → DiskState → Type 0) (old new : Option History) → Between R old new → ((first : DiskState) (before : List DiskState) → old ≡ Some (record { now = first; before = before }) → IfTold new (S first)) → Between S old new

@@ -1,5 +1,5 @@
 -- The entries of the map log, one after another.
-use Rattle.std.proofs.Common.{◌≡◌, ◌+◌, ◌<◌, ℕ, List, [], ◌∷◌, ◌++◌, map, refl, sym, ◌∙◌, ap, append_assoc, append-nil}
+use Rattle.std.proofs.Common.{◌≡◌, ◌+◌, ℕ, List, [], ◌∷◌, ◌++◌, map, refl, sym, ◌∙◌, ap, append_assoc, append-nil}
 use Rattle.std.proofs.lemmas.List.{map-append}
 use Rattle.mdbox_base.specs.declared.entries.Highest.{Highest}
 use Rattle.mdbox_base.specs.declared.entries.MapEntry.{MapEntry}
@@ -8,7 +8,7 @@ use Rattle.mdbox_base.specs.declared.ids.FileNo.{FileNo}
 use Rattle.model_logs.specs.Entries.{map_text}
 use Rattle.model_meaning.specs.MapMeaning.{with_number}
 use Rattle.model_rebuild.specs.RebuildPlan.{RebuildPlan}
-use Rattle.model_rebuild.specs.RebuiltLogs.{all_stored_from, made_from, numbers_skipped, rebuilt_entry, rebuilt_map}
+use Rattle.model_rebuild.specs.RebuiltLogs.{all_stored_from, made_from, numbers_skipped, rebuilt_map}
 use Rattle.model_taken.specs.Rebuild.{SkippedPlace}
 use Rattle.model_taken.specs.Taken.{TakenMessage, mailboxes_met}
 use Rattle.rebuild_judge.specs.Kept.{skipped_row, taken_row}

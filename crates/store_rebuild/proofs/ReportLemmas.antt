@@ -1,5 +1,5 @@
 -- What a rebuild reports: how many mailboxes and messages the lists have.
-use Rattle.std.proofs.Common.{◌≡◌, ◌≢◌, ℕ, ◌+◌, Bool, true, false, cond, List, [], ◌∷◌, ◌++◌, length, map, fold, filter, All, refl, sym, ◌∙◌, ap, subst, arith}
+use Rattle.std.proofs.Common.{◌≡◌, ◌≢◌, ℕ, ◌+◌, Bool, true, false, cond, List, [], ◌∷◌, ◌++◌, length, map, fold, All, refl, sym, ◌∙◌, ap, arith}
 use Rattle.std.specs.Prelude.{◌||◌, AllPairs, if◌then◌else◌, sum_by}
 use Rattle.std.specs.List.{list_any}
 use Rattle.std.specs.Str.{bytes_eq}
@@ -8,21 +8,19 @@ use Rattle.std.proofs.lemmas.List.Elements.{All-nil, All-cons, All-head, All-tai
 use Rattle.std.proofs.lemmas.List.Folds.{list_any-append}
 use Rattle.std.proofs.lemmas.List.Sums.{sum_by-cons}
 use Rattle.disk_model.specs.Disk.{DiskState}
-use Rattle.model_lists.specs.Lists.{ListedMessage, Lists, Mailbox}
+use Rattle.model_lists.specs.Lists.{Mailbox}
 use Rattle.model_octets.proofs.PairLemmas.{pairs_head, pairs_tail}
 use Rattle.model_octets.proofs.SearchLemmas.{text_is, text_yes}
 use Rattle.model_rebuild.proofs.RebuiltMapLemmas.{met_names}
 use Rattle.model_logs.specs.Entries.{box_text}
 use Rattle.model_rebuild.specs.RebuiltLogs.{rebuilt_box}
-use Rattle.model_rebuild.specs.RebuiltLists.{listed_from, lists_of, mailboxes_from, rebuilt_mailbox, sent_to}
+use Rattle.model_rebuild.specs.RebuiltLists.{listed_from, mailboxes_from, rebuilt_mailbox, sent_to}
 use Rattle.model_store.specs.Settled.{files_of}
 use Rattle.model_taken.proofs.GoodListLemmas.{IsStored}
 use Rattle.model_taken.proofs.GoodRebuildLemmas.{rebuild_good}
 use Rattle.model_taken.proofs.RangeLemmas.{TakenInRange}
 use Rattle.model_taken.specs.Taken.{TakenMessage, and_name, mailboxes_met}
-use Rattle.rebuild_judge.specs.Kept.{skipped_row, taken_row}
-use Rattle.rebuild_judge.specs.declared.taken.SkippedAt.{SkippedAt}
-use Rattle.rebuild_judge.specs.declared.taken.TakenRow.{TakenRow}
+use Rattle.rebuild_judge.specs.Kept.{taken_row}
 use Rattle.store_rebuild.specs.NewLogs.{AreNewLogs, box_logs_for}
 use Rattle.store_rebuild.specs.Planned.{AreRowsOf, IsPlanned}
 use Rattle.store_rebuild.specs.Rebuilding.{IsRebuilt}

@@ -1,7 +1,7 @@
 -- The disk with a rebuilt store is settled for its lists.
-use Rattle.std.proofs.Common.{◌≡◌, ◌≢◌, ℕ, ◌+◌, ◌≤◌, List, [], ◌∷◌, length, map, All, Option, Some, None, refl, sym, ◌∙◌, ap, subst, arith}
+use Rattle.std.proofs.Common.{◌≡◌, ℕ, ◌+◌, List, [], ◌∷◌, All, refl, sym, ◌∙◌, subst, arith}
 use Rattle.std.proofs.lemmas.List.Elements.{All-nil, All-cons, All-head, All-tail, All-weaker}
-use Rattle.disk_model.specs.Disk.{DiskState, Files, IsImage, reading}
+use Rattle.disk_model.specs.Disk.{DiskState, Files, IsImage}
 use Rattle.disk_model.specs.declared.name.FileName.{FileName}
 use Rattle.disk_model.specs.declared.name.FileName.TheVariants as file
 use Rattle.mdbox_base.specs.declared.entries.InstRow.{InstRow}
@@ -19,7 +19,7 @@ use Rattle.model_rebuild.proofs.MapFitLemmas.{boxes_from, records_from}
 use Rattle.model_rebuild.proofs.NumberingLemmas.{free_is_number, highest_in_range}
 use Rattle.model_rebuild.proofs.RebuiltMapLemmas.{map_rebuilt}
 use Rattle.model_rebuild.proofs.RebuiltSafeLemmas.{safe_by, skipped_are_numbered}
-use Rattle.model_rebuild.specs.RebuildMoments.{KeepRebuiltBoxes, KeepsLog, KeepsMessage, KeepsOld, KeepsRebuilt}
+use Rattle.model_rebuild.specs.RebuildMoments.{KeepRebuiltBoxes, KeepsLog, KeepsMessage, KeepsOld}
 use Rattle.model_rebuild.specs.RebuildPlan.{IsBoxUsed, IsMapUsed, IsPlanFor, RebuildPlan}
 use Rattle.model_rebuild.specs.RebuiltLists.{lists_of}
 use Rattle.model_rebuild.specs.RebuiltLogs.{HasRebuiltBoxes, HasRebuiltLogs, HasSameMessage, rebuilt_map}

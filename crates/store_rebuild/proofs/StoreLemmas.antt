@@ -1,5 +1,5 @@
 -- The logs of a rebuilt store, written one after another, and what a crash leaves.
-use Rattle.std.proofs.Common.{◌≡◌, ◌≢◌, ◌⊎◌, inl, inr, true, false, max, ℕ, ◌+◌, ◌≤◌, List, [], ◌∷◌, ◌++◌, length, map, All, Option, Some, None, refl, sym, ◌∙◌, ap, subst, append-nil, length-append, arith}
+use Rattle.std.proofs.Common.{◌≡◌, ◌≢◌, ◌⊎◌, inl, inr, max, ℕ, ◌+◌, ◌≤◌, List, [], ◌∷◌, ◌++◌, length, map, All, Option, Some, None, refl, sym, ◌∙◌, ap, subst, append-nil, length-append, arith}
 use Rattle.std.proofs.lemmas.Bool.{false≢true}
 use Rattle.std.proofs.lemmas.List.Elements.{All-weaker}
 use Rattle.disk_model.specs.Disk.{Files, FileState, DiskState, History, Between, EachImage, IfTold, MayLeave, no_file}
@@ -26,9 +26,8 @@ use Rattle.model_store.specs.Safe.{Safe}
 use Rattle.model_store.specs.Settled.{files_of}
 use Rattle.model_store.specs.Stands.{HasLog, head_of}
 use Rattle.model_taken.specs.Taken.{TakenMessage, mailboxes_met}
-use Rattle.store_rebuild.specs.NewLogs.{AreNewLogs, box_logs_for}
+use Rattle.store_rebuild.specs.NewLogs.{box_logs_for}
 use Rattle.store_rebuild.specs.Writing.{HasNewStore, IsLogBeingMade, IsReady, IsRootless, IsWithoutStore, KeepBoxLogs, KeepsMailFiles}
-use Rattle.store_rebuild.specs.declared.new_logs.NewLogs.{NewLogs}
 use Rattle.store_rebuild.proofs.BoxesLemmas.{kept_log, mail_named, still_logs_kept}
 use Rattle.store_rebuild.proofs.FileLemmas.{NamedOthers}
 use Rattle.store_rebuild.proofs.LogLemmas.{IsMaking}

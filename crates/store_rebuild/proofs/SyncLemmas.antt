@@ -1,21 +1,21 @@
 -- Files that are synced before the root log is removed.
-use Rattle.std.proofs.Common.{◌≡◌, ◌⊎◌, inl, inr, ℕ, ◌≤◌, List, [], ◌∷◌, Option, Some, None, All, refl, sym, ◌∙◌, ap, subst, arith}
+use Rattle.std.proofs.Common.{◌≡◌, ◌⊎◌, inl, inr, ℕ, List, [], ◌∷◌, Option, All, refl, sym, ◌∙◌, subst, arith}
 use Rattle.std.proofs.lemmas.Bool.{cases_Bool, cond-true, cond-false}
 use Rattle.std.proofs.lemmas.List.Elements.{All-nil, All-cons, All-head, All-tail, All-weaker}
-use Rattle.disk_model.specs.Disk.{Files, FileState, DiskState, History, Between, EachImage, IfTold, IsImage, IsThere, MayLeave, after, change, reading, synced}
+use Rattle.disk_model.specs.Disk.{Files, FileState, DiskState, History, Between, EachImage, IfTold, IsImage, IsThere, after, change, reading, synced}
 use Rattle.disk_model.specs.Name.{same_name}
 use Rattle.disk_model.specs.declared.name.FileName.{FileName}
 use Rattle.disk_model.specs.declared.name.FileName.TheVariants as file
-use Rattle.disk_model.proofs.BetweenLemmas.{between-on, between-since, between-step, between-then}
+use Rattle.disk_model.proofs.BetweenLemmas.{between-on, between-since}
 use Rattle.disk_model.proofs.IdleLemmas.{idle-begins}
-use Rattle.disk_model.proofs.MomentLemmas.{each_image-goes_on, each_image-then, if_told-after, if_told-both, if_told-map}
+use Rattle.disk_model.proofs.MomentLemmas.{each_image-goes_on, if_told-after, if_told-both, if_told-map}
 use Rattle.disk_model.proofs.OneFileLemmas.{change-here}
 use Rattle.mdbox_base.specs.declared.entries.InstRow.{InstRow}
 use Rattle.model_rebuild.specs.RebuildMoments.{IsBeforeLogs, IsOldButForRoot}
 use Rattle.model_store.specs.Settled.{files_of}
 use Rattle.rebuild_files.proofs.RootLemmas.{looked_images}
 use Rattle.rebuild_judge.specs.declared.taken.TakenRow.{TakenRow}
-use Rattle.store_rebuild.specs.Writing.{AreFilesSynced, AreFilesThere, IsInstanceSynced, IsInstanceThere, IsOnlySynced, IsSyncedFile}
+use Rattle.store_rebuild.specs.Writing.{AreFilesSynced, AreFilesThere, IsInstanceSynced, IsInstanceThere, IsOnlySynced, IsFileSynced}
 use Rattle.store_rebuild.proofs.FileLemmas.{synced_synced}
 
 -- ---- one file
@@ -31,7 +31,7 @@ pub only_synced : (name : FileName) (disk : DiskState) → IsOnlySynced disk (ch
 only_synced name disk = record {
   reads = λ n. by_change (λ (f : FileState). reading f ≡ reading (disk n)) name synced disk n refl refl;
   there = λ n there. by_change IsThere name synced disk n there there;
-  synced = λ n s. by_change IsSyncedFile name synced disk n (synced_synced (disk n) s.there) s;
+  synced = λ n s. by_change IsFileSynced name synced disk n (synced_synced (disk n) s.there) s;
 }
 
 pub only_begins : (disk : DiskState) → IsOnlySynced disk disk
@@ -60,10 +60,10 @@ sync_images first name old new is stays before =
 pub sync_before : (first : DiskState) (name : FileName) (old new : Option History) → new ≡ after (change name synced) old → IfTold old (λ disk. IsBeforeLogs first (change name synced disk)) → IfTold new (IsBeforeLogs first)
 sync_before first name old new is stays = if_told-after (λ disk. IsBeforeLogs first (change name synced disk)) (IsBeforeLogs first) (change name synced) old new is (λ disk b. b) stays
 
-pub sync_synced : (name : FileName) (old new : Option History) → new ≡ after (change name synced) old → IfTold old (λ disk. IsThere (disk name)) → IfTold new (λ disk. IsSyncedFile (disk name))
+pub sync_synced : (name : FileName) (old new : Option History) → new ≡ after (change name synced) old → IfTold old (λ disk. IsThere (disk name)) → IfTold new (λ disk. IsFileSynced (disk name))
 sync_synced name old new is there =
-    if_told-after (λ disk. IsThere (disk name)) (λ disk. IsSyncedFile (disk name)) (change name synced) old new is
-    (λ disk t. subst IsSyncedFile (sym (change-here name synced disk)) (synced_synced (disk name) t)) there
+    if_told-after (λ disk. IsThere (disk name)) (λ disk. IsFileSynced (disk name)) (change name synced) old new is
+    (λ disk t. subst IsFileSynced (sym (change-here name synced disk)) (synced_synced (disk name) t)) there
 
 -- ---- many
 
@@ -116,17 +116,17 @@ message_stays a b x r t = record {
 
 -- the last storage file that was synced; none is 0
 abbrev pub IsLastSynced : ℕ → DiskState → Type 0
-IsLastSynced last disk = (last ≡ 0) ⊎ IsSyncedFile (disk (file.Mail last))
+IsLastSynced last disk = (last ≡ 0) ⊎ IsFileSynced (disk (file.Mail last))
 
-pub same_as_last : (x : TakenRow) (last : ℕ) (h : Option History) → IfTold h (λ disk. AreFilesThere disk x) → IfTold h (IsLastSynced last) → IfTold h (λ disk. x.file.0 ≡ last → IsSyncedFile (disk (file.Mail x.file.0)))
-same_as_last x last h there is = if_told-both (λ disk. AreFilesThere disk x) (IsLastSynced last) (λ disk. x.file.0 ≡ last → IsSyncedFile (disk (file.Mail x.file.0))) h (λ disk t l e. by t l e) there is
+pub same_as_last : (x : TakenRow) (last : ℕ) (h : Option History) → IfTold h (λ disk. AreFilesThere disk x) → IfTold h (IsLastSynced last) → IfTold h (λ disk. x.file.0 ≡ last → IsFileSynced (disk (file.Mail x.file.0)))
+same_as_last x last h there is = if_told-both (λ disk. AreFilesThere disk x) (IsLastSynced last) (λ disk. x.file.0 ≡ last → IsFileSynced (disk (file.Mail x.file.0))) h (λ disk t l e. by t l e) there is
   where
-    by : {disk : DiskState} → AreFilesThere disk x → IsLastSynced last disk → x.file.0 ≡ last → IsSyncedFile (disk (file.Mail x.file.0))
+    by : {disk : DiskState} → AreFilesThere disk x → IsLastSynced last disk → x.file.0 ≡ last → IsFileSynced (disk (file.Mail x.file.0))
     by t (inl none) e = absurd (let n = t.number.low in omega (arith, n, none, e))
-    by {disk} t (inr s) e = subst (λ (n : ℕ). IsSyncedFile (disk (file.Mail n))) (sym e) s
+    by {disk} t (inr s) e = subst (λ (n : ℕ). IsFileSynced (disk (file.Mail n))) (sym e) s
 
-pub both_synced : (x : TakenRow) (old new : Option History) → Between IsOnlySynced old new → IfTold old (λ disk. IsSyncedFile (disk (file.Mail x.file.0))) → IfTold new (λ disk. All (IsInstanceSynced disk) x.instances)
+pub both_synced : (x : TakenRow) (old new : Option History) → Between IsOnlySynced old new → IfTold old (λ disk. IsFileSynced (disk (file.Mail x.file.0))) → IfTold new (λ disk. All (IsInstanceSynced disk) x.instances)
     → IfTold new (λ disk. AreFilesSynced disk x)
 both_synced x old new same storage instances =
-    if_told-both (λ disk. IsSyncedFile (disk (file.Mail x.file.0))) (λ disk. All (IsInstanceSynced disk) x.instances) (λ disk. AreFilesSynced disk x) new (λ disk s i. record { storage = s; instances = i })
-    (between-on IsOnlySynced (λ disk. IsSyncedFile (disk (file.Mail x.file.0))) (λ disk. IsSyncedFile (disk (file.Mail x.file.0))) old new (λ a b r s. r.synced (file.Mail x.file.0) s) same storage) instances
+    if_told-both (λ disk. IsFileSynced (disk (file.Mail x.file.0))) (λ disk. All (IsInstanceSynced disk) x.instances) (λ disk. AreFilesSynced disk x) new (λ disk s i. record { storage = s; instances = i })
+    (between-on IsOnlySynced (λ disk. IsFileSynced (disk (file.Mail x.file.0))) (λ disk. IsFileSynced (disk (file.Mail x.file.0))) old new (λ a b r s. r.synced (file.Mail x.file.0) s) same storage) instances

@@ -1,7 +1,7 @@
 -- What a rebuild answers, and what it leaves.
-use Rattle.std.specs.Prelude.{◌≡◌, ℕ, List, length, map, sum_by, Option, Result, Ok, Err}
-use Rattle.disk_model.specs.Disk.{DiskState, History, EachImage, IfTold, IsIdle}
-use Rattle.model_rebuild.specs.RebuildMoments.{IsLeftByRebuild}
+use Rattle.std.specs.Prelude.{◌≡◌, ◌⊎◌, ℕ, List, length, map, sum_by, Option, Result, Ok, Err}
+use Rattle.disk_model.specs.Disk.{DiskState, Files, History, EachImage, IfTold, IsIdle}
+use Rattle.model_rebuild.specs.RebuildMoments.{IsLeftByRebuild, IsOldButForRoot}
 use Rattle.model_rebuild.specs.RebuildPlan.{RebuildPlan, IsPlanFor}
 use Rattle.model_rebuild.specs.RebuiltLists.{lists_of}
 use Rattle.model_rebuild.specs.RebuiltLogs.{HasRebuiltLogs}
@@ -26,9 +26,14 @@ pub record IsRebuilt (store : List ℕ) (report : RebuildReport) (old now : Disk
   pub messages : report.messages ≡ sum_by (λ m. length m.messages) (lists_of plan.taken)
   pub skipped : report.skipped ≡ map skipped_row plan.skipped
 
--- At every moment a crash leaves what a crash during a rebuild of the old files may leave.
+-- A crash leaves all files as a crash at the beginning may leave them, except that the root log may be gone; or what a crash may leave while
+-- the lists of the messages are made that a rebuild takes of the files at the beginning.
+abbrev pub IsLeftOf : DiskState → Files → Type 0
+IsLeftOf first image = IsOldButForRoot first image ⊎ ((taken : List TakenMessage) × (skipped : List SkippedPlace) × Rebuild (files_of first) taken skipped × IsLeftByRebuild first (lists_of taken) image)
+
+-- the same at every moment
 abbrev pub LeavesRebuild : Option History → Option History → Type 0
-LeavesRebuild old new = IfTold old (λ first. (taken : List TakenMessage) (skipped : List SkippedPlace) → Rebuild (files_of first) taken skipped → EachImage (λ _ image. IsLeftByRebuild first (lists_of taken) image) old new)
+LeavesRebuild old new = IfTold old (λ first. EachImage (λ _ image. IsLeftOf first image) old new)
 
 -- If the store opens as it is, nothing has changed.
 abbrev pub LeavesWhole : Option History → Option History → Type 0

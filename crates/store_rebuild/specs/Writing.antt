@@ -1,5 +1,5 @@
 -- What a crash leaves while files are synced and logs are written, and what the disk has afterwards.
-use Rattle.std.specs.Prelude.{◌≡◌, ◌≢◌, ◌⊎◌, ◌+◌, ℕ, List, [], ◌∷◌, All, Option, Some}
+use Rattle.std.specs.Prelude.{◌≡◌, ◌⊎◌, ◌+◌, ℕ, List, [], ◌∷◌, All, Option}
 use Rattle.disk_model.specs.Disk.{Files, FileState, DiskState, IsThere, Keeps, MayHold, no_file, reading}
 use Rattle.disk_model.specs.Name.{IsLogName}
 use Rattle.disk_model.specs.declared.name.FileName.{FileName}
@@ -33,31 +33,31 @@ pub record AreFilesThere (disk : DiskState) (row : TakenRow) : Type 0 where
   pub instances : All (IsInstanceThere disk) row.instances
 
 -- The file is there, and its octets are synced: if a crash leaves the file, it leaves the octets that it reads.
-pub record IsSyncedFile (f : FileState) : Type 0 where
+pub record IsFileSynced (f : FileState) : Type 0 where
   pub there : IsThere f
   pub octets : (left : List ℕ) → MayHold f left → left ≡ f.octets
 
 abbrev pub IsInstanceSynced : DiskState → InstRow → Type 0
-IsInstanceSynced disk i = IsSyncedFile (disk (file.Inst i.hash.0 i.id.0))
+IsInstanceSynced disk i = IsFileSynced (disk (file.Inst i.hash.0 i.id.0))
 
 -- the storage file of a message is synced, and so are its instances
 pub record AreFilesSynced (disk : DiskState) (row : TakenRow) : Type 0 where
-  pub storage : IsSyncedFile (disk (file.Mail row.file.0))
+  pub storage : IsFileSynced (disk (file.Mail row.file.0))
   pub instances : All (IsInstanceSynced disk) row.instances
 
 -- Each file reads as before, and what was synced still is.
 pub record IsOnlySynced (old new : DiskState) : Type 0 where
   pub reads : (name : FileName) → reading (new name) ≡ reading (old name)
   pub there : (name : FileName) → IsThere (old name) → IsThere (new name)
-  pub synced : (name : FileName) → IsSyncedFile (old name) → IsSyncedFile (new name)
+  pub synced : (name : FileName) → IsFileSynced (old name) → IsFileSynced (new name)
 
 -- storage files and instances read as before
-abbrev pub ReadsSameMail : DiskState → DiskState → Type 0
-ReadsSameMail old new = (name : FileName) → (IsLogName name → ⊥) → reading (new name) ≡ reading (old name)
+abbrev pub MailReadsSame : DiskState → DiskState → Type 0
+MailReadsSame old new = (name : FileName) → (IsLogName name → ⊥) → reading (new name) ≡ reading (old name)
 
 -- they do, and a crash leaves of each what it would have left before, if that was one thing
 pub record KeepsMailFiles (old new : DiskState) : Type 0 where
-  pub reads : ReadsSameMail old new
+  pub reads : MailReadsSame old new
   pub keeps : (name : FileName) → (IsLogName name → ⊥) → (octets : List ℕ) → Keeps (old name) octets → Keeps (new name) octets
 
 -- ---- behind its removal

@@ -8,7 +8,7 @@ ghost use Rattle.model_rebuild.specs.RebuiltLists.{lists_of};
 ghost use Rattle.model_store.specs.Settled.{files_of};
 ghost use Rattle.model_store.specs.Stands.{head_of};
 ghost use Rattle.store_rebuild.specs.NewLogs.{AreNewLogs};
-ghost use Rattle.store_rebuild.specs.Writing.{HasNewStore, IsReady, IsRootless, IsWithoutStore, KeepBoxLogs, KeepsMailFiles, ReadsSameMail};
+ghost use Rattle.store_rebuild.specs.Writing.{HasNewStore, IsReady, IsRootless, IsWithoutStore, KeepBoxLogs, KeepsMailFiles, MailReadsSame};
 
 use crate::draft::NewLog;
 use crate::log::write_log;
@@ -33,7 +33,7 @@ pub fn write_logs<D: Disk>(
     // At every moment of the call, whatever fails, a crash leaves no store, or the rebuilt one.
     ensures any_moment { (first : DiskState) (plan : RebuildPlan) → AreNewLogs plan logs → map_generation ≡ plan.map_generation → box_generation ≡ plan.box_generation → IfTold (D.history disk.old) (IsReady id.0 plan first) → EachImage (λ _ image. IsLeftByRebuild first (lists_of plan.taken) image) (D.history disk.old) (D.history disk.new) }
     ensures made { OnOk result ((first : DiskState) (plan : RebuildPlan) → AreNewLogs plan logs → map_generation ≡ plan.map_generation → box_generation ≡ plan.box_generation → IfTold (D.history disk.old) (IsReady id.0 plan first) → IfTold (D.history disk.new) (HasNewStore id.0 plan first)) }
-    ensures mail { OnOk result (Between ReadsSameMail (D.history disk.old) (D.history disk.new)) }
+    ensures mail { OnOk result (Between MailReadsSame (D.history disk.old) (D.history disk.new)) }
     ensures fault { ChangeFaultCounted (IsErr result) (D.faults disk.old) (D.faults disk.new) }
     ensures unfailed { OnOk result (NoFault (D.faults disk.old) (D.faults disk.new)) }
 {

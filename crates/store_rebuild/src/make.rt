@@ -8,7 +8,7 @@ ghost use Rattle.model_rebuild.specs.RebuildPlan.{RebuildPlan};
 ghost use Rattle.store_rebuild.specs.NewLogs.{AreNewLogs};
 ghost use Rattle.store_rebuild.specs.Planned.{AreRowsOf, IsPlanned};
 ghost use Rattle.store_rebuild.specs.Rebuilding.{IsDiskFault, IsRebuilt, LeavesRebuild, LeavesWhole, disk_behind};
-ghost use Rattle.store_rebuild.specs.Writing.{HasStoreOf, ReadsSameMail};
+ghost use Rattle.store_rebuild.specs.Writing.{HasStoreOf, MailReadsSame};
 
 use crate::logs::write_logs;
 use crate::new_logs::{NewLogs, new_logs};
@@ -19,7 +19,6 @@ use crate::sync::sync_taken;
 use disk_model::Disk;
 use gate_log::DiskFault;
 use mdbox_base::StoreId;
-use model_taken::one_rebuild_of_files;
 use rebuild_files::{RebuildError, check_lost};
 use std::alloc::Global;
 
@@ -34,10 +33,10 @@ pub fn rebuild<D: Disk>(
 ) -> Result<RebuiltStore<D>, RebuildRefused<D>>
     // The report and the new logs are those of the one plan that the old files have, and the store is there whatever a crash leaves.
     ensures rebuilt { IfOk result (λ done. Between (IsRebuilt id.0 done.report) (D.history disk) (D.history done.disk)) }
-    ensures mail { IfOk result (λ done. Between ReadsSameMail (D.history disk) (D.history done.disk)) }
+    ensures mail { IfOk result (λ done. Between MailReadsSame (D.history disk) (D.history done.disk)) }
 
     // At every moment of the call, whatever fails, a crash leaves files as they were at the beginning, with or without the root log; or
-    // no store; or files that are safe for the rebuilt lists: and storage files and instances as a crash at the beginning may leave them.
+    // no store; or files that are safe for the rebuilt lists. Storage files and instances are always as a crash at the beginning may leave them.
     ensures any_moment { LeavesRebuild (D.history disk) (D.history (disk_behind result)) }
 
     // A store that opens is refused, and no other.
@@ -64,7 +63,7 @@ fn make_again<D: Disk>(
     id: StoreId,
 ) -> Result<RebuildReport, RebuildError>
     ensures rebuilt { IfOk result (λ report. Between (IsRebuilt id.0 report) (D.history disk.old) (D.history disk.new)) }
-    ensures mail { OnOk result (Between ReadsSameMail (D.history disk.old) (D.history disk.new)) }
+    ensures mail { OnOk result (Between MailReadsSame (D.history disk.old) (D.history disk.new)) }
     ensures any_moment { LeavesRebuild (D.history disk.old) (D.history disk.new) }
     ensures refused { IfErr result (IsNotLost (D.history disk.old)) }
     ensures lost { OnOk result (IfTold (D.history disk.old) (λ first. IsStoreWhole (files_of first) → ⊥)) }
@@ -98,11 +97,10 @@ fn write_all<D: Disk>(
     requires few { (vec_len logs.boxes ≡ length logs.boxes.items) × (length logs.boxes.items ≤ 4294967294) }
     ensures any_moment { LeavesRebuild (D.history disk.old) (D.history disk.new) }
     ensures made { OnOk result (Between (HasStoreOf id.0 rows.now) (D.history disk.old) (D.history disk.new)) }
-    ensures mail { OnOk result (Between ReadsSameMail (D.history disk.old) (D.history disk.new)) }
+    ensures mail { OnOk result (Between MailReadsSame (D.history disk.old) (D.history disk.new)) }
     ensures fault { AnyFaultCounted (IsErr result) (D.faults disk.old) (D.faults disk.new) }
     ensures unfailed { OnOk result (NoFault (D.faults disk.old) (D.faults disk.new)) }
 {
-    one_rebuild_of_files();
     sync_taken(disk, rows.taken.as_slice())?;
     remove_root(disk)?;
     write_logs(

@@ -4,7 +4,7 @@ ghost use Rattle.disk_model.specs.Disk.{DiskState, Between, EachImage, IfTold, I
 ghost use Rattle.disk_model.specs.FaultCounts.{ChangeFaultCounted, NoFault};
 ghost use Rattle.disk_model.specs.declared.name.FileName.TheVariants as file;
 ghost use Rattle.model_rebuild.specs.RebuildMoments.{IsBeforeLogs, IsOldButForRoot};
-ghost use Rattle.store_rebuild.specs.Writing.{AreFilesSynced, AreFilesThere, IsInstanceSynced, IsInstanceThere, IsOnlySynced, IsSyncedFile};
+ghost use Rattle.store_rebuild.specs.Writing.{AreFilesSynced, AreFilesThere, IsInstanceSynced, IsInstanceThere, IsOnlySynced, IsFileSynced};
 
 use disk_model::{Disk, FileName};
 use gate_log::DiskFault;
@@ -38,7 +38,7 @@ fn sync_storage<D: Disk>(disk: &mut D, number: FileNo, last: u32) -> Result<(), 
     requires { IfTold (D.history disk.old) (λ now. IsThere (now (file.Mail number.0))) }
     ensures any_moment { (first : DiskState) → IfTold (D.history disk.old) (IsBeforeLogs first) → EachImage (λ _ image. IsOldButForRoot first image) (D.history disk.old) (D.history disk.new) }
     ensures before { OnOk result ((first : DiskState) → IfTold (D.history disk.old) (IsBeforeLogs first) → IfTold (D.history disk.new) (IsBeforeLogs first)) }
-    ensures synced { OnOk result (IfTold (D.history disk.old) (λ now. number.0 ≡ last → IsSyncedFile (now (file.Mail number.0))) → IfTold (D.history disk.new) (λ now. IsSyncedFile (now (file.Mail number.0)))) }
+    ensures synced { OnOk result (IfTold (D.history disk.old) (λ now. number.0 ≡ last → IsFileSynced (now (file.Mail number.0))) → IfTold (D.history disk.new) (λ now. IsFileSynced (now (file.Mail number.0)))) }
     ensures same { OnOk result (Between IsOnlySynced (D.history disk.old) (D.history disk.new)) }
     ensures fault { ChangeFaultCounted (IsErr result) (D.faults disk.old) (D.faults disk.new) }
     ensures unfailed { OnOk result (NoFault (D.faults disk.old) (D.faults disk.new)) }
@@ -73,7 +73,7 @@ fn sync_file<D: Disk>(disk: &mut D, name: FileName) -> Result<(), DiskFault>
     requires { IfTold (D.history disk.old) (λ now. IsThere (now name)) }
     ensures any_moment { (first : DiskState) → IfTold (D.history disk.old) (IsBeforeLogs first) → EachImage (λ _ image. IsOldButForRoot first image) (D.history disk.old) (D.history disk.new) }
     ensures before { OnOk result ((first : DiskState) → IfTold (D.history disk.old) (IsBeforeLogs first) → IfTold (D.history disk.new) (IsBeforeLogs first)) }
-    ensures synced { OnOk result (IfTold (D.history disk.new) (λ now. IsSyncedFile (now name))) }
+    ensures synced { OnOk result (IfTold (D.history disk.new) (λ now. IsFileSynced (now name))) }
     ensures same { OnOk result (Between IsOnlySynced (D.history disk.old) (D.history disk.new)) }
     ensures fault { ChangeFaultCounted (IsErr result) (D.faults disk.old) (D.faults disk.new) }
     ensures unfailed { OnOk result (NoFault (D.faults disk.old) (D.faults disk.new)) }

@@ -1,4 +1,4 @@
-use Rattle.std.proofs.Common.{◌≡◌, ◌+◌, ◌≤◌, ◌∷◌, [], List, ℕ, ap, length, length-append, refl, sym, subst, ◌∙◌, arith}
+use Rattle.std.proofs.Common.{◌∷◌, [], List, ℕ, ap, length, length-append, refl, sym, subst, ◌∙◌, arith}
 use Rattle.disk_model.proofs.BetweenLemmas.{between-begins, between-map, between-then}
 use Rattle.disk_model.proofs.FaultCountLemmas.{no_fault-then}
 use Rattle.disk_model.proofs.MomentLemmas.{each_image-then, if_told-all}

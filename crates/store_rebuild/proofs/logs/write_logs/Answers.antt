@@ -7,7 +7,7 @@ use Rattle.model_rebuild.specs.RebuildMoments.{IsLeftByRebuild}
 use Rattle.model_rebuild.specs.RebuildPlan.{RebuildPlan}
 use Rattle.model_rebuild.specs.RebuiltLists.{lists_of}
 use Rattle.store_rebuild.specs.NewLogs.{AreNewLogs}
-use Rattle.store_rebuild.specs.Writing.{IsReady, IsRootless, KeepsMailFiles, ReadsSameMail}
+use Rattle.store_rebuild.specs.Writing.{IsReady, IsRootless, KeepsMailFiles, MailReadsSame}
 use Rattle.store_rebuild.proofs.BoxesLemmas.{mail_named, mail_then, map_no_root, rootless_then, without_store}
 use Rattle.store_rebuild.proofs.FileLemmas.{NamedOthers, named_between}
 use Rattle.store_rebuild.proofs.StoreLemmas.{HasBoxes, LacksRoot, boxes_written, left_without, map_written, root_written, with_root}
@@ -74,7 +74,7 @@ returns-clause-made g c = λ first plan logs m b ready.
 pub returns-clause-mail : goal.returns-clause-mail
 returns-clause-mail g c =
     let at = goal.at.returns-clause-mail g c in
-    between-map KeepsMailFiles ReadsSameMail _ _ (λ a b k. k.reads)
+    between-map KeepsMailFiles MailReadsSame _ _ (λ a b k. k.reads)
     (between-then KeepsMailFiles KeepsMailFiles KeepsMailFiles _ (g.D.Disk.history c.write_log.new.disk) _ mail_then
     (between-then KeepsMailFiles KeepsMailFiles KeepsMailFiles _ (g.D.Disk.history c.write_boxes.new.disk) _ mail_then c.in_ok-write_boxes.ensures.others (between-map (NamedOthers (file.Map c.args.map_generation)) KeepsMailFiles _ _ (mail_named (file.Map c.args.map_generation) refl) (named_map g at.In_ok-write_log)))
     (between-map (NamedOthers file.Root) KeepsMailFiles _ _ (mail_named file.Root refl) (named_between file.Root _ _ c.in_ok-write_log-2.ensures.others)))

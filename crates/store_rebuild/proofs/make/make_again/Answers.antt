@@ -4,7 +4,7 @@ use Rattle.disk_model.proofs.IdleLemmas.{idle-on, idle-then}
 use Rattle.disk_model.specs.Disk.{IsIdle}
 use Rattle.store_rebuild.specs.Planned.{IsPlanned}
 use Rattle.store_rebuild.specs.Rebuilding.{IsRebuilt}
-use Rattle.store_rebuild.specs.Writing.{HasStoreOf, ReadsSameMail}
+use Rattle.store_rebuild.specs.Writing.{HasStoreOf, MailReadsSame}
 use Rattle.store_rebuild.proofs.MakeLemmas.{err_idle, idle_leaves, idle_whole, leaves_behind, lost_whole}
 use Rattle.store_rebuild.proofs.ReportLemmas.{rebuilt_of}
 use Rattle.store_rebuild.proofs.make.make_again.Goals as goal
@@ -55,7 +55,7 @@ returns-clause-rebuilt g c =
 pub returns-clause-mail : goal.returns-clause-mail
 returns-clause-mail g c =
     let idle : IsIdle (g.D.Disk.history c.args.disk.now) (g.D.Disk.history c.plan_of.new.disk) = idle-then _ _ _ c.in_ok-check_lost.ensures.idle c.in_ok-rows.ensures.idle in
-    same-between ReadsSameMail _ _ _ idle.same c.in_ok-write_all.ensures.mail
+    same-between MailReadsSame _ _ _ idle.same c.in_ok-write_all.ensures.mail
 
 pub returns-in_err-rows-clause-idle : goal.returns-in_err-rows-clause-idle
 returns-in_err-rows-clause-idle g c = err_idle c.from_residual-in_err-rows.result _ _ (idle-then _ _ _ c.in_ok-check_lost.ensures.idle c.in_err-rows.ensures.idle)

@@ -4,7 +4,7 @@ use Rattle.model_rebuild.specs.RebuildMoments.{IsBeforeLogs}
 use Rattle.model_rebuild.specs.RebuildPlan.{IsPlanFor, RebuildPlan}
 use Rattle.model_store.specs.Settled.{files_of}
 use Rattle.store_rebuild.specs.Planned.{AreRowsOf}
-use Rattle.store_rebuild.specs.Writing.{HasStoreOf, IsOnlySynced, IsReady, ReadsSameMail}
+use Rattle.store_rebuild.specs.Writing.{HasStoreOf, IsOnlySynced, IsReady, MailReadsSame}
 use Rattle.store_rebuild.proofs.MakeLemmas.{all_moments, before_itself, between_from, mail_reads, moments_then, old_moments, planned_there, ready_then, store_of}
 use Rattle.store_rebuild.proofs.make.write_all.Given.{Over}
 use Rattle.store_rebuild.proofs.make.write_all.Goals.{In_ok-remove_root}
@@ -31,18 +31,18 @@ pub returns-in_err-write_logs-clause-any_moment : goal.returns-in_err-write_logs
 returns-in_err-write_logs-clause-any_moment g c =
     let at = (goal.at.returns-in_err-write_logs-clause-any_moment g c).In_ok-remove_root in
     all_moments c.args.id.0 c.args.rows.now _ _ _ _ c.requires.planned c.in_ok-sync_taken.ensures.any_moment c.in_ok-sync_taken.ensures.before c.in_ok-remove_root.ensures.any_moment
-    (λ first before plan e is r. c.in_err-write_logs.ensures.any_moment first plan (c.requires.logs plan r) r.map_generation r.box_generation (ready g at first before plan e is r)) c.one_rebuild_of_files.ensures
+    (λ first before plan e is r. c.in_err-write_logs.ensures.any_moment first plan (c.requires.logs plan r) r.map_generation r.box_generation (ready g at first before plan e is r))
 
 pub returns-clause-any_moment : goal.returns-clause-any_moment
 returns-clause-any_moment g c =
     let at = (goal.at.returns-clause-any_moment g c).In_ok-remove_root in
     all_moments c.args.id.0 c.args.rows.now _ _ _ _ c.requires.planned c.in_ok-sync_taken.ensures.any_moment c.in_ok-sync_taken.ensures.before c.in_ok-remove_root.ensures.any_moment
-    (λ first before plan e is r. c.in_ok-write_logs.ensures.any_moment first plan (c.requires.logs plan r) r.map_generation r.box_generation (ready g at first before plan e is r)) c.one_rebuild_of_files.ensures
+    (λ first before plan e is r. c.in_ok-write_logs.ensures.any_moment first plan (c.requires.logs plan r) r.map_generation r.box_generation (ready g at first before plan e is r))
 
 pub returns-clause-made : goal.returns-clause-made
 returns-clause-made g c =
     let at = (goal.at.returns-clause-made g c).In_ok-remove_root in
-    between_from ReadsSameMail (HasStoreOf c.args.id.0 c.args.rows.now) _ _ (mail_reads _ _ _ _ c.in_ok-sync_taken.ensures.same c.in_ok-remove_root.ensures.others c.in_ok-write_logs.ensures.mail)
+    between_from MailReadsSame (HasStoreOf c.args.id.0 c.args.rows.now) _ _ (mail_reads _ _ _ _ c.in_ok-sync_taken.ensures.same c.in_ok-remove_root.ensures.others c.in_ok-write_logs.ensures.mail)
     (λ first before e. store_of c.args.id.0 c.args.rows.now first _ (λ plan is r. c.in_ok-write_logs.ensures.made first plan (c.requires.logs plan r) r.map_generation r.box_generation (ready g at first before plan e is r)))
 
 pub returns-clause-mail : goal.returns-clause-mail

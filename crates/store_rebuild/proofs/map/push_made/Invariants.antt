@@ -1,4 +1,4 @@
-use Rattle.std.proofs.Common.{◌≡◌, ◌++◌, List, length, map}
+use Rattle.std.proofs.Common.{◌≡◌, ◌++◌, length, map}
 use Rattle.model_logs.specs.Entries.{map_text}
 use Rattle.model_rebuild.specs.RebuiltLogs.{made_from}
 use Rattle.store_rebuild.proofs.map.push_made.Given as goal

@@ -1,6 +1,5 @@
-use Rattle.std.proofs.Common.{◌≡◌, ◌<◌, ◌∙◌, ℕ, List, ap, map, rules, sym, subst}
+use Rattle.std.proofs.Common.{◌≡◌, ◌∙◌, ap, map, rules}
 use Rattle.std.proofs.lemmas.List.Sorted.{answers_always}
-use Rattle.std.specs.Prelude.{AllPairs}
 use Rattle.map_index.proofs.SealedFileLemmas.{added, there}
 use Rattle.model_meaning.specs.MapMeaning.{with_number}
 use Rattle.store_rebuild.proofs.SealLemmas.{files_rise_with}

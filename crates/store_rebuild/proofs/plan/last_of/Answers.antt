@@ -1,5 +1,4 @@
 use Rattle.std.proofs.Common.{◌∙◌, ap, sym}
-use Rattle.std.proofs.lemmas.List.{nil_from_length}
 use Rattle.store_rebuild.specs.Planned.{last_number}
 use Rattle.store_rebuild.proofs.PlannedLemmas.{last_push}
 use Rattle.store_rebuild.proofs.plan.last_of.Goals as goal

@@ -1,6 +1,6 @@
 use Rattle.std.proofs.Common.{List, ap, subst, ◌∙◌, sym}
 use Rattle.disk_model.proofs.IdleLemmas.{idle-back, idle-on, idle-then}
-use Rattle.disk_model.specs.Disk.{DiskState, IfTold, IsIdle}
+use Rattle.disk_model.specs.Disk.{IfTold, IsIdle}
 use Rattle.model_rebuild.specs.RebuildPlan.{IsBoxUsed, IsFreeGeneration, IsGreatest, IsInstanceNumber, IsMapUsed}
 use Rattle.model_store.specs.Settled.{files_of}
 use Rattle.rebuild_files.specs.Listing.{AreStorageNumbers}

@@ -1,4 +1,4 @@
-use Rattle.std.proofs.Common.{All, List, length}
+use Rattle.std.proofs.Common.{All, length}
 use Rattle.disk_model.specs.Disk.{DiskState, Between, EachImage, IfTold}
 use Rattle.disk_model.specs.FaultCounts.{NoFault}
 use Rattle.model_rebuild.specs.RebuildMoments.{IsBeforeLogs, IsOldButForRoot}

@@ -1,4 +1,3 @@
-use Rattle.std.proofs.Common.{refl}
 use Rattle.model_logs.specs.Entries.{root_text}
 use Rattle.store_rebuild.proofs.DraftLemmas.{cut-more, root_length}
 use Rattle.store_rebuild.proofs.draft.Draft.push_root.Goals as goal
