@@ -9,6 +9,7 @@ pub use outcome::{
 };
 pub use places::{Places, Steps};
 pub use reply_print::{print_fetch_alone, print_reply, push_answer};
+pub use report_print::print_report;
 pub use status::Status;
 pub use summary::{Summary, print_summary};
 pub use words::{WordsError, read_words};
@@ -19,6 +20,7 @@ mod error_report;
 mod outcome;
 mod places;
 mod reply_print;
+mod report_print;
 mod status;
 mod summary;
 mod words;
