@@ -1,0 +1,4 @@
+pub mod DraftLemmas
+pub mod FileLemmas
+pub mod LogLemmas
+pub mod SyncLemmas

@@ -1,0 +1,18 @@
+-- The logs of a rebuilt store, before they are written.
+use Rattle.std.specs.Prelude.{◌≡◌, ℕ, List, [], ◌∷◌, map}
+use Rattle.mdbox_base.specs.declared.entries.RootEntry.TheVariants as root
+use Rattle.model_logs.specs.Entries.{root_text, map_text, box_text}
+use Rattle.model_rebuild.specs.RebuildPlan.{RebuildPlan}
+use Rattle.model_rebuild.specs.RebuiltLogs.{rebuilt_map, rebuilt_box}
+use Rattle.model_taken.specs.Taken.{TakenMessage, mailboxes_met}
+use Rattle.store_rebuild.specs.declared.new_logs.NewLogs.{NewLogs}
+
+-- the texts of the entries of each mailbox's log
+abbrev pub box_logs_for : List (List ℕ) → List TakenMessage → List (List (List ℕ))
+box_logs_for names taken = map (λ name. map box_text (rebuilt_box name taken)) names
+
+-- These are the logs of a plan, each by the texts of its entries.
+pub record AreNewLogs (plan : RebuildPlan) (logs : NewLogs) : Type 0 where
+  pub boxes : logs.boxes.items ≡ box_logs_for (mailboxes_met plan.taken) plan.taken
+  pub map_log : logs.map_log ≡ map map_text (rebuilt_map plan.highest plan.box_generation plan.taken plan.skipped)
+  pub root_log : logs.root_log ≡ root_text (root.M plan.map_generation) ∷ []
