@@ -8,8 +8,9 @@ pub use outcome::{
     FileRefusal, InputRefusal, Outcome, StoreRefusal, outcome_of_replies, outcome_of_reply,
 };
 pub use places::{Places, Steps};
-pub use reply_print::{print_fetch_alone, print_reply, push_answer};
-pub use report_print::print_report;
+pub use reply_print::{
+    numbers_line, print_fetch_alone, print_reply, push_answer, push_numbers, put_line,
+};
 pub use status::Status;
 pub use summary::{Summary, print_summary};
 pub use words::{WordsError, read_words};
@@ -20,7 +21,6 @@ mod error_report;
 mod outcome;
 mod places;
 mod reply_print;
-mod report_print;
 mod status;
 mod summary;
 mod words;
