@@ -1,4 +1,9 @@
+pub mod BoxTextLemmas
+pub mod BoxesLemmas
 pub mod DraftLemmas
 pub mod FileLemmas
 pub mod LogLemmas
+pub mod MapTextLemmas
+pub mod SealLemmas
+pub mod StoreLemmas
 pub mod SyncLemmas

@@ -5,10 +5,10 @@ ghost use Rattle.model_logs.specs.Entries.{BoxInRange, box_text};
 ghost use Rattle.model_rebuild.specs.RebuiltLogs.{rebuilt_box};
 ghost use Rattle.model_taken.specs.Taken.{TakenMessage};
 ghost use Rattle.rebuild_judge.specs.Kept.{taken_row};
-ghost use Rattle.store_rebuild.specs.NewLogs.{box_logs_for};
+ghost use Rattle.store_rebuild.specs.NewLogs.{IsWithMessage, box_logs_for};
 
 use crate::draft::{Draft, NewLog};
-use mdbox_base::{BoxEntry, MapUid, Name, NoMemory, Uid};
+use mdbox_base::{BoxEntry, Guid, MapUid, Name, NoMemory, Uid};
 use rebuild_judge::TakenRow;
 use std::alloc::Global;
 
@@ -36,28 +36,47 @@ fn new_box(alloc: Global, name: &Name, taken: &[TakenRow]) -> Result<NewLog, NoM
     let mut map_uid = 1;
     let mut rest = taken;
     while let Some((row, others)) = rest.split_first() {
-        if row.mailbox.as_octets() == name.as_octets() {
-            draft = draft.push_box(&added(uid, map_uid, row))?;
-            uid = next_number(uid)?;
-        }
+        let (more, next) = with_message(draft, name, uid, map_uid, row)?;
+        draft = more;
+        uid = next;
         map_uid = next_number(map_uid)?;
         rest = others;
     }
-    draft.with_room(alloc)
+    let log = draft.with_room(alloc)?;
+    Ok(log)
+}
+
+/// The entries, with that of a message if it goes to the mailbox with this name; and the next UID.
+fn with_message(
+    draft: Draft,
+    name: &Name,
+    uid: u32,
+    map_uid: u32,
+    row: &TakenRow,
+) -> Result<(Draft, u32), NoMemory>
+    ensures { IfOk result (λ more. IsWithMessage name.now uid map_uid row.now draft more.0 more.1) }
+{
+    if row.mailbox.as_octets() != name.as_octets() {
+        return Ok((draft, uid));
+    }
+    let entry = added(uid, map_uid, row.time, row.whole, row.guid);
+    let draft = draft.push_box(&entry)?;
+    let next = next_number(uid)?;
+    Ok((draft, next))
 }
 
 /// The entry of a message that is added, without flags.
-fn added(uid: u32, map_uid: u32, row: &TakenRow) -> BoxEntry
-    ensures entry { result ≡ entry.A (record { 0 = uid }) 0 row.now.time row.now.whole (record { 0 = map_uid }) row.now.guid }
+fn added(uid: u32, map_uid: u32, time: u64, size: u32, guid: Guid) -> BoxEntry
+    ensures entry { result ≡ entry.A (record { 0 = uid }) 0 time size (record { 0 = map_uid }) guid }
     ensures range { BoxInRange result }
 {
     BoxEntry::A {
         uid: Uid(uid),
         flags: 0,
-        time: row.time,
-        size: row.whole,
+        time,
+        size,
         map_uid: MapUid(map_uid),
-        guid: row.guid,
+        guid,
     }
 }
 

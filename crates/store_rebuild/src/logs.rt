@@ -1,5 +1,5 @@
 // Writing the logs of a rebuilt store.
-ghost use Rattle.std.specs.Prelude.{◌≡◌, ◌≤◌, ◌∷◌, [], length, OnOk, IsErr};
+ghost use Rattle.std.specs.Prelude.{◌≡◌, ◌≤◌, ◌∷◌, [], length, vec_len, OnOk, IsErr};
 ghost use Rattle.disk_model.specs.Disk.{DiskState, Between, EachImage, IfTold};
 ghost use Rattle.disk_model.specs.FaultCounts.{ChangeFaultCounted, NoFault};
 ghost use Rattle.model_rebuild.specs.RebuildMoments.{IsLeftByRebuild};
@@ -29,7 +29,7 @@ pub fn write_logs<D: Disk>(
     box_generation: u32,
     logs: NewLogs,
 ) -> Result<(), DiskFault>
-    requires few { length logs.boxes.items ≤ 4294967294 }
+    requires { (vec_len logs.boxes ≡ length logs.boxes.items) × (length logs.boxes.items ≤ 4294967294) }
     // At every moment of the call, whatever fails, a crash leaves no store, or the rebuilt one.
     ensures any_moment { (first : DiskState) (plan : RebuildPlan) → AreNewLogs plan logs → map_generation ≡ plan.map_generation → box_generation ≡ plan.box_generation → IfTold (D.history disk.old) (IsReady id.0 plan first) → EachImage (λ _ image. IsLeftByRebuild first (lists_of plan.taken) image) (D.history disk.old) (D.history disk.new) }
     ensures made { OnOk result ((first : DiskState) (plan : RebuildPlan) → AreNewLogs plan logs → map_generation ≡ plan.map_generation → box_generation ≡ plan.box_generation → IfTold (D.history disk.old) (IsReady id.0 plan first) → IfTold (D.history disk.new) (HasNewStore id.0 plan first)) }
@@ -58,7 +58,7 @@ fn write_boxes<D: Disk>(
     generation: u32,
     logs: Vec<NewLog>,
 ) -> Result<(), DiskFault>
-    requires few { length logs.items ≤ 4294967294 }
+    requires { (vec_len logs ≡ length logs.items) × (length logs.items ≤ 4294967294) }
     ensures any_moment { (first : DiskState) → IfTold (D.history disk.old) (IsRootless first) → EachImage (λ _ image. IsWithoutStore first image) (D.history disk.old) (D.history disk.new) }
     ensures rootless { OnOk result ((first : DiskState) → IfTold (D.history disk.old) (IsRootless first) → IfTold (D.history disk.new) (IsRootless first)) }
     ensures made { OnOk result (IfTold (D.history disk.new) (λ now. KeepBoxLogs now id.0 1 generation logs.items)) }

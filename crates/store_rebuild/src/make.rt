@@ -1,5 +1,5 @@
 // Making a store again from its storage files.
-ghost use Rattle.std.specs.Prelude.{◌≡◌, ◌≤◌, length, IfOk, IfErr, IsErr, IsErrOf, OnOk};
+ghost use Rattle.std.specs.Prelude.{◌≡◌, ◌≤◌, length, vec_len, IfOk, IfErr, IsErr, IsErrOf, OnOk};
 ghost use Rattle.disk_model.specs.Disk.{Between, IfTold, IsIdle};
 ghost use Rattle.disk_model.specs.FaultCounts.{AnyFaultCounted, NoFault};
 ghost use Rattle.model_store.specs.Settled.{files_of};
@@ -75,7 +75,7 @@ fn make_again<D: Disk>(
     check_lost(alloc, disk)?;
     let rows = plan_of(alloc, disk, id)?;
     let logs = new_logs(alloc, &rows)?;
-    let mailboxes = logs.boxes.len() as u64;
+    let mailboxes = logs.boxes.as_slice().len() as u64;
     write_all(alloc, disk, id, &rows, logs)?;
     Ok(RebuildReport {
         mailboxes,
@@ -94,7 +94,7 @@ fn write_all<D: Disk>(
 ) -> Result<(), DiskFault>
     requires planned { IfTold (D.history disk.old) (IsPlanned id.0 rows.now) }
     requires logs { (plan : RebuildPlan) → AreRowsOf plan rows.now → AreNewLogs plan logs }
-    requires few { length logs.boxes.items ≤ 4294967294 }
+    requires few { (vec_len logs.boxes ≡ length logs.boxes.items) × (length logs.boxes.items ≤ 4294967294) }
     ensures any_moment { LeavesRebuild (D.history disk.old) (D.history disk.new) }
     ensures made { OnOk result (Between (HasStoreOf id.0 rows.now) (D.history disk.old) (D.history disk.new)) }
     ensures mail { OnOk result (Between ReadsSameMail (D.history disk.old) (D.history disk.new)) }

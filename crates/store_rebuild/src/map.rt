@@ -1,7 +1,7 @@
 // The map log of a rebuilt store.
-ghost use Rattle.std.specs.Prelude.{◌≡◌, ◌<◌, ◌++◌, ◌∷◌, List, map, AllPairs, IfOk};
+ghost use Rattle.std.specs.Prelude.{◌≡◌, ◌<◌, ◌++◌, ◌∷◌, List, map, All, AllPairs, IfOk};
 ghost use Rattle.mdbox_base.specs.declared.entries.MapEntry.TheVariants as entry;
-ghost use Rattle.model_logs.specs.Entries.{MapInRange, map_text};
+ghost use Rattle.model_logs.specs.Entries.{MapInRange, RowInRange, map_text};
 ghost use Rattle.model_meaning.specs.MapMeaning.{with_number};
 ghost use Rattle.model_rebuild.specs.RebuildPlan.{RebuildPlan};
 ghost use Rattle.model_rebuild.specs.RebuiltLogs.{all_stored_from, made_from, numbers_skipped, rebuilt_map};
@@ -14,7 +14,9 @@ use crate::boxes::next_number;
 use crate::draft::{Draft, NewLog};
 use crate::names::copy_of;
 use crate::plan::RebuildRows;
-use mdbox_base::{BoxNo, FileNo, InstRow, MapEntry, MapUid, Name, NoMemory, Seq};
+use mdbox_base::{
+    BoxNo, FileNo, Guid, Hash, Highest, InstId, InstRow, MapEntry, MapUid, Name, NoMemory, Seq,
+};
 use rebuild_judge::{SkippedAt, TakenRow};
 use std::alloc::Global;
 
@@ -26,11 +28,12 @@ pub fn new_map(alloc: Global, rows: &RebuildRows, names: &[Name]) -> Result<NewL
     ensures { IfOk result (λ log. (plan : RebuildPlan) → AreRowsOf plan rows.now → names.now ≡ mailboxes_met plan.taken → log ≡ map map_text (rebuilt_map plan.highest plan.box_generation plan.taken plan.skipped)) }
 {
     let draft = Draft::empty(alloc);
-    let draft = draft.push_map(alloc, &MapEntry::H(rows.highest))?;
+    let draft = draft.push_map(alloc, &highest(rows.highest))?;
     let draft = push_made(alloc, draft, rows.box_generation, names)?;
     let draft = push_stored(alloc, draft, rows.taken.as_slice())?;
     let draft = push_sealed(alloc, draft, rows.skipped.as_slice())?;
-    draft.with_room(alloc)
+    let log = draft.with_room(alloc)?;
+    Ok(log)
 }
 
 /// Adds the entries of mailboxes with these names, numbered from 1.
@@ -47,16 +50,23 @@ fn push_made(
     let mut rest = names;
     while let Some((name, others)) = rest.split_first() {
         let name = copy_of(alloc, name.as_octets())?;
-        let entry = MapEntry::B {
-            mailbox: BoxNo(number),
-            generation,
-            name,
-        };
-        draft = draft.push_map(alloc, &entry)?;
+        draft = draft.push_map(alloc, &made(number, generation, name))?;
         number = next_number(number)?;
         rest = others;
     }
     Ok(draft)
+}
+
+/// The entry of a mailbox.
+fn made(number: u32, generation: u32, name: Name) -> MapEntry
+    ensures entry { result ≡ entry.B (record { 0 = number }) generation name }
+    ensures range { MapInRange result }
+{
+    MapEntry::B {
+        mailbox: BoxNo(number),
+        generation,
+        name,
+    }
 }
 
 /// Adds the entries of messages, with map uids from 1.
@@ -67,7 +77,8 @@ fn push_stored(alloc: Global, draft: Draft, taken: &[TakenRow]) -> Result<Draft,
     let mut uid = 1;
     let mut rest = taken;
     while let Some((row, others)) = rest.split_first() {
-        let entry = stored(alloc, uid, row)?;
+        let instances = copy_rows(alloc, row.instances.as_slice())?;
+        let entry = stored(uid, row.file, row.offset, row.size, row.guid, instances)?;
         draft = draft.push_map(alloc, &entry)?;
         uid = next_number(uid)?;
         rest = others;
@@ -76,23 +87,81 @@ fn push_stored(alloc: Global, draft: Draft, taken: &[TakenRow]) -> Result<Draft,
 }
 
 /// The entry of a message that a rebuild found, with a count of 1. None names more than 65,535 instances.
-fn stored(alloc: Global, uid: u32, row: &TakenRow) -> Result<MapEntry, NoMemory>
-    ensures entry { IfOk result (λ given. given ≡ entry.S 1 1 (record { 0 = uid }) row.now.file row.now.offset row.now.size row.now.guid row.now.instances) }
+fn stored(
+    uid: u32,
+    file: FileNo,
+    offset: u32,
+    size: u32,
+    guid: Guid,
+    instances: Seq<InstRow>,
+) -> Result<MapEntry, NoMemory>
+    ensures entry { IfOk result (λ given. given ≡ entry.S 1 1 (record { 0 = uid }) file offset size guid instances) }
     ensures range { IfOk result MapInRange }
 {
-    if row.instances.length() > INSTANCES {
+    if instances.length() > INSTANCES {
         return Err(NoMemory);
     }
-    let instances = copy_rows(alloc, row.instances.as_slice())?;
+    known_rows(instances.as_slice());
+    let FileNo(number) = file;
     Ok(MapEntry::S {
         origin: 1,
         count: 1,
         uid: MapUid(uid),
-        file: row.file,
-        offset: row.offset,
-        size: row.size,
-        guid: row.guid,
+        file: FileNo(number),
+        offset,
+        size,
+        guid,
         instances,
+    })
+}
+
+/// What the types say of an instance.
+fn known_row(row: InstRow)
+    ensures { RowInRange row }
+{
+    let InstRow {
+        hash: Hash(_hash),
+        id: InstId(_id),
+        size: _size,
+    } = row;
+}
+
+/// What they say of instances.
+fn known_rows(rows: &[InstRow])
+    ensures { All RowInRange rows.now }
+{
+    for row in rows {
+        known_row(*row);
+    }
+}
+
+/// The entry of a sealed file.
+fn sealed(file: FileNo) -> MapEntry
+    ensures entry { result ≡ entry.E file }
+    ensures range { MapInRange result }
+{
+    let FileNo(number) = file;
+    MapEntry::E {
+        file: FileNo(number),
+    }
+}
+
+/// The entry of the highest numbers.
+fn highest(highest: Highest) -> MapEntry
+    ensures entry { result ≡ entry.H highest }
+    ensures range { MapInRange result }
+{
+    let Highest {
+        file,
+        map,
+        instance,
+        mailbox,
+    } = highest;
+    MapEntry::H(Highest {
+        file,
+        map,
+        instance,
+        mailbox,
     })
 }
 
@@ -101,8 +170,10 @@ fn copy_rows(alloc: Global, rows: &[InstRow]) -> Result<Seq<InstRow>, NoMemory>
     ensures { IfOk result (λ copy. copy ≡ rows.now) }
 {
     let mut copy = Seq::empty(alloc);
-    for row in rows {
+    let mut rest = rows;
+    while let Some((row, others)) = rest.split_first() {
         copy.push(*row)?;
+        rest = others;
     }
     Ok(copy)
 }
@@ -112,10 +183,18 @@ fn push_sealed(alloc: Global, draft: Draft, skipped: &[SkippedAt]) -> Result<Dra
     ensures { IfOk result (λ new. (places : List SkippedPlace) → skipped.now ≡ map skipped_row places → new ≡ draft ++ map map_text (map (λ number. entry.E (record { 0 = number })) (numbers_skipped places))) }
 {
     let files = files_skipped(alloc, skipped)?;
+    let draft = push_files(alloc, draft, files.as_slice())?;
+    Ok(draft)
+}
+
+/// Adds the entries of sealed files.
+fn push_files(alloc: Global, draft: Draft, files: &[FileNo]) -> Result<Draft, NoMemory>
+    ensures { IfOk result (λ new. new ≡ draft ++ map (λ file. map_text (entry.E file)) files.now) }
+{
     let mut draft = draft;
-    let mut rest = files.as_slice();
+    let mut rest = files;
     while let Some((file, others)) = rest.split_first() {
-        draft = draft.push_map(alloc, &MapEntry::E { file: *file })?;
+        draft = draft.push_map(alloc, &sealed(*file))?;
         rest = others;
     }
     Ok(draft)
@@ -140,9 +219,12 @@ fn with_file(files: Vec<FileNo>, file: FileNo) -> Result<Vec<FileNo>, NoMemory>
     ensures files { IfOk result (λ new. map (λ f. f.0) new.items ≡ with_number file.0 (map (λ f. f.0) files.items)) }
     ensures rising { IfOk result (λ new. AllPairs (λ a b. a.0 < b.0) new.items) }
 {
-    let mut files = files;
-    if let Err(place) = files.binary_search_by_key(&file.0, |other| other.0) {
-        files.insert(place, file)?;
+    match files.binary_search_by_key(&file.0, |other| other.0) {
+        Ok(_) => Ok(files),
+        Err(place) => {
+            let mut new = files;
+            new.insert(place, file)?;
+            Ok(new)
+        }
     }
-    Ok(files)
 }

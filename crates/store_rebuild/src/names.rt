@@ -1,5 +1,7 @@
 // The mailboxes that taken messages go to.
 ghost use Rattle.std.specs.Prelude.{◌≡◌, ◌≤◌, List, length, map, codes, IfOk};
+ghost use Rattle.std.specs.List.{list_any};
+ghost use Rattle.std.specs.Str.{bytes_eq};
 ghost use Rattle.mdbox_base.specs.Words.{IsName};
 ghost use Rattle.model_taken.specs.Taken.{TakenMessage, and_name, mailboxes_met};
 ghost use Rattle.rebuild_judge.specs.Kept.{taken_row};
@@ -34,7 +36,7 @@ fn with_name(alloc: Global, names: Vec<Name>, name: &[u8]) -> Result<Vec<Name>, 
     ensures names { IfOk result (λ new. new.items ≡ and_name names.items name.now) }
     ensures few { IfOk result (λ new. length new.items ≤ 4294967294) }
 {
-    if names.iter().any(|other| name == other.as_octets()) {
+    if is_among(&names, name) {
         return Ok(names);
     }
     if names.len() >= MAILBOXES {
@@ -44,6 +46,13 @@ fn with_name(alloc: Global, names: Vec<Name>, name: &[u8]) -> Result<Vec<Name>, 
     let name = copy_of(alloc, name)?;
     new.push(name)?;
     Ok(new)
+}
+
+/// Whether a name is among these.
+fn is_among(names: &[Name], name: &[u8]) -> bool
+    ensures { result ≡ list_any (bytes_eq name.now) names.now }
+{
+    names.iter().any(|other| name == other.as_octets())
 }
 
 /// The name with these octets.

@@ -43,5 +43,6 @@ fn new_root(alloc: Global, generation: u32) -> Result<NewLog, NoMemory>
     ensures { IfOk result (λ log. log ≡ root_text (root.M generation) ∷ []) }
 {
     let draft = Draft::empty(alloc).push_root(&RootEntry::M { generation })?;
-    draft.with_room(alloc)
+    let log = draft.with_room(alloc)?;
+    Ok(log)
 }

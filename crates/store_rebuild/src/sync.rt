@@ -14,7 +14,7 @@ use rebuild_judge::TakenRow;
 
 /// Syncs the storage file of each message, and each instance that it names. `first` is the disk as a rebuild begins.
 pub fn sync_taken<D: Disk>(disk: &mut D, taken: &[TakenRow]) -> Result<(), DiskFault>
-    requires there { IfTold (D.history disk.old) (λ now. All (AreFilesThere now) taken.now) }
+    requires { IfTold (D.history disk.old) (λ now. All (AreFilesThere now) taken.now) }
     ensures any_moment { (first : DiskState) → IfTold (D.history disk.old) (IsBeforeLogs first) → EachImage (λ _ image. IsOldButForRoot first image) (D.history disk.old) (D.history disk.new) }
     ensures before { OnOk result ((first : DiskState) → IfTold (D.history disk.old) (IsBeforeLogs first) → IfTold (D.history disk.new) (IsBeforeLogs first)) }
     ensures synced { OnOk result (IfTold (D.history disk.new) (λ now. All (AreFilesSynced now) taken.now)) }
@@ -35,7 +35,7 @@ pub fn sync_taken<D: Disk>(disk: &mut D, taken: &[TakenRow]) -> Result<(), DiskF
 
 /// Syncs a storage file, unless it is the last that was synced.
 fn sync_storage<D: Disk>(disk: &mut D, number: FileNo, last: u32) -> Result<(), DiskFault>
-    requires there { IfTold (D.history disk.old) (λ now. IsThere (now (file.Mail number.0))) }
+    requires { IfTold (D.history disk.old) (λ now. IsThere (now (file.Mail number.0))) }
     ensures any_moment { (first : DiskState) → IfTold (D.history disk.old) (IsBeforeLogs first) → EachImage (λ _ image. IsOldButForRoot first image) (D.history disk.old) (D.history disk.new) }
     ensures before { OnOk result ((first : DiskState) → IfTold (D.history disk.old) (IsBeforeLogs first) → IfTold (D.history disk.new) (IsBeforeLogs first)) }
     ensures synced { OnOk result (IfTold (D.history disk.old) (λ now. number.0 ≡ last → IsSyncedFile (now (file.Mail number.0))) → IfTold (D.history disk.new) (λ now. IsSyncedFile (now (file.Mail number.0)))) }
@@ -52,7 +52,7 @@ fn sync_storage<D: Disk>(disk: &mut D, number: FileNo, last: u32) -> Result<(), 
 
 /// Syncs instances.
 fn sync_instances<D: Disk>(disk: &mut D, rows: &[InstRow]) -> Result<(), DiskFault>
-    requires there { IfTold (D.history disk.old) (λ now. All (IsInstanceThere now) rows.now) }
+    requires { IfTold (D.history disk.old) (λ now. All (IsInstanceThere now) rows.now) }
     ensures any_moment { (first : DiskState) → IfTold (D.history disk.old) (IsBeforeLogs first) → EachImage (λ _ image. IsOldButForRoot first image) (D.history disk.old) (D.history disk.new) }
     ensures before { OnOk result ((first : DiskState) → IfTold (D.history disk.old) (IsBeforeLogs first) → IfTold (D.history disk.new) (IsBeforeLogs first)) }
     ensures synced { OnOk result (IfTold (D.history disk.new) (λ now. All (IsInstanceSynced now) rows.now)) }
@@ -70,7 +70,7 @@ fn sync_instances<D: Disk>(disk: &mut D, rows: &[InstRow]) -> Result<(), DiskFau
 
 /// Syncs a file.
 fn sync_file<D: Disk>(disk: &mut D, name: FileName) -> Result<(), DiskFault>
-    requires there { IfTold (D.history disk.old) (λ now. IsThere (now name)) }
+    requires { IfTold (D.history disk.old) (λ now. IsThere (now name)) }
     ensures any_moment { (first : DiskState) → IfTold (D.history disk.old) (IsBeforeLogs first) → EachImage (λ _ image. IsOldButForRoot first image) (D.history disk.old) (D.history disk.new) }
     ensures before { OnOk result ((first : DiskState) → IfTold (D.history disk.old) (IsBeforeLogs first) → IfTold (D.history disk.new) (IsBeforeLogs first)) }
     ensures synced { OnOk result (IfTold (D.history disk.new) (λ now. IsSyncedFile (now name))) }

@@ -4,11 +4,11 @@ use Rattle.disk_model.proofs.BetweenLemmas.{between-begins, between-on, between-
 use Rattle.disk_model.proofs.FaultCountLemmas.{no_fault-then}
 use Rattle.disk_model.proofs.IdleLemmas.{idle-begins}
 use Rattle.disk_model.proofs.MomentLemmas.{each_image-then, if_told-all, if_told-map}
-use Rattle.disk_model.specs.Disk.{Between, IfTold}
+use Rattle.disk_model.specs.Disk.{Between, IfTold, IsThere}
 use Rattle.disk_model.specs.declared.name.FileName.TheVariants as file
 use Rattle.rebuild_files.proofs.RootLemmas.{looked_images}
 use Rattle.store_rebuild.specs.Writing.{AreFilesSynced, AreFilesThere, IsInstanceThere, IsOnlySynced}
-use Rattle.store_rebuild.proofs.SyncLemmas.{both_synced, first_there, left_begins, left_ends, left_more, message_keeps, message_stays, only_begins, only_then, others_there, same_as_last}
+use Rattle.store_rebuild.proofs.SyncLemmas.{IsLastSynced, both_synced, first_there, left_begins, left_ends, left_more, message_keeps, message_stays, only_begins, only_then, others_there, same_as_last}
 use Rattle.store_rebuild.proofs.sync.sync_taken.Goals as goal
 
 pub loop-row-init : goal.loop-row-init
@@ -22,7 +22,7 @@ loop-row-init g c = record {
 }
 
 pub sync_storage-requires : goal.sync_storage-requires
-sync_storage-requires g c = if_told-map _ _ _ (λ disk t. t.storage) (first_there AreFilesThere c.in-Some.row.now c.loop-row.rest.now c.in-Some.others.now _ c.in-Some.ensures.cases.0 c.loop-row.invariant.there)
+sync_storage-requires g c = if_told-map (λ disk. AreFilesThere disk c.in-Some.row.now) (λ disk. IsThere (disk (file.Mail c.in-Some.row.now.file.0))) _ (λ disk t. t.storage) (first_there AreFilesThere c.in-Some.row.now c.loop-row.rest.now c.in-Some.others.now _ c.in-Some.ensures.cases.0 c.loop-row.invariant.there)
 
 pub sync_instances-requires : goal.sync_instances-requires
 sync_instances-requires g c =
@@ -53,7 +53,7 @@ loop-row-preserved g c =
       same = between-then IsOnlySynced IsOnlySynced IsOnlySynced _ _ _ only_then c.loop-row.invariant.same same;
       left = left_more AreFilesSynced row c.loop-row.rest.now c.in-Some.others.now c.args.taken.now _ _ (message_keeps row) is same c.loop-row.invariant.left more;
       there = others_there AreFilesThere row c.loop-row.rest.now c.in-Some.others.now _ _ message_stays is same c.loop-row.invariant.there;
-      last = if_told-map _ _ _ (λ disk s. inr s.storage) more;
+      last = if_told-map (λ disk. AreFilesSynced disk row) (IsLastSynced row.file.0) _ (λ disk s. inr s.storage) more;
       unfailed = no_fault-then _ _ _ c.loop-row.invariant.unfailed (no_fault-then _ _ _ c.in_ok-sync_storage.ensures.unfailed c.in_ok-sync_instances.ensures.unfailed);
     }
 
