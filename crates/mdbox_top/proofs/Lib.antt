@@ -21,6 +21,7 @@ pub mod MoveLemmas
 pub mod NumbersLemmas
 pub mod OneEventLemmas
 pub mod PlaceLemmas
+pub mod RebuildLemmas
 pub mod ReplyFaultLemmas
 pub mod RequestLemmas
 pub mod RoomLemmas

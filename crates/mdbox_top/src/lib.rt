@@ -21,5 +21,6 @@ mod making;
 mod moving;
 mod numbers;
 mod opening;
+mod rebuild;
 mod run;
 mod show;
