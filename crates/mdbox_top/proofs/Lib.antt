@@ -19,6 +19,7 @@ pub mod NumbersLemmas
 pub mod OneStepLemmas
 pub mod PlaceLemmas
 pub mod PrefixLemmas
+pub mod RebuildLemmas
 pub mod ReplyFaultLemmas
 pub mod ReplyKindLemmas
 pub mod ReplyReadLemmas

@@ -20,5 +20,6 @@ mod laws;
 mod making;
 mod numbers;
 mod opening;
+mod rebuild;
 mod run;
 mod show;
