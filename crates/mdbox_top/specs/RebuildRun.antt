@@ -10,7 +10,7 @@ use Rattle.request_text.specs.declared.outcome.Outcome.{Outcome}
 use Rattle.request_text.specs.declared.outcome.Outcome.TheVariants as outcome
 use Rattle.request_text.specs.declared.outcome.StoreRefusal.TheVariants as store
 use Rattle.store_rebuild.specs.Rebuilding.{IsRebuilt, LeavesRebuild, LeavesWhole}
-use Rattle.store_rebuild.specs.Writing.{ReadsSameMail}
+use Rattle.store_rebuild.specs.Writing.{MailReadsSame}
 use Rattle.store_rebuild.specs.declared.report.RebuildReport.{RebuildReport}
 
 -- The store was rebuilt: it didn't open before; now the disk has the logs of what its storage files hold, with this id, and is settled for
@@ -18,7 +18,7 @@ use Rattle.store_rebuild.specs.declared.report.RebuildReport.{RebuildReport}
 pub record IsRebuiltBy (id : List ℕ) (report : RebuildReport) (old new : Option History) : Type 0 where
   pub lost : IfTold old (λ disk. IsStoreWhole (files_of disk) → ⊥)
   pub rebuilt : Between (IsRebuilt id report) old new
-  pub mail : Between ReadsSameMail old new
+  pub mail : Between MailReadsSame old new
 
 -- what is printed of a report
 abbrev pub text_of_report : RebuildReport → List ℕ
