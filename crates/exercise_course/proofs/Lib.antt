@@ -3,6 +3,9 @@ pub mod BoxLemmas
 pub mod CountingLemmas
 pub mod CourseLemmas
 pub mod DeliveredLemmas
+pub mod FreshLemmas
+pub mod GrownLemmas
+pub mod HalfLemmas
 pub mod LegalLemmas
 pub mod PlaceLemmas
 pub mod ReadyLemmas
