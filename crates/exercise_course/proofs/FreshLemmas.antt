@@ -1,6 +1,5 @@
 -- The GUIDs that a run of a made script gives are of new records, of which few counts are kept.
-use Rattle.std.specs.Prelude.{◌≡◌, ◌≢◌, ◌≤◌, ◌<◌, ◌+◌, ◌/◌, ◌%◌, ◌==◌, ◌⊎◌, ℕ, zero, suc, Bool, true, false, All, List, [], ◌∷◌, ◌++◌, flat_map, length, map, slice_get, slice_index_or, sum_by, take, Option, Some, None, refl}
-use Rattle.std.specs.List.{AllByRecursion}
+use Rattle.std.specs.Prelude.{◌≡◌, ◌≤◌, ◌<◌, ◌+◌, ◌/◌, ◌%◌, ◌==◌, ◌⊎◌, ℕ, zero, suc, Bool, true, false, All, List, [], ◌∷◌, ◌++◌, flat_map, length, slice_get, slice_index_or, sum_by, take, Option, Some, None, refl}
 use Rattle.std.proofs.Common.{sym, ◌∙◌, ap, arith, subst, inl, inr}
 use Rattle.std.proofs.lemmas.Bool.{eq-eqb, eqb-true}
 use Rattle.std.proofs.lemmas.Grind.{flat_map-append}
@@ -8,7 +7,6 @@ use Rattle.std.proofs.lemmas.List.{append-nil, take_more}
 use Rattle.std.proofs.lemmas.List.Elements.{All-head}
 use Rattle.std.proofs.lemmas.List.Sums.{sum_by_push}
 use Rattle.std.proofs.lemmas.Option.{slice_get-get_or, slice_get_within}
-use Rattle.mdbox_base.specs.declared.entries.MapEntry.{MapEntry}
 use Rattle.mdbox_base.specs.declared.ids.Uid.{Uid}
 use Rattle.mdbox_base.specs.declared.requests.Request.{Request}
 use Rattle.mdbox_base.specs.declared.requests.Request.TheVariants as request
@@ -16,16 +14,16 @@ use Rattle.mdbox_base.specs.declared.replies.Refusal.{Refusal}
 use Rattle.mdbox_base.specs.declared.replies.Refusal.TheVariants as refusal
 use Rattle.model_lists.specs.Lists.{Lists}
 use Rattle.model_meaning.specs.MapFits.{MapFits}
-use Rattle.model_meaning.specs.MapMeaning.{MapMeaning, MapRecord, count_of}
+use Rattle.model_meaning.specs.MapMeaning.{MapRecord, count_of}
 use Rattle.list_machine.specs.Run.{EventPart, First, StoresRecord, Last, GivesBack, Run, RunEvent, and_then, before, first_in, guid_added, map_of, own_events}
 use Rattle.journal.specs.Journal.{JournalStep}
 use Rattle.journal.specs.Events.{Around, DidNothing, DidPart, IsEvent, IsNextEvent, behind_addition, behind_copy, behind_event, guid_given}
 use Rattle.journal.specs.Makes.{AreNextEvents, lists_before}
 use Rattle.journal.proofs.OwnEventLemmas.{own_more, own_other}
-use Rattle.script_text.specs.MadeScript.{below, made_request, made_round, made_turn}
+use Rattle.script_text.specs.MadeScript.{below, made_request}
 use Rattle.exercise_course.proofs.BalanceLemmas.{counted_to, raised_by}
 use Rattle.exercise_course.proofs.CountingLemmas.{IsCountable, IsShort, did_counts, nothing_counts, up_at, up_by}
-use Rattle.exercise_course.proofs.DeliveredLemmas.{round_simple, same_below, sum_by_requests, up_to}
+use Rattle.exercise_course.proofs.DeliveredLemmas.{round_simple, sum_by_requests, up_to}
 use Rattle.exercise_course.proofs.GrownLemmas.{Grown, IsNew, new_count, run_grown, unseen_new}
 use Rattle.exercise_course.proofs.HalfLemmas.{each_less, raises_few}
 use Rattle.exercise_course.proofs.LegalLemmas.{asked_is, script_length, script_of}

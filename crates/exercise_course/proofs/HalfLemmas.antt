@@ -1,10 +1,8 @@
 -- At most about half of the requests of a made script raise a count.
-use Rattle.std.specs.Prelude.{◌≡◌, ◌≤◌, ◌<◌, ◌+◌, ◌*◌, ◌/◌, ◌%◌, ℕ, zero, suc, List, [], ◌∷◌, length, sum_by, refl}
-use Rattle.std.proofs.Common.{sym, ◌∙◌, ap, arith}
+use Rattle.std.specs.Prelude.{◌≡◌, ◌≤◌, ◌+◌, ◌*◌, ◌/◌, ◌%◌, ℕ, zero, suc, sum_by, refl}
+use Rattle.std.proofs.Common.{◌∙◌, ap, arith}
 use Rattle.std.proofs.Math.Nat.{add-mul-div_left}
 use Rattle.std.proofs.lemmas.List.Sums.{sum_by_push}
-use Rattle.mdbox_base.specs.declared.requests.Request.{Request}
-use Rattle.mdbox_base.specs.declared.requests.Request.TheVariants as request
 use Rattle.script_text.specs.MadeScript.{below, made_request, made_round, made_turn}
 use Rattle.exercise_course.proofs.BalanceLemmas.{raised_by}
 

@@ -22,7 +22,7 @@ use Rattle.list_machine.specs.Run.{Run, before}
 use Rattle.list_machine.specs.Machine.{Answers}
 use Rattle.journal.specs.Journal.{AreReplied, AreSteps, HasAllSteps, HasReply, IsLegal, IsReplyOf, IsStep, JournalStep, Requests, left_by, steps_of}
 use Rattle.script_text.specs.MadeScript.{below, made_request, made_round, made_turn}
-use Rattle.exercise_course.specs.Hindered.{BeginsFree, is_hindered, is_ok}
+use Rattle.exercise_course.specs.Hindered.{BeginsFree, is_hindered, is_ok, is_stopped}
 use Rattle.exercise_course.specs.InOrder.{lists_in_order, message_total, octet_total}
 use Rattle.exercise_course.proofs.BoxLemmas.{weight_in, weight_of}
 use Rattle.exercise_course.proofs.CourseLemmas.{anything, AreAllPlaces, AreTurns, IsWhole, Turn, all_are_whole, left_of, place_of, weighs_in_order}
@@ -95,7 +95,7 @@ one_step (request.Expunge name uid) steps last p k = k
 one_step (request.Flag name uid flags) steps last p k = k
 one_step q steps last p k = absurd p
 
-pub undamaged : (q : Request) (steps : List Reply) (why : Refusal) → IsPlain q → IsReplyOf q steps (reply.Refused why) → is_hindered (reply.Refused why) ≡ false → steps ≡ reply.Refused why ∷ []
+pub undamaged : (q : Request) (steps : List Reply) (why : Refusal) → IsPlain q → IsReplyOf q steps (reply.Refused why) → is_stopped (reply.Refused why) ≡ false → steps ≡ reply.Refused why ∷ []
 undamaged q steps refusal.NoMemory p k free = absurd (let e : true ≡ false = free in cc e)
 undamaged q steps refusal.ReadFault p k free = absurd (let e : true ≡ false = free in cc e)
 undamaged q steps refusal.Stopped p k free = absurd (let e : true ≡ false = free in cc e)
@@ -103,7 +103,7 @@ undamaged (request.Fetch name uid) steps (refusal.Damaged file offset) p k free 
 undamaged q steps (refusal.Damaged file offset) p k free = absurd k
 undamaged q steps why p k free = one_step q steps (reply.Refused why) p k
 
-pub reply_step : (q : Request) (steps : List Reply) (given : Reply) → IsPlain q → IsReplyOf q steps given → is_hindered given ≡ false → steps ≡ given ∷ []
+pub reply_step : (q : Request) (steps : List Reply) (given : Reply) → IsPlain q → IsReplyOf q steps given → is_stopped given ≡ false → steps ≡ given ∷ []
 reply_step q steps (reply.Refused why) p k free = undamaged q steps why p k free
 reply_step q steps given p k free = one_step q steps given p k
 
@@ -219,14 +219,21 @@ of_each P count (step ∷ journal) w each =
 abbrev pub OneStepEach : ℕ → List Reply → List JournalStep → Type 0
 OneStepEach count given journal = (i : ℕ) → i < count → (one : Reply) × (slice_get given i ≡ Some one) × (map answer_of (steps_of i journal) ≡ one ∷ [])
 
-pub one_each : (lanes count number : ℕ) (journal : List JournalStep) (given : List Reply) → length given ≡ count → All (λ one. is_hindered one ≡ false) given → AreReplied (script_of lanes count number) journal (map Some given) → OneStepEach count given journal
-one_each lanes count number journal given many free replied i lt =
+pub plain_each : (lanes count number : ℕ) (journal : List JournalStep) (given : List Reply) → length given ≡ count → All (λ one. is_stopped one ≡ false) given → AreReplied (script_of lanes count number) journal (map Some given) → OneStepEach count given journal
+plain_each lanes count number journal given many free replied i lt =
     let lt_given : i < length given = omega (arith, lt, many) in
     let one = slice_index_or given i reply.Done in
     let has : slice_get given i ≡ Some one = slice_get-get_or given i reply.Done lt_given in
     let replies : HasReply (map Some given) i one = slice_get-map Some given i ∙ ap (option_map Some) has in
     let of = replied i (made_request lanes number i) one (asked_is lanes count number i lt) replies in
     (one, has, reply_step (made_request lanes number i).1 (map answer_of (steps_of i journal)) one (round_plain number i (i % lanes + 1) (i / lanes)) of (free i reply.Done lt_given))
+
+pub one_each : (lanes count number : ℕ) (journal : List JournalStep) (given : List Reply) → length given ≡ count → All (λ one. is_hindered one ≡ false) given → AreReplied (script_of lanes count number) journal (map Some given) → OneStepEach count given journal
+one_each lanes count number journal given many free replied = plain_each lanes count number journal given many (λ k d lt. unstopped _ (free k d lt)) replied
+  where
+    unstopped : (one : Reply) → is_hindered one ≡ false → is_stopped one ≡ false
+    unstopped (reply.Refused (refusal.TooManyCopies most)) e = refl
+    unstopped one e = e
 
 pub each_of_given : (P : Reply → Type 0) (given : List Reply) (i : ℕ) (one : Reply) → All P given → slice_get given i ≡ Some one → P one
 each_of_given P given i one a e =

@@ -1,6 +1,3 @@
-use Rattle.exercise_course.proofs.FreshLemmas.{new_few, delivered_new}
-use Rattle.exercise_course.proofs.HalfLemmas.{raises_few}
-use Rattle.exercise_course.proofs.GrownLemmas.{new_count}
 use Rattle.exercise_course.proofs.BalanceLemmas.{counts_grow}
 use Rattle.exercise_course.proofs.laws.exercises_keep_counts.Goals as goal
 
