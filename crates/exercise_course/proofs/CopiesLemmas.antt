@@ -227,9 +227,10 @@ record RunFacts (first : List MapRecord) (lanes number : ℕ) (run : Run) : Type
 
 turns_stop : (first : List MapRecord) (lanes count number : ℕ) (run : Run) (old : Lists) (journal : List JournalStep) → 1 ≤ lanes → RunFacts first lanes number run → AreSteps run (script_of lanes count number) old journal → AreTurns (HaveNew first lanes) is_stopped lanes number old (map turn_of journal)
 turns_stop first lanes count number run old [] one facts steps = tt
-turns_stop first lanes count number run old (step ∷ journal) one facts steps =
-    (λ ready more. with_more more (ready_answers (before step.event run) old (made_request lanes number step.request).1 s.event step.answer step.left ready answers),
-    turns_stop first lanes count number run step.left journal one facts steps.1)
+turns_stop first lanes count number run old (step ∷ journal) one facts steps = (
+  λ ready more. with_more more (ready_answers (before step.event run) old (made_request lanes number step.request).1 s.event step.answer step.left ready answers),
+  turns_stop first lanes count number run step.left journal one facts steps.1,
+)
   where
     s : IsStep run (script_of lanes count number) old step
     s = steps.0
@@ -288,7 +289,7 @@ never_full lanes count number start run journal broken given old new first m dra
     let all : AreAllPlaces count (map place_of (map turn_of journal)) = subst (AreAllPlaces count) (sym (places_are journal)) (record { once = once; within = w }) in
     let rise : RiseInLanes (λ i. i % lanes + 1) (map place_of (map turn_of journal)) = subst (RiseInLanes (λ i. i % lanes + 1)) (sym (places_are journal)) (rises lanes count number run start journal served.legal.steps served.legal.order.lanes) in
     let unstopped = of_each (λ step. is_stopped step.answer ≡ false) count journal w
-      (λ j lt. one_answer (λ given. is_stopped given ≡ false) (steps_of j journal) (each j lt).0 (each j lt).2 (each_of_given (λ given. is_stopped given ≡ false) given j (each j lt).0 free (each j lt).1)) in
+    (λ j lt. one_answer (λ given. is_stopped given ≡ false) (steps_of j journal) (each j lt).0 (each j lt).2 (each_of_given (λ given. is_stopped given ≡ false) given j (each j lt).0 free (each j lt).1)) in
     let whole = all_are_whole (HaveNew rows lanes) is_stopped lanes number count one most few (map turn_of journal) start all rise begins.free (begins_new rows lanes start begins.free) begins.room (as_turns journal unstopped) (turns_stop rows lanes count number run start journal one facts served.legal.steps) in
     let e = each i (omega (arith, lt, many)) in
     let ok = answer_holds (λ given. is_ok given ≡ true) (steps_of i journal) e.0 e.2 (filtered (λ step. is_ok step.answer ≡ true) (is_of i) journal (as_steps journal whole.ok)) in

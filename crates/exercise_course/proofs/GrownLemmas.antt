@@ -162,7 +162,7 @@ pub new_count : (first : List MapRecord) (m : MapMeaning) (most : ℕ) (guid : L
 new_count first m most guid g new =
     let none = find_none guid g.was (subst (AllByRecursion (λ (other : List ℕ). other ≢ guid)) (sym g.guids) new) in
     let at : find (λ row. bytes_eq row.guid guid) m.records ≡ find (λ row. bytes_eq row.guid guid) g.new =
-      ap (find (λ row. bytes_eq row.guid guid)) g.rows_are ∙ find-append (λ (row : MapRecord). bytes_eq row.guid guid) g.was g.new ∙ ap (λ (o : Option MapRecord). option_or o (find (λ row. bytes_eq row.guid guid) g.new)) none in
+    ap (find (λ row. bytes_eq row.guid guid)) g.rows_are ∙ find-append (λ (row : MapRecord). bytes_eq row.guid guid) g.was g.new ∙ ap (λ (o : Option MapRecord). option_or o (find (λ row. bytes_eq row.guid guid) g.new)) none in
     let is : count_of m guid ≡ option_map_or (λ row. row.count) (find (λ row. bytes_eq row.guid guid) g.new) 0 = ap (λ (o : Option MapRecord). option_map_or (λ row. row.count) o 0) at in
     let le = find_few (λ row. bytes_eq row.guid guid) g.new in
     let few = g.few in

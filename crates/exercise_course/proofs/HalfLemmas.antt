@@ -110,10 +110,10 @@ pub raises_few : (lanes count number : ℕ) → 1 ≤ lanes → lanes ≤ 64 →
 raises_few lanes count number one most few =
     let is = same (λ i. raised_by (made_request lanes number i).1) (λ i. round_raises (i / lanes)) (λ i. round_is number i (i % lanes + 1) (i / lanes)) count in
     let a = each_less (λ i. round_raises (i / lanes)) (λ i. round_spares ((i + lanes * 2) / lanes)) (λ i.
-      let q : (i + lanes * 2) / lanes ≡ i / lanes + 2 = add-mul-div_left i 2 one in
-      let t = two_behind (i / lanes) in
-      let s : round_spares ((i + lanes * 2) / lanes) ≡ round_spares (i / lanes + 2) = ap round_spares q in
-      omega (arith, t, s)) count in
+    let q : (i + lanes * 2) / lanes ≡ i / lanes + 2 = add-mul-div_left i 2 one in
+    let t = two_behind (i / lanes) in
+    let s : round_spares ((i + lanes * 2) / lanes) ≡ round_spares (i / lanes + 2) = ap round_spares q in
+    omega (arith, t, s)) count in
     let b = shifted (λ i. round_spares (i / lanes)) (lanes * 2) count in
     let c = few_more (λ i. round_spares (i / lanes)) (λ i. let o = round_one (i / lanes) in omega (arith, o)) count (lanes * 2) in
     let d = all_ones (λ i. round_raises (i / lanes)) (λ i. round_spares (i / lanes)) (λ i. round_one (i / lanes)) count in

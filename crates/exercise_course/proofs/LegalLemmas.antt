@@ -137,10 +137,11 @@ step_asked lanes count number run old step s =
 turns_are : (lanes count number : ℕ) (run : Run) (old : Lists) (journal : List JournalStep) → AreSteps run (script_of lanes count number) old journal → AreTurns anything is_hindered lanes number old (map turn_of journal)
 turns_are lanes count number run old [] steps = tt
 turns_are lanes count number run old (step ∷ journal) steps =
-    let s = steps.0 in
-    (λ ready more. with_more (ready_answers (before step.event run) old (made_request lanes number step.request).1 s.event step.answer step.left ready
-      (subst (λ (asked : ℕ × Request). Answers (before step.event run) old asked.1 s.event step.answer step.left) (step_asked lanes count number run old step s) s.answers)),
-    turns_are lanes count number run step.left journal steps.1)
+    let s = steps.0 in (
+      λ ready more. with_more (ready_answers (before step.event run) old (made_request lanes number step.request).1 s.event step.answer step.left ready
+          (subst (λ (asked : ℕ × Request). Answers (before step.event run) old asked.1 s.event step.answer step.left) (step_asked lanes count number run old step s) s.answers)),
+      turns_are lanes count number run step.left journal steps.1,
+    )
   where
     with_more : {A B C : Type 0} → A ⊎ (B × C) → A ⊎ (B × C × Unit {0})
     with_more (inl a) = inl a
