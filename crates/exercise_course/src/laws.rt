@@ -1,5 +1,5 @@
 // Laws of exercises.
-ghost use Rattle.std.specs.Prelude.{◌≡◌, ◌<◌, ◌≤◌, ◌+◌, ℕ, All, AllPairs, List, Some, false, length, map, sum_by, true};
+ghost use Rattle.std.specs.Prelude.{[], ◌≡◌, ◌<◌, ◌≤◌, ◌+◌, ℕ, All, AllPairs, List, Some, false, length, map, sum_by, true};
 ghost use Rattle.disk_model.specs.Disk.{Faults};
 ghost use Rattle.journal.specs.Journal.{Broken, IsLegal, JournalStep, left_by};
 ghost use Rattle.journal.specs.Makes.{IsServed};
@@ -47,4 +47,11 @@ pub fn exercises_add_records()
         → IsServed start (made_script lanes count number).requests run journal broken (map Some given) old new first m drawn calls → length m.records ≡ length first.records + deliveries_in (made_script lanes count number).requests }
     ensures instances { (lanes count number : ℕ) (start : Lists) (run : Run) (journal : List JournalStep) (broken : Broken) (given : List Reply) (old new : Faults) (first m : MapMeaning) (drawn : Highest) (calls : ℕ) → length given ≡ count → All (λ one. is_ok one ≡ true) given
         → IsServed start (made_script lanes count number).requests run journal broken (map Some given) old new first m drawn calls → named_instances m ≡ named_instances first }
+{}
+
+/// What the definitions give of two small exercises, from lists without mailboxes: how many messages and octets, and how many deliveries.
+/// Of six requests of one lane, two messages are left: the copy of an empty one, and one of four octets.
+pub fn small_exercises()
+    ensures six { (message_total (lists_in_order (made_script 1 6 999).requests []) ≡ 2) × (octet_total (lists_in_order (made_script 1 6 999).requests []) ≡ 4) × (deliveries_in (made_script 1 6 999).requests ≡ 2) }
+    ensures one { (message_total (lists_in_order (made_script 64 1 0).requests []) ≡ 0) × (octet_total (lists_in_order (made_script 64 1 0).requests []) ≡ 0) × (deliveries_in (made_script 64 1 0).requests ≡ 0) }
 {}

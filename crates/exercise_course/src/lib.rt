@@ -4,6 +4,7 @@
 
 pub use laws::{
     exercises_add_records, exercises_are_done, exercises_copy_little, exercises_keep_counts,
+    small_exercises,
 };
 
 mod laws;
