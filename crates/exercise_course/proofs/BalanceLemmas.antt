@@ -35,12 +35,12 @@ use Rattle.exercise_course.proofs.StoringLemmas.{IsSimple, last_of}
 
 -- ---- a request that is answered OK
 
-abbrev raised_by : Request → ℕ
+abbrev pub raised_by : Request → ℕ
 raised_by (request.Deliver name time octets) = 1
 raised_by (request.Copy name uid target) = 1
 raised_by other = 0
 
-abbrev lowered_by : Request → ℕ
+abbrev pub lowered_by : Request → ℕ
 lowered_by (request.Expunge name uid) = 1
 lowered_by other = 0
 
@@ -104,7 +104,7 @@ own_whole q own given s o a r ok =
 
 -- ---- the run
 
-abbrev AreCounted : ℕ → ℕ → Run → Type 0
+abbrev pub AreCounted : ℕ → ℕ → Run → Type 0
 AreCounted lanes number run = (i : ℕ) → OwnCounted (made_request lanes number i).1 (own_events i run)
 
 counted_event : (lanes count number : ℕ) (around after : Around) (run : Run) (lists : Lists) (event : RunEvent) → AreCounted lanes number run → IsCountable (map_of run) → IsNextEvent around after (script_of lanes count number) run lists event
@@ -134,11 +134,11 @@ counted_event lanes count number around after run lists event own countable next
         by_place false e = subst (OwnCounted (made_request lanes number i).1) (sym (own_other i run event e)) (own i)
 
 -- the run up to an event
-record CountedTo (lanes number : ℕ) (run : Run) (n : ℕ) : Type 0 where
-  own : AreCounted lanes number (before n run)
-  counted : Counted (sum_by up_by (take n run.events)) (sum_by down_by (take n run.events)) (map_of (before 0 run)) (map_of (before n run))
+pub record CountedTo (lanes number : ℕ) (run : Run) (n : ℕ) : Type 0 where
+  pub own : AreCounted lanes number (before n run)
+  pub counted : Counted (sum_by up_by (take n run.events)) (sum_by down_by (take n run.events)) (map_of (before 0 run)) (map_of (before n run))
 
-counted_to : (lanes count number : ℕ) (around after : ℕ → Around) (start : Lists) (run : Run) (journal : List JournalStep) → IsCountable (map_of (before 0 run)) → AreNextEvents around after (script_of lanes count number) start run journal → (n : ℕ) → n ≤ length run.events → CountedTo lanes number run n
+pub counted_to : (lanes count number : ℕ) (around after : ℕ → Around) (start : Lists) (run : Run) (journal : List JournalStep) → IsCountable (map_of (before 0 run)) → AreNextEvents around after (script_of lanes count number) start run journal → (n : ℕ) → n ≤ length run.events → CountedTo lanes number run n
 counted_to lanes count number around after start run journal c next zero le = record {
   own = λ i. counted_none (made_request lanes number i).1;
   counted = record { counts = refl; countable = c };

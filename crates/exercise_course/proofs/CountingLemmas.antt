@@ -26,7 +26,7 @@ use Rattle.exercise_course.proofs.StoringLemmas.{IsSimple, last_of, last_push, n
 
 -- ---- the map
 
-abbrev count_of_row : MapRecord → ℕ
+abbrev pub count_of_row : MapRecord → ℕ
 count_of_row row = row.count
 
 abbrev pub counts_of_map : MapMeaning → ℕ
@@ -37,7 +37,7 @@ pub record IsCountable (m : MapMeaning) : Type 0 where
   pub rising : AllPairs (λ a b. a.uid < b.uid) m.records
   pub below : All (λ row. row.uid ≤ m.highest.map) m.records
 
-abbrev Rises : MapRecord → MapRecord → Type 0
+abbrev pub Rises : MapRecord → MapRecord → Type 0
 Rises a b = a.uid < b.uid
 
 -- by how much an entry raises and lowers counts
@@ -57,12 +57,12 @@ IsStep (entry.T counts) = ⊥
 IsStep (entry.P file target moved dropped) = ⊥
 IsStep other = Unit {0}
 
-all_kept : (rows : List MapRecord) → filter (λ row. not false) rows ≡ rows
+pub all_kept : (rows : List MapRecord) → filter (λ row. not false) rows ≡ rows
 all_kept [] = refl
 all_kept (row ∷ rows) = ap (λ (l : List MapRecord). row ∷ l) (all_kept rows)
 
 -- a change that leaves this row's count
-missed_sum : (changed : MapRecord → MapRecord) (uid : ℕ) → ((row : MapRecord) → (row.uid == uid) ≡ false → (changed row).count ≡ row.count) → (rows : List MapRecord) → All (λ row. uid < row.uid) rows → sum_by count_of_row (map changed rows) ≡ sum_by count_of_row rows
+pub missed_sum : (changed : MapRecord → MapRecord) (uid : ℕ) → ((row : MapRecord) → (row.uid == uid) ≡ false → (changed row).count ≡ row.count) → (rows : List MapRecord) → All (λ row. uid < row.uid) rows → sum_by count_of_row (map changed rows) ≡ sum_by count_of_row rows
 missed_sum changed uid same [] a = refl
 missed_sum changed uid same (x ∷ xs) a =
     let lt = All-head (λ (row : MapRecord). uid < row.uid) x xs a in
@@ -142,7 +142,7 @@ hit m e uid up down changed r is same miss own found c =
       countable = record { rising = subst (AllPairs Rises) (sym is) k.0; below = subst (All (λ (row : MapRecord). row.uid ≤ (map_applied e m).highest.map)) (sym is) k.1 };
     }
 
-apart_back : (a b : ℕ) → (a == b) ≡ false → (b == a) ≡ false
+pub apart_back : (a b : ℕ) → (a == b) ≡ false → (b == a) ≡ false
 apart_back a b e = by_test (b == a) refl
   where
     by_test : (t : Bool) → (b == a) ≡ t → (b == a) ≡ false
@@ -153,13 +153,13 @@ same_uid : (row : MapRecord) (n : ℕ) (b : Bool) → (if b then record row { co
 same_uid row n true = refl
 same_uid row n false = refl
 
-missed_count : (row : MapRecord) (n : ℕ) (b : Bool) → b ≡ false → (if b then record row { count = n } else row).count ≡ row.count
+pub missed_count : (row : MapRecord) (n : ℕ) (b : Bool) → b ≡ false → (if b then record row { count = n } else row).count ≡ row.count
 missed_count row n b e = ap (λ (t : Bool). (if t then record row { count = n } else row).count) e
 
 hit_count : (row : MapRecord) (n : ℕ) (b : Bool) → b ≡ true → (if b then record row { count = n } else row).count ≡ n
 hit_count row n b e = ap (λ (t : Bool). (if t then record row { count = n } else row).count) e
 
-or_false : (b : Bool) → (b || false) ≡ b
+pub or_false : (b : Bool) → (b || false) ≡ b
 or_false true = refl
 or_false false = refl
 
@@ -272,7 +272,7 @@ down_at (request.Copy name uid target) GivesBack = 1
 down_at (request.Expunge name uid) GivesBack = 1
 down_at q part = 0
 
-did_counts : (around : Around) (run : Run) (lists : Lists) (q : Request) (event : RunEvent) (part : EventPart) → IsSimple q → DidPart around run lists q event part → Counts (up_at q part) (down_at q part) event
+pub did_counts : (around : Around) (run : Run) (lists : Lists) (q : Request) (event : RunEvent) (part : EventPart) → IsSimple q → DidPart around run lists q event part → Counts (up_at q part) (down_at q part) event
 unfolding up_at down_at
 did_counts around run lists (request.Make name) event First s d = counts_as 0 0 event _ d (record { up_is = refl; down_is = refl; short = tt })
 did_counts around run lists (request.Make name) event Last s d = counts_as 0 0 event _ d (record { up_is = refl; down_is = refl; short = tt })
@@ -297,7 +297,7 @@ did_counts around run lists (request.Flag name uid flags) event First s d = coun
 did_counts around run lists (request.Flag name uid flags) event part s d = counts_as 0 0 event _ d (record { up_is = refl; down_is = refl; short = tt })
 did_counts around run lists q event part s d = absurd s
 
-nothing_counts : (event : RunEvent) → DidNothing event → Counts 0 0 event
+pub nothing_counts : (event : RunEvent) → DidNothing event → Counts 0 0 event
 nothing_counts event d = counts_as 0 0 event _ d (record { up_is = refl; down_is = refl; short = tt })
 
 -- ---- the events of one request

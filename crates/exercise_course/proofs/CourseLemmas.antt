@@ -85,12 +85,12 @@ pub record Turn : Type 0 where
 abbrev pub place_of : Turn → ℕ
 place_of turn = turn.place
 
--- each is done if it finds what it asks for, unless it is hindered
-abbrev pub AreTurns : ℕ → ℕ → Lists → List Turn → Type 0
-AreTurns lanes number old [] = Unit {0}
-AreTurns lanes number old (turn ∷ turns) =
-    (IsReady (made_request lanes number turn.place).1 old → (is_hindered turn.answer ≡ true) ⊎ ((is_ok turn.answer ≡ true) × IsDone (made_request lanes number turn.place).1 old turn.left))
-    × AreTurns lanes number turn.left turns
+-- each is done if it finds what it asks for, on lists of which something more holds, unless it is answered so that it stops
+abbrev pub AreTurns : (Lists → Type 0) → (Reply → Bool) → ℕ → ℕ → Lists → List Turn → Type 0
+AreTurns E stops lanes number old [] = Unit {0}
+AreTurns E stops lanes number old (turn ∷ turns) =
+    (IsReady (made_request lanes number turn.place).1 old → E old → (stops turn.answer ≡ true) ⊎ ((is_ok turn.answer ≡ true) × IsDone (made_request lanes number turn.place).1 old turn.left × E turn.left))
+    × AreTurns E stops lanes number turn.left turns
 
 abbrev pub left_of : Lists → List Turn → Lists
 left_of old [] = old
@@ -101,20 +101,21 @@ pub record IsWhole (lanes number : ℕ) (old : Lists) (turns : List Turn) : Type
   pub ok : AllByRecursion (λ turn. is_ok turn.answer ≡ true) turns
   pub weighs : (v : ℕ → ℕ) → weight_of v (left_of old turns) + sum_by (takes v lanes number) (map place_of turns) ≡ weight_of v old + sum_by (adds v lanes number) (map place_of turns)
 
-pub course_is_whole : (lanes number count : ℕ) → 1 ≤ lanes → lanes ≤ 64 → count ≤ 100000 → (turns : List Turn) (old : Lists) (done : ℕ → ℕ)
+pub course_is_whole : (E : Lists → Type 0) (stops : Reply → Bool) (lanes number count : ℕ) → 1 ≤ lanes → lanes ≤ 64 → count ≤ 100000 → (turns : List Turn) (old : Lists) (done : ℕ → ℕ)
     → AllByRecursion (λ turn. turn.place < count) turns
     → AreLeft count (λ i. i % lanes + 1) (λ i. i / lanes) done (map place_of turns)
     → RiseInLanes (λ i. i % lanes + 1) (map place_of turns)
     → AreLanes lanes number done old
+    → E old
     → length old + sum_by (makes lanes) (map place_of turns) ≤ 1024
-    → AllByRecursion (λ turn. is_hindered turn.answer ≡ false) turns
-    → AreTurns lanes number old turns
+    → AllByRecursion (λ turn. stops turn.answer ≡ false) turns
+    → AreTurns E stops lanes number old turns
     → IsWhole lanes number old turns
-course_is_whole lanes number count one most few [] old done within left rise are room free steps = record { ok = tt; weighs = λ v. refl }
-course_is_whole lanes number count one most few (turn ∷ turns) old done within left rise are room free steps =
-    by_answer (steps.0 ready) (λ d. let a = advance lanes number done i old turn.left one most are now d in
+course_is_whole E stops lanes number count one most few [] old done within left rise are more room free steps = record { ok = tt; weighs = λ v. refl }
+course_is_whole E stops lanes number count one most few (turn ∷ turns) old done within left rise are more room free steps =
+    by_answer (steps.0 ready more) (λ d now_more. let a = advance lanes number done i old turn.left one most are now d in
     let l = a.1.many in
-    (a.1, course_is_whole lanes number count one most few turns turn.left (one_more done (i % lanes + 1)) within.1 (left_behind count lane_at round_at done i (map place_of turns) (lanes_in_turn lanes one) left now) rise.1 a.0 (omega (arith, room, l, made)) free.1 steps.1))
+    (a.1, course_is_whole E stops lanes number count one most few turns turn.left (one_more done (i % lanes + 1)) within.1 (left_behind count lane_at round_at done i (map place_of turns) (lanes_in_turn lanes one) left now) rise.1 a.0 now_more (omega (arith, room, l, made)) free.1 steps.1))
   where
     i : ℕ
     i = turn.place
@@ -140,11 +141,11 @@ course_is_whole lanes number count one most few (turn ∷ turns) old done within
         (λ none. let m : round_makes (turn.place / lanes) ≡ 1 = ap round_makes none in omega (arith, m, made, room))
         (subst (λ (n : ℕ). IsLane (sizes_of lanes number (turn.place % lanes + 1)) (lane_name (turn.place % lanes + 1)) n old) (sym now) (are (turn.place % lanes + 1) (omega arith) (omega (arith, rest))))
 
-    by_answer : (is_hindered turn.answer ≡ true) ⊎ ((is_ok turn.answer ≡ true) × IsDone (made_request lanes number turn.place).1 old turn.left)
-        → (IsDone (made_request lanes number turn.place).1 old turn.left → GoesOn (sizes_of lanes number (turn.place % lanes + 1)) (lane_name (turn.place % lanes + 1)) (turn.place / lanes) old turn.left × IsWhole lanes number turn.left turns) → IsWhole lanes number old (turn ∷ turns)
+    by_answer : (stops turn.answer ≡ true) ⊎ ((is_ok turn.answer ≡ true) × IsDone (made_request lanes number turn.place).1 old turn.left × E turn.left)
+        → (IsDone (made_request lanes number turn.place).1 old turn.left → E turn.left → GoesOn (sizes_of lanes number (turn.place % lanes + 1)) (lane_name (turn.place % lanes + 1)) (turn.place / lanes) old turn.left × IsWhole lanes number turn.left turns) → IsWhole lanes number old (turn ∷ turns)
     by_answer (inl h) next = absurd (let k : true ≡ false = sym h ∙ free.0 in cc k)
     by_answer (inr h) next =
-        let n = next h.1 in
+        let n = next h.1 h.2 in
         record {
           ok = (h.0, n.1.ok);
           weighs = λ v.
@@ -303,16 +304,19 @@ within_turns : (count : ℕ) (turns : List Turn) → AllByRecursion (λ i. i < c
 within_turns count [] w = tt
 within_turns count (turn ∷ turns) w = (w.0, within_turns count turns w.1)
 
-pub all_are_whole : (lanes number count : ℕ) → 1 ≤ lanes → lanes ≤ 64 → count ≤ 100000 → (turns : List Turn) (start : Lists)
-    → AreAllPlaces count (map place_of turns) → RiseInLanes (λ i. i % lanes + 1) (map place_of turns) → AreFree lanes start → length start + lanes ≤ 1024
-    → AllByRecursion (λ turn. is_hindered turn.answer ≡ false) turns → AreTurns lanes number start turns → IsWhole lanes number start turns
-all_are_whole lanes number count one most few turns start all rise free room unhindered steps =
+pub all_are_whole : (E : Lists → Type 0) (stops : Reply → Bool) (lanes number count : ℕ) → 1 ≤ lanes → lanes ≤ 64 → count ≤ 100000 → (turns : List Turn) (start : Lists)
+    → AreAllPlaces count (map place_of turns) → RiseInLanes (λ i. i % lanes + 1) (map place_of turns) → AreFree lanes start → E start → length start + lanes ≤ 1024
+    → AllByRecursion (λ turn. stops turn.answer ≡ false) turns → AreTurns E stops lanes number start turns → IsWhole lanes number start turns
+all_are_whole E stops lanes number count one most few turns start all rise free more room unhindered steps =
     let sum = sum_of_all (makes lanes) count (map place_of turns) all in
     let made = (makes_few lanes count one).1 in
-    course_is_whole lanes number count one most few turns start (λ lane. 0) (within_turns count turns all.within) (all_left count lanes (map place_of turns) all) rise
-    (λ lane some low. inl (refl, free lane some low)) (omega (arith, sum, made, room)) unhindered steps
+    course_is_whole E stops lanes number count one most few turns start (λ lane. 0) (within_turns count turns all.within) (all_left count lanes (map place_of turns) all) rise
+    (λ lane some low. inl (refl, free lane some low)) more (omega (arith, sum, made, room)) unhindered steps
 
 -- ---- in order
+
+abbrev pub anything : Lists → Type 0
+anything lists = Unit {0}
 
 times_push : (j n : ℕ) (xs : List ℕ) → times j (xs ++ n ∷ []) ≡ times j xs + (cond (n == j) 1 0)
 times_push j n xs = sum_by_push (λ (x : ℕ). cond (x == j) 1 0) xs n
@@ -384,10 +388,10 @@ unfolding turns_in_order
 unhindered lanes number old [] = tt
 unhindered lanes number old (i ∷ xs) = (refl, unhindered lanes number (lists_done (made_request lanes number i).1 old) xs)
 
-turns_are : (lanes number : ℕ) (old : Lists) (xs : List ℕ) → AreTurns lanes number old (turns_in_order lanes number old xs)
+turns_are : (lanes number : ℕ) (old : Lists) (xs : List ℕ) → AreTurns anything is_hindered lanes number old (turns_in_order lanes number old xs)
 unfolding turns_in_order
 turns_are lanes number old [] = tt
-turns_are lanes number old (i ∷ xs) = (λ ready. inr (refl, done_is (made_request lanes number i).1 old ready), turns_are lanes number (lists_done (made_request lanes number i).1 old) xs)
+turns_are lanes number old (i ∷ xs) = (λ ready more. inr (refl, done_is (made_request lanes number i).1 old ready, tt), turns_are lanes number (lists_done (made_request lanes number i).1 old) xs)
 
 left_is : (lanes number : ℕ) (old : Lists) (xs : List ℕ) → left_of old (turns_in_order lanes number old xs) ≡ fold (λ now asked. lists_done asked.1 now) old (map (made_request lanes number) xs)
 unfolding turns_in_order
@@ -403,7 +407,7 @@ weighs_in_order v lanes number count one most few turns start all free room whol
     let places = places_are lanes number start (below count) in
     let own_all : AreAllPlaces count (map place_of own) = subst (AreAllPlaces count) (sym places) (record { once = once_in count; within = all_below count count (omega arith) }) in
     let own_rise : RiseInLanes (λ i. i % lanes + 1) (map place_of own) = subst (RiseInLanes (λ i. i % lanes + 1)) (sym places) (rise_below (λ i. i % lanes + 1) count) in
-    let own_whole = all_are_whole lanes number count one most few own start own_all own_rise free room (unhindered lanes number start (below count)) (turns_are lanes number start (below count)) in
+    let own_whole = all_are_whole anything is_hindered lanes number count one most few own start own_all own_rise free tt room (unhindered lanes number start (below count)) (turns_are lanes number start (below count)) in
     let w = whole.weighs v in
     let o = own_whole.weighs v in
     let a = sum_of_all (adds v lanes number) count (map place_of turns) all in

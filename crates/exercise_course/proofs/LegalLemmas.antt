@@ -1,8 +1,8 @@
 -- A legal journal of a made script is a course of its requests.
-use Rattle.std.specs.Prelude.{◌≡◌, ◌≤◌, ◌<◌, ◌+◌, ◌/◌, ◌%◌, ◌==◌, ℕ, zero, suc, Bool, true, false, cond, if◌then◌else◌, List, [], ◌∷◌, ◌++◌, All, AllPairs, filter, length, map, slice_get, slice_index_or, sum_by, Some, refl}
+use Rattle.std.specs.Prelude.{◌≡◌, ◌⊎◌, ◌≤◌, ◌<◌, ◌+◌, ◌/◌, ◌%◌, ◌==◌, ℕ, zero, suc, Bool, true, false, cond, if◌then◌else◌, List, [], ◌∷◌, ◌++◌, All, AllPairs, filter, length, map, slice_get, slice_index_or, sum_by, Some, refl}
 use Rattle.std.specs.List.{AllByRecursion}
 use Rattle.std.specs.Option.{option_map}
-use Rattle.std.proofs.Common.{sym, ◌∙◌, ap, arith, subst}
+use Rattle.std.proofs.Common.{sym, ◌∙◌, ap, arith, subst, inl, inr}
 use Rattle.std.proofs.lemmas.Bool.{eq-eqb, eqb-true, eqb-false}
 use Rattle.std.proofs.lemmas.List.{length-map, length-append}
 use Rattle.std.proofs.lemmas.List.Elements.{All-head, All-tail}
@@ -22,10 +22,10 @@ use Rattle.list_machine.specs.Run.{Run, before}
 use Rattle.list_machine.specs.Machine.{Answers}
 use Rattle.journal.specs.Journal.{AreReplied, AreSteps, HasAllSteps, HasReply, IsLegal, IsReplyOf, IsStep, JournalStep, Requests, left_by, steps_of}
 use Rattle.script_text.specs.MadeScript.{below, made_request, made_round, made_turn}
-use Rattle.exercise_course.specs.Hindered.{BeginsFree, is_hindered, is_ok}
+use Rattle.exercise_course.specs.Hindered.{BeginsFree, is_hindered, is_ok, is_stopped}
 use Rattle.exercise_course.specs.InOrder.{lists_in_order, message_total, octet_total}
 use Rattle.exercise_course.proofs.BoxLemmas.{weight_in, weight_of}
-use Rattle.exercise_course.proofs.CourseLemmas.{AreAllPlaces, AreTurns, IsWhole, Turn, all_are_whole, left_of, place_of, weighs_in_order}
+use Rattle.exercise_course.proofs.CourseLemmas.{anything, AreAllPlaces, AreTurns, IsWhole, Turn, all_are_whole, left_of, place_of, weighs_in_order}
 use Rattle.exercise_course.proofs.PlaceLemmas.{RiseInLanes, times}
 use Rattle.exercise_course.proofs.ReadyLemmas.{ready_answers}
 
@@ -69,7 +69,7 @@ asked_is lanes count number i lt = slice_get-map (made_request lanes number) (be
 -- ---- what its requests have of steps
 
 -- it makes one step, and is no fetch
-abbrev IsPlain : Request → Type 0
+abbrev pub IsPlain : Request → Type 0
 IsPlain (request.Make name) = Unit {0}
 IsPlain (request.Deliver name time octets) = Unit {0}
 IsPlain (request.Copy name uid target) = Unit {0}
@@ -83,11 +83,11 @@ turn_plain number i lane round (suc zero) = tt
 turn_plain number i lane round (suc (suc zero)) = tt
 turn_plain number i lane round (suc (suc (suc turn))) = tt
 
-round_plain : (number i lane s : ℕ) → IsPlain (made_round number i lane s)
+pub round_plain : (number i lane s : ℕ) → IsPlain (made_round number i lane s)
 round_plain number i lane zero = tt
 round_plain number i lane (suc s) = turn_plain number i lane (s / 4) (s % 4)
 
-one_step : (q : Request) (steps : List Reply) (last : Reply) → IsPlain q → HasAllSteps q steps last → steps ≡ last ∷ []
+pub one_step : (q : Request) (steps : List Reply) (last : Reply) → IsPlain q → HasAllSteps q steps last → steps ≡ last ∷ []
 one_step (request.Make name) steps last p k = k
 one_step (request.Deliver name time octets) steps last p k = k
 one_step (request.Copy name uid target) steps last p k = k
@@ -95,7 +95,7 @@ one_step (request.Expunge name uid) steps last p k = k
 one_step (request.Flag name uid flags) steps last p k = k
 one_step q steps last p k = absurd p
 
-undamaged : (q : Request) (steps : List Reply) (why : Refusal) → IsPlain q → IsReplyOf q steps (reply.Refused why) → is_hindered (reply.Refused why) ≡ false → steps ≡ reply.Refused why ∷ []
+pub undamaged : (q : Request) (steps : List Reply) (why : Refusal) → IsPlain q → IsReplyOf q steps (reply.Refused why) → is_stopped (reply.Refused why) ≡ false → steps ≡ reply.Refused why ∷ []
 undamaged q steps refusal.NoMemory p k free = absurd (let e : true ≡ false = free in cc e)
 undamaged q steps refusal.ReadFault p k free = absurd (let e : true ≡ false = free in cc e)
 undamaged q steps refusal.Stopped p k free = absurd (let e : true ≡ false = free in cc e)
@@ -103,7 +103,7 @@ undamaged (request.Fetch name uid) steps (refusal.Damaged file offset) p k free 
 undamaged q steps (refusal.Damaged file offset) p k free = absurd k
 undamaged q steps why p k free = one_step q steps (reply.Refused why) p k
 
-reply_step : (q : Request) (steps : List Reply) (given : Reply) → IsPlain q → IsReplyOf q steps given → is_hindered given ≡ false → steps ≡ given ∷ []
+pub reply_step : (q : Request) (steps : List Reply) (given : Reply) → IsPlain q → IsReplyOf q steps given → is_stopped given ≡ false → steps ≡ given ∷ []
 reply_step q steps (reply.Refused why) p k free = undamaged q steps why p k free
 reply_step q steps given p k free = one_step q steps given p k
 
@@ -112,10 +112,10 @@ reply_step q steps given p k free = one_step q steps given p k
 abbrev pub turn_of : JournalStep → Turn
 turn_of step = record { place = step.request; answer = step.answer; left = step.left }
 
-abbrev request_of : JournalStep → ℕ
+abbrev pub request_of : JournalStep → ℕ
 request_of step = step.request
 
-places_are : (journal : List JournalStep) → map place_of (map turn_of journal) ≡ map request_of journal
+pub places_are : (journal : List JournalStep) → map place_of (map turn_of journal) ≡ map request_of journal
 places_are [] = refl
 places_are (step ∷ journal) = ap (λ (t : List ℕ). step.request ∷ t) (places_are journal)
 
@@ -123,33 +123,37 @@ pub left_are : (old : Lists) (journal : List JournalStep) → left_of old (map t
 left_are old [] = refl
 left_are old (step ∷ journal) = left_are step.left journal
 
-step_place : (lanes count number : ℕ) (run : Run) (old : Lists) (step : JournalStep) → IsStep run (script_of lanes count number) old step → step.request < count
+pub step_place : (lanes count number : ℕ) (run : Run) (old : Lists) (step : JournalStep) → IsStep run (script_of lanes count number) old step → step.request < count
 step_place lanes count number run old step s =
     let lt = slice_get_within (script_of lanes count number) step.request s.asked s.request_is in
     let l = script_length lanes count number in
     omega (arith, lt, l)
 
-step_asked : (lanes count number : ℕ) (run : Run) (old : Lists) (step : JournalStep) → (s : IsStep run (script_of lanes count number) old step) → s.asked ≡ made_request lanes number step.request
+pub step_asked : (lanes count number : ℕ) (run : Run) (old : Lists) (step : JournalStep) → (s : IsStep run (script_of lanes count number) old step) → s.asked ≡ made_request lanes number step.request
 step_asked lanes count number run old step s =
     let e : Some s.asked ≡ Some (made_request lanes number step.request) = sym s.request_is ∙ asked_is lanes count number step.request (step_place lanes count number run old step s) in
     cc e
 
-turns_are : (lanes count number : ℕ) (run : Run) (old : Lists) (journal : List JournalStep) → AreSteps run (script_of lanes count number) old journal → AreTurns lanes number old (map turn_of journal)
+turns_are : (lanes count number : ℕ) (run : Run) (old : Lists) (journal : List JournalStep) → AreSteps run (script_of lanes count number) old journal → AreTurns anything is_hindered lanes number old (map turn_of journal)
 turns_are lanes count number run old [] steps = tt
 turns_are lanes count number run old (step ∷ journal) steps =
     let s = steps.0 in (
-      λ ready. ready_answers (before step.event run) old (made_request lanes number step.request).1 s.event step.answer step.left ready
-          (subst (λ (asked : ℕ × Request). Answers (before step.event run) old asked.1 s.event step.answer step.left) (step_asked lanes count number run old step s) s.answers),
+      λ ready more. with_more (ready_answers (before step.event run) old (made_request lanes number step.request).1 s.event step.answer step.left ready
+          (subst (λ (asked : ℕ × Request). Answers (before step.event run) old asked.1 s.event step.answer step.left) (step_asked lanes count number run old step s) s.answers)),
       turns_are lanes count number run step.left journal steps.1,
     )
+  where
+    with_more : {A B C : Type 0} → A ⊎ (B × C) → A ⊎ (B × C × Unit {0})
+    with_more (inl a) = inl a
+    with_more (inr b) = inr (b.0, b.1, tt)
 
-within : (lanes count number : ℕ) (run : Run) (old : Lists) (journal : List JournalStep) → AreSteps run (script_of lanes count number) old journal → AllByRecursion (λ i. i < count) (map request_of journal)
+pub within : (lanes count number : ℕ) (run : Run) (old : Lists) (journal : List JournalStep) → AreSteps run (script_of lanes count number) old journal → AllByRecursion (λ i. i < count) (map request_of journal)
 within lanes count number run old [] steps = tt
 within lanes count number run old (step ∷ journal) steps = (step_place lanes count number run old step steps.0, within lanes count number run step.left journal steps.1)
 
 -- ---- lanes
 
-abbrev InOrder : JournalStep → JournalStep → Type 0
+abbrev pub InOrder : JournalStep → JournalStep → Type 0
 InOrder a b = a.lane ≡ b.lane → a.request ≤ b.request
 
 own_lane : (lanes count number : ℕ) (run : Run) (old : Lists) (step : JournalStep) → IsStep run (script_of lanes count number) old step → step.lane ≡ step.request % lanes + 1
@@ -163,7 +167,7 @@ later lanes count number run old first (step ∷ journal) is steps a = (
   later lanes count number run step.left first journal is steps.1 (All-tail (InOrder first) step journal a),
 )
 
-rises : (lanes count number : ℕ) (run : Run) (old : Lists) (journal : List JournalStep) → AreSteps run (script_of lanes count number) old journal → AllPairs InOrder journal → RiseInLanes (λ i. i % lanes + 1) (map request_of journal)
+pub rises : (lanes count number : ℕ) (run : Run) (old : Lists) (journal : List JournalStep) → AreSteps run (script_of lanes count number) old journal → AllPairs InOrder journal → RiseInLanes (λ i. i % lanes + 1) (map request_of journal)
 rises lanes count number run old [] steps a = tt
 rises lanes count number run old (step ∷ journal) steps a = (
   later lanes count number run step.left step journal (own_lane lanes count number run old step steps.0) steps.1 (pairs_head InOrder step journal a),
@@ -172,25 +176,25 @@ rises lanes count number run old (step ∷ journal) steps a = (
 
 -- ---- the steps of a request
 
-abbrev answer_of : JournalStep → Reply
+abbrev pub answer_of : JournalStep → Reply
 answer_of step = step.answer
 
-abbrev is_of : ℕ → JournalStep → Bool
+abbrev pub is_of : ℕ → JournalStep → Bool
 is_of j step = step.request == j
 
-times_are : (j : ℕ) (journal : List JournalStep) → times j (map request_of journal) ≡ length (steps_of j journal)
+pub times_are : (j : ℕ) (journal : List JournalStep) → times j (map request_of journal) ≡ length (steps_of j journal)
 times_are j journal = fold-map (λ (a x : ℕ). a + cond (x == j) 1 0) request_of 0 journal ∙ sym (length-filter (is_of j) journal)
 
-one_answer : (P : Reply → Type 0) (steps : List JournalStep) (given : Reply) → map answer_of steps ≡ given ∷ [] → P given → AllByRecursion (λ step. P step.answer) steps
+pub one_answer : (P : Reply → Type 0) (steps : List JournalStep) (given : Reply) → map answer_of steps ≡ given ∷ [] → P given → AllByRecursion (λ step. P step.answer) steps
 one_answer P [] given e h = tt
 one_answer P (step ∷ []) given e h = let k : step.answer ≡ given = cc e in (subst P (sym k) h, tt)
 one_answer P (step ∷ more ∷ rest) given e h = absurd (cc e)
 
-answer_holds : (P : Reply → Type 0) (steps : List JournalStep) (given : Reply) → map answer_of steps ≡ given ∷ [] → AllByRecursion (λ step. P step.answer) steps → P given
+pub answer_holds : (P : Reply → Type 0) (steps : List JournalStep) (given : Reply) → map answer_of steps ≡ given ∷ [] → AllByRecursion (λ step. P step.answer) steps → P given
 answer_holds P [] given e a = absurd (cc e)
 answer_holds P (step ∷ rest) given e a = let k : step.answer ≡ given = cc e in subst P k a.0
 
-filtered : (P : JournalStep → Type 0) (p : JournalStep → Bool) (journal : List JournalStep) → AllByRecursion P journal → AllByRecursion P (filter p journal)
+pub filtered : (P : JournalStep → Type 0) (p : JournalStep → Bool) (journal : List JournalStep) → AllByRecursion P journal → AllByRecursion P (filter p journal)
 filtered P p [] a = tt
 filtered P p (step ∷ journal) a = by_test (p step) (filtered P p journal a.1)
   where
@@ -199,7 +203,7 @@ filtered P p (step ∷ journal) a = by_test (p step) (filtered P p journal a.1)
     by_test false next = next
 
 -- what holds of the steps of each request holds of all
-of_each : (P : JournalStep → Type 0) (count : ℕ) (journal : List JournalStep) → AllByRecursion (λ i. i < count) (map request_of journal) → ((j : ℕ) → j < count → AllByRecursion P (filter (is_of j) journal)) → AllByRecursion P journal
+pub of_each : (P : JournalStep → Type 0) (count : ℕ) (journal : List JournalStep) → AllByRecursion (λ i. i < count) (map request_of journal) → ((j : ℕ) → j < count → AllByRecursion P (filter (is_of j) journal)) → AllByRecursion P journal
 of_each P count [] w each = tt
 of_each P count (step ∷ journal) w each =
     let own : AllByRecursion P (step ∷ filter (is_of step.request) journal) =
@@ -216,8 +220,8 @@ of_each P count (step ∷ journal) w each =
 abbrev pub OneStepEach : ℕ → List Reply → List JournalStep → Type 0
 OneStepEach count given journal = (i : ℕ) → i < count → (one : Reply) × (slice_get given i ≡ Some one) × (map answer_of (steps_of i journal) ≡ one ∷ [])
 
-pub one_each : (lanes count number : ℕ) (journal : List JournalStep) (given : List Reply) → length given ≡ count → All (λ one. is_hindered one ≡ false) given → AreReplied (script_of lanes count number) journal (map Some given) → OneStepEach count given journal
-one_each lanes count number journal given many free replied i lt =
+pub plain_each : (lanes count number : ℕ) (journal : List JournalStep) (given : List Reply) → length given ≡ count → All (λ one. is_stopped one ≡ false) given → AreReplied (script_of lanes count number) journal (map Some given) → OneStepEach count given journal
+plain_each lanes count number journal given many free replied i lt =
     let lt_given : i < length given = omega (arith, lt, many) in
     let one = slice_index_or given i reply.Done in
     let has : slice_get given i ≡ Some one = slice_get-get_or given i reply.Done lt_given in
@@ -225,7 +229,14 @@ one_each lanes count number journal given many free replied i lt =
     let of = replied i (made_request lanes number i) one (asked_is lanes count number i lt) replies in
     (one, has, reply_step (made_request lanes number i).1 (map answer_of (steps_of i journal)) one (round_plain number i (i % lanes + 1) (i / lanes)) of (free i reply.Done lt_given))
 
-each_of_given : (P : Reply → Type 0) (given : List Reply) (i : ℕ) (one : Reply) → All P given → slice_get given i ≡ Some one → P one
+pub one_each : (lanes count number : ℕ) (journal : List JournalStep) (given : List Reply) → length given ≡ count → All (λ one. is_hindered one ≡ false) given → AreReplied (script_of lanes count number) journal (map Some given) → OneStepEach count given journal
+one_each lanes count number journal given many free replied = plain_each lanes count number journal given many (λ k d lt. unstopped _ (free k d lt)) replied
+  where
+    unstopped : (one : Reply) → is_hindered one ≡ false → is_stopped one ≡ false
+    unstopped (reply.Refused (refusal.TooManyCopies most)) e = refl
+    unstopped one e = e
+
+pub each_of_given : (P : Reply → Type 0) (given : List Reply) (i : ℕ) (one : Reply) → All P given → slice_get given i ≡ Some one → P one
 each_of_given P given i one a e =
     let lt = slice_get_within given i one e in
     let k : Some (slice_index_or given i one) ≡ Some one = sym (slice_get-get_or given i one lt) ∙ e in
@@ -254,14 +265,14 @@ legal_course lanes count number start run journal given old new one most few beg
     record {
       all = all;
       each = each;
-      whole = all_are_whole lanes number count one most few (map turn_of journal) start all rise begins.free begins.room (as_turns journal unhindered) (turns_are lanes count number run start journal legal.steps);
+      whole = all_are_whole anything is_hindered lanes number count one most few (map turn_of journal) start all rise begins.free tt begins.room (as_turns journal unhindered) (turns_are lanes count number run start journal legal.steps);
     }
   where
     as_turns : (journal : List JournalStep) → AllByRecursion (λ step. is_hindered step.answer ≡ false) journal → AllByRecursion (λ (turn : Turn). is_hindered turn.answer ≡ false) (map turn_of journal)
     as_turns [] a = tt
     as_turns (step ∷ journal) a = (a.0, as_turns journal a.1)
 
-as_steps : (journal : List JournalStep) → AllByRecursion (λ (turn : Turn). is_ok turn.answer ≡ true) (map turn_of journal) → AllByRecursion (λ step. is_ok step.answer ≡ true) journal
+pub as_steps : (journal : List JournalStep) → AllByRecursion (λ (turn : Turn). is_ok turn.answer ≡ true) (map turn_of journal) → AllByRecursion (λ step. is_ok step.answer ≡ true) journal
 as_steps [] a = tt
 as_steps (step ∷ journal) a = (a.0, as_steps journal a.1)
 

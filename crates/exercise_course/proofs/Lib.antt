@@ -1,8 +1,12 @@
 pub mod BalanceLemmas
 pub mod BoxLemmas
+pub mod CopiesLemmas
 pub mod CountingLemmas
 pub mod CourseLemmas
 pub mod DeliveredLemmas
+pub mod FreshLemmas
+pub mod GrownLemmas
+pub mod HalfLemmas
 pub mod LegalLemmas
 pub mod PlaceLemmas
 pub mod ReadyLemmas

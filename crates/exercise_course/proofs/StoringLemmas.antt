@@ -135,7 +135,7 @@ IsSimple other = ⊥
 
 -- ---- a delivery
 
-stored_at : EventPart → Option Refusal → ℕ
+unfoldable pub stored_at : EventPart → Option Refusal → ℕ
 stored_at StoresRecord None = 1
 stored_at part refused = 0
 
@@ -147,7 +147,7 @@ stored_by GivesBack refused = 1
 stored_by part refused = 0
 
 -- it looks for no instance
-LooksForNone : EventPart → Type 0
+unfoldable pub LooksForNone : EventPart → Type 0
 LooksForNone Compares = ⊥
 LooksForNone PlacesInstance = ⊥
 LooksForNone part = Unit {0}
@@ -214,7 +214,7 @@ stored_last None = 0
 stored_last (Some e) = stored_by e.part e.refused
 
 -- A part comes behind: whether the record is stored with it, or was before; and it looks for no instance.
-GoesBehind : ℕ → EventPart → Type 0
+unfoldable pub GoesBehind : ℕ → EventPart → Type 0
 GoesBehind before part = ((refused : Option Refusal) → before + stored_at part refused ≡ stored_by part refused) × LooksForNone part
 
 some_is : {X : Type 0} → (a b : X) → Some a ≡ Some b → a ≡ b
@@ -250,7 +250,7 @@ addition_behind Last p refusal.Stopped is = absurd (cc is)
 addition_behind Last p why is = subst (GoesBehind 1) (some_is GivesBack p is) (λ refused. refl, tt)
 addition_behind part p why is = absurd (cc is)
 
-delivery_next : (around : Around) (run : Run) (name : List ℕ) (time : ℕ) (octets : List ℕ) (last : Option RunEvent) (p : EventPart) → around.parts ≡ 0 → part_after around run (request.Deliver name time octets) last ≡ Some p → GoesBehind (stored_last last) p
+pub delivery_next : (around : Around) (run : Run) (name : List ℕ) (time : ℕ) (octets : List ℕ) (last : Option RunEvent) (p : EventPart) → around.parts ≡ 0 → part_after around run (request.Deliver name time octets) last ≡ Some p → GoesBehind (stored_last last) p
 unfolding part_after stored_last GoesBehind stored_at stored_by LooksForNone
 delivery_next around run name time octets None p none is = subst (GoesBehind 0) (some_is First p is) (λ refused. refl, tt)
 delivery_next around run name time octets (Some e) p none is = by_refused e.refused is

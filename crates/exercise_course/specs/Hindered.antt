@@ -12,18 +12,22 @@ pub record BeginsFree (lanes : ℕ) (start : Lists) : Type 0 where
   pub free : (lane : ℕ) → 1 ≤ lane → lane ≤ lanes → mailbox_named (lane_name lane) start ≡ None
   pub room : length start + lanes ≤ 1024
 
--- A count of copies or a number has run out: NO 13 of a message that has as many copies as are counted, and NO 16.
+-- The store is full, since a number has run out: NO 16.
 abbrev pub is_full : Reply → Bool
-is_full (reply.Refused (refusal.TooManyCopies most)) = true
 is_full (reply.Refused (refusal.StoreFull most)) = true
 is_full other = false
 
--- So has one, or there was no memory (NO 17), or a call of the disk failed (NO 18 and NO 19).
+-- So it is, or there was no memory (NO 17), or a call of the disk failed (NO 18 and NO 19).
+abbrev pub is_stopped : Reply → Bool
+is_stopped (reply.Refused refusal.NoMemory) = true
+is_stopped (reply.Refused refusal.ReadFault) = true
+is_stopped (reply.Refused refusal.Stopped) = true
+is_stopped other = is_full other
+
+-- So it is, or a message has as many copies as are counted (NO 13).
 abbrev pub is_hindered : Reply → Bool
-is_hindered (reply.Refused refusal.NoMemory) = true
-is_hindered (reply.Refused refusal.ReadFault) = true
-is_hindered (reply.Refused refusal.Stopped) = true
-is_hindered other = is_full other
+is_hindered (reply.Refused (refusal.TooManyCopies most)) = true
+is_hindered other = is_stopped other
 
 -- it isn't NO
 abbrev pub is_ok : Reply → Bool

@@ -1,5 +1,5 @@
 // Laws of exercises.
-ghost use Rattle.std.specs.Prelude.{◌≡◌, ◌<◌, ◌≤◌, ◌+◌, ℕ, All, AllPairs, List, Some, false, length, map, sum_by, true};
+ghost use Rattle.std.specs.Prelude.{[], ◌≡◌, ◌<◌, ◌≤◌, ◌+◌, ℕ, All, AllPairs, List, Some, false, length, map, sum_by, true};
 ghost use Rattle.disk_model.specs.Disk.{Faults};
 ghost use Rattle.journal.specs.Journal.{Broken, IsLegal, JournalStep, left_by};
 ghost use Rattle.journal.specs.Makes.{IsServed};
@@ -9,7 +9,7 @@ ghost use Rattle.mdbox_base.specs.declared.replies.Reply.{Reply};
 ghost use Rattle.model_lists.specs.Lists.{Lists};
 ghost use Rattle.model_meaning.specs.MapMeaning.{MapMeaning, named_instances};
 ghost use Rattle.script_text.specs.MadeScript.{made_script};
-ghost use Rattle.exercise_course.specs.Hindered.{BeginsFree, is_hindered, is_ok};
+ghost use Rattle.exercise_course.specs.Hindered.{BeginsFree, is_hindered, is_ok, is_stopped};
 ghost use Rattle.exercise_course.specs.InOrder.{deliveries_in, lists_in_order, message_total, octet_total};
 
 /// A made script is done from lists that have none of its mailboxes, and room for them, and no reply is NO 13 or NO 16 to 19: then each
@@ -22,6 +22,14 @@ pub fn exercises_are_done()
         → IsLegal start (made_script lanes count number).requests run journal (map Some given) old new → message_total (left_by start journal) ≡ message_total (lists_in_order (made_script lanes count number).requests start) }
     ensures octets { (lanes count number : ℕ) (start : Lists) (run : Run) (journal : List JournalStep) (given : List Reply) (old new : Faults) → 1 ≤ lanes → lanes ≤ 64 → count ≤ 100000 → BeginsFree lanes start → length given ≡ count → All (λ one. is_hindered one ≡ false) given
         → IsLegal start (made_script lanes count number).requests run journal (map Some given) old new → octet_total (left_by start journal) ≡ octet_total (lists_in_order (made_script lanes count number).requests start) }
+{}
+
+/// A made script is served from lists that have none of its mailboxes, and room for them, by a run whose map has rising map uids, up to the
+/// highest, as it begins. No message of it has as many copies as are counted (NO 13): so if no reply is NO 16 to 19, each is OK.
+pub fn exercises_copy_little()
+    ensures { (lanes count number : ℕ) (start : Lists) (run : Run) (journal : List JournalStep) (broken : Broken) (given : List Reply) (old new : Faults) (first m : MapMeaning) (drawn : Highest) (calls : ℕ) → AllPairs (λ a b. a.uid < b.uid) first.records → All (λ row. row.uid ≤ first.highest.map) first.records
+        → 1 ≤ lanes → lanes ≤ 64 → count ≤ 100000 → BeginsFree lanes start → length given ≡ count → All (λ one. is_stopped one ≡ false) given → IsServed start (made_script lanes count number).requests run journal broken (map Some given) old new first m drawn calls
+        → All (λ one. is_ok one ≡ true) given }
 {}
 
 /// A made script is served from lists as `exercises_are_done` asks, by a run whose map has rising map uids, up to the highest, as it begins:
@@ -39,4 +47,11 @@ pub fn exercises_add_records()
         → IsServed start (made_script lanes count number).requests run journal broken (map Some given) old new first m drawn calls → length m.records ≡ length first.records + deliveries_in (made_script lanes count number).requests }
     ensures instances { (lanes count number : ℕ) (start : Lists) (run : Run) (journal : List JournalStep) (broken : Broken) (given : List Reply) (old new : Faults) (first m : MapMeaning) (drawn : Highest) (calls : ℕ) → length given ≡ count → All (λ one. is_ok one ≡ true) given
         → IsServed start (made_script lanes count number).requests run journal broken (map Some given) old new first m drawn calls → named_instances m ≡ named_instances first }
+{}
+
+/// What the definitions give of two small exercises, from lists without mailboxes: how many messages and octets, and how many deliveries.
+/// Of six requests of one lane, two messages are left: the copy of an empty one, and one of four octets.
+pub fn small_exercises()
+    ensures six { (message_total (lists_in_order (made_script 1 6 999).requests []) ≡ 2) × (octet_total (lists_in_order (made_script 1 6 999).requests []) ≡ 4) × (deliveries_in (made_script 1 6 999).requests ≡ 2) }
+    ensures one { (message_total (lists_in_order (made_script 64 1 0).requests []) ≡ 0) × (octet_total (lists_in_order (made_script 64 1 0).requests []) ≡ 0) × (deliveries_in (made_script 64 1 0).requests ≡ 0) }
 {}

@@ -2,6 +2,9 @@
 //! the lanes go on, and leave what the script leaves in its own order.
 #![tactic(auto)]
 
-pub use laws::{exercises_add_records, exercises_are_done, exercises_keep_counts};
+pub use laws::{
+    exercises_add_records, exercises_are_done, exercises_copy_little, exercises_keep_counts,
+    small_exercises,
+};
 
 mod laws;

@@ -4,12 +4,13 @@ use Rattle.std.specs.List.{list_any}
 use Rattle.std.proofs.Common.{refl, sym, ◌∙◌, ap, arith, inl, inr, subst}
 use Rattle.std.proofs.lemmas.List.Elements.{All-cons, All-head, All-nil, All-tail, All-weaker}
 use Rattle.disk_model.specs.Disk.{Faults, History, IsTold, told_calls}
-use Rattle.exercise_course.specs.Hindered.{BeginsFree, is_full, is_hindered, is_ok}
+use Rattle.exercise_course.specs.Hindered.{BeginsFree, is_full, is_ok, is_stopped}
 use Rattle.exercise_course.specs.InOrder.{deliveries_in}
 use Rattle.exercise_course.proofs.BalanceLemmas.{counts_grow}
+use Rattle.exercise_course.proofs.CopiesLemmas.{never_full, ok_unhindered}
 use Rattle.exercise_course.proofs.CountingLemmas.{IsCountable}
 use Rattle.exercise_course.proofs.DeliveredLemmas.{records_delivered}
-use Rattle.exercise_course.proofs.LegalLemmas.{all_ok, messages_alike, octets_alike, script_length}
+use Rattle.exercise_course.proofs.LegalLemmas.{messages_alike, octets_alike, script_length}
 use Rattle.journal.specs.Journal.{Requests}
 use Rattle.mdbox_base.specs.declared.replies.Refusal.TheVariants as refusal
 use Rattle.mdbox_base.specs.declared.replies.Reply.{Reply}
@@ -51,7 +52,7 @@ any_none p f [] a = refl
 any_none p f (x ∷ xs) a = ap (λ (b : Bool). b || list_any p (map f xs)) (All-head (λ y. p (f y) ≡ false) x xs a) ∙ any_none p f xs (All-tail (λ y. p (f y) ≡ false) x xs a)
 
 -- a reply that is none of these isn't hindered
-free_one : (one : Reply) → is_full one ≡ false → is_disk_no (Some one) ≡ false → is_lack (Some one) ≡ false → is_hindered one ≡ false
+free_one : (one : Reply) → is_full one ≡ false → is_disk_no (Some one) ≡ false → is_lack (Some one) ≡ false → is_stopped one ≡ false
 free_one (reply.Refused refusal.NoMemory) f d l = absurd (let k : true ≡ false = l in cc k)
 free_one (reply.Refused refusal.ReadFault) f d l = absurd (let k : true ≡ false = d in cc k)
 free_one (reply.Refused refusal.Stopped) f d l = absurd (let k : true ≡ false = d in cc k)
@@ -119,12 +120,14 @@ done_in_order lanes count number held later old new began now ended d one most f
     let quiet = quiet_end (list_any is_disk_no (map Some d.given)) (list_any is_lack (map Some d.given)) (list_any is_no (map Some d.given)) (so is over) in
     let disk = none_any is_disk_no Some d.given quiet.0 in
     let lack = none_any is_lack Some d.given quiet.1 in
-    let free : All (λ one. is_hindered one ≡ false) d.given = λ k x lt. free_one _ (room k x lt) (disk k x lt) (lack k x lt) in
+    let unstopped : All (λ one. is_stopped one ≡ false) d.given = λ k x lt. free_one _ (room k x lt) (disk k x lt) (lack k x lt) in
     let many : length d.given ≡ count = d.done.each ∙ script_length lanes count number in
-    let ok = all_ok lanes count number lists serves.run serves.journal d.given began now one most few begins many free serves.served.legal in
+    let first = d.done.begins lists shown may in
+    let countable = subst IsCountable (sym first) (opened_countable old d.done.m d.done.meanings d.done.opened) in
+    let ok = never_full lanes count number lists serves.run serves.journal serves.broken d.given began now (map_meaning serves.run.store serves.run.start) serves.m serves.drawn (told_calls new) countable one most few begins many unstopped serves.served in
+    let free = ok_unhindered d.given ok in
     let stopped : HasStopped d.given → ⊥ = λ c. absurd (let k : true ≡ false = sym (stopped_any d.given c) ∙ quiet.0 in cc k) in
     let more = records_delivered lanes count number lists serves.run serves.journal serves.broken d.given began now (map_meaning serves.run.store serves.run.start) serves.m serves.drawn (told_calls new) many ok serves.served in
-    let first = d.done.begins lists shown may in
     let same : IsTold new → d.m.records ≡ serves.m.records = same_records new d.m serves.run serves.m d.meanings (d.comes.again stopped) (serves.ends stopped) in
     let counted = counted_listed d.m d.meanings _ (d.comes.shows lists shown may) in
     record {
@@ -134,7 +137,7 @@ done_in_order lanes count number held later old new began now ended d one most f
       octets = counted.1 ∙ octets_alike lanes count number lists serves.run serves.journal d.given began now one most few begins many free serves.served.legal;
       records = λ told. ap length (same told) ∙ more.records ∙ ap (λ (x : MapMeaning). length x.records + deliveries_in script) first;
       counts = λ told.
-          let k = counts_grow lanes count number lists serves.run serves.journal serves.broken d.given began now (map_meaning serves.run.store serves.run.start) serves.m serves.drawn (told_calls new) (subst IsCountable (sym first) (opened_countable old d.done.m d.done.meanings d.done.opened)) one most few begins many free serves.served in
+          let k = counts_grow lanes count number lists serves.run serves.journal serves.broken d.given began now (map_meaning serves.run.store serves.run.start) serves.m serves.drawn (told_calls new) countable one most few begins many free serves.served in
           let now_is = ap counts_in (same told) in
           let first_is = ap (λ (x : MapMeaning). counts_in x.records) first in
           let listed = counted.0 in

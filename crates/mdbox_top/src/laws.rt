@@ -86,10 +86,9 @@ pub fn exercises_count_their_requests()
         → ((summary_of (map Some done.given) done.m done.meanings).ok ≡ count) × ((summary_of (map Some done.given) done.m done.meanings).no ≡ 0) }
 {}
 
-/// An exercise of a store that has none of its mailboxes, and room for them. If it ends with status 0 or 1, and no message had as many
-/// copies as are counted and no number had run out (NO 13 and NO 16), each request is replied OK, so the status is 0, and the messages
-/// and octets are those of the lists before with the script done in its own order; each delivery adds a record, and no instance is named
-/// that wasn't before.
+/// An exercise of a store that has none of its mailboxes, and room for them. If it ends with status 0 or 1, and no number had run out
+/// (NO 16), each request is replied OK, so the status is 0, and the messages and octets are those of the lists before with the script done
+/// in its own order; each delivery adds a record, counts grow as messages do, and no instance is named that wasn't before.
 pub fn exercises_are_done_in_order()
     ensures { (lanes count number : ℕ) (held later : Option (List ℕ)) (old new : Option History) (began now : Faults) (ended : Outcome) (done : IsCountedUp (made_requests lanes count number) held later old new began now ended) → 1 ≤ lanes → lanes ≤ 64 → count ≤ 100000
         → (lists : Lists) → LogsShowLists done.done.m done.done.meanings lists → BeginsFree lanes lists → All (λ one. is_full one ≡ false) done.given → (ended ≡ outcome.Done) ⊎ (ended ≡ outcome.No) → IsDoneInOrder (made_requests lanes count number) done.done.m lists done.given new ended done.m done.meanings }
