@@ -117,7 +117,7 @@ keeps_by history faults t next old new answer kind mail halts still fault unfail
     ap (λ (s : StoreValue _). s.stopped) (reads r),
   );
   still = λ stopped. (idle_same (still stopped), subst (λ (d : _). (faults d).changes ≡ (faults old.disk).changes) (sym (disk_same (still stopped))) refl);
-  same = idle_same;
+  same = idle_disk;
   refused = λ why begun e step. idle_same (by_stop why begun (answered answer why e) step old.stopped refl);
   left = λ runs. writes (mail.left (runs ∙ sym (ran_before old.stopped new.stopped (λ was. ap (λ (s : StoreValue _). s.stopped) (still was) ∙ was) runs)));
 }
@@ -125,8 +125,11 @@ keeps_by history faults t next old new answer kind mail halts still fault unfail
     disk_same : new ≡ old → new.disk ≡ old.disk
     disk_same same = ap (λ (s : StoreValue _). s.disk) same
 
+    idle_disk : new.disk ≡ old.disk → IsIdle (history old.disk) (history new.disk)
+    idle_disk same = subst (λ (d : _). IsIdle (history old.disk) (history d)) (sym same) (idle-begins (history old.disk))
+
     idle_same : new ≡ old → IsIdle (history old.disk) (history new.disk)
-    idle_same same = subst (λ (d : _). IsIdle (history old.disk) (history d)) (sym (disk_same same)) (idle-begins (history old.disk))
+    idle_same same = idle_disk (disk_same same)
 
     answered : (a : Progress) (why : Refusal) → ended_by a ≡ Some (reply.Refused why) → a ≡ progress.Done (reply.Refused why)
     answered progress.More why e = absurd (let n : None ≡ Some (reply.Refused why) = e in cc n)
@@ -188,8 +191,11 @@ pub keeps_saving : {D : Type 0} → (history : D → Option History) (faults : D
     → (old.stopped ≡ false → Saves t.stage next.stage t.name t.time t.size answer next.did old new (history old.disk) (history new.disk) (faults old.disk) (faults new.disk)) → Same history faults (task.Deliver t) (task.Deliver next) old new (ended_by answer)
 keeps_saving history faults t next old new answer request ends saves = by_run old.stopped refl
   where
+    idle_disk : new.disk ≡ old.disk → IsIdle (history old.disk) (history new.disk)
+    idle_disk same = subst (λ (d : _). IsIdle (history old.disk) (history d)) (sym same) (idle-begins (history old.disk))
+
     idle_same : new ≡ old → IsIdle (history old.disk) (history new.disk)
-    idle_same same = subst (λ (d : _). IsIdle (history old.disk) (history d)) (sym (ap (λ (s : StoreValue _). s.disk) same)) (idle-begins (history old.disk))
+    idle_same same = idle_disk (ap (λ (s : StoreValue _). s.disk) same)
 
     saving_refused : (prepared : Prepared) (now later : SaveStage) (a : Progress) (why : Refusal) → now ≡ save_stage.First prepared → ended_by a ≡ Some (reply.Refused why) → SaveEffects now later t.name t.time t.size a old new → new ≡ old
     saving_refused prepared now later a why is e effects = first_refused later a e (subst (λ (k : SaveStage). SaveEffects k later t.name t.time t.size a old new) is effects)
@@ -214,7 +220,7 @@ keeps_saving history faults t next old new answer request ends saves = by_run ol
           tells = tt;
           idle = λ reads. absurd reads;
           still = λ was. absurd (let k : true ≡ false = sym was ∙ r in cc k);
-          same = idle_same;
+          same = idle_disk;
           refused = λ why begun e step. idle_same (saving_refused begun.0 t.stage next.stage answer why begun.1 e s.effects);
           left = λ runs. s.mail runs;
         }

@@ -169,7 +169,7 @@ StaysOfRequest t next = ⊥
 -- Whatever the disk is and fails: time goes on, and at each moment storage files and instances have what the map needs. No count of
 -- faults falls; unless the store is stopped then no change failed, and an event that stops it is one in which a change failed and no
 -- read. A task that reads no octets counts no failed read. One that reads at the most changes nothing, nor does a first event that is
--- refused, but for want of memory or by a failed call, nor any event of a store that was stopped, nor one that leaves the store's value as
+-- refused, but for want of memory or by a failed call, nor any event of a store that was stopped, nor one that leaves the store's disk as
 -- it was. It is answered by what the store has (`TellsStore`). It stays the task of its request.
 pub record TaskKeeps {D : Type 0} (t next : Task) (old new : StoreValue D) (before after : Option History) (began now : Faults) (ended : Option Reply) : Type 0 where
   pub request : StaysOfRequest t next
@@ -183,6 +183,6 @@ pub record TaskKeeps {D : Type 0} (t next : Task) (old new : StoreValue D) (befo
   pub tells : TellsStore t next old new before after ended
   pub idle : OnlyReads t → IsIdle before after × (now.changes ≡ began.changes) × (new.stopped ≡ old.stopped)
   pub still : old.stopped ≡ true → IsIdle before after × (now.changes ≡ began.changes)
-  pub same : new ≡ old → IsIdle before after
+  pub same : new.disk ≡ old.disk → IsIdle before after
   pub refused : (why : Refusal) → IsAtStart t → ended ≡ Some (reply.Refused why) → is_step why ≡ true → IsIdle before after
   pub left : new.stopped ≡ false → WritesTask t next old before after

@@ -45,7 +45,7 @@ use Rattle.mdbox_top.specs.CopyRun.{IsCopyReply}
 use Rattle.mdbox_top.specs.ExpungeRun.{IsExpungeReply, lists_without}
 use Rattle.mdbox_top.specs.FlagRun.{IsFlagReply}
 use Rattle.mdbox_top.specs.MoveRun.{IsMoveReply, MoveMoments, MoveRests}
-use Rattle.mdbox_top.specs.Alone.{IsDoneAlone, IsOfScript}
+use Rattle.mdbox_top.specs.Alone.{IsDoneAlone}
 use Rattle.mdbox_top.specs.CountsRun.{IsCountsReply, counts_of}
 use Rattle.mdbox_top.specs.ListRun.{IsListReply, ListMoments, ListRests}
 use Rattle.mdbox_top.specs.Served.{FaultsByReply}
@@ -430,7 +430,7 @@ move_rests name uid target given entries old new began now k = λ none lists at.
 
 -- ---- it was done
 
-pub done_one : (asked : Request) (given : Reply) (old new : Option History) (began now : Faults) → IsRequestDone asked given old new began now → IsOfScript asked → ListsAnswer → IsDoneAlone asked given old new began now
+pub done_one : (asked : Request) (given : Reply) (old new : Option History) (began now : Faults) → IsRequestDone asked given old new began now → MakesSteps asked → ListsAnswer → IsDoneAlone asked given old new began now
 done_one (request.List name) given old new began now w one answer = record {
   tells = list_tells name given w.entries old new began now w.done answer;
   serves = λ lists safe. serves_one (request.List name) given w.entries old new began now w.done lists safe (may_read (request.List name) one lists old);

@@ -3,8 +3,9 @@ ghost use Rattle.std.specs.Prelude.{◌≡◌, ◌≢◌, ◌≤◌, IfOk, IfErr
 ghost use Rattle.disk_model.specs.FaultCounts.{NoFault, AnyFaultCounted};
 ghost use Rattle.mdbox_base.specs.Streams.{Rose};
 ghost use Rattle.mdbox_base.specs.declared.requests.Request.TheVariants as request;
+ghost use Rattle.script_run.specs.One.{MakesSteps};
 ghost use Rattle.script_run.specs.Opening.{IsUnopened};
-ghost use Rattle.mdbox_top.specs.Alone.{IsOfScript, IsServedAlone, ReplyTells, RequestMoments, RequestRests, MayFail, IsDoneAlone};
+ghost use Rattle.mdbox_top.specs.Alone.{IsServedAlone, ReplyTells, RequestMoments, RequestRests, MayFail, IsDoneAlone};
 ghost use Rattle.mdbox_top.specs.Served.{RequestOutcome, ShowsReply};
 ghost use Rattle.request_text.specs.Outcomes.{status_of};
 ghost use Rattle.request_text.specs.ReplyText.{reply_text};
@@ -67,7 +68,7 @@ fn script_alone<D: Disk>(
     request: Request,
     disk: D,
 ) -> Result<(Reply, D), OpenRefused<D>>
-    requires { IsOfScript request }
+    requires { MakesSteps request }
     ensures done { IfOk result (λ done. IsDoneAlone request done.0 (D.history disk) (D.history done.1) (D.faults disk) (D.faults done.1)) }
     ensures refused { IfErr result (λ refused. IsUnopened refused.error (D.history disk) (D.history refused.disk) (D.faults disk) (D.faults refused.disk)) }
 {

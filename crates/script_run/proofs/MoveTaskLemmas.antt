@@ -120,7 +120,7 @@ move_on name uid target s mid t next old new before after ended is kind tells sa
 
 pub keeps_move : {D : Type 0} → (name : List ℕ) (uid : Uid) (target : List ℕ) (s : StoreValue D) (mid : Option History) → KeepsAlone (StandsMove name uid target s mid) (IsMoveTold name uid target s mid)
 keeps_move name uid target s mid queued next event old new before after first second is goes =
-    move_on name uid target s mid queued.task next old new before after (ended_by event.ended) is goes.keeps.request goes.keeps.tells goes.keeps.same
+    move_on name uid target s mid queued.task next old new before after (ended_by event.ended) is goes.keeps.request goes.keeps.tells (λ back. goes.keeps.same (ap (λ (v : StoreValue _). v.disk) back))
     (λ more. not_true new.stopped (λ stopped. let k : None ≡ Some (reply.Refused refusal.Stopped) = sym more ∙ ap ended_by (goes.stopped stopped) in cc k))
 
 pub begun_move : {D : Type 0} → (name : List ℕ) (uid : Uid) (target : List ℕ) (s : StoreValue D) (mid : Option History) → s.stopped ≡ false → (t : Task) → BeginsTask (request.Move name uid target) t → StandsMove name uid target s mid t s mid

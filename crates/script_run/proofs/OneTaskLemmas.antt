@@ -238,7 +238,7 @@ expunge_on name uid s mid t next old new before after ended is kind tells same r
 
 pub keeps_expunge : {D : Type 0} → (name : List ℕ) (uid : Uid) (s : StoreValue D) (mid : Option History) → KeepsAlone (StandsExpunge name uid s mid) (λ given store history. IsExpungeTold (missing_message name uid.0 s) mid given history)
 keeps_expunge name uid s mid queued next event old new before after first second is goes =
-    expunge_on name uid s mid queued.task next old new before after (ended_by event.ended) is goes.keeps.request goes.keeps.tells goes.keeps.same
+    expunge_on name uid s mid queued.task next old new before after (ended_by event.ended) is goes.keeps.request goes.keeps.tells (λ back. goes.keeps.same (ap (λ (v : StoreValue _). v.disk) back))
     (λ more. not_true new.stopped (λ stopped. let k : None ≡ Some (reply.Refused refusal.Stopped) = sym more ∙ ap ended_by (goes.stopped stopped) in cc k))
 
 pub begun_expunge : {D : Type 0} → (name : List ℕ) (uid : Uid) (s : StoreValue D) (mid : Option History) → s.stopped ≡ false → (t : Task) → BeginsTask (request.Expunge name uid) t → StandsExpunge name uid s mid t s mid

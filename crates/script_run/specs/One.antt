@@ -76,13 +76,13 @@ HasOneEvent (request.Flag name uid flags) = Unit {0}
 HasOneEvent request.Counts = Unit {0}
 HasOneEvent other = ⊥
 
--- A request that makes a step at one of its events, which is always the same: an expunge and a copy have further events.
+-- A request that makes its step at the same event always: an expunge and a copy have further events.
 abbrev pub MakesOneStep : Request → Type 0
 MakesOneStep (request.Expunge name uid) = Unit {0}
 MakesOneStep (request.Copy name uid target) = Unit {0}
 MakesOneStep asked = HasOneEvent asked
 
--- or a move, which makes two
+-- A request that makes one step so, or a move, which makes two. None of them reads octets of messages.
 abbrev pub MakesSteps : Request → Type 0
 MakesSteps (request.Move name uid target) = Unit {0}
 MakesSteps asked = MakesOneStep asked
