@@ -13,7 +13,7 @@ use Rattle.model_logs.specs.declared.log_head.LogKind.TheVariants as kind
 use Rattle.model_rebuild.specs.RebuildMoments.{KeepsLog}
 use Rattle.model_store.specs.Opening.{HasNoEntry}
 use Rattle.model_store.specs.Stands.{head_of}
-use Rattle.store_rebuild.specs.Writing.{IsRootless, IsWithoutStore, KeepBoxLogs, KeepsMailFiles}
+use Rattle.store_rebuild.specs.Writing.{IsRootless, IsWithoutStore, IsBoxLogOf, KeepBoxLogs, KeepsAllBut}
 use Rattle.store_rebuild.proofs.FileLemmas.{NamedOthers, named_keeps, named_reads}
 
 -- ---- a file that isn't the log that is made
@@ -28,17 +28,41 @@ kept_log name other head entries a b apart is k = record {
 log_apart : (name other : FileName) → IsLogName name → (IsLogName other → ⊥) → other ≢ name
 log_apart name other log mail e = mail (subst IsLogName (sym e) log)
 
+-- storage files and instances read as before, and a crash leaves of each what it would have left before, if that was one thing
+pub record KeepsMailFiles (old new : DiskState) : Type 0 where
+  pub reads : (name : FileName) → (IsLogName name → ⊥) → reading (new name) ≡ reading (old name)
+  pub keeps : (name : FileName) → (IsLogName name → ⊥) → (octets : List ℕ) → Keeps (old name) octets → Keeps (new name) octets
+
 pub mail_named : (name : FileName) → IsLogName name → (a b : DiskState) → NamedOthers name a b → KeepsMailFiles a b
 mail_named name log a b is = record {
   reads = λ other mail. ap reading (is other (log_apart name other log mail)) ∙ named_reads (a other);
   keeps = λ other mail octets k. subst (λ (f : FileState). Keeps f octets) (sym (is other (log_apart name other log mail))) (named_keeps (a other) octets k);
 }
 
-pub mail_begins : (disk : DiskState) → KeepsMailFiles disk disk
-mail_begins disk = record { reads = λ other mail. refl; keeps = λ other mail octets k. k }
+pub mail_of_boxes : (generation : ℕ) (a b : DiskState) → KeepsAllBut (IsBoxLogOf generation) a b → KeepsMailFiles a b
+mail_of_boxes generation a b r = record {
+  reads = λ name mail. r.reads name (λ box. mail (subst IsLogName (sym box.1) refl));
+  keeps = λ name mail octets k. r.keeps name (λ box. mail (subst IsLogName (sym box.1) refl)) octets k;
+}
 
-pub mail_then : (a b c : DiskState) → KeepsMailFiles a b → KeepsMailFiles b c → KeepsMailFiles a c
-mail_then a b c r s = record { reads = λ other mail. s.reads other mail ∙ r.reads other mail; keeps = λ other mail octets k. s.keeps other mail octets (r.keeps other mail octets k) }
+pub others_begin : (IsNew : FileName → Type 0) (disk : DiskState) → KeepsAllBut IsNew disk disk
+others_begin IsNew disk = record { reads = λ name outside. refl; keeps = λ name outside octets k. k }
+
+pub others_then : (IsNew : FileName → Type 0) (a b c : DiskState) → KeepsAllBut IsNew a b → KeepsAllBut IsNew b c → KeepsAllBut IsNew a c
+others_then IsNew a b c r s = record { reads = λ name outside. s.reads name outside ∙ r.reads name outside; keeps = λ name outside octets k. s.keeps name outside octets (r.keeps name outside octets k) }
+
+-- the other files, when one that is new is made
+pub others_made : (IsNew : FileName → Type 0) (name : FileName) → IsNew name → (a b : DiskState) → NamedOthers name a b → KeepsAllBut IsNew a b
+others_made IsNew name new a b is = record {
+  reads = λ other outside. ap reading (is other (apart other outside)) ∙ named_reads (a other);
+  keeps = λ other outside octets k. subst (λ (f : FileState). Keeps f octets) (sym (is other (apart other outside))) (named_keeps (a other) octets k);
+}
+  where
+    apart : (other : FileName) → (IsNew other → ⊥) → other ≢ name
+    apart other outside e = outside (subst IsNew (sym e) new)
+
+pub others_more : (IsNew IsToo : FileName → Type 0) → ((name : FileName) → IsNew name → IsToo name) → (a b : DiskState) → KeepsAllBut IsNew a b → KeepsAllBut IsToo a b
+others_more IsNew IsToo too a b r = record { reads = λ name outside. r.reads name (λ new. outside (too name new)); keeps = λ name outside octets k. r.keeps name (λ new. outside (too name new)) octets k }
 
 -- ---- a disk without root log
 

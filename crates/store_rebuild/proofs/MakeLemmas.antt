@@ -26,7 +26,7 @@ use Rattle.rebuild_judge.specs.Kept.{taken_row}
 use Rattle.rebuild_judge.specs.declared.taken.TakenRow.{TakenRow}
 use Rattle.store_rebuild.specs.Planned.{AreRowsOf, IsPlanned}
 use Rattle.store_rebuild.specs.Rebuilding.{IsLeftOf, LeavesRebuild, LeavesWhole}
-use Rattle.store_rebuild.specs.Writing.{AreFilesSynced, AreFilesThere, HasNewStore, HasStoreOf, IsInstanceThere, IsOnlySynced, IsReady, IsRootless, IsFileSynced, MailReadsSame}
+use Rattle.store_rebuild.specs.Writing.{AreFilesSynced, AreFilesThere, HasNewStore, HasStoreOf, IsInstanceThere, IsNewLog, IsOnlySynced, IsReady, IsRootless, IsFileSynced, MailReadsSame, OthersReadSame}
 use Rattle.store_rebuild.specs.declared.plan.RebuildRows.{RebuildRows}
 use Rattle.store_rebuild.proofs.FileLemmas.{named_reads, synced_keeps}
 use Rattle.store_rebuild.proofs.PlannedLemmas.{there_from}
@@ -141,19 +141,20 @@ all_moments store rows (Some old) mid now new planned sync stays root write =
 
 -- ---- what is there at the end
 
-reads_synced : (a b : DiskState) → IsOnlySynced a b → MailReadsSame a b
-reads_synced a b s = λ name mail. s.reads name
+pub others_read : (map_generation box_generation : ℕ) (old mid now new : Option History) → Between IsOnlySynced old mid → Between ButRoot mid now → Between (OthersReadSame map_generation box_generation) now new → Between (OthersReadSame map_generation box_generation) old new
+others_read m b old mid now new s r w =
+    let R : DiskState → DiskState → Type 0 = OthersReadSame m b in
+    between-then R R R old now new (λ x y z p q name outside. q name outside ∙ p name outside)
+    (between-then R R R old mid now (λ x y z p q name outside. q name outside ∙ p name outside) (between-map IsOnlySynced R old mid (λ x y k name outside. k.reads name) s)
+    (between-map ButRoot R mid now (λ x y k name outside. ap reading (k name (λ e. outside (inl e))) ∙ named_reads (x name)) r)) w
 
-reads_but_root : (a b : DiskState) → ButRoot a b → MailReadsSame a b
-reads_but_root a b is = λ name mail. ap reading (is name (λ e. mail (subst IsLogName (sym e) refl))) ∙ named_reads (a name)
-
-pub reads_then : (a b c : DiskState) → MailReadsSame a b → MailReadsSame b c → MailReadsSame a c
-reads_then a b c r s = λ name mail. s name mail ∙ r name mail
-
-pub mail_reads : (old mid now new : Option History) → Between IsOnlySynced old mid → Between ButRoot mid now → Between MailReadsSame now new → Between MailReadsSame old new
-mail_reads old mid now new s r w =
-    between-then MailReadsSame MailReadsSame MailReadsSame old now new reads_then
-    (between-then MailReadsSame MailReadsSame MailReadsSame old mid now reads_then (between-map IsOnlySynced MailReadsSame old mid reads_synced s) (between-map ButRoot MailReadsSame mid now reads_but_root r)) w
+pub mail_of_others : (map_generation box_generation : ℕ) (a b : DiskState) → OthersReadSame map_generation box_generation a b → MailReadsSame a b
+mail_of_others m g a b o = λ name mail. o name (λ new. mail (is_log name new))
+  where
+    is_log : (name : FileName) → IsNewLog m g name → IsLogName name
+    is_log name (inl e) = subst IsLogName (sym e) refl
+    is_log name (inr (inl e)) = subst IsLogName (sym e) refl
+    is_log name (inr (inr box)) = subst IsLogName (sym box.1) refl
 
 -- a fact of the last state by the first
 pub between_from : (R S : DiskState → DiskState → Type 0) (old new : Option History) → Between R old new → ((first : DiskState) (before : List DiskState) → old ≡ Some (record { now = first; before = before }) → IfTold new (S first)) → Between S old new

@@ -1,5 +1,5 @@
 -- What a rebuild reports: how many mailboxes and messages the lists have.
-use Rattle.std.proofs.Common.{◌≡◌, ◌≢◌, ℕ, ◌+◌, Bool, true, false, cond, List, [], ◌∷◌, ◌++◌, length, map, fold, All, refl, sym, ◌∙◌, ap, arith}
+use Rattle.std.proofs.Common.{subst, ◌≡◌, ◌≢◌, ℕ, ◌+◌, Bool, true, false, cond, List, [], ◌∷◌, ◌++◌, length, map, fold, All, refl, sym, ◌∙◌, ap, arith}
 use Rattle.std.specs.Prelude.{◌||◌, AllPairs, if◌then◌else◌, sum_by}
 use Rattle.std.specs.List.{list_any}
 use Rattle.std.specs.Str.{bytes_eq}
@@ -24,7 +24,7 @@ use Rattle.rebuild_judge.specs.Kept.{taken_row}
 use Rattle.store_rebuild.specs.NewLogs.{AreNewLogs, box_logs_for}
 use Rattle.store_rebuild.specs.Planned.{AreRowsOf, IsPlanned}
 use Rattle.store_rebuild.specs.Rebuilding.{IsRebuilt}
-use Rattle.store_rebuild.specs.Writing.{HasStoreOf}
+use Rattle.store_rebuild.specs.Writing.{HasStoreOf, OthersReadSame}
 use Rattle.model_rebuild.specs.RebuildPlan.{RebuildPlan}
 use Rattle.store_rebuild.specs.declared.new_logs.NewLogs.{NewLogs}
 use Rattle.store_rebuild.specs.declared.plan.RebuildRows.{RebuildRows}
@@ -143,9 +143,13 @@ lists_length number (name ∷ names) taken = let k = lists_length (number + 1) n
 
 -- ---- the report
 
-pub rebuilt_of : (store : List ℕ) (rows : RebuildRows) (logs : NewLogs) (report : RebuildReport) (a b : DiskState) → HasStoreOf store rows a b → IsPlanned store rows a → ((plan : RebuildPlan) → AreRowsOf plan rows → AreNewLogs plan logs) → report.mailboxes ≡ length logs.boxes.items → report.messages ≡ length rows.taken
+-- the new store is there, and all other files read as before
+abbrev pub StoreAndOthers : List ℕ → RebuildRows → DiskState → DiskState → Type 0
+StoreAndOthers store rows a b = HasStoreOf store rows a b × OthersReadSame rows.map_generation rows.box_generation a b
+
+pub rebuilt_of : (store : List ℕ) (rows : RebuildRows) (logs : NewLogs) (report : RebuildReport) (a b : DiskState) → HasStoreOf store rows a b → OthersReadSame rows.map_generation rows.box_generation a b → IsPlanned store rows a → ((plan : RebuildPlan) → AreRowsOf plan rows → AreNewLogs plan logs) → report.mailboxes ≡ length logs.boxes.items → report.messages ≡ length rows.taken
     → report.skipped ≡ rows.skipped → IsRebuilt store report a b
-rebuilt_of store rows logs report a b h p are boxes messages skipped =
+rebuilt_of store rows logs report a b h others p are boxes messages skipped =
     let plan = p.plan in
     let taken = plan.taken in
     let k = h plan p.is_plan p.rows_are in
@@ -158,6 +162,7 @@ rebuilt_of store rows logs report a b h p are boxes messages skipped =
       is_plan = p.is_plan;
       logs = logs_read store plan a b k;
       settled = settled store plan a b p.is_plan k;
+      others = subst (λ (n : ℕ). OthersReadSame plan.map_generation n a b) p.rows_are.box_generation (subst (λ (n : ℕ). OthersReadSame n rows.box_generation a b) p.rows_are.map_generation others);
       mailboxes = boxes ∙ logs_are ∙ length-map (mailboxes_met taken) (λ (name : List ℕ). map box_text (rebuilt_box name taken)) ∙ sym (lists_length 1 (mailboxes_met taken) taken);
       messages = messages ∙ rows_are ∙ length-map taken taken_row ∙ sym (all_sent (mailboxes_met taken) taken apart (each_met _ taken)) ∙ sym (lists_sum 1 (mailboxes_met taken) taken);
       skipped = skipped ∙ p.rows_are.skipped;

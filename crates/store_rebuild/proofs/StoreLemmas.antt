@@ -27,8 +27,8 @@ use Rattle.model_store.specs.Settled.{files_of}
 use Rattle.model_store.specs.Stands.{HasLog, head_of}
 use Rattle.model_taken.specs.Taken.{TakenMessage, mailboxes_met}
 use Rattle.store_rebuild.specs.NewLogs.{box_logs_for}
-use Rattle.store_rebuild.specs.Writing.{HasNewStore, IsLogBeingMade, IsReady, IsRootless, IsWithoutStore, KeepBoxLogs, KeepsMailFiles}
-use Rattle.store_rebuild.proofs.BoxesLemmas.{kept_log, mail_named, still_logs_kept}
+use Rattle.store_rebuild.specs.Writing.{HasNewStore, IsLogBeingMade, IsReady, IsRootless, IsWithoutStore, KeepBoxLogs}
+use Rattle.store_rebuild.proofs.BoxesLemmas.{KeepsMailFiles, kept_log, mail_named, still_logs_kept}
 use Rattle.store_rebuild.proofs.FileLemmas.{NamedOthers}
 use Rattle.store_rebuild.proofs.LogLemmas.{IsMaking}
 

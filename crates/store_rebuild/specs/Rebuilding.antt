@@ -11,17 +11,19 @@ use Rattle.model_taken.specs.Taken.{TakenMessage}
 use Rattle.rebuild_files.specs.Refused.{IsStoreWhole}
 use Rattle.rebuild_files.specs.declared.error.RebuildError.TheVariants as rebuild
 use Rattle.rebuild_judge.specs.Kept.{skipped_row}
+use Rattle.store_rebuild.specs.Writing.{OthersReadSame}
 use Rattle.store_rebuild.specs.declared.report.RebuildReport.{RebuildReport}
 use Rattle.store_rebuild.specs.declared.report.RebuildRefused.{RebuildRefused}
 use Rattle.store_rebuild.specs.declared.report.RebuiltStore.{RebuiltStore}
 
--- The report tells what a rebuild of the old files takes and skips; the disk has the planned logs of the store with this id, and is
--- settled for the rebuilt lists.
+-- The report tells what a rebuild of the old files takes and skips. The disk has the planned logs of the store with this id, is settled for
+-- the rebuilt lists, and reads each other file as before.
 pub record IsRebuilt (store : List ℕ) (report : RebuildReport) (old now : DiskState) : Type 0 where
   pub plan : RebuildPlan
   pub is_plan : IsPlanFor (files_of old) store plan
   pub logs : HasRebuiltLogs (files_of now) store plan
   pub settled : IsSettled now (lists_of plan.taken)
+  pub others : OthersReadSame plan.map_generation plan.box_generation old now
   pub mailboxes : report.mailboxes ≡ length (lists_of plan.taken)
   pub messages : report.messages ≡ sum_by (λ m. length m.messages) (lists_of plan.taken)
   pub skipped : report.skipped ≡ map skipped_row plan.skipped

@@ -55,10 +55,22 @@ pub record IsOnlySynced (old new : DiskState) : Type 0 where
 abbrev pub MailReadsSame : DiskState → DiskState → Type 0
 MailReadsSame old new = (name : FileName) → (IsLogName name → ⊥) → reading (new name) ≡ reading (old name)
 
--- they do, and a crash leaves of each what it would have left before, if that was one thing
-pub record KeepsMailFiles (old new : DiskState) : Type 0 where
-  pub reads : MailReadsSame old new
-  pub keeps : (name : FileName) → (IsLogName name → ⊥) → (octets : List ℕ) → Keeps (old name) octets → Keeps (new name) octets
+-- the log of a mailbox, of this generation
+abbrev pub IsBoxLogOf : ℕ → FileName → Type 0
+IsBoxLogOf generation name = (number : ℕ) × (name ≡ file.Box number generation)
+
+-- a log that is new where those of the map and of mailboxes have these generations
+abbrev pub IsNewLog : ℕ → ℕ → FileName → Type 0
+IsNewLog map_generation box_generation name = (name ≡ file.Root) ⊎ ((name ≡ file.Map map_generation) ⊎ IsBoxLogOf box_generation name)
+
+-- each other file reads as before
+abbrev pub OthersReadSame : ℕ → ℕ → DiskState → DiskState → Type 0
+OthersReadSame map_generation box_generation old new = (name : FileName) → (IsNewLog map_generation box_generation name → ⊥) → reading (new name) ≡ reading (old name)
+
+-- Each file but these reads as before, and a crash leaves of it what it would have left before, if that was one thing.
+pub record KeepsAllBut (IsNew : FileName → Type 0) (old new : DiskState) : Type 0 where
+  pub reads : (name : FileName) → (IsNew name → ⊥) → reading (new name) ≡ reading (old name)
+  pub keeps : (name : FileName) → (IsNew name → ⊥) → (octets : List ℕ) → Keeps (old name) octets → Keeps (new name) octets
 
 -- ---- behind its removal
 

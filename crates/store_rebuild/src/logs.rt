@@ -8,7 +8,7 @@ ghost use Rattle.model_rebuild.specs.RebuiltLists.{lists_of};
 ghost use Rattle.model_store.specs.Settled.{files_of};
 ghost use Rattle.model_store.specs.Stands.{head_of};
 ghost use Rattle.store_rebuild.specs.NewLogs.{AreNewLogs};
-ghost use Rattle.store_rebuild.specs.Writing.{HasNewStore, IsReady, IsRootless, IsWithoutStore, KeepBoxLogs, KeepsMailFiles, MailReadsSame};
+ghost use Rattle.store_rebuild.specs.Writing.{HasNewStore, IsReady, IsRootless, IsWithoutStore, IsBoxLogOf, KeepBoxLogs, KeepsAllBut, OthersReadSame};
 
 use crate::draft::NewLog;
 use crate::log::write_log;
@@ -33,7 +33,7 @@ pub fn write_logs<D: Disk>(
     // At every moment of the call, whatever fails, a crash leaves no store, or the rebuilt one.
     ensures any_moment { (first : DiskState) (plan : RebuildPlan) → AreNewLogs plan logs → map_generation ≡ plan.map_generation → box_generation ≡ plan.box_generation → IfTold (D.history disk.old) (IsReady id.0 plan first) → EachImage (λ _ image. IsLeftByRebuild first (lists_of plan.taken) image) (D.history disk.old) (D.history disk.new) }
     ensures made { OnOk result ((first : DiskState) (plan : RebuildPlan) → AreNewLogs plan logs → map_generation ≡ plan.map_generation → box_generation ≡ plan.box_generation → IfTold (D.history disk.old) (IsReady id.0 plan first) → IfTold (D.history disk.new) (HasNewStore id.0 plan first)) }
-    ensures mail { OnOk result (Between MailReadsSame (D.history disk.old) (D.history disk.new)) }
+    ensures others { OnOk result (Between (OthersReadSame map_generation box_generation) (D.history disk.old) (D.history disk.new)) }
     ensures fault { ChangeFaultCounted (IsErr result) (D.faults disk.old) (D.faults disk.new) }
     ensures unfailed { OnOk result (NoFault (D.faults disk.old) (D.faults disk.new)) }
 {
@@ -62,7 +62,7 @@ fn write_boxes<D: Disk>(
     ensures any_moment { (first : DiskState) → IfTold (D.history disk.old) (IsRootless first) → EachImage (λ _ image. IsWithoutStore first image) (D.history disk.old) (D.history disk.new) }
     ensures rootless { OnOk result ((first : DiskState) → IfTold (D.history disk.old) (IsRootless first) → IfTold (D.history disk.new) (IsRootless first)) }
     ensures made { OnOk result (IfTold (D.history disk.new) (λ now. KeepBoxLogs now id.0 1 generation logs.items)) }
-    ensures others { OnOk result (Between KeepsMailFiles (D.history disk.old) (D.history disk.new)) }
+    ensures others { OnOk result (Between (KeepsAllBut (IsBoxLogOf generation)) (D.history disk.old) (D.history disk.new)) }
     ensures fault { ChangeFaultCounted (IsErr result) (D.faults disk.old) (D.faults disk.new) }
     ensures unfailed { OnOk result (NoFault (D.faults disk.old) (D.faults disk.new)) }
 {

@@ -8,7 +8,7 @@ ghost use Rattle.model_rebuild.specs.RebuildPlan.{RebuildPlan};
 ghost use Rattle.store_rebuild.specs.NewLogs.{AreNewLogs};
 ghost use Rattle.store_rebuild.specs.Planned.{AreRowsOf, IsPlanned};
 ghost use Rattle.store_rebuild.specs.Rebuilding.{IsDiskFault, IsRebuilt, LeavesRebuild, LeavesWhole, disk_behind};
-ghost use Rattle.store_rebuild.specs.Writing.{HasStoreOf, MailReadsSame};
+ghost use Rattle.store_rebuild.specs.Writing.{HasStoreOf, MailReadsSame, OthersReadSame};
 
 use crate::logs::write_logs;
 use crate::new_logs::{NewLogs, new_logs};
@@ -97,7 +97,7 @@ fn write_all<D: Disk>(
     requires few { (vec_len logs.boxes ≡ length logs.boxes.items) × (length logs.boxes.items ≤ 4294967294) }
     ensures any_moment { LeavesRebuild (D.history disk.old) (D.history disk.new) }
     ensures made { OnOk result (Between (HasStoreOf id.0 rows.now) (D.history disk.old) (D.history disk.new)) }
-    ensures mail { OnOk result (Between MailReadsSame (D.history disk.old) (D.history disk.new)) }
+    ensures others { OnOk result (Between (OthersReadSame rows.now.map_generation rows.now.box_generation) (D.history disk.old) (D.history disk.new)) }
     ensures fault { AnyFaultCounted (IsErr result) (D.faults disk.old) (D.faults disk.new) }
     ensures unfailed { OnOk result (NoFault (D.faults disk.old) (D.faults disk.new)) }
 {

@@ -78,8 +78,10 @@ fn push_stored(alloc: Global, draft: Draft, taken: &[TakenRow]) -> Result<Draft,
     let mut rest = taken;
     while let Some((row, others)) = rest.split_first() {
         let instances = copy_rows(alloc, row.instances.as_slice())?;
-        let entry = stored(uid, row.file, row.offset, row.size, row.guid, instances)?;
-        draft = draft.push_map(alloc, &entry)?;
+        draft = draft.push_map(
+            alloc,
+            &stored(uid, row.file, row.offset, row.size, row.guid, instances)?,
+        )?;
         uid = next_number(uid)?;
         rest = others;
     }

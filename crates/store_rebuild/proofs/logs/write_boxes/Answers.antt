@@ -4,8 +4,8 @@ use Rattle.disk_model.proofs.FaultCountLemmas.{no_fault-then}
 use Rattle.disk_model.proofs.MomentLemmas.{each_image-then, if_told-all}
 use Rattle.disk_model.specs.Disk.{IfTold}
 use Rattle.disk_model.specs.declared.name.FileName.TheVariants as file
-use Rattle.store_rebuild.specs.Writing.{KeepBoxLogs, KeepsMailFiles}
-use Rattle.store_rebuild.proofs.BoxesLemmas.{box_no_root, left_more, mail_begins, mail_named, mail_then, one_more, room_for, rootless_then, whole_done, whole_more, without_begins, without_store}
+use Rattle.store_rebuild.specs.Writing.{IsBoxLogOf, KeepBoxLogs, KeepsAllBut}
+use Rattle.store_rebuild.proofs.BoxesLemmas.{box_no_root, left_more, one_more, others_begin, others_made, others_then, room_for, rootless_then, whole_done, whole_more, without_begins, without_store}
 use Rattle.store_rebuild.proofs.FileLemmas.{named_between}
 use Rattle.store_rebuild.proofs.logs.write_boxes.Goals as goal
 
@@ -16,7 +16,7 @@ loop-log-init g c = record {
   number = refl;
   rootless = λ first r. (without_begins first _ r, r);
   made = if_told-all _ _ (λ disk. tt);
-  others = between-begins KeepsMailFiles _ mail_begins;
+  others = between-begins (KeepsAllBut (IsBoxLogOf c.args.generation)) _ (others_begin (IsBoxLogOf c.args.generation));
   unfailed = refl;
 }
 
@@ -46,7 +46,8 @@ loop-log-preserved g c =
             rootless_then first (file.Box c.loop-log.number c.args.generation) _ _ refl apart named h.1,
           );
       made = one_more c.args.id.0 c.args.generation c.loop-log.number c.head_of-head.result c.loop-log.yielded c.in-Some.log _ _ c.loop-log.invariant.number c.head_of-head.ensures named c.in_ok-write_log.ensures.made c.loop-log.invariant.made;
-      others = between-then KeepsMailFiles KeepsMailFiles KeepsMailFiles _ _ _ mail_then c.loop-log.invariant.others (between-map _ KeepsMailFiles _ _ (mail_named (file.Box c.loop-log.number c.args.generation) refl) named);
+      others = between-then (KeepsAllBut (IsBoxLogOf c.args.generation)) (KeepsAllBut (IsBoxLogOf c.args.generation)) (KeepsAllBut (IsBoxLogOf c.args.generation)) _ _ _ (others_then (IsBoxLogOf c.args.generation)) c.loop-log.invariant.others
+          (between-map _ (KeepsAllBut (IsBoxLogOf c.args.generation)) _ _ (others_made (IsBoxLogOf c.args.generation) (file.Box c.loop-log.number c.args.generation) (c.loop-log.number, refl)) named);
       unfailed = no_fault-then _ _ _ c.loop-log.invariant.unfailed c.in_ok-write_log.ensures.unfailed;
     }
 

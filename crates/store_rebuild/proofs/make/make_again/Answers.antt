@@ -1,12 +1,12 @@
 use Rattle.std.proofs.Common.{◌∙◌, ap, length, refl, sym}
-use Rattle.disk_model.proofs.BetweenLemmas.{between-if, same-between}
+use Rattle.disk_model.proofs.BetweenLemmas.{between-both, between-if, between-map, same-between}
 use Rattle.disk_model.proofs.IdleLemmas.{idle-on, idle-then}
 use Rattle.disk_model.specs.Disk.{IsIdle}
 use Rattle.store_rebuild.specs.Planned.{IsPlanned}
 use Rattle.store_rebuild.specs.Rebuilding.{IsRebuilt}
-use Rattle.store_rebuild.specs.Writing.{HasStoreOf, MailReadsSame}
-use Rattle.store_rebuild.proofs.MakeLemmas.{err_idle, idle_leaves, idle_whole, leaves_behind, lost_whole}
-use Rattle.store_rebuild.proofs.ReportLemmas.{rebuilt_of}
+use Rattle.store_rebuild.specs.Writing.{HasStoreOf, MailReadsSame, OthersReadSame}
+use Rattle.store_rebuild.proofs.MakeLemmas.{err_idle, idle_leaves, idle_whole, leaves_behind, lost_whole, mail_of_others}
+use Rattle.store_rebuild.proofs.ReportLemmas.{StoreAndOthers, rebuilt_of}
 use Rattle.store_rebuild.proofs.make.make_again.Goals as goal
 
 pub returns-in_err-check_lost-clause-any_moment : goal.returns-in_err-check_lost-clause-any_moment
@@ -49,13 +49,15 @@ pub returns-clause-rebuilt : goal.returns-clause-rebuilt
 returns-clause-rebuilt g c =
     let idle : IsIdle (g.D.Disk.history c.args.disk.now) (g.D.Disk.history c.plan_of.new.disk) = idle-then _ _ _ c.in_ok-check_lost.ensures.idle c.in_ok-rows.ensures.idle in
     same-between (IsRebuilt c.args.id.0 _) _ _ _ idle.same
-    (between-if (HasStoreOf c.args.id.0 c.in_ok-rows.rows) (IsRebuilt c.args.id.0 _) (IsPlanned c.args.id.0 c.in_ok-rows.rows) _ _ (λ a b h p. rebuilt_of c.args.id.0 c.in_ok-rows.rows c.in_ok-logs.logs _ a b h p c.in_ok-logs.ensures.logs (ap length c.as_slice.ensures.value) c.length.ensures refl) c.in_ok-write_all.ensures.made
+    (between-if (StoreAndOthers c.args.id.0 c.in_ok-rows.rows) (IsRebuilt c.args.id.0 _) (IsPlanned c.args.id.0 c.in_ok-rows.rows) _ _ (λ a b h p. rebuilt_of c.args.id.0 c.in_ok-rows.rows c.in_ok-logs.logs _ a b h.0 h.1 p c.in_ok-logs.ensures.logs (ap length c.as_slice.ensures.value) c.length.ensures refl)
+    (between-both (HasStoreOf c.args.id.0 c.in_ok-rows.rows) (OthersReadSame c.in_ok-rows.rows.map_generation c.in_ok-rows.rows.box_generation) (StoreAndOthers c.args.id.0 c.in_ok-rows.rows) _ _ (λ a b h o. (h, o)) c.in_ok-write_all.ensures.made c.in_ok-write_all.ensures.others)
     (idle-on (IsPlanned c.args.id.0 c.in_ok-rows.rows) _ _ c.in_ok-rows.ensures.idle c.in_ok-rows.ensures.planned))
 
 pub returns-clause-mail : goal.returns-clause-mail
 returns-clause-mail g c =
     let idle : IsIdle (g.D.Disk.history c.args.disk.now) (g.D.Disk.history c.plan_of.new.disk) = idle-then _ _ _ c.in_ok-check_lost.ensures.idle c.in_ok-rows.ensures.idle in
-    same-between MailReadsSame _ _ _ idle.same c.in_ok-write_all.ensures.mail
+    same-between MailReadsSame _ _ _ idle.same
+    (between-map (OthersReadSame c.in_ok-rows.rows.map_generation c.in_ok-rows.rows.box_generation) MailReadsSame _ _ (mail_of_others c.in_ok-rows.rows.map_generation c.in_ok-rows.rows.box_generation) c.in_ok-write_all.ensures.others)
 
 pub returns-in_err-rows-clause-idle : goal.returns-in_err-rows-clause-idle
 returns-in_err-rows-clause-idle g c = err_idle c.from_residual-in_err-rows.result _ _ (idle-then _ _ _ c.in_ok-check_lost.ensures.idle c.in_err-rows.ensures.idle)

@@ -4,8 +4,8 @@ use Rattle.model_rebuild.specs.RebuildMoments.{IsBeforeLogs}
 use Rattle.model_rebuild.specs.RebuildPlan.{IsPlanFor, RebuildPlan}
 use Rattle.model_store.specs.Settled.{files_of}
 use Rattle.store_rebuild.specs.Planned.{AreRowsOf}
-use Rattle.store_rebuild.specs.Writing.{HasStoreOf, IsOnlySynced, IsReady, MailReadsSame}
-use Rattle.store_rebuild.proofs.MakeLemmas.{all_moments, before_itself, between_from, mail_reads, moments_then, old_moments, planned_there, ready_then, store_of}
+use Rattle.store_rebuild.specs.Writing.{HasStoreOf, IsOnlySynced, IsReady, OthersReadSame}
+use Rattle.store_rebuild.proofs.MakeLemmas.{all_moments, before_itself, between_from, moments_then, old_moments, others_read, planned_there, ready_then, store_of}
 use Rattle.store_rebuild.proofs.make.write_all.Given.{Over}
 use Rattle.store_rebuild.proofs.make.write_all.Goals.{In_ok-remove_root}
 use Rattle.store_rebuild.proofs.make.write_all.Goals as goal
@@ -42,8 +42,9 @@ returns-clause-any_moment g c =
 pub returns-clause-made : goal.returns-clause-made
 returns-clause-made g c =
     let at = (goal.at.returns-clause-made g c).In_ok-remove_root in
-    between_from MailReadsSame (HasStoreOf c.args.id.0 c.args.rows.now) _ _ (mail_reads _ _ _ _ c.in_ok-sync_taken.ensures.same c.in_ok-remove_root.ensures.others c.in_ok-write_logs.ensures.mail)
+    between_from (OthersReadSame c.args.rows.now.map_generation c.args.rows.now.box_generation) (HasStoreOf c.args.id.0 c.args.rows.now) _ _
+    (others_read c.args.rows.now.map_generation c.args.rows.now.box_generation _ _ _ _ c.in_ok-sync_taken.ensures.same c.in_ok-remove_root.ensures.others c.in_ok-write_logs.ensures.others)
     (λ first before e. store_of c.args.id.0 c.args.rows.now first _ (λ plan is r. c.in_ok-write_logs.ensures.made first plan (c.requires.logs plan r) r.map_generation r.box_generation (ready g at first before plan e is r)))
 
-pub returns-clause-mail : goal.returns-clause-mail
-returns-clause-mail g c = mail_reads _ _ _ _ c.in_ok-sync_taken.ensures.same c.in_ok-remove_root.ensures.others c.in_ok-write_logs.ensures.mail
+pub returns-clause-others : goal.returns-clause-others
+returns-clause-others g c = others_read c.args.rows.now.map_generation c.args.rows.now.box_generation _ _ _ _ c.in_ok-sync_taken.ensures.same c.in_ok-remove_root.ensures.others c.in_ok-write_logs.ensures.others
