@@ -319,14 +319,14 @@ targets_of m drawn [] = []
 targets_of m drawn (taken ∷ rest) =
     if list_any (is_copied_from taken.file) m.records then (drawn + 1) ∷ targets_of m (drawn + 1) rest else 0 ∷ targets_of m drawn rest
 
--- the file that a purge removes: the one that its last event switched, else the next of those that it took
 abbrev pub doomed_last : List RunEvent → List ℕ
 doomed_last [] = []
 doomed_last (event ∷ []) = event.doomed
 doomed_last (event ∷ more ∷ rest) = doomed_last (more ∷ rest)
 
-abbrev pub file_to_remove : List RunEvent → Option ℕ
-file_to_remove own = option_or (first_in (λ file. Some file) (doomed_last own)) (option_map (λ taken. taken.file) (next_taken own))
+-- the file that a purge removes: the one that its last event switched, if that had no pin then, else the next of those that it took
+abbrev pub file_to_remove : Run → List RunEvent → Option ℕ
+file_to_remove run own = option_or (first_in (λ file. if was_pinned run file then None else Some file) (doomed_last own)) (option_map (λ taken. taken.file) (next_taken own))
 
 -- the message that is copied next: the one with the least offset
 abbrev pub IsCopiedNext : List MapRecord → MapRecord → Type 0
@@ -344,7 +344,7 @@ DidPurge around run event Switches =
     × All (λ place. HasRecord (map_of run) place.uid.0 (λ row. 1 ≤ row.count)) moved × (target ≢ 0 → target ≡ taken.target)
     × (event ≡ record (plain event) { map_entries = entry.P (record { 0 = taken.file }) target moved dropped ∷ []; doomed = taken.file ∷ [] })
 DidPurge around run event RemovesFile =
-    (file : ℕ) × (file_to_remove (own_events event.request run) ≡ Some file) × (is_pinned run file ≡ false) × (list_any (λ row. row.file == file) (map_of run).records ≡ false)
+    (file : ℕ) × (file_to_remove run (own_events event.request run) ≡ Some file) × (is_pinned run file ≡ false) × (list_any (λ row. row.file == file) (map_of run).records ≡ false)
     × (event ≡ record (plain event) { removed = file ∷ [] })
 DidPurge around run event RemovesInstance = (instance : InstRow) × (around.instance ≡ Some instance) × (event ≡ record (plain event) { gone = instance ∷ [] })
 DidPurge around run event part = event ≡ plain event
