@@ -1,5 +1,5 @@
 -- What pins and holds change of a store, and what they leave of it.
-use Rattle.std.specs.Prelude.{is_some, is_none, map, nat_le, nat_lt}
+use Rattle.std.specs.Prelude.{is_some, map, nat_le, nat_lt}
 use Rattle.std.specs.List.{list_any}
 use Rattle.std.specs.Option.{option_map, option_map_or, option_and_then}
 use Rattle.std.specs.Str.{bytes_eq}
@@ -28,6 +28,7 @@ use Rattle.store_core.specs.Value.{StoreValue}
 use Rattle.store_seen.specs.Seeing.{may_be_barred, may_be_used}
 use Rattle.task_claims.specs.Claims.{AreIn, Claims, Due, Emptied, Held, Made, MovesClaims, Pinned, PlacingPieces, Removing, Taken, no_claims, one_if}
 use Rattle.task_claims.specs.Leaving.{LeavesOthers, OnlyGrows, LeavesFile, IsSameOrSynced}
+use Rattle.task_claims.proofs.CountedLemmas.{unraised_same}
 use Rattle.task_claims.proofs.RestLemmas.{instance_kept, record_kept}
 use Rattle.task_steps.specs.Step.{Seen}
 use Rattle.mail_fetch.specs.Claims.{claims_of_pinned, held_for, with_claims, with_use, without_claims}
@@ -188,6 +189,7 @@ use_leaves_at mine from pins known store history rows keeps = record {
   files = λ number took. file_left from pins number known store history;
   grow = λ number more. pinned_left from pins number known store history;
   instances = λ row is more. instance_kept row store (with_use from pins known store) history history keeps is;
+  unraised = unraised_same store.map store.map refl;
   store = keeps.store;
   numbers = none_placed store.instances known rows;
   mailboxes = omega arith;
@@ -237,9 +239,9 @@ use_seen from pins known store history faults rows =
     seen_same (record (seen_in store history faults) { known = known }) (pins_kept_in (with_use from pins known store)) (λ f. is_doomed_in f (with_use from pins known store).files.files) (may_be_used (with_use from pins known store)) (may_be_barred (with_use from pins known store)) (may_have_given (with_use from pins known store))
     (knows_file (with_use from pins known store)) (knows_instance (with_use from pins known store))
     (λ f. doomed_still from.file.0 f pins store.files.files)
-    (λ f. but_pins (λ (o : Option MailFile). nat_le f store.drawn.file && option_map_or (λ g. g.doomed || is_none g.end) o true) from.file.0 f pins store.files.files (λ g. refl))
+    (λ f. but_pins (λ (o : Option MailFile). nat_le f store.drawn.file && option_map_or (λ g. g.doomed) o true) from.file.0 f pins store.files.files (λ g. refl))
     (λ f. but_pins (λ (o : Option MailFile). nat_le f store.drawn.file && option_map_or (λ g. g.barred) o true) from.file.0 f pins store.files.files (λ g. refl))
-    (λ g. ap (λ (o : Option ℕ). is_own store.map.store g && (nat_le (number_at 8 g) store.drawn.file && option_map_or (λ end. nat_lt (number_at 12 g) end) o true)) (ends_still from.file.0 (number_at 8 g) pins store.files.files))
+    (λ g. but_pins (λ (o : Option MailFile). is_own store.map.store g && (nat_le (number_at 8 g) store.drawn.file && option_map_or (λ x. option_map_or (λ end. nat_lt (number_at 12 g) end) x.end false) o true)) from.file.0 (number_at 8 g) pins store.files.files (λ x. refl))
     (λ f. ap (λ (o : Option ℕ). is_some o) (ends_still from.file.0 f pins store.files.files))
     (λ i. instance_same known store.instances.known i (rows i.id))
 

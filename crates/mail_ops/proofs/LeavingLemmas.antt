@@ -25,8 +25,8 @@ use Rattle.store_core.specs.Keeping.{KeepsMail, KeepsUids}
 use Rattle.store_core.specs.Running.{IsStore}
 use Rattle.store_core.specs.Value.{StoreValue, indexes_of, references_to}
 use Rattle.task_claims.specs.Claims.{Claims, Due, no_claims}
-use Rattle.task_claims.specs.Leaving.{LeavesOthers, LeavesUnlisted, SameButCounts}
-use Rattle.task_claims.proofs.CountedLemmas.{lowered_same, raised_same, same_map}
+use Rattle.task_claims.specs.Leaving.{LeavesOthers, LeavesUnlisted, RaisesNone, SameButCounts}
+use Rattle.task_claims.proofs.CountedLemmas.{lowered_same, raised_same, same_map, unraised_by, unraised_lower, unraised_same}
 use Rattle.task_claims.proofs.RestLemmas.{mail_same, rest_leaves}
 use Rattle.task_steps.specs.ExpungeStages.{one_due}
 use Rattle.mail_ops.specs.Appends.{BoxTook, MapTook, lowering_of}
@@ -95,19 +95,19 @@ same_highest m n same = subst (λ (x : MapMeaning). m.highest.mailbox ≤ x.high
 
 -- ---- an entry of the map log
 
-map_leaves : {D : Type 0} → (mine : Claims) (entry : MapEntry) (old new : StoreValue D) (before after : Option History) (began now : Faults) → MapTook entry old new before after began now → SameButCounts old.map (map_applied entry old.map) → LeavesUnlisted mine old new → LeavesOthers mine old new before after
-map_leaves mine entry old new before after began now t same unlisted =
-    rest_leaves mine old new before after t.appends.files (ap (λ (v : StoreValue _). v.instances) t.appends.rest) (mail_same before after t.mail) (subst (λ (m : MapMeaning). SameButCounts old.map m) (sym t.taken) same) (subst (λ (m : MapMeaning). old.map.highest.mailbox ≤ m.highest.mailbox) (sym t.taken) (highest_rises entry old.map)) (took_keeps entry old new before after began now t) t.appends.room unlisted
+map_leaves : {D : Type 0} → (mine : Claims) (entry : MapEntry) (old new : StoreValue D) (before after : Option History) (began now : Faults) → MapTook entry old new before after began now → SameButCounts old.map (map_applied entry old.map) → RaisesNone old.map (map_applied entry old.map) → LeavesUnlisted mine old new → LeavesOthers mine old new before after
+map_leaves mine entry old new before after began now t same unraised unlisted =
+    rest_leaves mine old new before after t.appends.files (ap (λ (v : StoreValue _). v.instances) t.appends.rest) (mail_same before after t.mail) (subst (λ (m : MapMeaning). SameButCounts old.map m) (sym t.taken) same) (subst (λ (m : MapMeaning). RaisesNone old.map m) (sym t.taken) unraised) (subst (λ (m : MapMeaning). old.map.highest.mailbox ≤ m.highest.mailbox) (sym t.taken) (highest_rises entry old.map)) (took_keeps entry old new before after began now t) t.appends.room unlisted
 
 raise_leaves : {D : Type 0} → (mine : Claims) (name : List ℕ) (uid : Uid) (target : List ℕ) (held : MapUid) (old new : StoreValue D) (before after : Option History) (began now : Faults) → IsStore before old → RaisesRow name uid target held old new before after began now → LeavesOthers mine old new before after
 raise_leaves mine name uid target held old new before after began now is r =
-    map_leaves mine (raising_of held) old new before after began now r.took (raised_same held old.map)
+    map_leaves mine (raising_of held) old new before after began now r.took (raised_same held old.map) (unraised_by held old.map r.took.fits)
     (same_unlisted mine old new r.took.appends.indexes (λ u none rec found listed.
     r.took.due u ∙ due_other (held.0 == u) (due_at u old) (λ t. other_record before old name uid.0 r.at.source r.row u rec is r.at.from found listed (sym r.holds ∙ eqb-true held.0 u t))))
 
 lower_leaves : {D : Type 0} → (owed : MapUid) (old new : StoreValue D) (before after : Option History) (began now : Faults) (mine : Claims) → ((uid : ℕ) → mine (Due uid) ≡ one_due owed.0 uid) → MapTook (lowering_of owed) old new before after began now → LeavesOthers mine old new before after
 lower_leaves owed old new before after began now mine own t =
-    map_leaves mine (lowering_of owed) old new before after began now t (lowered_same (owed ∷ []) old.map)
+    map_leaves mine (lowering_of owed) old new before after began now t (lowered_same (owed ∷ []) old.map) (unraised_lower (owed ∷ []) old.map)
     (same_unlisted mine old new t.appends.indexes (λ u none rec found listed. t.due u ∙ unlowered (owed.0 == u) (due_at u old) (sym (own u) ∙ none)))
   where
     unlowered : (t : Bool) (n : ℕ) → bit t ≡ 0 → n - bit (t || false) ≡ n
@@ -118,7 +118,7 @@ lower_leaves owed old new before after began now mine own t =
 
 box_leaves : {D : Type 0} → (mine : Claims) (number : ℕ) (entry : BoxEntry) (old new : StoreValue D) (before after : Option History) (began now : Faults) → BoxTook number entry old new before after began now → KeepsUids old new → LeavesUnlisted mine old new → LeavesOthers mine old new before after
 box_leaves mine number entry old new before after began now t keeps unlisted =
-    rest_leaves mine old new before after t.appends.files (ap (λ (v : StoreValue _). v.instances) t.appends.rest) (mail_same before after t.mail) (same_map old.map new.map t.appends.map) (same_highest old.map new.map t.appends.map) keeps t.appends.room unlisted
+    rest_leaves mine old new before after t.appends.files (ap (λ (v : StoreValue _). v.instances) t.appends.rest) (mail_same before after t.mail) (same_map old.map new.map t.appends.map) (unraised_same old.map new.map (ap (λ (m : MapMeaning). m.records) t.appends.map)) (same_highest old.map new.map t.appends.map) keeps t.appends.room unlisted
 
 add_leaves : {D : Type 0} → (mine : Claims) (name : List ℕ) (uid : Uid) (target : List ℕ) (held : MapUid) (given : Uid) (old new : StoreValue D) (before after : Option History) (began now : Faults) → ((u : ℕ) → mine (Due u) ≡ one_due held.0 u)
     → AddsRow name uid target held given old new before after began now → LeavesOthers mine old new before after
@@ -156,7 +156,7 @@ remove_leaves mine name uid owed old new before after began now is r =
 
 pub same_leaves : {D : Type 0} → (history : D → Option History) (mine : Claims) (old new : StoreValue D) → new ≡ old → LeavesOthers mine old new (history old.disk) (history new.disk)
 same_leaves history mine old new same = subst (λ (s : StoreValue _). LeavesOthers mine old s (history old.disk) (history s.disk)) (sym same)
-    (rest_leaves mine old old (history old.disk) (history old.disk) refl refl (mail_same (history old.disk) (history old.disk) (same_mail (history old.disk))) refl (same_highest old.map old.map refl) (λ name uid held k. k) (omega arith) (λ uid rec none found listed. (listed, refl)))
+    (rest_leaves mine old old (history old.disk) (history old.disk) refl refl (mail_same (history old.disk) (history old.disk) (same_mail (history old.disk))) refl (unraised_same old.map old.map refl) (same_highest old.map old.map refl) (λ name uid held k. k) (omega arith) (λ uid rec none found listed. (listed, refl)))
 
 unraised_leaves : {D : Type 0} → (history : D → Option History) (mine : Claims) (name : List ℕ) (uid : Uid) (target : List ℕ) (error : NotDone) (old new : StoreValue D) (began now : Faults) → new.stopped ≡ false → IsNotRaised name uid target error old new (history old.disk) (history new.disk) began now
     → LeavesOthers mine old new (history old.disk) (history new.disk)
@@ -175,7 +175,7 @@ unremoved_leaves history mine name uid not_done.Stopped old new began now runs r
 pub flag_leaves : {D : Type 0} → (number : ℕ) (uid : Uid) (flags : ℕ) (old new : StoreValue D) (before after : Option History) → new.map ≡ old.map → new.files ≡ old.files → new.instances ≡ old.instances → indexes_of new.boxes ≡ meanings_by number (box_entry.F uid flags) old.map.boxes (indexes_of old.boxes)
     → KeepsMail before after → KeepsUids old new → old.map_log.room ≤ new.map_log.room → ((other : ℕ) → due_at other new ≡ due_at other old) → LeavesOthers no_claims old new before after
 flag_leaves number uid flags old new before after map_is files instances taken mail keeps room due =
-    rest_leaves no_claims old new before after files instances (mail_same before after mail) (same_map old.map new.map map_is) (same_highest old.map new.map map_is) keeps room
+    rest_leaves no_claims old new before after files instances (mail_same before after mail) (same_map old.map new.map map_is) (unraised_same old.map new.map (ap (λ (m : MapMeaning). m.records) map_is)) (same_highest old.map new.map map_is) keeps room
     (λ other rec none found listed. (
       none_more (references_to new rec.guid) (references_to old rec.guid)
           (subst (λ (ms : List BoxMeaning). refs_in ms rec.guid ≤ references_to old rec.guid) (sym taken) (entry_refs rec.guid number (box_entry.F uid flags) old.map.boxes (indexes_of old.boxes) (flag_lists rec.guid uid flags))) listed,

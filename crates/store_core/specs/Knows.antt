@@ -6,18 +6,18 @@ use Rattle.std.specs.Str.{bytes_eq}
 use Rattle.mdbox_base.specs.declared.entries.InstRow.{InstRow}
 use Rattle.model_meaning.specs.MapMeaning.{MapMeaning, instance_number, is_own, is_sealed, number_at}
 use Rattle.sis_store.specs.Instances.{instance_in}
-use Rattle.storage_files.specs.Files.{end_in}
+use Rattle.storage_files.specs.Files.{end_in, file_in}
 use Rattle.store_core.specs.Value.{StoreValue}
 
 -- a storage file is there
 abbrev pub knows_file : {D : Type 0} → StoreValue D → ℕ → Bool
 knows_file store number = is_some (end_in number store.files.files)
 
--- The store may have given this GUID: its file was drawn, and a message can have been stored at its offset. A file that isn't
--- there may have been.
+-- The store may have given this GUID: its file was drawn, and a message can have been stored at its offset. A file that the store
+-- has no more may have had one; one that isn't made yet has none.
 abbrev pub may_have_given : {D : Type 0} → StoreValue D → List ℕ → Bool
 may_have_given store guid =
-    is_own store.map.store guid && (nat_le (number_at 8 guid) store.drawn.file && option_map_or (λ end. nat_lt (number_at 12 guid) end) (end_in (number_at 8 guid) store.files.files) true)
+    is_own store.map.store guid && (nat_le (number_at 8 guid) store.drawn.file && option_map_or (λ f. option_map_or (λ end. nat_lt (number_at 12 guid) end) f.end false) (file_in (number_at 8 guid) store.files.files) true)
 
 -- the instance of this row's id is known, with its hash
 abbrev pub knows_instance : {D : Type 0} → StoreValue D → InstRow → Bool

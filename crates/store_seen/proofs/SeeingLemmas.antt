@@ -1,6 +1,6 @@
 -- What is seen of a store as a run begins, and what stays of it.
 use Rattle.std.proofs.Common.{◌≡◌, ◌+◌, ◌==◌, ◌&&◌, ◌||◌, ℕ, Bool, true, false, not, cond, List, [], ◌∷◌, Option, refl, sym, ◌∙◌, ap, subst, arith}
-use Rattle.std.specs.Prelude.{nat_le, nat_lt, sum_by, is_none, is_some}
+use Rattle.std.specs.Prelude.{nat_le, nat_lt, sum_by, is_some}
 use Rattle.std.specs.List.{list_any}
 use Rattle.std.specs.Option.{option_map_or}
 use Rattle.disk_model.specs.Disk.{History, Faults, told_calls}
@@ -92,9 +92,9 @@ due_as_before old new uid map dues = ap (λ (m : MapMeaning). number_beside uid 
 
 given_as_before : {D : Type 0} → (old new : StoreValue D) (guid : List ℕ) → new.map.store ≡ old.map.store → new.drawn.file ≡ old.drawn.file → new.files ≡ old.files → may_have_given new guid ≡ may_have_given old guid
 given_as_before old new guid id drawn files =
-    ap (λ (s : List ℕ). is_own s guid && (nat_le (number_at 8 guid) new.drawn.file && option_map_or (λ end. nat_lt (number_at 12 guid) end) (end_in (number_at 8 guid) new.files.files) true)) id
-    ∙ (ap (λ (n : ℕ). is_own old.map.store guid && (nat_le (number_at 8 guid) n && option_map_or (λ end. nat_lt (number_at 12 guid) end) (end_in (number_at 8 guid) new.files.files) true)) drawn
-    ∙ ap (λ (f : FilesValue). is_own old.map.store guid && (nat_le (number_at 8 guid) old.drawn.file && option_map_or (λ end. nat_lt (number_at 12 guid) end) (end_in (number_at 8 guid) f.files) true)) files)
+    ap (λ (s : List ℕ). is_own s guid && (nat_le (number_at 8 guid) new.drawn.file && option_map_or (λ x. option_map_or (λ end. nat_lt (number_at 12 guid) end) x.end false) (file_in (number_at 8 guid) new.files.files) true)) id
+    ∙ (ap (λ (n : ℕ). is_own old.map.store guid && (nat_le (number_at 8 guid) n && option_map_or (λ x. option_map_or (λ end. nat_lt (number_at 12 guid) end) x.end false) (file_in (number_at 8 guid) new.files.files) true)) drawn
+    ∙ ap (λ (f : FilesValue). is_own old.map.store guid && (nat_le (number_at 8 guid) old.drawn.file && option_map_or (λ x. option_map_or (λ end. nat_lt (number_at 12 guid) end) x.end false) (file_in (number_at 8 guid) f.files) true)) files)
 
 pub gone_as_before : {D : Type 0} → (old new : StoreValue D) (row : InstRow) → new.map.store ≡ old.map.store → new.drawn.instance ≡ old.drawn.instance → may_be_gone new row ≡ may_be_gone old row
 gone_as_before old new row id drawn = ap (λ (s : List ℕ). nat_le (instance_number s row.id.0) new.drawn.instance) id ∙ ap (λ (n : ℕ). nat_le (instance_number old.map.store row.id.0) n) drawn
@@ -105,8 +105,8 @@ tells_as_before pins old new before after began now ran id file instance files i
   ran = ran;
   pins = λ number. refl;
   doomed = λ number. ap (λ (f : FilesValue). is_doomed_in number f.files) files;
-  used = λ number. ap (λ (n : ℕ). nat_le number n && option_map_or (λ f. f.doomed || is_none f.end) (file_in number new.files.files) true) file
-      ∙ ap (λ (f : FilesValue). nat_le number old.drawn.file && option_map_or (λ x. x.doomed || is_none x.end) (file_in number f.files) true) files;
+  used = λ number. ap (λ (n : ℕ). nat_le number n && option_map_or (λ f. f.doomed) (file_in number new.files.files) true) file
+      ∙ ap (λ (f : FilesValue). nat_le number old.drawn.file && option_map_or (λ x. x.doomed) (file_in number f.files) true) files;
   barred = λ number. ap (λ (n : ℕ). nat_le number n && option_map_or (λ f. f.barred) (file_in number new.files.files) true) file
       ∙ ap (λ (f : FilesValue). nat_le number old.drawn.file && option_map_or (λ x. x.barred) (file_in number f.files) true) files;
   gave = λ guid. given_as_before old new guid id file files;

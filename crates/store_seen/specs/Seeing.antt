@@ -1,5 +1,5 @@
 -- An open store as an event of a task sees it.
-use Rattle.std.specs.Prelude.{◌≡◌, ◌==◌, ◌&&◌, ◌||◌, nat_le, ℕ, Bool, true, false, is_none, List, [], Option}
+use Rattle.std.specs.Prelude.{◌≡◌, ◌==◌, ◌&&◌, ◌||◌, nat_le, ℕ, Bool, true, false, List, [], Option}
 use Rattle.std.specs.List.{list_any}
 use Rattle.std.specs.Option.{option_map_or}
 use Rattle.disk_model.specs.Disk.{History, Faults}
@@ -17,9 +17,10 @@ use Rattle.task_steps.specs.Step.{Seen}
 abbrev pub may_be_barred : {D : Type 0} → StoreValue D → ℕ → Bool
 may_be_barred store file = nat_le file store.drawn.file && option_map_or (λ f. f.barred) (file_in file store.files.files) true
 
--- It may have doomed this file, or removed it: it was drawn, and is doomed or isn't there.
+-- It may have doomed this file, or removed it: it was drawn, and is doomed, or the store has it no more. One that was taken and
+-- isn't made yet is neither.
 abbrev pub may_be_used : {D : Type 0} → StoreValue D → ℕ → Bool
-may_be_used store file = nat_le file store.drawn.file && option_map_or (λ f. f.doomed || is_none f.end) (file_in file store.files.files) true
+may_be_used store file = nat_le file store.drawn.file && option_map_or (λ f. f.doomed) (file_in file store.files.files) true
 
 -- A store as an event sees it, with so many pins of each file, what its disk tells and the faults that it has counted.
 abbrev pub seen_of : {D : Type 0} → (ℕ → ℕ) → StoreValue D → Option History → Faults → Seen

@@ -1,12 +1,15 @@
 -- Maps whose records are the same but for their counts.
-use Rattle.std.proofs.Common.{◌≡◌, ◌==◌, ◌+◌, ◌-◌, ℕ, Bool, true, false, cond, List, [], ◌∷◌, map, Some, None, All, refl, sym, ◌∙◌, ap}
+use Rattle.std.proofs.Common.{◌≡◌, ◌==◌, ◌+◌, ◌-◌, ℕ, Bool, true, false, cond, List, [], ◌∷◌, map, Some, None, All, refl, sym, ◌∙◌, ap, subst, arith, ◌≤◌}
 use Rattle.std.specs.Prelude.{find, filter, if◌then◌else◌}
+use Rattle.std.proofs.lemmas.Bool.{eqb-true}
 use Rattle.std.proofs.lemmas.List.Elements.{All-head, All-tail, All-cons, All-nil}
 use Rattle.mdbox_base.specs.declared.entries.MapEntry.TheVariants as map_entry
 use Rattle.mdbox_base.specs.declared.ids.MapUid.{MapUid}
-use Rattle.model_meaning.specs.MapMeaning.{MapRecord, MapMeaning, record_changed, map_applied, has_map_uid}
+use Rattle.model_meaning.specs.MapFits.{MapFits}
+use Rattle.model_meaning.specs.MapMeaning.{MapRecord, MapMeaning, record_at, record_changed, map_applied, has_map_uid}
 use Rattle.model_meaning.proofs.AppliedLemmas.{records_by_raised, records_by_lowered}
-use Rattle.task_claims.specs.Leaving.{but_count, records_within, SameButCounts}
+use Rattle.store_core.proofs.MapDueLemmas.{found_with}
+use Rattle.task_claims.specs.Leaving.{but_count, records_within, RaisesNone, SameButCounts}
 
 -- ---- entries that change counts
 
@@ -26,6 +29,51 @@ lowered_same uids m = ap (map but_count) (records_by_lowered uids m.records) ∙
 
 pub same_map : (m n : MapMeaning) → n ≡ m → SameButCounts m n
 same_map m n e = ap (λ (k : MapMeaning). map but_count k.records) e
+
+-- ---- counts of 0
+
+some_record : (a b : MapRecord) → Some a ≡ Some b → a ≡ b
+some_record a b e = cc e
+
+-- the same records
+pub unraised_same : (m n : MapMeaning) → n.records ≡ m.records → RaisesNone m n
+unraised_same m n same uid row now there none is =
+    let e : now ≡ row = some_record now row (sym is ∙ (ap (find (λ (r : MapRecord). r.uid == uid)) same ∙ there)) in
+    ap (λ (r : MapRecord). r.count) e ∙ none
+
+found_uid : (uid : ℕ) (rows : List MapRecord) (row : MapRecord) → find (λ r. r.uid == uid) rows ≡ Some row → row.uid ≡ uid
+found_uid uid [] row e = absurd (let k : None ≡ Some row = e in cc k)
+found_uid uid (r ∷ rs) row e = by_test (r.uid == uid) refl e (λ is. found_uid uid rs row is)
+  where
+    by_test : (t : Bool) → (r.uid == uid) ≡ t → cond t (Some r) (find (λ (x : MapRecord). x.uid == uid) rs) ≡ Some row → (find (λ (x : MapRecord). x.uid == uid) rs ≡ Some row → row.uid ≡ uid) → row.uid ≡ uid
+    by_test true t is rest = ap (λ (x : MapRecord). x.uid) (sym (some_record r row is)) ∙ eqb-true r.uid uid t
+    by_test false t is rest = rest is
+
+-- a count is raised that wasn't 0
+pub unraised_by : (uid : MapUid) (m : MapMeaning) → MapFits m (map_entry.U uid) → RaisesNone m (map_applied (map_entry.U uid) m)
+unraised_by uid m fits other row now there none is = by_test (uid.0 == row.uid) refl
+  where
+    changed : now ≡ record_changed (map_entry.U uid) row
+    changed = some_record now (record_changed (map_entry.U uid) row) (sym is ∙ found_with (map_entry.U uid) tt m other row there)
+
+    -- it would be this record
+    had : uid.0 ≡ row.uid → 1 ≤ row.count
+    had same =
+        let e : fits.0 ≡ row = some_record fits.0 row (sym fits.1 ∙ (ap (record_at m) (same ∙ found_uid other m.records row there) ∙ there)) in
+        subst (λ (r : MapRecord). 1 ≤ r.count) e fits.2.0
+
+    by_test : (t : Bool) → (uid.0 == row.uid) ≡ t → now.count ≡ 0
+    by_test true t = absurd (let some = had (eqb-true uid.0 row.uid t) in omega (arith, some, none))
+    by_test false t = ap (λ (r : MapRecord). r.count) changed ∙ (ap (λ (b : Bool). (if b then record row { count = row.count + 1 } else row).count) t ∙ none)
+
+-- counts are lowered
+pub unraised_lower : (uids : List MapUid) (m : MapMeaning) → RaisesNone m (map_applied (map_entry.D uids) m)
+unraised_lower uids m other row now there none is =
+    ap (λ (r : MapRecord). r.count) (some_record now (record_changed (map_entry.D uids) row) (sym is ∙ found_with (map_entry.D uids) tt m other row there)) ∙ by_test (has_map_uid row.uid uids)
+  where
+    by_test : (t : Bool) → (if t then record row { count = row.count - 1 } else row).count ≡ 0
+    by_test true = omega (arith, none)
+    by_test false = none
 
 -- ---- what they have in common
 

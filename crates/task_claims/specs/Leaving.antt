@@ -109,13 +109,17 @@ pub record PlacesFew (old new : InstancesValue) : Type 0 where
 
 -- ---- all of it
 
+-- no record that had no count has one
+abbrev pub RaisesNone : MapMeaning → MapMeaning → Type 0
+RaisesNone m n = (uid : ℕ) (row now : MapRecord) → record_at m uid ≡ Some row → row.count ≡ 0 → record_at n uid ≡ Some now → now.count ≡ 0
+
 -- What was compared with candidates without success stays so, whatever is placed or removed.
 abbrev pub KeepsCompared : {D : Type 0} → StoreValue D → StoreValue D → Option History → Option History → Type 0
 KeepsCompared old new before after = (hash : Hash) (size : ℕ) (octets : List ℕ) (last : Option InstId) (drawn : ℕ) → drawn ≤ old.instances.highest
     → IsUnlikeCompared old.instances.store hash size octets last drawn old.instances.known before → IsUnlikeCompared old.instances.store hash size octets last drawn new.instances.known after
 
 -- An event of a task that had these claims as it began, and that didn't stop the store, leaves to the other tasks what is theirs, and
--- every storage file that it doesn't claim to empty or to remove. The last eight are of no claim: the store of the
+-- every storage file that it doesn't claim to empty or to remove. The last nine are of no claim: no count of 0 rises; the store of the
 -- instances, whose numbers rise; the numbers of mailboxes; what was compared; which instances a record that is made may name; the
 -- message with a UID; the room for an entry of the map log; and a disk that is modelled stays so. What grows here is what a task's work left is counted by, so that no event of another task adds to it.
 pub record LeavesOthers {D : Type 0} (mine : Claims) (old new : StoreValue D) (before after : Option History) : Type 0 where
@@ -124,6 +128,7 @@ pub record LeavesOthers {D : Type 0} (mine : Claims) (old new : StoreValue D) (b
   pub files : (number : ℕ) → OthersTook mine old number → LeavesFile number old new before after
   pub grow : (number : ℕ) → MayOnlyGrow mine old number → OnlyGrows number old new before after
   pub instances : (row : InstRow) → IsKnownRow old.instances.known row → OthersClaim mine old (Held row.id) → LeavesInstance row old new before after
+  pub unraised : RaisesNone old.map new.map
   pub store : new.instances.store ≡ old.instances.store
   pub numbers : PlacesFew old.instances new.instances
   pub mailboxes : old.map.highest.mailbox ≤ new.map.highest.mailbox

@@ -5,6 +5,7 @@ ghost use Rattle.mdbox_base.specs.declared.entries.InstRow.{InstRow};
 ghost use Rattle.mdbox_base.specs.declared.entries.MapEntry.TheVariants as map_entry;
 ghost use Rattle.mdbox_base.specs.declared.ids.InstId.{InstId};
 ghost use Rattle.mdbox_base.specs.declared.ids.MapUid.{MapUid};
+ghost use Rattle.model_meaning.specs.MapFits.{MapFits};
 ghost use Rattle.model_meaning.specs.MapMeaning.{MapMeaning, MapRecord, map_applied, record_at};
 ghost use Rattle.sis_store.specs.Instances.{holders_in};
 ghost use Rattle.storage_files.specs.Files.{is_emptied_in, is_taken_in, pins_in};
@@ -14,7 +15,7 @@ ghost use Rattle.store_core.specs.MadeLogs.{has_made_log};
 ghost use Rattle.store_core.specs.StoreInstances.{IsKnownRow};
 ghost use Rattle.store_core.specs.Value.{StoreValue};
 ghost use Rattle.task_claims.specs.Claims.{AddsUp, AreIn, Claims, ClaimsNothing, Due, Emptied, HasNoTask, Held, Made, MovesClaims, Pinned, Removing, Taken, both_claims, claims_of_dues, is_to_remove, no_claims};
-ghost use Rattle.task_claims.specs.Leaving.{LeavesFile, LeavesInstance, OnlyGrows, LeavesRecord, LeavesOthers, LeavesUnlisted, SameButCounts, SyncsMail};
+ghost use Rattle.task_claims.specs.Leaving.{LeavesFile, LeavesInstance, OnlyGrows, LeavesRecord, LeavesOthers, LeavesUnlisted, RaisesNone, SameButCounts, SyncsMail};
 ghost use Rattle.task_claims.specs.Stable.{Beside};
 
 /// What two tasks claim stays among what all claim, as one of them goes on.
@@ -49,17 +50,19 @@ pub fn kept_records_are_spared<D>()
     ensures spared { (uid : ℕ) (row : MapRecord) (new : StoreValue D) (before after : Option History) → LeavesRecord uid row new before after → IsSpared uid row new before after }
 {}
 
-/// Entries of the map log that raise or lower a count leave all records, but for the counts.
+/// Entries of the map log that raise or lower a count leave all records, but for the counts. One that fits raises no count of 0.
 pub fn counts_leave_records()
     ensures raised { (uid : MapUid) (m : MapMeaning) → SameButCounts m (map_applied (map_entry.U uid) m) }
     ensures lowered { (uids : List MapUid) (m : MapMeaning) → SameButCounts m (map_applied (map_entry.D uids) m) }
+    ensures unraised { (uid : MapUid) (m : MapMeaning) → MapFits m (map_entry.U uid) → RaisesNone m (map_applied (map_entry.U uid) m) }
+    ensures never { (uids : List MapUid) (m : MapMeaning) → RaisesNone m (map_applied (map_entry.D uids) m) }
 {}
 
 /// An event that leaves the storage files and the instances as they were but for synced names, and of each record all but its count,
-/// leaves to the other tasks what is theirs, if it leaves unlisted records so, and the map log no less room. One that changes nothing
+/// leaves to the other tasks what is theirs, if it raises no count of 0, leaves unlisted records so, and the map log no less room. One that changes nothing
 /// does. Where no more of the value changes than what logs mean and what is due, the claims are those of dues.
 pub fn log_events_leave_others<D>()
-    ensures logs { (mine : Claims) (old new : StoreValue D) (before after : Option History) → new.files ≡ old.files → new.instances ≡ old.instances → SyncsMail before after → SameButCounts old.map new.map → old.map.highest.mailbox ≤ new.map.highest.mailbox → KeepsUids old new → old.map_log.room ≤ new.map_log.room → LeavesUnlisted mine old new
+    ensures logs { (mine : Claims) (old new : StoreValue D) (before after : Option History) → new.files ≡ old.files → new.instances ≡ old.instances → SyncsMail before after → SameButCounts old.map new.map → RaisesNone old.map new.map → old.map.highest.mailbox ≤ new.map.highest.mailbox → KeepsUids old new → old.map_log.room ≤ new.map_log.room → LeavesUnlisted mine old new
         → LeavesOthers mine old new before after }
     ensures dues { (mine mine_now : ℕ → ℕ) (old new : StoreValue D) → ((uid : ℕ) → due_at uid new + mine uid ≡ due_at uid old + mine_now uid) → KeepsRest old new → MovesClaims (claims_of_dues mine) (claims_of_dues mine_now) old new }
     ensures idle { (mine : Claims) (store : StoreValue D) (before after : Option History) → IsIdle before after → LeavesOthers mine store store before after }

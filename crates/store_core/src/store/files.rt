@@ -76,7 +76,7 @@ impl<D: Disk> Store<D> {
 
     /// Gives a storage file back. One that was not made is no file any more; its number stays drawn.
     pub fn release(&mut self, file: FileNo)
-        requires taken { is_taken_in file.0 self.old.files.files ≡ true }
+        requires taken { (is_taken_in file.0 self.old.files.files || is_emptied_in file.0 self.old.files.files) ≡ true }
         ensures same { self.new ≡ record self.old { files = record self.old.files { files = released_in file.0 self.old.files.files } } }
         ensures ends { (number : ℕ) → end_in number self.new.files.files ≡ end_in number self.old.files.files }
     {
