@@ -42,3 +42,4 @@ pub mod SwitchLemmas
 pub mod UnnamedLogLemmas
 pub mod UsedFileLemmas
 pub mod UselessLemmas
+pub mod WrongLemmas

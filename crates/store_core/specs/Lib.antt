@@ -11,3 +11,4 @@ pub mod Running
 pub mod StoreInstances
 pub mod Switching
 pub mod Value
+pub mod Wrong

@@ -45,6 +45,7 @@ mod files;
 mod instances;
 mod switching;
 mod using;
+mod wrong;
 
 /// A mailbox of an open store: its log, and what that means.
 #[derive(Drop)]
