@@ -1,0 +1,17 @@
+pub mod CorrectingLemmas
+pub mod DamageLemmas
+pub mod EndLemmas
+pub mod EventLemmas
+pub mod FileLemmas
+pub mod IdleStoreLemmas
+pub mod ListedLemmas
+pub mod OwnResyncLemmas
+pub mod ReadLemmas
+pub mod RefusedResyncLemmas
+pub mod RegionLemmas
+pub mod ResyncEventLemmas
+pub mod RightCountLemmas
+pub mod StepLemmas
+pub mod StoreCountLemmas
+pub mod WalkLemmas
+pub mod WrongCountLemmas
