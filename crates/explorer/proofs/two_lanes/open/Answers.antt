@@ -8,6 +8,7 @@ world_of-requires-clause-unused g c =
           (record {
             opened = o.opened;
             store = c.facts.ensures.store;
+            known = c.facts.ensures.instances;
             drawn = o.state.3;
             free = o.state.4;
             order = c.facts.ensures.files;

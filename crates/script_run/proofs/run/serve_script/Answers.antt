@@ -15,6 +15,7 @@ of-world-requires-clause-unused g c =
           (record {
             opened = o.opened;
             store = c.facts.ensures.store;
+            known = c.facts.ensures.instances;
             drawn = o.state.3;
             free = o.state.4;
             order = c.facts.ensures.files;
