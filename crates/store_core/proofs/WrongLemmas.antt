@@ -22,7 +22,7 @@ use Rattle.model_store.specs.Opening.{listed_of}
 use Rattle.store_core.specs.Running.{CoverDues, IsStore}
 use Rattle.store_core.specs.Dues.{number_beside, due_at, listed_at}
 use Rattle.store_core.specs.Value.{StoreValue, indexes_of}
-use Rattle.store_core.specs.Wrong.{wrong_beside, wrong_of, in_rows, in_boxes, AreBeside}
+use Rattle.store_core.specs.Wrong.{wrong_beside, wrong_of, in_rows, in_boxes, StandBeside}
 use Rattle.store_core.specs.declared.store.OpenBox.{OpenBox}
 use Rattle.store_core.proofs.DueLemmas.{AreNumbers, OneEach, RecordsRise, at_own_place, listed_meant}
 use Rattle.store_core.proofs.DueChangeLemmas.{raises, is_raise, changed_are, numbers_are}
@@ -87,11 +87,11 @@ one_each_of (r ∷ rs) [] e = absurd (omega (arith, e))
 one_each_of (r ∷ rs) (n ∷ ns) e = one_each_of rs ns (omega (arith, e))
 
 -- numbers stand at their own records
-pub own_beside : (rows : List MapRecord) (ns : List ℕ) → AllPairs RecordsRise rows → length ns ≡ length rows → AreBeside (λ uid. number_beside uid rows ns) rows ns
+pub own_beside : (rows : List MapRecord) (ns : List ℕ) → AllPairs RecordsRise rows → length ns ≡ length rows → StandBeside (λ uid. number_beside uid rows ns) rows ns
 own_beside rows ns rising size = numbers_are (λ uid. number_beside uid rows ns) rows ns (at_own_place rows ns rising (one_each_of rows ns size))
 
 pub walk_begins : (rows : List MapRecord) (ns : List ℕ) (listed : List LogRow) → AllPairs RecordsRise rows → length ns ≡ length rows
-    → AreBeside (λ uid. number_beside uid rows ns + in_rows uid (take 0 listed)) rows ns
+    → StandBeside (λ uid. number_beside uid rows ns + in_rows uid (take 0 listed)) rows ns
 walk_begins rows ns listed rising size =
     own_beside rows ns rising size
     ∙ same_beside (λ u. number_beside u rows ns) (λ u. number_beside u rows ns + in_rows u (take 0 listed)) rows (λ u. let none = rows_none u listed in omega (arith, none))
@@ -107,14 +107,14 @@ take_few uid (row ∷ rows) (suc i) = by_test (row.map_uid == uid) (take_few uid
     by_test false few e = omega (arith, few, e)
 
 pub walk_has_room : (before : ℕ → ℕ) (uid i : ℕ) (rows : List MapRecord) (ns : List ℕ) (listed : List LogRow) → ((u : ℕ) → before u ≤ 1024000000) → length listed ≤ 1000000
-    → AreBeside (λ u. before u + in_rows u (take i listed)) rows ns → number_beside uid rows ns + 1 < 4294967296
+    → StandBeside (λ u. before u + in_rows u (take i listed)) rows ns → number_beside uid rows ns + 1 < 4294967296
 walk_has_room before uid i rows ns listed within few are =
     let most = beside_most (λ u. before u + in_rows u (take i listed)) 1025000000 uid rows (λ u. let a = within u in let b = take_few u listed i in omega (arith, a, b, few)) in
     let here : number_beside uid rows ns ≤ 1025000000 = subst (λ (xs : List ℕ). number_beside uid rows xs ≤ 1025000000) (sym are) most in
     omega (arith, here)
 
 pub walk_goes_on : (before : ℕ → ℕ) (i : ℕ) (rows : List MapRecord) (ns ms : List ℕ) (listed : List LogRow) (row : BoxRow) → AllPairs RecordsRise rows → i < length listed → slice_get listed i ≡ Some (row_of row)
-    → AreBeside (λ u. before u + in_rows u (take i listed)) rows ns → ms ≡ change_beside row.map_uid.0 (λ n. n + 1) rows ns → AreBeside (λ u. before u + in_rows u (take (i + 1) listed)) rows ms
+    → StandBeside (λ u. before u + in_rows u (take i listed)) rows ns → ms ≡ change_beside row.map_uid.0 (λ n. n + 1) rows ns → StandBeside (λ u. before u + in_rows u (take (i + 1) listed)) rows ms
 walk_goes_on before i rows ns ms listed row rising within is are e =
     e ∙ ap (change_beside row.map_uid.0 (λ n. n + 1) rows) are
     ∙ one_more_beside row.map_uid.0 (λ u. before u + in_rows u (take i listed)) rows rising
@@ -122,7 +122,7 @@ walk_goes_on before i rows ns ms listed row rising within is are e =
     (λ u. let more = rows_more u listed i row within is in omega (arith, more))
 
 pub walk_ends : (before : ℕ → ℕ) (i : ℕ) (rows : List MapRecord) (ns : List ℕ) (listed : List LogRow) → length listed ≤ i
-    → AreBeside (λ u. before u + in_rows u (take i listed)) rows ns → AreBeside (λ u. before u + in_rows u listed) rows ns
+    → StandBeside (λ u. before u + in_rows u (take i listed)) rows ns → StandBeside (λ u. before u + in_rows u listed) rows ns
 walk_ends before i rows ns listed all are = are ∙ same_beside (λ u. before u + in_rows u (take i listed)) (λ u. before u + in_rows u listed) rows (λ u. ap (λ (xs : List LogRow). before u + in_rows u xs) (take_all i listed all))
 
 -- ---- a walk over the mailboxes
@@ -131,7 +131,7 @@ pub boxes_none : (uid : ℕ) (boxes : List OpenBox) → in_boxes uid (take 0 box
 boxes_none uid [] = refl
 boxes_none uid (b ∷ bs) = refl
 
-pub none_beside : (rows : List MapRecord) → AreBeside (λ uid. 0) rows (replicate (length rows) 0)
+pub none_beside : (rows : List MapRecord) → StandBeside (λ uid. 0) rows (replicate (length rows) 0)
 none_beside [] = refl
 none_beside (r ∷ rs) = let rest = none_beside rs in cc rest
 
@@ -148,23 +148,23 @@ both_more f g more (r ∷ rs) (n ∷ ns) a b =
     let rest = both_more f g more rs ns a.1 b.1 in
     cc (both, rest)
 
-size_beside : (number : ℕ → ℕ) (rows : List MapRecord) (ns : List ℕ) → AreBeside number rows ns → length ns ≡ length rows
+size_beside : (number : ℕ → ℕ) (rows : List MapRecord) (ns : List ℕ) → StandBeside number rows ns → length ns ≡ length rows
 size_beside number rows ns are = ap length are ∙ length-map rows (λ (row : MapRecord). number row.uid)
 
-given_at : (number : ℕ → ℕ) (rows : List MapRecord) (ns : List ℕ) → AreBeside number rows ns → AreNumbers number rows ns
+given_at : (number : ℕ → ℕ) (rows : List MapRecord) (ns : List ℕ) → StandBeside number rows ns → AreNumbers number rows ns
 given_at number rows ns are = subst (λ (xs : List ℕ). AreNumbers number rows xs) (sym are) (numbers_beside number rows)
 
-pub more_beside : (number more : ℕ → ℕ) (rows : List MapRecord) (ns ms : List ℕ) → AllPairs RecordsRise rows → AreBeside number rows ns → AreBeside (λ u. number_beside u rows ns + more u) rows ms → AreBeside (λ u. number u + more u) rows ms
+pub more_beside : (number more : ℕ → ℕ) (rows : List MapRecord) (ns ms : List ℕ) → AllPairs RecordsRise rows → StandBeside number rows ns → StandBeside (λ u. number_beside u rows ns + more u) rows ms → StandBeside (λ u. number u + more u) rows ms
 more_beside number more rows ns ms rising are added =
     added ∙ both_more (λ u. number_beside u rows ns) number more rows ns (at_own_place rows ns rising (one_each_of rows ns (size_beside number rows ns are))) (given_at number rows ns are)
 
 pub walk_of_boxes : (i : ℕ) (boxes : List OpenBox) (b : OpenBox) (rows : List MapRecord) (ns ms : List ℕ) → AllPairs RecordsRise rows → i < length boxes → b ≡ get_or boxes i b
-    → AreBeside (λ u. in_boxes u (take i boxes)) rows ns → AreBeside (λ u. number_beside u rows ns + in_rows u b.index.meaning.rows) rows ms → AreBeside (λ u. in_boxes u (take (i + 1) boxes)) rows ms
+    → StandBeside (λ u. in_boxes u (take i boxes)) rows ns → StandBeside (λ u. number_beside u rows ns + in_rows u b.index.meaning.rows) rows ms → StandBeside (λ u. in_boxes u (take (i + 1) boxes)) rows ms
 walk_of_boxes i boxes b rows ns ms rising within is are added =
     more_beside (λ u. in_boxes u (take i boxes)) (λ u. in_rows u b.index.meaning.rows) rows ns ms rising are added
     ∙ same_beside (λ u. in_boxes u (take i boxes) + in_rows u b.index.meaning.rows) (λ u. in_boxes u (take (i + 1) boxes)) rows (λ u. sym (boxes_more u i boxes b within is))
 
-pub boxes_have_room : (i uid : ℕ) (boxes : List OpenBox) (rows : List MapRecord) (ns : List ℕ) → i < 1024 → ((u : ℕ) → in_boxes u (take i boxes) ≤ i * 1000000) → AreBeside (λ u. in_boxes u (take i boxes)) rows ns → number_beside uid rows ns ≤ 1024000000
+pub boxes_have_room : (i uid : ℕ) (boxes : List OpenBox) (rows : List MapRecord) (ns : List ℕ) → i < 1024 → ((u : ℕ) → in_boxes u (take i boxes) ≤ i * 1000000) → StandBeside (λ u. in_boxes u (take i boxes)) rows ns → number_beside uid rows ns ≤ 1024000000
 boxes_have_room i uid boxes rows ns few within are =
     subst (λ (xs : List ℕ). number_beside uid rows xs ≤ 1024000000) (sym are) (beside_most (λ u. in_boxes u (take i boxes)) 1024000000 uid rows (λ u. let a = within u in omega (arith, a, few)))
 
@@ -291,7 +291,7 @@ wrong_alike f g due (r ∷ rs) (n ∷ ns) a b =
     ap (λ (k : ℕ). if r.count == k + due r.uid then wrong_beside (λ u. f u + due u) rs else record { uid = record { 0 = r.uid }; count = k + due r.uid } ∷ wrong_beside (λ u. f u + due u) rs) (a.0 ∙ sym b.0)
     ∙ ap (λ (xs : List MapCount). if r.count == g r.uid + due r.uid then xs else record { uid = record { 0 = r.uid }; count = g r.uid + due r.uid } ∷ xs) (wrong_alike f g due rs ns a.1 b.1)
 
-listed_numbers : {D : Type 0} → (store : StoreValue D) (boxes : List OpenBox) (listed : List ℕ) → boxes ≡ store.boxes → AreBeside (λ u. in_boxes u boxes) store.map.records listed → AreNumbers (λ u. listed_at u store) store.map.records listed
+listed_numbers : {D : Type 0} → (store : StoreValue D) (boxes : List OpenBox) (listed : List ℕ) → boxes ≡ store.boxes → StandBeside (λ u. in_boxes u boxes) store.map.records listed → AreNumbers (λ u. listed_at u store) store.map.records listed
 listed_numbers store boxes listed same are =
     given_at (λ u. listed_at u store) store.map.records listed
     (are ∙ same_beside (λ u. in_boxes u boxes) (λ u. listed_at u store) store.map.records (λ u. ap (in_boxes u) same ∙ in_indexes u store.boxes))
@@ -302,7 +302,7 @@ rises history store s = subst (λ (m : MapMeaning). AllPairs RecordsRise m.recor
 own_numbers : {D : Type 0} → (history : Option History) (store : StoreValue D) (listed : List ℕ) → IsStore history store → length listed ≡ length store.map.records → AreNumbers (λ u. number_beside u store.map.records listed) store.map.records listed
 own_numbers history store listed s size = at_own_place store.map.records listed (rises history store s) (one_each_of store.map.records listed size)
 
-pub store_covers : {D : Type 0} → (history : Option History) (store : StoreValue D) (boxes : List OpenBox) (listed : List ℕ) → IsStore history store → boxes ≡ store.boxes → AreBeside (λ u. in_boxes u boxes) store.map.records listed
+pub store_covers : {D : Type 0} → (history : Option History) (store : StoreValue D) (boxes : List OpenBox) (listed : List ℕ) → IsStore history store → boxes ≡ store.boxes → StandBeside (λ u. in_boxes u boxes) store.map.records listed
     → All (λ row. number_beside row.uid store.map.records listed + number_beside row.uid store.map.records store.dues ≤ row.count) store.map.records
 store_covers history store boxes listed s same are =
     bounds_alike (λ u. number_beside u store.map.records listed) (λ u. listed_at u store) (λ u. due_at u store) store.map.records listed
@@ -311,22 +311,22 @@ store_covers history store boxes listed s same are =
     (λ u. ap (λ (ms : List BoxMeaning). sum_by (λ (m : BoxMeaning). count_by (λ (row : LogRow). row.map_uid == u) m.rows) ms) s.boxes_are ∙ listed_meant u s.logs)
     (own_numbers history store store.dues s (covers_each s.logs store.map.records store.dues s.counts)) s.counts)
 
-pub wrong_of_store : {D : Type 0} → (history : Option History) (store : StoreValue D) (boxes : List OpenBox) (listed : List ℕ) (counts : List MapCount) → IsStore history store → boxes ≡ store.boxes → AreBeside (λ u. in_boxes u boxes) store.map.records listed
+pub wrong_of_store : {D : Type 0} → (history : Option History) (store : StoreValue D) (boxes : List OpenBox) (listed : List ℕ) (counts : List MapCount) → IsStore history store → boxes ≡ store.boxes → StandBeside (λ u. in_boxes u boxes) store.map.records listed
     → counts ≡ wrong_beside (λ u. number_beside u store.map.records listed + number_beside u store.map.records store.dues) store.map.records → counts ≡ wrong_of store
 wrong_of_store history store boxes listed counts s same are e =
     e ∙ wrong_alike (λ u. number_beside u store.map.records listed) (λ u. listed_at u store) (λ u. due_at u store) store.map.records listed
     (own_numbers history store listed s (size_beside (λ u. in_boxes u boxes) store.map.records listed are)) (listed_numbers store boxes listed same are)
 
-pub listed_size : (boxes : List OpenBox) (rows : List MapRecord) (listed : List ℕ) → AreBeside (λ u. in_boxes u boxes) rows listed → length listed ≡ length rows
+pub listed_size : (boxes : List OpenBox) (rows : List MapRecord) (listed : List ℕ) → StandBeside (λ u. in_boxes u boxes) rows listed → length listed ≡ length rows
 listed_size boxes rows listed are = size_beside (λ u. in_boxes u boxes) rows listed are
 
 pub wrong_seen : {D : Type 0} → (history : Option History) (inside seen : StoreValue D) (boxes : List OpenBox) (listed dues : List ℕ) (counts : List MapCount) → inside ≡ seen → IsStore history inside → boxes ≡ inside.boxes → dues ≡ inside.dues
-    → AreBeside (λ u. in_boxes u boxes) inside.map.records listed → counts ≡ wrong_beside (λ u. number_beside u inside.map.records listed + number_beside u inside.map.records dues) inside.map.records → counts ≡ wrong_of seen
+    → StandBeside (λ u. in_boxes u boxes) inside.map.records listed → counts ≡ wrong_beside (λ u. number_beside u inside.map.records listed + number_beside u inside.map.records dues) inside.map.records → counts ≡ wrong_of seen
 wrong_seen history inside seen boxes listed dues counts is s same owed are e =
     subst (λ (v : StoreValue _). counts ≡ wrong_of v) is
     (wrong_of_store history inside boxes listed counts s same are (e ∙ ap (λ (ds : List ℕ). wrong_beside (λ u. number_beside u inside.map.records listed + number_beside u inside.map.records ds) inside.map.records) owed))
 
-pub covers_seen : {D : Type 0} → (history : Option History) (inside : StoreValue D) (boxes : List OpenBox) (listed dues : List ℕ) → IsStore history inside → boxes ≡ inside.boxes → dues ≡ inside.dues → AreBeside (λ u. in_boxes u boxes) inside.map.records listed
+pub covers_seen : {D : Type 0} → (history : Option History) (inside : StoreValue D) (boxes : List OpenBox) (listed dues : List ℕ) → IsStore history inside → boxes ≡ inside.boxes → dues ≡ inside.dues → StandBeside (λ u. in_boxes u boxes) inside.map.records listed
     → All (λ row. number_beside row.uid inside.map.records listed + number_beside row.uid inside.map.records dues ≤ row.count) inside.map.records
 covers_seen history inside boxes listed dues s same owed are =
     subst (λ (ds : List ℕ). All (λ (row : MapRecord). number_beside row.uid inside.map.records listed + number_beside row.uid inside.map.records ds ≤ row.count) inside.map.records) (sym owed) (store_covers history inside boxes listed s same are)
@@ -335,6 +335,6 @@ pub dues_seen : {D : Type 0} → (history : Option History) (inside : StoreValue
 dues_seen history inside dues s owed = ap length owed ∙ covers_each s.logs inside.map.records inside.dues s.counts
 
 pub wrong_answered : {D : Type 0} {E : Type 0} → (history : Option History) (inside seen : StoreValue D) (boxes : List OpenBox) (listed dues : List ℕ) (answer : Result (List MapCount) E) → inside ≡ seen → IsStore history inside → boxes ≡ inside.boxes → dues ≡ inside.dues
-    → AreBeside (λ u. in_boxes u boxes) inside.map.records listed → IfOk answer (λ counts. counts ≡ wrong_beside (λ u. number_beside u inside.map.records listed + number_beside u inside.map.records dues) inside.map.records) → IfOk answer (λ counts. counts ≡ wrong_of seen)
+    → StandBeside (λ u. in_boxes u boxes) inside.map.records listed → IfOk answer (λ counts. counts ≡ wrong_beside (λ u. number_beside u inside.map.records listed + number_beside u inside.map.records dues) inside.map.records) → IfOk answer (λ counts. counts ≡ wrong_of seen)
 wrong_answered history inside seen boxes listed dues (Ok counts) is s same owed are e = wrong_seen history inside seen boxes listed dues counts is s same owed are e
 wrong_answered history inside seen boxes listed dues (Err why) is s same owed are e = e

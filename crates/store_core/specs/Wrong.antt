@@ -24,5 +24,5 @@ abbrev pub in_boxes : ℕ → List OpenBox → ℕ
 in_boxes uid boxes = sum_by (λ b. in_rows uid b.index.meaning.rows) boxes
 
 -- each record has the number that its map uid gives
-abbrev pub AreBeside : (ℕ → ℕ) → List MapRecord → List ℕ → Type 0
-AreBeside number rows numbers = numbers ≡ map (λ row. number row.uid) rows
+abbrev pub StandBeside : (ℕ → ℕ) → List MapRecord → List ℕ → Type 0
+StandBeside number rows numbers = numbers ≡ map (λ row. number row.uid) rows

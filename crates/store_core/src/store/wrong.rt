@@ -2,7 +2,7 @@
 ghost use Rattle.std.specs.Prelude.{◌≡◌, ◌≤◌, ◌+◌, ◌==◌, ◌++◌, ◌∷◌, [], if◌then◌else◌, ℕ, length, All, IfOk, OnOk};
 ghost use Rattle.model_meaning.specs.MapMeaning.{MapRecord};
 ghost use Rattle.store_core.specs.Dues.{number_beside};
-ghost use Rattle.store_core.specs.Wrong.{AreBeside, in_boxes, in_rows, wrong_beside, wrong_of};
+ghost use Rattle.store_core.specs.Wrong.{StandBeside, in_boxes, in_rows, wrong_beside, wrong_of};
 
 use super::{OpenBox, Store};
 use crate::due::raise_due;
@@ -27,7 +27,7 @@ impl<D: Disk> Store<D> {
 /// How many rows of mailboxes have each record's map uid, in the order of the records.
 fn listed_beside(alloc: Global, map: &MapIndex, boxes: &[OpenBox]) -> Result<Vec<u32>, NoMemory>
     requires { length boxes.now ≤ 1024 }
-    ensures { IfOk result (λ sums. AreBeside (λ uid. in_boxes uid boxes.now) map.now.meaning.records sums.items) }
+    ensures { IfOk result (λ sums. StandBeside (λ uid. in_boxes uid boxes.now) map.now.meaning.records sums.items) }
 {
     map.known_facts();
     let mut sums = vec![in alloc; 0; map.rows() as usize]?;
@@ -41,7 +41,7 @@ fn listed_beside(alloc: Global, map: &MapIndex, boxes: &[OpenBox]) -> Result<Vec
 fn add_rows(map: &MapIndex, sums: &mut Vec<u32>, index: &BoxIndex)
     requires size { length sums.old.items ≡ length map.now.meaning.records }
     requires room { (uid : ℕ) → number_beside uid map.now.meaning.records sums.old.items ≤ 1024000000 }
-    ensures added { AreBeside (λ uid. number_beside uid map.now.meaning.records sums.old.items + in_rows uid index.now.meaning.rows) map.now.meaning.records sums.new.items }
+    ensures added { StandBeside (λ uid. number_beside uid map.now.meaning.records sums.old.items + in_rows uid index.now.meaning.rows) map.now.meaning.records sums.new.items }
     ensures few { (uid : ℕ) → in_rows uid index.now.meaning.rows ≤ 1000000 }
 {
     map.known_facts();

@@ -4,7 +4,7 @@ use Rattle.std.proofs.lemmas.Iterator.Consumers.{YieldsList-from_first, YieldsLi
 use Rattle.box_index.specs.Row.{row_of}
 use Rattle.box_index.specs.declared.index.BoxRow.{BoxRow}
 use Rattle.store_core.specs.Dues.{number_beside}
-use Rattle.store_core.specs.Wrong.{AreBeside, in_rows}
+use Rattle.store_core.specs.Wrong.{StandBeside, in_rows}
 use Rattle.store_core.proofs.CountingLemmas.{row_here}
 use Rattle.store_core.proofs.WrongLemmas.{walk_begins, walk_has_room, walk_goes_on, walk_ends, rows_few}
 use Rattle.store_core.proofs.store.wrong.add_rows.Goals as goal
@@ -25,7 +25,7 @@ loop-row-preserved c =
     let at = row_here c.rows-row-items.result c.args.index.now.meaning.rows (length c.loop-row.yielded) c.in-Some.row c.rows-row-items.ensures turn in
     let long : length c.rows-row-items.result ≡ length c.args.index.now.meaning.rows = sym (length-map c.rows-row-items.result row_of) ∙ ap length c.rows-row-items.ensures in
     let more = length-append c.loop-row.yielded (c.in-Some.row ∷ []) in
-    subst (λ (n : ℕ). AreBeside (λ u. number_beside u c.args.map.now.meaning.records c.args.sums.now.items + in_rows u (take n c.args.index.now.meaning.rows)) c.args.map.now.meaning.records c.raise_due.new.dues.items) (sym more)
+    subst (λ (n : ℕ). StandBeside (λ u. number_beside u c.args.map.now.meaning.records c.args.sums.now.items + in_rows u (take n c.args.index.now.meaning.rows)) c.args.map.now.meaning.records c.raise_due.new.dues.items) (sym more)
     (walk_goes_on (λ u. number_beside u c.args.map.now.meaning.records c.args.sums.now.items) (length c.loop-row.yielded) c.args.map.now.meaning.records c.loop-row.sums.items c.raise_due.new.dues.items c.args.index.now.meaning.rows c.in-Some.row
     c.known_facts.ensures.records.rising (omega (arith, within, long)) at c.loop-row.invariant c.raise_due.ensures)
 

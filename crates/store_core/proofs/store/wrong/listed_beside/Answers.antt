@@ -1,5 +1,5 @@
 use Rattle.std.proofs.Common.{◌≡◌, ◌≤◌, ◌<◌, ◌+◌, ◌*◌, ◌∙◌, ℕ, length, take, replicate, sym, ap, arith}
-use Rattle.store_core.specs.Wrong.{AreBeside, in_boxes, in_rows}
+use Rattle.store_core.specs.Wrong.{StandBeside, in_boxes, in_rows}
 use Rattle.store_core.proofs.WrongLemmas.{boxes_none, none_beside, same_beside, walk_of_boxes, boxes_have_room, boxes_more}
 use Rattle.store_core.proofs.store.wrong.listed_beside.Goals as goal
 
