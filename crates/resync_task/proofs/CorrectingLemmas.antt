@@ -25,7 +25,8 @@ use Rattle.resync_task.proofs.WrongCountLemmas.{IsWrong, as_right, all_wrong, fi
 use Rattle.store_core.specs.Dues.{due_at, listed_at}
 use Rattle.store_core.specs.Running.{CoverDues, IsStore}
 use Rattle.store_core.proofs.DueLemmas.{AreNumbers, at_own_place, dues_each, listed_meant}
-use Rattle.store_core.specs.Value.{StoreValue}
+use Rattle.store_core.specs.Keeping.{KeepsRest}
+use Rattle.store_core.specs.Value.{StoreValue, indexes_of}
 use Rattle.resync_task.proofs.StoreCountLemmas.{uids_rise}
 
 pub entry_fits : {D : Type 0} → (history : Option History) (store : StoreValue D) (counts : List MapCount) → IsStore history store → counts ≡ wrong_of store → MapFits store.map (entry.T counts)
@@ -134,3 +135,10 @@ right_none store history faults runs none = record {
 pub some_taken : (counts wrong : List MapCount) (m : MapMeaning) → counts ≡ wrong → (length counts ≡ 0 → ⊥) → map_applied (entry.T counts) m ≡ corrected_map wrong m
 some_taken [] wrong m e some = absurd (some refl)
 some_taken (c ∷ counts) wrong m e some = ap (λ (cs : List MapCount). corrected_map cs m) e
+
+-- an append to the map log leaves the mailboxes and the rest of the store
+pub append_rest : {D : Type 0} → (old new : StoreValue D) → new ≡ record old { disk = new.disk; map_log = new.map_log; map = new.map; drawn = new.drawn; dues = new.dues; stopped = new.stopped } → KeepsRest old new × (indexes_of new.boxes ≡ indexes_of old.boxes)
+append_rest old new same = (
+  same ∙ sym (ap (λ (v : StoreValue _). record old { disk = v.disk; map_log = v.map_log; map = v.map; boxes = v.boxes; drawn = v.drawn; dues = v.dues; stopped = v.stopped }) same),
+  ap (λ (v : StoreValue _). indexes_of v.boxes) same,
+)

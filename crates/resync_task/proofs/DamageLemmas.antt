@@ -15,7 +15,7 @@ use Rattle.model_meaning.proofs.MapSoundLemmas.{map_sound}
 use Rattle.model_store.proofs.OpeningSafeLemmas.{at_uid}
 use Rattle.store_core.specs.Running.{IsStore}
 use Rattle.store_core.specs.Value.{StoreValue}
-use Rattle.resync_task.specs.Damage.{AreDamaged, IsDamaged, IsWhole, TellsWhole}
+use Rattle.resync_task.specs.Damage.{AreDamaged, HasDamagedRegion, HasWholeRegion, TellsWhole}
 use Rattle.resync_task.proofs.WalkLemmas.{nearest_there, walk_end, walk_on}
 
 -- the map of a store is sound
@@ -25,8 +25,8 @@ store_sound history store s = subst IsSoundMap (sym s.map_is) (map_sound store.m
 -- Of the records before this offset the damaged are these.
 pub record Walked (history : Option History) (m : MapMeaning) (file from : ℕ) (uids : List ℕ) : Type 0 where
   pub once : AllPairs (λ a b. a ≢ b) uids
-  pub bad : All (λ uid. HasRecord m uid (λ row. (row.file ≡ file) × (row.offset < from) × IsDamaged history row)) uids
-  pub every : All (λ row. row.file ≡ file → row.offset < from → Contains uids row.uid ⊎ IsWhole history row) m.records
+  pub bad : All (λ uid. HasRecord m uid (λ row. (row.file ≡ file) × (row.offset < from) × HasDamagedRegion history row)) uids
+  pub every : All (λ row. row.file ≡ file → row.offset < from → Contains uids row.uid ⊎ HasWholeRegion history row) m.records
   pub few : length uids ≤ from
 
 pub walk_begins : (history : Option History) (m : MapMeaning) (file : ℕ) → Walked history m file 0 []
@@ -60,12 +60,12 @@ sizes m s = All-weaker (IsSoundRecord m.highest.map) (λ (r : MapRecord). 1 ≤ 
 
 -- ---- a region that is whole
 
-pub walk_whole : (history : Option History) (m : MapMeaning) (file from : ℕ) (row : MapRow) (uids : List ℕ) → IsSoundMap m → (n : IsNext m file from row) → IsWhole history n.own → Walked history m file from uids → Walked history m file (n.own.offset + n.own.size) uids
+pub walk_whole : (history : Option History) (m : MapMeaning) (file from : ℕ) (row : MapRow) (uids : List ℕ) → IsSoundMap m → (n : IsNext m file from row) → HasWholeRegion history n.own → Walked history m file from uids → Walked history m file (n.own.offset + n.own.size) uids
 walk_whole history m file from row uids s n whole w = record {
   once = w.once;
-  bad = All-weaker (λ (uid : ℕ). HasRecord m uid (λ r. (r.file ≡ file) × (r.offset < from) × IsDamaged history r)) (λ (uid : ℕ). HasRecord m uid (λ r. (r.file ≡ file) × (r.offset < n.own.offset + n.own.size) × IsDamaged history r))
+  bad = All-weaker (λ (uid : ℕ). HasRecord m uid (λ r. (r.file ≡ file) × (r.offset < from) × HasDamagedRegion history r)) (λ (uid : ℕ). HasRecord m uid (λ r. (r.file ≡ file) × (r.offset < n.own.offset + n.own.size) × HasDamagedRegion history r))
       (λ uid h. (h.0, h.1, (h.2.0, further h.0 h.2.1, h.2.2))) uids w.bad;
-  every = walk_on m.records file from n.own (λ r. Contains uids r.uid ⊎ IsWhole history r) s.apart (sizes m s) n.nearest (inr whole) w.every;
+  every = walk_on m.records file from n.own (λ r. Contains uids r.uid ⊎ HasWholeRegion history r) s.apart (sizes m s) n.nearest (inr whole) w.every;
   few = (let a = w.few in let b = n.behind in omega (arith, a, b));
 }
   where
@@ -74,15 +74,15 @@ walk_whole history m file from row uids s n whole w = record {
 
 -- ---- a region that is damaged
 
-pub walk_damaged : (history : Option History) (m : MapMeaning) (file from : ℕ) (row : MapRow) (uids : List ℕ) → IsSoundMap m → (n : IsNext m file from row) → IsDamaged history n.own → Walked history m file from uids → Walked history m file (n.own.offset + n.own.size) (uids ++ n.own.uid ∷ [])
+pub walk_damaged : (history : Option History) (m : MapMeaning) (file from : ℕ) (row : MapRow) (uids : List ℕ) → IsSoundMap m → (n : IsNext m file from row) → HasDamagedRegion history n.own → Walked history m file from uids → Walked history m file (n.own.offset + n.own.size) (uids ++ n.own.uid ∷ [])
 walk_damaged history m file from row uids s n damaged w = record {
-  once = pairs_push (λ (a b : ℕ). a ≢ b) uids n.own.uid w.once (All-weaker (λ (uid : ℕ). HasRecord m uid (λ r. (r.file ≡ file) × (r.offset < from) × IsDamaged history r)) (λ (uid : ℕ). uid ≢ n.own.uid) (λ uid h e. other h.0 uid h.1 h.2.1 e) uids w.bad);
-  bad = All-append (λ (uid : ℕ). HasRecord m uid (λ r. (r.file ≡ file) × (r.offset < n.own.offset + n.own.size) × IsDamaged history r)) uids (n.own.uid ∷ [])
-      (All-weaker (λ (uid : ℕ). HasRecord m uid (λ r. (r.file ≡ file) × (r.offset < from) × IsDamaged history r)) (λ (uid : ℕ). HasRecord m uid (λ r. (r.file ≡ file) × (r.offset < n.own.offset + n.own.size) × IsDamaged history r))
+  once = pairs_push (λ (a b : ℕ). a ≢ b) uids n.own.uid w.once (All-weaker (λ (uid : ℕ). HasRecord m uid (λ r. (r.file ≡ file) × (r.offset < from) × HasDamagedRegion history r)) (λ (uid : ℕ). uid ≢ n.own.uid) (λ uid h e. other h.0 uid h.1 h.2.1 e) uids w.bad);
+  bad = All-append (λ (uid : ℕ). HasRecord m uid (λ r. (r.file ≡ file) × (r.offset < n.own.offset + n.own.size) × HasDamagedRegion history r)) uids (n.own.uid ∷ [])
+      (All-weaker (λ (uid : ℕ). HasRecord m uid (λ r. (r.file ≡ file) × (r.offset < from) × HasDamagedRegion history r)) (λ (uid : ℕ). HasRecord m uid (λ r. (r.file ≡ file) × (r.offset < n.own.offset + n.own.size) × HasDamagedRegion history r))
       (λ uid h. (h.0, h.1, (h.2.0, further h.0 h.2.1, h.2.2))) uids w.bad)
-      (All-cons (λ (uid : ℕ). HasRecord m uid (λ r. (r.file ≡ file) × (r.offset < n.own.offset + n.own.size) × IsDamaged history r)) n.own.uid [] (n.own, found, (n.of_file, within, damaged)) (All-nil _));
-  every = walk_on m.records file from n.own (λ r. Contains (uids ++ n.own.uid ∷ []) r.uid ⊎ IsWhole history r) s.apart (sizes m s) n.nearest (inl (Contains-append_right uids (n.own.uid ∷ []) n.own.uid (only n.own.uid)))
-      (All-weaker (λ (r : MapRecord). r.file ≡ file → r.offset < from → Contains uids r.uid ⊎ IsWhole history r) (λ (r : MapRecord). r.file ≡ file → r.offset < from → Contains (uids ++ n.own.uid ∷ []) r.uid ⊎ IsWhole history r)
+      (All-cons (λ (uid : ℕ). HasRecord m uid (λ r. (r.file ≡ file) × (r.offset < n.own.offset + n.own.size) × HasDamagedRegion history r)) n.own.uid [] (n.own, found, (n.of_file, within, damaged)) (All-nil _));
+  every = walk_on m.records file from n.own (λ r. Contains (uids ++ n.own.uid ∷ []) r.uid ⊎ HasWholeRegion history r) s.apart (sizes m s) n.nearest (inl (Contains-append_right uids (n.own.uid ∷ []) n.own.uid (only n.own.uid)))
+      (All-weaker (λ (r : MapRecord). r.file ≡ file → r.offset < from → Contains uids r.uid ⊎ HasWholeRegion history r) (λ (r : MapRecord). r.file ≡ file → r.offset < from → Contains (uids ++ n.own.uid ∷ []) r.uid ⊎ HasWholeRegion history r)
       (λ r h same before. more r (h same before)) m.records w.every);
   few = (let a = w.few in let b = n.behind in let c = n.some in let l = length-append uids (n.own.uid ∷ []) in omega (arith, a, b, c, l));
 }
@@ -109,7 +109,7 @@ walk_damaged history m file from row uids s n damaged w = record {
     only : (uid : ℕ) → Contains (uid ∷ []) uid
     only uid = All-contains_itself (uid ∷ []) 0 0 (omega arith)
 
-    more : (r : MapRecord) → Contains uids r.uid ⊎ IsWhole history r → Contains (uids ++ n.own.uid ∷ []) r.uid ⊎ IsWhole history r
+    more : (r : MapRecord) → Contains uids r.uid ⊎ HasWholeRegion history r → Contains (uids ++ n.own.uid ∷ []) r.uid ⊎ HasWholeRegion history r
     more r (inl c) = inl (Contains-append_left uids (n.own.uid ∷ []) r.uid c)
     more r (inr h) = inr h
 
@@ -136,8 +136,8 @@ ends history m file from many e (uids, is, w) = (
   is,
   record {
     once = w.once;
-    bad = All-weaker (λ (uid : ℕ). HasRecord m uid (λ r. (r.file ≡ file) × (r.offset < from) × IsDamaged history r)) (λ (uid : ℕ). HasRecord m uid (λ r. (r.file ≡ file) × IsDamaged history r)) (λ uid h. (h.0, h.1, (h.2.0, h.2.2))) uids w.bad;
-    every = walk_end m.records file from (λ r. Contains uids r.uid ⊎ IsWhole history r) (none_behind _ e) w.every;
+    bad = All-weaker (λ (uid : ℕ). HasRecord m uid (λ r. (r.file ≡ file) × (r.offset < from) × HasDamagedRegion history r)) (λ (uid : ℕ). HasRecord m uid (λ r. (r.file ≡ file) × HasDamagedRegion history r)) (λ uid h. (h.0, h.1, (h.2.0, h.2.2))) uids w.bad;
+    every = walk_end m.records file from (λ r. Contains uids r.uid ⊎ HasWholeRegion history r) (none_behind _ e) w.every;
   },
 )
 

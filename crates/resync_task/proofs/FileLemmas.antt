@@ -14,7 +14,7 @@ use Rattle.model_octets.proofs.PairLemmas.{pairs_head, pairs_tail}
 use Rattle.model_octets.proofs.SearchLemmas.{among}
 use Rattle.journal.specs.Found.{is_named_file}
 use Rattle.store_files.proofs.NumberListLemmas.{numbers_rise, region_kept}
-use Rattle.resync_task.specs.Files.{AreRecordFiles, file_of}
+use Rattle.resync_task.specs.Files.{AreRecordFiles, region_file}
 
 any_at : (p : MapRecord → Bool) (rows : List MapRecord) (row : MapRecord) → Contains rows row → p row ≡ true → list_any p rows ≡ true
 any_at p [] row c e = absurd (let k = c.1 in omega (arith, k))
@@ -35,13 +35,13 @@ any_at p (x ∷ xs) row c e = by_place (among x xs row c) (λ d. any_at p xs row
 own_named : (m : MapMeaning) → All (λ row. is_named_file m row.file ≡ true) m.records
 own_named m = All-weaker (Contains m.records) (λ (row : MapRecord). is_named_file m row.file ≡ true) (λ row c. any_at (λ (r : MapRecord). r.file == row.file) m.records row c (eq-eqb row.file row.file refl)) m.records (All-contains_itself m.records)
 
-pub are_record_files : (m : MapMeaning) (xs ys zs : List ℕ) → xs ≡ map file_of m.records → IsPermutation xs ys → IsSorted nat_cmp ys → zs ≡ dedup (λ a b. a == b) ys → AreRecordFiles m zs
+pub are_record_files : (m : MapMeaning) (xs ys zs : List ℕ) → xs ≡ map region_file m.records → IsPermutation xs ys → IsSorted nat_cmp ys → zs ≡ dedup (λ a b. a == b) ys → AreRecordFiles m zs
 are_record_files m xs ys zs is same sorted once = record {
   rising = numbers_rise ys zs sorted once;
   named = subst (All (λ (file : ℕ). is_named_file m file ≡ true)) (sym once)
       (All-dedup (λ a b. a == b) (λ (file : ℕ). is_named_file m file ≡ true) ys
-      (All-permutation (λ (file : ℕ). is_named_file m file ≡ true) xs ys same (subst (All (λ (file : ℕ). is_named_file m file ≡ true)) (sym is) (All-map (λ (file : ℕ). is_named_file m file ≡ true) file_of m.records (own_named m)))));
-  every = All-weaker (λ (row : MapRecord). is_named_file m row.file ≡ true) (λ (row : MapRecord). Contains zs row.file) (λ row named. region_kept m.records [] xs ys zs row.file (is ∙ sym (append-nil (map file_of m.records))) same once named) m.records (own_named m);
+      (All-permutation (λ (file : ℕ). is_named_file m file ≡ true) xs ys same (subst (All (λ (file : ℕ). is_named_file m file ≡ true)) (sym is) (All-map (λ (file : ℕ). is_named_file m file ≡ true) region_file m.records (own_named m)))));
+  every = All-weaker (λ (row : MapRecord). is_named_file m row.file ≡ true) (λ (row : MapRecord). Contains zs row.file) (λ row named. region_kept m.records [] xs ys zs row.file (is ∙ sym (append-nil (map region_file m.records))) same once named) m.records (own_named m);
 }
 
 -- ---- how many there are

@@ -20,7 +20,7 @@ use Rattle.task_claims.specs.Leaving.{IsSameOrSynced, LeavesOthers, SyncsMail}
 use Rattle.task_claims.proofs.RestLemmas.{rest_leaves, same_claims}
 use Rattle.task_steps.specs.Step.{Leads, ShowsSeen}
 use Rattle.resync_task.specs.Clause.{KeepsMessages}
-use Rattle.resync_task.specs.Reading.{OnlyReads}
+use Rattle.resync_task.specs.Reading.{ReadsStoreOnly}
 use Rattle.resync_task.proofs.EventLemmas.{StaysSo}
 
 -- ---- the disk
@@ -64,7 +64,7 @@ same_amount store disk (Made number) = refl
 pub reading_claims : {D : Type 0} → (old new : StoreValue D) → new ≡ record old { disk = new.disk } → MovesClaims no_claims no_claims old new
 reading_claims old new same = same_claims no_claims old new (λ thing. ap (λ (s : StoreValue _). amount_in thing s) same ∙ same_amount old new.disk thing)
 
-pub reading_leaves : {D : Type 0} → (old new : StoreValue D) (before after : Option History) → OnlyReads old new before after → LeavesOthers no_claims old new before after
+pub reading_leaves : {D : Type 0} → (old new : StoreValue D) (before after : Option History) → ReadsStoreOnly old new before after → LeavesOthers no_claims old new before after
 reading_leaves old new before after only =
     subst (λ (s : StoreValue _). LeavesOthers no_claims old s before after) (sym only.same)
     (rest_leaves no_claims old (record old { disk = new.disk }) before after refl refl (idle_syncs before after only.idle) refl (omega arith) (λ name uid held k. record { m = k.m; named = k.named; below = k.below; same = k.same }) (omega arith) (λ uid row none found listed. (listed, refl)))
@@ -77,7 +77,7 @@ reading_mail unfailed before after idle = record { stays = λ m. kept_idle m bef
 
 -- ---- as it is seen
 
-pub reading_stays : {D : Type 0} → (pins : ℕ → ℕ) (old new : StoreValue D) (before after : Option History) (began now : Faults) → OnlyReads old new before after → began.reads ≤ now.reads → began.changes ≤ now.changes → StaysSo (seen_of pins old before began) (seen_of pins new after now)
+pub reading_stays : {D : Type 0} → (pins : ℕ → ℕ) (old new : StoreValue D) (before after : Option History) (began now : Faults) → ReadsStoreOnly old new before after → began.reads ≤ now.reads → began.changes ≤ now.changes → StaysSo (seen_of pins old before began) (seen_of pins new after now)
 reading_stays pins old new before after began now only reads changes = record {
   map = ap (λ (s : StoreValue _). s.map) only.same;
   drawn = ap (λ (s : StoreValue _). s.drawn) only.same;

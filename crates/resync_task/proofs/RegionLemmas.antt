@@ -16,13 +16,13 @@ use Rattle.model_storage.specs.declared.metadata_value.Metadata.{Metadata}
 use Rattle.model_storage.proofs.FileLemmas.{message_same}
 use Rattle.model_storage.proofs.MetadataLemmas.{lines_same, metadata_text_same, no_bad_line}
 use Rattle.model_storage.proofs.ScanLemmas.{message_length}
-use Rattle.resync_task.specs.Damage.{IsMessageOf, IsOne, LinesSay}
+use Rattle.resync_task.specs.Damage.{IsMessageWith, IsOneMessage, LinesSay}
 
 no_more : (xs ys : List ℕ) (n : ℕ) → length xs ≡ n → length (xs ++ ys) ≡ n → ys ≡ []
 no_more xs [] n a b = refl
 no_more xs (y ∷ ys) n a b = absurd (let h = length-append xs (y ∷ ys) in omega (arith, h, a, b))
 
-pub one_message : (region : List ℕ) (place : MessageAt) → StandsAt region 0 place → place.end ≡ length region → IsOne region place
+pub one_message : (region : List ℕ) (place : MessageAt) → StandsAt region 0 place → place.end ≡ length region → IsOneMessage region place
 one_message region place (first, behind, m, e, spelled, is) ends =
     let size = message_length first m 0 spelled in
     let at : place.end ≡ (place_at 0 m).end = ap (λ (p : MessageAt). p.end) is in
@@ -98,33 +98,33 @@ end_of region place at m spelled =
     let ends = ap (λ (p : MessageAt). p.end) (place_of region place at m spelled) in
     omega (arith, size, ends)
 
-one_is : (guid region : List ℕ) (place : MessageAt) (one : IsOne region place) → (h : IsMessageOf guid region) → one.message ≡ h.message
+one_is : (guid region : List ℕ) (place : MessageAt) (one : IsOneMessage region place) → (h : IsMessageWith guid region) → one.message ≡ h.message
 one_is guid region place one h = (message_same region region [] [] one.message h.message one.spelled h.spelled refl).1
 
 -- where its metadata lines stand
-pub lines_within : (region : List ℕ) (place : MessageAt) → IsOne region place → place.lines + 1 ≤ length region
+pub lines_within : (region : List ℕ) (place : MessageAt) → IsOneMessage region place → place.lines + 1 ≤ length region
 lines_within region place one =
     let size = message_length region one.message 0 one.spelled in
     let lines = ap (λ (p : MessageAt). p.lines) one.place_is in
     omega (arith, size, lines)
 
-lines_of_one : (region : List ℕ) (place : MessageAt) (one : IsOne region place) → AreLines (take (length region - 1 - place.lines) (drop place.lines region)) one.message.lines
+lines_of_one : (region : List ℕ) (place : MessageAt) (one : IsOneMessage region place) → AreLines (take (length region - 1 - place.lines) (drop place.lines region)) one.message.lines
 lines_of_one region place one =
     text_of_lines region one.message place.lines (length region - 1) one.spelled (ap (λ (p : MessageAt). p.lines) one.place_is) (let w = lines_within region place one in omega (arith, w))
 
 -- What its lines say is what the lines of the message say.
-pub said_by : (guid region : List ℕ) (place : MessageAt) → IsOne region place → (h : IsMessageOf guid region) → IsMetadataText (take (length region - 1 - place.lines) (drop place.lines region)) h.meta
+pub said_by : (guid region : List ℕ) (place : MessageAt) → IsOneMessage region place → (h : IsMessageWith guid region) → IsMetadataText (take (length region - 1 - place.lines) (drop place.lines region)) h.meta
 said_by guid region place one h = record {
   lines = one.message.lines;
   are = lines_of_one region place one;
   say = subst (λ (m : Message). IsMetadata m.lines h.meta) (sym (one_is guid region place one h)) h.says;
 }
 
-pub has_guid : (guid region : List ℕ) (place : MessageAt) (meta : Metadata) → IsOne region place → IsMetadataText (take (length region - 1 - place.lines) (drop place.lines region)) meta → IsMessageOf guid region → meta.guid ≡ Some (record { 0 = guid })
+pub has_guid : (guid region : List ℕ) (place : MessageAt) (meta : Metadata) → IsOneMessage region place → IsMetadataText (take (length region - 1 - place.lines) (drop place.lines region)) meta → IsMessageWith guid region → meta.guid ≡ Some (record { 0 = guid })
 has_guid guid region place meta one said h =
     ap (λ (m : Metadata). m.guid) (metadata_text_same (take (length region - 1 - place.lines) (drop place.lines region)) meta h.meta said (said_by guid region place one h)) ∙ h.has
 
-pub is_of_guid : (guid region : List ℕ) (place : MessageAt) (meta : Metadata) → IsOne region place → IsMetadataText (take (length region - 1 - place.lines) (drop place.lines region)) meta → meta.guid ≡ Some (record { 0 = guid }) → IsMessageOf guid region
+pub is_of_guid : (guid region : List ℕ) (place : MessageAt) (meta : Metadata) → IsOneMessage region place → IsMetadataText (take (length region - 1 - place.lines) (drop place.lines region)) meta → meta.guid ≡ Some (record { 0 = guid }) → IsMessageWith guid region
 is_of_guid guid region place meta one said has = record {
   message = one.message;
   meta = meta;
@@ -148,19 +148,19 @@ bad_line text error offset e (inr gives) meta is = no_bad_line text meta offset 
 not_true : IsTrue false → ⊥
 not_true t = let k : false ≡ true = t in cc k
 
-pub no_message : (guid region : List ℕ) → ((m : Message) → IsMessage region m → ⊥) → IsTrue false ↔ IsMessageOf guid region
+pub no_message : (guid region : List ℕ) → ((m : Message) → IsMessage region m → ⊥) → IsTrue false ↔ IsMessageWith guid region
 no_message guid region none = record { 0 = λ t. absurd (not_true t); 1 = λ h. absurd (none h.message h.spelled) }
 
-pub no_lines : (guid region : List ℕ) (place : MessageAt) (o : Option Metadata) → IsOne region place → LinesSay (take (length region - 1 - place.lines) (drop place.lines region)) o → o ≡ None → IsTrue false ↔ IsMessageOf guid region
+pub no_lines : (guid region : List ℕ) (place : MessageAt) (o : Option Metadata) → IsOneMessage region place → LinesSay (take (length region - 1 - place.lines) (drop place.lines region)) o → o ≡ None → IsTrue false ↔ IsMessageWith guid region
 no_lines guid region place o one says none = record {
   0 = λ t. absurd (not_true t);
   1 = λ h. absurd (unsaid (subst (λ (x : Option Metadata). LinesSay (take (length region - 1 - place.lines) (drop place.lines region)) x) none says) h);
 }
   where
-    unsaid : ((meta : Metadata) → IsMetadataText (take (length region - 1 - place.lines) (drop place.lines region)) meta → ⊥) → IsMessageOf guid region → ⊥
+    unsaid : ((meta : Metadata) → IsMetadataText (take (length region - 1 - place.lines) (drop place.lines region)) meta → ⊥) → IsMessageWith guid region → ⊥
     unsaid says h = says h.meta (said_by guid region place one h)
 
-pub as_told : (guid : Guid) (region : List ℕ) (place : MessageAt) (o : Option Metadata) (meta : Metadata) (is : Bool) → IsOne region place → LinesSay (take (length region - 1 - place.lines) (drop place.lines region)) o → o ≡ Some meta → IsTrue is ↔ (meta.guid ≡ Some guid) → IsTrue is ↔ IsMessageOf guid.0 region
+pub as_told : (guid : Guid) (region : List ℕ) (place : MessageAt) (o : Option Metadata) (meta : Metadata) (is : Bool) → IsOneMessage region place → LinesSay (take (length region - 1 - place.lines) (drop place.lines region)) o → o ≡ Some meta → IsTrue is ↔ (meta.guid ≡ Some guid) → IsTrue is ↔ IsMessageWith guid.0 region
 as_told guid region place o meta is one says some told =
     let said : IsMetadataText (take (length region - 1 - place.lines) (drop place.lines region)) meta = subst (λ (x : Option Metadata). LinesSay (take (length region - 1 - place.lines) (drop place.lines region)) x) some says in
     record {

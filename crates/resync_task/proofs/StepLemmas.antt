@@ -2,7 +2,7 @@
 use Rattle.std.proofs.Common.{◌≡◌, ◌≢◌, ◌≤◌, ◌<◌, ◌+◌, ◌||◌, ◌↔◌, ℕ, Bool, true, false, List, [], ◌∷◌, length, Option, Some, None, slice_get, refl, sym, ◌∙◌, ap, subst, arith, zero, suc}
 use Rattle.std.specs.Prelude.{All, Contains, count_by}
 use Rattle.std.proofs.lemmas.List.Elements.{All-weaker}
-use Rattle.disk_model.specs.Disk.{History, Faults}
+use Rattle.disk_model.specs.Disk.{History, Faults, Grows}
 use Rattle.disk_model.specs.FaultCounts.{ReadFaultCounted}
 use Rattle.mdbox_base.specs.declared.progress.Did.{Did}
 use Rattle.mdbox_base.specs.declared.progress.Did.TheVariants as did
@@ -33,14 +33,14 @@ use Rattle.task_steps.specs.Step.{DidEvent, ended_by}
 use Rattle.task_steps.proofs.OneEventLemmas.{leaves_none, never_more}
 use Rattle.resync_task.specs.Clause.{CountsFaults, FindsResync, KeepsMessages, ResyncClause}
 use Rattle.resync_task.specs.Correcting.{AreExact, FellCorrecting, PutsRight}
-use Rattle.resync_task.specs.Damage.{AreDamaged, IsDamaged}
+use Rattle.resync_task.specs.Damage.{AreDamaged, HasDamagedRegion}
 use Rattle.resync_task.specs.Files.{AreRecordFiles}
 use Rattle.resync_task.specs.Stages.{ResyncAt, ToList, ToRead, HasFilesLeft, HasRead, many_corrected}
-use Rattle.resync_task.specs.Reading.{OnlyReads, ReadsNext}
+use Rattle.resync_task.specs.Reading.{ReadsStoreOnly, ReadsNext}
 use Rattle.resync_task.specs.Task.{ResyncsOn, resync_left}
 use Rattle.resync_task.proofs.CorrectingLemmas.{entry_fits, entry_many}
 use Rattle.resync_task.proofs.EventLemmas.{fall}
-use Rattle.resync_task.proofs.IdleStoreLemmas.{idle_leaves, idle_settled, reading_claims, reading_leaves, reading_leads, reading_mail, reading_rest, reading_shows, reading_stays}
+use Rattle.resync_task.proofs.IdleStoreLemmas.{idle_grows, idle_leaves, idle_settled, reading_claims, reading_leaves, reading_leads, reading_mail, reading_rest, reading_shows, reading_stays}
 use Rattle.resync_task.proofs.RefusedResyncLemmas.{resync_broken, resync_faulted, resync_stopped, resync_unremembered}
 use Rattle.resync_task.proofs.ResyncEventLemmas.{corrects_then, lists_then, reads_then}
 use Rattle.resync_task.proofs.RightCountLemmas.{counts_fit, fell_stays, right_claims, right_exact, right_leaves, right_shows, right_tells}
@@ -59,6 +59,7 @@ pub record ResyncKnown {D : Type 0} (now next : ResyncAt) (answer : Progress) (h
   pub mail : KeepsMessages (new.stopped ≡ old.stopped) before after
   pub claims : new.stopped ≡ false → MovesClaims no_claims no_claims old new
   pub leaves : new.stopped ≡ false → LeavesOthers no_claims old new before after
+  pub grows : Grows before after
   pub left : answer ≡ progress.More → resync_left next < resync_left now
 
 -- ---- answers that are told apart
@@ -137,7 +138,7 @@ damage_agrees : (run : Run) (m : MapMeaning) (own : List RunEvent) (history : Op
 damage_agrees run m own history file uids is next are = record {
   once = are.once;
   here = subst (λ (x : MapMeaning). All (λ uid. HasRecord x uid (λ row. file_to_read own ≡ Some row.file)) uids) (sym is)
-      (All-weaker (λ (uid : ℕ). HasRecord m uid (λ row. (row.file ≡ file) × IsDamaged history row)) (λ (uid : ℕ). HasRecord m uid (λ row. file_to_read own ≡ Some row.file)) (λ uid r. (r.0, r.1, next ∙ some_file file r.0.file (sym r.2.0))) uids are.bad);
+      (All-weaker (λ (uid : ℕ). HasRecord m uid (λ row. (row.file ≡ file) × HasDamagedRegion history row)) (λ (uid : ℕ). HasRecord m uid (λ row. file_to_read own ≡ Some row.file)) (λ uid r. (r.0, r.1, next ∙ some_file file r.0.file (sym r.2.0))) uids are.bad);
 }
 
 within : (files : List ℕ) (n file : ℕ) → slice_get files n ≡ Some file → n < length files
@@ -167,12 +168,13 @@ known_listed files store history faults runs are few = record {
   mail = reading_mail _ history history (idle-begins history);
   claims = λ r. reading_claims store store refl;
   leaves = λ r. reading_leaves store store history history (record { same = refl; idle = idle-begins history });
+  grows = omega arith;
   left = λ e. omega (arith, few);
 }
 
 -- ---- an event that is refused and changes nothing
 
-known_unremembered : {D : Type 0} → (now : ResyncAt) (old new : StoreValue D) (before after : Option History) (began then : Faults) → old.stopped ≡ false → HasFilesLeft now → OnlyReads old new before after → then ≡ began → ResyncKnown now ToList (Refuses refusal.NoMemory) did.Quiet old new before after began then
+known_unremembered : {D : Type 0} → (now : ResyncAt) (old new : StoreValue D) (before after : Option History) (began then : Faults) → old.stopped ≡ false → HasFilesLeft now → ReadsStoreOnly old new before after → then ≡ began → ResyncKnown now ToList (Refuses refusal.NoMemory) did.Quiet old new before after began then
 known_unremembered now old new before after began then ran left only none = record {
   does = λ behind pins. (
     found_files [],
@@ -193,6 +195,7 @@ known_unremembered now old new before after began then ran left only none = reco
   mail = reading_mail _ before after only.idle;
   claims = λ r. reading_claims old new only.same;
   leaves = λ r. reading_leaves old new before after only;
+  grows = idle_grows before after only.idle;
   left = λ e. absurd (done_more _ e);
 }
   where
@@ -227,6 +230,7 @@ known_read files read damaged uids old new before after began then ran r = recor
   mail = reading_mail _ before after r.only.idle;
   claims = λ k. reading_claims old new r.only.same;
   leaves = λ k. reading_leaves old new before after r.only;
+  grows = idle_grows before after r.only.idle;
   left = λ e. (let l = left in omega (arith, l));
 }
   where
@@ -236,7 +240,7 @@ known_read files read damaged uids old new before after began then ran r = recor
     left : read < length files
     left = within files read r.file r.next
 
-known_faulted : {D : Type 0} → (files : List ℕ) (read damaged : ℕ) (old new : StoreValue D) (before after : Option History) (began then : Faults) → old.stopped ≡ false → read < length files → OnlyReads old new before after → ReadFaultCounted (Unit {0}) began then
+known_faulted : {D : Type 0} → (files : List ℕ) (read damaged : ℕ) (old new : StoreValue D) (before after : Option History) (began then : Faults) → old.stopped ≡ false → read < length files → ReadsStoreOnly old new before after → ReadFaultCounted (Unit {0}) began then
     → ResyncKnown (ToRead files read damaged) ToList (Refuses refusal.ReadFault) did.Quiet old new before after began then
 known_faulted files read damaged old new before after began then ran left only counted = record {
   does = λ behind pins. (
@@ -265,6 +269,7 @@ known_faulted files read damaged old new before after began then ran left only c
   mail = reading_mail _ before after only.idle;
   claims = λ k. reading_claims old new only.same;
   leaves = λ k. reading_leaves old new before after only;
+  grows = idle_grows before after only.idle;
   left = λ e. absurd (done_more _ e);
 }
   where
@@ -298,6 +303,7 @@ known_right files damaged corrected old new before after began then s ran p = re
   mail = record { stays = λ m. p.keeps.stays m; left = λ k. mail_same before after p.mail };
   claims = λ r. right_claims corrected old new before after began then p;
   leaves = λ r. right_leaves corrected old new before after began then p;
+  grows = p.keeps.grows;
   left = λ e. absurd (done_more _ e);
 }
   where
@@ -332,6 +338,7 @@ known_broken files damaged old new before after began then s ran f = record {
   mail = record { stays = λ m. f.keeps.stays m; left = λ same. absurd (fall new.stopped f.stopped (same ∙ ran)) };
   claims = λ runs. absurd (fall new.stopped f.stopped runs);
   leaves = λ runs. absurd (fall new.stopped f.stopped runs);
+  grows = f.keeps.grows;
   left = λ e. absurd (done_more _ e);
 }
 

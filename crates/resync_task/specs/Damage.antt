@@ -11,7 +11,7 @@ use Rattle.model_store.specs.Settled.{files_of}
 use Rattle.model_store.specs.Stands.{HoldsMessage}
 
 -- these octets are one message, whose lines have this GUID
-pub record IsMessageOf (guid : List ℕ) (region : List ℕ) : Type 0 where
+pub record IsMessageWith (guid : List ℕ) (region : List ℕ) : Type 0 where
   pub message : Message
   pub meta : Metadata
   pub spelled : IsMessage region message
@@ -19,7 +19,7 @@ pub record IsMessageOf (guid : List ℕ) (region : List ℕ) : Type 0 where
   pub has : meta.guid ≡ Some (record { 0 = guid })
 
 -- these octets are one message, and this is where its parts stand
-pub record IsOne (region : List ℕ) (place : MessageAt) : Type 0 where
+pub record IsOneMessage (region : List ℕ) (place : MessageAt) : Type 0 where
   pub message : Message
   pub spelled : IsMessage region message
   pub place_is : place ≡ place_at 0 message
@@ -30,20 +30,20 @@ LinesSay lines (Some meta) = IsMetadataText lines meta
 LinesSay lines None = (meta : Metadata) → IsMetadataText lines meta → ⊥
 
 -- the region of a record is one message with its GUID, and it isn't, as far as the disk tells
-abbrev pub IsWhole : Option History → MapRecord → Type 0
-IsWhole history row = IfTold history (λ now. HoldsMessage (files_of now) row)
+abbrev pub HasWholeRegion : Option History → MapRecord → Type 0
+HasWholeRegion history row = IfTold history (λ now. HoldsMessage (files_of now) row)
 
-abbrev pub IsDamaged : Option History → MapRecord → Type 0
-IsDamaged history row = IfTold history (λ now. HoldsMessage (files_of now) row → ⊥)
+abbrev pub HasDamagedRegion : Option History → MapRecord → Type 0
+HasDamagedRegion history row = IfTold history (λ now. HoldsMessage (files_of now) row → ⊥)
 
 -- These are the map uids of the records of a file whose regions are damaged, each once. Of a disk that is modelled they are exactly
 -- those of which that is so.
 pub record AreDamaged (history : Option History) (m : MapMeaning) (file : ℕ) (uids : List ℕ) : Type 0 where
   pub once : AllPairs (λ a b. a ≢ b) uids
-  pub bad : All (λ uid. HasRecord m uid (λ row. (row.file ≡ file) × IsDamaged history row)) uids
-  pub every : All (λ row. row.file ≡ file → Contains uids row.uid ⊎ IsWhole history row) m.records
+  pub bad : All (λ uid. HasRecord m uid (λ row. (row.file ≡ file) × HasDamagedRegion history row)) uids
+  pub every : All (λ row. row.file ≡ file → Contains uids row.uid ⊎ HasWholeRegion history row) m.records
 
 -- whether it is whole
 abbrev pub TellsWhole : Bool → Option History → MapRecord → Type 0
-TellsWhole true history row = IsWhole history row
-TellsWhole false history row = IsDamaged history row
+TellsWhole true history row = HasWholeRegion history row
+TellsWhole false history row = HasDamagedRegion history row

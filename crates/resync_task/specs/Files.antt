@@ -4,8 +4,8 @@ use Rattle.model_meaning.specs.MapMeaning.{MapRecord, MapMeaning}
 use Rattle.journal.specs.Found.{is_named_file}
 
 -- the file of a record's region
-abbrev pub file_of : MapRecord → ℕ
-file_of row = row.file
+abbrev pub region_file : MapRecord → ℕ
+region_file row = row.file
 
 -- These are the files in which records have their regions, each once, in order of number.
 pub record AreRecordFiles (m : MapMeaning) (files : List ℕ) : Type 0 where

@@ -12,7 +12,7 @@ pub record ReadingValue : Type 0 where
   pub damaged : ℕ
 
 -- Of the store's value only the disk may be another, and of that nothing has changed.
-pub record OnlyReads {D : Type 0} (old new : StoreValue D) (before after : Option History) : Type 0 where
+pub record ReadsStoreOnly {D : Type 0} (old new : StoreValue D) (before after : Option History) : Type 0 where
   pub same : new ≡ record old { disk = new.disk }
   pub idle : IsIdle before after
 
@@ -21,5 +21,5 @@ pub record ReadsNext {D : Type 0} (files : List ℕ) (read : ℕ) (uids : List �
   pub file : ℕ
   pub next : slice_get files read ≡ Some file
   pub found : AreDamaged before old.map file uids
-  pub only : OnlyReads old new before after
+  pub only : ReadsStoreOnly old new before after
   pub unfailed : NoFault began now

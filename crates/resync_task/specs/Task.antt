@@ -12,7 +12,7 @@ use Rattle.mdbox_base.specs.declared.script.Half.TheVariants as half
 use Rattle.store_core.specs.Value.{StoreValue}
 use Rattle.resync_task.specs.Correcting.{FellCorrecting, PutsRight}
 use Rattle.resync_task.specs.Files.{AreRecordFiles}
-use Rattle.resync_task.specs.Reading.{OnlyReads, ReadingValue, ReadsNext}
+use Rattle.resync_task.specs.Reading.{ReadsStoreOnly, ReadingValue, ReadsNext}
 use Rattle.resync_task.specs.Stages.{ResyncAt, ToList, ToRead}
 use Rattle.resync_task.specs.declared.task.ResyncStage.{ResyncStage}
 use Rattle.resync_task.specs.declared.task.ResyncStage.TheVariants as stage
@@ -49,9 +49,9 @@ ResyncsOn (ToRead files read damaged) (ToRead same more all) progress.More how o
 ResyncsOn (ToRead files read damaged) ToList (progress.Done (reply.Resynced corrected told)) how old new before after began now =
     (how ≡ did.Step half.Whole) × (read ≡ length files) × (told ≡ damaged) × PutsRight corrected old new before after began now
 ResyncsOn (ToRead files read damaged) ToList (progress.Done (reply.Refused refusal.NoMemory)) how old new before after began now =
-    (how ≡ did.Quiet) × (read ≤ length files) × OnlyReads old new before after × NoFault began now
+    (how ≡ did.Quiet) × (read ≤ length files) × ReadsStoreOnly old new before after × NoFault began now
 ResyncsOn (ToRead files read damaged) ToList (progress.Done (reply.Refused refusal.ReadFault)) how old new before after began now =
-    (how ≡ did.Quiet) × (read < length files) × OnlyReads old new before after × ReadFaultCounted (Unit {0}) began now
+    (how ≡ did.Quiet) × (read < length files) × ReadsStoreOnly old new before after × ReadFaultCounted (Unit {0}) began now
 ResyncsOn (ToRead files read damaged) ToList (progress.Done (reply.Refused refusal.Stopped)) how old new before after began now =
     (how ≡ did.Broken half.Whole) × (read ≡ length files) × FellCorrecting old new before after began now
 ResyncsOn now next answer how old new before after began then = ⊥

@@ -1,6 +1,6 @@
 // The storage files that a resync reads.
 ghost use Rattle.std.specs.Prelude.{◌≡◌, IfOk, map};
-ghost use Rattle.resync_task.specs.Files.{AreRecordFiles, file_of};
+ghost use Rattle.resync_task.specs.Files.{AreRecordFiles, region_file};
 
 use map_index::MapIndex;
 use mdbox_base::NoMemory;
@@ -18,7 +18,7 @@ pub(crate) fn record_files(alloc: Global, index: &MapIndex) -> Result<Vec<u32>, 
 
 /// The file of each record's region.
 fn region_files(alloc: Global, index: &MapIndex) -> Result<Vec<u32>, NoMemory>
-    ensures { IfOk result (λ numbers. numbers.items ≡ map file_of index.now.meaning.records) }
+    ensures { IfOk result (λ numbers. numbers.items ≡ map region_file index.now.meaning.records) }
 {
     let mut numbers = Vec::with_capacity(alloc, index.rows() as usize)?;
     for place in 0..index.rows() {

@@ -6,7 +6,7 @@ ghost use Rattle.map_index.specs.Shown.{shown_record};
 ghost use Rattle.model_meaning.specs.MapMeaning.{MapRecord};
 ghost use Rattle.resync_task.specs.Damage.{AreDamaged, TellsWhole};
 ghost use Rattle.resync_task.specs.Files.{AreRecordFiles};
-ghost use Rattle.resync_task.specs.Reading.{OnlyReads};
+ghost use Rattle.resync_task.specs.Reading.{ReadsStoreOnly};
 ghost use Rattle.resync_task.specs.declared.reading.Unread.TheVariants as unread;
 
 use crate::files::{longest_region, record_files};
@@ -102,7 +102,7 @@ impl Reading {
         requires { self.old.read < length self.old.files }
         ensures found { OnOk result ((file : ℕ) × (slice_get self.old.files self.old.read ≡ Some file) × ((uids : List ℕ) × AreDamaged (D.history store.old.disk) store.old.map file uids × (self.new ≡ record { files = self.old.files; read = self.old.read + 1; damaged = self.old.damaged + length uids }))) }
         ensures within { self.new.read ≤ length self.new.files }
-        ensures only { OnlyReads store.old store.new (D.history store.old.disk) (D.history store.new.disk) }
+        ensures only { ReadsStoreOnly store.old store.new (D.history store.old.disk) (D.history store.new.disk) }
         ensures fault { ReadFaultCounted (IsErrOf result Unread.Fault) (D.faults store.old.disk) (D.faults store.new.disk) }
         ensures unfailed { (IsErrOf result Unread.Fault → ⊥) → NoFault (D.faults store.old.disk) (D.faults store.new.disk) }
     {
@@ -121,7 +121,7 @@ fn read_file<D: Disk>(
     file: FileNo,
 ) -> Result<u32, Unread>
     ensures found { IfOk result (λ many. (uids : List ℕ) × (many ≡ length uids) × AreDamaged (D.history store.old.disk) store.old.map file.0 uids) }
-    ensures only { OnlyReads store.old store.new (D.history store.old.disk) (D.history store.new.disk) }
+    ensures only { ReadsStoreOnly store.old store.new (D.history store.old.disk) (D.history store.new.disk) }
     ensures fault { ReadFaultCounted (IsErrOf result Unread.Fault) (D.faults store.old.disk) (D.faults store.new.disk) }
     ensures unfailed { (IsErrOf result Unread.Fault → ⊥) → NoFault (D.faults store.old.disk) (D.faults store.new.disk) }
 {
@@ -144,7 +144,7 @@ fn is_whole<D: Disk>(
     row: MapRow,
 ) -> Result<bool, Unread>
     ensures tells { IfOk result (λ whole. (own : MapRecord) → row ≡ shown_record own → TellsWhole whole (D.history store.old.disk) own) }
-    ensures only { OnlyReads store.old store.new (D.history store.old.disk) (D.history store.new.disk) }
+    ensures only { ReadsStoreOnly store.old store.new (D.history store.old.disk) (D.history store.new.disk) }
     ensures fault { ReadFaultCounted (IsErrOf result Unread.Fault) (D.faults store.old.disk) (D.faults store.new.disk) }
     ensures unfailed { (IsErrOf result Unread.Fault → ⊥) → NoFault (D.faults store.old.disk) (D.faults store.new.disk) }
 {
@@ -161,7 +161,7 @@ fn reads_whole<D: Disk>(
 ) -> Result<bool, Unread>
     requires { length region.old ≡ row.size }
     ensures tells { IfOk result (λ whole. (own : MapRecord) → row ≡ shown_record own → TellsWhole whole (D.history store.old.disk) own) }
-    ensures only { OnlyReads store.old store.new (D.history store.old.disk) (D.history store.new.disk) }
+    ensures only { ReadsStoreOnly store.old store.new (D.history store.old.disk) (D.history store.new.disk) }
     ensures fault { ReadFaultCounted (IsErrOf result Unread.Fault) (D.faults store.old.disk) (D.faults store.new.disk) }
     ensures unfailed { (IsErrOf result Unread.Fault → ⊥) → NoFault (D.faults store.old.disk) (D.faults store.new.disk) }
 {

@@ -1,7 +1,7 @@
 // What stands in the region of a record.
 ghost use Rattle.std.specs.Prelude.{◌≡◌, ◌↔◌, ◌+◌, ◌≤◌, IsTrue, IfOk, IfSome, IfNone, length, Some};
 ghost use Rattle.model_storage.specs.StorageFile.{Message, IsMessage};
-ghost use Rattle.resync_task.specs.Damage.{IsMessageOf, IsOne, LinesSay};
+ghost use Rattle.resync_task.specs.Damage.{IsMessageWith, IsOneMessage, LinesSay};
 
 use dbox_file::{MessageAt, message_at};
 use dbox_metadata::{MetaError, Metadata, read_metadata};
@@ -10,7 +10,7 @@ use std::alloc::Global;
 
 /// Whether a region is one message, whose lines have this GUID.
 pub(crate) fn is_message_of(alloc: Global, region: &[u8], guid: Guid) -> Result<bool, NoMemory>
-    ensures { IfOk result (λ is. IsTrue is ↔ IsMessageOf guid.0 region.now) }
+    ensures { IfOk result (λ is. IsTrue is ↔ IsMessageWith guid.0 region.now) }
 {
     let Some(place) = one_message(region) else {
         return Ok(false);
@@ -23,7 +23,7 @@ pub(crate) fn is_message_of(alloc: Global, region: &[u8], guid: Guid) -> Result<
 
 /// Where the parts of the one message stand that a region is. None if and only if it is none.
 fn one_message(region: &[u8]) -> Option<MessageAt>
-    ensures some { IfSome result (IsOne region.now) }
+    ensures some { IfSome result (IsOneMessage region.now) }
     ensures within { IfSome result (λ place. place.lines + 1 ≤ length region.now) }
     ensures none { IfNone result ((m : Message) → IsMessage region.now m → ⊥) }
 {

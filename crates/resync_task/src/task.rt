@@ -1,5 +1,6 @@
 // The task of a resync.
 ghost use Rattle.std.specs.Prelude.{◌≡◌, ◌↔◌, ◌<◌, ℕ, List, length, true, false};
+ghost use Rattle.disk_model.specs.Disk.{Grows};
 ghost use Rattle.mdbox_base.specs.declared.progress.Did.TheVariants as how;
 ghost use Rattle.mdbox_base.specs.declared.progress.Progress.TheVariants as progress;
 ghost use Rattle.mdbox_base.specs.declared.replies.Refusal.TheVariants as refusal;
@@ -101,7 +102,8 @@ impl ResyncTask {
         ensures claims { store.new.stopped ≡ false → MovesClaims no_claims no_claims store.old store.new }
         ensures leaves { store.new.stopped ≡ false → LeavesOthers no_claims store.old store.new (D.history store.old.disk) (D.history store.new.disk) }
 
-        // So it ends.
+        // Time goes on. So it ends.
+        ensures grows { Grows (D.history store.old.disk) (D.history store.new.disk) }
         ensures left { result ≡ progress.More → resync_left self.new.stage < resync_left self.old.stage }
     {
         store.facts();

@@ -1,8 +1,8 @@
-use Rattle.std.proofs.Common.{sym, ◌∙◌, ap, length}
-use Rattle.store_core.specs.Value.{indexes_of}
+use Rattle.std.proofs.Common.{sym, ◌∙◌, ap, length, List}
+use Rattle.mdbox_base.specs.declared.entries.MapCount.{MapCount}
 use Rattle.store_core.specs.Wrong.{wrong_of}
 use Rattle.task_steps.proofs.OneEventLemmas.{not_true, ok_is_none}
-use Rattle.resync_task.proofs.CorrectingLemmas.{entry_due, entry_fits, entry_in_range, few_rows, no_length, right_none, some_taken}
+use Rattle.resync_task.proofs.CorrectingLemmas.{append_rest, entry_due, entry_fits, entry_in_range, few_rows, no_length, right_none, some_taken}
 use Rattle.resync_task.proofs.correcting.put_right.Goals as goal
 
 pub append_map-requires-clause-range : goal.append_map-requires-clause-range
@@ -22,21 +22,22 @@ returns-then-many-eq0 g c =
 pub returns : goal.returns
 returns g c =
     let o = c.in_ok-append_map.ensures in
+    let rest = append_rest c.args.store.now c.append_map.new.self o.same in
     record {
       keeps = record {
         moments = λ lists s. o.any_moment lists tt tt s;
-        indexes = ap (λ v. indexes_of v.boxes) o.same;
+        indexes = rest.1;
         mailboxes = o.mailboxes;
         drawn = o.drawn;
         room = o.room;
-        rest = o.same ∙ sym (ap (λ v. record c.args.store.now { disk = v.disk; map_log = v.map_log; map = v.map; boxes = v.boxes; drawn = v.drawn; dues = v.dues; stopped = v.stopped }) o.same);
+        rest = rest.0;
         stays = o.mail_stays;
         grows = o.grows;
         reads = o.fault.reads;
         changes = o.fault.changes;
       };
       runs = not_true _ (λ e. ok_is_none _ (o.stopped.1 e));
-      many = c.length-many.ensures ∙ ap (λ cs. length cs) c.in_ok-counts.ensures;
+      many = c.length-many.ensures ∙ ap (λ (cs : List MapCount). length cs) c.in_ok-counts.ensures;
       map = o.taken ∙ some_taken c.in_ok-counts.counts (wrong_of c.args.store.now) c.args.store.now.map c.in_ok-counts.ensures (λ e. c.if-many-eq0.false (c.length-many.ensures ∙ e));
       due = o.due;
       settled = λ lists s. o.settled lists tt tt s;

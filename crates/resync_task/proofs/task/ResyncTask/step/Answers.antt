@@ -56,5 +56,8 @@ returns-clause-claims g c = (resync_known g.D.Disk.history g.D.Disk.faults (stag
 pub returns-clause-leaves : goal.returns-clause-leaves
 returns-clause-leaves g c = (resync_known g.D.Disk.history g.D.Disk.faults (stage_of c.replace-now.result) _ (stage_of c.next_event-next.result.0) c.next_event-next.result.1 c.next_event-next.result.2 c.args.store.now c.next_event-next.new.store (ap stage_of c.replace-now.ensures.value ∙ ap (λ (v : ResyncValue). v.stage) c.self.view_is) c.facts.ensures.store (sym c.stopped.ensures ∙ c.if-stopped.false) c.next_event-next.ensures.on).leaves
 
+pub returns-clause-grows : goal.returns-clause-grows
+returns-clause-grows g c = (resync_known g.D.Disk.history g.D.Disk.faults (stage_of c.replace-now.result) _ (stage_of c.next_event-next.result.0) c.next_event-next.result.1 c.next_event-next.result.2 c.args.store.now c.next_event-next.new.store (ap stage_of c.replace-now.ensures.value ∙ ap (λ (v : ResyncValue). v.stage) c.self.view_is) c.facts.ensures.store (sym c.stopped.ensures ∙ c.if-stopped.false) c.next_event-next.ensures.on).grows
+
 pub returns-clause-left : goal.returns-clause-left
 returns-clause-left g c = (resync_known g.D.Disk.history g.D.Disk.faults (stage_of c.replace-now.result) _ (stage_of c.next_event-next.result.0) c.next_event-next.result.1 c.next_event-next.result.2 c.args.store.now c.next_event-next.new.store (ap stage_of c.replace-now.ensures.value ∙ ap (λ (v : ResyncValue). v.stage) c.self.view_is) c.facts.ensures.store (sym c.stopped.ensures ∙ c.if-stopped.false) c.next_event-next.ensures.on).left
