@@ -1,3 +1,4 @@
+pub mod BesideLemmas
 pub mod BoxAppendLemmas
 pub mod BoxCrashLemmas
 pub mod CountingLemmas
@@ -42,4 +43,3 @@ pub mod SwitchLemmas
 pub mod UnnamedLogLemmas
 pub mod UsedFileLemmas
 pub mod UselessLemmas
-pub mod WrongLemmas

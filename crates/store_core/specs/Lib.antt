@@ -1,4 +1,5 @@
 pub mod Append
+pub mod Beside
 pub mod Dues
 pub mod Files
 pub mod Keeping
@@ -11,4 +12,3 @@ pub mod Running
 pub mod StoreInstances
 pub mod Switching
 pub mod Value
-pub mod Wrong

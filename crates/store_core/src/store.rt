@@ -40,12 +40,12 @@ use std::marker::Model;
 use storage_files::MailFiles;
 
 mod append_map;
+mod beside;
 mod boxes;
 mod files;
 mod instances;
 mod switching;
 mod using;
-mod wrong;
 
 /// A mailbox of an open store: its log, and what that means.
 #[derive(Drop)]

@@ -1,7 +1,7 @@
-use Rattle.std.proofs.Common.{◌≡◌, ◌≤◌, ◌<◌, ◌+◌, ◌*◌, ◌∙◌, ℕ, length, take, replicate, sym, ap, arith}
-use Rattle.store_core.specs.Wrong.{StandBeside, in_boxes, in_rows}
-use Rattle.store_core.proofs.WrongLemmas.{boxes_none, none_beside, same_beside, walk_of_boxes, boxes_have_room, boxes_more}
-use Rattle.store_core.proofs.store.wrong.listed_beside.Goals as goal
+use Rattle.std.proofs.Common.{◌∙◌, ℕ, take, replicate, sym, ap, arith}
+use Rattle.store_core.specs.Beside.{in_boxes}
+use Rattle.store_core.proofs.BesideLemmas.{boxes_none, none_beside, same_beside, walk_of_boxes, boxes_have_room, boxes_more}
+use Rattle.store_core.proofs.store.beside.rows_beside.Goals as goal
 
 pub loop-open_box-init : goal.loop-open_box-init
 loop-open_box-init c = (

@@ -1,6 +1,6 @@
-use Rattle.std.proofs.Common.{◌≡◌, ◌≤◌, ◌*◌, ℕ, take}
-use Rattle.store_core.specs.Wrong.{in_boxes, StandBeside}
-use Rattle.store_core.proofs.store.wrong.listed_beside.Given as goal
+use Rattle.std.proofs.Common.{◌≤◌, ◌*◌, ℕ, take}
+use Rattle.store_core.specs.Beside.{in_boxes, StandBeside}
+use Rattle.store_core.proofs.store.beside.rows_beside.Given as goal
 
 -- the rows of the mailboxes so far are counted
 abbrev pub invariant-loop-open_box : goal.invariant-loop-open_box

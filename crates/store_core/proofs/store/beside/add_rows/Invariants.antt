@@ -1,7 +1,7 @@
-use Rattle.std.proofs.Common.{◌≡◌, ◌+◌, map, length, take}
+use Rattle.std.proofs.Common.{◌+◌, length, take}
 use Rattle.store_core.specs.Dues.{number_beside}
-use Rattle.store_core.specs.Wrong.{in_rows, StandBeside}
-use Rattle.store_core.proofs.store.wrong.add_rows.Given as goal
+use Rattle.store_core.specs.Beside.{in_rows, StandBeside}
+use Rattle.store_core.proofs.store.beside.add_rows.Given as goal
 
 -- the rows so far are counted
 abbrev pub invariant-loop-row : goal.invariant-loop-row
