@@ -20,7 +20,7 @@ use Rattle.resync_task.specs.Correcting.{PutsRight}
 use Rattle.resync_task.specs.Stages.{corrected_map, many_corrected}
 use Rattle.task_steps.proofs.OneEventLemmas.{leaves_none}
 use Rattle.task_steps.proofs.UnmovedLemmas.{mail_still}
-use Rattle.store_core.specs.Wrong.{wrong_beside, wrong_of}
+use Rattle.resync_task.specs.WrongCounts.{wrong_beside, wrong_of}
 use Rattle.resync_task.proofs.WrongCountLemmas.{IsWrong, as_right, all_wrong, fits_map, many_in_map}
 use Rattle.store_core.specs.Dues.{due_at, listed_at}
 use Rattle.store_core.specs.Running.{CoverDues, IsStore}

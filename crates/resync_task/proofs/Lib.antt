@@ -13,5 +13,6 @@ pub mod ResyncEventLemmas
 pub mod RightCountLemmas
 pub mod StepLemmas
 pub mod StoreCountLemmas
+pub mod UnlikeLemmas
 pub mod WalkLemmas
 pub mod WrongCountLemmas

@@ -15,7 +15,7 @@ use Rattle.store_core.specs.Dues.{due_at, listed_at}
 use Rattle.store_core.specs.Keeping.{KeepsUids}
 use Rattle.store_core.specs.Running.{IsStore}
 use Rattle.store_core.specs.Value.{StoreValue, indexes_of, list_named}
-use Rattle.store_core.specs.Wrong.{wrong_of}
+use Rattle.resync_task.specs.WrongCounts.{wrong_of}
 use Rattle.store_seen.specs.Seeing.{seen_of}
 use Rattle.store_seen.proofs.SeeingLemmas.{due_as_before, tells_as_before}
 use Rattle.task_claims.specs.Claims.{MovesClaims, no_claims}

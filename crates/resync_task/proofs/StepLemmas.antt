@@ -24,7 +24,7 @@ use Rattle.journal.specs.Found.{FindsDamage, ListsFiles, file_to_read, is_known_
 use Rattle.store_core.specs.Keeping.{KeepsRest}
 use Rattle.store_core.specs.Running.{IsStore}
 use Rattle.store_core.specs.Value.{StoreValue}
-use Rattle.store_core.specs.Wrong.{wrong_of}
+use Rattle.resync_task.specs.WrongCounts.{wrong_of}
 use Rattle.store_seen.specs.Seeing.{seen_of}
 use Rattle.task_claims.specs.Claims.{MovesClaims, no_claims}
 use Rattle.task_claims.specs.Leaving.{LeavesOthers}

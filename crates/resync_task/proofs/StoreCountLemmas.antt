@@ -20,7 +20,7 @@ use Rattle.store_core.specs.Value.{StoreValue, indexes_of}
 use Rattle.store_core.proofs.DueLemmas.{listed_meant}
 use Rattle.store_core.proofs.ShownLemmas.{refs_shown}
 use Rattle.task_steps.specs.Step.{Seen}
-use Rattle.store_core.specs.Wrong.{wrong_of}
+use Rattle.resync_task.specs.WrongCounts.{wrong_of}
 
 -- the records whose counts are put right are those of the map, with their GUIDs
 pub record IsRowOf (rows : List MapRecord) (row : MapRecord) : Type 0 where

@@ -16,7 +16,7 @@ use Rattle.model_meaning.specs.MapFits.{MapFits, HasRecord, IsKnown}
 use Rattle.model_meaning.proofs.AppliedLemmas.{records_by_counted}
 use Rattle.list_machine.specs.Run.{corrected_in, one_corrected}
 use Rattle.resync_task.specs.Stages.{corrected_map, many_corrected}
-use Rattle.store_core.specs.Wrong.{wrong_beside}
+use Rattle.resync_task.specs.WrongCounts.{wrong_beside}
 
 abbrev IsBefore : MapRecord → MapRecord → Type 0
 IsBefore a b = a.uid < b.uid

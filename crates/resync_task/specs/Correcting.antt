@@ -9,7 +9,7 @@ use Rattle.model_store.specs.Settled.{IsSettledFor, Leaves}
 use Rattle.store_core.specs.Dues.{due_at, listed_at}
 use Rattle.store_core.specs.Keeping.{KeepsMail, KeepsRest}
 use Rattle.store_core.specs.Value.{StoreValue, indexes_of}
-use Rattle.store_core.specs.Wrong.{wrong_of}
+use Rattle.resync_task.specs.WrongCounts.{wrong_of}
 use Rattle.store_core.specs.declared.error.StepError.{StepError}
 use Rattle.store_core.specs.declared.error.StepError.TheVariants as step_error
 use Rattle.resync_task.specs.Stages.{corrected_map}

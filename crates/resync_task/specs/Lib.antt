@@ -5,3 +5,4 @@ pub mod Files
 pub mod Reading
 pub mod Stages
 pub mod Task
+pub mod WrongCounts

@@ -2,6 +2,7 @@
 ghost use Rattle.std.specs.Prelude.{◌≡◌, false};
 ghost use Rattle.resync_task.specs.Correcting.{Corrects};
 
+use crate::counting::wrong_counts;
 use disk_model::Disk;
 use mdbox_base::MapEntry;
 use store_core::{StepError, Store};
@@ -13,7 +14,7 @@ pub(crate) fn put_right<D: Disk>(store: &mut Store<D>) -> Result<u64, StepError>
 {
     store.facts();
     store.map().known_facts();
-    let counts = store.wrong_counts()?;
+    let counts = wrong_counts(store)?;
     let many = counts.length() as u64;
     if many == 0 {
         return Ok(0);

@@ -5,6 +5,7 @@ pub use laws::resync_stages_are_kept;
 pub use task::ResyncTask;
 
 mod correcting;
+mod counting;
 mod files;
 mod laws;
 mod reading;

@@ -28,9 +28,9 @@ use store_core::{StepError, Store};
 /// Which event of a resync is the next.
 #[derive(Drop)]
 pub enum ResyncStage {
-    /// The first, which lists the storage files. So it is too behind the last.
+    /// The first, which lists the storage files. It is so after the last, too.
     First,
-    /// One that reads the next of the listed files, or behind them the last, which puts the counts right.
+    /// One that reads the next of the listed files, or after them the last, which puts the counts right.
     Reading(Reading),
 }
 
@@ -71,7 +71,7 @@ impl ResyncTask {
     }
 
     /// Does the next event: the first lists the storage files in which records have their regions, and takes the memory for reading;
-    /// each one behind it reads a file, and counts the regions that aren't a message of their size with their record's GUID; the last
+    /// each one after it reads a file, and counts the regions that aren't a message of their size with their record's GUID; the last
     /// one makes the counts of the map exact, by one entry that names those that are wrong, and replies. A task that has given its
     /// reply begins anew; one that was stopped stays where it was.
     pub fn step<D: Disk>(&mut self, store: &mut Store<D>) -> Progress
@@ -134,7 +134,7 @@ fn next_event<D: Disk>(store: &mut Store<D>, now: ResyncStage) -> (ResyncStage, 
     }
 }
 
-/// An event behind the first.
+/// An event after the first.
 fn go_on<D: Disk>(store: &mut Store<D>, reading: Reading) -> (ResyncStage, Progress, Did)
     requires { store.old.stopped ≡ false }
     ensures left { HasFilesLeft (stage_of result.0) }
