@@ -49,14 +49,6 @@ pub const TWO_MAILBOXES: Laid = Laid {
     others: &[(2, &[])],
 };
 
-/// One message in INBOX, whose count is 2: a copy of it was begun, and a crash came before it was listed.
-pub const COUNTED_TWICE: Laid = Laid {
-    map: &[MAKES_INBOX, STORES_FIRST, RAISES_FIRST],
-    inbox: &[ADDS_FIRST],
-    size: 105,
-    others: &[],
-};
-
 /// One message in INBOX, and two other mailboxes, A and B, that are empty.
 pub const THREE_MAILBOXES: Laid = Laid {
     map: &[MAKES_INBOX, MAKES_A, MAKES_B, STORES_FIRST],
