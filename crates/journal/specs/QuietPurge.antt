@@ -13,14 +13,15 @@ abbrev pub RunTo : ℕ → List MapRecord → ℕ → Type 0
 RunTo offset [] end = offset ≡ end
 RunTo offset (row ∷ rows) end = (row.offset ≡ offset) × RunTo (offset + row.size) rows end
 
--- A storage file is clean: it is its header line, for message headers of 30 octets, and one or more mapped messages with counts above 0, one directly after
--- another.
+-- A storage file is clean: it is its header line, for message headers of 30 octets, and the messages that the map has in it, one or more, with counts above
+-- 0, one directly after another.
 pub record IsClean (m : MapMeaning) (number : ℕ) (octets : List ℕ) : Type 0 where
   pub header : List ℕ
   pub rows : List MapRecord
   pub begins : IsHeaderLine header 30 × (take (length header) octets ≡ header)
   pub some : rows ≢ []
   pub mapped : All (λ row. Contains m.records row × (row.file ≡ number) × (1 ≤ row.count)) rows
+  pub every : All (λ row. row.file ≡ number → Contains rows row) m.records
   pub whole : RunTo (length header) rows (length octets)
 
 abbrev pub IsCleanFile : Files → MapMeaning → ℕ → Type 0

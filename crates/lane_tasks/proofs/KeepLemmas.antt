@@ -47,7 +47,7 @@ use Rattle.mail_ops.specs.declared.moving.MoveStage.TheVariants as move_stage
 use Rattle.mail_save.specs.SaveEffects.{SaveEffects}
 use Rattle.mail_save.specs.declared.task.SaveStage.{SaveStage}
 use Rattle.mail_save.specs.declared.task.SaveStage.TheVariants as save_stage
-use Rattle.lane_tasks.specs.Clause.{IsAtStart, StaysOfRequest, TaskKeeps, TellsStore, OnlyReads, WritesTask}
+use Rattle.lane_tasks.specs.Clause.{IsAtStart, StaysOfRequest, TaskKeeps, TellsStore, OnlyReads, WritesTask, progress_by}
 use Rattle.lane_tasks.specs.declared.task.Task.{Task}
 use Rattle.lane_tasks.specs.declared.task.Task.TheVariants as task
 use Rattle.lane_tasks.proofs.StepLemmas.{ran_before}
@@ -69,7 +69,7 @@ syncs_idle (Some h) (Some g) idle = (λ number. inl (ap (λ (disk : DiskState). 
 abbrev Same : {D : Type 0} → (D → Option History) → (D → Faults) → Task → Task → StoreValue D → StoreValue D → Option Reply → Type 0
 Same history faults t next old new ended = TaskKeeps t next old new (history old.disk) (history new.disk) (faults old.disk) (faults new.disk) ended
 
-pub keeps_still : {D : Type 0} → (history : D → Option History) (faults : D → Faults) (t next : Task) (old new : StoreValue D) (ended : Option Reply) → StaysOfRequest t next → (new.stopped ≡ false → SyncsMail (history old.disk) (history old.disk) → WritesTask t next old (history old.disk) (history old.disk)) → TellsStore t old new ended → new ≡ old → Same history faults t next old new ended
+pub keeps_still : {D : Type 0} → (history : D → Option History) (faults : D → Faults) (t next : Task) (old new : StoreValue D) (ended : Option Reply) → StaysOfRequest t next → (new.stopped ≡ false → SyncsMail (history old.disk) (history old.disk) → WritesTask t next old (history old.disk) (history old.disk)) → TellsStore t next old new (history old.disk) (history old.disk) ended → new ≡ old → Same history faults t next old new ended
 keeps_still history faults t next old new ended kind writes tells same =
     subst (λ (d : _). TaskKeeps t next old new (history old.disk) (history d) (faults old.disk) (faults d) ended) (sym (ap (λ (s : StoreValue _). s.disk) same))
     (record {
@@ -84,18 +84,23 @@ keeps_still history faults t next old new ended kind writes tells same =
       tells = tells;
       idle = λ reads. (idle-begins (history old.disk), refl, ap (λ (s : StoreValue _). s.stopped) same);
       still = λ stopped. (idle-begins (history old.disk), refl);
+      same = λ back. idle-begins (history old.disk);
       refused = λ why begun e step. idle-begins (history old.disk);
       left = λ runs. writes runs (syncs_idle (history old.disk) (history old.disk) (idle-begins (history old.disk)));
     })
 
 -- ---- of a task that changes logs at the most
 
+pub progress_back : (answer : Progress) → progress_by (ended_by answer) ≡ answer
+progress_back progress.More = refl
+progress_back (progress.Done given) = refl
+
 abbrev IsStoppedReply : Progress → Type 0
 IsStoppedReply answer = answer ≡ progress.Done (reply.Refused refusal.Stopped)
 
 pub keeps_by : {D : Type 0} → (history : D → Option History) (faults : D → Faults) (t next : Task) (old new : StoreValue D) (answer : Progress) → StaysOfRequest t next → SparesMail (new.stopped ≡ old.stopped) (history old.disk) (history new.disk) → (IsStoppedReply answer ↔ (new.stopped ≡ true)) → (old.stopped ≡ true → new ≡ old)
     → (old.stopped ≡ false → ChangeFaultCounted (IsStoppedReply answer) (faults old.disk) (faults new.disk)) → ((IsStoppedReply answer → ⊥) → NoFault (faults old.disk) (faults new.disk)) → (OnlyReads t → new ≡ old) → ((why : Refusal) → IsAtStart t → old.stopped ≡ false → answer ≡ progress.Done (reply.Refused why) → is_step why ≡ true → new ≡ old)
-    → (SyncsMail (history old.disk) (history new.disk) → WritesTask t next old (history old.disk) (history new.disk)) → TellsStore t old new (ended_by answer) → Same history faults t next old new (ended_by answer)
+    → (SyncsMail (history old.disk) (history new.disk) → WritesTask t next old (history old.disk) (history new.disk)) → TellsStore t next old new (history old.disk) (history new.disk) (ended_by answer) → Same history faults t next old new (ended_by answer)
 keeps_by history faults t next old new answer kind mail halts still fault unfailed reads refused writes tells = record {
   request = kind;
   grows = grows_kept old.map (history old.disk) (history new.disk) (mail.stays old.map);
@@ -112,6 +117,7 @@ keeps_by history faults t next old new answer kind mail halts still fault unfail
     ap (λ (s : StoreValue _). s.stopped) (reads r),
   );
   still = λ stopped. (idle_same (still stopped), subst (λ (d : _). (faults d).changes ≡ (faults old.disk).changes) (sym (disk_same (still stopped))) refl);
+  same = idle_disk;
   refused = λ why begun e step. idle_same (by_stop why begun (answered answer why e) step old.stopped refl);
   left = λ runs. writes (mail.left (runs ∙ sym (ran_before old.stopped new.stopped (λ was. ap (λ (s : StoreValue _). s.stopped) (still was) ∙ was) runs)));
 }
@@ -119,8 +125,11 @@ keeps_by history faults t next old new answer kind mail halts still fault unfail
     disk_same : new ≡ old → new.disk ≡ old.disk
     disk_same same = ap (λ (s : StoreValue _). s.disk) same
 
+    idle_disk : new.disk ≡ old.disk → IsIdle (history old.disk) (history new.disk)
+    idle_disk same = subst (λ (d : _). IsIdle (history old.disk) (history d)) (sym same) (idle-begins (history old.disk))
+
     idle_same : new ≡ old → IsIdle (history old.disk) (history new.disk)
-    idle_same same = subst (λ (d : _). IsIdle (history old.disk) (history d)) (sym (disk_same same)) (idle-begins (history old.disk))
+    idle_same same = idle_disk (disk_same same)
 
     answered : (a : Progress) (why : Refusal) → ended_by a ≡ Some (reply.Refused why) → a ≡ progress.Done (reply.Refused why)
     answered progress.More why e = absurd (let n : None ≡ Some (reply.Refused why) = e in cc n)
@@ -154,6 +163,7 @@ keeps_fetching t next name uid old new before after began now answer request alo
   tells = tt;
   idle = λ reads. (alone.idle, alone.fault.changes, same);
   still = λ stopped. (alone.idle, alone.fault.changes);
+  same = λ back. alone.idle;
   refused = λ why begun e step. alone.idle;
   left = λ runs. syncs_idle before after alone.idle;
 }
@@ -181,8 +191,11 @@ pub keeps_saving : {D : Type 0} → (history : D → Option History) (faults : D
     → (old.stopped ≡ false → Saves t.stage next.stage t.name t.time t.size answer next.did old new (history old.disk) (history new.disk) (faults old.disk) (faults new.disk)) → Same history faults (task.Deliver t) (task.Deliver next) old new (ended_by answer)
 keeps_saving history faults t next old new answer request ends saves = by_run old.stopped refl
   where
+    idle_disk : new.disk ≡ old.disk → IsIdle (history old.disk) (history new.disk)
+    idle_disk same = subst (λ (d : _). IsIdle (history old.disk) (history d)) (sym same) (idle-begins (history old.disk))
+
     idle_same : new ≡ old → IsIdle (history old.disk) (history new.disk)
-    idle_same same = subst (λ (d : _). IsIdle (history old.disk) (history d)) (sym (ap (λ (s : StoreValue _). s.disk) same)) (idle-begins (history old.disk))
+    idle_same same = idle_disk (ap (λ (s : StoreValue _). s.disk) same)
 
     saving_refused : (prepared : Prepared) (now later : SaveStage) (a : Progress) (why : Refusal) → now ≡ save_stage.First prepared → ended_by a ≡ Some (reply.Refused why) → SaveEffects now later t.name t.time t.size a old new → new ≡ old
     saving_refused prepared now later a why is e effects = first_refused later a e (subst (λ (k : SaveStage). SaveEffects k later t.name t.time t.size a old new) is effects)
@@ -207,6 +220,7 @@ keeps_saving history faults t next old new answer request ends saves = by_run ol
           tells = tt;
           idle = λ reads. absurd reads;
           still = λ was. absurd (let k : true ≡ false = sym was ∙ r in cc k);
+          same = idle_disk;
           refused = λ why begun e step. idle_same (saving_refused begun.0 t.stage next.stage answer why begun.1 e s.effects);
           left = λ runs. s.mail runs;
         }

@@ -2,6 +2,8 @@
 use Rattle.std.specs.Prelude.{◌≡◌, ◌≤◌, ℕ, true, false, List, Option, Some, None}
 use Rattle.disk_model.specs.Disk.{History, Faults, Grows, IsIdle}
 use Rattle.attach_detach.specs.declared.message.Prepared.{Prepared}
+use Rattle.mdbox_base.specs.declared.progress.Progress.{Progress}
+use Rattle.mdbox_base.specs.declared.progress.Progress.TheVariants as progress
 use Rattle.mdbox_base.specs.declared.replies.Refusal.{Refusal}
 use Rattle.mdbox_base.specs.declared.replies.Reply.{Reply}
 use Rattle.mdbox_base.specs.declared.replies.Reply.TheVariants as reply
@@ -25,6 +27,10 @@ use Rattle.mail_fetch.specs.Claims.{HasUseRoom}
 use Rattle.mail_fetch.specs.Clause.{CanFetch}
 use Rattle.mail_fetch.specs.Task.{seen_in}
 use Rattle.mail_fetch.specs.declared.task.FetchStage.TheVariants as fetch_stage
+use Rattle.mail_ops.specs.Copy.{CopyAnswers}
+use Rattle.mail_ops.specs.Expunging.{ExpungeAnswers}
+use Rattle.mail_ops.specs.Making.{MakeAnswers}
+use Rattle.mail_ops.specs.Moving.{MoveAnswers}
 use Rattle.mail_ops.specs.Requests.{Replies}
 use Rattle.mail_ops.specs.declared.copy.CopyStage.TheVariants as copy_stage
 use Rattle.mail_ops.specs.declared.expunging.ExpungeStage.TheVariants as expunge_stage
@@ -113,10 +119,20 @@ ReadsNoOctets (task.Fetch t) = ⊥
 ReadsNoOctets (task.Deliver t) = ⊥
 ReadsNoOctets other = Unit {0}
 
--- What a task of one event replies, by what it found in the store: of a listing or a setting of flags.
-abbrev pub TellsStore : {D : Type 0} → Task → StoreValue D → StoreValue D → Option Reply → Type 0
-TellsStore (task.Ops t) old new ended = (given : Reply) × (ended ≡ Some given) × Replies t.request old new given
-TellsStore other old new ended = Unit {0}
+-- how an event ended: with a reply, or its request goes on
+abbrev pub progress_by : Option Reply → Progress
+progress_by None = progress.More
+progress_by (Some given) = progress.Done given
+
+-- What a task answers, by what its event found in the store and left of it: of a listing or a setting of flags, and, unless the store
+-- was stopped, of a make, a copy, a move or an expunge, with the stages before and after.
+abbrev pub TellsStore : {D : Type 0} → Task → Task → StoreValue D → StoreValue D → Option History → Option History → Option Reply → Type 0
+TellsStore (task.Ops t) next old new before after ended = (given : Reply) × (ended ≡ Some given) × Replies t.request old new given
+TellsStore (task.Make t) (task.Make next) old new before after ended = old.stopped ≡ false → MakeAnswers t.name t.stage old new before after next.stage (progress_by ended)
+TellsStore (task.Copy t) (task.Copy next) old new before after ended = old.stopped ≡ false → CopyAnswers t.name t.uid t.target t.stage old new next.stage (progress_by ended)
+TellsStore (task.Move t) (task.Move next) old new before after ended = old.stopped ≡ false → MoveAnswers t.name t.uid t.target t.stage old new next.stage (progress_by ended)
+TellsStore (task.Expunge t) (task.Expunge next) old new before after ended = old.stopped ≡ false → ExpungeAnswers t.name t.uid t.stage old new next.stage (progress_by ended)
+TellsStore t next old new before after ended = Unit {0}
 
 -- For which maps storage files and instances stay: of a delivery for that of its store, of every other task for each.
 abbrev pub IsKeptFor : {D : Type 0} → Task → StoreValue D → MapMeaning → Type 0
@@ -153,8 +169,8 @@ StaysOfRequest t next = ⊥
 -- Whatever the disk is and fails: time goes on, and at each moment storage files and instances have what the map needs. No count of
 -- faults falls; unless the store is stopped then no change failed, and an event that stops it is one in which a change failed and no
 -- read. A task that reads no octets counts no failed read. One that reads at the most changes nothing, nor does a first event that is
--- refused, but for want of memory or by a failed call, nor any event of a store that was stopped. A listing or a setting of flags is
--- replied by what the store has. It stays the task of its request.
+-- refused, but for want of memory or by a failed call, nor any event of a store that was stopped, nor one that leaves the store's disk as
+-- it was. It is answered by what the store has (`TellsStore`). It stays the task of its request.
 pub record TaskKeeps {D : Type 0} (t next : Task) (old new : StoreValue D) (before after : Option History) (began now : Faults) (ended : Option Reply) : Type 0 where
   pub request : StaysOfRequest t next
   pub grows : Grows before after
@@ -164,8 +180,9 @@ pub record TaskKeeps {D : Type 0} (t next : Task) (old new : StoreValue D) (befo
   pub unfailed : new.stopped ≡ false → now.changes ≡ began.changes
   pub fell : old.stopped ≡ false → new.stopped ≡ true → Rose began.changes now.changes × (now.reads ≡ began.reads)
   pub unread : ReadsNoOctets t → now.reads ≡ began.reads
-  pub tells : TellsStore t old new ended
+  pub tells : TellsStore t next old new before after ended
   pub idle : OnlyReads t → IsIdle before after × (now.changes ≡ began.changes) × (new.stopped ≡ old.stopped)
   pub still : old.stopped ≡ true → IsIdle before after × (now.changes ≡ began.changes)
+  pub same : new.disk ≡ old.disk → IsIdle before after
   pub refused : (why : Refusal) → IsAtStart t → ended ≡ Some (reply.Refused why) → is_step why ≡ true → IsIdle before after
   pub left : new.stopped ≡ false → WritesTask t next old before after

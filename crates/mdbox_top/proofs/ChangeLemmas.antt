@@ -1,5 +1,5 @@
 -- What the events of a request alone say together that may change the lists.
-use Rattle.std.specs.Prelude.{◌≡◌, ◌⊎◌, ◌↔◌, ℕ, true, false, List, [], Option, Some, None}
+use Rattle.std.specs.Prelude.{◌≡◌, ◌⊎◌, ◌↔◌, ◌∷◌, ◌++◌, ℕ, true, false, List, [], Option, Some, None}
 use Rattle.std.proofs.Common.{refl, sym, ◌∙◌, ap, subst, inl, inr}
 use Rattle.disk_model.specs.Disk.{Files, History, Faults, EachImage, IfTold}
 use Rattle.disk_model.specs.FaultCounts.{NoFault, ChangeFaultCounted}
@@ -7,37 +7,33 @@ use Rattle.disk_model.proofs.MomentLemmas.{each_image-map, each_image-then, sinc
 use Rattle.mdbox_base.specs.declared.progress.Did.{Did}
 use Rattle.mdbox_base.specs.declared.progress.Progress.{Progress}
 use Rattle.mdbox_base.specs.declared.progress.Progress.TheVariants as progress
-use Rattle.mdbox_base.specs.declared.replies.Refusal.{Refusal}
 use Rattle.mdbox_base.specs.declared.replies.Refusal.TheVariants as refusal
 use Rattle.mdbox_base.specs.declared.replies.Reply.{Reply}
 use Rattle.mdbox_base.specs.declared.replies.Reply.TheVariants as reply
 use Rattle.mdbox_base.specs.declared.requests.Request.{Request}
-use Rattle.model_lists.specs.Lists.{Lists, AreWellFormed}
-use Rattle.model_store.specs.Listing.{ShowLists}
+use Rattle.model_lists.specs.Lists.{Lists}
 use Rattle.model_store.specs.Safe.{Safe}
 use Rattle.model_store.specs.Settled.{IsSettledFor, Leaves}
 use Rattle.model_store.proofs.SettledLemmas.{settled_safe}
 use Rattle.list_machine.specs.Run.{RunEvent, Run, and_then}
 use Rattle.journal.specs.Events.{Around}
-use Rattle.journal.specs.Journal.{IsReplyOf, is_read_fault}
+use Rattle.journal.specs.Journal.{is_read_fault}
 use Rattle.journal.specs.Makes.{StepOf}
-use Rattle.task_steps.specs.Step.{Seen, ShowsSeen, StaysFirm, Steps, and_told, ended_by}
+use Rattle.task_steps.specs.Step.{Seen, StaysFirm, Steps, and_told, ended_by}
 use Rattle.task_steps.proofs.OneEventLemmas.{not_true}
 use Rattle.store_core.specs.Running.{IsStore}
 use Rattle.store_core.specs.Value.{StoreValue, indexes_of}
 use Rattle.mail_ops.specs.SparedMail.{SparesMail}
 use Rattle.mail_ops.proofs.KeptMailLemmas.{spared_none}
 use Rattle.model_kept.proofs.KeptLemmas.{ReadsImage}
-use Rattle.script_run.proofs.MailStaysLemmas.{opening_keeps}
-use Rattle.script_run.proofs.RunBeginsLemmas.{OpenedNow, before_opening, beginning, opening_begins}
-use Rattle.script_run.specs.One.{OpensUnchanged, lists_told}
-use Rattle.mdbox_top.specs.Changed.{ChangeMoments, AreOneOf, SafeForAmong, MomentsAmong}
-use Rattle.mdbox_top.specs.ChangeEvents.{IsWayTo, ServesAlone, ChangesAlone}
+use Rattle.script_run.proofs.RunBeginsLemmas.{OpenedNow}
+use Rattle.script_run.specs.One.{OpensUnchanged}
+use Rattle.mdbox_top.specs.Changed.{SafeForAmong, MomentsAmong}
+use Rattle.mdbox_top.specs.ChangeEvents.{IsWayTo, ServesAlone}
 use Rattle.mdbox_top.specs.UnderWay.{IsUnderWay, seen_alone}
 use Rattle.mdbox_top.proofs.MailLemmas.{spares_then}
-use Rattle.mdbox_top.proofs.ServedLemmas.{comes, opened_firm}
 use Rattle.script_run.proofs.ShownLemmas.{opens_again}
-use Rattle.mdbox_top.proofs.UnderWayLemmas.{nothing_found, way_begins, way_shows, way_goes_on, way_ends}
+use Rattle.mdbox_top.proofs.UnderWayLemmas.{nothing_found, way_shows, way_goes_on, way_ends}
 
 pub more_done : (given : Reply) → progress.More ≡ progress.Done given → ⊥
 more_done given e = cc e
@@ -129,10 +125,6 @@ so_far_on history faults Began Stood Stands request Among left next may told fir
 
 -- ---- the end
 
--- what is replied is no refusal
-abbrev pub IsUnrefused : Reply → Type 0
-IsUnrefused given = (why : Refusal) → given ≡ reply.Refused why → ⊥
-
 -- An event that answers it: it was served.
 pub so_far_serves : {D : Type 0} → (history : D → Option History) (faults : D → Faults) (Began Stood Stands : Run → ℕ → List Reply → Type 0) (request : Request) (Among : Lists → Lists → Type 0) (tells left may told : Lists → Lists) (first s t : StoreValue D) (how : Did) (given : Reply)
     → SoFar history faults Began Stood request Among left first s → ChangeEvent history faults Stood Stands request may told s t how (progress.Done given) → IsStore (history t.disk) t
@@ -157,41 +149,7 @@ so_far_serves history faults Began Stood Stands request Among tells left may tol
     to : Seen
     to = seen_alone t (history t.disk) (faults t.disk)
 
--- And, if it isn't refused, the store shows the changed lists.
-pub so_far_ends : {D : Type 0} → (history : D → Option History) (faults : D → Faults) (Began Stood Stands : Run → ℕ → List Reply → Type 0) (request : Request) (Among : Lists → Lists → Type 0) (change left may told : Lists → Lists) (first s t : StoreValue D) (how : Did) (given : Reply)
-    → SoFar history faults Began Stood request Among left first s → ChangeEvent history faults Stood Stands request may told s t how (progress.Done given) → IsStore (history t.disk) t
-    → ((lists : Lists) → Among lists (left lists)) → ((lists : Lists) → Among lists (may (left lists))) → (t.stopped ≡ false → (lists : Lists) → told (left lists) ≡ lists_told request given lists) → is_read_fault (Some given) ≡ false
-    → (IsUnrefused given → (run : Run) (said : List Reply) (event : RunEvent) (answer : Option Reply) (lists later : Lists) → Stood run 0 said → IsReplyOf request (and_told said answer) given → StepOf run request (left lists) event answer later → later ≡ change lists)
-    → ChangesAlone Began request Among change first t (history first.disk) (history t.disk) (faults first.disk) (faults t.disk) given
-so_far_ends history faults Began Stood Stands request Among change left may told first s t how given so event k within may_within told_is unread last =
-    let serves = so_far_serves history faults Began Stood Stands request Among (λ lists. lists_told request given lists) left may told first s t how given so event k within may_within told_is unread in
-    record {
-      served = serves.served;
-      shows = λ undone lists seen u0.
-          let u = so.way lists seen u0 in
-          let d = event.does nothing_found nothing_found u.run 1 0 u.said (left lists) u.goes.serves.come (way_shows Stood request lists (left lists) seen from u) u.stands in
-          subst (λ (ls : Lists). ShowsSeen to ls) (last undone u.run u.said d.0.makes.event d.0.makes.answer lists d.0.left u.stands (d.0.ends.replied given refl) d.0.makes.made) d.0.shown;
-      moments = serves.moments;
-      settled = serves.settled;
-      mail = serves.mail;
-      halts = serves.halts;
-      fault = serves.fault;
-      unfailed = serves.unfailed;
-    }
-  where
-    from : Seen
-    from = seen_alone s (history s.disk) (faults s.disk)
-
-    to : Seen
-    to = seen_alone t (history t.disk) (faults t.disk)
-
 -- ---- behind the opening
-
--- From any lists that the opened store shows the request is under way.
-pub way_shown : {D : Type 0} → (Stands : Run → ℕ → List Reply → Type 0) (request : Request) (lists : Lists) (old mid : Option History) (began : Faults) (s : StoreValue D) → (o : OpenedNow old mid s) → AreWellFormed lists × ShowLists s.map.boxes (indexes_of s.boxes) lists
-    → Stands (beginning s.map o.store.entries) 0 [] → IsUnderWay Stands request lists (before_opening (seen_alone s mid began) old) (seen_alone s mid began) lists
-way_shown Stands request lists old mid began s o shown stands =
-    way_begins Stands request lists s.map o.store.entries (seen_alone s mid began) old (comes old mid began s o) shown o.running o.drawn (o.safe lists) (o.settled_again lists) (opening_keeps old mid s.map (indexes_of s.boxes) o.opened o.stays) (opened_firm lists old mid began s o) (opening_begins old mid s o) stands
 
 -- a store that is as it was opened
 pub opens_unchanged : {D : Type 0} → (old mid new : Option History) (s : StoreValue D) → OpenedNow old mid s → new ≡ mid → OpensUnchanged s.map (indexes_of s.boxes) old new
@@ -205,10 +163,9 @@ moments_as Among Left old mid new s o moments itself any = λ lists at.
     each_image-then (Left lists) old mid new (each_image-map (SafeFor lists) (Left lists) old mid (λ moment image safe. itself lists moment image safe) (o.safe lists at))
     (each_image-map (SafeForAmong Among lists) (Left lists) mid new (λ moment image h. any lists h.0 moment image h.1 h.2) (moments lists (o.settled_again lists at)))
 
-one_safe : (change : Lists → Lists) (lists some : Lists) (image : Files) → AreOneOf change lists some → Safe image some → Safe image lists ⊎ Safe image (change lists)
-one_safe change lists some image (inl e) s = inl (subst (λ (ls : Lists). Safe image ls) e s)
-one_safe change lists some image (inr e) s = inr (subst (λ (ls : Lists). Safe image ls) e s)
+-- ---- what it leaves
 
-pub changed_moments : {D : Type 0} → (change : Lists → Lists) (old mid new : Option History) (s : StoreValue D) → OpenedNow old mid s → MomentsAmong (AreOneOf change) mid new → ChangeMoments change old new
-changed_moments change old mid new s o moments =
-    moments_as (AreOneOf change) (λ lists. SafeForOne lists (change lists)) old mid new s o moments (λ lists moment image safe. inl safe) (λ lists some moment image a safe. one_safe change lists some image a safe)
+-- an event that answered nothing
+pub none_made : (run : Run) (q : Request) (event : RunEvent) (said : List Reply) (answer : Option Reply) (lists later : Lists) → said ≡ [] → and_told said answer ≡ [] → StepOf run q lists event answer later → later ≡ lists
+none_made run q event said None lists later a b made = made
+none_made run q event said (Some given) lists later a b made = absurd (let k : given ∷ [] ≡ [] = subst (λ (rs : List Reply). rs ++ given ∷ [] ≡ []) a b in cc k)

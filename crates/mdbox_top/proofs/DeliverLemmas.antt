@@ -50,7 +50,7 @@ use Rattle.mdbox_top.specs.InputRun.{IsOneOf}
 use Rattle.mdbox_top.specs.OpeningOutcome.{opening_outcome}
 use Rattle.mdbox_top.specs.SavedMail.{LeavesDelivery, WroteMail}
 use Rattle.mdbox_top.proofs.ChangeLemmas.{opens_unchanged, moments_as}
-use Rattle.mdbox_top.proofs.CopyLemmas.{one_refusal}
+use Rattle.script_run.proofs.OneTaskLemmas.{one_refusal}
 use Rattle.mdbox_top.proofs.InputLemmas.{long_told}
 use Rattle.mdbox_top.proofs.KnownFirstLemmas.{named_there}
 use Rattle.mdbox_top.proofs.RequestLemmas.{opening_number, shown_number, request_status, request_used, request_input, request_damage}

@@ -4,18 +4,12 @@ use Rattle.std.proofs.Common.{sym, ◌∙◌, ap, subst, inl, inr}
 use Rattle.std.proofs.lemmas.Bool.{cases_Bool, cond-true, cond-false}
 use Rattle.disk_model.specs.Disk.{FileState, History, IfTold, named, no_file}
 use Rattle.disk_model.specs.declared.name.FileName.TheVariants as file
-use Rattle.mdbox_base.specs.declared.replies.Refusal.TheVariants as refusal
-use Rattle.mdbox_base.specs.declared.replies.Reply.{Reply}
-use Rattle.mdbox_base.specs.declared.replies.Reply.TheVariants as reply
 use Rattle.model_kept.specs.Kept.{MailIsKept}
 use Rattle.model_kept.proofs.KeptLemmas.{ReadsImage, kept_then}
 use Rattle.model_meaning.specs.MapMeaning.{MapMeaning, map_meaning}
-use Rattle.store_core.specs.Value.{StoreValue}
 use Rattle.store_open.specs.Opened.{KeepsOpenedMail}
 use Rattle.mail_ops.specs.SparedMail.{SparesMail}
 use Rattle.task_claims.specs.Leaving.{IsSameOrSynced, SyncsMail}
-use Rattle.script_run.proofs.RunBeginsLemmas.{OpenedNow}
-use Rattle.mdbox_top.specs.Changed.{LeavesMail}
 
 -- ---- names that are synced
 
@@ -56,12 +50,3 @@ spares_then first then both a b c reads one two e k = record {
 -- behind the opening
 pub opened_stays : (old mid new : Option History) → IfTold mid ReadsImage → KeepsOpenedMail old mid → ((m : MapMeaning) → MailIsKept m mid new) → KeepsOpenedMail old new
 opened_stays old mid new reads kept stays = λ store entries logs opens. kept_then (map_meaning store entries) old mid new reads (kept store entries logs opens) (stays (map_meaning store entries))
-
-pub opened_mail : {D : Type 0} → (unfailed : Type 0) (old mid new : Option History) (s : StoreValue D) → (given : Reply) → OpenedNow old mid s → ((given ≡ reply.Refused refusal.Stopped → ⊥) → unfailed) → SparesMail unfailed mid new → LeavesMail s.map given old new
-opened_mail unfailed old mid new s given o runs spares = record {
-  generation = o.swept.0;
-  opened = mid;
-  swept = o.swept.1;
-  stays = opened_stays old mid new o.reads o.stays spares.stays;
-  mail = λ running. spares.left (runs running);
-}

@@ -38,14 +38,15 @@ use Rattle.mail_ops.specs.declared.making.MakeStage.TheVariants as stage
 use Rattle.store_open.specs.Opened.{IsOpenedAs}
 use Rattle.script_run.proofs.RunBeginsLemmas.{OpenedNow, before_opening}
 use Rattle.mdbox_top.specs.Alone.{IsDoneAlone}
-use Rattle.mdbox_top.specs.Changed.{IsChangeAnswer, AreOneOf}
+use Rattle.script_run.specs.One.{IsChangeAnswer}
+use Rattle.mdbox_top.specs.Changed.{AreOneOf}
 use Rattle.mdbox_top.specs.ChangeEvents.{ServesAlone, ShowsChanged, MeansAsBefore, MakingLeaves, MakesAlone}
 use Rattle.mdbox_top.specs.MakeRun.{next_mailbox, lists_by_making, AreMade, IsMakeReply, MakeMoments, MakeRests}
 use Rattle.mdbox_top.proofs.MailLemmas.{opened_stays}
 use Rattle.mdbox_top.proofs.AloneLemmas.{alone_faults}
-use Rattle.mdbox_top.proofs.ChangeLemmas.{ChangeEvent, SoFar, so_far_begins, so_far_on, so_far_serves, opens_unchanged, moments_as}
-use Rattle.mdbox_top.proofs.CopyLemmas.{one_refusal, none_made, unremembered_runs}
-use Rattle.mdbox_top.proofs.ExpungeLemmas.{there_answers, missing_answers, done_runs}
+use Rattle.mdbox_top.proofs.ChangeLemmas.{ChangeEvent, SoFar, so_far_begins, so_far_on, so_far_serves, opens_unchanged, moments_as, none_made}
+use Rattle.script_run.proofs.OneTaskLemmas.{missing_answers, one_refusal, there_answers}
+use Rattle.mdbox_top.proofs.OneStepLemmas.{done_runs, unremembered_runs}
 use Rattle.mdbox_top.proofs.MakeFileLemmas.{unmade_files, removed_files, named_files, stopped_files, reads_alike}
 use Rattle.mdbox_top.proofs.ServedLemmas.{way_opens}
 use Rattle.script_run.proofs.ShownLemmas.{LogsShow, opens_again}

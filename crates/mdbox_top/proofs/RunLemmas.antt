@@ -28,6 +28,7 @@ use Rattle.mdbox_top.specs.InputRun.{DumpPrints, DumpRefuses, LogDumpPrints, Log
 use Rattle.mdbox_top.specs.Run.{Ends, RunOutcome, Moments, Rests, HasStatus, MayHaveFailed}
 use Rattle.mdbox_top.proofs.InputLemmas.{dumps_apart, log_dumps_apart, input_status, shows_status}
 use Rattle.mdbox_top.proofs.InitLemmas.{init_status}
+use Rattle.mdbox_top.proofs.RebuildLemmas.{rebuild_status}
 use Rattle.mdbox_top.specs.ListRun.{IsListReply, ListMoments}
 use Rattle.mdbox_top.specs.FetchRun.{IsFetchReply}
 use Rattle.mdbox_top.specs.FlagRun.{IsFlagReply}
@@ -59,6 +60,7 @@ input_memory (command.Make name) left told h k old new f g why e = absurd (reque
 input_memory command.Counts left told h k old new f g why e = absurd (request_input IsCountsReply request.Counts h k old new f g why e)
 input_memory (command.Batch lanes) left told h k old new f g why e = batch_input lanes left h k old new f g why e
 input_memory (command.Exercise lanes count number) left told h k old new f g why e = absurd (exercise_input lanes count number h k old new f g why e)
+input_memory (command.Rebuild id) left told h k old new f g why e = absurd e
 input_memory command.Help left told h k old new f g why e = absurd e
 input_memory command.Version left told h k old new f g why e = absurd e
 
@@ -76,6 +78,7 @@ damage_memory (command.Make box) left told h k old new f g name place e = reques
 damage_memory command.Counts left told h k old new f g name place e = request_damage IsCountsReply request.Counts h k old new f g (store.Damaged name place) e
 damage_memory (command.Batch lanes) left told h k old new f g name place e = batch_damage lanes left h k old new f g (store.Damaged name place) e
 damage_memory (command.Exercise lanes count number) left told h k old new f g name place e = exercise_damage lanes count number h k old new f g (store.Damaged name place) e
+damage_memory (command.Rebuild id) left told h k old new f g name place e = absurd e
 damage_memory command.Dump left told h k old new f g name place e = absurd e
 damage_memory command.LogDump left told h k old new f g name place e = absurd e
 damage_memory command.Help left told h k old new f g name place e = absurd e
@@ -115,6 +118,7 @@ has_status (command.Make name) r left told h k old new f g o e = λ lists s. req
 has_status command.Counts r left told h k old new f g o e = λ lists s. counts_status h k old new f g o e lists s
 has_status (command.Batch lanes) r left told h k old new f g o e = batch_status lanes left h k old new f g o (omega (arith, r.1)) e
 has_status (command.Exercise lanes count number) r left told h k old new f g o e = λ lists s. exercise_status lanes count number h k old new f g o e lists s
+has_status (command.Rebuild id) r left told h k old new f g o e = rebuild_status id.0 h k old new o e
 has_status command.Dump r left told h k old new f g o e = input_status DumpPrints DumpRefuses left h k o dumps_apart e
 has_status command.LogDump r left told h k old new f g o e = input_status LogDumpPrints LogDumpRefuses left h k o log_dumps_apart e
 has_status command.Help r left told h k old new f g o e = shows_status _ h k o e
@@ -134,6 +138,7 @@ used (command.Make name) left told h k old new f g e = request_used (IsMakeReply
 used command.Counts left told h k old new f g e = request_used IsCountsReply request.Counts h k old new f g e
 used (command.Batch lanes) left told h k old new f g e = batch_used lanes left h k old new f g e
 used (command.Exercise lanes count number) left told h k old new f g e = exercise_used lanes count number h k old new f g e
+used (command.Rebuild id) left told h k old new f g e = e
 used command.Dump left told h k old new f g e = e
 used command.LogDump left told h k old new f g e = e
 used command.Help left told h k old new f g e = e

@@ -86,8 +86,9 @@ use Rattle.mdbox_top.specs.DeliverRun.{attachment_octets, region_length, IsFileF
 use Rattle.mdbox_top.specs.SavedMail.{AddedMail, LeftMail, TookMail, WroteMail}
 use Rattle.mdbox_top.specs.Served.{FaultsByReply}
 use Rattle.mdbox_top.specs.UnderWay.{IsUnderWay, seen_alone}
-use Rattle.mdbox_top.proofs.ChangeLemmas.{more_done, one_done, still_among, moments_on}
-use Rattle.mdbox_top.proofs.CopyLemmas.{one_refusal, memory_runs, none_made}
+use Rattle.mdbox_top.proofs.ChangeLemmas.{more_done, one_done, still_among, moments_on, none_made}
+use Rattle.script_run.proofs.CopyTaskLemmas.{memory_runs}
+use Rattle.script_run.proofs.OneTaskLemmas.{one_refusal}
 use Rattle.mdbox_top.proofs.FirstLemmas.{AreFirstKnown, firsts_let_go, firsts_named, firsts_on}
 use Rattle.mdbox_top.proofs.ReplyFaultLemmas.{fault_event, replied_faults}
 use Rattle.mdbox_top.proofs.RoomLemmas.{finds_room, of_one}

@@ -44,7 +44,7 @@ plain_text (request.Copy name uid target) given one = refl
 plain_text (request.Move name uid target) given one = refl
 plain_text (request.Make name) given one = refl
 plain_text request.Counts given one = refl
-plain_text other given one = elim one [ inl none ↦ absurd none | inr none ↦ absurd none ]
+plain_text other given one = absurd one
 
 pub shows_text : (request : Request) (given : Reply) (h k : Option (List ℕ)) (o : Outcome) → IsServedAlone request → ShowsReply (reply_text given) given h k o → ShowsReply (single_text request given) given h k o
 shows_text request given h k o one s = subst (λ (text : List ℕ). ShowsReply text given h k o) (sym (plain_text request given one)) s
@@ -106,7 +106,7 @@ unopened_leaves (request.Copy name uid target) old new began now why one u = cha
 unopened_leaves (request.Move name uid target) old new began now why one u = λ lists at.
     each_image-map (λ _ image. Safe image lists) (λ _ image. Safe image lists ⊎ (Safe image (copied_lists name uid target lists) ⊎ Safe image (moved_lists name uid target lists))) old new (λ m image h. inl h) (u.moments lists at)
 unopened_leaves (request.Make name) old new began now why one u = λ lists at. each_image-map (λ _ image. Safe image lists) (SafeForMade name old lists) old new (λ m image h. inl h) (u.moments lists at)
-unopened_leaves other old new began now why one u = elim one [ inl none ↦ absurd none | inr none ↦ absurd none ]
+unopened_leaves other old new began now why one u = absurd one
 
 pub unopened_rests : (request : Request) (old new : Option History) (began now : Faults) (why : OpenError) → IsServedAlone request → IsUnopened why old new began now → RequestRests request (MayFail request (status_of (opening_outcome why))) began now old new
 unopened_rests (request.List name) old new began now why one u = λ none. (u.settled_again (λ f. none (unopened_may (request.List name) why f)), u.carried (λ f. none (unopened_may (request.List name) why f)))
@@ -116,7 +116,7 @@ unopened_rests (request.Expunge name uid) old new began now why one u = λ none 
 unopened_rests (request.Copy name uid target) old new began now why one u = λ none lists at. inl (u.settled_again (λ f. none (unopened_may (request.Copy name uid target) why f)) lists at)
 unopened_rests (request.Move name uid target) old new began now why one u = λ none lists at. inl (u.settled_again (λ f. none (unopened_may (request.Move name uid target) why f)) lists at)
 unopened_rests (request.Make name) old new began now why one u = λ none lists at. inl (u.settled_again (λ f. none (unopened_may (request.Make name) why f)) lists at)
-unopened_rests other old new began now why one u = elim one [ inl none ↦ absurd none | inr none ↦ absurd none ]
+unopened_rests other old new began now why one u = absurd one
 
 pub unopened_quiet : (request : Request) (old new : Option History) (began now : Faults) (why : OpenError) → IsUnopened why old new began now → (MayFail request (status_of (opening_outcome why)) → ⊥) → NoFault began now
 unopened_quiet request old new began now why u calls = u.unfailed (λ f. calls (unopened_may request why f))

@@ -25,27 +25,18 @@ use Rattle.model_store.specs.Settled.{IsSettledFor, files_of}
 use Rattle.journal.specs.Journal.{is_read_fault}
 use Rattle.list_machine.specs.Run.{Run}
 use Rattle.store_core.specs.Value.{StoreValue, indexes_of, list_named}
-use Rattle.task_steps.specs.Step.{Seen, ShowsSeen, HasNotBegun}
-use Rattle.mail_ops.specs.Copy.{IsAtCopy, copied_lists}
-use Rattle.mail_ops.specs.Expunging.{IsAtExpunge}
+use Rattle.task_steps.specs.Step.{Seen, HasNotBegun}
 use Rattle.mail_ops.specs.Making.{IsAtMake, making_refusal, with_mailbox}
-use Rattle.mail_ops.specs.Moving.{IsAtMove}
 use Rattle.mail_ops.specs.SparedMail.{SparesMail}
-use Rattle.mail_ops.specs.declared.copy.CopyStage.TheVariants as copy_stage
-use Rattle.mail_ops.specs.declared.expunging.ExpungeStage.TheVariants as expunge_stage
 use Rattle.mail_ops.specs.declared.making.MakeStage.TheVariants as make_stage
-use Rattle.mail_ops.specs.declared.moving.MoveStage.TheVariants as move_stage
 use Rattle.model_store.specs.Stands.{HasInstances}
 use Rattle.saved_message.specs.Region.{written_region}
 use Rattle.saved_message.specs.Saved.{ids_in}
 use Rattle.mail_save.specs.declared.place.SavedAt.{SavedAt}
-use Rattle.script_run.specs.One.{ServesRequest, lists_told, saved_lists, missing_cause}
-use Rattle.mdbox_top.specs.Changed.{IsChangeAnswer, AreOneOf, MomentsAmong}
-use Rattle.mdbox_top.specs.CopyRun.{uncopied_cause, IsCopyAnswer}
+use Rattle.script_run.specs.One.{IsChangeAnswer, ServesRequest, lists_told, saved_lists}
+use Rattle.mdbox_top.specs.Changed.{AreOneOf, MomentsAmong}
 use Rattle.mdbox_top.specs.DeliverRun.{undelivered_cause, AreFirstNamed, attachment_octets, region_length, HasRecordLeft, HasRecordMore, IsDeliverAnswer, AreSaved}
-use Rattle.mdbox_top.specs.ExpungeRun.{lists_without}
 use Rattle.mdbox_top.specs.MakeRun.{lists_by_making}
-use Rattle.mdbox_top.specs.MoveRun.{AreAlongMove, IsMoveAnswer}
 use Rattle.mdbox_top.specs.SavedMail.{AddedMail, LeftMail, WroteMail}
 use Rattle.mdbox_top.specs.Served.{FaultsByReply}
 use Rattle.mdbox_top.specs.UnderWay.{IsUnderWay, seen_alone}
@@ -65,25 +56,6 @@ pub record ServesAlone {D : Type 0} (Began : Run → ℕ → List Reply → Type
   pub halts : (given ≡ reply.Refused refusal.Stopped) ↔ (later.stopped ≡ true)
   pub fault : ChangeFaultCounted (given ≡ reply.Refused refusal.Stopped) began now
   pub unfailed : (given ≡ reply.Refused refusal.Stopped → ⊥) → NoFault began now
-
--- Of a request that had not begun, what its events did of a store that wasn't stopped: it was served; where it is done, the store
--- shows the lists that the reply tells; what a crash within it leaves; what it leaves of storage files and instances; and which
--- call of the disk failed.
-pub record ChangesAlone {D : Type 0} (Began : Run → ℕ → List Reply → Type 0) (request : Request) (Among : Lists → Lists → Type 0) (change : Lists → Lists) (store later : StoreValue D) (old new : Option History) (began now : Faults) (given : Reply) : Type 0 where
-  pub served : (lists : Lists) (seen : Seen) → IsWayTo Began request lists seen store old began lists → ServesRequest request lists given seen.faults now seen.history new
-  pub shows : ((why : Refusal) → given ≡ reply.Refused why → ⊥) → (lists : Lists) (seen : Seen) → IsWayTo Began request lists seen store old began lists → ShowsSeen (seen_alone later new now) (change lists)
-  pub moments : MomentsAmong Among old new
-  pub settled : later.stopped ≡ false → (lists : Lists) → IsSettledFor lists old → IsSettledFor (lists_told request given lists) new
-  pub mail : SparesMail (later.stopped ≡ false) old new
-  pub halts : (given ≡ reply.Refused refusal.Stopped) ↔ (later.stopped ≡ true)
-  pub fault : ChangeFaultCounted (given ≡ reply.Refused refusal.Stopped) began now
-  pub unfailed : (given ≡ reply.Refused refusal.Stopped → ⊥) → NoFault began now
-
--- What the events of an expunge did.
-pub record RemovesAlone {D : Type 0} (name : List ℕ) (uid : Uid) (store later : StoreValue D) (old new : Option History) (began now : Faults) (given : Reply) : Type 0 where
-  pub given_is : IsChangeAnswer (missing_cause (list_named store name) uid.0) given
-  pub refused : (why : Refusal) → given ≡ reply.Refused why → (why ≡ refusal.Stopped → ⊥) → later ≡ store
-  pub changes : ChangesAlone (IsAtExpunge expunge_stage.First) (request.Expunge name uid) (AreOneOf (lists_without name uid)) (lists_without name uid) store later old new began now given
 
 -- The store has the same listings and mailboxes.
 pub record IsAlike {D : Type 0} (store later : StoreValue D) : Type 0 where
@@ -127,29 +99,6 @@ pub record SavesAlone {D : Type 0} (name : List ℕ) (time : ℕ) (octets : List
   pub faults : FaultsByReply given began now
   pub stays : MailIsKept store.map old new
 
--- The store has the same listings, and the same mailboxes and records of the map, and their counts.
-pub record IsAsBefore {D : Type 0} (store later : StoreValue D) : Type 0 where
-  pub indexes : indexes_of later.boxes ≡ indexes_of store.boxes
-  pub mailboxes : later.map.boxes ≡ store.map.boxes
-  pub records : later.map.records ≡ store.map.records
-
--- What the events of a copy did.
-pub record CopiesAlone {D : Type 0} (name : List ℕ) (uid : Uid) (target : List ℕ) (store later : StoreValue D) (old new : Option History) (began now : Faults) (given : Reply) : Type 0 where
-  pub given_is : IsCopyAnswer (uncopied_cause (list_named store name) (list_named store target) store.map uid.0) (list_named store target) given
-  pub refused : (why : Refusal) → given ≡ reply.Refused why → (why ≡ refusal.Stopped → ⊥) → (why ≡ refusal.NoMemory → ⊥) → later ≡ store
-  pub memory : given ≡ reply.Refused refusal.NoMemory → IsAsBefore store later
-  pub calm : is_read_fault (Some given) ≡ false
-  pub changes : ChangesAlone (IsAtCopy copy_stage.First) (request.Copy name uid target) (AreOneOf (copied_lists name uid target)) (copied_lists name uid target) store later old new began now given
-
--- What the events of a move did.
-pub record MovesAlone {D : Type 0} (name : List ℕ) (uid : Uid) (target : List ℕ) (store later : StoreValue D) (old new : Option History) (began now : Faults) (given : Reply) : Type 0 where
-  pub given_is : IsMoveAnswer (uncopied_cause (list_named store name) (list_named store target) store.map uid.0) (list_named store target) given
-  pub refused : (why : Refusal) → given ≡ reply.Refused why → (why ≡ refusal.Stopped → ⊥) → (why ≡ refusal.NoMemory → ⊥) → later ≡ store
-  pub memory : given ≡ reply.Refused refusal.NoMemory → IsAsBefore store later
-  pub calm : is_read_fault (Some given) ≡ false
-  pub here : (moved : Uid) → given ≡ reply.Moved moved true → (lists : Lists) (seen : Seen) → IsWayTo (IsAtMove uid move_stage.First) (request.Move name uid target) lists seen store old began lists → ⊥
-  pub changes : ChangesAlone (IsAtMove uid move_stage.First) (request.Move name uid target) (AreAlongMove name uid target) (λ lists. lists_told (request.Move name uid target) given lists) store later old new began now given
-
 -- The store's logs mean what they meant.
 pub record MeansAsBefore {D : Type 0} (store later : StoreValue D) : Type 0 where
   pub map_is : later.map ≡ store.map
@@ -178,21 +127,3 @@ pub record MakesAlone {D : Type 0} (name : List ℕ) (store later : StoreValue D
   pub files : MakingLeaves (store.drawn.mailbox + 1) given old new
   pub calm : is_read_fault (Some given) ≡ false
   pub serves : ServesAlone (IsAtMake make_stage.First) (request.Make name) (AreOneOf (with_mailbox (store.drawn.mailbox + 1) name)) (lists_by_making (store.drawn.mailbox + 1) name given) store later old new began now given
-
--- ---- of any of these requests
-
--- a request of several events that changes the lists, but for a delivery
-abbrev pub HasMoreEvents : Request → Type 0
-HasMoreEvents (request.Expunge name uid) = Unit {0}
-HasMoreEvents (request.Copy name uid target) = Unit {0}
-HasMoreEvents (request.Move name uid target) = Unit {0}
-HasMoreEvents (request.Make name) = Unit {0}
-HasMoreEvents other = ⊥
-
--- what its events did
-abbrev pub DoesAlone : {D : Type 0} → Request → StoreValue D → StoreValue D → Option History → Option History → Faults → Faults → Reply → Type 0
-DoesAlone (request.Expunge name uid) store later old new began now given = RemovesAlone name uid store later old new began now given
-DoesAlone (request.Copy name uid target) store later old new began now given = CopiesAlone name uid target store later old new began now given
-DoesAlone (request.Move name uid target) store later old new began now given = MovesAlone name uid target store later old new began now given
-DoesAlone (request.Make name) store later old new began now given = MakesAlone name store later old new began now given
-DoesAlone other store later old new began now given = ⊥

@@ -1,7 +1,6 @@
 -- What a request alone of several events makes of a store that it may change.
-use Rattle.std.specs.Prelude.{◌≡◌, ◌⊎◌, ℕ, List, Option, Some, None}
+use Rattle.std.specs.Prelude.{◌≡◌, ◌⊎◌, ℕ, List, Option}
 use Rattle.disk_model.specs.Disk.{Files, History, Faults, EachImage}
-use Rattle.mdbox_base.specs.declared.replies.Refusal.{Refusal}
 use Rattle.mdbox_base.specs.declared.replies.Refusal.TheVariants as refusal
 use Rattle.mdbox_base.specs.declared.replies.Reply.{Reply}
 use Rattle.mdbox_base.specs.declared.replies.Reply.TheVariants as reply
@@ -15,12 +14,6 @@ use Rattle.task_claims.specs.Leaving.{SyncsMail}
 use Rattle.store_open.specs.Opened.{IsOpenedAs, KeepsOpenedMail}
 use Rattle.store_sweep.specs.Moments.{NoFailedChange}
 use Rattle.store_sweep.specs.Swept.{IsSwept}
-
--- What a request replies that is done or isn't: its cause, if there is one. Else it is done; or there was no memory; or a change of
--- the disk failed, and the store is stopped.
-abbrev pub IsChangeAnswer : Option Refusal → Reply → Type 0
-IsChangeAnswer (Some why) given = given ≡ reply.Refused why
-IsChangeAnswer None given = (given ≡ reply.Done) ⊎ ((given ≡ reply.Refused refusal.NoMemory) ⊎ (given ≡ reply.Refused refusal.Stopped))
 
 -- The files open, and of any lists that these logs showed their logs show those that the change makes of them.
 pub record OpensChanged (change : Lists → Lists) (m : MapMeaning) (meanings : List BoxMeaning) (new : Option History) : Type 0 where

@@ -1,6 +1,5 @@
 -- How `copy` ends.
-use Rattle.std.specs.Prelude.{◌≡◌, ◌⊎◌, ℕ, nat_le, List, Option, Some, None}
-use Rattle.std.specs.Option.{option_map_or, option_or}
+use Rattle.std.specs.Prelude.{◌≡◌, ℕ, List, Option}
 use Rattle.disk_model.specs.Disk.{History, Faults}
 use Rattle.mdbox_base.specs.declared.ids.Uid.{Uid}
 use Rattle.mdbox_base.specs.declared.replies.Refusal.{Refusal}
@@ -9,34 +8,16 @@ use Rattle.mdbox_base.specs.declared.replies.Reply.{Reply}
 use Rattle.mdbox_base.specs.declared.replies.Reply.TheVariants as reply
 use Rattle.mdbox_base.specs.declared.requests.Request.TheVariants as request
 use Rattle.model_lists.specs.Lists.{Lists}
-use Rattle.list_machine.specs.Machine.{refused_where}
-use Rattle.model_meaning.specs.BoxMeaning.{BoxMeaning, row_at}
-use Rattle.model_meaning.specs.MapMeaning.{MapMeaning, count_of}
+use Rattle.model_meaning.specs.BoxMeaning.{BoxMeaning}
+use Rattle.model_meaning.specs.MapMeaning.{MapMeaning}
 use Rattle.model_store.specs.Listing.{meaning_named}
 use Rattle.model_store.specs.Settled.{IsSettledFor}
 use Rattle.mail_ops.specs.Copy.{copied_lists}
-use Rattle.mail_ops.specs.Copying.{room_refusal}
 use Rattle.store_open.specs.Opened.{IsOpenedAs}
 use Rattle.request_text.specs.declared.outcome.Outcome.{Outcome}
-use Rattle.script_run.specs.One.{OpensUnchanged, lists_told}
+use Rattle.script_run.specs.One.{IsCopyAnswer, OpensUnchanged, lists_told, uncopied_cause}
 use Rattle.mdbox_top.specs.Changed.{OpensChanged, OpensAsBefore, ChangeMoments, ChangeRests, LeavesMail}
 use Rattle.mdbox_top.specs.Served.{RequestOutcome}
-
--- Why the message isn't copied, by what the logs of its mailbox, of the target and of the map mean: no mailbox has either name, no
--- message the UID, the target lists 1,000,000 or has no further UID, or the count of the message's record is 65,535.
-abbrev pub uncopied_cause : Option BoxMeaning → Option BoxMeaning → MapMeaning → ℕ → Option Refusal
-uncopied_cause from to m uid =
-    option_map_or (λ source. option_map_or (λ target. option_map_or (λ row. option_or (room_refusal target) (refused_where (nat_le 65535 (count_of m row.guid)) (refusal.TooManyCopies 65535))) (row_at source uid) (Some refusal.NoMessage)) to (Some refusal.NoMailbox)) from (Some refusal.NoMailbox)
-
--- the copy has the target's next UID
-abbrev pub IsCopiedAs : Option BoxMeaning → Reply → Type 0
-IsCopiedAs to given = (target : BoxMeaning) × (uid : Uid) × (to ≡ Some target) × (uid.0 ≡ target.next) × (given ≡ reply.Copied uid)
-
--- Why it isn't copied is replied, if it isn't. Else it is; or there was no memory; or a change of the disk failed, and the store
--- is stopped.
-abbrev pub IsCopyAnswer : Option Refusal → Option BoxMeaning → Reply → Type 0
-IsCopyAnswer (Some why) to given = given ≡ reply.Refused why
-IsCopyAnswer None to given = IsCopiedAs to given ⊎ ((given ≡ reply.Refused refusal.NoMemory) ⊎ (given ≡ reply.Refused refusal.Stopped))
 
 -- The reply to the copy of this message, by what the logs mean from which the store opened. Where it is refused, the files open
 -- with the same logs, all that the store reads is carried over, and the disk was swept. Out of memory, they open with the same

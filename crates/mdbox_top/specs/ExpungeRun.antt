@@ -15,8 +15,8 @@ use Rattle.model_store.specs.Listing.{meaning_named}
 use Rattle.model_store.specs.Settled.{IsSettledFor}
 use Rattle.store_open.specs.Opened.{IsOpenedAs}
 use Rattle.request_text.specs.declared.outcome.Outcome.{Outcome}
-use Rattle.script_run.specs.One.{OpensUnchanged, lists_told, missing_cause}
-use Rattle.mdbox_top.specs.Changed.{IsChangeAnswer, OpensChanged, ChangeMoments, ChangeRests, LeavesMail}
+use Rattle.script_run.specs.One.{IsChangeAnswer, OpensUnchanged, lists_told, missing_cause}
+use Rattle.mdbox_top.specs.Changed.{OpensChanged, ChangeMoments, ChangeRests, LeavesMail}
 use Rattle.mdbox_top.specs.Served.{RequestOutcome}
 
 -- the lists without the message

@@ -18,6 +18,8 @@ pub mod MoveRun
 pub mod Numbers
 pub mod OpeningOutcome
 pub mod PrintedPlaces
+pub mod PrintedReplies
+pub mod RebuildRun
 pub mod Run
 pub mod SavedMail
 pub mod Served

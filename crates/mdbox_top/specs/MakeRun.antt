@@ -22,8 +22,8 @@ use Rattle.store_open.specs.Opened.{IsOpenedAs, KeepsOpenedMail}
 use Rattle.store_sweep.specs.Moments.{NoFailedChange}
 use Rattle.store_sweep.specs.Swept.{IsSwept}
 use Rattle.request_text.specs.declared.outcome.Outcome.{Outcome}
-use Rattle.script_run.specs.One.{OpensUnchanged}
-use Rattle.mdbox_top.specs.Changed.{IsChangeAnswer, OpensChanged}
+use Rattle.script_run.specs.One.{IsChangeAnswer, OpensUnchanged}
+use Rattle.mdbox_top.specs.Changed.{OpensChanged}
 use Rattle.mdbox_top.specs.Served.{RequestOutcome}
 
 -- Why no mailbox is made, by what the log of the mailbox with its name and the map's log mean: there is one, 1,024 mailboxes are

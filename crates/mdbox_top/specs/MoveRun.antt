@@ -1,5 +1,5 @@
 -- How `move` ends.
-use Rattle.std.specs.Prelude.{◌≡◌, ◌⊎◌, ℕ, Bool, true, List, Option, Some, None}
+use Rattle.std.specs.Prelude.{◌≡◌, ◌⊎◌, ℕ, Bool, true, List, Option}
 use Rattle.disk_model.specs.Disk.{History, Faults, EachImage}
 use Rattle.mdbox_base.specs.declared.ids.Uid.{Uid}
 use Rattle.mdbox_base.specs.declared.replies.Refusal.{Refusal}
@@ -18,24 +18,9 @@ use Rattle.store_open.specs.Opened.{IsOpenedAs}
 use Rattle.store_sweep.specs.Moments.{NoFailedChange}
 use Rattle.request_text.specs.declared.outcome.Outcome.{Outcome}
 use Rattle.script_run.specs.Opening.{AreSafeFor}
-use Rattle.script_run.specs.One.{OpensUnchanged, lists_behind, lists_told, moved_lists}
+use Rattle.script_run.specs.One.{IsMoveAnswer, OpensUnchanged, lists_behind, lists_told, moved_lists, uncopied_cause}
 use Rattle.mdbox_top.specs.Changed.{OpensChanged, OpensAsBefore, LeavesMail}
-use Rattle.mdbox_top.specs.CopyRun.{uncopied_cause}
 use Rattle.mdbox_top.specs.Served.{RequestOutcome}
-
--- the copy has the target's next UID
-abbrev pub IsMovedAs : Option BoxMeaning → Reply → Type 0
-IsMovedAs to given = (target : BoxMeaning) × (uid : Uid) × (gone : Bool) × (to ≡ Some target) × (uid.0 ≡ target.next) × (given ≡ reply.Moved uid gone)
-
--- Why it isn't moved is replied, if it isn't, which is why a copy would not be made. Else it is; or there was no memory; or a
--- change of the disk failed, and the store is stopped.
-abbrev pub IsMoveAnswer : Option Refusal → Option BoxMeaning → Reply → Type 0
-IsMoveAnswer (Some why) to given = given ≡ reply.Refused why
-IsMoveAnswer None to given = IsMovedAs to given ⊎ ((given ≡ reply.Refused refusal.NoMemory) ⊎ (given ≡ reply.Refused refusal.Stopped))
-
--- these lists, those with the copy, or those that are moved: with the copy and without the message
-abbrev pub AreAlongMove : List ℕ → Uid → List ℕ → Lists → Lists → Type 0
-AreAlongMove name uid target lists some = (some ≡ lists) ⊎ ((some ≡ copied_lists name uid target lists) ⊎ (some ≡ moved_lists name uid target lists))
 
 -- The reply to the move of this message, by what the logs mean from which the store opened. Where it is refused, the files open
 -- with the same logs, all that the store reads is carried over, and the disk was swept. Out of memory, they open with the same

@@ -1,8 +1,10 @@
--- What an opening answers, as the end of a run.
+-- What an opening or a rebuild answers, as the end of a run.
 use Rattle.request_text.specs.declared.outcome.Outcome.{Outcome}
 use Rattle.request_text.specs.declared.outcome.Outcome.TheVariants as outcome
 use Rattle.request_text.specs.declared.outcome.StoreRefusal.{StoreRefusal}
 use Rattle.request_text.specs.declared.outcome.StoreRefusal.TheVariants as store
+use Rattle.rebuild_files.specs.declared.error.RebuildError.{RebuildError}
+use Rattle.rebuild_files.specs.declared.error.RebuildError.TheVariants as rebuild
 use Rattle.store_open.specs.declared.error.OpenError.{OpenError}
 use Rattle.store_open.specs.declared.error.OpenError.TheVariants as error
 
@@ -20,3 +22,9 @@ opening_error store.NoStore = error.NoStore
 opening_error store.StoreWhole = error.StoreWhole
 opening_error store.MailFiles = error.MailFiles
 opening_error (store.Damaged name place) = error.Damaged name place
+
+-- why a store was not rebuilt, as the end of a run
+abbrev pub rebuild_outcome : RebuildError → Outcome
+rebuild_outcome rebuild.StoreWhole = outcome.StoreRefused store.StoreWhole
+rebuild_outcome rebuild.DiskFault = outcome.DiskFault
+rebuild_outcome rebuild.NoMemory = outcome.NoMemory

@@ -15,6 +15,7 @@ use Rattle.mdbox_top.specs.BatchRun.{BatchOutcome, BatchMoments, BatchRests, Bat
 use Rattle.mdbox_top.specs.ExerciseRun.{ExerciseOutcome, ExerciseMoments, ExerciseRests}
 use Rattle.mdbox_top.specs.InputRun.{DumpPrints, DumpRefuses, LogDumpPrints, LogDumpRefuses, InputOutcome, InputStatus, ShowsText, IsOneOf}
 use Rattle.mdbox_top.specs.InitRun.{InitOutcome, InitMoments, MayMakeStore}
+use Rattle.mdbox_top.specs.RebuildRun.{RebuildOutcome, RebuildMoments, IsLostNow, IsWholeNow}
 use Rattle.mdbox_top.specs.ListRun.{ListOutcome, ListMoments, ListRests}
 use Rattle.mdbox_top.specs.DeliverRun.{DeliverOutcome, DeliverMoments, DeliverRests, DeliverStatus}
 use Rattle.mdbox_top.specs.FetchRun.{FetchOutcome, FetchMoments, FetchRests}
@@ -40,6 +41,7 @@ Ends (command.Make name) left told held later old new began now outcome = MakeOu
 Ends command.Counts left told held later old new began now outcome = CountsOutcome held later old new began now outcome
 Ends (command.Batch lanes) left told held later old new began now outcome = BatchOutcome lanes left held later old new began now outcome
 Ends (command.Exercise lanes count number) left told held later old new began now outcome = ExerciseOutcome lanes count number held later old new began now outcome
+Ends (command.Rebuild id) left told held later old new began now outcome = RebuildOutcome id.0 held later old new outcome
 Ends command.Dump left told held later old new began now outcome = InputOutcome DumpPrints DumpRefuses left held later outcome
 Ends command.LogDump left told held later old new began now outcome = InputOutcome LogDumpPrints LogDumpRefuses left held later outcome
 Ends command.Help left told held later old new began now outcome = ShowsText HELP.now held later outcome
@@ -66,6 +68,7 @@ Moments (command.Make name) left told old new = MakeMoments name old new
 Moments command.Counts left told old new = CountsMoments old new
 Moments (command.Batch lanes) left told old new = BatchMoments lanes left old new
 Moments (command.Exercise lanes count number) left told old new = ExerciseMoments lanes count number old new
+Moments (command.Rebuild id) left told old new = RebuildMoments old new
 Moments other left told old new = new ≡ old
 
 -- What the command leaves of the disk when it ends, by whether it failed and the counts of the disk's faults.
@@ -84,7 +87,7 @@ Rests (command.Exercise lanes count number) left told failed began now old new =
 Rests other left told failed began now old new = Unit {0}
 
 -- The statuses that may come, by what was left of the input and what the disk was: no file refuses a store that can be made,
--- or a request on a settled disk, `counts` has no reply that refuses it, and `--help` and `--version` fail with the output alone.
+-- or rebuilt, or a request on a settled disk, `counts` has no reply that refuses it, and `--help` and `--version` fail with the output alone.
 abbrev pub HasStatus : Command → Option (List ℕ) → Option History → ℕ → Type 0
 HasStatus (command.Init id) left old status = MayMakeStore old → IsOneOf (0 ∷ 5 ∷ 6 ∷ 8 ∷ []) status
 HasStatus (command.Deliver name) left old status = DeliverStatus left old status
@@ -98,6 +101,7 @@ HasStatus (command.Make name) left old status = (lists : Lists) → IsSettledFor
 HasStatus command.Counts left old status = (lists : Lists) → IsSettledFor lists old → IsOneOf (0 ∷ 5 ∷ 6 ∷ 8 ∷ []) status
 HasStatus (command.Batch lanes) left old status = BatchStatus lanes left old status
 HasStatus (command.Exercise lanes count number) left old status = (lists : Lists) → IsSettledFor lists old → IsOneOf (0 ∷ 1 ∷ 5 ∷ 6 ∷ 8 ∷ []) status
+HasStatus (command.Rebuild id) left old status = (IsLostNow old → IsOneOf (0 ∷ 5 ∷ 6 ∷ 8 ∷ []) status) × (IsWholeNow old → IsOneOf (3 ∷ 5 ∷ 6 ∷ []) status)
 HasStatus command.Dump left old status = InputStatus DumpPrints DumpRefuses left status
 HasStatus command.LogDump left old status = InputStatus LogDumpPrints LogDumpRefuses left status
 HasStatus command.Help left old status = IsOneOf (0 ∷ 8 ∷ []) status
@@ -143,6 +147,7 @@ uses_disk (command.Make name) = true
 uses_disk command.Counts = true
 uses_disk (command.Batch lanes) = true
 uses_disk (command.Exercise lanes count number) = true
+uses_disk (command.Rebuild id) = true
 uses_disk other = false
 
 -- the command asks the clock

@@ -1,29 +1,26 @@
 // A request alone: the store is opened, the request done, and its reply printed.
-ghost use Rattle.std.specs.Prelude.{◌≡◌, ◌≢◌, ◌≤◌, false, IfOk, IfErr};
+ghost use Rattle.std.specs.Prelude.{◌≡◌, ◌≢◌, ◌≤◌, IfOk, IfErr};
 ghost use Rattle.disk_model.specs.FaultCounts.{NoFault, AnyFaultCounted};
 ghost use Rattle.mdbox_base.specs.Streams.{Rose};
-ghost use Rattle.script_run.specs.One.{HasOneEvent};
+ghost use Rattle.mdbox_base.specs.declared.requests.Request.TheVariants as request;
+ghost use Rattle.script_run.specs.One.{MakesSteps};
 ghost use Rattle.script_run.specs.Opening.{IsUnopened};
 ghost use Rattle.mdbox_top.specs.Alone.{IsServedAlone, ReplyTells, RequestMoments, RequestRests, MayFail, IsDoneAlone};
-ghost use Rattle.mdbox_top.specs.ChangeEvents.{DoesAlone, HasMoreEvents};
 ghost use Rattle.mdbox_top.specs.Served.{RequestOutcome, ShowsReply};
 ghost use Rattle.request_text.specs.Outcomes.{status_of};
 ghost use Rattle.request_text.specs.ReplyText.{reply_text};
 ghost use Rattle.request_text.specs.declared.outcome.Outcome.TheVariants as outcome;
 
-use crate::copy::copy_message;
-use crate::expunge::remove_message;
 use crate::making::make_mailbox;
-use crate::moving::move_message;
 use crate::opening::outcome_of;
 use disk_model::Disk;
 use mail_ops::listings_are_answered;
-use mdbox_base::{Reply, Request, Sink};
+use mdbox_base::{Name, Reply, Request, Sink};
 use piece_writer::PrintError;
 use request_text::{Outcome, outcome_of_reply, print_reply};
 use script_run::run_request;
 use std::alloc::Global;
-use store_core::{Store, listings_are_shown};
+use store_core::listings_are_shown;
 use store_open::{OpenRefused, open_store};
 
 /// Opens the store, does a request, prints its reply, and hands the disk back.
@@ -60,32 +57,18 @@ fn reply_alone<D: Disk>(
     ensures refused { IfErr result (λ refused. IsUnopened refused.error (D.history disk) (D.history refused.disk) (D.faults disk) (D.faults refused.disk)) }
 {
     match request {
-        Request::List { name } => script_alone(alloc, Request::List { name }, disk),
-        Request::Counts => script_alone(alloc, Request::Counts, disk),
-        Request::Flag { name, uid, flags } => {
-            script_alone(alloc, Request::Flag { name, uid, flags }, disk)
-        }
-        Request::Expunge { name, uid } => {
-            change_alone(alloc, Request::Expunge { name, uid }, disk)
-        }
-        Request::Copy { name, uid, target } => {
-            change_alone(alloc, Request::Copy { name, uid, target }, disk)
-        }
-        Request::Move { name, uid, target } => {
-            change_alone(alloc, Request::Move { name, uid, target }, disk)
-        }
-        Request::Make { name } => change_alone(alloc, Request::Make { name }, disk),
-        _ => unreachable!(),
+        Request::Make { name } => make_alone(alloc, name, disk),
+        request => script_alone(alloc, request, disk),
     }
 }
 
-/// Opens the store, does a request of one event as a script of one, and answers its reply.
+/// Opens the store, does a request as a script of one, and answers its reply.
 fn script_alone<D: Disk>(
     alloc: Global,
     request: Request,
     disk: D,
 ) -> Result<(Reply, D), OpenRefused<D>>
-    requires { HasOneEvent request }
+    requires { MakesSteps request }
     ensures done { IfOk result (λ done. IsDoneAlone request done.0 (D.history disk) (D.history done.1) (D.faults disk) (D.faults done.1)) }
     ensures refused { IfErr result (λ refused. IsUnopened refused.error (D.history disk) (D.history refused.disk) (D.faults disk) (D.faults refused.disk)) }
 {
@@ -94,14 +77,9 @@ fn script_alone<D: Disk>(
     Ok((reply, disk))
 }
 
-/// Opens the store, does the events of a request that changes the lists, and answers the reply.
-fn change_alone<D: Disk>(
-    alloc: Global,
-    request: Request,
-    disk: D,
-) -> Result<(Reply, D), OpenRefused<D>>
-    requires { HasMoreEvents request }
-    ensures done { IfOk result (λ done. IsDoneAlone request done.0 (D.history disk) (D.history done.1) (D.faults disk) (D.faults done.1)) }
+/// Opens the store, does the events of a make, and answers its reply.
+fn make_alone<D: Disk>(alloc: Global, name: Name, disk: D) -> Result<(Reply, D), OpenRefused<D>>
+    ensures done { IfOk result (λ done. IsDoneAlone (request.Make name) done.0 (D.history disk) (D.history done.1) (D.faults disk) (D.faults done.1)) }
     ensures refused { IfErr result (λ refused. IsUnopened refused.error (D.history disk) (D.history refused.disk) (D.faults disk) (D.faults refused.disk)) }
 {
     listings_are_shown();
@@ -110,27 +88,11 @@ fn change_alone<D: Disk>(
             let mut store = store;
             store.facts();
             store.known_logs();
-            let reply = do_events(&mut store, request);
+            let reply = make_mailbox(&mut store, name);
             store.facts();
             Ok((reply, store.into_disk()))
         }
         Err(refused) => Err(refused),
-    }
-}
-
-/// Does the events of a request, one behind another, and answers its reply.
-fn do_events<D: Disk>(store: &mut Store<D>, request: Request) -> Reply
-    requires many { HasMoreEvents request }
-    requires running { store.old.stopped ≡ false }
-    requires drawn { store.old.drawn ≡ store.old.map.highest }
-    ensures { DoesAlone request store.old store.new (D.history store.old.disk) (D.history store.new.disk) (D.faults store.old.disk) (D.faults store.new.disk) result }
-{
-    match request {
-        Request::Expunge { name, uid } => remove_message(store, name, uid),
-        Request::Copy { name, uid, target } => copy_message(store, name, uid, target),
-        Request::Move { name, uid, target } => move_message(store, name, uid, target),
-        Request::Make { name } => make_mailbox(store, name),
-        _ => unreachable!(),
     }
 }
 

@@ -2,24 +2,24 @@
 #![tactic(auto)]
 
 pub use laws::{
-    counted_messages_are_listed, exercises_count_their_requests, printed_places_number_the_journal,
+    counted_messages_are_listed, exercises_are_done_in_order, exercises_count_their_requests,
+    printed_places_number_the_journal,
 };
 pub use request_text::Status;
 pub use run::{mdbox_alone, mdbox_run};
 
 mod alone;
 mod batch;
-mod copy;
 mod deliver;
 mod exercise;
-mod expunge;
 mod fetch;
 mod init;
 mod input_commands;
+mod known;
 mod laws;
 mod making;
-mod moving;
 mod numbers;
 mod opening;
+mod rebuild;
 mod run;
 mod show;

@@ -18,6 +18,7 @@ use crate::exercise::exercise;
 use crate::fetch::fetch;
 use crate::init::init;
 use crate::input_commands::{dump, logdump};
+use crate::rebuild::rebuild;
 use crate::show::show;
 use disk_model::Disk;
 use mdbox_base::{Clock, Request, Sink, Source};
@@ -165,6 +166,7 @@ fn perform<D: Disk, I: Source, O: Sink, C: Clock>(
             count,
             number,
         } => exercise(alloc, lanes, count, number, disk, output),
+        Command::Rebuild { id } => rebuild(alloc, id, disk, output),
         Command::Dump => (dump(alloc, input, output), disk),
         Command::LogDump => (logdump(alloc, input, output), disk),
         Command::Help => (show(output, HELP), disk),

@@ -88,6 +88,12 @@ id_same a b p q e =
     let h : a.0 ≡ b.0 = hex_same a.0 b.0 p.1 q.1 (cc words) in
     ap (λ (n : List ℕ). let i : StoreId = record { 0 = n } in i) h
 
+rebuild_same : (a b : StoreId) → IsInRange (command.Rebuild a) → IsInRange (command.Rebuild b) → words_of (command.Rebuild a) ≡ words_of (command.Rebuild b) → a ≡ b
+rebuild_same a b p q e =
+    let words : encode_lower a.0 ∷ [] ≡ encode_lower b.0 ∷ [] = cc e in
+    let h : a.0 ≡ b.0 = hex_same a.0 b.0 p.1 q.1 (cc words) in
+    ap (λ (n : List ℕ). let i : StoreId = record { 0 = n } in i) h
+
 name_same : (a b : List ℕ) → words_of (command.List a) ≡ words_of (command.List b) → a ≡ b
 name_same a b e =
     let words : a ∷ [] ≡ b ∷ [] = cc e in
@@ -187,6 +193,7 @@ same_words (command.Move a u t) (command.Move b v w) p q e = move_same a b u v t
 same_words (command.Make a) (command.Make b) p q e = ap (λ (n : List ℕ). command.Make n) (make_same a b e)
 same_words (command.Batch a) (command.Batch b) p q e = batch_same a b p q e
 same_words (command.Exercise a m x) (command.Exercise b n y) p q e = exercise_same a b m n x y p q e
+same_words (command.Rebuild a) (command.Rebuild b) p q e = ap (λ (i : StoreId). command.Rebuild i) (rebuild_same a b p q e)
 same_words command.Counts command.Counts p q e = refl
 same_words command.Dump command.Dump p q e = refl
 same_words command.LogDump command.LogDump p q e = refl

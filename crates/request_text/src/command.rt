@@ -28,6 +28,8 @@ pub enum Command {
     Batch { lanes: u32 },
     /// Does so many requests, of the script that the number makes, on so many lanes.
     Exercise { lanes: u32, count: u32, number: u64 },
+    /// Makes new logs, with this id, for the storage files that are there.
+    Rebuild { id: StoreId },
     /// Prints the messages of a storage file.
     Dump,
     /// Prints the entries of a log.
@@ -80,6 +82,10 @@ exercise LANES COUNT NUMBER
             lane makes a mailbox, x and the lane's number, and then delivers, copies, expunges and flags in it; prints
             how many requests there were and how many were replied OK and NO, how many messages the mailboxes of the
             store list and their octets, and the four numbers of counts, a line for each, such as messages 500
+rebuild ID  makes new logs, with the id ID, for the storage files in the current folder, where the logs are lost or
+            damaged; prints for each message that it can't take, or part of a file that it can't read, a line
+            SKIPPED, the number of the storage file (m.N), the offset there and the reason, and then OK, how many
+            mailboxes there are and how many messages; no storage file and no attachment is changed
 dump        reads a storage file (m.N) of mdbox from standard input and prints, for each message,
             MESSAGE, its offset and the size of its body, and then its metadata lines, each after two spaces
 logdump     reads a log of mdbox from standard input and prints LOG, its kind (R, M or B), its number and its

@@ -8,7 +8,9 @@ pub use outcome::{
     FileRefusal, InputRefusal, Outcome, StoreRefusal, outcome_of_replies, outcome_of_reply,
 };
 pub use places::{Places, Steps};
-pub use reply_print::{print_fetch_alone, print_reply, push_answer};
+pub use reply_print::{
+    numbers_line, print_fetch_alone, print_reply, push_answer, push_numbers, put_line,
+};
 pub use status::Status;
 pub use summary::{Summary, print_summary};
 pub use words::{WordsError, read_words};

@@ -16,7 +16,7 @@ use piece_writer::{PieceWriter, PrintError, write_text};
 use std::alloc::Global;
 
 /// Adds numbers in decimal, each behind a space.
-fn push_numbers(text: &mut Octets, numbers: &[u64]) -> Result<(), NoMemory>
+pub fn push_numbers(text: &mut Octets, numbers: &[u64]) -> Result<(), NoMemory>
     ensures { OnOk result (text.new ≡ text.old ++ numbers_text numbers.now) }
 {
     for number in numbers {
@@ -108,7 +108,7 @@ fn ok_begun(alloc: Global, numbers: &[u64]) -> Result<Octets, NoMemory>
 }
 
 /// A line of `OK` and numbers.
-fn numbers_line(alloc: Global, numbers: &[u64]) -> Result<Octets, NoMemory>
+pub fn numbers_line(alloc: Global, numbers: &[u64]) -> Result<Octets, NoMemory>
     ensures { IfOk result (λ line. line ≡ ok_line (numbers_text numbers.now)) }
 {
     let mut line = ok_begun(alloc, numbers)?;
@@ -139,7 +139,7 @@ fn moved_line(alloc: Global, uid: Uid, gone: bool) -> Result<Octets, NoMemory>
 }
 
 /// Adds a text that lies in memory whole to the piece. A piece that is full is given to the output.
-fn put_line<O: Sink>(
+pub fn put_line<O: Sink>(
     output: &mut O,
     writer: &mut PieceWriter,
     line: &Octets,

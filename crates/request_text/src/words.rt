@@ -74,6 +74,7 @@ fn read_two(alloc: Global, verb: &str, word: &[u8]) -> Result<Command, WordsErro
         "list" => read_list(alloc, word),
         "make" => read_make(alloc, word),
         "batch" => read_batch(word),
+        "rebuild" => read_rebuild(word),
         _ => Err(WordsError::Usage),
     }
 }
@@ -86,6 +87,18 @@ fn read_init(word: &[u8]) -> Result<Command, WordsError>
 {
     match read_lower_hex(word) {
         Some(id) => Ok(Command::Init { id: StoreId(id) }),
+        None => Err(WordsError::Usage),
+    }
+}
+
+/// The rebuild of a store with the id that this word names.
+fn read_rebuild(word: &[u8]) -> Result<Command, WordsError>
+    ensures says { IfOk result (Says (codes "rebuild" ∷ word.now ∷ [])) }
+    ensures usage { IsErr result → SayNothing (codes "rebuild" ∷ word.now ∷ []) }
+    ensures memory { IsErrOf result words_error.NoMemory → ⊥ }
+{
+    match read_lower_hex(word) {
+        Some(id) => Ok(Command::Rebuild { id: StoreId(id) }),
         None => Err(WordsError::Usage),
     }
 }

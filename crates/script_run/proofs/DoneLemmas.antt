@@ -3,7 +3,7 @@ use Rattle.std.specs.Prelude.{◌≡◌, ◌≢◌, ◌<◌, ◌≤◌, ◌||◌
 use Rattle.std.proofs.Common.{refl, sym, ◌∙◌, ap, subst, arith, inl, inr}
 use Rattle.std.proofs.lemmas.List.{length-map}
 use Rattle.std.proofs.lemmas.Option.{slice_get_within}
-use Rattle.disk_model.specs.Disk.{Faults, History, IsMoment, told_calls}
+use Rattle.disk_model.specs.Disk.{Faults, History, IsIdle, IsMoment, told_calls}
 use Rattle.disk_model.proofs.IdleLemmas.{idle-begins}
 use Rattle.mdbox_base.specs.declared.ids.Uid.{Uid}
 use Rattle.mdbox_base.specs.declared.replies.Refusal.{Refusal}
@@ -28,7 +28,7 @@ use Rattle.store_core.specs.Value.{StoreValue, indexes_of, list_named}
 use Rattle.store_open.specs.Opened.{KeepsOpenedMail}
 use Rattle.store_seen.specs.Seeing.{IsAtOpening}
 use Rattle.task_claims.specs.Claims.{HasNoTask}
-use Rattle.task_steps.specs.Step.{IsFirmAt, Seen, ShowsSeen, ended_by}
+use Rattle.task_steps.specs.Step.{IsFirmAt, Seen, ShowsSeen}
 use Rattle.task_steps.proofs.OneEventLemmas.{not_true}
 use Rattle.mail_fetch.specs.Task.{seen_in}
 use Rattle.lanes.specs.Going.{AreFreshRows, IsGoing}
@@ -36,14 +36,13 @@ use Rattle.lanes.specs.Rows.{LaneRow, lane_value, lanes_of}
 use Rattle.attach_detach.specs.declared.message.Prepared.{Prepared}
 use Rattle.lanes.specs.Worlds.{AreGiven, AreOfLanes, ArePartsOf, GoesOnBy, HasItsMessage, IsFreshWorld, IsWorldOf, PartsValue, WorldValue, and_events}
 use Rattle.lanes.proofs.TraceLemmas.{as_finished, world_finished}
-use Rattle.lane_tasks.specs.Clause.{IsAtStart, OnlyReads, ReadsNoOctets, TellsStore}
+use Rattle.lane_tasks.specs.Clause.{IsAtStart, OnlyReads, ReadsNoOctets}
 use Rattle.task_steps.proofs.UnmovedLemmas.{mail_still}
-use Rattle.lane_tasks.specs.Tasks.{IsTaskOf}
+use Rattle.lane_tasks.specs.Tasks.{BeginsTask}
 use Rattle.mail_ops.specs.Flagging.{flag_refusal}
 use Rattle.mail_ops.specs.Requests.{Replies}
 use Rattle.lane_tasks.specs.declared.task.Task.{Task}
-use Rattle.lane_tasks.specs.declared.task.Task.TheVariants as task
-use Rattle.script_run.specs.One.{IsFlagAnswer, IsToldAlone, missing_cause}
+use Rattle.script_run.specs.One.{IsFlagAnswer, IsGivenBackAlone, IsToldAlone, IsUndoneAlone, MeansAlike, missing_cause}
 use Rattle.script_run.specs.Done.{IsScriptDone, LeavesStore, MayBeKept, MayBeServed, MayRead}
 use Rattle.script_run.specs.Faults.{FaultsByReplies, HasReadFault}
 use Rattle.script_run.specs.LeftOpen.{IsServedOpen}
@@ -51,9 +50,12 @@ use Rattle.script_run.specs.Opening.{AreSafeFor, LogsShowLists}
 use Rattle.script_run.specs.Script.{HasStopped, ServesScript, has_change, has_delivery, has_fetch, is_fetch, has_mail_read}
 use Rattle.script_run.proofs.EndLemmas.{all_given, script_served, serves_from, unharmed}
 use Rattle.script_run.proofs.MailStaysLemmas.{opening_keeps, run_keeps, stays_from}
-use Rattle.script_run.proofs.ChainLemmas.{HasCounted, HasNotDelivered, HasOnlyRead, NoDelivery, counted_first, counted_on, reads_on, stays_over, syncs_first, undelivered_on, HasReadNoOctets, in_turn, replied_now, replied_on, unread_on}
+use Rattle.script_run.proofs.CopyTaskLemmas.{IsCopyTold, StandsCopy, begun_copy, keeps_copy}
+use Rattle.script_run.proofs.ChainLemmas.{HasCounted, HasNotDelivered, HasOnlyRead, NoDelivery, counted_first, counted_on, reads_on, stays_over, syncs_first, undelivered_on, HasReadNoOctets, unread_on}
 use Rattle.script_run.proofs.SinceLemmas.{ServedSince, begun_first, fresh_tasks, reads_first, served_since, undelivered_first, unread_first}
+use Rattle.script_run.proofs.MoveTaskLemmas.{IsMoveTold, StandsMove, begun_move, keeps_move}
 use Rattle.script_run.proofs.MovedLemmas.{Purges, all_at, none_moved}
+use Rattle.script_run.proofs.OneTaskLemmas.{IsAloneSo, IsExpungeTold, IsFlagTold, KeepsAlone, StandsExpunge, StandsFlag, alone_fresh, alone_on, begun_expunge, keeps_expunge, keeps_flag}
 use Rattle.script_run.proofs.OpenedLemmas.{none_holds, none_used}
 use Rattle.script_run.proofs.ReadFaultLemmas.{TellsFault, faults_are_told}
 use Rattle.script_run.proofs.RunBeginsLemmas.{OpenedNow, at_opening, before_opening, beginning, first_come, opening_begins}
@@ -303,58 +305,60 @@ flag_answer : {D : Type 0} → (name : List ℕ) (uid : Uid) (flags : ℕ) (s t 
 flag_answer name uid flags s t given running r =
     let is = cause_is name uid.0 s running in answer_by (missing_cause (list_named s name) uid.0) given (t.stopped ≡ true) (λ why e. r.0 why (is ∙ e)) (λ e. r.1 (is ∙ e))
 
--- what its task tells
-tells_flag : {D : Type 0} → (t : Task) (name : List ℕ) (uid : Uid) (flags : ℕ) (old new : StoreValue D) (ended : Option Reply) → IsTaskOf t (request.Flag name uid flags) → TellsStore t old new ended → (given : Reply) × (ended ≡ Some given) × Replies (request.Flag name uid flags) old new given
-tells_flag (task.Ops t) name uid flags old new ended of tells = (tells.0, tells.1, subst (λ (q : Request). Replies q old new tells.0) (sym of) tells.2)
-tells_flag (task.Counts t) name uid flags old new ended of tells = absurd (cc of)
-tells_flag (task.Make t) name uid flags old new ended of tells = absurd (cc of)
-tells_flag (task.Copy t) name uid flags old new ended of tells = absurd (cc of)
-tells_flag (task.Move t) name uid flags old new ended of tells = absurd (cc of)
-tells_flag (task.Expunge t) name uid flags old new ended of tells = absurd (cc of)
-tells_flag (task.Fetch t) name uid flags old new ended of tells = absurd (cc of)
-tells_flag (task.Deliver t) name uid flags old new ended of tells = absurd of
-
-only_place : (place : ℕ) (given one : Reply) → HasReply (Some one ∷ []) place given → given ≡ one
-only_place zero given one at = let e : Some (Some one) ≡ Some (Some given) = at in let f : Some one ≡ Some given = cc e in let k : one ≡ given = cc f in sym k
-only_place (suc n) given one at = absurd (let e : None ≡ Some (Some given) = at in cc e)
-
-only_asked : (at : ℕ) (alone : Request) (place lane : ℕ) (asked : Request) → slice_get {X = ℕ × Request} ((at, alone) ∷ []) place ≡ Some (lane, asked) → alone ≡ asked
-only_asked at alone zero lane asked is =
-    let first : ℕ × Request = (at, alone) in
-    let found : ℕ × Request = (lane, asked) in
-    let e : Some first ≡ Some found = is in
-    let k : first ≡ found = cc e in
-    ap (λ (q : ℕ × Request). q.1) k
-only_asked at alone (suc n) lane asked is =
-    let found : ℕ × Request = (lane, asked) in
-    absurd (let e : None ≡ Some found = is in cc e)
+-- a script of one request that reads no message, by what its task's events keep
+alone_told : {D : Type 0} → (Stands : Task → StoreValue D → Option History → Type 0) (Told : Reply → StoreValue D → Option History → Type 0) (at : ℕ) (asked : Request) (one : Reply) (old mid new : Option History) (first last : Faults) (s : StoreValue D) (world ended : WorldValue D) → ScriptRan ((at, asked) ∷ []) old mid new first last s world ended → ended.replies ≡ Some one ∷ []
+    → has_fetch ((at, asked) ∷ []) ≡ false → KeepsAlone Stands Told → ((t : Task) → BeginsTask asked t → Stands t s mid) → Told one ended.store new
+alone_told {D} Stands Told at asked one old mid new first last s world ended r are unread keeps begun =
+    (stays_over (IsAloneSo Stands Told at) (alone_on Stands Told at keeps) 0 r.turns (as_finished world) ended mid new first last r.chain
+    (record {
+      one = began.0;
+      rows = alone_fresh (λ t. Stands t world.store mid) at asked world.rows (λ t b. subst (λ (v : StoreValue D). Stands t v mid) (sym r.store_is) (begun t b)) r.fresh;
+      told = λ given has. let k : Some None ≡ Some (Some given) = sym (began.1 0 (omega arith)) ∙ has in absurd (let n : None ≡ Some given = cc k in cc n);
+    })).told one (ap (λ (rs : List (Option Reply)). slice_get rs 0) are)
+  where
+    began : (length world.replies ≡ 1) × ((i : ℕ) → i < 1 → slice_get world.replies i ≡ Some None)
+    began =
+        let some = some_lists old s.map (indexes_of s.boxes) r.opened.opened in
+        (r.begins some.0 some.1 (λ f. absurd (let k : true ≡ false = sym f ∙ unread in cc k))).going.serving.given
 
 flag_told : {D : Type 0} → (at : ℕ) (name : List ℕ) (uid : Uid) (flags : ℕ) (one : Reply) (old mid new : Option History) (first last : Faults) (s : StoreValue D) (world ended : WorldValue D) → ScriptRan ((at, request.Flag name uid flags) ∷ []) old mid new first last s world ended → ended.replies ≡ Some one ∷ []
     → IsFlagAnswer (missing_cause (list_named s name) uid.0) one
-flag_told {D} at name uid flags one old mid new first last s world ended r are = by_turns r.turns r.chain
-  where
-    by_turns : (turns : List ℕ) → GoesOnBy turns world ended mid new first last → IsFlagAnswer (missing_cause (list_named s name) uid.0) one
-    by_turns [] g =
-        let some = some_lists old s.map (indexes_of s.boxes) r.opened.opened in
-        let begun = r.begins some.0 some.1 (λ f. absurd (let k : false ≡ true = f in cc k)) in
-        let none : slice_get world.replies 0 ≡ Some None = begun.going.serving.given.1 0 (omega arith) in
-        let k : Some None ≡ Some (Some one) = sym none ∙ ap (λ (rs : List (Option Reply)). slice_get rs 0) (sym (ap (λ (w : WorldValue D). w.replies) g.0) ∙ are) in
-        absurd (let n : None ≡ Some one = cc k in cc n)
-    by_turns (lane ∷ lanes) g =
-        let e = g.4 in
-        let place = e.works.event.place in
-        let own = (in_turn (λ t. IsTaskOf t (request.Flag name uid flags)) lane (as_finished world) g.0 mid g.1 first g.2 e
-        (fresh_tasks (λ t. IsTaskOf t (request.Flag name uid flags)) ((at, request.Flag name uid flags) ∷ []) world.rows (λ p l asked t there begins. subst (λ (q : Request). IsTaskOf t q) (sym (only_asked at (request.Flag name uid flags) p l asked there)) begins.is_of) r.fresh)).0 in
-        let t = tells_flag e.works.goes.queued.task name uid flags world.store g.0.store (ended_by e.works.event.ended) own e.works.goes.goes.keeps.tells in
-        let here : HasReply g.0.replies place t.0 = subst (λ (rs : List (Option Reply)). HasReply rs place t.0) (sym e.works.replies_are) (replied_now t.0 (ended_by e.works.event.ended) place world.replies e.works.unanswered t.1) in
-        let there = stays_over (λ w h f. HasReply w.replies place t.0) (replied_on place t.0) lane lanes g.0 ended g.1 new g.2 last g.6 here in
-        let same : t.0 ≡ one = only_place place t.0 one (subst (λ (rs : List (Option Reply)). HasReply rs place t.0) are there) in
-        flag_answer name uid flags s g.0.store one r.opened.running
-        (subst (λ (x : StoreValue D). Replies (request.Flag name uid flags) x g.0.store one) r.store_is (subst (λ (x : Reply). Replies (request.Flag name uid flags) world.store g.0.store x) same t.2))
+flag_told at name uid flags one old mid new first last s world ended r are =
+    let told = alone_told (StandsFlag name uid flags s) (IsFlagTold name uid flags s) at (request.Flag name uid flags) one old mid new first last s world ended r are refl (keeps_flag name uid flags s) (λ t b. (b.is_of, refl)) in
+    flag_answer name uid flags s ended.store one r.opened.running told
+
+expunge_told : {D : Type 0} → (at : ℕ) (name : List ℕ) (uid : Uid) (one : Reply) (old mid new : Option History) (first last : Faults) (s : StoreValue D) (world ended : WorldValue D) → ScriptRan ((at, request.Expunge name uid) ∷ []) old mid new first last s world ended → ended.replies ≡ Some one ∷ []
+    → IsExpungeTold (missing_cause (list_named s name) uid.0) mid one new
+expunge_told at name uid one old mid new first last s world ended r are =
+    alone_told (StandsExpunge name uid s mid) (λ given store history. IsExpungeTold (missing_cause (list_named s name) uid.0) mid given history) at (request.Expunge name uid) one old mid new first last s world ended r are refl (keeps_expunge name uid s mid) (begun_expunge name uid s mid r.opened.running)
+
+copy_told : {D : Type 0} → (at : ℕ) (name : List ℕ) (uid : Uid) (target : List ℕ) (one : Reply) (old mid new : Option History) (first last : Faults) (s : StoreValue D) (world ended : WorldValue D) → ScriptRan ((at, request.Copy name uid target) ∷ []) old mid new first last s world ended → ended.replies ≡ Some one ∷ []
+    → IsCopyTold name uid target s mid one ended.store new
+copy_told at name uid target one old mid new first last s world ended r are =
+    alone_told (StandsCopy name uid target s mid) (IsCopyTold name uid target s mid) at (request.Copy name uid target) one old mid new first last s world ended r are refl (keeps_copy name uid target s mid) (begun_copy name uid target s mid r.opened.running)
+
+move_told : {D : Type 0} → (at : ℕ) (name : List ℕ) (uid : Uid) (target : List ℕ) (one : Reply) (old mid new : Option History) (first last : Faults) (s : StoreValue D) (world ended : WorldValue D) → ScriptRan ((at, request.Move name uid target) ∷ []) old mid new first last s world ended → ended.replies ≡ Some one ∷ []
+    → IsMoveTold name uid target s mid one ended.store new
+move_told at name uid target one old mid new first last s world ended r are =
+    alone_told (StandsMove name uid target s mid) (IsMoveTold name uid target s mid) at (request.Move name uid target) one old mid new first last s world ended r are refl (keeps_move name uid target s mid) (begun_move name uid target s mid r.opened.running)
 
 told_alone : {D : Type 0} → (script : Requests) (old mid new : Option History) (first last : Faults) (s : StoreValue D) (world ended : WorldValue D) → ScriptRan script old mid new first last s world ended → (given : List Reply) → ended.replies ≡ map Some given → IsToldAlone script s.map (indexes_of s.boxes) given
 told_alone ((at, request.Flag name uid flags) ∷ []) old mid new first last s world ended r (one ∷ []) are = flag_told at name uid flags one old mid new first last s world ended r are
+told_alone ((at, request.Expunge name uid) ∷ []) old mid new first last s world ended r (one ∷ []) are = (expunge_told at name uid one old mid new first last s world ended r are).given_is
+told_alone ((at, request.Copy name uid target) ∷ []) old mid new first last s world ended r (one ∷ []) are = (copy_told at name uid target one old mid new first last s world ended r are).given_is
+told_alone ((at, request.Move name uid target) ∷ []) old mid new first last s world ended r (one ∷ []) are = (move_told at name uid target one old mid new first last s world ended r are).given_is
 told_alone script old mid new first last s world ended r given are = tt
+
+undone_alone : {D : Type 0} → (script : Requests) (old mid new : Option History) (first last : Faults) (s : StoreValue D) (world ended : WorldValue D) → ScriptRan script old mid new first last s world ended → (given : List Reply) → ended.replies ≡ map Some given → IsUndoneAlone script given → IsIdle mid new
+undone_alone ((at, request.Expunge name uid) ∷ []) old mid new first last s world ended r (reply.Refused why ∷ []) are running = (expunge_told at name uid (reply.Refused why) old mid new first last s world ended r are).unchanged why refl running
+undone_alone ((at, request.Copy name uid target) ∷ []) old mid new first last s world ended r (reply.Refused why ∷ []) are runs = (copy_told at name uid target (reply.Refused why) old mid new first last s world ended r are).unchanged why refl runs.0 runs.1
+undone_alone ((at, request.Move name uid target) ∷ []) old mid new first last s world ended r (reply.Refused why ∷ []) are runs = (move_told at name uid target (reply.Refused why) old mid new first last s world ended r are).unchanged why refl runs.0 runs.1
+undone_alone script old mid new first last s world ended r given are none = absurd none
+
+alike_alone : {D : Type 0} → (script : Requests) (old mid new : Option History) (first last : Faults) (s : StoreValue D) (world ended : WorldValue D) → ScriptRan script old mid new first last s world ended → (given : List Reply) → ended.replies ≡ map Some given → IsGivenBackAlone script given → MeansAlike s.map (indexes_of s.boxes) ended.store.map (indexes_of ended.store.boxes)
+alike_alone ((at, request.Copy name uid target) ∷ []) old mid new first last s world ended r (reply.Refused refusal.NoMemory ∷ []) are back = (copy_told at name uid target (reply.Refused refusal.NoMemory) old mid new first last s world ended r are).alike refl
+alike_alone ((at, request.Move name uid target) ∷ []) old mid new first last s world ended r (reply.Refused refusal.NoMemory ∷ []) are back = (move_told at name uid target (reply.Refused refusal.NoMemory) old mid new first last s world ended r are).alike refl
+alike_alone script old mid new first last s world ended r given are none = absurd none
 
 -- what it left of the store
 leaves_run : {D : Type 0} → (script : Requests) (old mid new : Option History) (first last : Faults) (s : StoreValue D) (world ended : WorldValue D) → ScriptRan script old mid new first last s world ended → (given : List Reply) → ended.replies ≡ map Some given → LeavesStore script s.map given old new
@@ -422,9 +426,11 @@ script_done script old mid new first last s world ended r =
         comes = record {
           shows = λ lists shows may. (serves_run script old mid new first last s world ended r g.0 g.1 lists shows may).1;
           again = λ unstopped. opens_again new ended.store r.later (stopped_by script old mid new first last s world ended r g.0 g.1 unstopped);
+          alike = alike_alone script old mid new first last s world ended r g.0 g.1;
         };
         stopped = λ e. replied_by script old mid new first last s world ended r g.0 g.1 e;
         told = told_alone script old mid new first last s world ended r g.0 g.1;
+        undone = undone_alone script old mid new first last s world ended r g.0 g.1;
       },
     )
 

@@ -1,11 +1,16 @@
 pub mod AloneLemmas
 pub mod ChainLemmas
+pub mod CopyTaskLemmas
 pub mod DoneLemmas
 pub mod EndLemmas
 pub mod MailStaysLemmas
+pub mod MoveTaskLemmas
 pub mod MovedLemmas
+pub mod OneTaskLemmas
 pub mod OpenedLemmas
 pub mod ReadFaultLemmas
+pub mod ReachedLemmas
+pub mod ReachedMoveLemmas
 pub mod RunBeginsLemmas
 pub mod ShownLemmas
 pub mod SinceLemmas

@@ -182,7 +182,7 @@ left_one run asked start (step ∷ more ∷ steps) given m s (inr (inr f)) = abs
 
 -- ---- a move
 
-copied_half : (run : Run) (event : RunEvent) (name : List ℕ) (uid : Uid) (target : List ℕ) (part : EventPart) (copied : Uid) (old new : Lists) → Does run event old (request.Move name uid target) part (reply.Copied copied) new → new ≡ copied_lists name uid target old
+pub copied_half : (run : Run) (event : RunEvent) (name : List ℕ) (uid : Uid) (target : List ℕ) (part : EventPart) (copied : Uid) (old new : Lists) → Does run event old (request.Move name uid target) part (reply.Copied copied) new → new ≡ copied_lists name uid target old
 copied_half run event name uid target Last copied old new d = copied_is name uid target d.message old new d.source_is d.new_is
 copied_half run event name uid target part copied old new d = absurd d
 

@@ -1,6 +1,6 @@
 -- The store as a script leaves it, before its disk is handed back.
 use Rattle.std.specs.Prelude.{◌≡◌, true, List, [], ◌∷◌, Option}
-use Rattle.disk_model.specs.Disk.{History, Faults}
+use Rattle.disk_model.specs.Disk.{History, Faults, IsIdle}
 use Rattle.mdbox_base.specs.declared.replies.Reply.{Reply}
 use Rattle.mdbox_base.specs.declared.requests.Request.{Request}
 use Rattle.mdbox_base.specs.declared.script.JournalEntry.{JournalEntry}
@@ -11,7 +11,7 @@ use Rattle.journal.specs.Journal.{Requests, left_by}
 use Rattle.store_core.specs.Value.{StoreValue, indexes_of}
 use Rattle.store_open.specs.Opened.{IsOpenedAs}
 use Rattle.script_run.specs.Done.{IsScriptDone, MayRead}
-use Rattle.script_run.specs.One.{IsToldAlone, alone}
+use Rattle.script_run.specs.One.{IsGivenBackAlone, IsToldAlone, IsUndoneAlone, MeansAlike, alone}
 use Rattle.script_run.specs.Opening.{LogsShowLists}
 use Rattle.script_run.specs.Script.{HasStopped}
 
@@ -20,17 +20,21 @@ use Rattle.script_run.specs.Script.{HasStopped}
 pub record ComesTo (script : Requests) (given : List Reply) (entries : List JournalEntry) (old new : Option History) (began now : Faults) (done : IsScriptDone script given entries old new began now) (m : MapMeaning) (meanings : List BoxMeaning) : Type 0 where
   pub shows : (lists : Lists) (shown_by : LogsShowLists done.m done.meanings lists) (may : MayRead script lists old) → LogsShowLists m meanings (left_by lists (done.serves lists shown_by may).journal)
   pub again : (HasStopped given → ⊥) → IsOpenedAs new m meanings
+  pub alike : IsGivenBackAlone script given → MeansAlike done.m done.meanings m meanings
 
 -- The script was done, and this store is left open, which has come to where the logs have: it is stopped only if a reply says so. Of a
--- script that is a setting of flags alone, the reply is so by the logs with which the store opened.
+-- script that is a setting of flags alone, or an expunge alone, the reply is so by the logs with which the store opened; and an expunge
+-- alone that is refused has changed nothing since then, unless the store is stopped.
 pub record IsServedOpen {D : Type 0} (script : Requests) (given : List Reply) (entries : List JournalEntry) (old new : Option History) (began now : Faults) (store : StoreValue D) : Type 0 where
   pub done : IsScriptDone script given entries old new began now
   pub comes : ComesTo script given entries old new began now done store.map (indexes_of store.boxes)
   pub stopped : store.stopped ≡ true → HasStopped given
   pub told : IsToldAlone script done.m done.meanings given
+  pub undone : IsUndoneAlone script given → IsIdle done.leaves.opened new
 
--- A request alone was done, as a script of its own, and logs mean this now, which have come to what it leaves; flags are set, or not, as
--- the logs said with which the store opened.
+-- A request alone was done, as a script of its own, and logs mean this now, which have come to what it leaves; flags are set, or not, and
+-- a message is removed, or not, as the logs said with which the store opened. Where it isn't removed, nothing has changed since then,
+-- unless the store is stopped.
 pub record IsRequestDone (request : Request) (given : Reply) (old new : Option History) (began now : Faults) : Type 0 where
   pub entries : List JournalEntry
   pub done : IsScriptDone (alone request) (given ∷ []) entries old new began now
@@ -38,3 +42,4 @@ pub record IsRequestDone (request : Request) (given : Reply) (old new : Option H
   pub later_meanings : List BoxMeaning
   pub comes : ComesTo (alone request) (given ∷ []) entries old new began now done later later_meanings
   pub told : IsToldAlone (alone request) done.m done.meanings (given ∷ [])
+  pub undone : IsUndoneAlone (alone request) (given ∷ []) → IsIdle done.leaves.opened new

@@ -1,6 +1,6 @@
 -- A script of one request, and the lists that it leaves.
-use Rattle.std.specs.Prelude.{◌≡◌, ◌<◌, ◌⊎◌, ℕ, Bool, List, [], ◌∷◌, All, if◌then◌else◌, is_some, Option, Some, None}
-use Rattle.std.specs.Option.{option_map_or}
+use Rattle.std.specs.Prelude.{◌≡◌, ◌<◌, ◌⊎◌, ℕ, nat_le, Bool, List, [], ◌∷◌, All, if◌then◌else◌, is_some, Option, Some, None}
+use Rattle.std.specs.Option.{option_map_or, option_or}
 use Rattle.disk_model.specs.Disk.{told_calls, History, Faults, EachImage}
 use Rattle.mdbox_base.specs.declared.entries.Highest.{Highest}
 use Rattle.mdbox_base.specs.declared.ids.Guid.{Guid}
@@ -13,14 +13,15 @@ use Rattle.mdbox_base.specs.declared.requests.Request.{Request}
 use Rattle.mdbox_base.specs.declared.requests.Request.TheVariants as request
 use Rattle.model_lists.specs.Lists.{Lists}
 use Rattle.model_meaning.specs.BoxMeaning.{BoxMeaning, row_at}
-use Rattle.model_meaning.specs.MapMeaning.{MapMeaning, map_meaning}
+use Rattle.model_meaning.specs.MapMeaning.{MapMeaning, count_of, map_meaning}
 use Rattle.model_store.specs.Listing.{meaning_named}
 use Rattle.model_store.specs.Settled.{IsSettledFor}
-use Rattle.list_machine.specs.Machine.{Answers, add_message, expunge, set_flags}
+use Rattle.list_machine.specs.Machine.{Answers, add_message, expunge, refused_where, set_flags}
 use Rattle.list_machine.specs.Run.{First, Run, RunEvent, map_of}
 use Rattle.journal.specs.Journal.{JournalStep, Broken, Requests, left_by}
 use Rattle.journal.specs.Makes.{IsServed}
 use Rattle.mail_ops.specs.Copy.{copied_lists}
+use Rattle.mail_ops.specs.Copying.{room_refusal}
 use Rattle.mail_ops.specs.Making.{with_mailbox}
 use Rattle.store_open.specs.Opened.{IsOpenedAs, StoreCarries}
 use Rattle.store_sweep.specs.Swept.{IsSwept}
@@ -75,6 +76,17 @@ HasOneEvent (request.Flag name uid flags) = Unit {0}
 HasOneEvent request.Counts = Unit {0}
 HasOneEvent other = ⊥
 
+-- A request that makes its step at the same event always: an expunge and a copy have further events.
+abbrev pub MakesOneStep : Request → Type 0
+MakesOneStep (request.Expunge name uid) = Unit {0}
+MakesOneStep (request.Copy name uid target) = Unit {0}
+MakesOneStep asked = HasOneEvent asked
+
+-- A request that makes one step so, or a move, which makes two. None of them reads octets of messages.
+abbrev pub MakesSteps : Request → Type 0
+MakesSteps (request.Move name uid target) = Unit {0}
+MakesSteps asked = MakesOneStep asked
+
 -- It was replied what the machine answers, on these lists, at its first event: of a run whose map is this then.
 pub record IsAnsweredFirst (request : Request) (m : MapMeaning) (lists : Lists) (given : Reply) : Type 0 where
   pub run : Run
@@ -127,7 +139,68 @@ abbrev pub IsFlagAnswer : Option Refusal → Reply → Type 0
 IsFlagAnswer (Some why) given = given ≡ reply.Refused why
 IsFlagAnswer None given = (given ≡ reply.Done) ⊎ (given ≡ reply.Refused refusal.Stopped)
 
--- The reply to a setting of flags alone is so by the logs with which the store opened.
+-- What a request replies that is done or isn't: its cause, if there is one. Else it is done; or there was no memory; or a change of
+-- the disk failed, and the store is stopped.
+abbrev pub IsChangeAnswer : Option Refusal → Reply → Type 0
+IsChangeAnswer (Some why) given = given ≡ reply.Refused why
+IsChangeAnswer None given = (given ≡ reply.Done) ⊎ ((given ≡ reply.Refused refusal.NoMemory) ⊎ (given ≡ reply.Refused refusal.Stopped))
+
+-- Why the message isn't copied, by what the logs of its mailbox, of the target and of the map mean: no mailbox has either name, no
+-- message the UID, the target lists 1,000,000 or has no further UID, or the count of the message's record is 65,535.
+abbrev pub uncopied_cause : Option BoxMeaning → Option BoxMeaning → MapMeaning → ℕ → Option Refusal
+uncopied_cause from to m uid =
+    option_map_or (λ source. option_map_or (λ target. option_map_or (λ row. option_or (room_refusal target) (refused_where (nat_le 65535 (count_of m row.guid)) (refusal.TooManyCopies 65535))) (row_at source uid) (Some refusal.NoMessage)) to (Some refusal.NoMailbox)) from (Some refusal.NoMailbox)
+
+-- the copy has the target's next UID
+abbrev pub IsCopiedAs : Option BoxMeaning → Reply → Type 0
+IsCopiedAs to given = (target : BoxMeaning) × (uid : Uid) × (to ≡ Some target) × (uid.0 ≡ target.next) × (given ≡ reply.Copied uid)
+
+-- Why it isn't copied is replied, if it isn't. Else it is; or there was no memory; or a change of the disk failed, and the store
+-- is stopped.
+abbrev pub IsCopyAnswer : Option Refusal → Option BoxMeaning → Reply → Type 0
+IsCopyAnswer (Some why) to given = given ≡ reply.Refused why
+IsCopyAnswer None to given = IsCopiedAs to given ⊎ ((given ≡ reply.Refused refusal.NoMemory) ⊎ (given ≡ reply.Refused refusal.Stopped))
+
+-- the copy has the target's next UID
+abbrev pub IsMovedAs : Option BoxMeaning → Reply → Type 0
+IsMovedAs to given = (target : BoxMeaning) × (uid : Uid) × (gone : Bool) × (to ≡ Some target) × (uid.0 ≡ target.next) × (given ≡ reply.Moved uid gone)
+
+-- Why it isn't moved is replied, if it isn't, which is why a copy would not be made. Else it is; or there was no memory; or a
+-- change of the disk failed, and the store is stopped.
+abbrev pub IsMoveAnswer : Option Refusal → Option BoxMeaning → Reply → Type 0
+IsMoveAnswer (Some why) to given = given ≡ reply.Refused why
+IsMoveAnswer None to given = IsMovedAs to given ⊎ ((given ≡ reply.Refused refusal.NoMemory) ⊎ (given ≡ reply.Refused refusal.Stopped))
+
+-- these lists, those with the copy, or those that are moved: with the copy and without the message
+abbrev pub AreAlongMove : List ℕ → Uid → List ℕ → Lists → Lists → Type 0
+AreAlongMove name uid target lists some = (some ≡ lists) ⊎ ((some ≡ copied_lists name uid target lists) ⊎ (some ≡ moved_lists name uid target lists))
+
+-- The reply to a setting of flags, an expunge, a copy or a move alone is so by the logs with which the store opened.
 abbrev pub IsToldAlone : Requests → MapMeaning → List BoxMeaning → List Reply → Type 0
 IsToldAlone ((lane, request.Flag name uid flags) ∷ []) m meanings (given ∷ []) = IsFlagAnswer (missing_cause (meaning_named name m.boxes meanings) uid.0) given
+IsToldAlone ((lane, request.Expunge name uid) ∷ []) m meanings (given ∷ []) = IsChangeAnswer (missing_cause (meaning_named name m.boxes meanings) uid.0) given
+IsToldAlone ((lane, request.Copy name uid target) ∷ []) m meanings (given ∷ []) =
+    IsCopyAnswer (uncopied_cause (meaning_named name m.boxes meanings) (meaning_named target m.boxes meanings) m uid.0) (meaning_named target m.boxes meanings) given
+IsToldAlone ((lane, request.Move name uid target) ∷ []) m meanings (given ∷ []) =
+    IsMoveAnswer (uncopied_cause (meaning_named name m.boxes meanings) (meaning_named target m.boxes meanings) m uid.0) (meaning_named target m.boxes meanings) given
 IsToldAlone script m meanings given = Unit {0}
+
+-- An expunge, a copy or a move alone was refused, and the store isn't stopped: nothing has changed since the opening. So it is of an
+-- expunge also for want of memory.
+abbrev pub IsUndoneAlone : Requests → List Reply → Type 0
+IsUndoneAlone ((lane, request.Expunge name uid) ∷ []) (reply.Refused why ∷ []) = why ≡ refusal.Stopped → ⊥
+IsUndoneAlone ((lane, request.Copy name uid target) ∷ []) (reply.Refused why ∷ []) = (why ≡ refusal.Stopped → ⊥) × (why ≡ refusal.NoMemory → ⊥)
+IsUndoneAlone ((lane, request.Move name uid target) ∷ []) (reply.Refused why ∷ []) = (why ≡ refusal.Stopped → ⊥) × (why ≡ refusal.NoMemory → ⊥)
+IsUndoneAlone script given = ⊥
+
+-- There was no memory for a copy or a move alone, which gives back the count that it may have raised.
+abbrev pub IsGivenBackAlone : Requests → List Reply → Type 0
+IsGivenBackAlone ((lane, request.Copy name uid target) ∷ []) (reply.Refused refusal.NoMemory ∷ []) = Unit {0}
+IsGivenBackAlone ((lane, request.Move name uid target) ∷ []) (reply.Refused refusal.NoMemory ∷ []) = Unit {0}
+IsGivenBackAlone script given = ⊥
+
+-- Logs have the same listings, and the same mailboxes and records of the map, and their counts.
+pub record MeansAlike (m : MapMeaning) (meanings : List BoxMeaning) (later : MapMeaning) (later_meanings : List BoxMeaning) : Type 0 where
+  pub indexes : later_meanings ≡ meanings
+  pub mailboxes : later.boxes ≡ m.boxes
+  pub records : later.records ≡ m.records

@@ -6,7 +6,9 @@ ghost use Rattle.mdbox_base.specs.declared.replies.Refusal.{Refusal};
 ghost use Rattle.mdbox_base.specs.declared.replies.Refusal.TheVariants as refusal;
 ghost use Rattle.mdbox_base.specs.declared.replies.Reply.{Reply};
 ghost use Rattle.mdbox_base.specs.declared.replies.Reply.TheVariants as reply;
+ghost use Rattle.mdbox_base.specs.declared.ids.Uid.{Uid};
 ghost use Rattle.mdbox_base.specs.declared.requests.Request.{Request};
+ghost use Rattle.mdbox_base.specs.declared.requests.Request.TheVariants as request;
 ghost use Rattle.mdbox_base.specs.declared.script.JournalEntry.{JournalEntry};
 ghost use Rattle.model_lists.specs.Lists.{Lists};
 ghost use Rattle.model_meaning.specs.BoxMeaning.{BoxMeaning};
@@ -19,7 +21,7 @@ ghost use Rattle.journal.specs.Journal.{Broken, IsLegal, JournalStep, Reached, l
 ghost use Rattle.journal.specs.Makes.{IsServed};
 ghost use Rattle.store_open.specs.Opened.{IsOpenedAs};
 ghost use Rattle.script_run.specs.Done.{IsScriptDone, MayRead};
-ghost use Rattle.script_run.specs.One.{AreListsTold, HasOneEvent, IsAlongOne, IsAnsweredFirst, IsUnanswered, IsUnfailed, OpensUnchanged, ServesRequest, alone};
+ghost use Rattle.script_run.specs.One.{AreAlongMove, AreListsTold, HasOneEvent, IsAlongOne, IsAnsweredFirst, IsUnanswered, IsUnfailed, MakesOneStep, MakesSteps, OpensUnchanged, ServesRequest, alone};
 ghost use Rattle.script_run.specs.Opening.{AreSafeFor, LogsShowLists};
 ghost use Rattle.script_run.specs.Script.{only_reads};
 
@@ -48,13 +50,22 @@ pub fn one_request()
 
 /// A request of one event is answered as the machine does at that event, on any lists that the logs show, of a run that has their map;
 /// unless there was no memory, or a failed change stopped the store. No such request reads octets of messages, so none is a read fault.
-/// A crash leaves the lists before it, or those that its step leaves, and where a check refused it nothing has changed.
+/// Where a check refused it nothing has changed. A crash leaves the lists before it, or those that its step leaves: so it is of each
+/// request that makes its step at the same event always, an expunge and a copy too.
 pub fn requests_of_one_event()
     ensures answered { (asked : Request) (given : Reply) (entries : List JournalEntry) (old new : Option History) (began now : Faults) → (done : IsScriptDone (alone asked) (given ∷ []) entries old new began now) → HasOneEvent asked → (lists : Lists) → LogsShowLists done.m done.meanings lists → IsUnanswered given ⊎ IsAnsweredFirst asked done.m lists given }
-    ensures unread { (asked : Request) (given : Reply) (entries : List JournalEntry) (old new : Option History) (began now : Faults) → IsScriptDone (alone asked) (given ∷ []) entries old new began now → HasOneEvent asked → given ≡ reply.Refused refusal.ReadFault → ⊥ }
-    ensures reached { (asked : Request) (start : Lists) (run : Run) (journal : List JournalStep) (broken : Broken) (replies : List (Option Reply)) (old new : Faults) (first m : MapMeaning) (drawn : Highest) (calls : ℕ) → HasOneEvent asked → IsServed start (alone asked) run journal broken replies old new first m drawn calls
+    ensures unread { (asked : Request) (given : Reply) (entries : List JournalEntry) (old new : Option History) (began now : Faults) → IsScriptDone (alone asked) (given ∷ []) entries old new began now → MakesSteps asked → given ≡ reply.Refused refusal.ReadFault → ⊥ }
+    ensures reached { (asked : Request) (start : Lists) (run : Run) (journal : List JournalStep) (broken : Broken) (replies : List (Option Reply)) (old new : Faults) (first m : MapMeaning) (drawn : Highest) (calls : ℕ) → MakesOneStep asked → IsServed start (alone asked) run journal broken replies old new first m drawn calls
         → (moment : ℕ) (lists : Lists) → Reached start run journal broken moment lists → IsAlongOne asked start lists }
     ensures refused { (asked : Request) (given : Reply) (entries : List JournalEntry) (old new : Option History) (began now : Faults) → (done : IsScriptDone (alone asked) (given ∷ []) entries old new began now) → HasOneEvent asked → (why : Refusal) → is_step why ≡ true → given ≡ reply.Refused why → IsIdle done.leaves.opened new }
+{}
+
+/// A crash within a move alone leaves the lists before it, those with the copy, or those that are moved; and its second step finds the
+/// message that the first has copied.
+pub fn moves_make_two_steps()
+    ensures reached { (name : List ℕ) (uid : Uid) (target : List ℕ) (start : Lists) (run : Run) (journal : List JournalStep) (broken : Broken) (replies : List (Option Reply)) (old new : Faults) (first m : MapMeaning) (drawn : Highest) (calls : ℕ) → IsServed start (alone (request.Move name uid target)) run journal broken replies old new first m drawn calls
+        → (moment : ℕ) (lists : Lists) → Reached start run journal broken moment lists → AreAlongMove name uid target start lists }
+    ensures here { (name : List ℕ) (uid : Uid) (target : List ℕ) (start : Lists) (run : Run) (journal : List JournalStep) (moved : Uid) (old new : Faults) → IsLegal start (alone (request.Move name uid target)) run journal (Some (reply.Moved moved true) ∷ []) old new → ⊥ }
 {}
 
 /// Where nothing has changed since the opening, the files open with the same logs. A request that only reads leaves a disk that was

@@ -1,3 +1,4 @@
+pub mod BesideLemmas
 pub mod BoxAppendLemmas
 pub mod BoxCrashLemmas
 pub mod CountingLemmas

@@ -1,4 +1,5 @@
 pub mod Append
+pub mod Beside
 pub mod Dues
 pub mod Files
 pub mod Keeping

@@ -40,6 +40,7 @@ use std::marker::Model;
 use storage_files::MailFiles;
 
 mod append_map;
+mod beside;
 mod boxes;
 mod files;
 mod instances;

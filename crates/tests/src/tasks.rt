@@ -21,6 +21,8 @@ mod racing;
 #[cfg(test)]
 mod replies;
 #[cfg(test)]
+mod resyncs;
+#[cfg(test)]
 mod stores;
 mod turn;
 #[cfg(test)]

@@ -1,4 +1,4 @@
-use Rattle.mdbox_top.proofs.OneEventLemmas.{done_one}
+use Rattle.mdbox_top.proofs.OneStepLemmas.{done_one}
 use Rattle.mdbox_top.proofs.alone.script_alone.Goals as goal
 
 pub returns-clause-done : goal.returns-clause-done

@@ -12,9 +12,13 @@ use Rattle.lane_tasks.specs.Clause.{TaskKeeps, StepsTask}
 use Rattle.lane_tasks.specs.Tasks.{IsReadyTask, IsTaskOf, claims_at, work_left}
 use Rattle.lane_tasks.specs.declared.task.Task.{Task}
 use Rattle.lane_tasks.specs.declared.task.Task.TheVariants as task
+use Rattle.mail_ops.specs.Copy.{CopyAnswers}
+use Rattle.mail_ops.specs.Expunging.{ExpungeAnswers}
+use Rattle.mail_ops.specs.Making.{MakeAnswers}
+use Rattle.mail_ops.specs.Moving.{MoveAnswers}
 use Rattle.mail_fetch.proofs.StageLemmas.{used_doomed, used_only, used_runs}
 use Rattle.mail_save.proofs.SaveReadyLemmas.{left_with_room}
-use Rattle.lane_tasks.proofs.KeepLemmas.{copy_refused, expunge_refused, keeps_by, keeps_fetching, keeps_saving, keeps_still, make_refused, move_refused, ops_refused}
+use Rattle.lane_tasks.proofs.KeepLemmas.{copy_refused, expunge_refused, keeps_by, keeps_fetching, keeps_saving, keeps_still, make_refused, move_refused, ops_refused, progress_back}
 use Rattle.lane_tasks.proofs.StepLemmas.{copy_does, counts_does, deliver_does, deliver_ran, doomed_as, doomed_rest, expunge_does, fetch_does, fetch_halts, logs_files, make_does, make_fewer, lists_same, make_numbered, move_does, ops_asked, ops_does, ops_halted, ops_still, ran_before, ready_as, rest_files, stays_stopped, unpins_undoomed, use_room}
 use Rattle.lane_tasks.proofs.task.Task.step.Goals as goal
 
@@ -221,36 +225,40 @@ returns-in-Make-clause-keeps g c =
     let s = c.step-in-Make.ensures in
     let old = c.args.store.now in
     let new = c.step-in-Make.new.store in
+    let t = c.in-Make.task in
     subst (λ (k : Task). TaskKeeps k (task.Make c.step-in-Make.new.self) old new (g.D.Disk.history old.disk) (g.D.Disk.history new.disk) (g.D.Disk.faults old.disk) (g.D.Disk.faults new.disk) (ended_by c.step-in-Make.result)) (sym c.in-Make.is)
     (keeps_by g.D.Disk.history g.D.Disk.faults (task.Make c.in-Make.task) (task.Make c.step-in-Make.new.self) old new c.step-in-Make.result s.request s.mail s.stopped (λ stopped. (s.still stopped).0) s.fault s.unfailed (λ reads. absurd reads)
-    (λ why begun ran e step. make_refused c.in-Make.task.name c.in-Make.task.stage c.step-in-Make.new.self.stage old new (g.D.Disk.history old.disk) (g.D.Disk.history new.disk) c.step-in-Make.result why begun e step (s.replies ran)) (λ synced. synced) tt)
+    (λ why begun ran e step. make_refused c.in-Make.task.name c.in-Make.task.stage c.step-in-Make.new.self.stage old new (g.D.Disk.history old.disk) (g.D.Disk.history new.disk) c.step-in-Make.result why begun e step (s.replies ran)) (λ synced. synced) (λ ran. subst (λ (a : Progress). MakeAnswers t.name t.stage old new (g.D.Disk.history old.disk) (g.D.Disk.history new.disk) c.step-in-Make.new.self.stage a) (sym (progress_back c.step-in-Make.result)) (s.replies ran)))
 
 pub returns-in-Copy-clause-keeps : goal.returns-in-Copy-clause-keeps
 returns-in-Copy-clause-keeps g c =
     let s = c.step-in-Copy.ensures in
     let old = c.args.store.now in
     let new = c.step-in-Copy.new.store in
+    let t = c.in-Copy.task in
     subst (λ (k : Task). TaskKeeps k (task.Copy c.step-in-Copy.new.self) old new (g.D.Disk.history old.disk) (g.D.Disk.history new.disk) (g.D.Disk.faults old.disk) (g.D.Disk.faults new.disk) (ended_by c.step-in-Copy.result)) (sym c.in-Copy.is)
     (keeps_by g.D.Disk.history g.D.Disk.faults (task.Copy c.in-Copy.task) (task.Copy c.step-in-Copy.new.self) old new c.step-in-Copy.result s.request s.mail s.stopped (λ stopped. (s.still stopped).0) s.fault s.unfailed (λ reads. absurd reads)
-    (λ why begun ran e step. copy_refused c.in-Copy.task.name c.in-Copy.task.uid c.in-Copy.task.target c.in-Copy.task.stage c.step-in-Copy.new.self.stage old new c.step-in-Copy.result why begun e step (s.replies ran)) (λ synced. synced) tt)
+    (λ why begun ran e step. copy_refused c.in-Copy.task.name c.in-Copy.task.uid c.in-Copy.task.target c.in-Copy.task.stage c.step-in-Copy.new.self.stage old new c.step-in-Copy.result why begun e step (s.replies ran)) (λ synced. synced) (λ ran. subst (λ (a : Progress). CopyAnswers t.name t.uid t.target t.stage old new c.step-in-Copy.new.self.stage a) (sym (progress_back c.step-in-Copy.result)) (s.replies ran)))
 
 pub returns-in-Move-clause-keeps : goal.returns-in-Move-clause-keeps
 returns-in-Move-clause-keeps g c =
     let s = c.step-in-Move.ensures in
     let old = c.args.store.now in
     let new = c.step-in-Move.new.store in
+    let t = c.in-Move.task in
     subst (λ (k : Task). TaskKeeps k (task.Move c.step-in-Move.new.self) old new (g.D.Disk.history old.disk) (g.D.Disk.history new.disk) (g.D.Disk.faults old.disk) (g.D.Disk.faults new.disk) (ended_by c.step-in-Move.result)) (sym c.in-Move.is)
     (keeps_by g.D.Disk.history g.D.Disk.faults (task.Move c.in-Move.task) (task.Move c.step-in-Move.new.self) old new c.step-in-Move.result s.request s.mail s.stopped (λ stopped. (s.still stopped).0) s.fault s.unfailed (λ reads. absurd reads)
-    (λ why begun ran e step. move_refused c.in-Move.task.name c.in-Move.task.uid c.in-Move.task.target c.in-Move.task.stage c.step-in-Move.new.self.stage old new c.step-in-Move.result why begun e step (s.replies ran)) (λ synced. synced) tt)
+    (λ why begun ran e step. move_refused c.in-Move.task.name c.in-Move.task.uid c.in-Move.task.target c.in-Move.task.stage c.step-in-Move.new.self.stage old new c.step-in-Move.result why begun e step (s.replies ran)) (λ synced. synced) (λ ran. subst (λ (a : Progress). MoveAnswers t.name t.uid t.target t.stage old new c.step-in-Move.new.self.stage a) (sym (progress_back c.step-in-Move.result)) (s.replies ran)))
 
 pub returns-in-Expunge-clause-keeps : goal.returns-in-Expunge-clause-keeps
 returns-in-Expunge-clause-keeps g c =
     let s = c.step-in-Expunge.ensures in
     let old = c.args.store.now in
     let new = c.step-in-Expunge.new.store in
+    let t = c.in-Expunge.task in
     subst (λ (k : Task). TaskKeeps k (task.Expunge c.step-in-Expunge.new.self) old new (g.D.Disk.history old.disk) (g.D.Disk.history new.disk) (g.D.Disk.faults old.disk) (g.D.Disk.faults new.disk) (ended_by c.step-in-Expunge.result)) (sym c.in-Expunge.is)
     (keeps_by g.D.Disk.history g.D.Disk.faults (task.Expunge c.in-Expunge.task) (task.Expunge c.step-in-Expunge.new.self) old new c.step-in-Expunge.result s.request s.mail s.stopped (λ stopped. (s.still stopped).0) s.fault s.unfailed (λ reads. absurd reads)
-    (λ why begun ran e step. expunge_refused c.in-Expunge.task.name c.in-Expunge.task.uid c.in-Expunge.task.stage c.step-in-Expunge.new.self.stage old new c.step-in-Expunge.result why begun e step (s.replies ran)) (λ synced. synced) tt)
+    (λ why begun ran e step. expunge_refused c.in-Expunge.task.name c.in-Expunge.task.uid c.in-Expunge.task.stage c.step-in-Expunge.new.self.stage old new c.step-in-Expunge.result why begun e step (s.replies ran)) (λ synced. synced) (λ ran. subst (λ (a : Progress). ExpungeAnswers t.name t.uid t.stage old new c.step-in-Expunge.new.self.stage a) (sym (progress_back c.step-in-Expunge.result)) (s.replies ran)))
 
 pub returns-in-Fetch-clause-keeps : goal.returns-in-Fetch-clause-keeps
 returns-in-Fetch-clause-keeps g c =

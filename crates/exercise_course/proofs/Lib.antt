@@ -1,0 +1,14 @@
+pub mod BalanceLemmas
+pub mod BoxLemmas
+pub mod CopiesLemmas
+pub mod CountingLemmas
+pub mod CourseLemmas
+pub mod DeliveredLemmas
+pub mod FreshLemmas
+pub mod GrownLemmas
+pub mod HalfLemmas
+pub mod LegalLemmas
+pub mod PlaceLemmas
+pub mod ReadyLemmas
+pub mod RoundLemmas
+pub mod StoringLemmas

@@ -1,0 +1,114 @@
+-- The last event of a resync: what it leaves to the tasks beside it, and that the counts are exact then.
+use Rattle.std.proofs.Common.{◌≡◌, ◌≤◌, ◌+◌, ◌==◌, ℕ, false, List, [], ◌∷◌, Option, map, refl, sym, ◌∙◌, ap, subst, arith}
+use Rattle.std.specs.Prelude.{Contains, count_by, max, sum_by}
+use Rattle.std.proofs.lemmas.List.Elements.{All-nil, All-cons}
+use Rattle.disk_model.specs.Disk.{History, Faults}
+use Rattle.mdbox_base.specs.declared.entries.MapCount.{MapCount}
+use Rattle.mdbox_base.specs.declared.entries.MapEntry.TheVariants as entry
+use Rattle.model_lists.specs.Lists.{Lists}
+use Rattle.model_meaning.specs.BoxMeaning.{BoxMeaning, LogRow}
+use Rattle.model_meaning.specs.MapFits.{MapFits}
+use Rattle.model_meaning.specs.MapMeaning.{MapBox, MapMeaning, MapRecord, count_given, numbers_of}
+use Rattle.model_meaning.proofs.AppliedLemmas.{records_by_counted}
+use Rattle.model_store.specs.Listing.{ShowLists, meaning_named, refs_in}
+use Rattle.store_core.specs.Dues.{due_at, listed_at}
+use Rattle.store_core.specs.Keeping.{KeepsUids}
+use Rattle.store_core.specs.Running.{IsStore}
+use Rattle.store_core.specs.Value.{StoreValue, indexes_of, list_named}
+use Rattle.resync_task.specs.WrongCounts.{wrong_of}
+use Rattle.store_seen.specs.Seeing.{seen_of}
+use Rattle.store_seen.proofs.SeeingLemmas.{due_as_before, tells_as_before}
+use Rattle.task_claims.specs.Claims.{MovesClaims, no_claims}
+use Rattle.task_claims.specs.Leaving.{LeavesOthers, SameButCounts, but_count}
+use Rattle.task_claims.proofs.RestLemmas.{mail_same, rest_amounts, rest_leaves, same_claims}
+use Rattle.task_steps.specs.Step.{ShowsSeen}
+use Rattle.task_steps.specs.Tells.{TellsSame}
+use Rattle.resync_task.specs.Correcting.{AreExact, FellCorrecting, KeepsCorrecting, PutsRight}
+use Rattle.resync_task.specs.Stages.{corrected_map}
+use Rattle.resync_task.proofs.EventLemmas.{StaysSo}
+use Rattle.resync_task.proofs.ResyncEventLemmas.{CountsFit}
+use Rattle.resync_task.proofs.StoreCountLemmas.{uids_rise}
+use Rattle.resync_task.proofs.WrongCountLemmas.{right_in_map}
+
+-- ---- the map
+
+-- all of each record stays but its count
+counted_same : (counts : List MapCount) (rows : List MapRecord) → map but_count (map (λ (row : MapRecord). record row { count = count_given row.uid counts row.count }) rows) ≡ map but_count rows
+counted_same counts [] = refl
+counted_same counts (r ∷ rs) = ap (λ (xs : List MapRecord). but_count r ∷ xs) (counted_same counts rs)
+
+corrected_same : (counts : List MapCount) (m : MapMeaning) → SameButCounts m (corrected_map counts m)
+corrected_same [] m = refl
+corrected_same (c ∷ counts) m = ap (map but_count) (records_by_counted (c ∷ counts) m.records) ∙ counted_same (c ∷ counts) m.records
+
+corrected_highest : (counts : List MapCount) (m : MapMeaning) → m.highest.mailbox ≤ (corrected_map counts m).highest.mailbox
+corrected_highest [] m = omega arith
+corrected_highest (c ∷ counts) m = greater m.highest.mailbox (numbers_of m.store (entry.T (c ∷ counts))).mailbox
+  where
+    greater : (a b : ℕ) → a ≤ max a b
+    greater a b = omega arith
+
+corrected_store : (counts : List MapCount) (m : MapMeaning) → (corrected_map counts m).store ≡ m.store
+corrected_store [] m = refl
+corrected_store (c ∷ counts) m = refl
+
+pub counts_fit : (counts : List MapCount) (m : MapMeaning) → MapFits m (entry.T counts) → CountsFit counts m
+counts_fit [] m fits = All-nil _
+counts_fit (c ∷ counts) m fits = All-cons (MapFits m) (entry.T (c ∷ counts)) [] fits (All-nil _)
+
+-- ---- what the event keeps
+
+-- the mailboxes list what they did
+lists_stay : {D : Type 0} → (old new : StoreValue D) → new.map.boxes ≡ old.map.boxes → indexes_of new.boxes ≡ indexes_of old.boxes → KeepsUids old new
+lists_stay old new boxes indexes = λ name uid held k.
+    let named : list_named new name ≡ list_named old name = ap (λ (bs : List MapBox). meaning_named name bs (indexes_of new.boxes)) boxes ∙ ap (meaning_named name old.map.boxes) indexes in
+    record { m = k.m; named = named ∙ k.named; below = k.below; same = k.same }
+
+pub right_leaves : {D : Type 0} → (corrected : ℕ) (old new : StoreValue D) (before after : Option History) (began now : Faults) → PutsRight corrected old new before after began now → LeavesOthers no_claims old new before after
+right_leaves corrected old new before after began now p =
+    rest_leaves no_claims old new before after (ap (λ (v : StoreValue _). v.files) p.keeps.rest) (ap (λ (v : StoreValue _). v.instances) p.keeps.rest) (mail_same before after p.mail)
+    (subst (λ (m : MapMeaning). SameButCounts old.map m) (sym p.map) (corrected_same (wrong_of old) old.map))
+    (subst (λ (m : MapMeaning). old.map.highest.mailbox ≤ m.highest.mailbox) (sym p.map) (corrected_highest (wrong_of old) old.map))
+    (lists_stay old new p.keeps.mailboxes p.keeps.indexes) p.keeps.room
+    (λ uid row none found listed. (ap (λ (ms : List BoxMeaning). refs_in ms row.guid) p.keeps.indexes ∙ listed, p.due uid))
+
+pub right_claims : {D : Type 0} → (corrected : ℕ) (old new : StoreValue D) (before after : Option History) (began now : Faults) → PutsRight corrected old new before after began now → MovesClaims no_claims no_claims old new
+right_claims corrected old new before after began now p = same_claims no_claims old new (rest_amounts old new p.due p.keeps.rest)
+
+-- how many rows of what logs of mailboxes mean have this map uid
+abbrev listed_in : ℕ → List BoxMeaning → ℕ
+listed_in uid meanings = sum_by (λ (m : BoxMeaning). count_by (λ (row : LogRow). row.map_uid == uid) m.rows) meanings
+
+-- each count is what is listed and due
+pub right_exact : {D : Type 0} → (history : Option History) (corrected : ℕ) (old new : StoreValue D) (before after : Option History) (began now : Faults) → IsStore history old → PutsRight corrected old new before after began now → AreExact new
+right_exact history corrected old new before after began now s p = λ row there.
+    let in_map = subst (λ (m : MapMeaning). Contains m.records row) p.map there in
+    let counted = right_in_map old.map (λ uid. listed_at uid old + due_at uid old) row (uids_rise history old s) in_map in
+    let listed : listed_at row.uid new ≡ listed_at row.uid old = ap (listed_in row.uid) p.keeps.indexes in
+    let due = p.due row.uid in
+    omega (arith, counted, listed, due)
+
+-- ---- as it is seen
+
+pub right_shows : {D : Type 0} → (pins : ℕ → ℕ) (old new : StoreValue D) (before after : Option History) (began now : Faults) (lists : Lists) → KeepsCorrecting old new before after began now → ShowsSeen (seen_of pins old before began) lists → ShowsSeen (seen_of pins new after now) lists
+right_shows pins old new before after began now lists k shows =
+    (shows.0, subst (λ (bs : List MapBox). ShowLists bs (indexes_of new.boxes) lists) (sym k.mailboxes) (subst (λ (ms : List BoxMeaning). ShowLists old.map.boxes ms lists) (sym k.indexes) shows.1))
+
+tells_on : {D : Type 0} → (pins : ℕ → ℕ) (old new : StoreValue D) (before after : Option History) (began now : Faults) → old.stopped ≡ false → KeepsCorrecting old new before after began now → new.map.store ≡ old.map.store → TellsSame (seen_of pins old before began) (seen_of pins new after now)
+tells_on pins old new before after began now ran k store =
+    tells_as_before pins old new before after began now (λ runs. ran) store (ap (λ d. d.file) k.drawn) (ap (λ d. d.instance) k.drawn) (ap (λ (v : StoreValue _). v.files) k.rest) (ap (λ (v : StoreValue _). v.instances) k.rest)
+
+pub right_tells : {D : Type 0} → (pins : ℕ → ℕ) (corrected : ℕ) (old new : StoreValue D) (before after : Option History) (began now : Faults) → old.stopped ≡ false → PutsRight corrected old new before after began now → TellsSame (seen_of pins old before began) (seen_of pins new after now)
+right_tells pins corrected old new before after began now ran p = tells_on pins old new before after began now ran p.keeps (ap (λ (m : MapMeaning). m.store) p.map ∙ corrected_store (wrong_of old) old.map)
+
+pub fell_stays : {D : Type 0} → (pins : ℕ → ℕ) (old new : StoreValue D) (before after : Option History) (began now : Faults) → old.stopped ≡ false → FellCorrecting old new before after began now → StaysSo (seen_of pins old before began) (seen_of pins new after now)
+fell_stays pins old new before after began now ran f = record {
+  map = f.map;
+  drawn = f.keeps.drawn;
+  due = λ uid. due_as_before old new uid f.map f.dues;
+  tells = tells_on pins old new before after began now ran f.keeps (ap (λ (m : MapMeaning). m.store) f.map);
+  grows = f.keeps.grows;
+  mail = f.keeps.stays old.map;
+  reads = (let e = f.keeps.reads in omega (arith, e));
+  changes = f.keeps.changes;
+}

@@ -1,0 +1,13 @@
+pub mod BoxTextLemmas
+pub mod BoxesLemmas
+pub mod DraftLemmas
+pub mod FileLemmas
+pub mod LogLemmas
+pub mod MakeLemmas
+pub mod MapTextLemmas
+pub mod PlannedLemmas
+pub mod ReportLemmas
+pub mod SealLemmas
+pub mod SettledLemmas
+pub mod StoreLemmas
+pub mod SyncLemmas

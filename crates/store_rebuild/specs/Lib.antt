@@ -1,0 +1,4 @@
+pub mod NewLogs
+pub mod Planned
+pub mod Rebuilding
+pub mod Writing
