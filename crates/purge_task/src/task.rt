@@ -1,0 +1,321 @@
+// The task of a purge.
+ghost use Rattle.std.specs.Prelude.{◌≡◌, ◌≢◌, ◌↔◌, true, false};
+ghost use Rattle.disk_model.specs.FaultCounts.{NoFault};
+ghost use Rattle.mdbox_base.specs.declared.progress.Did.TheVariants as did;
+ghost use Rattle.mdbox_base.specs.declared.progress.Progress.TheVariants as progress;
+ghost use Rattle.mdbox_base.specs.declared.replies.Refusal.TheVariants as refusal;
+ghost use Rattle.mdbox_base.specs.declared.replies.Reply.{Reply as ReplyValue};
+ghost use Rattle.mdbox_base.specs.declared.replies.Reply.TheVariants as reply;
+ghost use Rattle.task_claims.specs.Claims.{ClaimsNothing, MovesClaims};
+ghost use Rattle.task_claims.specs.Leaving.{LeavesOthers};
+ghost use Rattle.purge_task.specs.Claims.{purge_claims};
+ghost use Rattle.purge_task.specs.Keeping.{HasPurged};
+ghost use Rattle.purge_task.specs.declared.task.PurgeStage.TheVariants as stage;
+
+use crate::copying::{copy_message, next_wanted};
+use crate::finding::{Found, TARGET_HEADER};
+use crate::switching::switch;
+use crate::work::{Source, Work, entry_size};
+use disk_model::Disk;
+use mdbox_base::{Did, FileNo, Half, Progress, Refusal, Reply};
+use std::marker::Model;
+use std::mem;
+use storage_files::Take;
+use store_core::Store;
+
+/// Which event of a purge is the next.
+#[derive(Drop)]
+pub enum PurgeStage {
+    /// The first, which takes the files that are to be emptied. So it is too behind the last.
+    First,
+    /// The first of a file: its target is made; or it is switched, where nothing of it is wanted; or it is removed, where no
+    /// message lies in it.
+    Begin(Work),
+    /// The next message of a file is copied; behind the last one the file is switched.
+    Copying(Work),
+    /// A file that was switched, and has no pin, is removed.
+    Removing(Work),
+    /// An instance that nobody needs is removed; behind the last one the reply is given.
+    Instances,
+}
+
+/// What a purge has done so far: how many records it dropped, storage files it doomed or removed, and instances it removed.
+#[derive(Clone, Copy, Debug, PartialEq, Eq)]
+struct Done {
+    dropped: u64,
+    files: u64,
+    instances: u64,
+}
+
+/// The task of a purge: its events, one at a step.
+#[derive(Drop)]
+pub struct PurgeTask {
+    stage: PurgeStage,
+    did: Did,
+    done: Done,
+}
+
+impl Model for PurgeTask {
+    ghost use Rattle.purge_task.specs.Keeping.{PurgeValue};
+
+    ghost Value = { PurgeValue };
+
+    ghost view = { λ task. record { stage = task.stage; did = task.did; dropped = task.done.dropped; files = task.done.files; instances = task.done.instances } };
+}
+
+impl PurgeTask {
+    const NOTHING: Done = Done {
+        dropped: 0,
+        files: 0,
+        instances: 0,
+    };
+
+    /// A purge that has done nothing.
+    pub fn of() -> PurgeTask
+        ensures { result ≡ record { stage = stage.First; did = did.Quiet; dropped = 0; files = 0; instances = 0 } }
+    {
+        PurgeTask {
+            stage: PurgeStage::First,
+            did: Did::Quiet,
+            done: PurgeTask::NOTHING,
+        }
+    }
+
+    /// What the last event did.
+    pub fn did(&self) -> Did
+        ensures { result ≡ self.now.did }
+    {
+        self.did
+    }
+
+    /// Does the next event. A task that has given its reply begins anew; one that was stopped stays where it was.
+    pub fn step<D: Disk>(&mut self, store: &mut Store<D>) -> Progress
+        // What it has taken, made and copied so far is so in the store, and on a disk that is modelled, also afterwards.
+        requires ready { store.old.stopped ≡ false → HasPurged self.old.stage store.old (D.history store.old.disk) }
+        ensures ready { result ≡ progress.More → store.new.stopped ≡ false → HasPurged self.new.stage store.new (D.history store.new.disk) }
+
+        // A store that is stopped replies so, and no other does.
+        ensures stopped { (result ≡ progress.Done (reply.Refused refusal.Stopped)) ↔ (store.new.stopped ≡ true) }
+        ensures still { store.old.stopped ≡ true → (store.new ≡ store.old) × (self.new.stage ≡ self.old.stage) }
+
+        // Unless it stops the store, it moves only its own claims, and leaves to other tasks what is theirs. One that was replied claims
+        // nothing.
+        ensures claims { store.new.stopped ≡ false → MovesClaims (purge_claims self.old.stage) (purge_claims self.new.stage) store.old store.new }
+        ensures leaves { store.new.stopped ≡ false → LeavesOthers (purge_claims self.old.stage) store.old store.new (D.history store.old.disk) (D.history store.new.disk) }
+        ensures ended { (given : ReplyValue) → result ≡ progress.Done given → store.new.stopped ≡ false → ClaimsNothing (purge_claims self.new.stage) }
+    {
+        self.did = Did::Quiet;
+        if store.stopped() {
+            return Progress::Done(Reply::Refused(Refusal::Stopped));
+        }
+        let next = match mem::replace(&mut self.stage, PurgeStage::First) {
+            PurgeStage::First => self.begin(store),
+            PurgeStage::Begin(work) => self.begin_file(store, work),
+            PurgeStage::Copying(work) => self.copy_or_switch(store, work),
+            PurgeStage::Removing(work) => self.remove_source(store, work),
+            PurgeStage::Instances => return self.remove_instance(store),
+        };
+        match next {
+            Ok(stage) => {
+                self.stage = stage;
+                Progress::More
+            }
+            Err(why) => {
+                self.did = did_refused(&why);
+                Progress::Done(Reply::Refused(why))
+            }
+        }
+    }
+
+    /// The first event: finds the files, takes the memory, and then takes the files.
+    fn begin<D: Disk>(&mut self, store: &mut Store<D>) -> Result<PurgeStage, Refusal> {
+        self.done = PurgeTask::NOTHING;
+        let found = Found::of(store)?;
+        let mut work = reserve(store, &found)?;
+        take_files(store, &found, &mut work);
+        Ok(goes_on(work))
+    }
+
+    /// The first event of a file.
+    fn begin_file<D: Disk>(
+        &mut self,
+        store: &mut Store<D>,
+        work: Work,
+    ) -> Result<PurgeStage, Refusal> {
+        let Some(source) = work.present() else {
+            unreachable!()
+        };
+        if let Some(target) = source.target {
+            make_target(store, target)?;
+            return Ok(PurgeStage::Copying(work));
+        }
+        if store.map().in_file(source.file, 0).is_some() {
+            self.switch(store, work, source)
+        } else {
+            self.done.files += 1;
+            self.remove(store, work, source.file)
+        }
+    }
+
+    /// Copies the next message, or switches the file. A message that can't be read ends the purge, and all that it has taken is
+    /// given back.
+    fn copy_or_switch<D: Disk>(
+        &mut self,
+        store: &mut Store<D>,
+        work: Work,
+    ) -> Result<PurgeStage, Refusal> {
+        let mut work = work;
+        let Some(source) = work.present() else {
+            unreachable!()
+        };
+        let wanted = next_wanted(store.map(), source.file, work.from);
+        match (source.target, wanted) {
+            (Some(target), Some(row)) => match copy_message(store, &mut work, target, row) {
+                Ok(()) => Ok(PurgeStage::Copying(work)),
+                Err(why) => {
+                    give_back(store, work.left());
+                    Err(why)
+                }
+            },
+            _ => self.switch(store, work, source),
+        }
+    }
+
+    fn switch<D: Disk>(
+        &mut self,
+        store: &mut Store<D>,
+        work: Work,
+        source: Source,
+    ) -> Result<PurgeStage, Refusal> {
+        let mut work = work;
+        let switched = switch(store, &mut work, source)?;
+        self.done.dropped += switched.dropped;
+        self.done.files += 1;
+        if switched.is_unpinned {
+            return Ok(PurgeStage::Removing(work));
+        }
+        work.go_on();
+        Ok(goes_on(work))
+    }
+
+    /// Removes the present file, which was switched.
+    fn remove_source<D: Disk>(
+        &mut self,
+        store: &mut Store<D>,
+        work: Work,
+    ) -> Result<PurgeStage, Refusal> {
+        let Some(source) = work.present() else {
+            unreachable!()
+        };
+        self.remove(store, work, source.file)
+    }
+
+    fn remove<D: Disk>(
+        &mut self,
+        store: &mut Store<D>,
+        work: Work,
+        file: FileNo,
+    ) -> Result<PurgeStage, Refusal> {
+        let mut work = work;
+        store.remove_file(file).map_err(|_| Refusal::Stopped)?;
+        work.go_on();
+        Ok(goes_on(work))
+    }
+
+    /// Removes the next instance that nobody needs, or gives the reply.
+    fn remove_instance<D: Disk>(&mut self, store: &mut Store<D>) -> Progress {
+        let Some(id) = store.next_useless(None) else {
+            self.did = Did::Step(Half::Whole);
+            return Progress::Done(Reply::Purged {
+                dropped: self.done.dropped,
+                files: self.done.files,
+                instances: self.done.instances,
+            });
+        };
+        match store.remove_instance(id) {
+            Ok(()) => {
+                self.done.instances += 1;
+                self.stage = PurgeStage::Instances;
+                Progress::More
+            }
+            Err(_) => {
+                self.did = Did::Failed;
+                Progress::Done(Reply::Refused(Refusal::Stopped))
+            }
+        }
+    }
+}
+
+/// Takes all memory that a purge of these files needs, its own and the store's.
+fn reserve<D: Disk>(store: &mut Store<D>, found: &Found) -> Result<Work, Refusal> {
+    let work = Work::of(store.alloc(), found).map_err(|_| Refusal::NoMemory)?;
+    store.reserve(found.targets).map_err(|_| Refusal::NoMemory)?;
+    store
+        .reserve_entry(entry_size(found.most))
+        .map_err(|_| Refusal::NoMemory)?;
+    Ok(work)
+}
+
+/// Takes the files, and draws a number for each target.
+fn take_files<D: Disk>(store: &mut Store<D>, found: &Found, work: &mut Work) {
+    for one in &found.files {
+        store.take_file(one.file);
+        let target = if one.is_wanted {
+            take_target(store)
+        } else {
+            None
+        };
+        work.sources.push_reserved(Source {
+            file: one.file,
+            target,
+        });
+    }
+}
+
+/// Takes a new file, for which there is a number.
+fn take_target<D: Disk>(store: &mut Store<D>) -> Option<FileNo> {
+    match store.take_new() {
+        Take::New(target) => Some(target),
+        _ => None,
+    }
+}
+
+/// Makes a target, to which messages are then added in pieces.
+fn make_target<D: Disk>(store: &mut Store<D>, target: FileNo) -> Result<(), Refusal> {
+    store
+        .make_file(target, TARGET_HEADER)
+        .map_err(|_| Refusal::Stopped)?;
+    let _offset = store.begin_place(target);
+    Ok(())
+}
+
+/// The stage behind a file: the next one's, or that of instances.
+fn goes_on(work: Work) -> PurgeStage {
+    if work.present().is_some() {
+        PurgeStage::Begin(work)
+    } else {
+        PurgeStage::Instances
+    }
+}
+
+/// Gives back files that are still taken, and their targets, unless the store is stopped.
+fn give_back<D: Disk>(store: &mut Store<D>, sources: &[Source]) {
+    if store.stopped() {
+        return;
+    }
+    for source in sources {
+        store.release(source.file);
+        if let Some(target) = source.target {
+            store.release(target);
+        }
+    }
+}
+
+/// What an event did by which the purge was refused. A refusal for want of numbers is a step.
+fn did_refused(why: &Refusal) -> Did {
+    match why {
+        Refusal::NoMemory | Refusal::ReadFault => Did::Quiet,
+        Refusal::Stopped => Did::Failed,
+        _ => Did::Step(Half::Whole),
+    }
+}
