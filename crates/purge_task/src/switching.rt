@@ -1,9 +1,29 @@
 // The switch of a storage file: from then on the map names copies in place of its regions.
+ghost use Rattle.std.specs.Prelude.{◌≡◌, ◌≢◌, ◌≤◌, ◌<◌, ◌+◌, ◌*◌, ◌∷◌, [], ℕ, List, true, false, length, All, AllPairs, Some, IfOk, IfErr, IsErr, OnOk};
+ghost use Rattle.disk_model.specs.Disk.{Grows};
+ghost use Rattle.disk_model.specs.FaultCounts.{NoFault, ChangeFaultCounted};
+ghost use Rattle.mdbox_base.specs.declared.replies.Refusal.TheVariants as refusal;
+ghost use Rattle.model_kept.specs.Kept.{MailIsKept};
+ghost use Rattle.model_lists.specs.Lists.{Lists};
+ghost use Rattle.model_meaning.specs.MapFits.{HasRecord};
+ghost use Rattle.model_meaning.specs.MapMeaning.{MapRecord, record_at};
+ghost use Rattle.model_meaning.specs.Sound.{IsSoundMap};
+ghost use Rattle.model_store.specs.Settled.{IsSettledFor, Leaves};
+ghost use Rattle.store_core.specs.Dues.{IsSpared, KeepsStored, due_at, leak_at};
+ghost use Rattle.store_core.specs.Keeping.{KeepsFirm};
+ghost use Rattle.purge_task.specs.Claims.{sources_left};
+ghost use Rattle.purge_task.specs.Found.{messages_in};
+ghost use Rattle.purge_task.specs.Reserved.{HasListRoom};
+ghost use Rattle.purge_task.specs.Switched.{IsListed, IsReadyToSwitch, IsSwitched, ReadsMail, switch_entry};
+ghost use Rattle.purge_task.specs.declared.work.Source.{Source as SourceValue};
+
 use crate::work::{Source, Work};
 use disk_model::Disk;
 use log_records::map_entry_size;
 use map_index::MapIndex;
-use mdbox_base::{FileNo, Refusal};
+use mdbox_base::{FileNo, MapEntry, MapPlace, MapUid, Refusal, Seq};
+use std::alloc::Global;
+use std::mem;
 use store_core::Store;
 
 /// Whether a file that was switched has no pin left, so that it is to be removed, and how many messages were dropped.
@@ -13,20 +33,47 @@ pub struct Switched {
     pub dropped: u64,
 }
 
-/// Switches a file: what was copied is synced, the records move by the counts that they have now, the file is doomed, and its
-/// target given back.
-pub fn switch<D: Disk>(
-    store: &mut Store<D>,
-    work: &mut Work,
-    source: Source,
-) -> Result<Switched, Refusal> {
-    if let Some(target) = source.target {
-        let _octets = store.end_place(target).map_err(|_| Refusal::Stopped)?;
+/// Switches the present file: what was copied is synced, the records move by the counts that they have now, the file is doomed,
+/// and its target given back. A change of the disk that fails stops the store.
+pub fn switch<D: Disk>(store: &mut Store<D>, work: &mut Work) -> Result<Switched, Refusal>
+    requires running { store.old.stopped ≡ false }
+    requires ready { (source : SourceValue) × (left : List SourceValue) × (sources_left work.old ≡ source ∷ left) × IsReadyToSwitch source work.old store.old (D.history store.old.disk) }
+
+    // Of a settled disk each image at every moment is safe for its lists, whichever call fails; and after Ok it is settled for them still.
+    ensures any_moment { (lists : Lists) → IsSettledFor lists (D.history store.old.disk) → Leaves lists lists (D.history store.old.disk) (D.history store.new.disk) }
+    ensures mail_stays { MailIsKept store.old.map (D.history store.old.disk) (D.history store.new.disk) }
+    ensures settled { OnOk result ((lists : Lists) → IsSettledFor lists (D.history store.old.disk) → IsSettledFor lists (D.history store.new.disk)) }
+
+    // After Ok the map means what it did, with an entry that moves what is wanted and drops what isn't.
+    ensures switched { IfOk result (λ switched. (source : SourceValue) (left : List SourceValue) → sources_left work.old ≡ source ∷ left → IsSwitched source switched store.old store.new) }
+    ensures due { OnOk result ((uid : ℕ) → due_at uid store.new ≡ due_at uid store.old) }
+    ensures leak { OnOk result ((uid : ℕ) → leak_at uid store.new ≡ leak_at uid store.old) }
+    ensures stored { OnOk result (KeepsStored (D.history store.old.disk) (D.history store.new.disk)) }
+    ensures spared { OnOk result ((uid : ℕ) (row : MapRecord) → record_at store.old.map uid ≡ Some row → 1 ≤ row.count → IsSpared uid row store.new (D.history store.old.disk) (D.history store.new.disk)) }
+    ensures others { OnOk result (ReadsMail (D.history store.old.disk) (D.history store.new.disk)) }
+    ensures firm { OnOk result (KeepsFirm store.old store.new (D.history store.old.disk) (D.history store.new.disk)) }
+    ensures room { store.old.map_log.room ≤ store.new.map_log.room }
+    ensures refused { IfErr result (λ why. (why ≡ refusal.Stopped) × (store.new.stopped ≡ true)) }
+
+    // The lists of the file are spent. What is left behind it is as it was.
+    ensures work { (source : SourceValue) (left : List SourceValue) → sources_left work.old ≡ source ∷ left → (spent : SourceValue) × (sources_left work.new ≡ spent ∷ left) × (spent.file ≡ source.file) × (spent.target ≡ source.target) }
+    ensures same { work.new ≡ record work.old { sources = work.new.sources; text = work.new.text } }
+    ensures text { length work.new.text.items ≡ length work.old.text.items }
+
+    ensures grows { Grows (D.history store.old.disk) (D.history store.new.disk) }
+    ensures fault { ChangeFaultCounted (IsErr result) (D.faults store.old.disk) (D.faults store.new.disk) }
+    ensures unfailed { OnOk result (NoFault (D.faults store.old.disk) (D.faults store.new.disk)) }
+{
+    let Some(present) = work.present() else {
+        unreachable!()
+    };
+    if let Some(target) = present.target {
+        let _octets = end_target(store, target)?;
     }
-    list_records(store.map(), work, source.file);
-    let dropped = work.dropped.len() as u64;
-    let is_unpinned = append(store, work, source)?;
-    if let Some(target) = source.target {
+    let entry = make_entry(store.map(), work);
+    let dropped = count_dropped(&entry);
+    let is_unpinned = append(store, &mut work.text, present.file, &entry)?;
+    if let Some(target) = present.target {
         store.release(target);
     }
     Ok(Switched {
@@ -35,25 +82,88 @@ pub fn switch<D: Disk>(
     })
 }
 
+/// Syncs what was placed in a target.
+fn end_target<D: Disk>(store: &mut Store<D>, target: FileNo) -> Result<u32, Refusal> {
+    match store.end_place(target) {
+        Ok(octets) => Ok(octets),
+        Err(_) => Err(Refusal::Stopped),
+    }
+}
+
+/// The entry that switches the present file. Its lists are spent for it.
+fn make_entry(map: &MapIndex, work: &mut Work) -> MapEntry {
+    let alloc = work.alloc;
+    let source = &mut work.sources[work.next];
+    list_records(map, source);
+    take_entry(alloc, source)
+}
+
+/// The entry that moves and drops what is listed of a source. The lists are spent for it.
+fn take_entry(alloc: Global, source: &mut Source) -> MapEntry
+    ensures entry { result ≡ switch_entry source.old }
+    ensures same { source.new ≡ record source.old { copied = source.new.copied; dropped = source.new.dropped } }
+{
+    let target = match source.target {
+        Some(target) if !source.copied.is_empty() => target.0,
+        _ => 0,
+    };
+    MapEntry::P {
+        file: source.file,
+        target,
+        moved: Seq::of(mem::replace(&mut source.copied, Vec::new(alloc))),
+        dropped: Seq::of(mem::replace(&mut source.dropped, Vec::new(alloc))),
+    }
+}
+
+/// How many messages an entry drops.
+fn count_dropped(entry: &MapEntry) -> u64 {
+    match entry {
+        MapEntry::P { dropped, .. } => dropped.length() as u64,
+        _ => 0,
+    }
+}
+
 /// Appends the entry, and answers whether the file has no pin.
-fn append<D: Disk>(store: &mut Store<D>, work: &mut Work, source: Source) -> Result<bool, Refusal> {
-    let entry = work.entry(source);
-    let size = map_entry_size(&entry);
-    let switched = store.switch_file(source.file, &entry, &mut work.text[..size]);
-    work.take_back(entry);
-    switched.map_err(|_| Refusal::Stopped)
+fn append<D: Disk>(
+    store: &mut Store<D>,
+    text: &mut [u8],
+    file: FileNo,
+    entry: &MapEntry,
+) -> Result<bool, Refusal> {
+    let size = map_entry_size(entry);
+    match store.switch_file(file, entry, &mut text[..size]) {
+        Ok(is_unpinned) => Ok(is_unpinned),
+        Err(_) => Err(Refusal::Stopped),
+    }
 }
 
 /// Lists the records of a file in order of map uid: those that were copied and are still wanted, and those that aren't.
-fn list_records(map: &MapIndex, work: &mut Work, file: FileNo) {
-    work.copied.retain(|place| map.row(place.uid).map_or(false, |row| row.count > 0));
-    work.copied.sort_unstable_by_key(|place| place.uid.0);
+fn list_records(map: &MapIndex, source: &mut Source)
+    requires sound { IsSoundMap map.now.meaning }
+    requires once { AllPairs (λ a b. a.uid.0 ≢ b.uid.0) source.old.copied.items }
+    requires here { All (λ place. HasRecord map.now.meaning place.uid.0 (λ row. row.file ≡ source.old.file.0)) source.old.copied.items }
+    requires room { HasListRoom (messages_in map.now.meaning source.old.file.0) source.old }
+    requires undropped { source.old.dropped.items ≡ [] }
+    ensures { IsListed map.now.meaning source.old source.new }
+{
+    list_moved(map, &mut source.copied);
+    list_dropped(map, source.file, &mut source.dropped);
+}
+
+/// Keeps the copies of those messages that are still wanted, in order of map uid.
+fn list_moved(map: &MapIndex, copied: &mut Vec<MapPlace>) {
+    copied.retain(|place| map.row(place.uid).map_or(false, |row| row.count > 0));
+    copied.sort_unstable_by_key(|place| place.uid.0);
+}
+
+/// Lists the messages of a file that aren't wanted, in order of map uid.
+fn list_dropped(map: &MapIndex, file: FileNo, dropped: &mut Vec<MapUid>) {
     let mut from = 0;
     while let Some(row) = map.in_file(file, from) {
         if row.count == 0 {
-            work.dropped.push_reserved(row.uid);
+            dropped.push_reserved(row.uid);
         }
         from = row.offset + row.size;
     }
-    work.dropped.sort_unstable_by_key(|uid| uid.0);
+    dropped.sort_unstable_by_key(|uid| uid.0);
 }

@@ -132,7 +132,7 @@ impl PurgeTask {
         self.done = PurgeTask::NOTHING;
         let found = Found::of(store)?;
         let mut work = reserve(store, &found)?;
-        take_files(store, &found, &mut work);
+        take_files(store, &mut work.sources);
         Ok(goes_on(work))
     }
 
@@ -150,7 +150,7 @@ impl PurgeTask {
             return Ok(PurgeStage::Copying(work));
         }
         if store.map().in_file(source.file, 0).is_some() {
-            self.switch(store, work, source)
+            self.switch(store, work)
         } else {
             self.done.files += 1;
             self.remove(store, work, source.file)
@@ -177,7 +177,7 @@ impl PurgeTask {
                     Err(why)
                 }
             },
-            _ => self.switch(store, work, source),
+            _ => self.switch(store, work),
         }
     }
 
@@ -185,10 +185,9 @@ impl PurgeTask {
         &mut self,
         store: &mut Store<D>,
         work: Work,
-        source: Source,
     ) -> Result<PurgeStage, Refusal> {
         let mut work = work;
-        let switched = switch(store, &mut work, source)?;
+        let switched = switch(store, &mut work)?;
         self.done.dropped += switched.dropped;
         self.done.files += 1;
         if switched.is_unpinned {
@@ -257,18 +256,12 @@ fn reserve<D: Disk>(store: &mut Store<D>, found: &Found) -> Result<Work, Refusal
 }
 
 /// Takes the files, and draws a number for each target.
-fn take_files<D: Disk>(store: &mut Store<D>, found: &Found, work: &mut Work) {
-    for one in &found.files {
-        store.take_file(one.file);
-        let target = if one.is_wanted {
-            take_target(store)
-        } else {
-            None
-        };
-        work.sources.push_reserved(Source {
-            file: one.file,
-            target,
-        });
+fn take_files<D: Disk>(store: &mut Store<D>, sources: &mut [Source]) {
+    for source in sources.iter_mut() {
+        store.take_file(source.file);
+        if source.is_wanted {
+            source.target = take_target(store);
+        }
     }
 }
 
