@@ -4,3 +4,4 @@ pub mod PartLemmas
 pub mod RemovalLemmas
 pub mod RemovalSeenLemmas
 pub mod RunLemmas
+pub mod StageLemmas

@@ -4,6 +4,7 @@ use Rattle.std.specs.Prelude.{◌≢◌, find, flat_map, nat_lt, sum_by, if◌th
 use Rattle.std.specs.List.{list_any}
 use Rattle.std.specs.Option.{option_map, option_map_or, option_or}
 use Rattle.std.proofs.lemmas.Bool.{eq-eqb, ne_eqb}
+use Rattle.std.proofs.lemmas.List.{append-nil}
 use Rattle.std.proofs.lemmas.List.Elements.{All-head, All-nil, All-tail, All-weaker}
 use Rattle.disk_model.specs.Disk.{Faults, Grows, History, told_calls}
 use Rattle.disk_model.specs.FaultCounts.{NoFault}
@@ -27,15 +28,16 @@ use Rattle.task_steps.proofs.SeenLemmas.{pinned_as}
 use Rattle.purge_task.specs.Claims.{sources_left}
 use Rattle.purge_task.specs.Clause.{PurgeSteps, TellsUses, around_purging, seen_in}
 use Rattle.purge_task.specs.Keeping.{PurgeValue}
-use Rattle.purge_task.specs.Stages.{GoesOnBehind, HaveCopied, HaveTaken, IsAtPurge, IsAtSwitched, IsLastOf, IsUnderWay, RemovesBehind, sources_before, taken_of}
+use Rattle.purge_task.specs.Stages.{GoesOnBehind, HaveCopied, HaveTaken, IsAtPurge, IsAtStage, IsAtSwitched, IsNextStage, IsLastOf, IsUnderWay, RemovesBehind, sources_before, taken_of, went_on}
 use Rattle.purge_task.specs.declared.task.PurgeStage.{PurgeStage}
 use Rattle.purge_task.specs.declared.task.PurgeStage.TheVariants as stage
 use Rattle.purge_task.specs.declared.work.Source.{Source}
 use Rattle.purge_task.specs.declared.work.Work.{Work}
-use Rattle.purge_task.proofs.EventLemmas.{DidSo, IsNextDone, did_part, stands_so}
+use Rattle.purge_task.proofs.EventLemmas.{DidSo, IsNextDone, fall, did_part, stands_so}
 use Rattle.purge_task.proofs.PartLemmas.{goes_on_some, last_with, next_goes_on, next_is, next_removes}
 use Rattle.purge_task.proofs.RemovalSeenLemmas.{removal_comes, removal_event, without}
-use Rattle.purge_task.proofs.RunLemmas.{any_still, done_gone, flat_push, gone_files, many_push, one_alone, sum_push, taken_on, taken_still}
+use Rattle.purge_task.proofs.StageLemmas.{at_next}
+use Rattle.purge_task.proofs.RunLemmas.{any_still, done_gone, done_push, flat_push, gone_files, many_push, one_alone, one_other, sum_push, taken_on, taken_still}
 
 own_removal : (run : Run) (lane place file calls : ℕ) → own_events place (and_then run (removal_event lane place file calls)) ≡ own_events place run ++ removal_event lane place file calls ∷ []
 own_removal run lane place file calls = own_more place run (removal_event lane place file calls) (eq-eqb place place refl)
@@ -131,3 +133,50 @@ did_removal around after run lane place said lists file disk old before later be
   where
     event : RunEvent
     event = removal_event lane place file (told_calls later)
+
+-- ---- its clause
+
+last_of : (P : Source → Type 0) (front : List Source) (last : Source) → All P (front ++ last ∷ []) → P last
+last_of P [] last h = All-head P last [] h
+last_of P (s ∷ front) last h = last_of P front last (All-tail P s (front ++ last ∷ []) h)
+
+-- a file that is done already is removed: the others are as they were
+taken_again : (done left : List Source) (own : List RunEvent) (lane place file calls : ℕ) → HaveTaken done left own → list_any (λ e. is_one_of e.doomed file || is_one_of e.removed file) own ≡ true → HaveTaken done left (own ++ removal_event lane place file calls ∷ [])
+taken_again done left own lane place file calls h gone = record {
+  taken = flat_push (λ (e : RunEvent). e.files) own event ∙ (append-nil (flat_map (λ (e : RunEvent). e.files) own) ∙ h.taken);
+  done_are = All-weaker (λ (s : Source). is_done own (taken_of s) ≡ true) (λ (s : Source). is_done (own ++ event ∷ []) (taken_of s) ≡ true) (λ s e. done_push own event (taken_of s) ∙ ap (λ (b : Bool). b || (is_one_of (file ∷ []) s.file.0)) e) done h.done_are;
+  left_are = All-weaker (λ (s : Source). is_done own (taken_of s) ≡ false) (λ (s : Source). is_done (own ++ event ∷ []) (taken_of s) ≡ false) (λ s e. done_push own event (taken_of s) ∙ (ap (λ (b : Bool). b || (is_one_of (file ∷ []) s.file.0)) e ∙ one_other file s.file.0 (λ same. fall (is_done own (taken_of s)) (ap (λ (n : ℕ). list_any (λ (x : RunEvent). is_one_of x.doomed n || is_one_of x.removed n) own) same ∙ gone) e))) left h.left_are;
+}
+  where
+    event : RunEvent
+    event = removal_event lane place file calls
+
+-- What a call that removes a file leaves, on a disk: for the lists that it was settled for it is so still.
+pub record LeavesSettled (m : MapMeaning) (before later : Option History) (began faults : Faults) : Type 0 where
+  pub moments : (lists : Lists) → IsSettledFor lists before → Leaves lists lists before later
+  pub rests : (lists : Lists) → IsSettledFor lists before → IsSettledFor lists later
+  pub grows : Grows before later
+  pub mail : MailIsKept m before later
+  pub quiet : NoFault began faults
+
+no_flag : {D : Type 0} → (t : PurgeValue) (store : StoreValue D) (s : PurgeStage) (run : Run) (place : ℕ) (said : List Reply) → t.stage ≡ s → IsAtPurge t store run place said → IsAtStage s t store run place said
+no_flag t store s run place said at h = subst (λ (x : PurgeStage). IsAtStage x t store run place said) at h
+
+-- A file that was switched is removed.
+pub removing_steps : {D : Type 0} → (after : Around) (t next : PurgeValue) (work : Work) (source : Source) (left : List Source) (disk : D) (old : StoreValue D) (before later : Option History) (began faults : Faults) → t.stage ≡ stage.Removing work → sources_left work ≡ source ∷ left
+    → IsNextStage (went_on work) next.stage → next.did ≡ did.Quiet → next.dropped ≡ t.dropped → next.files ≡ t.files → next.instances ≡ t.instances → old.stopped ≡ false → pins_in source.file.0 old.files.files ≡ 0 → source.file.0 ≤ old.drawn.file → AreElsewhere source.file.0 old.map.records
+    → LeavesSettled old.map before later began faults → PurgeSteps [] after t next old (without source.file.0 disk old) before later began faults None
+removing_steps after t next work source left disk old before later began faults at is to how dropped files instances ran unpinned drawn elsewhere leaves = λ run lane place said lists come shows stood.
+    let h : IsUnderWay t (sources_before work.next work ++ source ∷ []) left (RemovesBehind run source.file.0) old run place said =
+    subst (λ (l : List Source). IsAtSwitched t work l old run place said) is (no_flag t old (stage.Removing work) run place said at stood.0) in
+    let own : List RunEvent = own_events place run in
+    let event : RunEvent = removal_event lane place source.file.0 (told_calls later) in
+    let new : StoreValue _ = without source.file.0 disk old in
+    let gone : is_one_of (gone_files own) source.file.0 ≡ true = done_gone own source.file.0 ∙ last_of (λ (s : Source). is_done own (taken_of s) ≡ true) (sources_before work.next work) source h.taken.done_are in
+    let counts : CountsRemoval t next source.file.0 own = record { dropped = dropped; files = files ∙ sym (ap (λ (b : Bool). if b then t.files else t.files + 1) gone); instances = instances } in
+    let taken : HaveTaken (sources_before work.next work ++ source ∷ []) left (own ++ event ∷ []) = taken_again (sources_before work.next work ++ source ∷ []) left own lane place source.file.0 (told_calls later) h.taken (last_of (λ (s : Source). is_done own (taken_of s) ≡ true) (sources_before work.next work) source h.taken.done_are) in
+    let way = removed_way t next (sources_before work.next work ++ source ∷ []) left (sources_before work.next work ++ source ∷ []) left (RemovesBehind run source.file.0) lane source.file.0 (told_calls later) old new run place said refl ran taken (λ c. c) counts h in
+    stands_so (around_purging [] old) after run lane place said lists (seen_in old before began) (seen_in new later faults) next.did None event None (IsAtPurge next new)
+    (subst (λ (d : _). DidSo (around_purging [] old) after run lane place said lists (seen_in old before began) (seen_in new later faults) d None event None) (sym how)
+    (did_removal (around_purging [] old) after run lane place said lists source.file.0 disk old before later began faults come shows ran unpinned drawn elsewhere (next_removes (around_purging [] old) run place source.file.0 h.last) (removes_switched run own source.file.0 h.last) leaves.moments leaves.rests leaves.grows leaves.mail leaves.quiet))
+    (λ none. at_next next work source left new (and_then run event) place said is to way)

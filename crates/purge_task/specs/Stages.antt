@@ -1,5 +1,5 @@
 -- Where a purge stands in a run.
-use Rattle.std.specs.Prelude.{◌≡◌, ◌==◌, ◌+◌, ◌++◌, ℕ, Bool, true, false, List, [], ◌∷◌, All, map, flat_map, take, drop, Option, None}
+use Rattle.std.specs.Prelude.{◌≡◌, ◌≢◌, ◌⊎◌, ◌==◌, ◌+◌, ◌++◌, ℕ, Bool, true, false, List, [], ◌∷◌, All, map, flat_map, take, drop, Option, None}
 use Rattle.std.specs.List.{list_any}
 use Rattle.std.specs.Option.{option_map_or}
 use Rattle.mdbox_base.specs.declared.replies.Reply.{Reply}
@@ -86,6 +86,14 @@ sources_before n work = take n work.sources.items
 abbrev pub IsAtSwitched : {D : Type 0} → PurgeValue → Work → List Source → StoreValue D → Run → ℕ → List Reply → Type 0
 IsAtSwitched t work [] store run place said = ⊥
 IsAtSwitched t work (source ∷ left) store run place said = IsUnderWay t (sources_before work.next work ++ source ∷ []) left (RemovesBehind run source.file.0) store run place said
+
+-- The stage behind a file: the next file's, or that of instances.
+abbrev pub IsNextStage : Work → PurgeStage → Type 0
+IsNextStage work next = ((sources_left work ≡ []) × (next ≡ stage.Instances)) ⊎ ((sources_left work ≢ []) × (next ≡ stage.Begin work))
+
+-- the work with its present file done
+abbrev pub went_on : Work → Work
+went_on work = record work { next = work.next + 1; from = 0 }
 
 -- At which stage it stands, by its store, of a run, of its place in the script, and of the answers of its steps.
 abbrev pub IsAtStage : {D : Type 0} → PurgeStage → PurgeValue → StoreValue D → Run → ℕ → List Reply → Type 0
