@@ -1,4 +1,7 @@
 pub mod EventLemmas
+pub mod FreeInstanceLemmas
+pub mod GoneLemmas
+pub mod InstanceSeenLemmas
 pub mod KeptLemmas
 pub mod PartLemmas
 pub mod RemovalLemmas
