@@ -13,7 +13,7 @@ use Rattle.task_steps.specs.Step.{GivesNew, IsKept}
 use Rattle.task_steps.proofs.SeenLemmas.{not_begun_stays, was_pinned_still}
 use Rattle.purge_task.specs.Claims.{sources_left}
 use Rattle.purge_task.specs.Keeping.{PurgeValue}
-use Rattle.purge_task.specs.Stages.{CopiesBehind, GoesOnBehind, HaveCopied, HaveTaken, IsAtPurge, IsAtStage, IsAtSwitched, IsLastOf, IsUnderWay, RemovesBehind, sources_before}
+use Rattle.purge_task.specs.Stages.{CopiesBehind, GoesOnBehind, HaveCopied, HaveTaken, IsAtPurge, IsAtStage, IsAtSwitched, IsLastOf, IsUnderWay, RemovesBehind}
 use Rattle.purge_task.specs.declared.task.PurgeStage.{PurgeStage}
 use Rattle.purge_task.specs.declared.task.PurgeStage.TheVariants as stage
 use Rattle.purge_task.specs.declared.work.Source.{Source}
@@ -93,15 +93,15 @@ removes_still run event file doomed part l h = absurd h
 stage_stays : {D : Type 0} → (s : PurgeStage) (t : PurgeValue) (store : StoreValue D) → IsKept (IsAtStage s t store)
 stage_stays stage.First t store run place said event other new stood = not_begun_stays run place said event other new stood
 stage_stays (stage.Begin work) t store run place said event other new stood =
-    under_way_stays t (sources_before work.next work) (sources_left work) (GoesOnBehind run) (GoesOnBehind (and_then run event)) store run place said event (own_other place run event (ne_eqb event.request place other)) (goes_on_still run event) stood
+    (stood.0, under_way_stays t stood.0 (sources_left work) (GoesOnBehind run) (GoesOnBehind (and_then run event)) store run place said event (own_other place run event (ne_eqb event.request place other)) (goes_on_still run event) stood.1)
 stage_stays (stage.Copying work) t store run place said event other new stood =
-    under_way_stays t (sources_before work.next work) (sources_left work) (λ doomed part. CopiesBehind part) (λ doomed part. CopiesBehind part) store run place said event (own_other place run event (ne_eqb event.request place other)) (λ doomed part l h. h) stood
+    (stood.0, under_way_stays t stood.0 (sources_left work) (λ doomed part. CopiesBehind part) (λ doomed part. CopiesBehind part) store run place said event (own_other place run event (ne_eqb event.request place other)) (λ doomed part l h. h) stood.1)
 stage_stays (stage.Removing work) t store run place said event other new stood = by_left (sources_left work) stood
   where
-    by_left : (left : List Source) → IsAtSwitched t work left store run place said → IsAtSwitched t work left store (and_then run event) place said
+    by_left : (left : List Source) → IsAtSwitched t left store run place said → IsAtSwitched t left store (and_then run event) place said
     by_left [] h = absurd h
     by_left (source ∷ left) h =
-        under_way_stays t (sources_before work.next work ++ source ∷ []) left (RemovesBehind run source.file.0) (RemovesBehind (and_then run event) source.file.0) store run place said event (own_other place run event (ne_eqb event.request place other)) (removes_still run event source.file.0) h
+        (h.0, under_way_stays t (h.0 ++ source ∷ []) left (RemovesBehind run source.file.0) (RemovesBehind (and_then run event) source.file.0) store run place said event (own_other place run event (ne_eqb event.request place other)) (removes_still run event source.file.0) h.1)
 stage_stays stage.Instances t store run place said event other new stood =
     (stood.0, under_way_stays t stood.0 [] (GoesOnBehind run) (GoesOnBehind (and_then run event)) store run place said event (own_other place run event (ne_eqb event.request place other)) (goes_on_still run event) stood.1)
 

@@ -8,3 +8,6 @@ pub mod RemovalLemmas
 pub mod RemovalSeenLemmas
 pub mod RunLemmas
 pub mod StageLemmas
+pub mod StoppedLemmas
+pub mod TargetLemmas
+pub mod TargetSeenLemmas

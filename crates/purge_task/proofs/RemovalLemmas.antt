@@ -28,7 +28,7 @@ use Rattle.task_steps.proofs.SeenLemmas.{pinned_as}
 use Rattle.purge_task.specs.Claims.{sources_left}
 use Rattle.purge_task.specs.Clause.{PurgeSteps, TellsUses, around_purging, seen_in}
 use Rattle.purge_task.specs.Keeping.{PurgeValue}
-use Rattle.purge_task.specs.Stages.{GoesOnBehind, HaveCopied, HaveTaken, IsAtPurge, IsAtStage, IsAtSwitched, IsNextStage, IsLastOf, IsUnderWay, RemovesBehind, sources_before, taken_of, went_on}
+use Rattle.purge_task.specs.Stages.{GoesOnBehind, HaveCopied, HaveTaken, IsAtPurge, IsAtStage, IsAtSwitched, IsNextStage, IsLastOf, IsUnderWay, RemovesBehind, taken_of, went_on}
 use Rattle.purge_task.specs.declared.task.PurgeStage.{PurgeStage}
 use Rattle.purge_task.specs.declared.task.PurgeStage.TheVariants as stage
 use Rattle.purge_task.specs.declared.work.Source.{Source}
@@ -167,16 +167,18 @@ pub removing_steps : {D : Type 0} → (after : Around) (t next : PurgeValue) (wo
     → IsNextStage (went_on work) next.stage → next.did ≡ did.Quiet → next.dropped ≡ t.dropped → next.files ≡ t.files → next.instances ≡ t.instances → old.stopped ≡ false → pins_in source.file.0 old.files.files ≡ 0 → source.file.0 ≤ old.drawn.file → AreElsewhere source.file.0 old.map.records
     → LeavesSettled old.map before later began faults → PurgeSteps [] after t next old (without source.file.0 disk old) before later began faults None
 removing_steps after t next work source left disk old before later began faults at is to how dropped files instances ran unpinned drawn elsewhere leaves = λ run lane place said lists come shows stood.
-    let h : IsUnderWay t (sources_before work.next work ++ source ∷ []) left (RemovesBehind run source.file.0) old run place said =
-    subst (λ (l : List Source). IsAtSwitched t work l old run place said) is (no_flag t old (stage.Removing work) run place said at stood.0) in
+    let at_left : IsAtSwitched t (source ∷ left) old run place said = subst (λ (l : List Source). IsAtSwitched t l old run place said) is (no_flag t old (stage.Removing work) run place said at stood.0) in
+    let done : List Source = at_left.0 ++ source ∷ [] in
+    let h : IsUnderWay t done left (RemovesBehind run source.file.0) old run place said = at_left.1 in
     let own : List RunEvent = own_events place run in
     let event : RunEvent = removal_event lane place source.file.0 (told_calls later) in
     let new : StoreValue _ = without source.file.0 disk old in
-    let gone : is_one_of (gone_files own) source.file.0 ≡ true = done_gone own source.file.0 ∙ last_of (λ (s : Source). is_done own (taken_of s) ≡ true) (sources_before work.next work) source h.taken.done_are in
+    let here : is_done own (taken_of source) ≡ true = last_of (λ (s : Source). is_done own (taken_of s) ≡ true) at_left.0 source h.taken.done_are in
+    let gone : is_one_of (gone_files own) source.file.0 ≡ true = done_gone own source.file.0 ∙ here in
     let counts : CountsRemoval t next source.file.0 own = record { dropped = dropped; files = files ∙ sym (ap (λ (b : Bool). if b then t.files else t.files + 1) gone); instances = instances } in
-    let taken : HaveTaken (sources_before work.next work ++ source ∷ []) left (own ++ event ∷ []) = taken_again (sources_before work.next work ++ source ∷ []) left own lane place source.file.0 (told_calls later) h.taken (last_of (λ (s : Source). is_done own (taken_of s) ≡ true) (sources_before work.next work) source h.taken.done_are) in
-    let way = removed_way t next (sources_before work.next work ++ source ∷ []) left (sources_before work.next work ++ source ∷ []) left (RemovesBehind run source.file.0) lane source.file.0 (told_calls later) old new run place said refl ran taken (λ c. c) counts h in
+    let taken : HaveTaken done left (own ++ event ∷ []) = taken_again done left own lane place source.file.0 (told_calls later) h.taken here in
+    let way = removed_way t next done left done left (RemovesBehind run source.file.0) lane source.file.0 (told_calls later) old new run place said refl ran taken (λ c. c) counts h in
     stands_so (around_purging [] old) after run lane place said lists (seen_in old before began) (seen_in new later faults) next.did None event None (IsAtPurge next new)
     (subst (λ (d : _). DidSo (around_purging [] old) after run lane place said lists (seen_in old before began) (seen_in new later faults) d None event None) (sym how)
     (did_removal (around_purging [] old) after run lane place said lists source.file.0 disk old before later began faults come shows ran unpinned drawn elsewhere (next_removes (around_purging [] old) run place source.file.0 h.last) (removes_switched run own source.file.0 h.last) leaves.moments leaves.rests leaves.grows leaves.mail leaves.quiet))
-    (λ none. at_next next work source left new (and_then run event) place said is to way)
+    (λ none. at_next next work source done left new (and_then run event) place said is to way)

@@ -1,5 +1,5 @@
 -- Where a purge stands in a run.
-use Rattle.std.specs.Prelude.{◌≡◌, ◌≢◌, ◌⊎◌, ◌==◌, ◌+◌, ◌++◌, ℕ, Bool, true, false, List, [], ◌∷◌, All, map, flat_map, take, drop, Option, None}
+use Rattle.std.specs.Prelude.{◌≡◌, ◌≢◌, ◌⊎◌, ◌==◌, ◌+◌, ◌++◌, ℕ, Bool, true, false, List, [], ◌∷◌, All, map, flat_map, Option, None}
 use Rattle.std.specs.List.{list_any}
 use Rattle.std.specs.Option.{option_map_or}
 use Rattle.mdbox_base.specs.declared.replies.Reply.{Reply}
@@ -78,14 +78,10 @@ pub record IsUnderWay {D : Type 0} (t : PurgeValue) (done left : List Source) (B
 
 -- ---- the stages
 
--- so many of the sources, counted from the first
-abbrev pub sources_before : ℕ → Work → List Source
-sources_before n work = take n work.sources.items
-
 -- The present file of those that are left was switched.
-abbrev pub IsAtSwitched : {D : Type 0} → PurgeValue → Work → List Source → StoreValue D → Run → ℕ → List Reply → Type 0
-IsAtSwitched t work [] store run place said = ⊥
-IsAtSwitched t work (source ∷ left) store run place said = IsUnderWay t (sources_before work.next work ++ source ∷ []) left (RemovesBehind run source.file.0) store run place said
+abbrev pub IsAtSwitched : {D : Type 0} → PurgeValue → List Source → StoreValue D → Run → ℕ → List Reply → Type 0
+IsAtSwitched t [] store run place said = ⊥
+IsAtSwitched t (source ∷ left) store run place said = (front : List Source) × IsUnderWay t (front ++ source ∷ []) left (RemovesBehind run source.file.0) store run place said
 
 -- The stage behind a file: the next file's, or that of instances.
 abbrev pub IsNextStage : Work → PurgeStage → Type 0
@@ -98,9 +94,9 @@ went_on work = record work { next = work.next + 1; from = 0 }
 -- At which stage it stands, by its store, of a run, of its place in the script, and of the answers of its steps.
 abbrev pub IsAtStage : {D : Type 0} → PurgeStage → PurgeValue → StoreValue D → Run → ℕ → List Reply → Type 0
 IsAtStage stage.First t store run place said = HasNotBegun run place said
-IsAtStage (stage.Begin work) t store run place said = IsUnderWay t (sources_before work.next work) (sources_left work) (GoesOnBehind run) store run place said
-IsAtStage (stage.Copying work) t store run place said = IsUnderWay t (sources_before work.next work) (sources_left work) (λ doomed part. CopiesBehind part) store run place said
-IsAtStage (stage.Removing work) t store run place said = IsAtSwitched t work (sources_left work) store run place said
+IsAtStage (stage.Begin work) t store run place said = (done : List Source) × IsUnderWay t done (sources_left work) (GoesOnBehind run) store run place said
+IsAtStage (stage.Copying work) t store run place said = (done : List Source) × IsUnderWay t done (sources_left work) (λ doomed part. CopiesBehind part) store run place said
+IsAtStage (stage.Removing work) t store run place said = IsAtSwitched t (sources_left work) store run place said
 IsAtStage stage.Instances t store run place said = (done : List Source) × IsUnderWay t done [] (GoesOnBehind run) store run place said
 
 abbrev pub IsAtPurge : {D : Type 0} → PurgeValue → StoreValue D → Run → ℕ → List Reply → Type 0
