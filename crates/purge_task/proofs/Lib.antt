@@ -1,3 +1,5 @@
+pub mod CopyLemmas
+pub mod CopyStepLemmas
 pub mod EventLemmas
 pub mod FreeInstanceLemmas
 pub mod GoneLemmas
@@ -7,6 +9,7 @@ pub mod PartLemmas
 pub mod RemovalLemmas
 pub mod RemovalSeenLemmas
 pub mod RunLemmas
+pub mod SameSeenLemmas
 pub mod StageLemmas
 pub mod StoppedLemmas
 pub mod TargetLemmas
