@@ -70,7 +70,7 @@ next_contained m file from row h = (found_one (λ (r : MapRecord). r.uid == h.r.
 none_contained : {X : Type 0} → (x : X) → Contains [] x → ⊥
 none_contained x c = let l = c.1 in omega (arith, l)
 
-kept_of : {X : Type 0} → (p : X → Bool) (xs : List X) (x : X) → Contains xs x → p x ≡ true → Contains (filter p xs) x
+pub kept_of : {X : Type 0} → (p : X → Bool) (xs : List X) (x : X) → Contains xs x → p x ≡ true → Contains (filter p xs) x
 kept_of p [] x there is = absurd (none_contained x there)
 kept_of p (y ∷ ys) x there is = by_test (p y) refl (kept_of p ys x)
   where

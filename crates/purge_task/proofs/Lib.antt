@@ -12,5 +12,7 @@ pub mod RunLemmas
 pub mod SameSeenLemmas
 pub mod StageLemmas
 pub mod StoppedLemmas
+pub mod SwitchSeenLemmas
 pub mod TargetLemmas
 pub mod TargetSeenLemmas
+pub mod WithinLemmas
