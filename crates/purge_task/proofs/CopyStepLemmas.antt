@@ -51,15 +51,16 @@ taken_as source noted place w = ap taken_of w.same
 file_as : (source noted : Source) (place : MapPlace) → IsSourceWith place source noted → noted.file.0 ≡ source.file.0
 file_as source noted place w = ap (λ (s : Source). s.file.0) w.same
 
-taken_noted : (done left : List Source) (source noted : Source) (place : MapPlace) (own : List RunEvent) → IsSourceWith place source noted → HaveTaken done (source ∷ left) own → HaveTaken done (noted ∷ left) own
-taken_noted done left source noted place own w h = record {
+-- the first of those that are left is told the same
+pub taken_noted : (done left : List Source) (source noted : Source) (own : List RunEvent) → taken_of noted ≡ taken_of source → HaveTaken done (source ∷ left) own → HaveTaken done (noted ∷ left) own
+taken_noted done left source noted own e h = record {
   taken = h.taken ∙ same done;
   done_are = h.done_are;
-  left_are = All-cons (λ (s : Source). is_done own (taken_of s) ≡ false) noted left (ap (λ (taken : TakenFile). is_done own taken) (taken_as source noted place w) ∙ All-head (λ (s : Source). is_done own (taken_of s) ≡ false) source left h.left_are) (All-tail (λ (s : Source). is_done own (taken_of s) ≡ false) source left h.left_are);
+  left_are = All-cons (λ (s : Source). is_done own (taken_of s) ≡ false) noted left (ap (λ (taken : TakenFile). is_done own taken) e ∙ All-head (λ (s : Source). is_done own (taken_of s) ≡ false) source left h.left_are) (All-tail (λ (s : Source). is_done own (taken_of s) ≡ false) source left h.left_are);
 }
   where
     same : (front : List Source) → map taken_of (front ++ source ∷ left) ≡ map taken_of (front ++ noted ∷ left)
-    same [] = ap (λ (taken : TakenFile). taken ∷ map taken_of left) (sym (taken_as source noted place w))
+    same [] = ap (λ (taken : TakenFile). taken ∷ map taken_of left) (sym e)
     same (s ∷ front) = ap (λ (ts : List TakenFile). taken_of s ∷ ts) (same front)
 
 abbrev copies : ℕ → RunEvent → Bool
@@ -107,7 +108,7 @@ copied_way t next done left source noted place r lane calls old new run at said 
   unsaid = h.unsaid;
   last = record { front = own; last = event; own_are = is; unrefused = refl; behind = tt };
   unrefused = ap (λ (es : List RunEvent). last_refusal es) is ∙ (last_with own event ∙ h.unrefused);
-  taken = subst (λ (es : List RunEvent). HaveTaken done (noted ∷ left) es) (sym is) (taken_still done (noted ∷ left) own event refl refl refl (taken_noted done left source noted place own w h.taken));
+  taken = subst (λ (es : List RunEvent). HaveTaken done (noted ∷ left) es) (sym is) (taken_still done (noted ∷ left) own event refl refl refl (taken_noted done left source noted own (taken_as source noted place w) h.taken));
   copied = λ runs. subst (λ (m : MapMeaning). All (HaveCopied m (own_events at (and_then run event))) (noted ∷ left)) (sym map_is) (subst (λ (es : List RunEvent). All (HaveCopied old.map es) (noted ∷ left)) (sym is)
       (All-cons (HaveCopied old.map (own ++ event ∷ [])) noted left
       (subst (λ (n : ℕ). HaveCopied old.map (own ++ copy_event lane at n calls ∷ []) noted) uid (noted_copied old.map own lane at calls source noted place w (All-head (HaveCopied old.map own) source left (h.copied ran))))

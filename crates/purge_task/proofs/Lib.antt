@@ -13,6 +13,7 @@ pub mod SameSeenLemmas
 pub mod StageLemmas
 pub mod StoppedLemmas
 pub mod SwitchSeenLemmas
+pub mod SwitchStepLemmas
 pub mod TargetLemmas
 pub mod TargetSeenLemmas
 pub mod WithinLemmas
