@@ -1,6 +1,7 @@
 pub mod CopyLemmas
 pub mod CopyStepLemmas
 pub mod EventLemmas
+pub mod FailLemmas
 pub mod FreeInstanceLemmas
 pub mod GoneLemmas
 pub mod InstanceSeenLemmas
