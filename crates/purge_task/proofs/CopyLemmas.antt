@@ -107,7 +107,7 @@ next_is_left m own source from end row sound have copied h =
     let there = next_contained m source.file.0 from row h in
     let uncopied : list_any (λ e. is_one_of e.copied h.r.uid) own ≡ false = copied_listed m own source h.r have there h.in_file ∙ copied_before source.file.0 from end source.copied.items m h.r sound copied there h.behind in
     let is : is_left m own source.file.0 h.r ≡ true = and_true (is_copied_from source.file.0 h.r) (not (list_any (λ e. is_one_of e.copied h.r.uid) own))
-        (and_true (h.r.file == source.file.0) (nat_lt 0 h.r.count) (eq-eqb h.r.file source.file.0 h.in_file) (some_of h.r.count h.wanted)) (ap (λ (b : Bool). not b) uncopied) in (
+    (and_true (h.r.file == source.file.0) (nat_lt 0 h.r.count) (eq-eqb h.r.file source.file.0 h.in_file) (some_of h.r.count h.wanted)) (ap (λ (b : Bool). not b) uncopied) in (
       kept_of (is_left m own source.file.0) m.records h.r there is,
       passing (is_left m own source.file.0) (λ (other : MapRecord). h.r.offset ≤ other.offset) m.records (least m.records (All-contains_itself m.records)),
     )

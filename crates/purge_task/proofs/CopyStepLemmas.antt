@@ -170,21 +170,23 @@ copy_steps after t next work now source noted left row place end target disk fil
     let next_one : next_part around run request.Purge own ≡ Some CopiesMessage = next_copies around run number h.last
     ∙ ap (λ (b : Bool). if b then Some CopiesMessage else Some Switches) (ap (λ (rs : List MapRecord). nat_lt 0 (length rs)) left_are ∙ some_number (length (filter (is_left old.map own source.file.0) old.map.records)) (has_some (filter (is_left old.map own source.file.0) old.map.records) r least.0)) in
     let so = did_part around after run lane number said lists (seen_in old before began) (seen_in new later faults) (copy_event 0 0 r.uid 0)
-        (record {
-          next = next_one;
-          finds = tt;
-          allowed = refl;
-          did = (r, subst (λ (rs : List MapRecord). IsCopiedNext rs r) (sym left_are) least, refl);
-          fits = All-nil _;
-          no_step = refl;
-          goes_on = λ e. let k = copies_some (and_then run event) (own_events number (and_then run event)) in never_some k.0 (sym k.1 ∙ e);
-          found = λ looked. tt;
-          no_guid = refl;
-        })
-        (same_comes run event disk files false old before later began faults come ran (tells_grown target old.files.files files.files grown) (record { made = refl; pins = refl; unpins = refl; doomed = refl; removed = refl; given = refl; placed = refl; gone = refl }) refl refl refl (λ u. refl) leaves.grows)
-        shows ran refl (record { stops = λ s. leaves.moments lists s.0; settled = λ s. leaves.rests lists s.0 }) leaves.grows leaves.mail leaves.quiet in
+    (record {
+      next = next_one;
+      finds = tt;
+      allowed = refl;
+      did = (r, subst (λ (rs : List MapRecord). IsCopiedNext rs r) (sym left_are) least, refl);
+      fits = All-nil _;
+      no_step = refl;
+      goes_on = λ e. let k = copies_some (and_then run event) (own_events number (and_then run event)) in never_some k.0 (sym k.1 ∙ e);
+      found = λ looked. tt;
+      no_guid = refl;
+    })
+    (same_comes run event disk files false old before later began faults come ran (tells_grown target old.files.files files.files grown) (record { made = refl; pins = refl; unpins = refl; doomed = refl; removed = refl; given = refl; placed = refl; gone = refl }) refl refl refl (λ u. refl) leaves.grows)
+    shows ran refl (record { stops = λ s. leaves.moments lists s.0; settled = λ s. leaves.rests lists s.0 }) leaves.grows leaves.mail leaves.quiet in
     stands_so around after run lane number said lists (seen_in old before began) (seen_in new later faults) next.did None event None (IsAtPurge next new)
     (subst (λ (d : Did). DidSo around after run lane number said lists (seen_in old before began) (seen_in new later faults) d None event None) (sym how) so)
-    (λ none. subst (λ (x : PurgeStage). IsAtStage x next new (and_then run event) number said) (sym to)
-    (stands.0, subst (λ (l : List Source). IsUnderWay next stands.0 l (λ doomed part. CopiesBehind part) new (and_then run event) number said) (sym now_is)
-    (copied_way t next stands.0 left source noted place r lane (told_calls later) old new run number said refl ran sound (next_contained old.map source.file.0 work.from row wanted) wanted.in_file uid w apart dropped counted instances h)))
+    (λ none. subst (λ (x : PurgeStage). IsAtStage x next new (and_then run event) number said) (sym to) (
+      stands.0,
+      subst (λ (l : List Source). IsUnderWay next stands.0 l (λ doomed part. CopiesBehind part) new (and_then run event) number said) (sym now_is)
+          (copied_way t next stands.0 left source noted place r lane (told_calls later) old new run number said refl ran sound (next_contained old.map source.file.0 work.from row wanted) wanted.in_file uid w apart dropped counted instances h),
+    ))

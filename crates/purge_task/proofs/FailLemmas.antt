@@ -49,9 +49,9 @@ fail_steps after t next disk files old before later began faults how ran tells l
     let part = next_some around t.stage t old run place said stood.0 in
     let event : RunEvent = refused_event part.0 lane place refusal.Stopped (told_calls later) in (
       subst (λ (d : Did). DidEvent around after run lane place said request.Purge lists (seen_in old before began) (seen_in new later faults) d (Some (reply.Refused refusal.Stopped))) (sym how)
-      (did_fail around after run lane place said lists (seen_in old before began) (seen_in new later faults) part.0
-      (same_comes run event disk files true old before later began faults come ran tells (refused_leaves part.0 lane place refusal.Stopped (told_calls later)) refl refl refl (λ uid. refl) leaves.grows)
-      shows ran refl part.1 refl (λ s. leaves.moments lists s.0) leaves.grows leaves.mail leaves.reads leaves.changes leaves.rose),
+          (did_fail around after run lane place said lists (seen_in old before began) (seen_in new later faults) part.0
+          (same_comes run event disk files true old before later began faults come ran tells (refused_leaves part.0 lane place refusal.Stopped (told_calls later)) refl refl refl (λ uid. refl) leaves.grows)
+          shows ran refl part.1 refl (λ s. leaves.moments lists s.0) leaves.grows leaves.mail leaves.reads leaves.changes leaves.rose),
       λ e. absurd (never_more _ e),
     )
 
@@ -109,8 +109,8 @@ unread_steps after t next disk files old before later began faults how ran part 
     let new : StoreValue _ = with_state disk files false old in
     let event : RunEvent = refused_event CopiesMessage lane place refusal.ReadFault (told_calls later) in (
       subst (λ (d : Did). DidEvent around after run lane place said request.Purge lists (seen_in old before began) (seen_in new later faults) d (Some (reply.Refused refusal.ReadFault))) (sym how)
-      (did_unread around after run lane place said lists (seen_in old before began) (seen_in new later faults)
-      (same_comes run event disk files false old before later began faults come ran tells (refused_leaves CopiesMessage lane place refusal.ReadFault (told_calls later)) refl refl refl (λ uid. refl) leaves.grows)
-      shows ran refl (part run place said come stood.0) refl leaves.moments leaves.rests leaves.grows leaves.mail leaves.reads leaves.changes leaves.rose),
+          (did_unread around after run lane place said lists (seen_in old before began) (seen_in new later faults)
+          (same_comes run event disk files false old before later began faults come ran tells (refused_leaves CopiesMessage lane place refusal.ReadFault (told_calls later)) refl refl refl (λ uid. refl) leaves.grows)
+          shows ran refl (part run place said come stood.0) refl leaves.moments leaves.rests leaves.grows leaves.mail leaves.reads leaves.changes leaves.rose),
       λ e. absurd (never_more _ e),
     )

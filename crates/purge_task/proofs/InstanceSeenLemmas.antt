@@ -43,7 +43,7 @@ none_with id (k ∷ known) = elim (cases_Bool (has_id id k)) [
   | inr isnt ↦ ap (λ (b : Bool). find (has_id id) (if not b then k ∷ without_instance id known else without_instance id known)) isnt ∙ (ap (λ (b : Bool). if b then Some k else find (has_id id) (without_instance id known)) isnt ∙ none_with id known)
 ]
 
-other_with : (id other : InstId) (known : List KnownInstance) → other ≢ id → instance_in other (without_instance id known) ≡ instance_in other known
+pub other_with : (id other : InstId) (known : List KnownInstance) → other ≢ id → instance_in other (without_instance id known) ≡ instance_in other known
 other_with id other [] apart = refl
 other_with id other (k ∷ known) apart = elim (cases_Bool (has_id id k)) [
   | inl is ↦ ap (λ (b : Bool). find (has_id other) (if not b then k ∷ without_instance id known else without_instance id known)) is

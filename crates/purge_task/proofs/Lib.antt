@@ -6,6 +6,7 @@ pub mod FreeInstanceLemmas
 pub mod GoneLemmas
 pub mod InstanceSeenLemmas
 pub mod KeptLemmas
+pub mod LeavingLemmas
 pub mod PartLemmas
 pub mod RemovalLemmas
 pub mod RemovalSeenLemmas

@@ -41,6 +41,6 @@ stopped_steps after t next store history faults how stopped = λ run lane place 
     let around : Around = around_purging [] store in
     let part = next_some around t.stage t store run place said stood.0 in (
       subst (λ (d : Did). DidEvent around after run lane place said request.Purge lists (seen_in store history faults) (seen_in store history faults) d (Some (reply.Refused refusal.Stopped))) (sym how)
-      (did_stopped around after run lane place said lists (seen_in store history faults) part.0 come shows stopped part.1 refl),
+          (did_stopped around after run lane place said lists (seen_in store history faults) part.0 come shows stopped part.1 refl),
       λ e. absurd (never_more _ e),
     )

@@ -117,7 +117,7 @@ switched_way t next done left source spent Before After lane target moved droppe
         All-cons (HaveCopied new.map (own ++ event ∷ [])) s others
         (uids_within s.file.0 old.map new.map (λ uid. list_any (copies uid) (own ++ event ∷ []) ≡ list_any (λ (p : MapPlace). p.uid.0 == uid) s.copied.items) (All-head (λ (x : Source). records_within x.file.0 new.map ≡ records_within x.file.0 old.map) s others a)
         (All-weaker (λ (row : MapRecord). row.file ≡ s.file.0 → list_any (copies row.uid) own ≡ list_any (λ (p : MapPlace). p.uid.0 == row.uid) s.copied.items) (λ (row : MapRecord). row.file ≡ s.file.0 → list_any (copies row.uid) (own ++ event ∷ []) ≡ list_any (λ (p : MapPlace). p.uid.0 == row.uid) s.copied.items)
-            (λ row e here. any_still (copies row.uid) own event refl ∙ e here) old.map.records (All-head (HaveCopied old.map own) s others b)))
+        (λ row e here. any_still (copies row.uid) own event refl ∙ e here) old.map.records (All-head (HaveCopied old.map own) s others b)))
         (rest others (All-tail (λ (x : Source). records_within x.file.0 new.map ≡ records_within x.file.0 old.map) s others a) (All-tail (HaveCopied old.map own) s others b))
 
 -- ---- its clause
@@ -170,25 +170,27 @@ switch_steps {D = D} after t next work source spent left Before target moved dro
     let pinned : was_pinned (and_then run event) source.file.0 ≡ not (pins_in source.file.0 old.files.files == 0) = (first_doomed run event source.file.0 unused (one_itself source.file.0) refl).0
     ∙ (pinned_as (and_then run event) (seen_in new later faults) source.file.0 came ran ∙ (ap (λ (n : ℕ). nat_lt 0 n) (s.doomed.pins source.file.0) ∙ some_pin (pins_in source.file.0 old.files.files))) in
     let so = did_part around after run lane place said lists (seen_in old before began) (seen_in new later faults) (switch_event 0 0 source.file target moved dropped 0)
-        (record {
-          next = part run place said at.0 come at.1;
-          finds = tt;
-          allowed = refl;
-          did = (taken_of source, target, moved, dropped, taken, subst (λ (m : MapMeaning). All (λ place. HasRecord m place.uid.0 (λ row. 1 ≤ row.count)) moved) (sym come.come.map_is) s.wanted, s.target_is, refl);
-          fits = All-cons (MapFits (map_of run)) (map_entry.P source.file target moved dropped) [] (subst (λ (m : MapMeaning). MapFits m (map_entry.P source.file target moved dropped)) (sym come.come.map_is) s.fits) (All-nil _);
-          no_step = refl;
-          goes_on = behind_some after (and_then run event) event;
-          found = λ looked. tt;
-          no_guid = refl;
-        })
-        came (shows.0, subst (λ (bs : List MapBox). ShowLists bs (indexes_of old.boxes) lists) (sym s.boxes) shows.1) ran ran (record { stops = λ x. leaves.moments lists x.0; settled = λ x. leaves.rests lists x.0 }) leaves.grows leaves.mail leaves.quiet in
+    (record {
+      next = part run place said at.0 come at.1;
+      finds = tt;
+      allowed = refl;
+      did = (taken_of source, target, moved, dropped, taken, subst (λ (m : MapMeaning). All (λ place. HasRecord m place.uid.0 (λ row. 1 ≤ row.count)) moved) (sym come.come.map_is) s.wanted, s.target_is, refl);
+      fits = All-cons (MapFits (map_of run)) (map_entry.P source.file target moved dropped) [] (subst (λ (m : MapMeaning). MapFits m (map_entry.P source.file target moved dropped)) (sym come.come.map_is) s.fits) (All-nil _);
+      no_step = refl;
+      goes_on = behind_some after (and_then run event) event;
+      found = λ looked. tt;
+      no_guid = refl;
+    })
+    came (shows.0, subst (λ (bs : List MapBox). ShowLists bs (indexes_of old.boxes) lists) (sym s.boxes) shows.1) ran ran (record { stops = λ x. leaves.moments lists x.0; settled = λ x. leaves.rests lists x.0 }) leaves.grows leaves.mail leaves.quiet in
     stands_so around after run lane place said lists (seen_in old before began) (seen_in new later faults) next.did None event None (IsAtPurge next new)
     (subst (λ (d : Did). DidSo around after run lane place said lists (seen_in old before began) (seen_in new later faults) d None event None) (sym how) so)
     (λ none. elim (cases_Bool (pins_in source.file.0 old.files.files == 0)) [
       | inl free ↦ subst (λ (x : PurgeStage). IsAtStage x next new (and_then run event) place said) (sym (subst (λ (b : Bool). IsBehindSwitch b work next.stage) free to))
-          (subst (λ (l : List Source). IsAtSwitched next l new (and_then run event) place said) (sym is)
-          (at.0, switched_way t next at.0 left source spent (Before run) (RemovesBehind (and_then run event) spent.file.0) lane target moved dropped (told_calls later) old new run place said ran w apart s.within counts
-              (ap (λ (f : FileNo). f.0 ∷ []) (sym w.file), ap (λ (f : FileNo). was_pinned (and_then run event) f.0) w.file ∙ (pinned ∙ ap (λ (b : Bool). not b) free)) at.1))
+          (subst (λ (l : List Source). IsAtSwitched next l new (and_then run event) place said) (sym is) (
+            at.0,
+            switched_way t next at.0 left source spent (Before run) (RemovesBehind (and_then run event) spent.file.0) lane target moved dropped (told_calls later) old new run place said ran w apart s.within counts
+                (ap (λ (f : FileNo). f.0 ∷ []) (sym w.file), ap (λ (f : FileNo). was_pinned (and_then run event) f.0) w.file ∙ (pinned ∙ ap (λ (b : Bool). not b) free)) at.1,
+          ))
       | inr held ↦ at_next next work spent (at.0 ++ spent ∷ []) left new (and_then run event) place said is (subst (λ (b : Bool). IsBehindSwitch b work next.stage) held to)
           (switched_way t next at.0 left source spent (Before run) (GoesOnBehind (and_then run event)) lane target moved dropped (told_calls later) old new run place said ran w apart s.within counts (source.file.0, refl, pinned ∙ ap (λ (b : Bool). not b) held) at.1)
     ])

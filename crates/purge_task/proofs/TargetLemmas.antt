@@ -43,8 +43,8 @@ made_way t next done left lane target calls old new run place said map ran dropp
   taken = subst (λ (es : List RunEvent). HaveTaken done left es) (sym is) (taken_still done left own event refl refl refl h.taken);
   copied = λ runs. subst (λ (m : _). All (HaveCopied m (own_events place (and_then run event))) left) (sym map) (subst (λ (es : List RunEvent). All (HaveCopied old.map es) left) (sym is)
       (All-weaker (HaveCopied old.map own) (HaveCopied old.map (own ++ event ∷ [])) (λ s c. All-weaker (λ (row : MapRecord). row.file ≡ s.file.0 → list_any (λ (e : RunEvent). is_one_of e.copied row.uid) own ≡ list_any (λ place. place.uid.0 == row.uid) s.copied.items)
-          (λ (row : MapRecord). row.file ≡ s.file.0 → list_any (λ (e : RunEvent). is_one_of e.copied row.uid) (own ++ event ∷ []) ≡ list_any (λ place. place.uid.0 == row.uid) s.copied.items)
-          (λ row e here. any_still (λ (x : RunEvent). is_one_of x.copied row.uid) own event refl ∙ e here) old.map.records c) left (h.copied ran)));
+      (λ (row : MapRecord). row.file ≡ s.file.0 → list_any (λ (e : RunEvent). is_one_of e.copied row.uid) (own ++ event ∷ []) ≡ list_any (λ place. place.uid.0 == row.uid) s.copied.items)
+      (λ row e here. any_still (λ (x : RunEvent). is_one_of x.copied row.uid) own event refl ∙ e here) old.map.records c) left (h.copied ran)));
   counted = record {
     dropped =
         let a = sum_push (λ (e : RunEvent). sum_by dropped_in e.map_entries) own event in
@@ -92,18 +92,18 @@ target_steps after t next work source left target disk files old before later be
     ∙ (ap (λ (o : Option TakenFile). purge_goes_on around run o) taken
     ∙ ap (λ (b : Bool). if b then Some MakesTarget else (if list_any (λ row. row.file == source.file.0) (map_of run).records then Some Switches else Some RemovesFile)) (ap (λ (n : ℕ). nat_lt 0 n) number ∙ some_number target.0 some)) in
     let so = did_part around after run lane place said lists (seen_in old before began) (seen_in new later faults) (target_event 0 0 target.0 0)
-        (record {
-          next = next_one;
-          finds = tt;
-          allowed = refl;
-          did = (taken_of source, taken, ap (λ (n : ℕ). target_event lane place n (told_calls later)) (sym number));
-          fits = All-nil _;
-          no_step = refl;
-          goes_on = λ e. let k = copies_some (and_then run event) (own_events place (and_then run event)) in never_some k.0 (sym k.1 ∙ e);
-          found = λ looked. tt;
-          no_guid = refl;
-        })
-        (target_comes run lane place target.0 disk files old before later began faults come ran made (unused run come) (λ guid own file. ungiven run guid come own file) leaves.grows) shows ran ran (record { stops = λ s. leaves.moments lists s.0; settled = λ s. leaves.rests lists s.0 }) leaves.grows leaves.mail leaves.quiet in
+    (record {
+      next = next_one;
+      finds = tt;
+      allowed = refl;
+      did = (taken_of source, taken, ap (λ (n : ℕ). target_event lane place n (told_calls later)) (sym number));
+      fits = All-nil _;
+      no_step = refl;
+      goes_on = λ e. let k = copies_some (and_then run event) (own_events place (and_then run event)) in never_some k.0 (sym k.1 ∙ e);
+      found = λ looked. tt;
+      no_guid = refl;
+    })
+    (target_comes run lane place target.0 disk files old before later began faults come ran made (unused run come) (λ guid own file. ungiven run guid come own file) leaves.grows) shows ran ran (record { stops = λ s. leaves.moments lists s.0; settled = λ s. leaves.rests lists s.0 }) leaves.grows leaves.mail leaves.quiet in
     stands_so around after run lane place said lists (seen_in old before began) (seen_in new later faults) next.did None event None (IsAtPurge next new)
     (subst (λ (d : Did). DidSo around after run lane place said lists (seen_in old before began) (seen_in new later faults) d None event None) (sym how) so)
     (λ none. subst (λ (x : PurgeStage). IsAtStage x next new (and_then run event) place said) (sym to)

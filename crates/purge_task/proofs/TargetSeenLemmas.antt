@@ -91,9 +91,9 @@ target_comes {D = D} run lane place target disk files old before_ after began fa
         instances = λ row. placed_still run event row refl refl ∙ t.instances row;
         files = λ n unsealed known. elim (there_before run event (seen_in old before_ began) n t refl unsealed known) [
           | inl there ↦ elim (cases_eq n target) [
-              | inl same ↦ subst (λ (i : ℕ). knows_file new i ≡ true) (sym same) here
-              | inr apart ↦ knows_other n apart ∙ there
-            ]
+            | inl same ↦ subst (λ (i : ℕ). knows_file new i ≡ true) (sym same) here
+            | inr apart ↦ knows_other n apart ∙ there
+          ]
           | inr is ↦ subst (λ (i : ℕ). knows_file new i ≡ true) (eqb-true target n (sym (one_alone target n) ∙ is)) here
         ];
       };
