@@ -3,11 +3,14 @@ pub mod CopyStepLemmas
 pub mod EventLemmas
 pub mod FailLemmas
 pub mod FreeInstanceLemmas
+pub mod GoneCallLemmas
 pub mod GoneLemmas
 pub mod InstanceSeenLemmas
 pub mod KeptLemmas
 pub mod LeavingLemmas
+pub mod NumberLemmas
 pub mod PartLemmas
+pub mod RemovalCallLemmas
 pub mod RemovalLemmas
 pub mod RemovalSeenLemmas
 pub mod RunLemmas

@@ -1,14 +1,17 @@
 // The task of a purge.
-ghost use Rattle.std.specs.Prelude.{◌≡◌, ◌≢◌, ◌↔◌, true, false};
+ghost use Rattle.std.specs.Prelude.{◌≡◌, ◌<◌, ◌↔◌, length, true, false, Some, None};
 ghost use Rattle.disk_model.specs.FaultCounts.{NoFault};
+ghost use Rattle.mdbox_base.specs.Words.{IsOctets};
 ghost use Rattle.mdbox_base.specs.declared.progress.Did.TheVariants as did;
 ghost use Rattle.mdbox_base.specs.declared.progress.Progress.TheVariants as progress;
 ghost use Rattle.mdbox_base.specs.declared.replies.Refusal.TheVariants as refusal;
 ghost use Rattle.mdbox_base.specs.declared.replies.Reply.{Reply as ReplyValue};
 ghost use Rattle.mdbox_base.specs.declared.replies.Reply.TheVariants as reply;
+ghost use Rattle.store_core.specs.Removing.{useless_past};
 ghost use Rattle.task_claims.specs.Claims.{ClaimsNothing, MovesClaims};
 ghost use Rattle.task_claims.specs.Leaving.{LeavesOthers};
 ghost use Rattle.purge_task.specs.Claims.{purge_claims};
+ghost use Rattle.purge_task.specs.Clause.{IsPurgeStep, at_stage};
 ghost use Rattle.purge_task.specs.Keeping.{HasPurged};
 ghost use Rattle.purge_task.specs.declared.task.PurgeStage.TheVariants as stage;
 
@@ -17,7 +20,7 @@ use crate::finding::{Found, TARGET_HEADER};
 use crate::switching::switch;
 use crate::work::{Source, Work, entry_size};
 use disk_model::Disk;
-use mdbox_base::{Did, FileNo, Half, Progress, Refusal, Reply};
+use mdbox_base::{Did, FileNo, Half, InstId, Progress, Refusal, Reply};
 use std::marker::Model;
 use std::mem;
 use storage_files::Take;
@@ -218,15 +221,38 @@ impl PurgeTask {
     }
 
     /// Removes the next instance that nobody needs, or gives the reply.
-    fn remove_instance<D: Disk>(&mut self, store: &mut Store<D>) -> Progress {
-        let Some(id) = store.next_useless(None) else {
-            self.did = Did::Step(Half::Whole);
-            return Progress::Done(Reply::Purged {
-                dropped: self.done.dropped,
-                files: self.done.files,
-                instances: self.done.instances,
-            });
-        };
+    fn remove_instance<D: Disk>(&mut self, store: &mut Store<D>) -> Progress
+        requires running { store.old.stopped ≡ false }
+        requires fits { self.old.instances < 18446744073709551615 }
+        requires first { self.old.stage ≡ stage.First }
+        requires quiet { self.old.did ≡ did.Quiet }
+        ensures { IsPurgeStep (at_stage stage.Instances self.old) self.new result store.old store.new (D.history store.old.disk) (D.history store.new.disk) (D.faults store.old.disk) (D.faults store.new.disk) }
+    {
+        store.facts();
+        match store.next_useless(None) {
+            Some(id) => self.remove_useless(store, id),
+            None => {
+                self.did = Did::Step(Half::Whole);
+                Progress::Done(Reply::Purged {
+                    dropped: self.done.dropped,
+                    files: self.done.files,
+                    instances: self.done.instances,
+                })
+            }
+        }
+    }
+
+    /// Removes this instance, which is the next one that nobody needs.
+    fn remove_useless<D: Disk>(&mut self, store: &mut Store<D>, id: InstId) -> Progress
+        requires running { store.old.stopped ≡ false }
+        requires fits { self.old.instances < 18446744073709551615 }
+        requires first { self.old.stage ≡ stage.First }
+        requires quiet { self.old.did ≡ did.Quiet }
+        requires useless { useless_past None store.old.map store.old.instances.known ≡ Some id }
+        ensures { IsPurgeStep (at_stage stage.Instances self.old) self.new result store.old store.new (D.history store.old.disk) (D.history store.new.disk) (D.faults store.old.disk) (D.faults store.new.disk) }
+    {
+        store.facts();
+        known_id(id);
         match store.remove_instance(id) {
             Ok(()) => {
                 self.done.instances += 1;
@@ -239,6 +265,21 @@ impl PurgeTask {
             }
         }
     }
+}
+
+/// An id has 16 octets.
+fn known_id(id: InstId)
+    ensures long { length id.0 ≡ 16 }
+    ensures octets { IsOctets id.0 }
+{
+    known_octets(&id.0);
+}
+
+/// Octets are below 256.
+fn known_octets(octets: &[u8])
+    ensures { IsOctets octets.now }
+{
+    let _length = octets.len();
 }
 
 /// Takes all memory that a purge of these files needs, its own and the store's.
