@@ -1,11 +1,10 @@
 // The switch of a storage file: from then on the map names copies in place of its regions.
-ghost use Rattle.std.specs.Prelude.{◌≡◌, ◌≢◌, ◌≤◌, ◌<◌, ◌+◌, ◌*◌, ◌∷◌, [], ℕ, List, true, false, length, All, AllPairs, Some, IfOk, IfErr, IsErr, OnOk};
+ghost use Rattle.std.specs.Prelude.{◌≡◌, ◌≢◌, ◌≤◌, ◌<◌, ◌+◌, ◌*◌, ◌∷◌, ◌++◌, [], ℕ, List, true, false, length, AllPairs, vec_len, vec_capacity, Some, IfOk, IfErr, IsErr, OnOk};
 ghost use Rattle.disk_model.specs.Disk.{Grows};
 ghost use Rattle.disk_model.specs.FaultCounts.{NoFault, ChangeFaultCounted};
 ghost use Rattle.mdbox_base.specs.declared.replies.Refusal.TheVariants as refusal;
 ghost use Rattle.model_kept.specs.Kept.{MailIsKept};
 ghost use Rattle.model_lists.specs.Lists.{Lists};
-ghost use Rattle.model_meaning.specs.MapFits.{HasRecord};
 ghost use Rattle.model_meaning.specs.MapMeaning.{MapRecord, record_at};
 ghost use Rattle.model_meaning.specs.Sound.{IsSoundMap};
 ghost use Rattle.model_store.specs.Settled.{IsSettledFor, Leaves};
@@ -13,14 +12,14 @@ ghost use Rattle.store_core.specs.Dues.{IsSpared, KeepsStored, due_at, leak_at};
 ghost use Rattle.store_core.specs.Keeping.{KeepsFirm};
 ghost use Rattle.purge_task.specs.Claims.{sources_left};
 ghost use Rattle.purge_task.specs.Found.{messages_in};
-ghost use Rattle.purge_task.specs.Reserved.{HasListRoom};
-ghost use Rattle.purge_task.specs.Switched.{IsListed, IsReadyToSwitch, IsSwitched, ReadsMail, switch_entry};
+ghost use Rattle.purge_task.specs.Switched.{IsListed, IsReadyToSwitch, AreDropped, AreMoved, AreUnwanted, IsSwitched, ReadsMail, is_wanted_at, switch_entry};
 ghost use Rattle.purge_task.specs.declared.work.Source.{Source as SourceValue};
 
 use crate::work::{Source, Work};
 use disk_model::Disk;
 use log_records::map_entry_size;
 use map_index::MapIndex;
+use map_rows::MapRow;
 use mdbox_base::{FileNo, MapEntry, MapPlace, MapUid, Refusal, Seq};
 use std::alloc::Global;
 use std::mem;
@@ -141,8 +140,7 @@ fn append<D: Disk>(
 fn list_records(map: &MapIndex, source: &mut Source)
     requires sound { IsSoundMap map.now.meaning }
     requires once { AllPairs (λ a b. a.uid.0 ≢ b.uid.0) source.old.copied.items }
-    requires here { All (λ place. HasRecord map.now.meaning place.uid.0 (λ row. row.file ≡ source.old.file.0)) source.old.copied.items }
-    requires room { HasListRoom (messages_in map.now.meaning source.old.file.0) source.old }
+    requires room { messages_in map.now.meaning source.old.file.0 ≤ vec_capacity source.old.dropped }
     requires undropped { source.old.dropped.items ≡ [] }
     ensures { IsListed map.now.meaning source.old source.new }
 {
@@ -151,19 +149,57 @@ fn list_records(map: &MapIndex, source: &mut Source)
 }
 
 /// Keeps the copies of those messages that are still wanted, in order of map uid.
-fn list_moved(map: &MapIndex, copied: &mut Vec<MapPlace>) {
-    copied.retain(|place| map.row(place.uid).map_or(false, |row| row.count > 0));
+fn list_moved(map: &MapIndex, copied: &mut Vec<MapPlace>)
+    requires once { AllPairs (λ a b. a.uid.0 ≢ b.uid.0) copied.old.items }
+    ensures { AreMoved map.now.meaning copied.old.items copied.new.items }
+{
+    copied.retain(|place| is_wanted(map, place.uid));
     copied.sort_unstable_by_key(|place| place.uid.0);
 }
 
+/// Whether a message is wanted.
+fn is_wanted(map: &MapIndex, uid: MapUid) -> bool
+    ensures { result ≡ is_wanted_at map.now.meaning uid.0 }
+{
+    match map.row(uid) {
+        Some(row) => row.count > 0,
+        None => false,
+    }
+}
+
 /// Lists the messages of a file that aren't wanted, in order of map uid.
-fn list_dropped(map: &MapIndex, file: FileNo, dropped: &mut Vec<MapUid>) {
+fn list_dropped(map: &MapIndex, file: FileNo, dropped: &mut Vec<MapUid>)
+    requires sound { IsSoundMap map.now.meaning }
+    requires room { messages_in map.now.meaning file.0 ≤ vec_capacity dropped.old }
+    requires empty { dropped.old.items ≡ [] }
+    ensures { AreDropped map.now.meaning file.0 dropped.new.items }
+{
+    find_unwanted(map, file, dropped);
+    dropped.sort_unstable_by_key(|uid| uid.0);
+}
+
+/// Lists the messages of a file that aren't wanted, in order of offset.
+fn find_unwanted(map: &MapIndex, file: FileNo, dropped: &mut Vec<MapUid>)
+    requires sound { IsSoundMap map.now.meaning }
+    requires room { messages_in map.now.meaning file.0 ≤ vec_capacity dropped.old }
+    requires empty { dropped.old.items ≡ [] }
+    ensures { AreUnwanted map.now.meaning file.0 dropped.new.items }
+{
     let mut from = 0;
     while let Some(row) = map.in_file(file, from) {
-        if row.count == 0 {
-            dropped.push_reserved(row.uid);
-        }
+        add_unwanted(dropped, row);
         from = row.offset + row.size;
     }
-    dropped.sort_unstable_by_key(|uid| uid.0);
+}
+
+/// Lists a message if it isn't wanted.
+fn add_unwanted(dropped: &mut Vec<MapUid>, row: MapRow)
+    requires { vec_len dropped.old < vec_capacity dropped.old }
+    ensures unwanted { row.count ≡ 0 → dropped.new.items ≡ dropped.old.items ++ row.uid ∷ [] }
+    ensures wanted { (row.count ≡ 0 → ⊥) → dropped.new.items ≡ dropped.old.items }
+    ensures capacity { vec_capacity dropped.new ≡ vec_capacity dropped.old }
+{
+    if row.count == 0 {
+        dropped.push_reserved(row.uid);
+    }
 }

@@ -1,0 +1,12 @@
+pub mod CleanLemmas
+pub mod ContentsLemmas
+pub mod CopyLemmas
+pub mod FindLemmas
+pub mod HeaderLemmas
+pub mod ListingLemmas
+pub mod NextLemmas
+pub mod ReadingLemmas
+pub mod SwitchFitLemmas
+pub mod SwitchReadyLemmas
+pub mod WalkLemmas
+pub mod WorkLemmas
