@@ -1,12 +1,13 @@
 pub mod CleanLemmas
 pub mod ContentsLemmas
-pub mod CopyLemmas
 pub mod FindLemmas
 pub mod HeaderLemmas
 pub mod ListingLemmas
 pub mod NextLemmas
 pub mod ReadingLemmas
+pub mod RegionLemmas
 pub mod SwitchFitLemmas
 pub mod SwitchReadyLemmas
+pub mod SwitchedLemmas
 pub mod WalkLemmas
 pub mod WorkLemmas

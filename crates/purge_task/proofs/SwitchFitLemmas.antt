@@ -88,10 +88,10 @@ ends_before m a b h = let le = h.2 in let e : size_at m a.uid.0 ≡ h.0.size = a
 apart_any : (m : MapMeaning) (copied : List MapPlace) (a b : MapPlace) → AllPairs (λ x y. HasRecord m x.uid.0 (λ row. x.offset + row.size ≤ y.offset)) copied → Contains copied a → Contains copied b → a.uid.0 ≢ b.uid.0 → ArePlacedApart m a b
 apart_any m copied a b follow (i, li, ei) (j, lj, ej) differ =
     elim (cases_lt i j) [
-      | inl lt ↦ inl (ends_before m a b (subst (λ (x : MapPlace). HasRecord m x.uid.0 (λ row. x.offset + row.size ≤ b.offset)) (sym (get_or_default copied i b a li) ∙ ei) (subst (λ (y : MapPlace). HasRecord m (get_or copied i b).uid.0 (λ row. (get_or copied i b).offset + row.size ≤ y.offset)) ej (follow i j b lt lj))))
+      | inl lt ↦ inl (ends_before m a b (subst (λ (x : MapPlace). HasRecord m x.uid.0 (λ row. x.offset + row.size ≤ b.offset)) (get_or_default copied i b a li ∙ ei) (subst (λ (y : MapPlace). HasRecord m (get_or copied i b).uid.0 (λ row. (get_or copied i b).offset + row.size ≤ y.offset)) ej (follow i j b lt lj))))
       | inr ge ↦ elim (cases_eq i j) [
         | inl same ↦ absurd (differ (ap (λ (x : MapPlace). x.uid.0) (sym ei ∙ ap (λ (k : ℕ). get_or copied k a) same ∙ get_or_default copied j a b lj ∙ ej)))
-        | inr other ↦ inr (ends_before m b a (subst (λ (x : MapPlace). HasRecord m x.uid.0 (λ row. x.offset + row.size ≤ a.offset)) (sym (get_or_default copied j a b lj) ∙ ej) (subst (λ (y : MapPlace). HasRecord m (get_or copied j a).uid.0 (λ row. (get_or copied j a).offset + row.size ≤ y.offset)) ei (follow j i a (omega (arith, ge, other)) li))))
+        | inr other ↦ inr (ends_before m b a (subst (λ (x : MapPlace). HasRecord m x.uid.0 (λ row. x.offset + row.size ≤ a.offset)) (get_or_default copied j a b lj ∙ ej) (subst (λ (y : MapPlace). HasRecord m (get_or copied j a).uid.0 (λ row. (get_or copied j a).offset + row.size ≤ y.offset)) ei (follow j i a (omega (arith, ge, other)) li))))
       ]
     ]
 
@@ -147,7 +147,7 @@ no_more p (x ∷ xs) (u ∷ us) rising up stand =
         let e = here.0 in
         let behind : All (StandsFor xs p) us = λ k d lt. stands_behind x xs p (get_or us k d) (λ s. let l = pairs_head (λ a b. a < b) u us up k d lt in omega (arith, l, s, e)) (All-tail (StandsFor (x ∷ xs) p) u us stand k d lt) in
         let rest = no_more p xs us tail (pairs_tail (λ a b. a < b) u us up) behind in
-        let one : cond (p x) 1 0 ≡ 1 = ap (λ (b : Bool). cond b 1 0) here.1 in
+        let one : ◌≡◌ {A = ℕ} (cond (p x) 1 0) 1 = ap (λ (b : Bool). cond b 1 0) here.1 in
         omega (arith, sum, rest, one)
       )
       | inr later ↦ (

@@ -2,7 +2,10 @@
 use Rattle.std.proofs.Common.{◌≡◌, ◌≢◌, inl, inr, ℕ, ◌+◌, ◌*◌, ◌<◌, ◌≤◌, ◌==◌, ◌||◌, Bool, true, false, cond, Option, Some, None, List, [], ◌∷◌, length, get_or, take, drop, map, All, refl, sym, ap, subst, ◌∙◌, arith}
 use Rattle.std.specs.Prelude.{AllPairs, ◌⊎◌, ◌↔◌, Contains, IfSome, find}
 use Rattle.std.specs.Option.{option_map, option_map_or, option_and_then}
-use Rattle.std.proofs.lemmas.Bool.{cases_eq, cases_Bool}
+use Rattle.std.specs.Vec.{with_item}
+use Rattle.std.proofs.lemmas.Bool.{cases_eq, cases_lt, cases_Bool}
+use Rattle.std.proofs.lemmas.List.{drop_all, drop_more, drop-set}
+use Rattle.std.proofs.Common.{set}
 use Rattle.std.proofs.lemmas.List.Elements.{All-nil, All-contains, All-weaker, All-head, All-tail, All-cons}
 use Rattle.disk_model.specs.Disk.{DiskState, Files, History, IfTold, IsImage, Keeps, MayLeave, reading}
 use Rattle.disk_model.specs.declared.name.FileName.TheVariants as file
@@ -28,15 +31,19 @@ use Rattle.store_core.specs.Running.{IsStore}
 use Rattle.store_core.specs.Switching.{HasCopies, HasCopiesSynced, PlacesLieBelow, Switches}
 use Rattle.store_core.specs.Value.{StoreValue}
 use Rattle.store_core.proofs.BoxAppendLemmas.{store_sound}
+use Rattle.map_index.specs.Kept.{IsMapInOrder}
+use Rattle.purge_task.specs.Claims.{sources_left}
+use Rattle.purge_task.specs.Reserved.{IsPresent}
+use Rattle.purge_task.specs.declared.work.Present.{Present}
 use Rattle.purge_task.specs.Found.{messages_in}
-use Rattle.purge_task.specs.Switched.{AreListed, IsEntryOf, IsReadyAppend, IsReadyToSwitch, IsTargetWritten, IsWritten, KeepsTarget, ReadsMail, target_named, target_synced}
+use Rattle.purge_task.specs.Switched.{AreListed, IsEntryOf, IsFirst, IsListable, SpendsFirst, mid_of, IsReadyAppend, IsReadyToSwitch, IsTargetWritten, IsWritten, KeepsTarget, ReadsMail, target_named, target_synced}
 use Rattle.purge_task.specs.declared.work.Source.{Source}
 use Rattle.purge_task.specs.declared.work.Work.{Work}
 use Rattle.purge_task.proofs.SwitchFitLemmas.{IsFitTarget, TargetFits, entry_fits, entry_in_range, entry_short, none_moved, record_here}
 
 -- ---- what is known of a file whose placing has ended
 
-kept_or : {X : Type 0} → (value : MailFile → X) (d : X) (n m : ℕ) (files : List MailFile) → ((f : MailFile) → value (placing_ended f) ≡ value f) → option_map_or value (file_in m (changed_in n placing_ended files)) d ≡ option_map_or value (file_in m files) d
+pub kept_or : {X : Type 0} → (value : MailFile → X) (d : X) (n m : ℕ) (files : List MailFile) → ((f : MailFile) → value (placing_ended f) ≡ value f) → option_map_or value (file_in m (changed_in n placing_ended files)) d ≡ option_map_or value (file_in m files) d
 kept_or value d n m files same = elim (cases_eq m n) [
   | inl is ↦ subst (λ (k : ℕ). option_map_or value (file_in k (changed_in n placing_ended files)) d ≡ option_map_or value (file_in k files) d) (sym is) (ap (λ (o : Option MailFile). option_map_or value o d) (file-here n placing_ended files (λ f. refl)) ∙ mapped (file_in n files))
   | inr other ↦ ap (λ (o : Option MailFile). option_map_or value o d) (file-other n m placing_ended files (λ f. refl) other)
@@ -46,11 +53,11 @@ kept_or value d n m files same = elim (cases_eq m n) [
     mapped None = refl
     mapped (Some f) = same f
 
-synced_or : {X : Type 0} → (value : MailFile → X) (d : X) (target : Option FileNo) (m : ℕ) (files : List MailFile) → ((f : MailFile) → value (placing_ended f) ≡ value f) → option_map_or value (file_in m (target_synced target files)) d ≡ option_map_or value (file_in m files) d
+pub synced_or : {X : Type 0} → (value : MailFile → X) (d : X) (target : Option FileNo) (m : ℕ) (files : List MailFile) → ((f : MailFile) → value (placing_ended f) ≡ value f) → option_map_or value (file_in m (target_synced target files)) d ≡ option_map_or value (file_in m files) d
 synced_or value d None m files same = refl
 synced_or value d (Some t) m files same = kept_or value d t.0 m files same
 
-synced_end : (target : Option FileNo) (m : ℕ) (files : List MailFile) → end_in m (target_synced target files) ≡ end_in m files
+pub synced_end : (target : Option FileNo) (m : ℕ) (files : List MailFile) → end_in m (target_synced target files) ≡ end_in m files
 synced_end None m files = refl
 synced_end (Some t) m files = ends-kept t.0 m placing_ended files (λ f. refl) (λ f. refl)
 
@@ -114,8 +121,8 @@ copied_still a b target offset row same c = record {
 }
 
 -- of what is moved each was copied
-moved_copies : {P : MapPlace → Type 0} → (m : MapMeaning) (number : ℕ) (copied moved : List MapPlace) (dropped : List MapUid) → AreListed m number copied moved dropped → All P copied → All P moved
-moved_copies {P = P} m number copied moved dropped listed all = λ k d lt. All-contains P copied (get_or moved k d) all (listed.moved_copied k d lt).0
+moved_copies : (P : MapPlace → Type 0) (m : MapMeaning) (number : ℕ) (copied moved : List MapPlace) (dropped : List MapUid) → AreListed m number copied moved dropped → All P copied → All P moved
+moved_copies P m number copied moved dropped listed all = λ k d lt. All-contains P copied (get_or moved k d) all (listed.moved_copied k d lt).0
 
 copies_as : {D : Type 0} → (old mid : StoreValue D) (h k : Option History) (target : Option FileNo) (number : ℕ) (copied : List MapPlace) (dropped : List MapUid) (source : Source) (moved ps : List MapPlace) → moved ≡ ps → ReadsMail h k → AreListed old.map number copied moved dropped → copied ≡ source.copied.items → IsTargetWritten target source old h
     → IfTold k (λ now. AreCopied (files_of now) old.map (target_named target ps) ps)
@@ -129,7 +136,7 @@ copies_as old mid None (Some e) target number copied dropped source moved (place
 copies_as old mid (Some d) (Some e) None number copied dropped source moved (place ∷ rest) is reads listed same written = none_moved old.map number copied moved dropped place rest listed (same ∙ written) is
 copies_as old mid (Some d) (Some e) (Some t) number copied dropped source moved (place ∷ rest) is reads listed same written =
     let all : All (λ p. HasRecord old.map p.uid.0 (IsCopiedTo (files_of d.now) t.0 p.offset)) copied = subst (All (λ p. HasRecord old.map p.uid.0 (IsCopiedTo (files_of d.now) t.0 p.offset))) (sym same) written.octets in
-    let here = moved_copies {P = λ p. HasRecord old.map p.uid.0 (IsCopiedTo (files_of d.now) t.0 p.offset)} old.map number copied moved dropped listed all in
+    let here = moved_copies (λ p. HasRecord old.map p.uid.0 (IsCopiedTo (files_of d.now) t.0 p.offset)) old.map number copied moved dropped listed all in
     let still = All-weaker (λ p. HasRecord old.map p.uid.0 (IsCopiedTo (files_of d.now) t.0 p.offset)) (λ p. HasRecord old.map p.uid.0 (IsCopiedTo (files_of e.now) t.0 p.offset)) (λ p c. (c.0, c.1, copied_still d.now e.now t.0 p.offset c.0 reads.0 c.2)) moved here in
     subst (All (λ p. HasRecord old.map p.uid.0 (IsCopiedTo (files_of e.now) t.0 p.offset))) is still
 
@@ -159,7 +166,7 @@ synced_as old None (Some e) target number copied dropped source moved (place ∷
 synced_as old (Some d) (Some e) None number copied dropped source moved (place ∷ rest) is reads held listed same written = none_moved old.map number copied moved dropped place rest listed (same ∙ written) is
 synced_as old (Some d) (Some e) (Some t) number copied dropped source moved (place ∷ rest) is reads held listed same written =
     let all : All (λ p. HasRecord old.map p.uid.0 (IsCopiedTo (files_of d.now) t.0 p.offset)) copied = subst (All (λ p. HasRecord old.map p.uid.0 (IsCopiedTo (files_of d.now) t.0 p.offset))) (sym same) written.octets in
-    let here = moved_copies {P = λ p. HasRecord old.map p.uid.0 (IsCopiedTo (files_of d.now) t.0 p.offset)} old.map number copied moved dropped listed all in
+    let here = moved_copies (λ p. HasRecord old.map p.uid.0 (IsCopiedTo (files_of d.now) t.0 p.offset)) old.map number copied moved dropped listed all in
     λ image is_image. subst (All (λ p. HasRecord old.map p.uid.0 (λ row. HasSameRegion (files_of e.now) image (record row { file = t.0; offset = p.offset })))) is
       (All-weaker (λ p. HasRecord old.map p.uid.0 (IsCopiedTo (files_of d.now) t.0 p.offset)) (λ p. HasRecord old.map p.uid.0 (λ row. HasSameRegion (files_of e.now) image (record row { file = t.0; offset = p.offset }))) (λ p c. (c.0, c.1, region_kept d.now e.now t.0 p image c.0 held written.stays is_image c.2)) moved here)
 
@@ -181,7 +188,7 @@ places_below h k old mid source (Some t) dropped moved (place ∷ rest) same is 
     let taken : is_taken_in t.0 mid.files.files ≡ true = ap (is_taken_in t.0) files ∙ synced_or (λ f. f.taken) false source.target t.0 old.files.files (λ f. refl) ∙ written.taken in
     let f = file_with (λ f. f.taken) (file_in t.0 mid.files.files) taken in
     let ends : end_in t.0 mid.files.files ≡ Some written.end = ap (end_in t.0) files ∙ synced_end source.target t.0 old.files.files ∙ written.ends in
-    let within : All (λ p. HasRecord mid.map p.uid.0 (λ row. p.offset + row.size ≤ written.end)) moved = subst (λ (m : MapMeaning). All (λ p. HasRecord m p.uid.0 (λ row. p.offset + row.size ≤ written.end)) moved) (sym maps) (moved_copies {P = λ p. HasRecord old.map p.uid.0 (λ row. p.offset + row.size ≤ written.end)} old.map source.file.0 source.copied.items moved dropped listed written.within) in
+    let within : All (λ p. HasRecord mid.map p.uid.0 (λ row. p.offset + row.size ≤ written.end)) moved = subst (λ (m : MapMeaning). All (λ p. HasRecord m p.uid.0 (λ row. p.offset + row.size ≤ written.end)) moved) (sym maps) (moved_copies (λ p. HasRecord old.map p.uid.0 (λ row. p.offset + row.size ≤ written.end)) old.map source.file.0 source.copied.items moved dropped listed written.within) in
     (drawn_of k mid t.0 f.0 is order f.1, subst (All (λ p. HasRecord mid.map p.uid.0 (λ row. LiesBelowEnd mid.map.store mid.files.files (record row { file = t.0; offset = p.offset })))) same (λ i d lt. place_below k mid t.0 written.end f.0 (get_or moved i d) is order f.1 f.2 ends (within i d lt)))
 
 pub entry_ready : {D : Type 0} → (h k : Option History) (old mid : StoreValue D) (source : Source) (work : Work) (entry : MapEntry) → IsStore k mid → AreFilesInOrder mid.files → length mid.map.records ≤ 4294967295 → mid.map ≡ old.map → mid.map_log ≡ old.map_log → mid.files.files ≡ target_synced source.target old.files.files
@@ -211,3 +218,56 @@ entry_ready h k old mid source work entry is order few maps logs files reads hel
       },
       omega (arith, short, text),
     )
+
+-- ---- the present source
+
+pub heads : (xs : List Source) (a b : Source) (left rest : List Source) → xs ≡ a ∷ left → xs ≡ b ∷ rest → a ≡ b
+heads xs a b left rest e f = let w : a ∷ left ≡ b ∷ rest = sym e ∙ f in cc w
+
+pub first_is : (P : Source → Type 0) (xs : List Source) (source : Source) (left : List Source) → xs ≡ source ∷ left → IsFirst xs P → P source
+first_is P xs source left e first = let h : IsFirst (source ∷ left) P = subst (λ (ys : List Source). IsFirst ys P) e first in h
+
+pub spent_is : (xs ys : List Source) (source : Source) (left : List Source) → xs ≡ source ∷ left → SpendsFirst xs ys → (spent : Source) × (ys ≡ spent ∷ left) × (spent.file ≡ source.file) × (spent.target ≡ source.target)
+spent_is xs ys source left e spends = let h : SpendsFirst (source ∷ left) ys = subst (λ (zs : List Source). SpendsFirst zs ys) e spends in h
+
+-- the target is synced, and the entry can be appended
+pub record IsPrepared {D : Type 0} (source : Source) (present : Present) (work : Work) (entry : MapEntry) (old mid : StoreValue D) (k : Option History) : Type 0 where
+  pub file_is : present.file ≡ source.file
+  pub target_is : present.target ≡ source.target
+  pub first : mid ≡ mid_of source.target mid.disk old
+  pub of : IsEntryOf old.map source entry
+  pub append : IsReadyAppend present.file.0 entry mid k
+  pub text : length (map_text entry) ≤ length work.text.items
+
+pub prepared : {D : Type 0} → (work : Work) (source : Source) (left rest : List Source) (present : Present) (entry : MapEntry) (old mid : StoreValue D) (h k : Option History) (m1 m2 : MapMeaning) → sources_left work ≡ source ∷ left → ((s : Source) × (sources_left work ≡ s ∷ rest) × IsPresent s present)
+    → mid ≡ mid_of present.target mid.disk old → IsStore k mid → AreFilesInOrder mid.files → IsMapInOrder m1 → m1 ≡ mid.map → m2 ≡ mid.map → ReadsMail h k → KeepsTarget present.target h k → IsReadyToSwitch source work old h → IsFirst (sources_left work) (λ s. IsEntryOf m2 s entry) → IsPrepared source present work entry old mid k
+prepared work source left rest present entry old mid h k m1 m2 e pres ok is order kept m1_is m2_is reads held ready firsts =
+    let same : pres.0 ≡ source = heads (sources_left work) pres.0 source rest left pres.1 e in
+    let file_is : present.file ≡ source.file = pres.2.0 ∙ ap (λ (s : Source). s.file) same in
+    let target_is : present.target ≡ source.target = pres.2.1 ∙ ap (λ (s : Source). s.target) same in
+    let first = subst (λ (t : Option FileNo). mid ≡ mid_of t mid.disk old) target_is ok in
+    let maps : mid.map ≡ old.map = ap (λ (v : StoreValue _). v.map) first in
+    let of = subst (λ (m : MapMeaning). IsEntryOf m source entry) (m2_is ∙ maps) (first_is (λ s. IsEntryOf m2 s entry) (sources_left work) source left e firsts) in
+    let few : length mid.map.records ≤ 4294967295 = subst (λ (m : MapMeaning). length m.records ≤ 4294967295) m1_is (let a = kept.records.few in let b = kept.fits in omega (arith, a, b)) in
+    let all = entry_ready h k old mid source work entry is order few maps (ap (λ (v : StoreValue _). v.map_log) first) (ap (λ (v : StoreValue _). v.files.files) first) reads (subst (λ (t : Option FileNo). KeepsTarget t h k) target_is held) ready of in
+    record {
+      file_is = file_is;
+      target_is = target_is;
+      first = first;
+      of = of;
+      append = subst (λ (f : FileNo). IsReadyAppend f.0 entry mid k) (sym file_is) all.0;
+      text = all.1;
+    }
+
+pub listable_of : {D : Type 0} → (work : Work) (source : Source) (left : List Source) (old mid : StoreValue D) (target : Option FileNo) (h : Option History) (m2 : MapMeaning) → sources_left work ≡ source ∷ left → mid ≡ mid_of target mid.disk old → m2 ≡ mid.map → IsReadyToSwitch source work old h → IsFirst (sources_left work) (IsListable m2)
+listable_of work source left old mid target h m2 e ok m2_is ready =
+    subst (λ (xs : List Source). IsFirst xs (IsListable m2)) (sym e) (subst (λ (m : MapMeaning). IsListable m source) (sym (m2_is ∙ ap (λ (v : StoreValue _). v.map) ok)) (record { once = ready.once; room = ready.lists.1; undropped = ready.undropped }))
+
+pub spends : (old : Work) (P : Source → Type 0) (item new : Source) → IsFirst (sources_left old) P → item ≡ get_or old.sources.items old.next item → new.file ≡ item.file → new.target ≡ item.target → SpendsFirst (sources_left old) (sources_left (record old { sources = with_item old.sources old.next new }))
+spends old P item new first read file_is target_is =
+    let lt : old.next < length old.sources.items = elim (cases_lt old.next (length old.sources.items)) [
+      | inl l ↦ l
+      | inr ge ↦ absurd (subst (λ (xs : List Source). IsFirst xs P) (drop_all old.next old.sources.items ge) first)
+    ] in
+    let before : sources_left old ≡ item ∷ drop (old.next + 1) old.sources.items = drop_more old.sources.items old.next item lt ∙ ap (λ (s : Source). s ∷ drop (old.next + 1) old.sources.items) (sym read) in
+    subst (λ (xs : List Source). SpendsFirst xs (drop old.next (set old.sources.items old.next new))) (sym before) (new, drop-set old.sources.items old.next new lt, file_is, target_is)

@@ -1,5 +1,5 @@
 -- The lists of what a purge works on.
-use Rattle.std.proofs.Common.{◌≡◌, inl, inr, ℕ, zero, suc, ◌+◌, ◌<◌, ◌≤◌, Option, Some, None, List, [], ◌∷◌, length, get_or, take, drop, refl, sym, ap, subst, ◌∙◌, arith}
+use Rattle.std.proofs.Common.{◌≡◌, inl, inr, ℕ, zero, suc, ◌+◌, ◌<◌, ◌≤◌, Option, Some, None, List, [], ◌∷◌, ◌++◌, Vec, Global, length, get_or, take, drop, refl, sym, ap, subst, ◌∙◌, arith}
 use Rattle.std.specs.Prelude.{slice_get, ◌⊎◌}
 use Rattle.std.specs.Vec.{with_item}
 use Rattle.std.specs.List.{AllZip}
@@ -44,3 +44,22 @@ noted row offset old item new room read with_copy =
 
 pub zipped : (files : List FoundFile) (sources : List Source) (n : ℕ) → length files ≤ n → AllZip IsNewSource (take n files) sources → AllZip IsNewSource files sources
 zipped files sources n le h = subst (λ (fs : List FoundFile). AllZip IsNewSource fs sources) (take_all n files le) h
+
+pub zip_push : {X Y : Type 0} → (R : X → Y → Type 0) (xs : List X) (ys : List Y) (x : X) (y : Y) → AllZip R xs ys → R x y → AllZip R (xs ++ x ∷ []) (ys ++ y ∷ [])
+zip_push R [] [] x y h r = (r, tt)
+zip_push R [] (b ∷ ys) x y h r = elim h [ ]
+zip_push R (a ∷ xs) [] x y h r = elim h [ ]
+zip_push R (a ∷ xs) (b ∷ ys) x y h r = (h.0, zip_push R xs ys x y h.1 r)
+
+-- the block isn't looked at
+pub noted_later : (row : MapRow) (offset : ℕ) (old : Work) (block : Vec ℕ Global) (new : Work) → block.len ≡ old.block.len → NotesCopy row offset (record old { block = block }) new → NotesCopy row offset old new
+noted_later row offset old block new long n = record {
+  source = n.source;
+  noted = n.noted;
+  left = n.left;
+  before = n.before;
+  after = n.after;
+  with_copy = n.with_copy;
+  same = n.same;
+  block = n.block ∙ sym block.ok.0 ∙ long ∙ old.block.ok.0;
+}

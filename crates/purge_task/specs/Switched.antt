@@ -86,6 +86,10 @@ pub record IsEntryOf (m : MapMeaning) (source : Source) (entry : MapEntry) : Typ
   pub is : entry ≡ map_entry.P source.file (target_named source.target moved) moved dropped
   pub listed : AreListed m source.file.0 source.copied.items moved dropped
 
+abbrev pub dropped_count : MapEntry → ℕ
+dropped_count (map_entry.P number target moved dropped) = length dropped
+dropped_count entry = 0
+
 -- the source is spent for it, and those behind it are as they were
 abbrev pub SpendsFirst : List Source → List Source → Type 0
 SpendsFirst [] after = ⊥
@@ -105,6 +109,10 @@ target_synced (Some target) files = changed_in target.0 placing_ended files
 abbrev pub target_released : Option FileNo → List MailFile → List MailFile
 target_released None files = files
 target_released (Some target) files = released_in target.0 files
+
+-- the store with a target that was synced, and with another disk
+abbrev pub mid_of : {D : Type 0} → Option FileNo → D → StoreValue D → StoreValue D
+mid_of target disk v = record v { disk = disk; files = record v.files { files = target_synced target v.files.files } }
 
 -- octets are being placed in the target
 pub record IsPlacing {D : Type 0} (target : ℕ) (store : StoreValue D) : Type 0 where

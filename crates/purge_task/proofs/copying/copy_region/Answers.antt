@@ -1,6 +1,6 @@
 use Rattle.std.proofs.Common.{◌≡◌, ◌+◌, ◌∙◌, length, take, refl, sym, subst, arith}
 use Rattle.store_core.proofs.BoxAppendLemmas.{store_sound}
-use Rattle.purge_task.proofs.CopyLemmas.{IsCopying, HasPiece, begun_now, copying_begins, copying_fails, copying_more, counts_same, ends_now, piece_long, row_ends, same_end}
+use Rattle.purge_task.proofs.RegionLemmas.{IsCopying, HasPiece, begun_now, copying_begins, copying_fails, copying_more, counts_same, ends_now, piece_long, row_ends, same_end}
 use Rattle.purge_task.proofs.copying.copy_region.Goals as goal
 
 pub loop-done-init : goal.loop-done-init
@@ -27,12 +27,12 @@ copy_piece-requires-clause-fits g c =
 pub returns-in_err-copy_piece-clause-any_moment : goal.returns-in_err-copy_piece-clause-any_moment
 returns-in_err-copy_piece-clause-any_moment g c =
     let e = c.in_err-copy_piece.ensures in
-    (copying_fails c.args.row c.args.target.0 c.loop-done.done c.in_err-copy_piece.field-0 c.args.store.now c.loop-done.store c.copy_piece.new.store _ _ _ _ _ (g.met.D.Disk.reads_image c.loop-done.store.disk) c.requires.running c.loop-done.invariant (record { any_moment = e.any_moment; mail = e.mail_stays; settled = e.settled; others = e.others; stored = e.stored; grows = e.grows }) e.refused).any_moment
+    (copying_fails c.args.row c.args.target.0 c.loop-done.done c.in_err-copy_piece.field-0.0 c.args.store.now c.loop-done.store c.copy_piece.new.store _ _ _ _ _ (g.met.D.Disk.reads_image c.loop-done.store.disk) c.requires.running c.loop-done.invariant (record { any_moment = e.any_moment; mail = e.mail_stays; settled = e.settled; others = e.others; stored = e.stored; grows = e.grows }) e.refused).any_moment
 
 pub returns-in_err-copy_piece-clause-mail_stays : goal.returns-in_err-copy_piece-clause-mail_stays
 returns-in_err-copy_piece-clause-mail_stays g c =
     let e = c.in_err-copy_piece.ensures in
-    (copying_fails c.args.row c.args.target.0 c.loop-done.done c.in_err-copy_piece.field-0 c.args.store.now c.loop-done.store c.copy_piece.new.store _ _ _ _ _ (g.met.D.Disk.reads_image c.loop-done.store.disk) c.requires.running c.loop-done.invariant (record { any_moment = e.any_moment; mail = e.mail_stays; settled = e.settled; others = e.others; stored = e.stored; grows = e.grows }) e.refused).mail
+    (copying_fails c.args.row c.args.target.0 c.loop-done.done c.in_err-copy_piece.field-0.0 c.args.store.now c.loop-done.store c.copy_piece.new.store _ _ _ _ _ (g.met.D.Disk.reads_image c.loop-done.store.disk) c.requires.running c.loop-done.invariant (record { any_moment = e.any_moment; mail = e.mail_stays; settled = e.settled; others = e.others; stored = e.stored; grows = e.grows }) e.refused).mail
 
 pub returns-in_err-copy_piece-clause-settled : goal.returns-in_err-copy_piece-clause-settled
 returns-in_err-copy_piece-clause-settled g c = λ runs lists settled. c.in_err-copy_piece.ensures.settled runs lists (c.loop-done.invariant.settled lists settled)
@@ -40,7 +40,7 @@ returns-in_err-copy_piece-clause-settled g c = λ runs lists settled. c.in_err-c
 pub returns-in_err-copy_piece-clause-stored : goal.returns-in_err-copy_piece-clause-stored
 returns-in_err-copy_piece-clause-stored g c =
     let e = c.in_err-copy_piece.ensures in
-    (copying_fails c.args.row c.args.target.0 c.loop-done.done c.in_err-copy_piece.field-0 c.args.store.now c.loop-done.store c.copy_piece.new.store _ _ _ _ _ (g.met.D.Disk.reads_image c.loop-done.store.disk) c.requires.running c.loop-done.invariant (record { any_moment = e.any_moment; mail = e.mail_stays; settled = e.settled; others = e.others; stored = e.stored; grows = e.grows }) e.refused).stored
+    (copying_fails c.args.row c.args.target.0 c.loop-done.done c.in_err-copy_piece.field-0.0 c.args.store.now c.loop-done.store c.copy_piece.new.store _ _ _ _ _ (g.met.D.Disk.reads_image c.loop-done.store.disk) c.requires.running c.loop-done.invariant (record { any_moment = e.any_moment; mail = e.mail_stays; settled = e.settled; others = e.others; stored = e.stored; grows = e.grows }) e.refused).stored
 
 pub loop-done-preserved : goal.loop-done-preserved
 loop-done-preserved g c =

@@ -1,5 +1,5 @@
 use Rattle.std.proofs.Common.{◌-◌}
-use Rattle.purge_task.proofs.CopyLemmas.{IsCopying}
+use Rattle.purge_task.proofs.RegionLemmas.{IsCopying}
 use Rattle.purge_task.proofs.copying.copy_region.Given as goal
 
 abbrev pub invariant-loop-done : goal.invariant-loop-done

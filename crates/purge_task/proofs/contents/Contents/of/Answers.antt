@@ -7,6 +7,7 @@ use Rattle.purge_task.proofs.FindLemmas.{find_ends}
 use Rattle.purge_task.proofs.HeaderLemmas.{line_some}
 use Rattle.purge_task.proofs.ListingLemmas.{lists_are}
 use Rattle.purge_task.proofs.SwitchFitLemmas.{entry_short}
+use Rattle.purge_task.proofs.SwitchReadyLemmas.{entry_ready}
 use Rattle.purge_task.proofs.NextLemmas.{next_ends}
 use Rattle.purge_task.proofs.contents.Contents.of.Goals as goal
 
