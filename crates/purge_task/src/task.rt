@@ -181,11 +181,7 @@ impl PurgeTask {
         }
     }
 
-    fn switch<D: Disk>(
-        &mut self,
-        store: &mut Store<D>,
-        work: Work,
-    ) -> Result<PurgeStage, Refusal> {
+    fn switch<D: Disk>(&mut self, store: &mut Store<D>, work: Work) -> Result<PurgeStage, Refusal> {
         let mut work = work;
         let switched = switch(store, &mut work)?;
         self.done.dropped += switched.dropped;
