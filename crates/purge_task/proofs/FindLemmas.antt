@@ -129,17 +129,17 @@ increasing_push xs y rising all = λ k lt.
     let long = length_push xs y in
     elim (cases_lt (k + 1) (length xs)) [
       | inl l ↦ (
-        let a = get_or_append_left xs (y ∷ []) 0 k (omega (arith, l)) in
-        let b = get_or_append_left xs (y ∷ []) 0 (k + 1) l in
-        let h = rising k l in
-        omega (arith, a, b, h)
-      )
+          let a = get_or_append_left xs (y ∷ []) 0 k (omega (arith, l)) in
+          let b = get_or_append_left xs (y ∷ []) 0 (k + 1) l in
+          let h = rising k l in
+          omega (arith, a, b, h)
+          )
       | inr ge ↦ (
-        let a = get_or_append_left xs (y ∷ []) 0 k (omega (arith, long, lt, ge)) in
-        let b = get_or_push xs y 0 (k + 1) (omega (arith, long, lt, ge)) in
-        let h = all k 0 (omega (arith, long, lt, ge)) in
-        omega (arith, a, b, h)
-      )
+          let a = get_or_append_left xs (y ∷ []) 0 k (omega (arith, long, lt, ge)) in
+          let b = get_or_push xs y 0 (k + 1) (omega (arith, long, lt, ge)) in
+          let h = all k 0 (omega (arith, long, lt, ge)) in
+          omega (arith, a, b, h)
+          )
     ]
 
 -- ---- so far

@@ -69,11 +69,11 @@ rises_at f xs ys k d apart same sorted lt =
     let up : f (get_or ys k d) ≤ f (get_or ys (k + 1) d) = sorted k (k + 1) d (omega arith) lt in
     elim (cases_eq (f (get_or ys k d)) (f (get_or ys (k + 1) d))) [
       | inl tie ↦ (
-        let two = counted_twice (λ x. f x == f (get_or ys (k + 1) d)) ys k (k + 1) d (omega arith) lt (equal_yes _ _ tie) (equal_yes (f (get_or ys (k + 1) d)) (f (get_or ys (k + 1) d)) refl) in
-        let one = apart_once f (f (get_or ys (k + 1) d)) xs apart in
-        let as_many = times_permuted (λ x. f x == f (get_or ys (k + 1) d)) xs ys same in
-        absurd (omega (arith, two, one, as_many))
-      )
+          let two = counted_twice (λ x. f x == f (get_or ys (k + 1) d)) ys k (k + 1) d (omega arith) lt (equal_yes _ _ tie) (equal_yes (f (get_or ys (k + 1) d)) (f (get_or ys (k + 1) d)) refl) in
+          let one = apart_once f (f (get_or ys (k + 1) d)) xs apart in
+          let as_many = times_permuted (λ x. f x == f (get_or ys (k + 1) d)) xs ys same in
+          absurd (omega (arith, two, one, as_many))
+          )
       | inr apart_too ↦ omega (arith, up, apart_too)
     ]
 
@@ -120,7 +120,7 @@ moved_are m copied kept moved once is same sorted =
     let test : MapPlace → Bool = λ p. is_wanted_at m p.uid.0 in
     let apart : AllPairs (λ a b. a.uid.0 ≢ b.uid.0) kept = subst (AllPairs (λ a b. a.uid.0 ≢ b.uid.0)) (sym is) (AllPairs-filter (λ a b. a.uid.0 ≢ b.uid.0) test copied once) in
     let here : All (λ p. Contains copied p × HasRecord m p.uid.0 (λ row. 1 ≤ row.count)) kept = subst (All (λ p. Contains copied p × HasRecord m p.uid.0 (λ row. 1 ≤ row.count))) (sym is)
-        (λ k d lt. (All-filter test (Contains copied) copied (All-contains_itself copied) k d lt, wanted_record m (get_or (filter test copied) k d).uid.0 (filter_passes test copied k d lt))) in
+    (λ k d lt. (All-filter test (Contains copied) copied (All-contains_itself copied) k d lt, wanted_record m (get_or (filter test copied) k d).uid.0 (filter_passes test copied k d lt))) in
     record {
       rising = rises (λ p. p.uid.0) kept moved apart same sorted;
       copied_are = All-permutation (λ p. Contains copied p × HasRecord m p.uid.0 (λ row. 1 ≤ row.count)) kept moved same here;

@@ -81,14 +81,14 @@ front_step row target done count a b c apart few front same added =
     let inside = front.inside in
     let stays : reading (b (Mail row.file.0)) ≡ Some front.there = ap reading (same (Mail row.file.0) (mail_other row.file.0 target apart)) ∙ front.in_file in
     let piece : whole_piece (row.offset + done) count (reading (b (Mail row.file.0))) ≡ take count (drop done (drop row.offset front.there)) =
-        ap (whole_piece (row.offset + done) count) stays ∙ piece_whole (row.offset + done) count front.there (omega (arith, inside, few)) ∙ ap (take count) (sym (drop-drop done row.offset front.there)) in
+    ap (whole_piece (row.offset + done) count) stays ∙ piece_whole (row.offset + done) count front.there (omega (arith, inside, few)) ∙ ap (take count) (sym (drop-drop done row.offset front.there)) in
     record {
       there = front.there;
       in_file = front.in_file;
       inside = front.inside;
       added = subst (λ (o : List ℕ). IsPieceAdded o (a (Mail target)) (c (Mail target))) (take_split done count (drop row.offset front.there))
-        (added_twice (take done (drop row.offset front.there)) (take count (drop done (drop row.offset front.there))) (a (Mail target)) (b (Mail target)) (c (Mail target)) front.added
-        (subst (λ (o : List ℕ). IsPieceAdded o (b (Mail target)) (c (Mail target))) piece added));
+          (added_twice (take done (drop row.offset front.there)) (take count (drop done (drop row.offset front.there))) (a (Mail target)) (b (Mail target)) (c (Mail target)) front.added
+          (subst (λ (o : List ℕ). IsPieceAdded o (b (Mail target)) (c (Mail target))) piece added));
     }
 
 read_some : (o : Option (List ℕ)) (end : ℕ) → option_map length o ≡ Some end → (octets : List ℕ) × (o ≡ Some octets)
@@ -237,7 +237,7 @@ copying_more row target done count old now new h k l f g j reads apart few so pi
       settled = λ lists settled. piece.settled run lists (so.settled lists settled);
       mail = mail_then row target done old now new h k l f g reads so piece.mail;
       front = between-then (λ a b. IsFrontAdded row target done a b × OtherSame target a b) _ (IsFrontAdded row target (done + count)) h k l (λ a b c r s. front_step row target done count a b c apart few r.0 r.1 s)
-        (between-both (IsFrontAdded row target done) (OtherSame target) (λ a b. IsFrontAdded row target done a b × OtherSame target a b) h k (λ a b r s. (r, s)) so.front so.others) added;
+          (between-both (IsFrontAdded row target done) (OtherSame target) (λ a b. IsFrontAdded row target done a b × OtherSame target a b) h k (λ a b r s. (r, s)) so.front so.others) added;
       others = others_then target h k l so.others (piece.others run);
       stored = keeps_then h k l so.stored (piece.stored run);
       grows = (let a = so.grows in let b = piece.grows in omega (arith, a, b));

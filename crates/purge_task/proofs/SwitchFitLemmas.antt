@@ -59,24 +59,24 @@ moved_or_dropped m file copied moved dropped r sound listed has here every =
     let at = record_there m r sound has in
     elim (cases_eq r.count 0) [
       | inl none ↦ (
-        let gone : has_map_uid r.uid dropped ≡ true = All-contains (λ o. o.file ≡ file → o.count ≡ 0 → has_map_uid o.uid dropped ≡ true) m.records r listed.each_dropped has here none in
-        let stays : list_any (λ p. p.uid.0 == r.uid) moved ≡ false = any_of (λ p. p.uid.0) r.uid moved (λ p in_moved same.
+          let gone : has_map_uid r.uid dropped ≡ true = All-contains (λ o. o.file ≡ file → o.count ≡ 0 → has_map_uid o.uid dropped ≡ true) m.records r listed.each_dropped has here none in
+          let stays : list_any (λ p. p.uid.0 == r.uid) moved ≡ false = any_of (λ p. p.uid.0) r.uid moved (λ p in_moved same.
           let h = All-contains (λ q. Contains copied q × HasRecord m q.uid.0 (λ row. 1 ≤ row.count)) moved p listed.moved_copied in_moved in
           let some = one_record m r.uid r (λ row. 1 ≤ row.count) at (subst (λ (u : ℕ). HasRecord m u (λ row. 1 ≤ row.count)) same h.1) in
           omega (arith, none, some)) in
-        stays ∙ ap not (sym gone)
-      )
+          stays ∙ ap not (sym gone)
+          )
       | inr some ↦ (
-        let b = any_with (λ p. p.uid.0) r.uid copied (every (omega (arith, some))) in
-        let wanted : HasRecord m b.0.uid.0 (λ row. 1 ≤ row.count) = subst (λ (u : ℕ). HasRecord m u (λ row. 1 ≤ row.count)) (sym b.2) (r, at, omega (arith, some)) in
-        let in_moved = All-contains (λ q. HasRecord m q.uid.0 (λ row. 1 ≤ row.count) → Contains moved q) copied b.0 listed.copied_moved b.1 wanted in
-        let goes : list_any (λ p. p.uid.0 == r.uid) moved ≡ true = list_any_at (λ p. p.uid.0 == r.uid) moved in_moved.0 b.0 in_moved.1 (rw in_moved.2 (equal_yes b.0.uid.0 r.uid b.2)) in
-        let stays : has_map_uid r.uid dropped ≡ false = any_of (λ u. u.0) r.uid dropped (λ u in_dropped same.
+          let b = any_with (λ p. p.uid.0) r.uid copied (every (omega (arith, some))) in
+          let wanted : HasRecord m b.0.uid.0 (λ row. 1 ≤ row.count) = subst (λ (u : ℕ). HasRecord m u (λ row. 1 ≤ row.count)) (sym b.2) (r, at, omega (arith, some)) in
+          let in_moved = All-contains (λ q. HasRecord m q.uid.0 (λ row. 1 ≤ row.count) → Contains moved q) copied b.0 listed.copied_moved b.1 wanted in
+          let goes : list_any (λ p. p.uid.0 == r.uid) moved ≡ true = list_any_at (λ p. p.uid.0 == r.uid) moved in_moved.0 b.0 in_moved.1 (rw in_moved.2 (equal_yes b.0.uid.0 r.uid b.2)) in
+          let stays : has_map_uid r.uid dropped ≡ false = any_of (λ u. u.0) r.uid dropped (λ u in_dropped same.
           let h = All-contains (λ v. HasRecord m v.0 (λ row. (row.file ≡ file) × (row.count ≡ 0))) dropped u listed.dropped_here in_dropped in
           let none = (one_record m r.uid r (λ row. (row.file ≡ file) × (row.count ≡ 0)) at (subst (λ (v : ℕ). HasRecord m v (λ row. (row.file ≡ file) × (row.count ≡ 0))) same h)).1 in
           some none) in
-        goes ∙ ap not (sym stays)
-      )
+          goes ∙ ap not (sym stays)
+          )
     ]
 
 -- ---- the target
@@ -144,19 +144,19 @@ no_more p (x ∷ xs) (u ∷ us) rising up stand =
     let tail = pairs_tail (λ a b. a.uid < b.uid) x xs rising in
     elim (first_stands x xs p u rising (All-head (StandsFor (x ∷ xs) p) u us stand)) [
       | inl here ↦ (
-        let e = here.0 in
-        let behind : All (StandsFor xs p) us = λ k d lt. stands_behind x xs p (get_or us k d) (λ s. let l = pairs_head (λ a b. a < b) u us up k d lt in omega (arith, l, s, e)) (All-tail (StandsFor (x ∷ xs) p) u us stand k d lt) in
-        let rest = no_more p xs us tail (pairs_tail (λ a b. a < b) u us up) behind in
-        let one : ◌≡◌ {A = ℕ} (cond (p x) 1 0) 1 = ap (λ (b : Bool). cond b 1 0) here.1 in
-        omega (arith, sum, rest, one)
-      )
+          let e = here.0 in
+          let behind : All (StandsFor xs p) us = λ k d lt. stands_behind x xs p (get_or us k d) (λ s. let l = pairs_head (λ a b. a < b) u us up k d lt in omega (arith, l, s, e)) (All-tail (StandsFor (x ∷ xs) p) u us stand k d lt) in
+          let rest = no_more p xs us tail (pairs_tail (λ a b. a < b) u us up) behind in
+          let one : ◌≡◌ {A = ℕ} (cond (p x) 1 0) 1 = ap (λ (b : Bool). cond b 1 0) here.1 in
+          omega (arith, sum, rest, one)
+          )
       | inr later ↦ (
-        let behind : All (StandsFor xs p) (u ∷ us) = All-cons (StandsFor xs p) u us (stands_behind x xs p u (λ s. omega (arith, s, later)) (All-head (StandsFor (x ∷ xs) p) u us stand))
+          let behind : All (StandsFor xs p) (u ∷ us) = All-cons (StandsFor xs p) u us (stands_behind x xs p u (λ s. omega (arith, s, later)) (All-head (StandsFor (x ∷ xs) p) u us stand))
           (λ k d lt. stands_behind x xs p (get_or us k d) (λ s. let l = pairs_head (λ a b. a < b) u us up k d lt in omega (arith, l, s, later)) (All-tail (StandsFor (x ∷ xs) p) u us stand k d lt)) in
-        let rest = no_more p xs (u ∷ us) tail up behind in
-        let step = count_step (p x) (count_by p xs) in
-        omega (arith, sum, rest, step)
-      )
+          let rest = no_more p xs (u ∷ us) tail up behind in
+          let step = count_step (p x) (count_by p xs) in
+          omega (arith, sum, rest, step)
+          )
     ]
 
 -- records of the file that are wanted, and those that aren't
@@ -202,9 +202,9 @@ both_of m uid P Q a b = (a.0, a.1, (a.2, one_record m uid a.0 Q a.1 b))
 pub no_more_than : (m : MapMeaning) (file : ℕ) (copied moved : List MapPlace) (dropped : List MapUid) → IsSoundMap m → AreListed m file copied moved dropped → All (λ place. HasRecord m place.uid.0 (λ row. row.file ≡ file)) copied → length moved + length dropped ≤ messages_in m file
 no_more_than m file copied moved dropped sound listed here =
     let moves = no_more (is_moved file) m.records (map (λ p. p.uid.0) moved) sound.rising (AllPairs-from_increasing (map (λ p. p.uid.0) moved) listed.moved_rising)
-      (mapped_all (λ (p : MapPlace). p.uid.0) (StandsFor m.records (is_moved file)) moved (λ k d lt. (let h = listed.moved_copied k d lt in stands_as m (is_moved file) (get_or moved k d).uid.0 (λ row. (row.file ≡ file) × (1 ≤ row.count)) (both_of m (get_or moved k d).uid.0 (λ row. row.file ≡ file) (λ row. 1 ≤ row.count) (All-contains (λ place. HasRecord m place.uid.0 (λ row. row.file ≡ file)) copied (get_or moved k d) here h.0) h.1) (λ r w. passes_moved file r w.0 w.1)))) in
+    (mapped_all (λ (p : MapPlace). p.uid.0) (StandsFor m.records (is_moved file)) moved (λ k d lt. (let h = listed.moved_copied k d lt in stands_as m (is_moved file) (get_or moved k d).uid.0 (λ row. (row.file ≡ file) × (1 ≤ row.count)) (both_of m (get_or moved k d).uid.0 (λ row. row.file ≡ file) (λ row. 1 ≤ row.count) (All-contains (λ place. HasRecord m place.uid.0 (λ row. row.file ≡ file)) copied (get_or moved k d) here h.0) h.1) (λ r w. passes_moved file r w.0 w.1)))) in
     let drops = no_more (is_dropped file) m.records (map (λ u. u.0) dropped) sound.rising (AllPairs-from_increasing (map (λ u. u.0) dropped) listed.dropped_rising)
-      (mapped_all (λ (u : MapUid). u.0) (StandsFor m.records (is_dropped file)) dropped (λ k d lt. stands_as m (is_dropped file) (get_or dropped k d).0 (λ row. (row.file ≡ file) × (row.count ≡ 0)) (listed.dropped_here k d lt) (λ r w. passes_dropped file r w.0 w.1))) in
+    (mapped_all (λ (u : MapUid). u.0) (StandsFor m.records (is_dropped file)) dropped (λ k d lt. stands_as m (is_dropped file) (get_or dropped k d).0 (λ row. (row.file ≡ file) × (row.count ≡ 0)) (listed.dropped_here k d lt) (λ r w. passes_dropped file r w.0 w.1))) in
     let split = split_count file m.records in
     let a = length-map moved (λ p. p.uid.0) in
     let b = length-map dropped (λ u. u.0) in

@@ -100,12 +100,15 @@ place_below : {D : Type 0} → (h : Option History) (v : StoreValue D) (target e
 place_below h v target end f place is order at taken ends w =
     let r = w.0 in
     let le = w.2 in
-    let lies : LiesBelowEnd v.map.store v.files.files r = (record_here v.map place.uid.0 r w.1).1 (LiesBelowEnd v.map.store v.files.files) is.files.below in
-    (r, w.1, record {
-      region = λ g found grows. (end, end_of_file target end v.files.files g ends found, le);
-      guid = lies.guid;
-      undoomed = undoomed target v.files.files f order.used at taken;
-    })
+    let lies : LiesBelowEnd v.map.store v.files.files r = (record_here v.map place.uid.0 r w.1).1 (LiesBelowEnd v.map.store v.files.files) is.files.below in (
+      r,
+      w.1,
+      record {
+        region = λ g found grows. (end, end_of_file target end v.files.files g ends found, le);
+        guid = lies.guid;
+        undoomed = undoomed target v.files.files f order.used at taken;
+      },
+    )
 
 -- ---- octet for octet
 
@@ -168,7 +171,7 @@ synced_as old (Some d) (Some e) (Some t) number copied dropped source moved (pla
     let all : All (λ p. HasRecord old.map p.uid.0 (IsCopiedTo (files_of d.now) t.0 p.offset)) copied = subst (All (λ p. HasRecord old.map p.uid.0 (IsCopiedTo (files_of d.now) t.0 p.offset))) (sym same) written.octets in
     let here = moved_copies (λ p. HasRecord old.map p.uid.0 (IsCopiedTo (files_of d.now) t.0 p.offset)) old.map number copied moved dropped listed all in
     λ image is_image. subst (All (λ p. HasRecord old.map p.uid.0 (λ row. HasSameRegion (files_of e.now) image (record row { file = t.0; offset = p.offset })))) is
-      (All-weaker (λ p. HasRecord old.map p.uid.0 (IsCopiedTo (files_of d.now) t.0 p.offset)) (λ p. HasRecord old.map p.uid.0 (λ row. HasSameRegion (files_of e.now) image (record row { file = t.0; offset = p.offset }))) (λ p c. (c.0, c.1, region_kept d.now e.now t.0 p image c.0 held written.stays is_image c.2)) moved here)
+    (All-weaker (λ p. HasRecord old.map p.uid.0 (IsCopiedTo (files_of d.now) t.0 p.offset)) (λ p. HasRecord old.map p.uid.0 (λ row. HasSameRegion (files_of e.now) image (record row { file = t.0; offset = p.offset }))) (λ p c. (c.0, c.1, region_kept d.now e.now t.0 p image c.0 held written.stays is_image c.2)) moved here)
 
 -- ---- all that the append asks
 

@@ -90,9 +90,9 @@ all_same : {D : Type 0} → (n : ℕ) (target : Option FileNo) (old mid new last
     → last ≡ record new { files = record new.files { files = target_released target new.files.files } } → IsAllOf old (files_switched n target old.files.files) last
 all_same n target old mid new last first second third =
     subst (IsAllOf old (files_switched n target old.files.files)) (sym third) (
-      ap (λ (v : StoreValue _). record v { files = record v.files { files = target_released target v.files.files } }) second
-      ∙ ap (λ (v : StoreValue _). record v { disk = new.disk; map_log = new.map_log; map = new.map; dues = new.dues; files = record v.files { files = target_released target (changed_in n made_doomed v.files.files) } }) first
-      ∙ ap (λ (fs : List MailFile). record old { disk = new.disk; map_log = new.map_log; map = new.map; dues = new.dues; files = record old.files { files = fs } }) (files_are n target old.files.files)
+    ap (λ (v : StoreValue _). record v { files = record v.files { files = target_released target v.files.files } }) second
+    ∙ ap (λ (v : StoreValue _). record v { disk = new.disk; map_log = new.map_log; map = new.map; dues = new.dues; files = record v.files { files = target_released target (changed_in n made_doomed v.files.files) } }) first
+    ∙ ap (λ (fs : List MailFile). record old { disk = new.disk; map_log = new.map_log; map = new.map; dues = new.dues; files = record old.files { files = fs } }) (files_are n target old.files.files)
     )
 
 pub is_switched : {D : Type 0} → (source : Source) (switched : Switched) (entry : MapEntry) (old mid new last : StoreValue D) → mid ≡ mid_of source.target mid.disk old

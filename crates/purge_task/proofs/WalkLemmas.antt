@@ -304,9 +304,9 @@ sum_walked m file from r g sound found =
     let low = found.behind in
     sum_one (upto file from g) (upto file (r.offset + r.size) g) (g r) m.records j lt
     (λ d. rw (at d) (
-      let up = upto_inside file (r.offset + r.size) g r found.here (omega (arith, some)) in
-      let out = upto_outside file from g r found.here low in
-      omega (arith, up, out)
+    let up = upto_inside file (r.offset + r.size) g r found.here (omega (arith, some)) in
+    let out = upto_outside file from g r found.here low in
+    omega (arith, up, out)
     ))
     (λ k d l n. others_same m file from r g (get_or m.records k d) (λ is. uid_differs m.records k j d sound.rising l lt n (is ∙ sym (at d))) some low (next_or_behind m file from r sound found k d l))
 

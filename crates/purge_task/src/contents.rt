@@ -130,11 +130,7 @@ fn is_header<D: Disk>(store: &mut Store<D>, file: FileNo, octets: u32) -> Result
 }
 
 /// Reads the first octets of a file, as many as there is room for. False if it has fewer.
-fn read_front<D: Disk>(
-    store: &mut Store<D>,
-    file: FileNo,
-    into: &mut [u8],
-) -> Result<bool, Refusal>
+fn read_front<D: Disk>(store: &mut Store<D>, file: FileNo, into: &mut [u8]) -> Result<bool, Refusal>
     ensures whole { IfOk result (λ whole. whole ≡ true → IfTold (D.history store.old.disk) (λ now. into.new ≡ piece_read 0 (length into.new) (reading (now (Mail file.0))))) }
     ensures short { IfOk result (λ whole. whole ≡ false → IfTold (D.history store.old.disk) (λ now. length (piece_read 0 (length into.new) (reading (now (Mail file.0)))) < length into.new)) }
     ensures refused { IfErr result (λ why. why ≡ refusal.ReadFault) }

@@ -48,5 +48,5 @@ loop-done-preserved g c =
     let e = c.in_ok-copy_piece.ensures in
     let long = piece_long c.loop-done.block c.args.row.size c.loop-done.done c.min-count.result (c.loop-done.auto.block ∙ c.requires.block) c.min-count.ensures in
     let more = copying_more c.args.row c.args.target.0 c.loop-done.done (length (take c.min-count.result c.loop-done.block)) c.args.store.now c.loop-done.store c.copy_piece.new.store _ _ _ _ _ _ (g.met.D.Disk.reads_image c.loop-done.store.disk) c.requires.other (long.1 so.part) so
-      (record { any_moment = e.any_moment; mail = e.mail_stays; settled = e.settled; others = e.others; stored = e.stored; grows = e.grows }) e.copied e.ok (counts_same _ c.in_ok-copy_piece.field-0 _ _ refl e.fault) in
+    (record { any_moment = e.any_moment; mail = e.mail_stays; settled = e.settled; others = e.others; stored = e.stored; grows = e.grows }) e.copied e.ok (counts_same _ c.in_ok-copy_piece.field-0 _ _ refl e.fault) in
     subst (λ n. IsCopying c.args.row c.args.target.0 (c.loop-done.done + n) c.args.store.now c.copy_piece.new.store (g.D.Disk.history c.args.store.now.disk) (g.D.Disk.history c.copy_piece.new.store.disk) (g.D.Disk.faults c.args.store.now.disk) (g.D.Disk.faults c.copy_piece.new.store.disk)) long.0 more

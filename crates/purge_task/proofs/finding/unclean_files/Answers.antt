@@ -30,8 +30,8 @@ loop-file-preserved g c =
       idle = idle-then _ _ _ c.loop-file.invariant.idle c.in_ok-visit.ensures.idle;
       faults = no_fault-then _ _ _ c.loop-file.invariant.faults (c.in_ok-visit.ensures.unfailed (λ e. cc e));
       found = find_more c.args.store.now (g.D.Disk.history c.args.store.now.disk) c.loop-file.after c.in-Some.file c.loop-file.files.items c.visit.new.files.items seen.found c.facts.ensures.files.rising next
-        (found_back c.args.store.now (g.D.Disk.history c.args.store.now.disk) (g.D.Disk.history c.loop-file.store.disk) c.in-Some.file.0 seen.found c.loop-file.invariant.idle (found_same c.args.store.now c.loop-file.store (g.D.Disk.history c.loop-file.store.disk) c.in-Some.file.0 seen.found c.loop-file.invariant.same seen.is))
-        seen.listed c.loop-file.invariant.found;
+          (found_back c.args.store.now (g.D.Disk.history c.args.store.now.disk) (g.D.Disk.history c.loop-file.store.disk) c.in-Some.file.0 seen.found c.loop-file.invariant.idle (found_same c.args.store.now c.loop-file.store (g.D.Disk.history c.loop-file.store.disk) c.in-Some.file.0 seen.found c.loop-file.invariant.same seen.is))
+          seen.listed c.loop-file.invariant.found;
     }
 
 pub loop-file-smaller : goal.loop-file-smaller
