@@ -1,27 +1,25 @@
 -- The files that a purge finds, one after another in order of number.
-use Rattle.std.proofs.Common.{◌≡◌, inl, inr, ℕ, zero, suc, ◌+◌, ◌-◌, ◌<◌, ◌≤◌, ◌==◌, ◌&&◌, Bool, true, false, cond, not, Option, Some, None, List, [], ◌∷◌, ◌++◌, length, get_or, map, All, refl, sym, ap, subst, ◌∙◌, arith}
-use Rattle.std.specs.Prelude.{nat_lt, AllPairs, ◌⊎◌, Contains, find, is_some, IsSome, sum_by, count_by, IsTrue, ◌↔◌}
-use Rattle.std.specs.List.{list_any}
+use Rattle.std.proofs.Common.{◌≡◌, inl, inr, ℕ, ◌+◌, ◌-◌, ◌<◌, ◌≤◌, ◌==◌, ◌&&◌, Bool, true, false, cond, Option, Some, None, List, [], ◌∷◌, ◌++◌, length, All, refl, sym, ap, subst, ◌∙◌, arith}
+use Rattle.std.specs.Prelude.{AllPairs, ◌⊎◌, Contains, find, is_some, IsSome}
 use Rattle.std.specs.List.Sorted.{IsStrictlyIncreasing}
-use Rattle.std.specs.Option.{option_map, option_map_or, option_and_then, option_to_list}
-use Rattle.std.proofs.lemmas.Bool.{cases_lt, cases_eq, cases_Bool, and_from}
+use Rattle.std.specs.Option.{option_map, option_map_or, option_to_list}
+use Rattle.std.proofs.lemmas.Bool.{cases_lt, cases_Bool, and_from}
 use Rattle.std.proofs.lemmas.List.{append-nil, get_or_append_left, get_or_push, length_push, map-append}
-use Rattle.std.proofs.lemmas.List.Elements.{All-nil, All-cons, All-head, All-tail, All-push, All-contains, All-weaker, Contains-push, Contains-append_left}
-use Rattle.disk_model.specs.Disk.{DiskState, History, IfTold, IsIdle}
+use Rattle.std.proofs.lemmas.List.Elements.{All-nil, All-cons, All-push, All-weaker, Contains-push, Contains-append_left}
+use Rattle.disk_model.specs.Disk.{History, IfTold, IsIdle}
 use Rattle.disk_model.proofs.IdleLemmas.{idle-back}
 use Rattle.mdbox_base.specs.declared.ids.FileNo.{FileNo}
-use Rattle.model_meaning.specs.MapMeaning.{MapRecord, MapMeaning}
 use Rattle.model_meaning.proofs.MapPlaceLemmas.{equal_is, equal_yes}
 use Rattle.model_octets.proofs.PairLemmas.{pairs_head, pairs_tail, found_holds}
 use Rattle.model_store.specs.Settled.{files_of}
 use Rattle.storage_files.specs.declared.file.MailFile.{MailFile}
-use Rattle.storage_files.specs.Files.{IsUntakenFile, end_in, file_in, file_past, is_number_past, is_taken_in, is_emptied_in, is_doomed_in, is_sealed_in}
+use Rattle.storage_files.specs.Files.{end_in, file_past, is_number_past}
 use Rattle.store_core.specs.Value.{StoreValue}
 use Rattle.model_meaning.specs.MapMeaning.{greatest}
 use Rattle.purge_task.specs.declared.finding.Found.{Found}
-use Rattle.purge_task.specs.Found.{AreAllBut, AreFound, HasFound, targets_in, FindsUnclean, IsFoundAs, IsFoundFile, IsFullToEnd, IsWhollyClean, MayBeEmptied, found_numbers}
+use Rattle.purge_task.specs.Found.{AreAllBut, AreFound, HasFound, targets_in, IsFoundAs, IsFoundFile, IsFullToEnd, IsWhollyClean, MayBeEmptied, found_numbers}
 use Rattle.purge_task.specs.declared.finding.FoundFile.{FoundFile}
-use Rattle.purge_task.proofs.WalkLemmas.{both, below, below_is, not_below, not_below_is, unequal}
+use Rattle.purge_task.proofs.WalkLemmas.{both, below_is, not_below, not_below_is, unequal}
 
 -- ---- the file that comes next
 

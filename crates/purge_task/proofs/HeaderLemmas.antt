@@ -1,9 +1,9 @@
 -- What a scan of a header line gives, and a file that begins with one.
-use Rattle.std.proofs.Common.{◌≡◌, ℕ, ◌<◌, ◌≤◌, zero, suc, List, [], ◌∷◌, ◌++◌, length, take, drop, Option, Some, None, refl, sym, ap, subst, ◌∙◌, arith, length-append}
-use Rattle.std.specs.Prelude.{Result, Ok, Err, ◌⊎◌, ◌↔◌}
-use Rattle.std.proofs.Common.{inl, inr, ◌==◌, Bool, true, false}
+use Rattle.std.proofs.Common.{◌≡◌, ℕ, ◌<◌, ◌≤◌, List, [], ◌∷◌, ◌++◌, length, Option, Some, None, refl, sym, ap, subst, ◌∙◌, arith}
+use Rattle.std.specs.Prelude.{Result, Ok, Err, ◌⊎◌}
+use Rattle.std.proofs.Common.{inl, inr, ◌==◌, true, false}
 use Rattle.model_meaning.proofs.MapPlaceLemmas.{equal_is, equal_yes}
-use Rattle.std.proofs.lemmas.List.{append-nil, nil_from_length, take_all, length-take-le, take-take}
+use Rattle.std.proofs.lemmas.List.{append-nil}
 use Rattle.model_storage.specs.declared.places.MessageAt.{MessageAt}
 use Rattle.model_storage.specs.declared.places.ScanError.{ScanError}
 use Rattle.model_storage.specs.declared.places.ScanError.TheVariants as scan

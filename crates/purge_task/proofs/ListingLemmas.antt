@@ -1,12 +1,12 @@
 -- The lists of an entry that switches a file.
-use Rattle.std.proofs.Common.{◌≡◌, ◌≢◌, inl, inr, ℕ, zero, suc, ◌+◌, ◌<◌, ◌≤◌, ◌==◌, ◌||◌, Bool, true, false, cond, Option, Some, None, List, [], ◌∷◌, ◌++◌, length, get_or, filter, map, All, refl, sym, ap, subst, ◌∙◌, arith}
+use Rattle.std.proofs.Common.{◌≡◌, ◌≢◌, inl, inr, ℕ, zero, suc, ◌+◌, ◌<◌, ◌≤◌, ◌==◌, Bool, true, false, cond, Option, Some, None, List, [], ◌∷◌, ◌++◌, length, get_or, filter, map, All, refl, sym, ap, subst, ◌∙◌, arith}
 use Rattle.std.specs.Prelude.{AllPairs, ◌⊎◌, Contains, find, nat_lt, sum_by}
 use Rattle.std.specs.List.{list_any}
 use Rattle.std.specs.List.Sorted.{IsNonDecreasingBy, IsPermutation, IsStrictlyIncreasing}
 use Rattle.std.specs.Option.{option_map, option_map_or}
-use Rattle.std.proofs.lemmas.Bool.{cases_lt, cases_eq}
+use Rattle.std.proofs.lemmas.Bool.{cases_eq}
 use Rattle.std.proofs.lemmas.List.{length_push, length-map}
-use Rattle.std.proofs.lemmas.List.Elements.{All-nil, All-cons, All-head, All-tail, All-push, All-contains, All-weaker, All-contains_itself, All-filter, filter_passes, Contains-push, Contains-append_left}
+use Rattle.std.proofs.lemmas.List.Elements.{All-nil, All-head, All-tail, All-push, All-contains, All-weaker, All-contains_itself, All-filter, filter_passes, Contains-push}
 use Rattle.std.proofs.lemmas.List.Folds.{list_any_at, list_any-append}
 use Rattle.std.proofs.lemmas.List.Kept.{AllPairs-filter}
 use Rattle.std.proofs.lemmas.List.Sorted.{All-permutation, Contains-permutation, list_any-IsPermutation}
@@ -23,7 +23,7 @@ use Rattle.map_rows.specs.declared.rows.MapRow.{MapRow}
 use Rattle.map_index.specs.Shown.{record_from, shown_record}
 use Rattle.purge_task.specs.Found.{messages_in}
 use Rattle.purge_task.specs.Switched.{AreDropped, AreListed, AreMoved, AreUnwanted, is_wanted_at}
-use Rattle.purge_task.proofs.WalkLemmas.{IsFoundRow, HasNoRow, upto, in_all, below, below_is, unequal, found_row, none_found, sound_row, more_walked, all_walked, next_or_behind, sum_walked, sum_begins, sum_within}
+use Rattle.purge_task.proofs.WalkLemmas.{IsFoundRow, upto, below, below_is, unequal, found_row, none_found, sound_row, more_walked, all_walked, sum_walked, sum_within}
 
 -- ---- numbers that differ, in order
 

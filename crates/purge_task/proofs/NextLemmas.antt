@@ -1,8 +1,8 @@
 -- The next wanted message of a file.
-use Rattle.std.proofs.Common.{◌≡◌, inl, inr, ℕ, ◌+◌, ◌<◌, ◌≤◌, Option, Some, None, List, get_or, All, refl, sym, ap, subst, ◌∙◌, arith}
+use Rattle.std.proofs.Common.{◌≡◌, inl, inr, ℕ, ◌+◌, ◌<◌, ◌≤◌, Some, None, get_or, All, sym, ap, subst, ◌∙◌, arith}
 use Rattle.std.specs.Option.{option_map}
 use Rattle.std.proofs.lemmas.Bool.{cases_lt}
-use Rattle.model_meaning.specs.MapMeaning.{MapRecord, MapMeaning}
+use Rattle.model_meaning.specs.MapMeaning.{MapMeaning}
 use Rattle.model_meaning.specs.Sound.{IsSoundMap}
 use Rattle.map_rows.specs.declared.rows.MapRow.{MapRow}
 use Rattle.map_index.specs.Shown.{record_from, shown_record}

@@ -1,9 +1,8 @@
 -- Calls that read, and calls one after another, as a message is copied.
-use Rattle.std.proofs.Common.{◌≡◌, inl, inr, ℕ, ◌+◌, ◌<◌, ◌≤◌, List, ◌++◌, length, take, Option, Some, None, refl, sym, subst, ◌∙◌, arith}
+use Rattle.std.proofs.Common.{inl, Option, Some, None, sym, subst, arith}
 use Rattle.std.specs.Prelude.{◌⊎◌}
-use Rattle.disk_model.specs.Disk.{DiskState, Files, History, IfTold, IsIdle, Grows, Faults}
-use Rattle.disk_model.specs.FaultCounts.{NoFault, ReadFaultCounted, ChangeFaultCounted}
-use Rattle.disk_model.proofs.IdleLemmas.{idle-between, idle-images, idle-on}
+use Rattle.disk_model.specs.Disk.{DiskState, History, IsIdle, Grows}
+use Rattle.disk_model.proofs.IdleLemmas.{idle-between, idle-images}
 use Rattle.disk_model.proofs.MomentLemmas.{each_image-then}
 use Rattle.model_lists.specs.Lists.{Lists}
 use Rattle.model_store.specs.Safe.{Safe}

@@ -1,10 +1,10 @@
 -- A region that is copied piece by piece.
 use Rattle.std.proofs.Common.{◌≡◌, ◌≢◌, inl, inr, ℕ, ◌+◌, ◌-◌, ◌<◌, ◌≤◌, ◌==◌, Bool, true, false, cond, List, [], ◌∷◌, ◌++◌, length, take, drop, replicate, Option, Some, None, refl, sym, ap, subst, ◌∙◌, arith, append_assoc}
-use Rattle.std.specs.Prelude.{min, ◌⊎◌, Result, Ok, Err, IsErrOf, All, AllPairs, map}
+use Rattle.std.specs.Prelude.{min, ◌⊎◌, Result, Ok, Err, IsErrOf, All, AllPairs}
 use Rattle.std.proofs.lemmas.List.Elements.{All-weaker}
-use Rattle.std.specs.Option.{option_map, option_map_or, option_and_then}
+use Rattle.std.specs.Option.{option_map, option_and_then}
 use Rattle.std.proofs.lemmas.List.{append-nil, take-append-drop, take-take, drop-take, drop-drop, length-take-le, length-drop}
-use Rattle.disk_model.specs.Disk.{DiskState, FileState, Files, Faults, History, IfTold, IsIdle, Between, SameButFor, SameState, Grows, MayLeave, reading, told_calls}
+use Rattle.disk_model.specs.Disk.{DiskState, FileState, Faults, History, IfTold, IsIdle, Between, SameButFor, Grows, reading}
 use Rattle.disk_model.specs.FaultCounts.{NoFault}
 use Rattle.disk_model.specs.declared.name.FileName.{FileName}
 use Rattle.disk_model.specs.declared.name.FileName.TheVariants.{Mail}
@@ -16,17 +16,16 @@ use Rattle.mdbox_base.specs.declared.replies.Refusal.TheVariants as refusal
 use Rattle.model_kept.specs.Kept.{MailIsKept}
 use Rattle.model_kept.proofs.KeptLemmas.{ReadsImage, kept_begins, kept_then}
 use Rattle.model_lists.specs.Lists.{Lists}
-use Rattle.model_meaning.specs.MapMeaning.{MapRecord, MapMeaning, record_at}
+use Rattle.model_meaning.specs.MapMeaning.{MapMeaning}
 use Rattle.model_meaning.specs.Sound.{IsSoundMap, IsSoundRecord}
 use Rattle.model_meaning.proofs.MapPlaceLemmas.{equal_is}
 use Rattle.model_octets.proofs.PairLemmas.{found_holds, pairs_head, pairs_tail}
-use Rattle.model_store.specs.Safe.{LiesInFile, Safe}
+use Rattle.model_store.specs.Safe.{LiesInFile}
 use Rattle.model_store.specs.Settled.{IsSettledFor, Leaves, files_of}
 use Rattle.map_rows.specs.declared.rows.MapRow.{MapRow}
-use Rattle.map_index.specs.Shown.{shown_record}
 use Rattle.storage_files.specs.declared.file.MailFile.{MailFile}
 use Rattle.storage_files.specs.Files.{AreFilesInOrder, changed_in, end_in, ending_at, file_in, place_begun_in}
-use Rattle.storage_files.specs.OnDisk.{IsPieceAdded, piece_read}
+use Rattle.storage_files.specs.OnDisk.{IsPieceAdded}
 use Rattle.storage_files.proofs.FileListLemmas.{changed-none, ends-here, file-here}
 use Rattle.store_core.specs.Dues.{KeepsStored}
 use Rattle.store_core.specs.Running.{IsStore}

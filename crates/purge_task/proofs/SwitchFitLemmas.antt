@@ -1,24 +1,22 @@
 -- The entry that switches a file fits, and there is room for it.
-use Rattle.std.proofs.Common.{◌≡◌, ◌≢◌, inl, inr, ℕ, zero, suc, ◌+◌, ◌*◌, ◌^◌, ◌<◌, ◌≤◌, ◌==◌, ◌||◌, ◌&&◌, Bool, true, false, cond, not, Option, Some, None, List, [], ◌∷◌, ◌++◌, length, get_or, map, All, refl, sym, ap, subst, ◌∙◌, arith}
-use Rattle.std.specs.Prelude.{AllPairs, ◌⊎◌, Contains, count_by, sum_by, find, IfSome}
-use Rattle.std.specs.List.{list_any, AllByRecursion}
-use Rattle.std.specs.List.Sorted.{IsStrictlyIncreasing}
-use Rattle.std.specs.Option.{option_map_or, option_and_then}
-use Rattle.std.proofs.lemmas.Bool.{cases_lt, cases_eq, cases_Bool}
+use Rattle.std.proofs.Common.{◌≡◌, ◌≢◌, inl, inr, ℕ, zero, suc, ◌+◌, ◌*◌, ◌^◌, ◌<◌, ◌≤◌, ◌==◌, ◌||◌, ◌&&◌, Bool, true, false, cond, not, Option, Some, None, List, [], ◌∷◌, length, get_or, map, All, refl, sym, ap, subst, ◌∙◌, arith}
+use Rattle.std.specs.Prelude.{AllPairs, ◌⊎◌, Contains, count_by}
+use Rattle.std.specs.List.{list_any}
+use Rattle.std.specs.Option.{option_map_or}
+use Rattle.std.proofs.lemmas.Bool.{cases_lt, cases_eq}
 use Rattle.std.proofs.lemmas.List.{get_or_default, length-map}
-use Rattle.std.proofs.lemmas.List.Elements.{All-nil, All-cons, All-head, All-tail, All-contains, All-weaker, All-contains_itself, recursion_from_All}
+use Rattle.std.proofs.lemmas.List.Elements.{All-nil, All-cons, All-head, All-tail, All-contains, All-contains_itself, recursion_from_All}
 use Rattle.std.proofs.lemmas.List.Folds.{list_any_at, list_any_none}
 use Rattle.std.proofs.lemmas.List.Kept.{AllPairs-from_increasing}
 use Rattle.std.proofs.lemmas.List.Sums.{sum_by-cons, count_by-le-length}
 use Rattle.mdbox_base.specs.Words.{IsNumber}
 use Rattle.mdbox_base.specs.declared.ids.FileNo.{FileNo}
 use Rattle.mdbox_base.specs.declared.ids.MapUid.{MapUid}
-use Rattle.mdbox_base.specs.declared.entries.MapEntry.{MapEntry}
 use Rattle.mdbox_base.specs.declared.entries.MapEntry.TheVariants as map_entry
 use Rattle.mdbox_base.specs.declared.entries.MapPlace.{MapPlace}
 use Rattle.log_records.proofs.EntrySizeLemmas.{purged_size}
 use Rattle.model_logs.specs.Entries.{map_text, MapInRange}
-use Rattle.model_meaning.specs.MapFits.{ArePlacedApart, FitsPlace, FitsPurged, FitsTarget, HasRecord, IsFree, IsMovedOrDropped, size_at}
+use Rattle.model_meaning.specs.MapFits.{ArePlacedApart, FitsPlace, FitsPurged, FitsTarget, HasRecord, IsMovedOrDropped, size_at}
 use Rattle.model_meaning.specs.MapMeaning.{MapRecord, MapMeaning, has_map_uid, record_at}
 use Rattle.model_meaning.specs.Sound.{IsSoundMap, IsSoundRecord}
 use Rattle.model_meaning.proofs.MapPlaceLemmas.{equal_is, equal_yes}
@@ -27,7 +25,7 @@ use Rattle.store_core.specs.Removing.{AreElsewhere}
 use Rattle.purge_task.specs.Found.{messages_in}
 use Rattle.purge_task.specs.Switched.{AreListed, target_named}
 use Rattle.purge_task.proofs.ListingLemmas.{mapped_at, record_there}
-use Rattle.purge_task.proofs.WalkLemmas.{sound_row, unequal}
+use Rattle.purge_task.proofs.WalkLemmas.{unequal}
 
 -- ---- records by map uid
 

@@ -1,45 +1,41 @@
 -- What was copied is synced, and the entry that names it can be appended.
-use Rattle.std.proofs.Common.{◌≡◌, ◌≢◌, inl, inr, ℕ, ◌+◌, ◌*◌, ◌<◌, ◌≤◌, ◌==◌, ◌||◌, Bool, true, false, cond, Option, Some, None, List, [], ◌∷◌, length, get_or, take, drop, map, All, refl, sym, ap, subst, ◌∙◌, arith}
-use Rattle.std.specs.Prelude.{AllPairs, ◌⊎◌, ◌↔◌, Contains, IfSome, find}
+use Rattle.std.proofs.Common.{◌≡◌, inl, inr, ℕ, ◌+◌, ◌<◌, ◌≤◌, ◌==◌, Bool, true, false, Option, Some, None, List, [], ◌∷◌, length, get_or, drop, All, refl, sym, ap, subst, ◌∙◌, arith}
 use Rattle.std.specs.Option.{option_map, option_map_or, option_and_then}
 use Rattle.std.specs.Vec.{with_item}
 use Rattle.std.proofs.lemmas.Bool.{cases_eq, cases_lt, cases_Bool}
 use Rattle.std.proofs.lemmas.List.{drop_all, drop_more, drop-set}
 use Rattle.std.proofs.Common.{set}
-use Rattle.std.proofs.lemmas.List.Elements.{All-nil, All-contains, All-weaker, All-head, All-tail, All-cons}
+use Rattle.std.proofs.lemmas.List.Elements.{All-nil, All-contains, All-weaker}
 use Rattle.disk_model.specs.Disk.{DiskState, Files, History, IfTold, IsImage, Keeps, MayLeave, reading}
 use Rattle.disk_model.specs.declared.name.FileName.TheVariants as file
 use Rattle.mdbox_base.specs.Words.{IsNumber}
 use Rattle.mdbox_base.specs.declared.ids.FileNo.{FileNo}
 use Rattle.mdbox_base.specs.declared.ids.MapUid.{MapUid}
 use Rattle.mdbox_base.specs.declared.entries.MapEntry.{MapEntry}
-use Rattle.mdbox_base.specs.declared.entries.MapEntry.TheVariants as map_entry
 use Rattle.mdbox_base.specs.declared.entries.MapPlace.{MapPlace}
 use Rattle.model_appends.specs.MapAppending.{AreCopied, AreCopiesSynced, IsCopiedTo}
-use Rattle.model_logs.specs.Entries.{map_text, MapInRange}
+use Rattle.model_logs.specs.Entries.{map_text}
 use Rattle.model_meaning.specs.MapFits.{FitsPurged, HasRecord}
-use Rattle.model_meaning.specs.MapMeaning.{MapRecord, MapMeaning, record_at}
+use Rattle.model_meaning.specs.MapMeaning.{MapRecord, MapMeaning}
 use Rattle.model_meaning.specs.Sound.{IsSoundMap}
 use Rattle.model_meaning.proofs.MapPlaceLemmas.{equal_is}
 use Rattle.model_octets.proofs.PairLemmas.{found_holds}
-use Rattle.model_store.specs.Settled.{files_of, HasSameRegion, IsSameRegion}
+use Rattle.model_store.specs.Settled.{files_of, HasSameRegion}
 use Rattle.storage_files.specs.declared.file.MailFile.{MailFile}
 use Rattle.storage_files.specs.Files.{AreFilesInOrder, IsUsedFile, changed_in, end_in, file_in, is_doomed_in, is_emptied_in, is_taken_in, placing_ended}
-use Rattle.storage_files.proofs.FileListLemmas.{KeepsNumber, ends-kept, file-here, file-other}
-use Rattle.store_core.specs.Files.{AreFilesKept, EndsBehind, LiesBelowEnd, MayGrow}
+use Rattle.storage_files.proofs.FileListLemmas.{ends-kept, file-here, file-other}
+use Rattle.store_core.specs.Files.{LiesBelowEnd}
 use Rattle.store_core.specs.Running.{IsStore}
-use Rattle.store_core.specs.Switching.{HasCopies, HasCopiesSynced, PlacesLieBelow, Switches}
 use Rattle.store_core.specs.Value.{StoreValue}
 use Rattle.store_core.proofs.BoxAppendLemmas.{store_sound}
 use Rattle.map_index.specs.Kept.{IsMapInOrder}
 use Rattle.purge_task.specs.Claims.{sources_left}
 use Rattle.purge_task.specs.Reserved.{IsPresent}
 use Rattle.purge_task.specs.declared.work.Present.{Present}
-use Rattle.purge_task.specs.Found.{messages_in}
-use Rattle.purge_task.specs.Switched.{AreListed, IsEntryOf, IsFirst, IsListable, SpendsFirst, mid_of, IsReadyAppend, IsReadyToSwitch, IsTargetWritten, IsWritten, KeepsTarget, ReadsMail, target_named, target_synced}
+use Rattle.purge_task.specs.Switched.{AreListed, IsEntryOf, IsFirst, IsListable, SpendsFirst, mid_of, IsReadyAppend, IsReadyToSwitch, IsTargetWritten, KeepsTarget, ReadsMail, target_named, target_synced}
 use Rattle.purge_task.specs.declared.work.Source.{Source}
 use Rattle.purge_task.specs.declared.work.Work.{Work}
-use Rattle.purge_task.proofs.SwitchFitLemmas.{IsFitTarget, TargetFits, entry_fits, entry_in_range, entry_short, none_moved, record_here}
+use Rattle.purge_task.proofs.SwitchFitLemmas.{TargetFits, entry_fits, entry_in_range, entry_short, none_moved, record_here}
 
 -- ---- what is known of a file whose placing has ended
 

@@ -1,11 +1,10 @@
 -- The lists of what a purge works on.
-use Rattle.std.proofs.Common.{◌≡◌, inl, inr, ℕ, zero, suc, ◌+◌, ◌<◌, ◌≤◌, Option, Some, None, List, [], ◌∷◌, ◌++◌, Vec, Global, length, get_or, take, drop, refl, sym, ap, subst, ◌∙◌, arith}
-use Rattle.std.specs.Prelude.{slice_get, ◌⊎◌}
+use Rattle.std.proofs.Common.{◌≡◌, inl, inr, ℕ, zero, suc, ◌+◌, ◌<◌, ◌≤◌, Some, None, List, [], ◌∷◌, ◌++◌, Vec, Global, length, get_or, take, drop, refl, sym, ap, subst, ◌∙◌, arith}
+use Rattle.std.specs.Prelude.{slice_get}
 use Rattle.std.specs.Vec.{with_item}
 use Rattle.std.specs.List.{AllZip}
 use Rattle.std.proofs.lemmas.Bool.{cases_lt}
 use Rattle.std.proofs.lemmas.List.{drop_more, drop_all, drop-set, take_all}
-use Rattle.mdbox_base.specs.declared.entries.MapPlace.{MapPlace}
 use Rattle.map_rows.specs.declared.rows.MapRow.{MapRow}
 use Rattle.purge_task.specs.Claims.{sources_left}
 use Rattle.purge_task.specs.Copied.{IsSourceWith, NotesCopy}

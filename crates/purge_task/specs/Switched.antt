@@ -3,7 +3,7 @@ use Rattle.std.specs.Prelude.{◌≡◌, ◌≢◌, ◌≤◌, ◌+◌, ◌*◌,
 use Rattle.std.specs.List.{list_any}
 use Rattle.std.specs.Option.{option_map_or}
 use Rattle.std.specs.List.Sorted.{IsStrictlyIncreasing}
-use Rattle.disk_model.specs.Disk.{DiskState, History, Between, IfTold, Keeps, MayLeave, reading}
+use Rattle.disk_model.specs.Disk.{History, Between, IfTold, Keeps, MayLeave, reading}
 use Rattle.disk_model.specs.declared.name.FileName.TheVariants as file
 use Rattle.mdbox_base.specs.declared.ids.FileNo.{FileNo}
 use Rattle.mdbox_base.specs.declared.ids.MapUid.{MapUid}
@@ -13,7 +13,7 @@ use Rattle.mdbox_base.specs.declared.entries.MapPlace.{MapPlace}
 use Rattle.model_appends.specs.MapAppending.{AreCopied}
 use Rattle.model_logs.specs.Entries.{map_text, MapInRange}
 use Rattle.model_meaning.specs.MapFits.{HasRecord, MapFits}
-use Rattle.model_meaning.specs.MapMeaning.{MapRecord, MapMeaning, has_map_uid, map_applied, record_at}
+use Rattle.model_meaning.specs.MapMeaning.{MapMeaning, has_map_uid, map_applied, record_at}
 use Rattle.model_store.specs.Settled.{files_of}
 use Rattle.storage_files.specs.declared.file.MailFile.{MailFile}
 use Rattle.storage_files.specs.Files.{changed_in, end_in, is_emptied_in, is_taken_in, made_doomed, pins_in, place_begun_in, placing_ended, released_in}

@@ -1,4 +1,4 @@
-use Rattle.std.proofs.Common.{◌≡◌, sym, subst, ap}
+use Rattle.std.proofs.Common.{subst, ap}
 use Rattle.model_kept.proofs.KeptLemmas.{kept_idle, kept_then}
 use Rattle.model_kept.specs.Kept.{MailIsKept}
 use Rattle.store_core.specs.Value.{StoreValue}

@@ -1,4 +1,4 @@
-use Rattle.std.proofs.Common.{◌≡◌, ap}
+use Rattle.std.proofs.Common.{ap}
 use Rattle.purge_task.specs.Switched.{IsListable}
 use Rattle.purge_task.specs.declared.work.Source.{Source}
 use Rattle.purge_task.proofs.SwitchReadyLemmas.{spends}

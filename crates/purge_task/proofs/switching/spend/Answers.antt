@@ -1,4 +1,4 @@
-use Rattle.std.proofs.Common.{◌≡◌, ◌∙◌, ap}
+use Rattle.std.proofs.Common.{◌∙◌, ap}
 use Rattle.mdbox_base.specs.declared.entries.MapEntry.TheVariants as map_entry
 use Rattle.purge_task.specs.Switched.{target_named}
 use Rattle.purge_task.specs.declared.work.Source.{Source}

@@ -1,5 +1,4 @@
-use Rattle.std.proofs.Common.{◌≡◌, ◌∙◌, ◌==◌, ◌≤◌, Option, Some, length, refl, sym, subst, ap, arith}
-use Rattle.disk_model.proofs.BetweenLemmas.{between-begins}
+use Rattle.std.proofs.Common.{◌≡◌, ◌∙◌, ◌==◌, Option, length, sym, subst, ap, arith}
 use Rattle.mdbox_base.specs.declared.ids.FileNo.{FileNo}
 use Rattle.model_kept.proofs.KeptLemmas.{kept_then}
 use Rattle.model_kept.specs.Kept.{MailIsKept}
@@ -18,7 +17,7 @@ use Rattle.purge_task.specs.declared.work.Work.{Work}
 use Rattle.purge_task.proofs.ReadingLemmas.{leaves_then}
 use Rattle.purge_task.proofs.RegionLemmas.{keeps_then}
 use Rattle.purge_task.proofs.SwitchReadyLemmas.{heads, listable_of, prepared, spent_is}
-use Rattle.purge_task.proofs.SwitchedLemmas.{firm_still, is_switched, placing_of, spared_still, taken_still}
+use Rattle.purge_task.proofs.SwitchedLemmas.{firm_still, is_switched, spared_still, taken_still}
 use Rattle.purge_task.proofs.switching.switch.Goals as goal
 
 pub make_entry-entry-requires-clause-sound : goal.make_entry-entry-requires-clause-sound

@@ -1,4 +1,4 @@
-use Rattle.std.proofs.Common.{◌≡◌, ap}
+use Rattle.std.proofs.Common.{ap}
 use Rattle.disk_model.proofs.IdleLemmas.{idle-begins}
 use Rattle.model_kept.proofs.KeptLemmas.{kept_begins}
 use Rattle.store_core.specs.Value.{StoreValue}

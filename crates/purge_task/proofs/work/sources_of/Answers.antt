@@ -1,9 +1,8 @@
-use Rattle.std.proofs.Common.{◌≡◌, ◌+◌, ◌∷◌, ◌++◌, [], List, false, take, sym, subst, arith}
+use Rattle.std.proofs.Common.{◌+◌, ◌∷◌, ◌++◌, [], List, false, take, sym, subst}
 use Rattle.std.specs.List.{AllZip}
 use Rattle.std.proofs.lemmas.List.{take_more}
 use Rattle.purge_task.proofs.WorkLemmas.{zip_push}
 use Rattle.purge_task.specs.declared.finding.FoundFile.{FoundFile}
-use Rattle.purge_task.specs.declared.work.Source.{Source}
 use Rattle.purge_task.specs.Reserved.{IsNewSource}
 use Rattle.purge_task.proofs.work.sources_of.Goals as goal
 

@@ -1,6 +1,6 @@
-use Rattle.std.proofs.Common.{◌≡◌, ◌∙◌, refl, sym, subst, arith}
+use Rattle.std.proofs.Common.{◌∙◌, sym}
 use Rattle.disk_model.proofs.IdleLemmas.{idle-begins}
-use Rattle.purge_task.proofs.CleanLemmas.{clean_as_begins, full_to_end, unclean_unfilled}
+use Rattle.purge_task.proofs.CleanLemmas.{clean_as_begins, unclean_unfilled}
 use Rattle.purge_task.proofs.contents.Contents.is_clean.Goals as goal
 
 pub returns-in-Some-clause-clean : goal.returns-in-Some-clause-clean

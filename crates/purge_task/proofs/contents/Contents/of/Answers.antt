@@ -1,14 +1,6 @@
-use Rattle.std.proofs.Common.{◌≡◌, sym, ◌∙◌, subst, refl, arith}
-use Rattle.purge_task.specs.declared.contents.Contents.{Contents}
-use Rattle.purge_task.specs.Found.{with_message}
+use Rattle.std.proofs.Common.{sym, ◌∙◌, subst, arith}
 use Rattle.purge_task.proofs.ContentsLemmas.{IsWalked, walk_begins, walk_more, walk_ends}
 use Rattle.purge_task.proofs.WalkLemmas.{row_bounds}
-use Rattle.purge_task.proofs.FindLemmas.{find_ends}
-use Rattle.purge_task.proofs.HeaderLemmas.{line_some}
-use Rattle.purge_task.proofs.ListingLemmas.{lists_are}
-use Rattle.purge_task.proofs.SwitchFitLemmas.{entry_short}
-use Rattle.purge_task.proofs.SwitchReadyLemmas.{entry_ready}
-use Rattle.purge_task.proofs.NextLemmas.{next_ends}
 use Rattle.purge_task.proofs.contents.Contents.of.Goals as goal
 
 pub loop-row-init : goal.loop-row-init
