@@ -1,5 +1,5 @@
 -- What the task of a purge claims of a store.
-use Rattle.std.specs.Prelude.{◌==◌, ℕ, false, List, ◌∷◌, count_by, drop}
+use Rattle.std.specs.Prelude.{◌==◌, false, List, ◌∷◌, count_by, drop}
 use Rattle.std.specs.Option.{option_map_or}
 use Rattle.task_claims.specs.Claims.{Claims, Emptied, PlacingPieces, Removing, Taken, both_claims, no_claims, one_if}
 use Rattle.purge_task.specs.declared.task.PurgeStage.{PurgeStage}

@@ -1,6 +1,7 @@
 -- What a purge finds: what a storage file holds by the map, and which files it empties.
-use Rattle.std.specs.Prelude.{◌≡◌, ◌≢◌, ◌≤◌, ◌<◌, ◌+◌, ◌==◌, ◌⊎◌, ℕ, true, false, List, [], length, take, map, count_by, sum_by, if◌then◌else◌, Option, Some, None, IsSome, All, Contains}
+use Rattle.std.specs.Prelude.{◌≡◌, ◌≢◌, ◌≤◌, ◌<◌, ◌+◌, ◌==◌, ◌⊎◌, ℕ, true, false, List, [], ◌++◌, length, take, map, count_by, sum_by, if◌then◌else◌, Option, Some, None, is_none, IsSome, All, Contains, nat_lt, ◌&&◌, ◌||◌}
 use Rattle.std.specs.List.{list_any}
+use Rattle.std.specs.Option.{option_or, option_to_list}
 use Rattle.std.specs.List.Sorted.{IsStrictlyIncreasing}
 use Rattle.disk_model.specs.Disk.{Files, History, IfTold}
 use Rattle.disk_model.specs.declared.name.FileName.TheVariants.{Mail}
@@ -14,6 +15,7 @@ use Rattle.model_store.specs.Settled.{files_of}
 use Rattle.storage_files.specs.declared.file.MailFile.{MailFile}
 use Rattle.storage_files.specs.Files.{IsUntakenFile, end_in, file_in}
 use Rattle.store_core.specs.Value.{StoreValue}
+use Rattle.map_rows.specs.declared.rows.MapRow.{MapRow}
 use Rattle.purge_task.specs.declared.contents.Contents.{Contents}
 use Rattle.purge_task.specs.declared.finding.Found.{Found}
 use Rattle.purge_task.specs.declared.finding.FoundFile.{FoundFile}
@@ -44,6 +46,16 @@ pub record AreContents (m : MapMeaning) (file : ℕ) (c : Contents) : Type 0 whe
   pub wanted : c.wanted ≡ wanted_octets m file
   pub full : (start : ℕ) → c.first ≡ Some start → c.is_full ≡ true → IsFilled m file start c.end
   pub exactly : (start end : ℕ) → IsFilled m file start end → (c.first ≡ Some start) × (c.end ≡ end) × (c.is_full ≡ true)
+
+-- within the crate: what is said of them with one message more, which lies behind the others
+abbrev pub with_message : MapRow → Contents → Contents
+with_message row c = record {
+  messages = c.messages + 1;
+  wanted = c.wanted + (if nat_lt 0 row.count then row.size else 0);
+  first = option_or c.first (Some row.offset);
+  end = row.offset + row.size;
+  is_full = c.is_full && ((is_none c.first || row.offset == c.end) && nat_lt 0 row.count);
+}
 
 -- ---- which files are emptied
 
@@ -109,6 +121,12 @@ pub record AreFound {D : Type 0} (store : StoreValue D) (history : Option Histor
 abbrev pub IsFoundAs : {D : Type 0} → StoreValue D → Option History → ℕ → Option FoundFile → Type 0
 IsFoundAs store history number (Some f) = (f.file.0 ≡ number) × MayBeEmptied store.files.files number × IsFoundFile store.map f × IfTold history (λ now. IsWhollyClean (files_of now) store.map number → ⊥)
 IsFoundAs store history number None = (MayBeEmptied store.files.files number → ⊥) ⊎ (IsFullToEnd store number × IfTold history (λ now. IsWhollyClean (files_of now) store.map number))
+
+-- within the crate: a file was looked at, and listed if it is to be emptied
+pub record IsVisited {D : Type 0} (store : StoreValue D) (history : Option History) (number : ℕ) (before after : List FoundFile) : Type 0 where
+  pub found : Option FoundFile
+  pub is : IsFoundAs store history number found
+  pub listed : after ≡ before ++ option_to_list found
 
 -- how many targets files need
 abbrev pub targets_in : List FoundFile → ℕ

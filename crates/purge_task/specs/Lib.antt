@@ -6,3 +6,4 @@ pub mod Keeping
 pub mod Reserved
 pub mod Stages
 pub mod Switched
+pub mod Taken

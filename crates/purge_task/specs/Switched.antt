@@ -1,8 +1,9 @@
 -- What the switch of a storage file asks, and what it leaves.
-use Rattle.std.specs.Prelude.{◌≡◌, ◌≢◌, ◌≤◌, ◌+◌, ◌*◌, ◌==◌, ℕ, true, List, [], ◌∷◌, length, map, All, AllPairs, Contains, Option, Some, None}
+use Rattle.std.specs.Prelude.{◌≡◌, ◌≢◌, ◌≤◌, ◌+◌, ◌*◌, ◌==◌, ℕ, true, List, [], ◌∷◌, length, map, All, AllPairs, Contains, Bool, false, nat_lt, vec_capacity, Option, Some, None}
 use Rattle.std.specs.List.{list_any}
+use Rattle.std.specs.Option.{option_map_or}
 use Rattle.std.specs.List.Sorted.{IsStrictlyIncreasing}
-use Rattle.disk_model.specs.Disk.{DiskState, History, Between, IfTold, MayLeave, reading}
+use Rattle.disk_model.specs.Disk.{History, Between, IfTold, Keeps, MayLeave, reading}
 use Rattle.disk_model.specs.declared.name.FileName.TheVariants as file
 use Rattle.mdbox_base.specs.declared.ids.FileNo.{FileNo}
 use Rattle.mdbox_base.specs.declared.ids.MapUid.{MapUid}
@@ -10,12 +11,14 @@ use Rattle.mdbox_base.specs.declared.entries.MapEntry.{MapEntry}
 use Rattle.mdbox_base.specs.declared.entries.MapEntry.TheVariants as map_entry
 use Rattle.mdbox_base.specs.declared.entries.MapPlace.{MapPlace}
 use Rattle.model_appends.specs.MapAppending.{AreCopied}
-use Rattle.model_meaning.specs.MapFits.{HasRecord}
-use Rattle.model_meaning.specs.MapMeaning.{MapRecord, MapMeaning, has_map_uid, map_applied}
+use Rattle.model_logs.specs.Entries.{map_text, MapInRange}
+use Rattle.model_meaning.specs.MapFits.{HasRecord, MapFits}
+use Rattle.model_meaning.specs.MapMeaning.{MapMeaning, has_map_uid, map_applied, record_at}
 use Rattle.model_store.specs.Settled.{files_of}
 use Rattle.storage_files.specs.declared.file.MailFile.{MailFile}
 use Rattle.storage_files.specs.Files.{changed_in, end_in, is_emptied_in, is_taken_in, made_doomed, pins_in, place_begun_in, placing_ended, released_in}
 use Rattle.store_core.specs.Removing.{AreElsewhere}
+use Rattle.store_core.specs.Switching.{HasCopies, HasCopiesSynced, PlacesLieBelow, Switches}
 use Rattle.store_core.specs.Value.{StoreValue}
 use Rattle.purge_task.specs.Found.{messages_in}
 use Rattle.purge_task.specs.Reserved.{HasListRoom}
@@ -34,6 +37,28 @@ pub record AreListed (m : MapMeaning) (file : ℕ) (copied moved : List MapPlace
   pub dropped_here : All (λ u. HasRecord m u.0 (λ row. (row.file ≡ file) × (row.count ≡ 0))) dropped
   pub each_dropped : All (λ row. row.file ≡ file → row.count ≡ 0 → has_map_uid row.uid dropped ≡ true) m.records
 
+-- ---- within the crate: the lists one by one
+
+-- the record of a map uid has a count
+abbrev pub is_wanted_at : MapMeaning → ℕ → Bool
+is_wanted_at m uid = option_map_or (λ row. nat_lt 0 row.count) (record_at m uid) false
+
+pub record AreMoved (m : MapMeaning) (copied moved : List MapPlace) : Type 0 where
+  pub rising : IsStrictlyIncreasing (map (λ p. p.uid.0) moved)
+  pub copied_are : All (λ p. Contains copied p × HasRecord m p.uid.0 (λ row. 1 ≤ row.count)) moved
+  pub every : All (λ p. HasRecord m p.uid.0 (λ row. 1 ≤ row.count) → Contains moved p) copied
+
+-- the records of a file with count 0, in any order
+pub record AreUnwanted (m : MapMeaning) (file : ℕ) (uids : List MapUid) : Type 0 where
+  pub once : AllPairs (λ a b. a.0 ≢ b.0) uids
+  pub here : All (λ u. HasRecord m u.0 (λ row. (row.file ≡ file) × (row.count ≡ 0))) uids
+  pub every : All (λ row. row.file ≡ file → row.count ≡ 0 → has_map_uid row.uid uids ≡ true) m.records
+
+pub record AreDropped (m : MapMeaning) (file : ℕ) (uids : List MapUid) : Type 0 where
+  pub rising : IsStrictlyIncreasing (map (λ u. u.0) uids)
+  pub here : All (λ u. HasRecord m u.0 (λ row. (row.file ≡ file) × (row.count ≡ 0))) uids
+  pub every : All (λ row. row.file ≡ file → row.count ≡ 0 → has_map_uid row.uid uids ≡ true) m.records
+
 -- the number of the target in the entry: 0 where nothing is moved
 abbrev pub target_named : Option FileNo → List MapPlace → ℕ
 target_named (Some target) (place ∷ moved) = target.0
@@ -47,6 +72,75 @@ switch_entry source = map_entry.P source.file (target_named source.target source
 pub record IsListed (m : MapMeaning) (old new : Source) : Type 0 where
   pub same : new ≡ record old { copied = new.copied; dropped = new.dropped }
   pub lists : AreListed m old.file.0 old.copied.items new.copied.items new.dropped.items
+
+-- within the crate: a source whose records can be listed
+pub record IsListable (m : MapMeaning) (source : Source) : Type 0 where
+  pub once : AllPairs (λ a b. a.uid.0 ≢ b.uid.0) source.copied.items
+  pub room : messages_in m source.file.0 ≤ vec_capacity source.dropped
+  pub undropped : source.dropped.items ≡ []
+
+-- the entry that moves and drops what is listed of a source
+pub record IsEntryOf (m : MapMeaning) (source : Source) (entry : MapEntry) : Type 0 where
+  pub moved : List MapPlace
+  pub dropped : List MapUid
+  pub is : entry ≡ map_entry.P source.file (target_named source.target moved) moved dropped
+  pub listed : AreListed m source.file.0 source.copied.items moved dropped
+
+abbrev pub dropped_count : MapEntry → ℕ
+dropped_count (map_entry.P number target moved dropped) = length dropped
+dropped_count entry = 0
+
+-- the source is spent for it, and those behind it are as they were
+abbrev pub SpendsFirst : List Source → List Source → Type 0
+SpendsFirst [] after = ⊥
+SpendsFirst (source ∷ left) after = (spent : Source) × (after ≡ spent ∷ left) × (spent.file ≡ source.file) × (spent.target ≡ source.target)
+
+-- what holds of the first of these
+abbrev pub IsFirst : List Source → (Source → Type 0) → Type 0
+IsFirst [] Holds = ⊥
+IsFirst (source ∷ left) Holds = Holds source
+
+-- ---- within the crate: the target is synced, and the entry appended
+
+abbrev pub target_synced : Option FileNo → List MailFile → List MailFile
+target_synced None files = files
+target_synced (Some target) files = changed_in target.0 placing_ended files
+
+abbrev pub target_released : Option FileNo → List MailFile → List MailFile
+target_released None files = files
+target_released (Some target) files = released_in target.0 files
+
+-- the store with a target that was synced, and with another disk
+abbrev pub mid_of : {D : Type 0} → Option FileNo → D → StoreValue D → StoreValue D
+mid_of target disk v = record v { disk = disk; files = record v.files { files = target_synced target v.files.files } }
+
+-- octets are being placed in the target
+pub record IsPlacing {D : Type 0} (target : ℕ) (store : StoreValue D) : Type 0 where
+  pub start : ℕ
+  pub begun : place_begun_in target store.files.files ≡ Some start
+  pub end : ℕ
+  pub ends : end_in target store.files.files ≡ Some end
+  pub fits : end ≤ 4294967295
+
+abbrev pub IsPlacingIn : {D : Type 0} → Option FileNo → StoreValue D → Type 0
+IsPlacingIn None store = Unit {0}
+IsPlacingIn (Some target) store = IsPlacing target.0 store
+
+-- the target, if no crash takes it away, is left by a crash as it was read
+abbrev pub KeepsTarget : Option FileNo → Option History → Option History → Type 0
+KeepsTarget None before after = Unit {0}
+KeepsTarget (Some target) before after = Between (λ a b. (text : List ℕ) → (reading (a (file.Mail target.0)) ≡ Some text) × (MayLeave (a (file.Mail target.0)) None → ⊥) → Keeps (b (file.Mail target.0)) text) before after
+
+-- an entry that switches a file can be appended
+pub record IsReadyAppend {D : Type 0} (number : ℕ) (entry : MapEntry) (store : StoreValue D) (history : Option History) : Type 0 where
+  pub switches : Switches entry number
+  pub range : MapInRange entry
+  pub fits : MapFits store.map entry
+  pub emptied : is_emptied_in number store.files.files ≡ true
+  pub room : length (map_text entry) + 5 ≤ store.map_log.room
+  pub places : PlacesLieBelow entry store.map store.files.files store.drawn.file
+  pub copies : HasCopies entry store.map history
+  pub synced : HasCopiesSynced entry store.map history
 
 -- ---- what is asked
 
@@ -93,6 +187,7 @@ pub record IsSwitched {D : Type 0} (source : Source) (switched : Switched) (old 
   pub moved : List MapPlace
   pub dropped : List MapUid
   pub listed : AreListed old.map source.file.0 source.copied.items moved dropped
+  pub fits : MapFits old.map (map_entry.P source.file (target_named source.target moved) moved dropped)
   pub map_is : new.map ≡ map_applied (map_entry.P source.file (target_named source.target moved) moved dropped) old.map
   pub same : new ≡ record old { disk = new.disk; map_log = new.map_log; map = new.map; dues = new.dues; files = record old.files { files = files_switched source.file.0 source.target old.files.files } }
   pub unpinned : switched.is_unpinned ≡ (pins_in source.file.0 old.files.files == 0)

@@ -70,6 +70,7 @@ pub fn copy_message<D: Disk>(
     ensures grows { Grows (D.history store.old.disk) (D.history store.new.disk) }
     ensures fault { CopyFaultCounted result (D.faults store.old.disk) (D.faults store.new.disk) }
 {
+    store.facts();
     let Some(offset) = store.end_of(target) else {
         unreachable!()
     };
@@ -103,6 +104,7 @@ fn copy_region<D: Disk>(
     ensures grows { Grows (D.history store.old.disk) (D.history store.new.disk) }
     ensures fault { CopyFaultCounted result (D.faults store.old.disk) (D.faults store.new.disk) }
 {
+    store.facts();
     let mut done: u32 = 0;
     while done < row.size {
         let count = (row.size - done).min(PIECE as u32);

@@ -5,7 +5,7 @@ ghost use Rattle.disk_model.specs.FaultCounts.{NoFault, ReadFaultCounted};
 ghost use Rattle.mdbox_base.specs.declared.replies.Refusal.TheVariants as refusal;
 ghost use Rattle.model_meaning.specs.MapMeaning.{greatest};
 ghost use Rattle.storage_files.specs.Files.{end_in, is_doomed_in, is_emptied_in, is_sealed_in, is_taken_in};
-ghost use Rattle.purge_task.specs.Found.{AreFound, HasFound, IsFindRefusal, IsFoundAs, IsReadRefusal, targets_in};
+ghost use Rattle.purge_task.specs.Found.{AreFound, HasFound, IsFindRefusal, IsFoundAs, IsReadRefusal, IsVisited, targets_in};
 ghost use Rattle.purge_task.specs.declared.finding.FoundFile.{FoundFile as FoundFileValue};
 
 use crate::contents::Contents;
@@ -53,9 +53,11 @@ impl Found {
         ensures unfailed { (IsErrOf result refusal.ReadFault → ⊥) → NoFault (D.faults store.old.disk) (D.faults store.new.disk) }
     {
         let files = unclean_files(store)?;
-        match count_targets(&files, store.drawn_file()) {
+        store.facts();
+        let listed = files.as_slice();
+        match count_targets(listed, store.drawn_file()) {
             Some(targets) => {
-                let most = most_messages(&files);
+                let most = most_messages(listed);
                 Ok(Found {
                     files,
                     targets,
@@ -81,12 +83,31 @@ fn unclean_files<D: Disk>(store: &mut Store<D>) -> Result<Vec<FoundFile>, Refusa
     let mut files = Vec::new(store.alloc());
     let mut after = None;
     while let Some(file) = store.next_file(after) {
-        if let Some(found) = find_file(store, file)? {
-            add_found(&mut files, found)?;
-        }
+        visit(store, &mut files, file)?;
         after = Some(file);
     }
     Ok(files)
+}
+
+/// Looks at a file, and lists it if a purge takes it.
+fn visit<D: Disk>(
+    store: &mut Store<D>,
+    files: &mut Vec<FoundFile>,
+    file: FileNo,
+) -> Result<(), Refusal>
+    requires running { store.old.stopped ≡ false }
+    requires there { IsSome (end_in file.0 store.old.files.files) }
+    ensures visited { OnOk result (IsVisited store.old (D.history store.old.disk) file.0 files.old.items files.new.items) }
+    ensures refused { IfErr result IsReadRefusal }
+    ensures same { store.new ≡ record store.old { disk = store.new.disk } }
+    ensures idle { IsIdle (D.history store.old.disk) (D.history store.new.disk) }
+    ensures fault { ReadFaultCounted (IsErrOf result refusal.ReadFault) (D.faults store.old.disk) (D.faults store.new.disk) }
+    ensures unfailed { (IsErrOf result refusal.ReadFault → ⊥) → NoFault (D.faults store.old.disk) (D.faults store.new.disk) }
+{
+    match find_file(store, file)? {
+        Some(found) => add_found(files, found),
+        None => Ok(()),
+    }
 }
 
 fn add_found(files: &mut Vec<FoundFile>, found: FoundFile) -> Result<(), Refusal>

@@ -9,5 +9,6 @@ mod copying;
 mod finding;
 mod laws;
 mod switching;
+mod taking;
 mod task;
 mod work;

@@ -16,14 +16,14 @@ ghost use Rattle.purge_task.specs.Keeping.{HasPurged};
 ghost use Rattle.purge_task.specs.declared.task.PurgeStage.TheVariants as stage;
 
 use crate::copying::{copy_message, next_wanted};
-use crate::finding::{Found, TARGET_HEADER};
+use crate::finding::Found;
 use crate::switching::switch;
-use crate::work::{Source, Work, entry_size};
+use crate::taking::{make_target, reserve, take_files};
+use crate::work::{Source, Work};
 use disk_model::Disk;
 use mdbox_base::{Did, FileNo, Half, InstId, Progress, Refusal, Reply};
 use std::marker::Model;
 use std::mem;
-use storage_files::Take;
 use store_core::Store;
 
 /// Which event of a purge is the next.
@@ -134,7 +134,7 @@ impl PurgeTask {
     fn begin<D: Disk>(&mut self, store: &mut Store<D>) -> Result<PurgeStage, Refusal> {
         self.done = PurgeTask::NOTHING;
         let found = Found::of(store)?;
-        let mut work = reserve(store, &found)?;
+        let mut work = reserve(store, &found).map_err(|_| Refusal::NoMemory)?;
         take_files(store, &mut work.sources);
         Ok(goes_on(work))
     }
@@ -280,43 +280,6 @@ fn known_octets(octets: &[u8])
     ensures { IsOctets octets.now }
 {
     let _length = octets.len();
-}
-
-/// Takes all memory that a purge of these files needs, its own and the store's.
-fn reserve<D: Disk>(store: &mut Store<D>, found: &Found) -> Result<Work, Refusal> {
-    let work = Work::of(store.alloc(), found).map_err(|_| Refusal::NoMemory)?;
-    store.reserve(found.targets).map_err(|_| Refusal::NoMemory)?;
-    store
-        .reserve_entry(entry_size(found.most))
-        .map_err(|_| Refusal::NoMemory)?;
-    Ok(work)
-}
-
-/// Takes the files, and draws a number for each target.
-fn take_files<D: Disk>(store: &mut Store<D>, sources: &mut [Source]) {
-    for source in sources.iter_mut() {
-        store.take_file(source.file);
-        if source.is_wanted {
-            source.target = take_target(store);
-        }
-    }
-}
-
-/// Takes a new file, for which there is a number.
-fn take_target<D: Disk>(store: &mut Store<D>) -> Option<FileNo> {
-    match store.take_new() {
-        Take::New(target) => Some(target),
-        _ => None,
-    }
-}
-
-/// Makes a target, to which messages are then added in pieces.
-fn make_target<D: Disk>(store: &mut Store<D>, target: FileNo) -> Result<(), Refusal> {
-    store
-        .make_file(target, TARGET_HEADER)
-        .map_err(|_| Refusal::Stopped)?;
-    let _offset = store.begin_place(target);
-    Ok(())
 }
 
 /// The stage behind a file: the next one's, or that of instances.

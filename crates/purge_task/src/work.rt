@@ -1,5 +1,6 @@
 // What a purge works on. All memory that its events take is taken at the first one.
 ghost use Rattle.std.specs.Prelude.{◌≡◌, ◌≤◌, ◌<◌, ◌+◌, ◌*◌, ◌∷◌, [], length, drop, IfSome, IfNone, IfOk};
+ghost use Rattle.std.specs.List.{AllZip};
 ghost use Rattle.purge_task.specs.Claims.{sources_left};
 ghost use Rattle.purge_task.specs.Copied.{NotesCopy};
 ghost use Rattle.purge_task.specs.Reserved.{HasRoomForCopy, IsNewSource, IsNewWork, IsPresent};
@@ -54,10 +55,7 @@ impl Work {
         requires { found.now.most ≤ 4294967295 }
         ensures { IfOk result (IsNewWork found.now) }
     {
-        let mut sources = Vec::new(alloc);
-        for one in &found.files {
-            sources.push(source_of(alloc, one)?)?;
-        }
+        let sources = sources_of(alloc, &found.files)?;
         Ok(Work {
             alloc,
             sources,
@@ -73,13 +71,14 @@ impl Work {
         ensures some { IfSome result (λ present. (source : SourceValue) × (sources_left self.now ≡ source ∷ drop (self.now.next + 1) self.now.sources.items) × IsPresent source present) }
         ensures none { IfNone result (sources_left self.now ≡ []) }
     {
-        match self.sources.get(self.next) {
-            Some(source) => Some(Present {
-                file: source.file,
-                target: source.target,
-            }),
-            None => None,
+        if self.next >= self.sources.len() {
+            return None;
         }
+        let source = &self.sources[self.next];
+        Some(Present {
+            file: source.file,
+            target: source.target,
+        })
     }
 
     /// The files that aren't emptied yet, the present one first.
@@ -110,6 +109,17 @@ impl Work {
             offset,
         });
     }
+}
+
+/// The files that were found, each with room for its lists.
+fn sources_of(alloc: Global, files: &[FoundFile]) -> Result<Vec<Source>, NoMemory>
+    ensures { IfOk result (λ sources. AllZip IsNewSource files.now sources.items) }
+{
+    let mut sources = Vec::new(alloc);
+    for found in files {
+        sources.push(source_of(alloc, found)?)?;
+    }
+    Ok(sources)
 }
 
 /// A file that was found, with room for its lists.
