@@ -259,3 +259,16 @@ removing_says {D = D} H F t next work source left old new at to how dropped file
     ungrown : MayOnlyGrow (purge_claims (stage.Removing work)) old source.file.0 → ⊥
     ungrown (inl pinned) = let l : purge_claims (stage.Removing work) (Pinned source.file.0) < pins_in source.file.0 old.files.files = pinned in let z = one.unpinned in omega (arith, l, z)
     ungrown (inr there) = let z = there.2 in omega (arith, own, z)
+
+-- a doomed file is there
+pub doomed_ends : (n : ℕ) (files : List MailFile) → All IsUsedFile files → is_doomed_in n files ≡ true → (end : ℕ) × (end_in n files ≡ Some end)
+doomed_ends n files used e =
+    let d = doomed_file n files used e in
+    by_end d.f.end refl (ap (λ (o : Option MailFile). option_and_then (λ f. f.end) o) d.found) (d.used.doomed d.doomed).0
+  where
+    by_end : (o : Option ℕ) {f : Option ℕ} → f ≡ o → end_in n files ≡ f → IsSome f → (end : ℕ) × (end_in n files ≡ Some end)
+    by_end None is at some = absurd (let k : false ≡ true = subst IsSome is some in cc k)
+    by_end (Some end) is at some = (end, at ∙ is)
+
+pub removed_as : {D : Type 0} → (a b : FileNo) (old new : StoreValue D) → a ≡ b → new ≡ without a.0 new.disk old → new ≡ without b.0 new.disk old
+removed_as a b old new same is = is ∙ ap (λ (f : FileNo). without f.0 new.disk old) same
