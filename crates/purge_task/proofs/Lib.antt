@@ -6,6 +6,7 @@ pub mod CopyStepLemmas
 pub mod EventLemmas
 pub mod FailLemmas
 pub mod FindLemmas
+pub mod FindsLemmas
 pub mod FreeInstanceLemmas
 pub mod GoneCallLemmas
 pub mod GoneLemmas
