@@ -7,6 +7,7 @@ pub mod EventLemmas
 pub mod FailLemmas
 pub mod FindLemmas
 pub mod FindsLemmas
+pub mod FirstLemmas
 pub mod FreeInstanceLemmas
 pub mod GoneCallLemmas
 pub mod GoneLemmas
