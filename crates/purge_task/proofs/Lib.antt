@@ -8,6 +8,7 @@ pub mod FailLemmas
 pub mod FindLemmas
 pub mod FindsLemmas
 pub mod FirstLemmas
+pub mod FirstRefusedLemmas
 pub mod FirstStepLemmas
 pub mod FreeInstanceLemmas
 pub mod GoneCallLemmas
