@@ -4,7 +4,7 @@ use Rattle.purge_task.proofs.GoneLemmas.{gone_steps, last_steps}
 use Rattle.purge_task.proofs.StoppedLemmas.{stopped_steps}
 use Rattle.purge_task.proofs.TargetLemmas.{target_steps}
 use Rattle.purge_task.proofs.SwitchStepLemmas.{switch_steps}
-use Rattle.purge_task.proofs.FailLemmas.{fail_steps, unread_steps}
+use Rattle.purge_task.proofs.FailLemmas.{fail_steps, memory_steps, unread_steps}
 use Rattle.purge_task.proofs.FindsLemmas.{finds_files}
 use Rattle.purge_task.proofs.FirstStepLemmas.{first_steps}
 use Rattle.purge_task.proofs.FirstRefusedLemmas.{did_lack}
