@@ -1,3 +1,4 @@
+pub mod BareLemmas
 pub mod BesideLemmas
 pub mod CleanLemmas
 pub mod ContentsLemmas

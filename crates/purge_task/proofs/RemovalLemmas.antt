@@ -50,7 +50,7 @@ pub record CountsRemoval (t next : PurgeValue) (file : ℕ) (own : List RunEvent
   pub files : next.files ≡ (if is_one_of (gone_files own) file then t.files else t.files + 1)
   pub instances : next.instances ≡ t.instances
 
-removed_way : {D : Type 0} → (t next : PurgeValue) (done left done_now left_now : List Source) (Before : List ℕ → _ → Type 0) (lane file calls : ℕ) (old new : StoreValue D) (run : Run) (place : ℕ) (said : List Reply) → new.map ≡ old.map → old.stopped ≡ false
+pub removed_way : {D : Type 0} → (t next : PurgeValue) (done left done_now left_now : List Source) (Before : List ℕ → _ → Type 0) (lane file calls : ℕ) (old new : StoreValue D) (run : Run) (place : ℕ) (said : List Reply) → new.map ≡ old.map → old.stopped ≡ false
     → HaveTaken done_now left_now (own_events place run ++ removal_event lane place file calls ∷ []) → (All (HaveCopied old.map (own_events place run)) left → All (HaveCopied old.map (own_events place run)) left_now) → CountsRemoval t next file (own_events place run)
     → IsUnderWay t done left Before old run place said → IsUnderWay next done_now left_now (GoesOnBehind (and_then run (removal_event lane place file calls))) new (and_then run (removal_event lane place file calls)) place said
 removed_way t next done left done_now left_now Before lane file calls old new run place said map ran taken fewer counts h = record {
@@ -105,7 +105,7 @@ removes_switched run own file l =
     by_part Switches h = h.0
     by_part part h = absurd h
 
-none_in : (n : ℕ) (rows : List MapRecord) → AreElsewhere n rows → list_any (λ row. row.file == n) rows ≡ false
+pub none_in : (n : ℕ) (rows : List MapRecord) → AreElsewhere n rows → list_any (λ row. row.file == n) rows ≡ false
 none_in n [] h = refl
 none_in n (row ∷ rows) h = ap (λ (b : Bool). b || list_any (λ (r : MapRecord). r.file == n) rows) (ne_eqb row.file n (All-head (λ (r : MapRecord). r.file ≢ n) row rows h)) ∙ none_in n rows (All-tail (λ (r : MapRecord). r.file ≢ n) row rows h)
 
