@@ -12,6 +12,7 @@ pub mod FirstLemmas
 pub mod FirstRefusedLemmas
 pub mod FirstStepLemmas
 pub mod FreeInstanceLemmas
+pub mod FullLemmas
 pub mod GoneCallLemmas
 pub mod GoneLemmas
 pub mod HeaderLemmas

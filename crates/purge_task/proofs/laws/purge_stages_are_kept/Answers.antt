@@ -7,7 +7,7 @@ use Rattle.purge_task.proofs.SwitchStepLemmas.{switch_steps}
 use Rattle.purge_task.proofs.FailLemmas.{fail_steps, memory_steps, unread_steps}
 use Rattle.purge_task.proofs.FindsLemmas.{finds_files}
 use Rattle.purge_task.proofs.FirstStepLemmas.{first_steps}
-use Rattle.purge_task.proofs.FirstRefusedLemmas.{did_lack}
+use Rattle.purge_task.proofs.FullLemmas.{full_steps}
 use Rattle.purge_task.proofs.BareLemmas.{bare_steps}
 use Rattle.purge_task.proofs.RemovalCallLemmas.{removing_one, removing_says}
 use Rattle.purge_task.proofs.LeavingLemmas.{gone_leaves, removal_leaves}
