@@ -30,6 +30,7 @@ pub mod SwitchedLemmas
 pub mod TargetLemmas
 pub mod TargetSeenLemmas
 pub mod TakenLemmas
+pub mod TakenStateLemmas
 pub mod WalkLemmas
 pub mod WithinLemmas
 pub mod WorkLemmas

@@ -61,7 +61,7 @@ rest_step v s rest false is can =
       numbers = omega (arith, count, one, numbers);
     }
 
-highest_step : {D : Type 0} → (v : StoreValue D) (s : Source) (b : Bool) → (cond b (target_drawn (file_taken s.file.0 v)) (file_taken s.file.0 v)).files.highest ≡ v.files.highest + cond b 1 0
+pub highest_step : {D : Type 0} → (v : StoreValue D) (s : Source) (b : Bool) → (cond b (target_drawn (file_taken s.file.0 v)) (file_taken s.file.0 v)).files.highest ≡ v.files.highest + cond b 1 0
 highest_step v s true = refl
 highest_step v s false = omega arith
 
