@@ -37,7 +37,7 @@ others_can v s rest can = λ k d lt.
     let up = pairs_head (λ a b. a.file.0 < b.file.0) s rest can.rising k d lt in
     emptied_still v.files.files s.file.0 (get_or rest k d).file.0 (λ e. omega (arith, e, up)) (All-tail (λ o. CanTake v.files.files o.file.0) s rest can.files k d lt)
 
-rest_step : {D : Type 0} → (v : StoreValue D) (s : Source) (rest : List Source) (b : Bool) → s.is_wanted ≡ b → CanTakeAll v (s ∷ rest) → CanTakeAll (cond b (target_drawn (file_taken s.file.0 v)) (file_taken s.file.0 v)) rest
+pub rest_step : {D : Type 0} → (v : StoreValue D) (s : Source) (rest : List Source) (b : Bool) → s.is_wanted ≡ b → CanTakeAll v (s ∷ rest) → CanTakeAll (cond b (target_drawn (file_taken s.file.0 v)) (file_taken s.file.0 v)) rest
 rest_step v s rest true is can =
     let count = count_one s rest in
     let one : ◌≡◌ {A = ℕ} (cond s.is_wanted 1 0) 1 = ap (λ (b : Bool). cond b 1 0) is in

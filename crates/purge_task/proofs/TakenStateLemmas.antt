@@ -19,11 +19,11 @@ use Rattle.purge_task.proofs.WalkLemmas.{unequal}
 
 -- ---- one file more
 
-found_before : (m : ℕ) (files : List MailFile) (x : MailFile) → x.file.0 ≢ m → file_in m (files ++ x ∷ []) ≡ file_in m files
+pub found_before : (m : ℕ) (files : List MailFile) (x : MailFile) → x.file.0 ≢ m → file_in m (files ++ x ∷ []) ≡ file_in m files
 found_before m [] x other = rw (unequal x.file.0 m other) refl
 found_before m (y ∷ ys) x other = ap (λ (o : Option MailFile). cond (y.file.0 == m) (Some y) o) (found_before m ys x other)
 
-found_last : (m : ℕ) (files : List MailFile) (x : MailFile) → x.file.0 ≡ m → All (λ f. f.file.0 ≢ m) files → file_in m (files ++ x ∷ []) ≡ Some x
+pub found_last : (m : ℕ) (files : List MailFile) (x : MailFile) → x.file.0 ≡ m → All (λ f. f.file.0 ≢ m) files → file_in m (files ++ x ∷ []) ≡ Some x
 found_last m [] x same none = rw (equal_yes x.file.0 m same) refl
 found_last m (y ∷ ys) x same none = rw (unequal y.file.0 m (All-head (λ f. f.file.0 ≢ m) y ys none)) (found_last m ys x same (All-tail (λ f. f.file.0 ≢ m) y ys none))
 
@@ -78,12 +78,12 @@ number_in : (most : ℕ) (x : MailFile) (b : Bool) → x.file.0 ≤ most → (co
 number_in most x true le = le
 number_in most x false le = le
 
-below_changed : (n most : ℕ) (files : List MailFile) → All (λ f. f.file.0 ≤ most) files → All (λ f. f.file.0 ≤ most) (changed_in n to_empty files)
+pub below_changed : (n most : ℕ) (files : List MailFile) → All (λ f. f.file.0 ≤ most) files → All (λ f. f.file.0 ≤ most) (changed_in n to_empty files)
 below_changed n most [] a = All-nil _
 below_changed n most (x ∷ xs) a =
     All-cons (λ f. f.file.0 ≤ most) (cond (x.file.0 == n) (to_empty x) x) (changed_in n to_empty xs) (number_in most x (x.file.0 == n) (All-head (λ f. f.file.0 ≤ most) x xs a)) (below_changed n most xs (All-tail (λ f. f.file.0 ≤ most) x xs a))
 
-below_step : {D : Type 0} → (v : StoreValue D) (s : Source) (b : Bool) → All (λ f. f.file.0 ≤ v.files.highest) v.files.files → All (λ f. f.file.0 ≤ (cond b (target_drawn (file_taken s.file.0 v)) (file_taken s.file.0 v)).files.highest) (cond b (target_drawn (file_taken s.file.0 v)) (file_taken s.file.0 v)).files.files
+pub below_step : {D : Type 0} → (v : StoreValue D) (s : Source) (b : Bool) → All (λ f. f.file.0 ≤ v.files.highest) v.files.files → All (λ f. f.file.0 ≤ (cond b (target_drawn (file_taken s.file.0 v)) (file_taken s.file.0 v)).files.highest) (cond b (target_drawn (file_taken s.file.0 v)) (file_taken s.file.0 v)).files.files
 below_step v s true low =
     All-append (λ f. f.file.0 ≤ v.files.highest + 1) (changed_in s.file.0 to_empty v.files.files) (file_begun (record { 0 = v.files.highest + 1 }) ∷ [])
     (All-weaker (λ f. f.file.0 ≤ v.files.highest) (λ f. f.file.0 ≤ v.files.highest + 1) (λ f le. omega (arith, le)) (changed_in s.file.0 to_empty v.files.files) (below_changed s.file.0 v.files.highest v.files.files low))
@@ -111,7 +111,7 @@ first_drawn v s rest true low files none =
     }
 first_drawn v s rest false low files none = subst (λ (o : Option FileNo). IfSome o (IsDrawnFor v.files.highest (take_all rest (file_taken s.file.0 v)))) (sym none) tt
 
-next_highest : (n : ℕ) (b : Bool) → cond b (n + 1) n ≡ n + cond b 1 0
+pub next_highest : (n : ℕ) (b : Bool) → cond b (n + 1) n ≡ n + cond b 1 0
 next_highest n true = refl
 next_highest n false = omega arith
 
