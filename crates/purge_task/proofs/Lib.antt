@@ -29,6 +29,7 @@ pub mod SwitchStepLemmas
 pub mod SwitchedLemmas
 pub mod TargetLemmas
 pub mod TargetSeenLemmas
+pub mod TakeableLemmas
 pub mod TakenClaimLemmas
 pub mod TakenLemmas
 pub mod TakenStateLemmas
