@@ -65,7 +65,7 @@ all_none : {X : Type 0} → (p : X → Bool) (xs : List X) → list_any p xs ≡
 all_none p [] e = All-nil _
 all_none p (x ∷ xs) e = let b = either_none (p x) (list_any p xs) e in All-cons (λ y. p y ≡ false) x xs b.0 (all_none p xs b.1)
 
-any_has : {X : Type 0} → (p : X → Bool) (xs : List X) (x : X) → Contains xs x → p x ≡ true → list_any p xs ≡ true
+pub any_has : {X : Type 0} → (p : X → Bool) (xs : List X) (x : X) → Contains xs x → p x ≡ true → list_any p xs ≡ true
 any_has p xs x there is = by_test (list_any p xs) refl
   where
     by_test : (b : Bool) → list_any p xs ≡ b → list_any p xs ≡ true

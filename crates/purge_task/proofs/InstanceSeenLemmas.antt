@@ -36,7 +36,7 @@ without_it id disk store = record store { disk = disk; instances = record store.
 
 -- ---- what is known
 
-none_with : (id : InstId) (known : List KnownInstance) → find (has_id id) (without_instance id known) ≡ None
+pub none_with : (id : InstId) (known : List KnownInstance) → find (has_id id) (without_instance id known) ≡ None
 none_with id [] = refl
 none_with id (k ∷ known) = elim (cases_Bool (has_id id k)) [
   | inl is ↦ ap (λ (b : Bool). find (has_id id) (if not b then k ∷ without_instance id known else without_instance id known)) is ∙ none_with id known

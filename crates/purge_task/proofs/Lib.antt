@@ -1,3 +1,4 @@
+pub mod BesideLemmas
 pub mod CleanLemmas
 pub mod ContentsLemmas
 pub mod CopyLemmas
@@ -5,7 +6,9 @@ pub mod CopyStepLemmas
 pub mod EventLemmas
 pub mod FailLemmas
 pub mod FindLemmas
+pub mod FindsLemmas
 pub mod FreeInstanceLemmas
+pub mod GoneCallLemmas
 pub mod GoneLemmas
 pub mod HeaderLemmas
 pub mod InstanceSeenLemmas
@@ -13,9 +16,11 @@ pub mod KeptLemmas
 pub mod LeavingLemmas
 pub mod ListingLemmas
 pub mod NextLemmas
+pub mod NumberLemmas
 pub mod PartLemmas
 pub mod ReadingLemmas
 pub mod RegionLemmas
+pub mod RemovalCallLemmas
 pub mod RemovalLemmas
 pub mod RemovalSeenLemmas
 pub mod RunLemmas

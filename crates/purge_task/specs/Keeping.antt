@@ -145,3 +145,12 @@ HasPurged (stage.Begin work) store history = HasBlock work × AreApart (sources_
 HasPurged (stage.Copying work) store history = HasBlock work × AreApart (sources_left work) × IsCopyingFirst (sources_left work) work store history
 HasPurged (stage.Removing work) store history = HasBlock work × AreApart (sources_left work) × IsRemovingFirst (sources_left work) work store
 HasPurged other store history = Unit {0}
+
+-- ---- its numbers
+
+-- The numbers that it counts fit: so many files it has emptied, each with at most 4,294,967,295 records; and it removes no more instances
+-- than are known, and than are still placed.
+pub record HasCountRoom {D : Type 0} (t : PurgeValue) (store : StoreValue D) : Type 0 where
+  pub dropped : t.dropped ≤ t.files * 4294967295
+  pub files : t.files ≤ 4294967294
+  pub instances : t.instances + length store.instances.known ≤ 9223372036854775808 + store.instances.highest

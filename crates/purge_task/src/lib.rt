@@ -1,7 +1,7 @@
 //! A purge, done event by event: what no mailbox lists leaves the storage files, beneath those who read them.
 #![tactic(auto)]
 
-pub use laws::purge_stages_are_kept;
+pub use laws::{purge_stages_are_kept, purges_stand};
 pub use task::PurgeTask;
 
 mod contents;

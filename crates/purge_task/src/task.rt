@@ -1,15 +1,23 @@
 // The task of a purge.
-ghost use Rattle.std.specs.Prelude.{◌≡◌, ◌≢◌, ◌↔◌, true, false};
-ghost use Rattle.disk_model.specs.FaultCounts.{NoFault};
+ghost use Rattle.std.specs.Prelude.{◌≡◌, ◌≤◌, ◌<◌, ◌↔◌, ℕ, List, length, true, false, Some, None};
+ghost use Rattle.disk_model.specs.Disk.{Grows};
+ghost use Rattle.journal.specs.Events.{Around};
+ghost use Rattle.mdbox_base.specs.Streams.{Rose};
+ghost use Rattle.model_kept.specs.Kept.{MailIsKept};
+ghost use Rattle.task_steps.specs.Step.{ended_by};
+ghost use Rattle.mdbox_base.specs.Words.{IsOctets};
 ghost use Rattle.mdbox_base.specs.declared.progress.Did.TheVariants as did;
 ghost use Rattle.mdbox_base.specs.declared.progress.Progress.TheVariants as progress;
 ghost use Rattle.mdbox_base.specs.declared.replies.Refusal.TheVariants as refusal;
 ghost use Rattle.mdbox_base.specs.declared.replies.Reply.{Reply as ReplyValue};
 ghost use Rattle.mdbox_base.specs.declared.replies.Reply.TheVariants as reply;
+ghost use Rattle.store_core.specs.Removing.{useless_past};
 ghost use Rattle.task_claims.specs.Claims.{ClaimsNothing, MovesClaims};
 ghost use Rattle.task_claims.specs.Leaving.{LeavesOthers};
 ghost use Rattle.purge_task.specs.Claims.{purge_claims};
-ghost use Rattle.purge_task.specs.Keeping.{HasPurged};
+ghost use Rattle.purge_task.specs.Clause.{IsPurgeStep, PurgeSteps, answer_of, at_stage, came_to, refused_did};
+ghost use Rattle.purge_task.specs.Keeping.{HasCountRoom, HasPurged, PurgeValue};
+ghost use Rattle.purge_task.specs.Stages.{IsNextStage};
 ghost use Rattle.purge_task.specs.declared.task.PurgeStage.TheVariants as stage;
 
 use crate::copying::{copy_message, next_wanted};
@@ -18,7 +26,7 @@ use crate::switching::switch;
 use crate::taking::{make_target, reserve, take_files};
 use crate::work::{Source, Work};
 use disk_model::Disk;
-use mdbox_base::{Did, FileNo, Half, Progress, Refusal, Reply};
+use mdbox_base::{Did, Half, InstId, Progress, Refusal, Reply};
 use std::marker::Model;
 use std::mem;
 use store_core::Store;
@@ -90,9 +98,15 @@ impl PurgeTask {
 
     /// Does the next event. A task that has given its reply begins anew; one that was stopped stays where it was.
     pub fn step<D: Disk>(&mut self, store: &mut Store<D>) -> Progress
-        // What it has taken, made and copied so far is so in the store, and on a disk that is modelled, also afterwards.
+        // Unless the store is stopped, what it has taken, made and copied so far is so in the store, and on a disk that is modelled;
+        // and so it is afterwards, if it goes on.
         requires ready { store.old.stopped ≡ false → HasPurged self.old.stage store.old (D.history store.old.disk) }
+        requires fits { store.old.stopped ≡ false → HasCountRoom self.old store.old }
         ensures ready { result ≡ progress.More → store.new.stopped ≡ false → HasPurged self.new.stage store.new (D.history store.new.disk) }
+
+        // Of every run that has come to the store, and whose requests use what is used in it: which event it was, of the files that the
+        // first one finds, what it answered, and which crash images it leaves.
+        ensures does { (files : List ℕ) × ((after : Around) → PurgeSteps files after self.old self.new store.old store.new (D.history store.old.disk) (D.history store.new.disk) (D.faults store.old.disk) (D.faults store.new.disk) (ended_by result)) }
 
         // A store that is stopped replies so, and no other does.
         ensures stopped { (result ≡ progress.Done (reply.Refused refusal.Stopped)) ↔ (store.new.stopped ≡ true) }
@@ -103,6 +117,15 @@ impl PurgeTask {
         ensures claims { store.new.stopped ≡ false → MovesClaims (purge_claims self.old.stage) (purge_claims self.new.stage) store.old store.new }
         ensures leaves { store.new.stopped ≡ false → LeavesOthers (purge_claims self.old.stage) store.old store.new (D.history store.old.disk) (D.history store.new.disk) }
         ensures ended { (given : ReplyValue) → result ≡ progress.Done given → store.new.stopped ≡ false → ClaimsNothing (purge_claims self.new.stage) }
+
+        // At each moment storage files and instances have what the map needs. Unless the store is stopped then, no change of the disk
+        // failed; an event that stops it is one in which a change failed, and no read.
+        ensures grows { Grows (D.history store.old.disk) (D.history store.new.disk) }
+        ensures mail { MailIsKept store.old.map (D.history store.old.disk) (D.history store.new.disk) }
+        ensures reads { (D.faults store.old.disk).reads ≤ (D.faults store.new.disk).reads }
+        ensures changes { (D.faults store.old.disk).changes ≤ (D.faults store.new.disk).changes }
+        ensures unfailed { store.new.stopped ≡ false → (D.faults store.new.disk).changes ≡ (D.faults store.old.disk).changes }
+        ensures fell { store.old.stopped ≡ false → store.new.stopped ≡ true → Rose (D.faults store.old.disk).changes (D.faults store.new.disk).changes × ((D.faults store.new.disk).reads ≡ (D.faults store.old.disk).reads) }
     {
         self.did = Did::Quiet;
         if store.stopped() {
@@ -112,7 +135,7 @@ impl PurgeTask {
             PurgeStage::First => self.begin(store),
             PurgeStage::Begin(work) => self.begin_file(store, work),
             PurgeStage::Copying(work) => self.copy_or_switch(store, work),
-            PurgeStage::Removing(work) => self.remove_source(store, work),
+            PurgeStage::Removing(work) => remove_source(store, work),
             PurgeStage::Instances => return self.remove_instance(store),
         };
         match next {
@@ -153,7 +176,7 @@ impl PurgeTask {
             self.switch(store, work)
         } else {
             self.done.files += 1;
-            self.remove(store, work, source.file)
+            remove_bare(store, work)
         }
     }
 
@@ -193,40 +216,39 @@ impl PurgeTask {
         Ok(goes_on(work))
     }
 
-    /// Removes the present file, which was switched.
-    fn remove_source<D: Disk>(
-        &mut self,
-        store: &mut Store<D>,
-        work: Work,
-    ) -> Result<PurgeStage, Refusal> {
-        let Some(source) = work.present() else {
-            unreachable!()
-        };
-        self.remove(store, work, source.file)
-    }
-
-    fn remove<D: Disk>(
-        &mut self,
-        store: &mut Store<D>,
-        work: Work,
-        file: FileNo,
-    ) -> Result<PurgeStage, Refusal> {
-        let mut work = work;
-        store.remove_file(file).map_err(|_| Refusal::Stopped)?;
-        work.go_on();
-        Ok(goes_on(work))
-    }
-
     /// Removes the next instance that nobody needs, or gives the reply.
-    fn remove_instance<D: Disk>(&mut self, store: &mut Store<D>) -> Progress {
-        let Some(id) = store.next_useless(None) else {
-            self.did = Did::Step(Half::Whole);
-            return Progress::Done(Reply::Purged {
-                dropped: self.done.dropped,
-                files: self.done.files,
-                instances: self.done.instances,
-            });
-        };
+    fn remove_instance<D: Disk>(&mut self, store: &mut Store<D>) -> Progress
+        requires running { store.old.stopped ≡ false }
+        requires fits { self.old.instances < 18446744073709551615 }
+        requires first { self.old.stage ≡ stage.First }
+        requires quiet { self.old.did ≡ did.Quiet }
+        ensures { IsPurgeStep (at_stage stage.Instances self.old) self.new result store.old store.new (D.history store.old.disk) (D.history store.new.disk) (D.faults store.old.disk) (D.faults store.new.disk) }
+    {
+        store.facts();
+        match store.next_useless(None) {
+            Some(id) => self.remove_useless(store, id),
+            None => {
+                self.did = Did::Step(Half::Whole);
+                Progress::Done(Reply::Purged {
+                    dropped: self.done.dropped,
+                    files: self.done.files,
+                    instances: self.done.instances,
+                })
+            }
+        }
+    }
+
+    /// Removes this instance, which is the next one that nobody needs.
+    fn remove_useless<D: Disk>(&mut self, store: &mut Store<D>, id: InstId) -> Progress
+        requires running { store.old.stopped ≡ false }
+        requires fits { self.old.instances < 18446744073709551615 }
+        requires first { self.old.stage ≡ stage.First }
+        requires quiet { self.old.did ≡ did.Quiet }
+        requires useless { useless_past None store.old.map store.old.instances.known ≡ Some id }
+        ensures { IsPurgeStep (at_stage stage.Instances self.old) self.new result store.old store.new (D.history store.old.disk) (D.history store.new.disk) (D.faults store.old.disk) (D.faults store.new.disk) }
+    {
+        store.facts();
+        known_id(id);
         match store.remove_instance(id) {
             Ok(()) => {
                 self.done.instances += 1;
@@ -241,8 +263,60 @@ impl PurgeTask {
     }
 }
 
+/// An id has 16 octets.
+fn known_id(id: InstId)
+    ensures long { length id.0 ≡ 16 }
+    ensures octets { IsOctets id.0 }
+{
+    known_octets(&id.0);
+}
+
+/// Octets are below 256.
+fn known_octets(octets: &[u8])
+    ensures { IsOctets octets.now }
+{
+    let _length = octets.len();
+}
+
+/// Removes the present file, which was switched.
+fn remove_source<D: Disk>(store: &mut Store<D>, work: Work) -> Result<PurgeStage, Refusal>
+    requires running { store.old.stopped ≡ false }
+    requires ready { HasPurged (stage.Removing work) store.old (D.history store.old.disk) }
+    ensures { (t : PurgeValue) → t.stage ≡ stage.Removing work → IsPurgeStep t (came_to result t) (answer_of result) store.old store.new (D.history store.old.disk) (D.history store.new.disk) (D.faults store.old.disk) (D.faults store.new.disk) }
+{
+    store.facts();
+    let mut work = work;
+    let Some(source) = work.present() else {
+        unreachable!()
+    };
+    match store.remove_file(source.file) {
+        Ok(()) => {
+            work.go_on();
+            Ok(goes_on(work))
+        }
+        Err(_) => Err(Refusal::Stopped),
+    }
+}
+
+/// Removes the present file, which was taken and in which no message lies.
+fn remove_bare<D: Disk>(store: &mut Store<D>, work: Work) -> Result<PurgeStage, Refusal> {
+    let mut work = work;
+    let Some(source) = work.present() else {
+        unreachable!()
+    };
+    match store.remove_file(source.file) {
+        Ok(()) => {
+            work.go_on();
+            Ok(goes_on(work))
+        }
+        Err(_) => Err(Refusal::Stopped),
+    }
+}
+
 /// The stage behind a file: the next one's, or that of instances.
-fn goes_on(work: Work) -> PurgeStage {
+fn goes_on(work: Work) -> PurgeStage
+    ensures { IsNextStage work result }
+{
     if work.present().is_some() {
         PurgeStage::Begin(work)
     } else {
@@ -264,7 +338,9 @@ fn give_back<D: Disk>(store: &mut Store<D>, sources: &[Source]) {
 }
 
 /// What an event did by which the purge was refused. A refusal for want of numbers is a step.
-fn did_refused(why: &Refusal) -> Did {
+fn did_refused(why: &Refusal) -> Did
+    ensures { result ≡ refused_did why.now }
+{
     match why {
         Refusal::NoMemory | Refusal::ReadFault => Did::Quiet,
         Refusal::Stopped => Did::Failed,

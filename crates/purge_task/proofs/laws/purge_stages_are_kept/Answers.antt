@@ -5,6 +5,8 @@ use Rattle.purge_task.proofs.StoppedLemmas.{stopped_steps}
 use Rattle.purge_task.proofs.TargetLemmas.{target_steps}
 use Rattle.purge_task.proofs.SwitchStepLemmas.{switch_steps}
 use Rattle.purge_task.proofs.FailLemmas.{fail_steps, unread_steps}
+use Rattle.purge_task.proofs.FindsLemmas.{finds_files}
+use Rattle.purge_task.proofs.RemovalCallLemmas.{removing_one, removing_says}
 use Rattle.purge_task.proofs.LeavingLemmas.{gone_leaves, removal_leaves}
 use Rattle.purge_task.proofs.WithinLemmas.{uids_within}
 use Rattle.purge_task.proofs.CopyLemmas.{none_is_left}
