@@ -39,6 +39,10 @@ pub mod SwitchStepLemmas
 pub mod SwitchedLemmas
 pub mod TargetLemmas
 pub mod TargetSeenLemmas
+pub mod TakeableLemmas
+pub mod TakenClaimLemmas
+pub mod TakenLemmas
+pub mod TakenStateLemmas
 pub mod WalkLemmas
 pub mod WithinLemmas
 pub mod WorkLemmas

@@ -1,5 +1,5 @@
 -- What a purge takes at its first event: the files that it empties, and a number for each target.
-use Rattle.std.specs.Prelude.{◌≡◌, ◌≤◌, ◌<◌, ◌+◌, ◌*◌, ℕ, false, true, List, [], ◌∷◌, fold, length, count_by, if◌then◌else◌, Some, All, AllPairs}
+use Rattle.std.specs.Prelude.{◌≡◌, ◌≤◌, ◌<◌, ◌+◌, ℕ, false, List, [], ◌∷◌, fold, count_by, if◌then◌else◌, Some, All, AllPairs}
 use Rattle.mdbox_base.specs.declared.ids.FileNo.{FileNo}
 use Rattle.storage_files.specs.declared.file.MailFile.{MailFile}
 use Rattle.storage_files.specs.declared.file.Take.TheVariants.{New}
