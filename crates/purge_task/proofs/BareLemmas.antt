@@ -34,7 +34,7 @@ use Rattle.purge_task.proofs.StageLemmas.{at_next}
 
 -- As the journal has it, the file that the last event doomed comes first, so this asks that it is the one to be removed.
 pub bare_steps : {D : Type 0} → (after : Around) (t next : PurgeValue) (work : Work) (source : Source) (left : List Source) (disk : D) (old : StoreValue D) (before later : Option History) (began faults : Faults) → t.stage ≡ stage.Begin work → sources_left work ≡ source ∷ left → source.target ≡ None → AreApart (source ∷ left)
-    → ((run : Run) (place : ℕ) (said : List Reply) → IsAtPurge t old run place said → file_to_remove (own_events place run) ≡ Some source.file.0) → IsNextStage (went_on work) next.stage → next.did ≡ did.Quiet → next.dropped ≡ t.dropped → next.files ≡ t.files + 1 → next.instances ≡ t.instances → old.stopped ≡ false → pins_in source.file.0 old.files.files ≡ 0
+    → ((run : Run) (place : ℕ) (said : List Reply) → IsAtPurge t old run place said → file_to_remove run (own_events place run) ≡ Some source.file.0) → IsNextStage (went_on work) next.stage → next.did ≡ did.Quiet → next.dropped ≡ t.dropped → next.files ≡ t.files + 1 → next.instances ≡ t.instances → old.stopped ≡ false → pins_in source.file.0 old.files.files ≡ 0
     → source.file.0 ≤ old.drawn.file → AreElsewhere source.file.0 old.map.records → LeavesSettled old.map before later began faults → PurgeSteps [] after t next old (without source.file.0 disk old) before later began faults None
 bare_steps after t next work source left disk old before later began faults at is none apart removes to how dropped counted instances ran unpinned drawn elsewhere leaves = λ run lane place said lists come shows stood.
     let around : Around = around_purging [] old in

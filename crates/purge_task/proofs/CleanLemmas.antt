@@ -7,6 +7,7 @@ use Rattle.std.proofs.lemmas.List.Elements.{All-head, All-tail}
 use Rattle.std.proofs.lemmas.List.Sums.{sum_by-cons}
 use Rattle.disk_model.specs.Disk.{DiskState, Files, History, IfTold, reading}
 use Rattle.disk_model.specs.declared.name.FileName.TheVariants.{Mail}
+use Rattle.journal.specs.QuietPurge.{IsClean, IsCleanFile}
 use Rattle.list_machine.specs.Run.{is_copied_from}
 use Rattle.mdbox_base.specs.declared.replies.Refusal.{Refusal}
 use Rattle.model_meaning.specs.MapMeaning.{MapRecord, MapMeaning}
@@ -18,7 +19,7 @@ use Rattle.storage_files.specs.Files.{end_in, file_in, is_doomed_in, is_emptied_
 use Rattle.storage_files.specs.OnDisk.{piece_read}
 use Rattle.store_core.specs.Running.{IsStore}
 use Rattle.store_core.specs.Value.{StoreValue}
-use Rattle.purge_task.specs.Found.{AreContents, IsFilled, IsFoundFile, IsFullToEnd, IsHeaderOf, IsWhollyClean, MayBeEmptied}
+use Rattle.purge_task.specs.Found.{AreContents, IsFilled, IsFoundFile, IsFullToEnd, IsHeaderOf, MayBeEmptied}
 use Rattle.purge_task.specs.declared.contents.Contents.{Contents}
 use Rattle.purge_task.specs.declared.finding.FoundFile.{FoundFile}
 use Rattle.purge_task.proofs.HeaderLemmas.{begins_as_read, line_as_read, line_some, line_short, too_few}
@@ -50,27 +51,26 @@ header_as_read (Some d) n size line (Ok b) long read is =
 
 -- ---- a clean file
 
-wholly : (files : Files) (m : MapMeaning) (n first : ℕ) (c : Contents) (o : Option (List ℕ)) → files (Mail n) ≡ o → AreContents m n c → c.first ≡ Some first → c.is_full ≡ true → option_map length o ≡ Some c.end → IsHeaderOf first o → IsWhollyClean files m n
+wholly : (files : Files) (m : MapMeaning) (n first : ℕ) (c : Contents) (o : Option (List ℕ)) → files (Mail n) ≡ o → AreContents m n c → c.first ≡ Some first → c.is_full ≡ true → option_map length o ≡ Some c.end → IsHeaderOf first o → IsCleanFile files m n
 wholly files m n first c None there are at full ends of = absurd of
 wholly files m n first c (Some octets) there are at full ends (header, line, begins, long) =
     let e : length octets ≡ c.end = cc ends in
-    record {
-      octets = octets;
-      header = header;
-      there = there;
-      begins = (line, subst (λ (k : ℕ). take k octets ≡ header) (sym long) begins);
-      filled = subst (λ (k : ℕ). IsFilled m n (length header) k) (sym e) (subst (λ (k : ℕ). IsFilled m n k c.end) (sym long) (are.full first at full));
-    }
+    let filled : IsFilled m n (length header) (length octets) = subst (λ (k : ℕ). IsFilled m n (length header) k) (sym e) (subst (λ (k : ℕ). IsFilled m n k c.end) (sym long) (are.full first at full)) in
+    (octets, there, record { header = header; rows = filled.0; begins = (line, subst (λ (k : ℕ). take k octets ≡ header) (sym long) begins); some = filled.1.some; mapped = filled.1.mapped; every = filled.1.every; whole = filled.1.whole })
 
-begins_first : (files : Files) (m : MapMeaning) (n first : ℕ) (c : Contents) → IsWhollyClean files m n → AreContents m n c → c.first ≡ Some first → IsHeaderOf first (files (Mail n))
-begins_first files m n first c w are at =
-    let x = are.exactly (length w.header) (length w.octets) w.filled in
+-- its messages fill it behind its header
+clean_filled : (m : MapMeaning) (n : ℕ) (octets : List ℕ) (w : IsClean m n octets) → IsFilled m n (length w.header) (length octets)
+clean_filled m n octets w = (w.rows, record { some = w.some; mapped = w.mapped; every = w.every; whole = w.whole })
+
+begins_first : (files : Files) (m : MapMeaning) (n first : ℕ) (c : Contents) → IsCleanFile files m n → AreContents m n c → c.first ≡ Some first → IsHeaderOf first (files (Mail n))
+begins_first files m n first c (octets, there, w) are at =
+    let x = are.exactly (length w.header) (length octets) (clean_filled m n octets w) in
     let same : Some first ≡ Some (length w.header) = sym at ∙ x.0 in
     let e : first ≡ length w.header = cc same in
-    subst (IsHeaderOf first) (sym w.there) (w.header, w.begins.0, subst (λ (k : ℕ). take k w.octets ≡ w.header) (sym e) w.begins.1, sym e)
+    subst (IsHeaderOf first) (sym there) (w.header, w.begins.0, subst (λ (k : ℕ). take k octets ≡ w.header) (sym e) w.begins.1, sym e)
 
 pub clean_as_begins : {D : Type 0} → (store : StoreValue D) (history : Option History) (n first : ℕ) (c : Contents) (r : Result Bool Refusal) → IsStore history store → store.stopped ≡ false → AreContents store.map n c → c.first ≡ Some first → c.is_full ≡ true → end_in n store.files.files ≡ Some c.end
-    → IfOk r (λ begins. IfTold history (λ now. IsTrue begins ↔ IsHeaderOf first (reading (now (Mail n))))) → IfOk r (λ clean. IfTold history (λ now. IsTrue clean ↔ IsWhollyClean (files_of now) store.map n))
+    → IfOk r (λ begins. IfTold history (λ now. IsTrue begins ↔ IsHeaderOf first (reading (now (Mail n))))) → IfOk r (λ clean. IfTold history (λ now. IsTrue clean ↔ IsCleanFile (files_of now) store.map n))
 clean_as_begins store history n first c (Err e) is run are at full ends h = tt
 clean_as_begins store None n first c (Ok b) is run are at full ends h = tt
 clean_as_begins store (Some d) n first c (Ok b) is run are at full ends h =
@@ -84,12 +84,12 @@ pub full_to_end : {D : Type 0} → (store : StoreValue D) (n first : ℕ) (c : C
 full_to_end store n first c are at full ends = (first, c.end, ends, are.full first at full)
 
 pub unclean_unfilled : {D : Type 0} → (store : StoreValue D) (history : Option History) (n : ℕ) (c : Contents) → IsStore history store → store.stopped ≡ false → AreContents store.map n c → ((first : ℕ) → c.first ≡ Some first → c.is_full ≡ true → end_in n store.files.files ≡ Some c.end → ⊥)
-    → IfTold history (λ now. IsTrue false ↔ IsWhollyClean (files_of now) store.map n)
+    → IfTold history (λ now. IsTrue false ↔ IsCleanFile (files_of now) store.map n)
 unclean_unfilled store None n c is run are unfilled = tt
 unclean_unfilled store (Some d) n c is run are unfilled =
     let known : option_map length (reading (d.now (Mail n))) ≡ end_in n store.files.files = (is.running run).files_known n in (
       (λ h. absurd (let w : false ≡ true = h in cc w)),
-      λ clean. absurd (let x = are.exactly (length clean.header) (length clean.octets) clean.filled in unfilled (length clean.header) x.0 x.2 (sym known ∙ ap (option_map length) clean.there ∙ ap Some (sym x.1))),
+      λ clean. absurd (let x = are.exactly (length clean.2.header) (length clean.0) (clean_filled store.map n clean.0 clean.2) in unfilled (length clean.2.header) x.0 x.2 (sym known ∙ ap (option_map length) clean.1 ∙ ap Some (sym x.1))),
     )
 
 -- ---- what is found of a file

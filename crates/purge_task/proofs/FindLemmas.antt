@@ -8,6 +8,7 @@ use Rattle.std.proofs.lemmas.List.{append-nil, get_or_append_left, get_or_push, 
 use Rattle.std.proofs.lemmas.List.Elements.{All-nil, All-cons, All-push, All-weaker, Contains-push, Contains-append_left}
 use Rattle.disk_model.specs.Disk.{History, IfTold, IsIdle}
 use Rattle.disk_model.proofs.IdleLemmas.{idle-back}
+use Rattle.journal.specs.QuietPurge.{IsCleanFile}
 use Rattle.mdbox_base.specs.declared.ids.FileNo.{FileNo}
 use Rattle.model_meaning.proofs.MapPlaceLemmas.{equal_is, equal_yes}
 use Rattle.model_octets.proofs.PairLemmas.{pairs_head, pairs_tail, found_holds}
@@ -17,7 +18,7 @@ use Rattle.storage_files.specs.Files.{end_in, file_past, is_number_past}
 use Rattle.store_core.specs.Value.{StoreValue}
 use Rattle.model_meaning.specs.MapMeaning.{greatest}
 use Rattle.purge_task.specs.declared.finding.Found.{Found}
-use Rattle.purge_task.specs.Found.{AreAllBut, AreFound, HasFound, targets_in, IsFoundAs, IsFoundFile, IsFullToEnd, IsWhollyClean, MayBeEmptied, found_numbers}
+use Rattle.purge_task.specs.Found.{AreAllBut, AreFound, HasFound, targets_in, IsFoundAs, IsFoundFile, IsFullToEnd, MayBeEmptied, found_numbers}
 use Rattle.purge_task.specs.declared.finding.FoundFile.{FoundFile}
 use Rattle.purge_task.proofs.WalkLemmas.{both, below_is, not_below, not_below_is, unequal}
 
@@ -143,7 +144,7 @@ increasing_push xs y rising all = λ k lt.
 -- ---- so far
 
 abbrev pub IsPassedOver : {D : Type 0} → StoreValue D → Option History → ℕ → Type 0
-IsPassedOver store history n = IsFullToEnd store n × IfTold history (λ now. IsWhollyClean (files_of now) store.map n)
+IsPassedOver store history n = IsFullToEnd store n × IfTold history (λ now. IsCleanFile (files_of now) store.map n)
 
 -- what was found up to this file
 pub record IsFoundUpTo {D : Type 0} (store : StoreValue D) (history : Option History) (after : Option FileNo) (files : List FoundFile) : Type 0 where
@@ -152,17 +153,17 @@ pub record IsFoundUpTo {D : Type 0} (store : StoreValue D) (history : Option His
   pub free : All (MayBeEmptied store.files.files) (found_numbers files)
   pub each : All (IsFoundFile store.map) files
   pub every : (n : ℕ) → MayBeEmptied store.files.files n → is_number_past after n ≡ false → Contains (found_numbers files) n ⊎ IsPassedOver store history n
-  pub unclean : IfTold history (λ now. All (λ n. IsWhollyClean (files_of now) store.map n → ⊥) (found_numbers files))
+  pub unclean : IfTold history (λ now. All (λ n. IsCleanFile (files_of now) store.map n → ⊥) (found_numbers files))
 
-told_nil : {D : Type 0} → (store : StoreValue D) (history : Option History) → IfTold history (λ now. All (λ n. IsWhollyClean (files_of now) store.map n → ⊥) [])
+told_nil : {D : Type 0} → (store : StoreValue D) (history : Option History) → IfTold history (λ now. All (λ n. IsCleanFile (files_of now) store.map n → ⊥) [])
 told_nil store None = tt
-told_nil store (Some h) = All-nil (λ n. IsWhollyClean (files_of h.now) store.map n → ⊥)
+told_nil store (Some h) = All-nil (λ n. IsCleanFile (files_of h.now) store.map n → ⊥)
 
-told_push : {D : Type 0} → (store : StoreValue D) (history : Option History) (files : List FoundFile) (f : FoundFile) (n : ℕ) → found_numbers (files ++ f ∷ []) ≡ found_numbers files ++ n ∷ [] → IfTold history (λ now. All (λ k. IsWhollyClean (files_of now) store.map k → ⊥) (found_numbers files)) → IfTold history (λ now. IsWhollyClean (files_of now) store.map n → ⊥) → IfTold history (λ now. All (λ k. IsWhollyClean (files_of now) store.map k → ⊥) (found_numbers (files ++ f ∷ [])))
+told_push : {D : Type 0} → (store : StoreValue D) (history : Option History) (files : List FoundFile) (f : FoundFile) (n : ℕ) → found_numbers (files ++ f ∷ []) ≡ found_numbers files ++ n ∷ [] → IfTold history (λ now. All (λ k. IsCleanFile (files_of now) store.map k → ⊥) (found_numbers files)) → IfTold history (λ now. IsCleanFile (files_of now) store.map n → ⊥) → IfTold history (λ now. All (λ k. IsCleanFile (files_of now) store.map k → ⊥) (found_numbers (files ++ f ∷ [])))
 told_push store None files f n e a unclean = tt
-told_push store (Some h) files f n e a unclean = subst (All (λ k. IsWhollyClean (files_of h.now) store.map k → ⊥)) (sym e) (All-push (λ k. IsWhollyClean (files_of h.now) store.map k → ⊥) (found_numbers files) n a unclean)
+told_push store (Some h) files f n e a unclean = subst (All (λ k. IsCleanFile (files_of h.now) store.map k → ⊥)) (sym e) (All-push (λ k. IsCleanFile (files_of h.now) store.map k → ⊥) (found_numbers files) n a unclean)
 
-told_passed : {D : Type 0} → (store : StoreValue D) (history : Option History) (numbers : List ℕ) → IsStrictlyIncreasing numbers → All (MayBeEmptied store.files.files) numbers → ((n : ℕ) → MayBeEmptied store.files.files n → Contains numbers n ⊎ IsPassedOver store history n) → IfTold history (λ now. AreAllBut (IsWhollyClean (files_of now) store.map) store.files.files numbers)
+told_passed : {D : Type 0} → (store : StoreValue D) (history : Option History) (numbers : List ℕ) → IsStrictlyIncreasing numbers → All (MayBeEmptied store.files.files) numbers → ((n : ℕ) → MayBeEmptied store.files.files n → Contains numbers n ⊎ IsPassedOver store history n) → IfTold history (λ now. AreAllBut (IsCleanFile (files_of now) store.map) store.files.files numbers)
 told_passed store None numbers rising free every = tt
 told_passed store (Some h) numbers rising free every = record { rising = rising; free = free; every = λ n may. elim (every n may) [ inl has ↦ inl has | inr over ↦ inr over.1 ] }
 
@@ -209,8 +210,8 @@ find_passes store history after file files rising e passed so = record {
 -- what is found goes by the disk as it is read
 pub found_back : {D : Type 0} → (store : StoreValue D) (old new : Option History) (n : ℕ) (o : Option FoundFile) → IsIdle old new → IsFoundAs store new n o → IsFoundAs store old n o
 found_back store old new n None idle (inl taken) = inl taken
-found_back store old new n None idle (inr over) = inr (over.0, idle-back (λ now. IsWhollyClean (files_of now) store.map n) old new idle over.1)
-found_back store old new n (Some f) idle is = (is.0, is.1, is.2, idle-back (λ now. IsWhollyClean (files_of now) store.map n → ⊥) old new idle is.3)
+found_back store old new n None idle (inr over) = inr (over.0, idle-back (λ now. IsCleanFile (files_of now) store.map n) old new idle over.1)
+found_back store old new n (Some f) idle is = (is.0, is.1, is.2, idle-back (λ now. IsCleanFile (files_of now) store.map n → ⊥) old new idle is.3)
 
 -- the next file is found
 pub find_adds : {D : Type 0} → (store : StoreValue D) (history : Option History) (after : Option FileNo) (file : FileNo) (files : List FoundFile) (f : FoundFile) → AllPairs (λ a b. a.file.0 < b.file.0) store.files.files → file_past after store.files.files ≡ Some file

@@ -58,6 +58,7 @@ pub record IsBegunOf (drawn : ℕ) (old new : List MailFile) : Type 0 where
   pub ended : (n : ℕ) → option_and_then (λ f. f.end) (file_in n new) ≡ option_and_then (λ f. f.end) (file_in n old)
   pub used : (n : ℕ) → n ≤ drawn → uses (file_in n new) ≡ uses (file_in n old)
   pub barred : (n : ℕ) → n ≤ drawn → bars (file_in n new) ≡ bars (file_in n old)
+  pub before : (n offset : ℕ) → n ≤ drawn → is_before offset (file_in n new) ≡ is_before offset (file_in n old)
 
 -- the store with other files, more numbers drawn, and more room in the map log
 abbrev pub with_begun : {D : Type 0} → D → LogState → FilesValue → ℕ → StoreValue D → StoreValue D
@@ -106,7 +107,7 @@ first_comes {D = D} run lane place taken drew disk log files old before after be
   gave = λ guid e.
       let p = both_true (is_own old.map.store guid) (nat_le (number_at 8 guid) old.drawn.file && is_before (number_at 12 guid) (file_in (number_at 8 guid) old.files.files)) (h.gave guid (sym (given_still run event guid refl) ∙ e)) in
       and_true (is_own old.map.store guid) (nat_le (number_at 8 guid) (old.drawn.file + drew) && is_before (number_at 12 guid) (file_in (number_at 8 guid) files.files)) p.0
-      (more_drawn (number_at 8 guid) old.drawn.file drew (is_before (number_at 12 guid) (file_in (number_at 8 guid) old.files.files)) (is_before (number_at 12 guid) (file_in (number_at 8 guid) files.files)) (λ l. ap (λ (o : Option ℕ). option_map_or (λ end. nat_lt (number_at 12 guid) end) o true) (is.ended (number_at 8 guid))) p.1);
+      (more_drawn (number_at 8 guid) old.drawn.file drew (is_before (number_at 12 guid) (file_in (number_at 8 guid) old.files.files)) (is_before (number_at 12 guid) (file_in (number_at 8 guid) files.files)) (is.before (number_at 8 guid) (number_at 12 guid)) p.1);
   gone = λ row e. h.gone row (sym (gone_still run event row refl) ∙ e);
   files = λ n e. file_still_known run event n refl (h.files n (sym (ap (λ (o : Option ℕ). is_some o) (is.ended n)) ∙ e));
 }

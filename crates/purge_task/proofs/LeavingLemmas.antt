@@ -32,6 +32,7 @@ use Rattle.store_core.specs.Value.{StoreValue}
 use Rattle.store_core.proofs.InstanceKeepingLemmas.{kept_same, reads_placed}
 use Rattle.task_claims.specs.Claims.{Claims, Emptied, Held, OthersClaim, Pinned, Removing, Taken}
 use Rattle.task_claims.specs.Leaving.{HasRegionOctets, HaveSameInstances, IsSameOrSynced, LeavesFile, LeavesInstance, LeavesOthers, LeavesRecord, MayOnlyGrow, OnlyGrows, OthersTook, PlacesFew, known_but_pins}
+use Rattle.task_claims.proofs.CountedLemmas.{unraised_same}
 use Rattle.task_claims.proofs.RestLemmas.{instance_kept, none_placed}
 use Rattle.purge_task.proofs.InstanceSeenLemmas.{other_with, without_it}
 use Rattle.purge_task.proofs.RemovalSeenLemmas.{without}
@@ -107,6 +108,7 @@ removal_leaves mine n disk old before after elsewhere untaken ungrown same firm 
         | inr apart ↦ file_grows number n disk old before after apart same
       ];
       instances = λ row known more. instance_kept row old new before after keeps known;
+      unraised = unraised_same old.map old.map refl;
       store = refl;
       numbers = none_placed old.instances;
       mailboxes = stays old.map.highest.mailbox;
@@ -215,6 +217,7 @@ gone_leaves mine k disk old before after none others same firm = record {
         (λ a b s octets is. ([], ap reading (s (file.Mail number) (mail_apart number k.row.hash.0 k.row.id.0)) ∙ (is ∙ ap Some (sym (append-nil octets))))) same;
   };
   instances = λ row known more. gone_instance row k disk old before after (λ e. let l : mine (Held row.id) < holders_in row.id old.instances.known = more in let z : holders_in row.id old.instances.known ≡ 0 = ap (λ (i : InstId). holders_in i old.instances.known) (same_id row.id k.row.id e) ∙ none in omega (arith, l, z)) same known;
+  unraised = unraised_same old.map old.map refl;
   store = refl;
   numbers = record {
     drawn = stays old.instances.highest;

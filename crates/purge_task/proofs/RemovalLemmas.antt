@@ -18,7 +18,7 @@ use Rattle.model_lists.specs.Lists.{Lists}
 use Rattle.model_meaning.specs.MapMeaning.{MapMeaning, MapRecord}
 use Rattle.model_store.specs.Settled.{IsSettledFor, Leaves}
 use Rattle.list_machine.specs.Run.{First, RemovesFile, RemovesInstance, Run, RunEvent, Switches, TakenFile, and_then, dropped_in, first_in, how_many, is_one_of, is_pinned, map_of, own_events}
-use Rattle.journal.specs.Events.{Around, doomed_last, file_to_remove, is_done, last_refusal, next_part, next_taken, purge_goes_on, behind_event}
+use Rattle.journal.specs.Events.{Around, doomed_last, file_to_remove, is_done, last_refusal, next_part, next_taken, purge_goes_on, behind_event, was_pinned}
 use Rattle.journal.proofs.OwnEventLemmas.{own_more}
 use Rattle.storage_files.specs.Files.{pins_in}
 use Rattle.store_core.specs.Removing.{AreElsewhere}
@@ -97,12 +97,13 @@ last_doomed (e ∷ []) last = refl
 last_doomed (e ∷ f ∷ front) last = last_doomed (f ∷ front) last
 
 -- the file that the last event switched is removed next
-pub removes_switched : (run : Run) (own : List RunEvent) (file : ℕ) → IsLastOf (RemovesBehind run file) own → file_to_remove own ≡ Some file
+pub removes_switched : (run : Run) (own : List RunEvent) (file : ℕ) → IsLastOf (RemovesBehind run file) own → file_to_remove run own ≡ Some file
 removes_switched run own file l =
-    ap (λ (fs : List ℕ). option_or (first_in (λ (n : ℕ). Some n) fs) (option_map (λ (taken : TakenFile). taken.file) (next_taken own))) (ap doomed_last l.own_are ∙ (last_doomed l.front l.last ∙ by_part l.last.part l.behind))
+    ap (λ (fs : List ℕ). option_or (first_in (λ (n : ℕ). if was_pinned run n then None else Some n) fs) (option_map (λ (taken : TakenFile). taken.file) (next_taken own))) (ap doomed_last l.own_are ∙ (last_doomed l.front l.last ∙ (by_part l.last.part l.behind).0))
+    ∙ ap (λ (b : Bool). option_or (option_or (if b then None else Some file) None) (option_map (λ (taken : TakenFile). taken.file) (next_taken own))) (by_part l.last.part l.behind).1
   where
-    by_part : (part : _) → RemovesBehind run file l.last.doomed part → l.last.doomed ≡ file ∷ []
-    by_part Switches h = h.0
+    by_part : (part : _) → RemovesBehind run file l.last.doomed part → (l.last.doomed ≡ file ∷ []) × (was_pinned run file ≡ false)
+    by_part Switches h = h
     by_part part h = absurd h
 
 pub none_in : (n : ℕ) (rows : List MapRecord) → AreElsewhere n rows → list_any (λ row. row.file == n) rows ≡ false
@@ -113,7 +114,7 @@ never_some : {X : Type 0} → (x : X) → Some x ≡ None → ⊥
 never_some x e = cc e
 
 pub did_removal : {D : Type 0} → (around after : Around) (run : Run) (lane place : ℕ) (said : List Reply) (lists : Lists) (file : ℕ) (disk : D) (old : StoreValue D) (before later : Option History) (began faults : Faults) → HasComeTo run (seen_in old before began) → ShowsSeen (seen_in old before began) lists
-    → old.stopped ≡ false → pins_in file old.files.files ≡ 0 → file ≤ old.drawn.file → AreElsewhere file old.map.records → next_part around run request.Purge (own_events place run) ≡ Some RemovesFile → file_to_remove (own_events place run) ≡ Some file
+    → old.stopped ≡ false → pins_in file old.files.files ≡ 0 → file ≤ old.drawn.file → AreElsewhere file old.map.records → next_part around run request.Purge (own_events place run) ≡ Some RemovesFile → file_to_remove run (own_events place run) ≡ Some file
     → ((lists : Lists) → IsSettledFor lists before → Leaves lists lists before later) → ((lists : Lists) → IsSettledFor lists before → IsSettledFor lists later) → Grows before later → MailIsKept old.map before later → NoFault began faults
     → DidSo around after run lane place said lists (seen_in old before began) (seen_in (without file disk old) later faults) did.Quiet None (removal_event lane place file (told_calls later)) None
 did_removal around after run lane place said lists file disk old before later began faults come shows ran unpinned drawn elsewhere next removes moments rests grows mail quiet =

@@ -70,6 +70,9 @@ known_other run lane place file calls n map apart =
 
 -- ---- the store
 
+abbrev by_end : List ℕ → Option MailFile → Bool
+by_end guid o = option_map_or (λ f. option_map_or (λ end. nat_lt (number_at 12 guid) end) f.end false) o true
+
 le_true : (a b : ℕ) → a ≤ b → nat_le a b ≡ true
 le_true a b l = grind (arith, common_steps, l)
 
@@ -111,8 +114,8 @@ removal_comes {D = D} run lane place file disk old before after began faults h r
         ];
       };
   used = λ n e. elim (cases_eq n file) [
-    | inl same ↦ subst (λ (i : ℕ). may_be_used new i ≡ true) (sym same) (either_and (nat_le file old.drawn.file) (option_map_or (λ f. f.doomed || is_none f.end) (file_in file new.files.files) true) (le_true file old.drawn.file drawn) (ap (λ (o : Option MailFile). option_map_or (λ f. f.doomed || is_none f.end) o true) gone))
-    | inr apart ↦ ap (λ (o : Option MailFile). nat_le n old.drawn.file && option_map_or (λ f. f.doomed || is_none f.end) o true) (other n apart) ∙ h.used n (sym (used_other run lane place file (told_calls after) n apart) ∙ e)
+    | inl same ↦ subst (λ (i : ℕ). may_be_used new i ≡ true) (sym same) (either_and (nat_le file old.drawn.file) (option_map_or (λ f. f.doomed) (file_in file new.files.files) true) (le_true file old.drawn.file drawn) (ap (λ (o : Option MailFile). option_map_or (λ f. f.doomed) o true) gone))
+    | inr apart ↦ ap (λ (o : Option MailFile). nat_le n old.drawn.file && option_map_or (λ f. f.doomed) o true) (other n apart) ∙ h.used n (sym (used_other run lane place file (told_calls after) n apart) ∙ e)
   ];
   barred = λ n e. elim (cases_eq n file) [
     | inl same ↦ subst (λ (i : ℕ). may_be_barred new i ≡ true) (sym same) (either_and (nat_le file old.drawn.file) (option_map_or (λ f. f.barred) (file_in file new.files.files) true) (le_true file old.drawn.file drawn) (ap (λ (o : Option MailFile). option_map_or (λ f. f.barred) o true) gone))
@@ -155,10 +158,10 @@ removal_comes {D = D} run lane place file disk old before after began faults h r
     knows_other n apart = ap (λ (o : Option MailFile). is_some (option_and_then (λ f. f.end) o)) (other n apart)
 
     ends_before : List ℕ → StoreValue D → Bool
-    ends_before guid store = option_map_or (λ end. nat_lt (number_at 12 guid) end) (end_in (number_at 8 guid) store.files.files) true
+    ends_before guid store = by_end guid (file_in (number_at 8 guid) store.files.files)
 
     gave_on : (guid : List ℕ) → ends_before guid old ≡ true → ends_before guid new ≡ true
     gave_on guid e = elim (cases_eq (number_at 8 guid) file) [
-      | inl same ↦ ap (λ (i : ℕ). option_map_or (λ end. nat_lt (number_at 12 guid) end) (end_in i new.files.files) true) same ∙ ap (λ (o : Option MailFile). option_map_or (λ end. nat_lt (number_at 12 guid) end) (option_and_then (λ f. f.end) o) true) gone
-      | inr apart ↦ ap (λ (o : Option MailFile). option_map_or (λ end. nat_lt (number_at 12 guid) end) (option_and_then (λ f. f.end) o) true) (other (number_at 8 guid) apart) ∙ e
+      | inl same ↦ ap (λ (i : ℕ). by_end guid (file_in i new.files.files)) same ∙ ap (by_end guid) gone
+      | inr apart ↦ ap (by_end guid) (other (number_at 8 guid) apart) ∙ e
     ]

@@ -26,13 +26,13 @@ abbrev pub with_state : {D : Type 0} → D → FilesValue → Bool → StoreValu
 with_state disk files stopped store = record store { disk = disk; files = files; stopped = stopped }
 
 abbrev pub uses : Option MailFile → Bool
-uses o = option_map_or (λ f. f.doomed || is_none f.end) o true
+uses o = option_map_or (λ f. f.doomed) o true
 
 abbrev pub bars : Option MailFile → Bool
 bars o = option_map_or (λ f. f.barred) o true
 
 abbrev pub is_before : ℕ → Option MailFile → Bool
-is_before offset o = option_map_or (λ end. nat_lt offset end) (option_and_then (λ f. f.end) o) true
+is_before offset o = option_map_or (λ f. option_map_or (λ end. nat_lt offset end) f.end false) o true
 
 abbrev pub ends : Option MailFile → Bool
 ends o = is_some (option_and_then (λ f. f.end) o)
@@ -108,11 +108,11 @@ pub tells_grown : (target : ℕ) (old new : List MailFile) → IsGrownOf target 
 tells_grown target old new h = record {
   pins = λ n. by_number n (λ o. option_map_or (λ f. f.pins) o 0) h.pins;
   doomed = λ n. by_flag n (λ o. option_map_or (λ f. f.doomed) o false) h.doomed;
-  used = λ n e. by_flag n uses (ap (λ (b : Bool). b || is_none h.g.end) h.doomed ∙ ap (λ (b : Bool). h.f.doomed || b) (ap (λ (o : Option ℕ). is_none o) h.ended ∙ sym (ap (λ (o : Option ℕ). is_none o) h.began))) ∙ e;
+  used = λ n e. by_flag n uses h.doomed ∙ e;
   barred = λ n e. by_flag n bars h.barred ∙ e;
   gave = λ n offset e. elim (cases_eq n target) [
-    | inl same ↦ subst (λ (i : ℕ). is_before offset (file_in i new) ≡ true) (sym same) (ap (is_before offset) h.now ∙ (ap (λ (o : Option ℕ). option_map_or (λ end. nat_lt offset end) o true) h.ended
-        ∙ before_later offset h.from h.end h.later (sym (ap (is_before offset) h.was ∙ ap (λ (o : Option ℕ). option_map_or (λ end. nat_lt offset end) o true) h.began) ∙ subst (λ (i : ℕ). is_before offset (file_in i old) ≡ true) same e)))
+    | inl same ↦ subst (λ (i : ℕ). is_before offset (file_in i new) ≡ true) (sym same) (ap (is_before offset) h.now ∙ (ap (λ (o : Option ℕ). option_map_or (λ end. nat_lt offset end) o false) h.ended
+        ∙ before_later offset h.from h.end h.later (sym (ap (is_before offset) h.was ∙ ap (λ (o : Option ℕ). option_map_or (λ end. nat_lt offset end) o false) h.began) ∙ subst (λ (i : ℕ). is_before offset (file_in i old) ≡ true) same e)))
     | inr apart ↦ ap (is_before offset) (h.others n apart) ∙ e
   ];
   there = λ n. by_flag n ends (ap (λ (o : Option ℕ). is_some o) h.ended ∙ sym (ap (λ (o : Option ℕ). is_some o) h.began));

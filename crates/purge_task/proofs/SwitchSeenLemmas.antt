@@ -43,6 +43,7 @@ pub record IsDoomedOf (file : ℕ) (old new : List MailFile) : Type 0 where
   pub used : (n : ℕ) → n ≢ file → uses (file_in n new) ≡ uses (file_in n old)
   pub barred : (n : ℕ) → bars (file_in n new) ≡ bars (file_in n old)
   pub ended : (n : ℕ) → option_and_then (λ f. f.end) (file_in n new) ≡ option_and_then (λ f. f.end) (file_in n old)
+  pub before : (n offset : ℕ) → is_before offset (file_in n new) ≡ is_before offset (file_in n old)
 
 le_true : (a b : ℕ) → a ≤ b → nat_le a b ≡ true
 le_true a b l = grind (arith, common_steps, l)
@@ -56,7 +57,7 @@ doomed_used n files e = by_case (file_in n files) e
   where
     by_case : (o : Option MailFile) → option_map_or (λ f. f.doomed) o false ≡ true → uses o ≡ true
     by_case None k = refl
-    by_case (Some f) k = ap (λ (b : Bool). b || is_none f.end) k
+    by_case (Some f) k = k
 
 pub switch_comes : {D : Type 0} → (run : Run) (lane place : ℕ) (file : FileNo) (target : ℕ) (moved : List MapPlace) (dropped : List MapUid) (disk : D) (log : LogState) (dues : List ℕ) (files : FilesValue) (old : StoreValue D) (before after : Option History) (began faults : Faults) → HasComeTo run (seen_in old before began) → old.stopped ≡ false
     → IsDoomedOf file.0 old.files.files files.files → was_used run file.0 ≡ false → file.0 ≤ old.drawn.file → ((uid : ℕ) → due_at uid (with_map disk log (map_applied (map_entry.P file target moved dropped) old.map) dues files old) ≡ due_at uid old) → told_calls before ≤ told_calls after
@@ -88,7 +89,7 @@ switch_comes {D = D} run lane place file target moved dropped disk log dues file
     | inr apart ↦ ap (λ (b : Bool). nat_le n old.drawn.file && b) (is.used n apart) ∙ h.used n (sym (any_still (λ (e : RunEvent). is_one_of e.doomed n || is_one_of e.removed n) run.events event (ap (λ (b : Bool). b || false) (one_other file.0 n apart))) ∙ e)
   ];
   barred = λ n e. ap (λ (b : Bool). nat_le n old.drawn.file && b) (is.barred n) ∙ h.barred n e;
-  gave = λ guid e. ap (λ (o : Option ℕ). is_own old.map.store guid && (nat_le (number_at 8 guid) old.drawn.file && option_map_or (λ end. nat_lt (number_at 12 guid) end) o true)) (is.ended (number_at 8 guid)) ∙ h.gave guid (sym (given_still run event guid refl) ∙ e);
+  gave = λ guid e. ap (λ (b : Bool). is_own old.map.store guid && (nat_le (number_at 8 guid) old.drawn.file && b)) (is.before (number_at 8 guid) (number_at 12 guid)) ∙ h.gave guid (sym (given_still run event guid refl) ∙ e);
   gone = λ row e. h.gone row (sym (gone_still run event row refl) ∙ e);
   files = λ n e. file_still_known run event n refl (h.files n (sym (ap (λ (o : Option ℕ). is_some o) (is.ended n)) ∙ e));
 }

@@ -22,6 +22,7 @@ use Rattle.task_steps.proofs.SeenLemmas.{doomed_still, file_still_known, given_s
 use Rattle.purge_task.specs.Clause.{seen_in}
 use Rattle.purge_task.proofs.EventLemmas.{fall}
 use Rattle.purge_task.proofs.RunLemmas.{any_now, any_still, one_alone, one_itself, or_none, or_true, sum_push}
+use Rattle.purge_task.proofs.SameSeenLemmas.{is_before}
 
 abbrev pub target_event : ℕ → ℕ → ℕ → ℕ → RunEvent
 target_event lane place target calls = record (event_of lane place MakesTarget calls) { made = target ∷ [] }
@@ -70,7 +71,7 @@ and_true : (a b : Bool) → a ≡ true → b ≡ true → (a && b) ≡ true
 and_true a b x y = rw (x, y) refl
 
 abbrev ends_after : List ℕ → List MailFile → Bool
-ends_after guid files = option_map_or (λ end. nat_lt (number_at 12 guid) end) (end_in (number_at 8 guid) files) true
+ends_after guid files = is_before (number_at 12 guid) (file_in (number_at 8 guid) files)
 
 pub target_comes : {D : Type 0} → (run : Run) (lane place target : ℕ) (disk : D) (files : FilesValue) (old : StoreValue D) (before after : Option History) (began faults : Faults) → HasComeTo run (seen_in old before began) → old.stopped ≡ false → IsMadeOf target old.files.files files.files
     → was_used run target ≡ false → ((guid : List ℕ) → is_own old.map.store guid ≡ true → number_at 8 guid ≡ target → was_given run guid ≡ false) → told_calls before ≤ told_calls after → HasComeTo (and_then run (target_event lane place target (told_calls after))) (seen_in (with_files disk files old) after faults)
@@ -99,7 +100,7 @@ target_comes {D = D} run lane place target disk files old before_ after began fa
       };
   used = λ n e. elim (cases_eq n target) [
     | inl same ↦ absurd (fall (was_used run target) (subst (λ (i : ℕ). was_used run i ≡ true) same (sym (used_still run event n refl refl) ∙ e)) unused)
-    | inr apart ↦ ap (λ (o : Option MailFile). nat_le n old.drawn.file && option_map_or (λ f. f.doomed || is_none f.end) o true) (made.others n apart) ∙ h.used n (sym (used_still run event n refl refl) ∙ e)
+    | inr apart ↦ ap (λ (o : Option MailFile). nat_le n old.drawn.file && option_map_or (λ f. f.doomed) o true) (made.others n apart) ∙ h.used n (sym (used_still run event n refl refl) ∙ e)
   ];
   barred = λ n e. elim (cases_eq n target) [
     | inl same ↦ subst (λ (i : ℕ). may_be_barred new i ≡ true) (sym same)
@@ -149,5 +150,5 @@ target_comes {D = D} run lane place target disk files old before_ after began fa
         elim (cases_eq (number_at 8 guid) target) [
           | inl same ↦ absurd (fall (was_given run guid) given (ungiven guid a.0 same))
           | inr apart ↦ and_true (is_own old.map.store guid) (nat_le (number_at 8 guid) old.drawn.file && ends_after guid files.files) a.0
-              (and_true (nat_le (number_at 8 guid) old.drawn.file) (ends_after guid files.files) b.0 (ap (λ (o : Option MailFile). option_map_or (λ end. nat_lt (number_at 12 guid) end) (option_and_then (λ f. f.end) o) true) (made.others (number_at 8 guid) apart) ∙ b.1))
+              (and_true (nat_le (number_at 8 guid) old.drawn.file) (ends_after guid files.files) b.0 (ap (is_before (number_at 12 guid)) (made.others (number_at 8 guid) apart) ∙ b.1))
         ]

@@ -5,7 +5,7 @@ use Rattle.std.specs.Option.{option_or, option_to_list}
 use Rattle.std.specs.List.Sorted.{IsStrictlyIncreasing}
 use Rattle.disk_model.specs.Disk.{Files, History, IfTold}
 use Rattle.disk_model.specs.declared.name.FileName.TheVariants.{Mail}
-use Rattle.journal.specs.QuietPurge.{RunTo}
+use Rattle.journal.specs.QuietPurge.{IsCleanFile, RunTo}
 use Rattle.list_machine.specs.Run.{is_copied_from, target_length}
 use Rattle.mdbox_base.specs.declared.replies.Refusal.{Refusal}
 use Rattle.mdbox_base.specs.declared.replies.Refusal.TheVariants as refusal
@@ -70,14 +70,6 @@ IsReadRefusal refusal.NoMemory = Unit {0}
 IsReadRefusal refusal.ReadFault = Unit {0}
 IsReadRefusal other = ⊥
 
--- A storage file is its header line and all messages that the map has in it, one or more, each wanted, one directly after another.
-pub record IsWhollyClean (files : Files) (m : MapMeaning) (number : ℕ) : Type 0 where
-  pub octets : List ℕ
-  pub header : List ℕ
-  pub there : files (Mail number) ≡ Some octets
-  pub begins : IsHeaderLine header 30 × (take (length header) octets ≡ header)
-  pub filled : IsFilled m number (length header) (length octets)
-
 -- the file is there, nobody has taken it, and it is neither sealed nor doomed
 pub record MayBeEmptied (files : List MailFile) (number : ℕ) : Type 0 where
   pub f : MailFile
@@ -100,8 +92,8 @@ IsFullToEnd store number = (start : ℕ) × (end : ℕ) × (end_in number store.
 -- clean.
 pub record FindsUnclean {D : Type 0} (store : StoreValue D) (history : Option History) (numbers : List ℕ) : Type 0 where
   pub known : AreAllBut (IsFullToEnd store) store.files.files numbers
-  pub passed : IfTold history (λ now. AreAllBut (IsWhollyClean (files_of now) store.map) store.files.files numbers)
-  pub unclean : IfTold history (λ now. All (λ number. IsWhollyClean (files_of now) store.map number → ⊥) numbers)
+  pub passed : IfTold history (λ now. AreAllBut (IsCleanFile (files_of now) store.map) store.files.files numbers)
+  pub unclean : IfTold history (λ now. All (λ number. IsCleanFile (files_of now) store.map number → ⊥) numbers)
 
 -- whether a message of the file is wanted, how many messages it has, and how many octets the wanted ones have
 pub record IsFoundFile (m : MapMeaning) (f : FoundFile) : Type 0 where
@@ -119,8 +111,8 @@ pub record AreFound {D : Type 0} (store : StoreValue D) (history : Option Histor
 
 -- What is found of one file that is there: it is to be emptied, or passed over.
 abbrev pub IsFoundAs : {D : Type 0} → StoreValue D → Option History → ℕ → Option FoundFile → Type 0
-IsFoundAs store history number (Some f) = (f.file.0 ≡ number) × MayBeEmptied store.files.files number × IsFoundFile store.map f × IfTold history (λ now. IsWhollyClean (files_of now) store.map number → ⊥)
-IsFoundAs store history number None = (MayBeEmptied store.files.files number → ⊥) ⊎ (IsFullToEnd store number × IfTold history (λ now. IsWhollyClean (files_of now) store.map number))
+IsFoundAs store history number (Some f) = (f.file.0 ≡ number) × MayBeEmptied store.files.files number × IsFoundFile store.map f × IfTold history (λ now. IsCleanFile (files_of now) store.map number → ⊥)
+IsFoundAs store history number None = (MayBeEmptied store.files.files number → ⊥) ⊎ (IsFullToEnd store number × IfTold history (λ now. IsCleanFile (files_of now) store.map number))
 
 -- within the crate: a file was looked at, and listed if it is to be emptied
 pub record IsVisited {D : Type 0} (store : StoreValue D) (history : Option History) (number : ℕ) (before after : List FoundFile) : Type 0 where

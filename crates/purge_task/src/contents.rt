@@ -3,13 +3,14 @@ ghost use Rattle.std.specs.Prelude.{◌≡◌, ◌↔◌, ◌≤◌, ◌<◌, �
 ghost use Rattle.disk_model.specs.Disk.{IfTold, IsIdle, reading};
 ghost use Rattle.disk_model.specs.FaultCounts.{NoFault, ReadFaultCounted};
 ghost use Rattle.disk_model.specs.declared.name.FileName.TheVariants.{Mail};
+ghost use Rattle.journal.specs.QuietPurge.{IsCleanFile};
 ghost use Rattle.mdbox_base.specs.declared.replies.Refusal.TheVariants as refusal;
 ghost use Rattle.model_meaning.specs.Sound.{IsSoundMap};
 ghost use Rattle.model_storage.specs.StorageFile.{IsHeaderLine};
 ghost use Rattle.model_storage.specs.declared.places.ScanError.TheVariants as scan_error;
 ghost use Rattle.model_store.specs.Settled.{files_of};
 ghost use Rattle.storage_files.specs.OnDisk.{piece_read};
-ghost use Rattle.purge_task.specs.Found.{AreContents, IsFullToEnd, IsHeaderOf, IsReadRefusal, IsWhollyClean, with_message};
+ghost use Rattle.purge_task.specs.Found.{AreContents, IsFullToEnd, IsHeaderOf, IsReadRefusal, with_message};
 
 use dbox_file::{ScanError, scan};
 use disk_model::Disk;
@@ -81,7 +82,7 @@ impl Contents {
         requires running { store.old.stopped ≡ false }
         requires contents { AreContents store.old.map file.0 self.now }
         ensures full { IfOk result (λ clean. IsTrue clean → IsFullToEnd store.old file.0) }
-        ensures clean { IfOk result (λ clean. IfTold (D.history store.old.disk) (λ now. IsTrue clean ↔ IsWhollyClean (files_of now) store.old.map file.0)) }
+        ensures clean { IfOk result (λ clean. IfTold (D.history store.old.disk) (λ now. IsTrue clean ↔ IsCleanFile (files_of now) store.old.map file.0)) }
         ensures refused { IfErr result IsReadRefusal }
         ensures same { store.new ≡ record store.old { disk = store.new.disk } }
         ensures idle { IsIdle (D.history store.old.disk) (D.history store.new.disk) }
