@@ -17,7 +17,7 @@ use Rattle.task_claims.proofs.LeftLemmas.{emptied_left}
 use Rattle.task_steps.specs.Step.{GivesNew}
 use Rattle.purge_task.specs.Claims.{claims_of_sources, claims_of_switched, claims_of_target, purge_claims, sources_left}
 use Rattle.purge_task.specs.Keeping.{PurgeValue}
-use Rattle.purge_task.specs.Stages.{CopiesBehind, GoesOnBehind, HaveCopied, IsAtPurge, IsAtStage, IsAtSwitched, IsUnderWay, RemovesBehind}
+use Rattle.purge_task.specs.Stages.{CopiesBehind, GoesOnBehind, HaveCopied, IsAtPurge, IsAtPurgeStage, IsAtSwitched, IsPurging, RemovesBehind}
 use Rattle.purge_task.specs.declared.task.PurgeStage.{PurgeStage}
 use Rattle.purge_task.specs.declared.task.PurgeStage.TheVariants as stage
 use Rattle.purge_task.specs.declared.work.Source.{Source}
@@ -28,8 +28,8 @@ abbrev SameWithin : {D : Type 0} → StoreValue D → StoreValue D → Source �
 SameWithin old new s = records_within s.file.0 new.map ≡ records_within s.file.0 old.map
 
 -- another store, in which the records of the files that are left lie where they did
-store_changes : {D : Type 0} → (t : PurgeValue) (done left : List Source) (Behind : List ℕ → EventPart → Type 0) (old new : StoreValue D) (run : Run) (place : ℕ) (said : List Reply) → (new.stopped ≡ false → (old.stopped ≡ false) × All (SameWithin old new) left) → IsUnderWay t done left Behind old run place said
-    → IsUnderWay t done left Behind new run place said
+store_changes : {D : Type 0} → (t : PurgeValue) (done left : List Source) (Behind : List ℕ → EventPart → Type 0) (old new : StoreValue D) (run : Run) (place : ℕ) (said : List Reply) → (new.stopped ≡ false → (old.stopped ≡ false) × All (SameWithin old new) left) → IsPurging t done left Behind old run place said
+    → IsPurging t done left Behind new run place said
 store_changes t done left Behind old new run place said same h = record {
   unsaid = h.unsaid;
   last = h.last;
@@ -71,7 +71,7 @@ same_left theirs left old new before after b more = each left (each_claimed (λ 
 abbrev Passes : {D : Type 0} → PurgeStage → StoreValue D → StoreValue D → Option History → Option History → Type 0
 Passes s old new before after = new.stopped ≡ false → (old.stopped ≡ false) × Beside (purge_claims s) old new before after
 
-stage_changes : {D : Type 0} → (s : PurgeStage) (t : PurgeValue) (old new : StoreValue D) (before after : Option History) (run : Run) (place : ℕ) (said : List Reply) → Passes s old new before after → IsAtStage s t old run place said → IsAtStage s t new run place said
+stage_changes : {D : Type 0} → (s : PurgeStage) (t : PurgeValue) (old new : StoreValue D) (before after : Option History) (run : Run) (place : ℕ) (said : List Reply) → Passes s old new before after → IsAtPurgeStage s t old run place said → IsAtPurgeStage s t new run place said
 stage_changes stage.First t old new before after run place said p h = h
 stage_changes (stage.Begin work) t old new before after run place said p h =
     (h.0, store_changes t h.0 (sources_left work) (GoesOnBehind run) old new run place said (λ runs. let q = p runs in (q.0, same_left (purge_claims (stage.Begin work)) (sources_left work) old new before after q.1 (λ file. omega arith))) h.1)

@@ -17,7 +17,7 @@ use Rattle.journal.specs.Events.{IsCopiedNext, copies_left}
 use Rattle.map_rows.specs.declared.rows.MapRow.{MapRow}
 use Rattle.purge_task.specs.Copied.{AreUnwantedFrom, IsNextWanted}
 use Rattle.purge_task.specs.Keeping.{AreCopiedUpTo}
-use Rattle.purge_task.specs.Stages.{HaveCopied, taken_of}
+use Rattle.purge_task.specs.Stages.{HaveCopied, told_taken}
 use Rattle.purge_task.specs.declared.work.Source.{Source}
 use Rattle.purge_task.proofs.EventLemmas.{fall}
 

@@ -25,10 +25,10 @@ use Rattle.storage_files.specs.Files.{FilesValue}
 use Rattle.store_core.specs.Value.{StoreValue}
 use Rattle.task_steps.specs.Step.{HasComeTo}
 use Rattle.purge_task.specs.Claims.{sources_left}
-use Rattle.purge_task.specs.Clause.{PurgeSteps, around_purging, seen_in}
+use Rattle.purge_task.specs.Clause.{PurgeSteps, around_purging, seen_by_purge}
 use Rattle.purge_task.specs.Copied.{IsNextWanted, IsSourceWith}
-use Rattle.purge_task.specs.Keeping.{AreApart, AreCopiedUpTo, PurgeValue}
-use Rattle.purge_task.specs.Stages.{CopiesBehind, HaveCopied, HaveTaken, IsAtPurge, IsAtStage, IsUnderWay, taken_of}
+use Rattle.purge_task.specs.Keeping.{AreSourcesApart, AreCopiedUpTo, PurgeValue}
+use Rattle.purge_task.specs.Stages.{CopiesBehind, HaveCopied, HaveTaken, IsAtPurge, IsAtPurgeStage, IsPurging, told_taken}
 use Rattle.purge_task.specs.declared.task.PurgeStage.{PurgeStage}
 use Rattle.purge_task.specs.declared.task.PurgeStage.TheVariants as stage
 use Rattle.purge_task.specs.declared.work.Source.{Source}
@@ -45,23 +45,23 @@ copy_event lane place uid calls = record (event_of lane place CopiesMessage call
 
 -- ---- where it leads
 
-taken_as : (source noted : Source) (place : MapPlace) → IsSourceWith place source noted → taken_of noted ≡ taken_of source
-taken_as source noted place w = ap taken_of w.same
+taken_as : (source noted : Source) (place : MapPlace) → IsSourceWith place source noted → told_taken noted ≡ told_taken source
+taken_as source noted place w = ap told_taken w.same
 
 file_as : (source noted : Source) (place : MapPlace) → IsSourceWith place source noted → noted.file.0 ≡ source.file.0
 file_as source noted place w = ap (λ (s : Source). s.file.0) w.same
 
 -- the first of those that are left is told the same
-pub taken_noted : (done left : List Source) (source noted : Source) (own : List RunEvent) → taken_of noted ≡ taken_of source → HaveTaken done (source ∷ left) own → HaveTaken done (noted ∷ left) own
+pub taken_noted : (done left : List Source) (source noted : Source) (own : List RunEvent) → told_taken noted ≡ told_taken source → HaveTaken done (source ∷ left) own → HaveTaken done (noted ∷ left) own
 taken_noted done left source noted own e h = record {
   taken = h.taken ∙ same done;
   done_are = h.done_are;
-  left_are = All-cons (λ (s : Source). is_done own (taken_of s) ≡ false) noted left (ap (λ (taken : TakenFile). is_done own taken) e ∙ All-head (λ (s : Source). is_done own (taken_of s) ≡ false) source left h.left_are) (All-tail (λ (s : Source). is_done own (taken_of s) ≡ false) source left h.left_are);
+  left_are = All-cons (λ (s : Source). is_done own (told_taken s) ≡ false) noted left (ap (λ (taken : TakenFile). is_done own taken) e ∙ All-head (λ (s : Source). is_done own (told_taken s) ≡ false) source left h.left_are) (All-tail (λ (s : Source). is_done own (told_taken s) ≡ false) source left h.left_are);
 }
   where
-    same : (front : List Source) → map taken_of (front ++ source ∷ left) ≡ map taken_of (front ++ noted ∷ left)
-    same [] = ap (λ (taken : TakenFile). taken ∷ map taken_of left) (sym e)
-    same (s ∷ front) = ap (λ (ts : List TakenFile). taken_of s ∷ ts) (same front)
+    same : (front : List Source) → map told_taken (front ++ source ∷ left) ≡ map told_taken (front ++ noted ∷ left)
+    same [] = ap (λ (taken : TakenFile). taken ∷ map told_taken left) (sym e)
+    same (s ∷ front) = ap (λ (ts : List TakenFile). told_taken s ∷ ts) (same front)
 
 abbrev copies : ℕ → RunEvent → Bool
 copies uid e = is_one_of e.copied uid
@@ -102,8 +102,8 @@ others_copied m own lane place_ calls source r s sound there in_file before h =
         (both rows (All-tail (Contains m.records) row rows a) (All-tail (λ x. x.file ≡ s.file.0 → list_any (copies x.uid) own ≡ list_any (λ p. p.uid.0 == x.uid) s.copied.items) row rows b))
 
 copied_way : {D : Type 0} → (t next : PurgeValue) (done left : List Source) (source noted : Source) (place : MapPlace) (r : MapRecord) (lane calls : ℕ) (old new : StoreValue D) (run : Run) (at : ℕ) (said : List Reply) → new.map ≡ old.map → old.stopped ≡ false → IsSoundMap old.map → Contains old.map.records r
-    → r.file ≡ source.file.0 → place.uid.0 ≡ r.uid → IsSourceWith place source noted → AreApart (source ∷ left) → next.dropped ≡ t.dropped → next.files ≡ t.files → next.instances ≡ t.instances → IsUnderWay t done (source ∷ left) (λ doomed part. CopiesBehind part) old run at said
-    → IsUnderWay next done (noted ∷ left) (λ doomed part. CopiesBehind part) new (and_then run (copy_event lane at r.uid calls)) at said
+    → r.file ≡ source.file.0 → place.uid.0 ≡ r.uid → IsSourceWith place source noted → AreSourcesApart (source ∷ left) → next.dropped ≡ t.dropped → next.files ≡ t.files → next.instances ≡ t.instances → IsPurging t done (source ∷ left) (λ doomed part. CopiesBehind part) old run at said
+    → IsPurging next done (noted ∷ left) (λ doomed part. CopiesBehind part) new (and_then run (copy_event lane at r.uid calls)) at said
 copied_way t next done left source noted place r lane calls old new run at said map_is ran sound there in_file uid w apart dropped files instances h = record {
   unsaid = h.unsaid;
   last = record { front = own; last = event; own_are = is; unrefused = refl; behind = tt };
@@ -154,22 +154,22 @@ has_some : (xs : List MapRecord) (x : MapRecord) → Contains xs x → 1 ≤ len
 has_some xs x c = let l = c.1 in omega (arith, l)
 
 pub copy_steps : {D : Type 0} → (after : Around) (t next : PurgeValue) (work now : Work) (source noted : Source) (left : List Source) (row : MapRow) (place : MapPlace) (end target : ℕ) (disk : D) (files : FilesValue) (old : StoreValue D) (before later : Option History) (began faults : Faults) → t.stage ≡ stage.Copying work
-    → sources_left work ≡ source ∷ left → next.stage ≡ stage.Copying now → sources_left now ≡ noted ∷ left → IsSourceWith place source noted → AreApart (source ∷ left) → IsSoundMap old.map → AreCopiedUpTo source.file.0 work.from end source.copied.items old.map → (wanted : IsNextWanted old.map source.file.0 work.from row) → place.uid.0 ≡ wanted.r.uid
+    → sources_left work ≡ source ∷ left → next.stage ≡ stage.Copying now → sources_left now ≡ noted ∷ left → IsSourceWith place source noted → AreSourcesApart (source ∷ left) → IsSoundMap old.map → AreCopiedUpTo source.file.0 work.from end source.copied.items old.map → (wanted : IsNextWanted old.map source.file.0 work.from row) → place.uid.0 ≡ wanted.r.uid
     → next.did ≡ did.Quiet → next.dropped ≡ t.dropped → next.files ≡ t.files → next.instances ≡ t.instances → old.stopped ≡ false → IsGrownOf target old.files.files files.files → LeavesSettled old.map before later began faults → PurgeSteps [] after t next old (with_state disk files false old) before later began faults None
 copy_steps after t next work now source noted left row place end target disk files old before later began faults at is to now_is w apart sound copied wanted uid how dropped counted instances ran grown leaves = λ run lane number said lists come shows stood.
     let around : Around = around_purging [] old in
-    let stands = subst (λ (x : PurgeStage). IsAtStage x t old run number said) at stood.0 in
-    let h = subst (λ (l : List Source). IsUnderWay t stands.0 l (λ doomed part. CopiesBehind part) old run number said) is stands.1 in
+    let stands = subst (λ (x : PurgeStage). IsAtPurgeStage x t old run number said) at stood.0 in
+    let h = subst (λ (l : List Source). IsPurging t stands.0 l (λ doomed part. CopiesBehind part) old run number said) is stands.1 in
     let own : List RunEvent = own_events number run in
     let r : MapRecord = wanted.r in
     let event : RunEvent = copy_event lane number r.uid (told_calls later) in
     let new : StoreValue _ = with_state disk files false old in
-    let taken : next_taken own ≡ Some (taken_of source) = next_is stands.0 source left own h.taken in
+    let taken : next_taken own ≡ Some (told_taken source) = next_is stands.0 source left own h.taken in
     let least : IsCopiedNext (filter (is_left old.map own source.file.0) old.map.records) r = next_is_left old.map own source work.from end row sound (All-head (HaveCopied old.map own) source left (h.copied ran)) copied wanted in
     let left_are : copies_left own run (next_taken own) ≡ filter (is_left old.map own source.file.0) old.map.records = ap (λ (o : Option TakenFile). copies_left own run o) taken ∙ ap (λ (m : MapMeaning). filter (is_left m own source.file.0) m.records) come.come.map_is in
     let next_one : next_part around run request.Purge own ≡ Some CopiesMessage = next_copies around run number h.last
     ∙ ap (λ (b : Bool). if b then Some CopiesMessage else Some Switches) (ap (λ (rs : List MapRecord). nat_lt 0 (length rs)) left_are ∙ some_number (length (filter (is_left old.map own source.file.0) old.map.records)) (has_some (filter (is_left old.map own source.file.0) old.map.records) r least.0)) in
-    let so = did_part around after run lane number said lists (seen_in old before began) (seen_in new later faults) (copy_event 0 0 r.uid 0)
+    let so = did_part around after run lane number said lists (seen_by_purge old before began) (seen_by_purge new later faults) (copy_event 0 0 r.uid 0)
     (record {
       next = next_one;
       finds = tt;
@@ -183,10 +183,10 @@ copy_steps after t next work now source noted left row place end target disk fil
     })
     (same_comes run event disk files false old before later began faults come ran (tells_grown target old.files.files files.files grown) (record { made = refl; pins = refl; unpins = refl; doomed = refl; removed = refl; given = refl; placed = refl; gone = refl }) refl refl refl (λ u. refl) leaves.grows)
     shows ran refl (record { stops = λ s. leaves.moments lists s.0; settled = λ s. leaves.rests lists s.0 }) leaves.grows leaves.mail leaves.quiet in
-    stands_so around after run lane number said lists (seen_in old before began) (seen_in new later faults) next.did None event None (IsAtPurge next new)
-    (subst (λ (d : Did). DidSo around after run lane number said lists (seen_in old before began) (seen_in new later faults) d None event None) (sym how) so)
-    (λ none. subst (λ (x : PurgeStage). IsAtStage x next new (and_then run event) number said) (sym to) (
+    stands_so around after run lane number said lists (seen_by_purge old before began) (seen_by_purge new later faults) next.did None event None (IsAtPurge next new)
+    (subst (λ (d : Did). DidSo around after run lane number said lists (seen_by_purge old before began) (seen_by_purge new later faults) d None event None) (sym how) so)
+    (λ none. subst (λ (x : PurgeStage). IsAtPurgeStage x next new (and_then run event) number said) (sym to) (
       stands.0,
-      subst (λ (l : List Source). IsUnderWay next stands.0 l (λ doomed part. CopiesBehind part) new (and_then run event) number said) (sym now_is)
+      subst (λ (l : List Source). IsPurging next stands.0 l (λ doomed part. CopiesBehind part) new (and_then run event) number said) (sym now_is)
           (copied_way t next stands.0 left source noted place r lane (told_calls later) old new run number said refl ran sound (next_contained old.map source.file.0 work.from row wanted) wanted.in_file uid w apart dropped counted instances h),
     ))

@@ -22,9 +22,9 @@ use Rattle.task_steps.specs.Step.{DidEvent, HasComeTo, HasNotBegun, Leads, Seen,
 use Rattle.task_steps.specs.Tells.{LeavesFiles}
 use Rattle.task_steps.proofs.OneEventLemmas.{never_more, next_first}
 use Rattle.task_steps.proofs.SeenLemmas.{no_guids}
-use Rattle.purge_task.specs.Clause.{PurgeSteps, around_purging, seen_in}
+use Rattle.purge_task.specs.Clause.{PurgeSteps, around_purging, seen_by_purge}
 use Rattle.purge_task.specs.Keeping.{PurgeValue}
-use Rattle.purge_task.specs.Stages.{IsAtPurge, IsAtStage}
+use Rattle.purge_task.specs.Stages.{IsAtPurge, IsAtPurgeStage}
 use Rattle.purge_task.specs.declared.task.PurgeStage.{PurgeStage}
 use Rattle.purge_task.specs.declared.task.PurgeStage.TheVariants as stage
 use Rattle.purge_task.proofs.EventLemmas.{did_fail, fall, refused_event, refused_makes}
@@ -52,8 +52,8 @@ fail_steps after t next disk files old before later began faults how ran tells l
     let new : StoreValue _ = with_state disk files true old in
     let part = next_some around t.stage t old run place said stood.0 in
     let event : RunEvent = refused_event part.0 lane place refusal.Stopped (told_calls later) in (
-      subst (λ (d : Did). DidEvent around after run lane place said request.Purge lists (seen_in old before began) (seen_in new later faults) d (Some (reply.Refused refusal.Stopped))) (sym how)
-          (did_fail around after run lane place said lists (seen_in old before began) (seen_in new later faults) part.0
+      subst (λ (d : Did). DidEvent around after run lane place said request.Purge lists (seen_by_purge old before began) (seen_by_purge new later faults) d (Some (reply.Refused refusal.Stopped))) (sym how)
+          (did_fail around after run lane place said lists (seen_by_purge old before began) (seen_by_purge new later faults) part.0
           (same_comes run event disk files true old before later began faults come ran tells (refused_leaves part.0 lane place refusal.Stopped (told_calls later)) refl refl refl (λ uid. refl) leaves.grows)
           shows ran refl part.1 refl (λ s. leaves.moments lists s.0) leaves.grows leaves.mail leaves.reads leaves.changes leaves.rose),
       λ e. absurd (never_more _ e),
@@ -106,14 +106,14 @@ did_unread around after run lane place said lists old new part octets come shows
     apart e = let k : refusal.ReadFault ≡ refusal.Stopped = cc e in cc k
 
 pub unread_steps : {D : Type 0} → (after : Around) (t next : PurgeValue) (disk : D) (files : FilesValue) (old : StoreValue D) (before later : Option History) (began faults : Faults) (part : EventPart) → reads_octets part request.Purge ≡ true → next.did ≡ did.Quiet → old.stopped ≡ false
-    → ((run : Run) (place : ℕ) (said : List Reply) → HasComeTo run (seen_in old before began) → IsAtPurge t old run place said → next_part (around_purging [] old) run request.Purge (own_events place run) ≡ Some part) → TellsNoLess old.files.files files.files → LeavesUnread old.map before later began faults
+    → ((run : Run) (place : ℕ) (said : List Reply) → HasComeTo run (seen_by_purge old before began) → IsAtPurge t old run place said → next_part (around_purging [] old) run request.Purge (own_events place run) ≡ Some part) → TellsNoLess old.files.files files.files → LeavesUnread old.map before later began faults
     → PurgeSteps [] after t next old (with_state disk files false old) before later began faults (Some (reply.Refused refusal.ReadFault))
 unread_steps after t next disk files old before later began faults part octets how ran next_one tells leaves = λ run lane place said lists come shows stood.
     let around : Around = around_purging [] old in
     let new : StoreValue _ = with_state disk files false old in
     let event : RunEvent = refused_event part lane place refusal.ReadFault (told_calls later) in (
-      subst (λ (d : Did). DidEvent around after run lane place said request.Purge lists (seen_in old before began) (seen_in new later faults) d (Some (reply.Refused refusal.ReadFault))) (sym how)
-          (did_unread around after run lane place said lists (seen_in old before began) (seen_in new later faults) part octets
+      subst (λ (d : Did). DidEvent around after run lane place said request.Purge lists (seen_by_purge old before began) (seen_by_purge new later faults) d (Some (reply.Refused refusal.ReadFault))) (sym how)
+          (did_unread around after run lane place said lists (seen_by_purge old before began) (seen_by_purge new later faults) part octets
           (same_comes run event disk files false old before later began faults come ran tells (refused_leaves part lane place refusal.ReadFault (told_calls later)) refl refl refl (λ uid. refl) leaves.grows)
           shows ran refl (next_one run place said come stood.0) refl leaves.moments leaves.rests leaves.grows leaves.mail leaves.reads leaves.changes leaves.rose),
       λ e. absurd (never_more _ e),
@@ -157,10 +157,10 @@ pub memory_steps : {D : Type 0} → (after : Around) (t next : PurgeValue) (disk
 memory_steps after t next disk files old before later began faults at how ran tells leaves = λ run lane place said lists come shows stood.
     let around : Around = around_purging [] old in
     let new : StoreValue _ = with_state disk files false old in
-    let begins : HasNotBegun run place said = subst (λ (x : PurgeStage). IsAtStage x t old run place said) at stood.0 in
+    let begins : HasNotBegun run place said = subst (λ (x : PurgeStage). IsAtPurgeStage x t old run place said) at stood.0 in
     let event : RunEvent = refused_event First lane place refusal.NoMemory (told_calls later) in (
-      subst (λ (d : Did). DidEvent around after run lane place said request.Purge lists (seen_in old before began) (seen_in new later faults) d (Some (reply.Refused refusal.NoMemory))) (sym how)
-          (did_lacking around after run lane place said lists (seen_in old before began) (seen_in new later faults) refl
+      subst (λ (d : Did). DidEvent around after run lane place said request.Purge lists (seen_by_purge old before began) (seen_by_purge new later faults) d (Some (reply.Refused refusal.NoMemory))) (sym how)
+          (did_lacking around after run lane place said lists (seen_by_purge old before began) (seen_by_purge new later faults) refl
           (same_comes run event disk files false old before later began faults come ran tells (refused_leaves First lane place refusal.NoMemory (told_calls later)) refl refl refl (λ uid. refl) leaves.grows) shows ran refl begins (record { stops = λ s. leaves.moments lists s.0; settled = λ s. leaves.rests lists s.0 }) leaves.grows leaves.mail leaves.quiet),
       λ e. absurd (never_more _ e),
     )

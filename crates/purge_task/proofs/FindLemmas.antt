@@ -18,7 +18,7 @@ use Rattle.storage_files.specs.Files.{end_in, file_past, is_number_past}
 use Rattle.store_core.specs.Value.{StoreValue}
 use Rattle.model_meaning.specs.MapMeaning.{greatest}
 use Rattle.purge_task.specs.declared.finding.Found.{Found}
-use Rattle.purge_task.specs.Found.{AreAllBut, AreFound, HasFound, targets_in, IsFoundAs, IsFoundFile, IsFullToEnd, MayBeEmptied, found_numbers}
+use Rattle.purge_task.specs.Found.{AreAllBut, AreUncleanFound, HasFound, targets_in, IsFileFound, IsFoundFile, IsFullToEnd, MayBeEmptied, found_numbers}
 use Rattle.purge_task.specs.declared.finding.FoundFile.{FoundFile}
 use Rattle.purge_task.proofs.WalkLemmas.{both, below_is, not_below, not_below_is, unequal}
 
@@ -191,7 +191,7 @@ upto_next store after file n rising e free q =
 
 -- the next file is passed over
 pub find_passes : {D : Type 0} → (store : StoreValue D) (history : Option History) (after : Option FileNo) (file : FileNo) (files : List FoundFile) → AllPairs (λ a b. a.file.0 < b.file.0) store.files.files → file_past after store.files.files ≡ Some file
-    → IsFoundAs store history file.0 None → IsFoundUpTo store history after files → IsFoundUpTo store history (Some file) files
+    → IsFileFound store history file.0 None → IsFoundUpTo store history after files → IsFoundUpTo store history (Some file) files
 find_passes store history after file files rising e passed so = record {
   rising = so.rising;
   upto = All-weaker (λ n. is_number_past after n ≡ false) (λ n. is_number_past (Some file) n ≡ false) (λ n q. (let lt = not_past_more after file.0 n (next_passes after store.files.files file e) q in not_below file.0 n (omega (arith, lt)))) (found_numbers files) so.upto;
@@ -208,14 +208,14 @@ find_passes store history after file files rising e passed so = record {
 }
 
 -- what is found goes by the disk as it is read
-pub found_back : {D : Type 0} → (store : StoreValue D) (old new : Option History) (n : ℕ) (o : Option FoundFile) → IsIdle old new → IsFoundAs store new n o → IsFoundAs store old n o
+pub found_back : {D : Type 0} → (store : StoreValue D) (old new : Option History) (n : ℕ) (o : Option FoundFile) → IsIdle old new → IsFileFound store new n o → IsFileFound store old n o
 found_back store old new n None idle (inl taken) = inl taken
 found_back store old new n None idle (inr over) = inr (over.0, idle-back (λ now. IsCleanFile (files_of now) store.map n) old new idle over.1)
 found_back store old new n (Some f) idle is = (is.0, is.1, is.2, idle-back (λ now. IsCleanFile (files_of now) store.map n → ⊥) old new idle is.3)
 
 -- the next file is found
 pub find_adds : {D : Type 0} → (store : StoreValue D) (history : Option History) (after : Option FileNo) (file : FileNo) (files : List FoundFile) (f : FoundFile) → AllPairs (λ a b. a.file.0 < b.file.0) store.files.files → file_past after store.files.files ≡ Some file
-    → IsFoundAs store history file.0 (Some f) → IsFoundUpTo store history after files → IsFoundUpTo store history (Some file) (files ++ f ∷ [])
+    → IsFileFound store history file.0 (Some f) → IsFoundUpTo store history after files → IsFoundUpTo store history (Some file) (files ++ f ∷ [])
 find_adds store history after file files f rising e is so =
     let numbers : found_numbers (files ++ f ∷ []) ≡ found_numbers files ++ file.0 ∷ [] = map-append (λ x. x.file.0) files (f ∷ []) ∙ ap (λ (n : ℕ). found_numbers files ++ n ∷ []) is.0 in
     let past = next_passes after store.files.files file e in
@@ -236,7 +236,7 @@ find_adds store history after file files f rising e is so =
     }
 
 pub find_more : {D : Type 0} → (store : StoreValue D) (history : Option History) (after : Option FileNo) (file : FileNo) (files more : List FoundFile) (o : Option FoundFile) → AllPairs (λ a b. a.file.0 < b.file.0) store.files.files → file_past after store.files.files ≡ Some file
-    → IsFoundAs store history file.0 o → more ≡ files ++ option_to_list o → IsFoundUpTo store history after files → IsFoundUpTo store history (Some file) more
+    → IsFileFound store history file.0 o → more ≡ files ++ option_to_list o → IsFoundUpTo store history after files → IsFoundUpTo store history (Some file) more
 find_more store history after file files more None rising e is added so = subst (IsFoundUpTo store history (Some file)) (sym (added ∙ append-nil files)) (find_passes store history after file files rising e is so)
 find_more store history after file files more (Some f) rising e is added so = subst (IsFoundUpTo store history (Some file)) (sym added) (find_adds store history after file files f rising e is so)
 
@@ -244,15 +244,15 @@ find_more store history after file files more (Some f) rising e is added so = su
 pub disk_then : {D : Type 0} → (old now new : StoreValue D) → now ≡ record old { disk = now.disk } → new ≡ record now { disk = new.disk } → new ≡ record old { disk = new.disk }
 disk_then old now new first second = second ∙ ap (λ (v : StoreValue _). record v { disk = new.disk }) first
 
-pub found_same : {D : Type 0} → (old now : StoreValue D) (history : Option History) (n : ℕ) (o : Option FoundFile) → now ≡ record old { disk = now.disk } → IsFoundAs now history n o → IsFoundAs old history n o
-found_same old now history n None same is = subst (λ (v : StoreValue _). IsFoundAs v history n None) same is
-found_same old now history n (Some f) same is = subst (λ (v : StoreValue _). IsFoundAs v history n (Some f)) same is
+pub found_same : {D : Type 0} → (old now : StoreValue D) (history : Option History) (n : ℕ) (o : Option FoundFile) → now ≡ record old { disk = now.disk } → IsFileFound now history n o → IsFileFound old history n o
+found_same old now history n None same is = subst (λ (v : StoreValue _). IsFileFound v history n None) same is
+found_same old now history n (Some f) same is = subst (λ (v : StoreValue _). IsFileFound v history n (Some f)) same is
 
 pub files_same : {D : Type 0} → (old now : StoreValue D) → now ≡ record old { disk = now.disk } → now.files ≡ old.files
 files_same old now same = ap (λ (v : StoreValue _). v.files) same
 
 -- behind the last
-pub find_ends : {D : Type 0} → (store : StoreValue D) (history : Option History) (after : Option FileNo) (files : List FoundFile) → file_past after store.files.files ≡ None → IsFoundUpTo store history after files → AreFound store history files
+pub find_ends : {D : Type 0} → (store : StoreValue D) (history : Option History) (after : Option FileNo) (files : List FoundFile) → file_past after store.files.files ≡ None → IsFoundUpTo store history after files → AreUncleanFound store history files
 find_ends store history after files e so = record {
   finds = record {
     known = record {
@@ -268,7 +268,7 @@ find_ends store history after files e so = record {
 
 -- ---- what is counted of them
 
-pub has_found : {D : Type 0} → (store : StoreValue D) (history : Option History) (found : Found) (listed : List FoundFile) (drawn : ℕ) → AreFound store history found.files.items → listed ≡ found.files.items → drawn ≡ store.files.highest → (found.targets ≡ targets_in listed) × (drawn + found.targets ≤ 4294967294) × All (λ f. 9 + f.octets ≤ 4294967294) listed
+pub has_found : {D : Type 0} → (store : StoreValue D) (history : Option History) (found : Found) (listed : List FoundFile) (drawn : ℕ) → AreUncleanFound store history found.files.items → listed ≡ found.files.items → drawn ≡ store.files.highest → (found.targets ≡ targets_in listed) × (drawn + found.targets ≤ 4294967294) × All (λ f. 9 + f.octets ≤ 4294967294) listed
     → found.most ≡ greatest (λ f. f.messages) listed → HasFound store history found
 has_found store history found listed drawn are list_is is counted most =
     let fits = counted.1 in

@@ -19,7 +19,7 @@ use Rattle.store_core.specs.Files.{AreFilesKept}
 use Rattle.store_core.specs.Knows.{knows_file}
 use Rattle.store_core.specs.Value.{StoreValue}
 use Rattle.task_steps.specs.Step.{HasComeTo}
-use Rattle.purge_task.specs.Clause.{TellsUses, seen_in}
+use Rattle.purge_task.specs.Clause.{TellsUses, seen_by_purge}
 use Rattle.purge_task.specs.Found.{AreAllBut, AreInRow, IsFullToEnd, MayBeEmptied}
 use Rattle.purge_task.proofs.EventLemmas.{fall}
 use Rattle.purge_task.proofs.FreeInstanceLemmas.{any_has}
@@ -74,7 +74,7 @@ some_is : {X : Type 0} → (o : Option X) → IsSome o → is_some o ≡ true
 some_is None h = h
 some_is (Some x) h = refl
 
-free_of : {D : Type 0} → (run : Run) (store : StoreValue D) (history : Option History) (faults : Faults) (n : ℕ) → HasComeTo run (seen_in store history faults) → store.stopped ≡ false → TellsUses run store → AreFilesKept store.files store.drawn store.map → MayBeEmptied store.files.files n → IsFreeFile run n
+free_of : {D : Type 0} → (run : Run) (store : StoreValue D) (history : Option History) (faults : Faults) (n : ℕ) → HasComeTo run (seen_by_purge store history faults) → store.stopped ≡ false → TellsUses run store → AreFilesKept store.files store.drawn store.map → MayBeEmptied store.files.files n → IsFreeFile run n
 free_of run store history faults n come runs uses kept h = record {
   some = kept.numbered n h.f h.known;
   known = come.files n (ap (λ (o : Option MailFile). is_some (option_and_then (λ f. f.end) o)) h.known ∙ some_is h.f.end h.there);
@@ -84,7 +84,7 @@ free_of run store history faults n come runs uses kept h = record {
   undoomed = (come.keeps runs).doomed n ∙ (ap (λ (o : Option MailFile). option_map_or (λ f. f.doomed) o false) h.known ∙ h.untaken.undoomed);
 }
 
-emptied_of : {D : Type 0} → (run : Run) (store : StoreValue D) (history : Option History) (faults : Faults) (n : ℕ) → HasComeTo run (seen_in store history faults) → store.stopped ≡ false → TellsUses run store → AreFilesKept store.files store.drawn store.map → IsFreeFile run n → MayBeEmptied store.files.files n
+emptied_of : {D : Type 0} → (run : Run) (store : StoreValue D) (history : Option History) (faults : Faults) (n : ℕ) → HasComeTo run (seen_by_purge store history faults) → store.stopped ≡ false → TellsUses run store → AreFilesKept store.files store.drawn store.map → IsFreeFile run n → MayBeEmptied store.files.files n
 emptied_of run store history faults n come runs uses kept h = by_case (file_in n store.files.files) refl
   where
     there : knows_file store n ≡ true
@@ -123,7 +123,7 @@ first_named n m (r ∷ rows) some mapped none =
     let h = All-head (λ (row : MapRecord). Contains m.records row × (row.file ≡ n) × (1 ≤ row.count)) r rows mapped in
     fall (is_named_file m n) (any_has (λ (row : MapRecord). row.file == n) m.records r h.0 (eq-eqb r.file n h.1)) none
 
-pub finds_files : {D : Type 0} → (run : Run) (store : StoreValue D) (history : Option History) (faults : Faults) (numbers : List ℕ) → HasComeTo run (seen_in store history faults) → store.stopped ≡ false → TellsUses run store → AreFilesKept store.files store.drawn store.map → IsSoundMap store.map → AllPairs (λ a b. a < b) numbers
+pub finds_files : {D : Type 0} → (run : Run) (store : StoreValue D) (history : Option History) (faults : Faults) (numbers : List ℕ) → HasComeTo run (seen_by_purge store history faults) → store.stopped ≡ false → TellsUses run store → AreFilesKept store.files store.drawn store.map → IsSoundMap store.map → AllPairs (λ a b. a < b) numbers
     → AreAllBut (IsFullToEnd store) store.files.files numbers → FindsFiles run numbers
 finds_files run store history faults numbers come runs uses kept sound rising found = record {
   once = λ i j d lt le same. let l = rising i j d lt le in omega (arith, l, same);

@@ -21,7 +21,7 @@ use Rattle.storage_files.specs.declared.file.MailFile.{MailFile}
 use Rattle.store_core.specs.Value.{StoreValue}
 use Rattle.task_steps.specs.Step.{HasComeTo}
 use Rattle.task_steps.proofs.SeenLemmas.{doomed_still, file_still_known, given_still, gone_still, pins_still, placed_still, there_before, used_still}
-use Rattle.purge_task.specs.Clause.{seen_in}
+use Rattle.purge_task.specs.Clause.{seen_by_purge}
 use Rattle.purge_task.proofs.RunLemmas.{sum_push}
 use Rattle.purge_task.proofs.SameSeenLemmas.{bars, is_before, uses}
 
@@ -83,8 +83,8 @@ more_drawn n drawn drew b c same e =
     let l = true_le n drawn p.0 in
     and_true (nat_le n (drawn + drew)) c (le_true n (drawn + drew) (omega (arith, l))) (same l ∙ p.1)
 
-pub first_comes : {D : Type 0} → (run : Run) (lane place : ℕ) (taken : List TakenFile) (drew : ℕ) (disk : D) (log : LogState) (files : FilesValue) (old : StoreValue D) (before after : Option History) (began faults : Faults) → HasComeTo run (seen_in old before began) → old.stopped ≡ false → IsBegunOf old.drawn.file old.files.files files.files
-    → HasCome (and_then run (first_event lane place taken drew (told_calls after))) old.map (record old.drawn { file = old.drawn.file + drew }) (told_calls after) → HasComeTo (and_then run (first_event lane place taken drew (told_calls after))) (seen_in (with_begun disk log files drew old) after faults)
+pub first_comes : {D : Type 0} → (run : Run) (lane place : ℕ) (taken : List TakenFile) (drew : ℕ) (disk : D) (log : LogState) (files : FilesValue) (old : StoreValue D) (before after : Option History) (began faults : Faults) → HasComeTo run (seen_by_purge old before began) → old.stopped ≡ false → IsBegunOf old.drawn.file old.files.files files.files
+    → HasCome (and_then run (first_event lane place taken drew (told_calls after))) old.map (record old.drawn { file = old.drawn.file + drew }) (told_calls after) → HasComeTo (and_then run (first_event lane place taken drew (told_calls after))) (seen_by_purge (with_begun disk log files drew old) after faults)
 first_comes {D = D} run lane place taken drew disk log files old before after began faults h ran is came = record {
   come = came;
   keeps = λ runs.
@@ -100,7 +100,7 @@ first_comes {D = D} run lane place taken drew disk log files old before after be
         pins = λ n. pins_still run event n refl refl ∙ (t.pins n ∙ sym (is.pins n));
         doomed = λ n. doomed_still run event n refl refl ∙ (t.doomed n ∙ sym (is.doomed n));
         instances = λ row. placed_still run event row refl refl ∙ t.instances row;
-        files = λ n unsealed known. ap (λ (o : Option ℕ). is_some o) (is.ended n) ∙ by_maker n (there_before run event (seen_in old before began) n t refl unsealed known);
+        files = λ n unsealed known. ap (λ (o : Option ℕ). is_some o) (is.ended n) ∙ by_maker n (there_before run event (seen_by_purge old before began) n t refl unsealed known);
       };
   used = λ n e. more_drawn n old.drawn.file drew (uses (file_in n old.files.files)) (uses (file_in n files.files)) (is.used n) (h.used n (sym (used_still run event n refl refl) ∙ e));
   barred = λ n e. more_drawn n old.drawn.file drew (bars (file_in n old.files.files)) (bars (file_in n files.files)) (is.barred n) (h.barred n e);
@@ -115,6 +115,6 @@ first_comes {D = D} run lane place taken drew disk log files old before after be
     event : RunEvent
     event = first_event lane place taken drew (told_calls after)
 
-    by_maker : (n : ℕ) → ((seen_in old before began).files n ≡ true) ⊎ (is_one_of event.made n ≡ true) → (seen_in old before began).files n ≡ true
+    by_maker : (n : ℕ) → ((seen_by_purge old before began).files n ≡ true) ⊎ (is_one_of event.made n ≡ true) → (seen_by_purge old before began).files n ≡ true
     by_maker n (inl there) = there
     by_maker n (inr made) = absurd (let e : false ≡ true = made in cc e)

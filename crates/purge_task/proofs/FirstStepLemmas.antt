@@ -30,10 +30,10 @@ use Rattle.store_core.specs.Value.{StoreValue}
 use Rattle.task_steps.specs.Step.{HasComeTo, HasNotBegun}
 use Rattle.task_steps.proofs.OneEventLemmas.{next_first}
 use Rattle.purge_task.specs.Claims.{sources_left}
-use Rattle.purge_task.specs.Clause.{PurgeSteps, around_purging, seen_in}
+use Rattle.purge_task.specs.Clause.{PurgeSteps, around_purging, seen_by_purge}
 use Rattle.purge_task.specs.Found.{AreAllBut, IsFullToEnd}
 use Rattle.purge_task.specs.Keeping.{PurgeValue}
-use Rattle.purge_task.specs.Stages.{GoesOnBehind, HaveCopied, HaveTaken, IsAtPurge, IsAtStage, IsNextStage, IsUnderWay, taken_of}
+use Rattle.purge_task.specs.Stages.{GoesOnBehind, HaveCopied, HaveTaken, IsAtPurge, IsAtPurgeStage, IsNextStage, IsPurging, told_taken}
 use Rattle.purge_task.specs.declared.task.PurgeStage.{PurgeStage}
 use Rattle.purge_task.specs.declared.task.PurgeStage.TheVariants as stage
 use Rattle.purge_task.specs.declared.work.Source.{Source}
@@ -45,14 +45,14 @@ use Rattle.purge_task.proofs.PartLemmas.{goes_on_some}
 use Rattle.purge_task.proofs.RemovalLemmas.{LeavesSettled}
 
 abbrev taken_all : List Source → List TakenFile
-taken_all sources = map taken_of sources
+taken_all sources = map told_taken sources
 
 -- ---- where it leads
 
-none_done : (sources : List Source) (event : RunEvent) → event.doomed ≡ [] → event.removed ≡ [] → All (λ s. is_done (event ∷ []) (taken_of s) ≡ false) sources
+none_done : (sources : List Source) (event : RunEvent) → event.doomed ≡ [] → event.removed ≡ [] → All (λ s. is_done (event ∷ []) (told_taken s) ≡ false) sources
 none_done [] event doomed removed = All-nil _
 none_done (s ∷ sources) event doomed removed =
-    All-cons (λ (x : Source). is_done (event ∷ []) (taken_of x) ≡ false) s sources
+    All-cons (λ (x : Source). is_done (event ∷ []) (told_taken x) ≡ false) s sources
     (ap (λ (fs : List ℕ). (is_one_of fs s.file.0 || is_one_of event.removed s.file.0) || false) doomed ∙ ap (λ (fs : List ℕ). (false || is_one_of fs s.file.0) || false) removed)
     (none_done sources event doomed removed)
 
@@ -67,7 +67,7 @@ none_copied m (s ∷ sources) event none h =
         (λ here. ap (λ (us : List ℕ). is_one_of us row.uid || false) none ∙ sym (ap (λ (ps : List MapPlace). list_any (λ (p : MapPlace). p.uid.0 == row.uid) ps) (All-head (λ (x : Source). x.copied.items ≡ []) s sources h))) (each rows)
 
 begun_way : {D : Type 0} → (next : PurgeValue) (sources : List Source) (lane drew calls : ℕ) (new : StoreValue D) (run : Run) (place : ℕ) (said : List Reply) → next.dropped ≡ 0 → next.files ≡ 0 → next.instances ≡ 0 → All (λ s. s.copied.items ≡ []) sources → HasNotBegun run place said
-    → IsUnderWay next [] sources (GoesOnBehind (and_then run (first_event lane place (taken_all sources) drew calls))) new (and_then run (first_event lane place (taken_all sources) drew calls)) place said
+    → IsPurging next [] sources (GoesOnBehind (and_then run (first_event lane place (taken_all sources) drew calls))) new (and_then run (first_event lane place (taken_all sources) drew calls)) place said
 begun_way next sources lane drew calls new run place said dropped files instances uncopied stood = record {
   unsaid = stood.1;
   last = record { front = []; last = event; own_are = is; unrefused = refl; behind = refl };
@@ -104,9 +104,9 @@ comes_drawing run event m drawn calls n c le none drew = record {
   moments = All-push (λ (e : RunEvent). e.moment ≤ event.moment) run.events event (All-weaker (λ (e : RunEvent). e.moment ≤ calls) (λ (e : RunEvent). e.moment ≤ event.moment) (λ e h. omega (arith, h, le)) run.events c.moments) (omega arith);
 }
 
-at_first : {D : Type 0} → (next : PurgeValue) (work : Work) (new : StoreValue D) (run : Run) (place : ℕ) (said : List Reply) → IsNextStage work next.stage → IsUnderWay next [] (sources_left work) (GoesOnBehind run) new run place said → IsAtPurge next new run place said
-at_first next work new run place said (inl none) h = subst (λ (x : PurgeStage). IsAtStage x next new run place said) (sym none.1) ([], subst (λ (l : List Source). IsUnderWay next [] l (GoesOnBehind run) new run place said) none.0 h)
-at_first next work new run place said (inr some) h = subst (λ (x : PurgeStage). IsAtStage x next new run place said) (sym some.1) ([], h)
+at_first : {D : Type 0} → (next : PurgeValue) (work : Work) (new : StoreValue D) (run : Run) (place : ℕ) (said : List Reply) → IsNextStage work next.stage → IsPurging next [] (sources_left work) (GoesOnBehind run) new run place said → IsAtPurge next new run place said
+at_first next work new run place said (inl none) h = subst (λ (x : PurgeStage). IsAtPurgeStage x next new run place said) (sym none.1) ([], subst (λ (l : List Source). IsPurging next [] l (GoesOnBehind run) new run place said) none.0 h)
+at_first next work new run place said (inr some) h = subst (λ (x : PurgeStage). IsAtPurgeStage x next new run place said) (sym some.1) ([], h)
 
 -- ---- its clause
 
@@ -130,12 +130,12 @@ pub first_steps : {D : Type 0} → (after : Around) (t next : PurgeValue) (work 
 first_steps after t next work drew disk log files old before later began faults at to how dropped counted instances ran kept sound b leaves = λ run lane place said lists come shows stood.
     let sources : List Source = sources_left work in
     let around : Around = around_purging (map (λ (t : TakenFile). t.file) (taken_all sources)) old in
-    let begins : HasNotBegun run place said = subst (λ (x : PurgeStage). IsAtStage x t old run place said) at stood.0 in
+    let begins : HasNotBegun run place said = subst (λ (x : PurgeStage). IsAtPurgeStage x t old run place said) at stood.0 in
     let event : RunEvent = first_event lane place (taken_all sources) drew (told_calls later) in
     let new : StoreValue _ = with_begun disk log files drew old in
     let drawn_is : (drawn_of run).file ≡ old.drawn.file = ap (λ (d : Highest). d.file) come.come.drawn_is in
     let many : drew ≡ length (with_targets (map_of run) (taken_all sources)) = b.drew_are ∙ sym (ap (λ (m : MapMeaning). length (with_targets m (taken_all sources))) come.come.map_is) in
-    let so = did_part around after run lane place said lists (seen_in old before began) (seen_in new later faults) (first_event 0 0 (taken_all sources) drew 0)
+    let so = did_part around after run lane place said lists (seen_by_purge old before began) (seen_by_purge new later faults) (first_event 0 0 (taken_all sources) drew 0)
     (record {
       next = next_first around run request.Purge (own_events place run) begins.0;
       finds = refl;
@@ -154,6 +154,6 @@ first_steps after t next work drew disk log files old before later began faults 
     })
     (first_comes run lane place (taken_all sources) drew disk log files old before later began faults come ran b.begun (comes_drawing run event old.map old.drawn (told_calls before) drew come.come leaves.grows refl refl))
     shows ran ran (record { stops = λ s. leaves.moments lists s.0; settled = λ s. leaves.rests lists s.0 }) leaves.grows leaves.mail leaves.quiet in
-    stands_so around after run lane place said lists (seen_in old before began) (seen_in new later faults) next.did None event None (IsAtPurge next new)
-    (subst (λ (d : Did). DidSo around after run lane place said lists (seen_in old before began) (seen_in new later faults) d None event None) (sym how) so)
+    stands_so around after run lane place said lists (seen_by_purge old before began) (seen_by_purge new later faults) next.did None event None (IsAtPurge next new)
+    (subst (λ (d : Did). DidSo around after run lane place said lists (seen_by_purge old before began) (seen_by_purge new later faults) d None event None) (sym how) so)
     (λ none. at_first next work new (and_then run event) place said to (begun_way next sources lane drew (told_calls later) new run place said dropped counted instances b.uncopied begins))

@@ -30,7 +30,7 @@ use Rattle.store_core.specs.Removing.{is_useless}
 use Rattle.store_core.specs.StoreInstances.{HasKnownInstances, IsKnownRow}
 use Rattle.store_core.specs.Value.{StoreValue}
 use Rattle.task_steps.specs.Step.{HasComeTo}
-use Rattle.purge_task.specs.Clause.{TellsUses, next_useless_of, seen_in}
+use Rattle.purge_task.specs.Clause.{TellsUses, next_useless_of, seen_by_purge}
 use Rattle.purge_task.proofs.EventLemmas.{fall}
 
 -- ---- tests
@@ -121,7 +121,7 @@ Useless store row = (k : KnownInstance) × (instance_in row.id store.instances.k
 none_held : (n : ℕ) → (1 ≤ n → ⊥) → (n == 0) ≡ true
 none_held n h = eq-eqb n 0 (omega (arith, h))
 
-free_useless : {D : Type 0} → (run : Run) (store : StoreValue D) (history : Option History) (faults : Faults) (row : InstRow) → HasComeTo run (seen_in store history faults) → store.stopped ≡ false → TellsUses run store → HasKnownInstances history store → IsFreeInstance run row → Useless store row
+free_useless : {D : Type 0} → (run : Run) (store : StoreValue D) (history : Option History) (faults : Faults) (row : InstRow) → HasComeTo run (seen_by_purge store history faults) → store.stopped ≡ false → TellsUses run store → HasKnownInstances history store → IsFreeInstance run row → Useless store row
 free_useless run store history faults row come runs uses known free =
     let knows : knows_instance store row ≡ true = sym ((come.keeps runs).instances row) ∙ free.known in
     let k = known_is store row knows in
@@ -134,7 +134,7 @@ free_useless run store history faults row come runs uses known free =
 -- ---- what it finds
 
 -- one that is of no use is free
-useless_free : {D : Type 0} → (run : Run) (store : StoreValue D) (history : Option History) (faults : Faults) (k : KnownInstance) → HasComeTo run (seen_in store history faults) → store.stopped ≡ false → TellsUses run store → AreInstances store.instances → Contains store.instances.known k
+useless_free : {D : Type 0} → (run : Run) (store : StoreValue D) (history : Option History) (faults : Faults) (k : KnownInstance) → HasComeTo run (seen_by_purge store history faults) → store.stopped ≡ false → TellsUses run store → AreInstances store.instances → Contains store.instances.known k
     → is_useless store.map k ≡ true → IsFreeInstance run k.row
 useless_free run store history faults k come runs uses ids there useless =
     let at : instance_in k.row.id store.instances.known ≡ Some k = instance-in store.instances.known k ids.rising there in
@@ -173,12 +173,12 @@ first_found p (x ∷ known) k j rise e there is before = by_test (p x) refl (fir
       | inr later ↦ rest (sym (ap (λ (b : Bool). cond b (Some x) (find p known)) t) ∙ e) later is before
     ]
 
-pub finds_none : {D : Type 0} → (run : Run) (store : StoreValue D) (history : Option History) (faults : Faults) → HasComeTo run (seen_in store history faults) → store.stopped ≡ false → TellsUses run store → HasKnownInstances history store → find (λ k. is_useless store.map k) store.instances.known ≡ None → FindsInstance run (next_useless_of store)
+pub finds_none : {D : Type 0} → (run : Run) (store : StoreValue D) (history : Option History) (faults : Faults) → HasComeTo run (seen_by_purge store history faults) → store.stopped ≡ false → TellsUses run store → HasKnownInstances history store → find (λ k. is_useless store.map k) store.instances.known ≡ None → FindsInstance run (next_useless_of store)
 finds_none run store history faults come runs uses known none = subst (λ (o : Option InstRow). FindsInstance run o) (sym (ap (λ (o : Option KnownInstance). option_map (λ k. k.row) o) none)) (λ row free.
     let u = free_useless run store history faults row come runs uses known free in
     fall (is_useless store.map u.0) u.4 (All-contains (λ (k : KnownInstance). is_useless store.map k ≡ false) store.instances.known u.0 (found_none (λ (k : KnownInstance). is_useless store.map k) store.instances.known none) u.2))
 
-pub finds_one : {D : Type 0} → (run : Run) (store : StoreValue D) (history : Option History) (faults : Faults) (k : KnownInstance) → HasComeTo run (seen_in store history faults) → store.stopped ≡ false → TellsUses run store → HasKnownInstances history store → AreInstances store.instances
+pub finds_one : {D : Type 0} → (run : Run) (store : StoreValue D) (history : Option History) (faults : Faults) (k : KnownInstance) → HasComeTo run (seen_by_purge store history faults) → store.stopped ≡ false → TellsUses run store → HasKnownInstances history store → AreInstances store.instances
     → find (λ k. is_useless store.map k) store.instances.known ≡ Some k → FindsInstance run (next_useless_of store)
 finds_one run store history faults k come runs uses known ids found =
     let there = found_one (λ (j : KnownInstance). is_useless store.map j) store.instances.known k found in

@@ -28,9 +28,9 @@ use Rattle.store_core.specs.StoreInstances.{HasKnownInstances}
 use Rattle.store_core.specs.Value.{StoreValue}
 use Rattle.task_steps.specs.Step.{DidEvent, HasComeTo, ShowsSeen}
 use Rattle.task_steps.proofs.OneEventLemmas.{never_more}
-use Rattle.purge_task.specs.Clause.{PurgeSteps, TellsUses, around_purging, next_useless_of, seen_in}
+use Rattle.purge_task.specs.Clause.{PurgeSteps, TellsUses, around_purging, next_useless_of, seen_by_purge}
 use Rattle.purge_task.specs.Keeping.{PurgeValue}
-use Rattle.purge_task.specs.Stages.{GoesOnBehind, HaveTaken, IsAtPurge, IsAtStage, IsUnderWay}
+use Rattle.purge_task.specs.Stages.{GoesOnBehind, HaveTaken, IsAtPurge, IsAtPurgeStage, IsPurging}
 use Rattle.purge_task.specs.declared.task.PurgeStage.{PurgeStage}
 use Rattle.purge_task.specs.declared.task.PurgeStage.TheVariants as stage
 use Rattle.purge_task.specs.declared.work.Source.{Source}
@@ -41,12 +41,12 @@ use Rattle.purge_task.proofs.PartLemmas.{goes_on_some, last_with, next_goes_on, 
 use Rattle.purge_task.proofs.RemovalLemmas.{LeavesSettled}
 use Rattle.purge_task.proofs.RunLemmas.{flat_push, gone_files, sum_push, taken_still}
 
-next_instance : (around : Around) (run : Run) (place : ℕ) (done : List Source) {D : Type 0} (t : PurgeValue) (store : StoreValue D) (said : List Reply) → IsUnderWay t done [] (GoesOnBehind run) store run place said
+next_instance : (around : Around) (run : Run) (place : ℕ) (done : List Source) {D : Type 0} (t : PurgeValue) (store : StoreValue D) (said : List Reply) → IsPurging t done [] (GoesOnBehind run) store run place said
     → next_part around run request.Purge (own_events place run) ≡ (if is_some around.instance then Some RemovesInstance else Some Last)
 next_instance around run place done t store said h = next_goes_on around run place h.last ∙ ap (λ (o : Option TakenFile). purge_goes_on around run o) (next_none done (own_events place run) h.taken)
 
-at_instances : {D : Type 0} → (t : PurgeValue) (store : StoreValue D) (run : Run) (place : ℕ) (said : List Reply) → t.stage ≡ stage.Instances → IsAtPurge t store run place said → (done : List Source) × IsUnderWay t done [] (GoesOnBehind run) store run place said
-at_instances t store run place said at h = subst (λ (x : PurgeStage). IsAtStage x t store run place said) at h
+at_instances : {D : Type 0} → (t : PurgeValue) (store : StoreValue D) (run : Run) (place : ℕ) (said : List Reply) → t.stage ≡ stage.Instances → IsAtPurge t store run place said → (done : List Source) × IsPurging t done [] (GoesOnBehind run) store run place said
+at_instances t store run place said at h = subst (λ (x : PurgeStage). IsAtPurgeStage x t store run place said) at h
 
 -- ---- the last event
 
@@ -56,16 +56,16 @@ last_steps after t next store history faults at how runs known none = λ run lan
     let h = at_instances t store run place said at stood.0 in
     let around : Around = around_purging [] store in
     let is : next_part around run request.Purge (own_events place run) ≡ Some Last = next_instance around run place h.0 t store said h.1 ∙ ap (λ (o : Option KnownInstance). if is_some (option_map (λ k. k.row) o) then Some RemovesInstance else Some Last) none in (
-      subst (λ (d : Did). DidEvent around after run lane place said request.Purge lists (seen_in store history faults) (seen_in store history faults) d (Some (reply.Purged t.dropped t.files t.instances))) (sym how)
-          (did_last around after run lane place said lists (seen_in store history faults) t.dropped t.files t.instances come shows runs is h.1.unrefused h.1.unsaid
+      subst (λ (d : Did). DidEvent around after run lane place said request.Purge lists (seen_by_purge store history faults) (seen_by_purge store history faults) d (Some (reply.Purged t.dropped t.files t.instances))) (sym how)
+          (did_last around after run lane place said lists (seen_by_purge store history faults) t.dropped t.files t.instances come shows runs is h.1.unrefused h.1.unsaid
           (record { dropped_are = h.1.counted.dropped; files_are = h.1.counted.files; instances_are = h.1.counted.instances }) (λ looked. finds_none run store history faults come runs (stood.1 runs) known none)),
       λ e. absurd (never_more _ e),
     )
 
 -- ---- an instance that goes
 
-gone_way : {D : Type 0} → (t next : PurgeValue) (done : List Source) (lane : ℕ) (row : InstRow) (calls : ℕ) (old new : StoreValue D) (run : Run) (place : ℕ) (said : List Reply) → next.dropped ≡ t.dropped → next.files ≡ t.files → next.instances ≡ t.instances + 1 → IsUnderWay t done [] (GoesOnBehind run) old run place said
-    → IsUnderWay next done [] (GoesOnBehind (and_then run (gone_event lane place row calls))) new (and_then run (gone_event lane place row calls)) place said
+gone_way : {D : Type 0} → (t next : PurgeValue) (done : List Source) (lane : ℕ) (row : InstRow) (calls : ℕ) (old new : StoreValue D) (run : Run) (place : ℕ) (said : List Reply) → next.dropped ≡ t.dropped → next.files ≡ t.files → next.instances ≡ t.instances + 1 → IsPurging t done [] (GoesOnBehind run) old run place said
+    → IsPurging next done [] (GoesOnBehind (and_then run (gone_event lane place row calls))) new (and_then run (gone_event lane place row calls)) place said
 gone_way t next done lane row calls old new run place said dropped files instances h = record {
   unsaid = h.unsaid;
   last = record { front = own; last = event; own_are = is; unrefused = refl; behind = refl };
@@ -110,7 +110,7 @@ gone_steps after t next k disk old before later began faults at to how dropped f
     let next_is : next_part around run request.Purge (own_events place run) ≡ Some RemovesInstance = next_instance around run place h.0 t old said h.1 ∙ ap (λ (o : Option KnownInstance). if is_some (option_map (λ k. k.row) o) then Some RemovesInstance else Some Last) found in
     let finds = finds_one run old before began k come ran (stood.1 ran) known ids found in
     let there = found_one (λ (j : KnownInstance). is_useless old.map j) old.instances.known k found in
-    let so = did_part around after run lane place said lists (seen_in old before began) (seen_in new later faults) (gone_event 0 0 k.row 0)
+    let so = did_part around after run lane place said lists (seen_by_purge old before began) (seen_by_purge new later faults) (gone_event 0 0 k.row 0)
     (record {
       next = next_is;
       finds = tt;
@@ -123,6 +123,6 @@ gone_steps after t next k disk old before later began faults at to how dropped f
       no_guid = refl;
     })
     (gone_comes run lane place k disk old before later began faults come ran (instance-in old.instances.known k ids.rising there.0) drawn leaves.grows) shows ran ran (record { stops = λ s. leaves.moments lists s.0; settled = λ s. leaves.rests lists s.0 }) leaves.grows leaves.mail leaves.quiet in
-    stands_so around after run lane place said lists (seen_in old before began) (seen_in new later faults) next.did None event None (IsAtPurge next new)
-    (subst (λ (d : Did). DidSo around after run lane place said lists (seen_in old before began) (seen_in new later faults) d None event None) (sym how) so)
-    (λ none. subst (λ (x : PurgeStage). IsAtStage x next new (and_then run event) place said) (sym to) (h.0, gone_way t next h.0 lane k.row (told_calls later) old new run place said dropped files instances h.1))
+    stands_so around after run lane place said lists (seen_by_purge old before began) (seen_by_purge new later faults) next.did None event None (IsAtPurge next new)
+    (subst (λ (d : Did). DidSo around after run lane place said lists (seen_by_purge old before began) (seen_by_purge new later faults) d None event None) (sym how) so)
+    (λ none. subst (λ (x : PurgeStage). IsAtPurgeStage x next new (and_then run event) place said) (sym to) (h.0, gone_way t next h.0 lane k.row (told_calls later) old new run place said dropped files instances h.1))

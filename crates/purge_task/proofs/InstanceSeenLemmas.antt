@@ -23,7 +23,7 @@ use Rattle.store_core.specs.Knows.{knows_instance, may_be_gone}
 use Rattle.store_core.specs.Value.{StoreValue}
 use Rattle.task_steps.specs.Step.{HasComeTo, was_gone}
 use Rattle.task_steps.proofs.SeenLemmas.{doomed_still, file_still_known, given_still, pins_still, there_before, used_still}
-use Rattle.purge_task.specs.Clause.{seen_in}
+use Rattle.purge_task.specs.Clause.{seen_by_purge}
 use Rattle.purge_task.proofs.EventLemmas.{fall}
 use Rattle.purge_task.proofs.RunLemmas.{any_push, any_still, or_none, or_true, sum_push}
 
@@ -86,8 +86,8 @@ takes row e = list_any (is_same_instance row) e.gone
 le_true : (a b : ℕ) → a ≤ b → nat_le a b ≡ true
 le_true a b l = grind (arith, common_steps, l)
 
-pub gone_comes : {D : Type 0} → (run : Run) (lane place : ℕ) (k : KnownInstance) (disk : D) (old : StoreValue D) (before after : Option History) (began faults : Faults) → HasComeTo run (seen_in old before began) → old.stopped ≡ false → instance_in k.row.id old.instances.known ≡ Some k
-    → instance_number old.map.store k.row.id.0 ≤ old.drawn.instance → told_calls before ≤ told_calls after → HasComeTo (and_then run (gone_event lane place k.row (told_calls after))) (seen_in (without_it k.row.id disk old) after faults)
+pub gone_comes : {D : Type 0} → (run : Run) (lane place : ℕ) (k : KnownInstance) (disk : D) (old : StoreValue D) (before after : Option History) (began faults : Faults) → HasComeTo run (seen_by_purge old before began) → old.stopped ≡ false → instance_in k.row.id old.instances.known ≡ Some k
+    → instance_number old.map.store k.row.id.0 ≤ old.drawn.instance → told_calls before ≤ told_calls after → HasComeTo (and_then run (gone_event lane place k.row (told_calls after))) (seen_by_purge (without_it k.row.id disk old) after faults)
 gone_comes {D = D} run lane place k disk old before_ after began faults h ran at drawn grows = record {
   come = came;
   keeps = λ runs.
@@ -110,7 +110,7 @@ gone_comes {D = D} run lane place k disk old before_ after began faults h ran at
               ∙ ap (λ (b : Bool). (list_any (is_same_instance row) (named_instances (map_of (before 0 run))) || list_any (places row) run.events) && not b) (any_still (takes row) run.events event (ap (λ (b : Bool). b || false) isnt)))
               ∙ (t.instances row ∙ sym (other_row row isnt))
         ];
-        files = λ n unsealed known. by_maker n (there_before run event (seen_in old before_ began) n t refl unsealed known);
+        files = λ n unsealed known. by_maker n (there_before run event (seen_by_purge old before_ began) n t refl unsealed known);
       };
   used = λ n e. h.used n (sym (used_still run event n refl refl) ∙ e);
   barred = h.barred;
@@ -147,6 +147,6 @@ gone_comes {D = D} run lane place k disk old before_ after began faults h ran at
       | inr apart ↦ ap (λ (o : Option KnownInstance). knows_by row o) (other_with k.row.id row.id old.instances.known (λ same. fall (bytes_eq row.id.0 k.row.id.0) (text_yes row.id.0 k.row.id.0 (ap (λ (i : InstId). i.0) same)) apart))
     ]
 
-    by_maker : (n : ℕ) → ((seen_in old before_ began).files n ≡ true) ⊎ (is_one_of event.made n ≡ true) → (seen_in old before_ began).files n ≡ true
+    by_maker : (n : ℕ) → ((seen_by_purge old before_ began).files n ≡ true) ⊎ (is_one_of event.made n ≡ true) → (seen_by_purge old before_ began).files n ≡ true
     by_maker n (inl there) = there
     by_maker n (inr made) = absurd (let e : false ≡ true = made in cc e)

@@ -13,7 +13,7 @@ use Rattle.task_steps.specs.Step.{GivesNew, IsKept}
 use Rattle.task_steps.proofs.SeenLemmas.{not_begun_stays, was_pinned_still}
 use Rattle.purge_task.specs.Claims.{sources_left}
 use Rattle.purge_task.specs.Keeping.{PurgeValue}
-use Rattle.purge_task.specs.Stages.{CopiesBehind, GoesOnBehind, HaveCopied, HaveTaken, IsAtPurge, IsAtStage, IsAtSwitched, IsLastOf, IsUnderWay, RemovesBehind}
+use Rattle.purge_task.specs.Stages.{CopiesBehind, GoesOnBehind, HaveCopied, HaveTaken, IsAtPurge, IsAtPurgeStage, IsAtSwitched, IsLastOf, IsPurging, RemovesBehind}
 use Rattle.purge_task.specs.declared.task.PurgeStage.{PurgeStage}
 use Rattle.purge_task.specs.declared.task.PurgeStage.TheVariants as stage
 use Rattle.purge_task.specs.declared.work.Source.{Source}
@@ -59,7 +59,7 @@ abbrev IsLastDoomed : Run → List ℕ → Type 0
 IsLastDoomed run doomed = (file : ℕ) → doomed ≡ file ∷ [] → list_any (dooms file) run.events ≡ true
 
 under_way_stays : {D : Type 0} → (t : PurgeValue) (done left : List Source) (Before After : List ℕ → EventPart → Type 0) (store : StoreValue D) (run : Run) (place : ℕ) (said : List Reply) (event : RunEvent) → own_events place (and_then run event) ≡ own_events place run
-    → ((doomed : List ℕ) (part : EventPart) → IsLastDoomed run doomed → Before doomed part → After doomed part) → IsUnderWay t done left Before store run place said → IsUnderWay t done left After store (and_then run event) place said
+    → ((doomed : List ℕ) (part : EventPart) → IsLastDoomed run doomed → Before doomed part → After doomed part) → IsPurging t done left Before store run place said → IsPurging t done left After store (and_then run event) place said
 under_way_stays t done left Before After store run place said event same to h = record {
   unsaid = h.unsaid;
   last = record {
@@ -90,7 +90,7 @@ removes_still : (run : Run) (event : RunEvent) (file : ℕ) (doomed : List ℕ) 
 removes_still run event file doomed Switches l h = (h.0, was_pinned_still run event file (l file h.0) ∙ h.1)
 removes_still run event file doomed part l h = absurd h
 
-stage_stays : {D : Type 0} → (s : PurgeStage) (t : PurgeValue) (store : StoreValue D) → IsKept (IsAtStage s t store)
+stage_stays : {D : Type 0} → (s : PurgeStage) (t : PurgeValue) (store : StoreValue D) → IsKept (IsAtPurgeStage s t store)
 stage_stays stage.First t store run place said event other new stood = not_begun_stays run place said event other new stood
 stage_stays (stage.Begin work) t store run place said event other new stood =
     (stood.0, under_way_stays t stood.0 (sources_left work) (GoesOnBehind run) (GoesOnBehind (and_then run event)) store run place said event (own_other place run event (ne_eqb event.request place other)) (goes_on_still run event) stood.1)

@@ -22,7 +22,7 @@ use Rattle.map_rows.proofs.SwitchLemmas.{times_permuted}
 use Rattle.map_rows.specs.declared.rows.MapRow.{MapRow}
 use Rattle.map_index.specs.Shown.{record_from, shown_record}
 use Rattle.purge_task.specs.Found.{messages_in}
-use Rattle.purge_task.specs.Switched.{AreDropped, AreListed, AreMoved, AreUnwanted, is_wanted_at}
+use Rattle.purge_task.specs.Switched.{AreDropped, AreSwitchLists, AreMoved, AreUnwanted, is_wanted_at}
 use Rattle.purge_task.proofs.WalkLemmas.{IsFoundRow, upto, below, below_is, unequal, found_row, none_found, sound_row, more_walked, all_walked, sum_walked, sum_within}
 
 -- ---- numbers that differ, in order
@@ -236,7 +236,7 @@ dropped_are m file uids sorted are same rising = record {
   every = λ k d lt here none. sym (list_any-IsPermutation (λ u. u.0 == (get_or m.records k d).uid) uids sorted same) ∙ are.every k d lt here none;
 }
 
-pub lists_are : (m : MapMeaning) (file : ℕ) (copied moved : List MapPlace) (dropped : List MapUid) → AreMoved m copied moved → AreDropped m file dropped → AreListed m file copied moved dropped
+pub lists_are : (m : MapMeaning) (file : ℕ) (copied moved : List MapPlace) (dropped : List MapUid) → AreMoved m copied moved → AreDropped m file dropped → AreSwitchLists m file copied moved dropped
 lists_are m file copied moved dropped a b = record {
   moved_rising = a.rising;
   moved_copied = a.copied_are;

@@ -10,7 +10,7 @@ use Rattle.mdbox_base.specs.declared.requests.Request.{Request}
 use Rattle.mdbox_base.specs.declared.requests.Request.TheVariants as request
 use Rattle.list_machine.specs.Run.{CopiesMessage, EventPart, First, Last, MakesTarget, RemovesFile, RemovesInstance, Run, RunEvent, Switches, TakenFile, map_of, own_events}
 use Rattle.journal.specs.Events.{Around, behind_event, behind_purge, is_done, last_refusal, next_part, next_taken, purge_copies, purge_goes_on, was_pinned}
-use Rattle.purge_task.specs.Stages.{CopiesBehind, GoesOnBehind, HaveTaken, IsLastOf, RemovesBehind, taken_of}
+use Rattle.purge_task.specs.Stages.{CopiesBehind, GoesOnBehind, HaveTaken, IsLastOf, RemovesBehind, told_taken}
 use Rattle.purge_task.specs.declared.work.Source.{Source}
 
 -- ---- the last of some events
@@ -118,18 +118,18 @@ copies_some run own = by_test (nat_lt 0 _)
 abbrev left_test : List RunEvent → TakenFile → Bool
 left_test own taken = not (is_done own taken)
 
-find_done : (own : List RunEvent) (done left : List Source) → All (λ source. is_done own (taken_of source) ≡ true) done → find (left_test own) (map taken_of (done ++ left)) ≡ find (left_test own) (map taken_of left)
+find_done : (own : List RunEvent) (done left : List Source) → All (λ source. is_done own (told_taken source) ≡ true) done → find (left_test own) (map told_taken (done ++ left)) ≡ find (left_test own) (map told_taken left)
 find_done own [] left h = refl
 find_done own (source ∷ done) left h =
-    ap (λ (b : Bool). if not b then Some (taken_of source) else find (left_test own) (map taken_of (done ++ left))) (All-head (λ (s : Source). is_done own (taken_of s) ≡ true) source done h)
-    ∙ find_done own done left (All-tail (λ (s : Source). is_done own (taken_of s) ≡ true) source done h)
+    ap (λ (b : Bool). if not b then Some (told_taken source) else find (left_test own) (map told_taken (done ++ left))) (All-head (λ (s : Source). is_done own (told_taken s) ≡ true) source done h)
+    ∙ find_done own done left (All-tail (λ (s : Source). is_done own (told_taken s) ≡ true) source done h)
 
 -- the first of those that are left
-pub next_is : (done : List Source) (source : Source) (left : List Source) (own : List RunEvent) → HaveTaken done (source ∷ left) own → next_taken own ≡ Some (taken_of source)
+pub next_is : (done : List Source) (source : Source) (left : List Source) (own : List RunEvent) → HaveTaken done (source ∷ left) own → next_taken own ≡ Some (told_taken source)
 next_is done source left own h =
     ap (λ (ts : List TakenFile). find (left_test own) ts) h.taken
     ∙ (find_done own done (source ∷ left) h.done_are
-    ∙ ap (λ (b : Bool). if not b then Some (taken_of source) else find (left_test own) (map taken_of left)) (All-head (λ (s : Source). is_done own (taken_of s) ≡ false) source left h.left_are))
+    ∙ ap (λ (b : Bool). if not b then Some (told_taken source) else find (left_test own) (map told_taken left)) (All-head (λ (s : Source). is_done own (told_taken s) ≡ false) source left h.left_are))
 
 pub next_none : (done : List Source) (own : List RunEvent) → HaveTaken done [] own → next_taken own ≡ None
 next_none done own h = ap (λ (ts : List TakenFile). find (left_test own) ts) h.taken ∙ find_done own done [] h.done_are

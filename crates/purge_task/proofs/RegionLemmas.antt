@@ -30,7 +30,7 @@ use Rattle.storage_files.proofs.FileListLemmas.{changed-none, ends-here, file-he
 use Rattle.store_core.specs.Dues.{KeepsStored}
 use Rattle.store_core.specs.Running.{IsStore}
 use Rattle.store_core.specs.Value.{StoreValue}
-use Rattle.purge_task.specs.Copied.{CopyFaultCounted, IsCopyRefusal, IsRegionAdded, IsRowOf, IsTargetAt, whole_piece}
+use Rattle.purge_task.specs.Copied.{CopyFaultCounted, IsCopyRefusal, IsRegionAdded, IsShownRow, IsTargetAt, whole_piece}
 use Rattle.purge_task.proofs.ReadingLemmas.{idle_leaves, leaves_then}
 
 -- ---- octets piece by piece
@@ -97,7 +97,7 @@ read_some (Some octets) end e = (octets, refl)
 nothing_added : (f : FileState) (octets : List ℕ) → reading f ≡ Some octets → IsPieceAdded [] f f
 nothing_added f octets e = record { before = octets; read = e; reads = e ∙ ap Some (sym (append-nil octets)); leaves = λ none. none }
 
-front_begins : {D : Type 0} → (row : MapRow) (target end : ℕ) (store : StoreValue D) (h : Option History) → IsStore h store → store.stopped ≡ false → IsRowOf store.map row → end_in target store.files.files ≡ Some end → Between (IsFrontAdded row target 0) h h
+front_begins : {D : Type 0} → (row : MapRow) (target end : ℕ) (store : StoreValue D) (h : Option History) → IsStore h store → store.stopped ≡ false → IsShownRow store.map row → end_in target store.files.files ≡ Some end → Between (IsFrontAdded row target 0) h h
 front_begins row target end store None is run of ends = refl
 front_begins row target end store (Some d) is run (r, found, shown) ends =
     let running = is.running run in
@@ -175,7 +175,7 @@ pub record IsCopying {D : Type 0} (row : MapRow) (target done : ℕ) (old now : 
 leaves_begin : (lists : Lists) (h : Option History) → IsSettledFor lists h → Leaves lists lists h h
 leaves_begin lists h settled = idle_leaves lists h h (idle-begins h) settled
 
-pub copying_begins : {D : Type 0} → (row : MapRow) (target end : ℕ) (store : StoreValue D) (h : Option History) (f : Faults) → IsStore h store → AreFilesInOrder store.files → store.stopped ≡ false → IsRowOf store.map row → end_in target store.files.files ≡ Some end → IsCopying row target 0 store store h h f f
+pub copying_begins : {D : Type 0} → (row : MapRow) (target end : ℕ) (store : StoreValue D) (h : Option History) (f : Faults) → IsStore h store → AreFilesInOrder store.files → store.stopped ≡ false → IsShownRow store.map row → end_in target store.files.files ≡ Some end → IsCopying row target 0 store store h h f f
 copying_begins row target end store h f is order run of ends =
     let zero_more : end + 0 ≡ end = omega arith in
     record {
@@ -337,7 +337,7 @@ ends_now row target done old now h k f g so = end_now old now target so.end (so.
 pub same_end : {D : Type 0} → (row : MapRow) (target done end : ℕ) (old now : StoreValue D) (h k : Option History) (f g : Faults) → (so : IsCopying row target done old now h k f g) → end_in target old.files.files ≡ Some end → so.end ≡ end
 same_end row target done end old now h k f g so ends = let w : Some so.end ≡ Some end = sym so.ends ∙ ends in cc w
 
-pub row_ends : (m : MapMeaning) (row : MapRow) → IsSoundMap m → IsRowOf m row → (1 ≤ row.size) × (row.offset + row.size ≤ 4294967295)
+pub row_ends : (m : MapMeaning) (row : MapRow) → IsSoundMap m → IsShownRow m row → (1 ≤ row.size) × (row.offset + row.size ≤ 4294967295)
 row_ends m row sound (r, found, shown) =
     let s : IsSoundRecord m.highest.map r = (found_holds (λ o. o.uid == r.uid) m.records r (IsSoundRecord m.highest.map) found sound.records).0 in
     let some = s.size in

@@ -31,7 +31,7 @@ use Rattle.task_claims.specs.Claims.{Claims, ClaimsNothing, Due, Emptied, Held, 
 use Rattle.task_claims.specs.Leaving.{LeavesOthers, MayOnlyGrow, OthersTook}
 use Rattle.purge_task.specs.Claims.{claims_of_sources, claims_of_switched, purge_claims, sources_left}
 use Rattle.purge_task.specs.Clause.{IsPurgeStep, PurgeSteps}
-use Rattle.purge_task.specs.Keeping.{AreApart, HasPurged, HasSwitchRoom, IsBeginningFirst, IsRemovingFirst, IsTargetToMake, IsToBegin, PurgeValue}
+use Rattle.purge_task.specs.Keeping.{AreSourcesApart, HasPurged, HasSwitchRoom, IsBeginningFirst, IsRemovingFirst, IsTargetToMake, IsToBegin, PurgeValue}
 use Rattle.purge_task.specs.Stages.{IsNextStage, went_on}
 use Rattle.purge_task.specs.declared.task.PurgeStage.{PurgeStage}
 use Rattle.purge_task.specs.declared.task.PurgeStage.TheVariants as stage
@@ -164,7 +164,7 @@ stays_ready work source s disk store before h = record {
           h.2,
         )
 
-ready_next : {D : Type 0} → (work : Work) (source : Source) (left : List Source) (next : PurgeStage) (disk : D) (store : StoreValue D) (later : Option History) → sources_left work ≡ source ∷ left → IsNextStage (went_on work) next → length work.block.items ≡ 65536 → AreApart (source ∷ left) → All (IsToBegin work store) left
+ready_next : {D : Type 0} → (work : Work) (source : Source) (left : List Source) (next : PurgeStage) (disk : D) (store : StoreValue D) (later : Option History) → sources_left work ≡ source ∷ left → IsNextStage (went_on work) next → length work.block.items ≡ 65536 → AreSourcesApart (source ∷ left) → All (IsToBegin work store) left
     → HasPurged next (without source.file.0 disk store) later
 ready_next work source left next disk store later is (inl none) block apart each = subst (λ (s : PurgeStage). HasPurged s (without source.file.0 disk store) later) (sym none.1) tt
 ready_next work source left next disk store later is (inr some) block apart each = subst (λ (s : PurgeStage). HasPurged s (without source.file.0 disk store) later) (sym some.1) (block, now_apart, beginning)
@@ -172,8 +172,8 @@ ready_next work source left next disk store later is (inr some) block apart each
     rest : sources_left (went_on work) ≡ left
     rest = left_on work source left is
 
-    now_apart : AreApart (sources_left (went_on work))
-    now_apart = subst AreApart (sym rest) (record { files = pairs_tail (λ (a b : Source). a.file.0 < b.file.0) source left apart.files; targets = pairs_tail (λ (a b : Source). IfSome a.target (λ t. IfSome b.target (λ u. t.0 < u.0))) source left apart.targets })
+    now_apart : AreSourcesApart (sources_left (went_on work))
+    now_apart = subst AreSourcesApart (sym rest) (record { files = pairs_tail (λ (a b : Source). a.file.0 < b.file.0) source left apart.files; targets = pairs_tail (λ (a b : Source). IfSome a.target (λ t. IfSome b.target (λ u. t.0 < u.0))) source left apart.targets })
 
     by_left : (l : List Source) → l ≢ [] → All (λ s. source.file.0 < s.file.0) l → All (IsToBegin work store) l → IsBeginningFirst l (went_on work) (without source.file.0 disk store)
     by_left [] empty before h = absurd (empty refl)
@@ -194,7 +194,7 @@ ready_next work source left next disk store later is (inr some) block apart each
 pub record IsRemovingOne {D : Type 0} (work : Work) (source : Source) (left : List Source) (store : StoreValue D) : Type 0 where
   pub left_are : sources_left work ≡ source ∷ left
   pub block : length work.block.items ≡ 65536
-  pub apart : AreApart (source ∷ left)
+  pub apart : AreSourcesApart (source ∷ left)
   pub doomed : is_doomed_in source.file.0 store.files.files ≡ true
   pub unpinned : pins_in source.file.0 store.files.files ≡ 0
   pub elsewhere : AreElsewhere source.file.0 store.map.records
@@ -203,7 +203,7 @@ pub record IsRemovingOne {D : Type 0} (work : Work) (source : Source) (left : Li
 pub removing_one : {D : Type 0} → (work : Work) (source : Source) (left : List Source) (store : StoreValue D) (history : Option History) → sources_left work ≡ source ∷ left → HasPurged (stage.Removing work) store history → IsRemovingOne work source left store
 removing_one work source left store history is h =
     let first : IsRemovingFirst (source ∷ left) work store = subst (λ (l : List Source). IsRemovingFirst l work store) is h.2 in
-    record { left_are = is; block = h.0; apart = subst AreApart is h.1; doomed = first.0; unpinned = first.1; elsewhere = first.2; each = first.3 }
+    record { left_are = is; block = h.0; apart = subst AreSourcesApart is h.1; doomed = first.0; unpinned = first.1; elsewhere = first.2; each = first.3 }
 
 pub removing_says : {D : Type 0} → (H : D → Option History) (F : D → Faults) (t next : PurgeValue) (work : Work) (source : Source) (left : List Source) (old new : StoreValue D) → t.stage ≡ stage.Removing work → IsNextStage (went_on work) next.stage → next.did ≡ did.Quiet → next.dropped ≡ t.dropped → next.files ≡ t.files → next.instances ≡ t.instances
     → old.stopped ≡ false → IsRemovingOne work source left old → AreFilesInOrder old.files → old.files.highest ≡ old.drawn.file → ((lists : Lists) → IsSettledFor lists (H old.disk) → Leaves lists lists (H old.disk) (H new.disk)) → MailIsKept old.map (H old.disk) (H new.disk) → ((lists : Lists) → IsSettledFor lists (H old.disk) → IsSettledFor lists (H new.disk))

@@ -26,9 +26,9 @@ use Rattle.store_core.specs.Value.{StoreValue}
 use Rattle.task_steps.specs.Step.{DidEvent, HasComeTo, Leads, ShowsSeen, and_told}
 use Rattle.task_steps.proofs.SeenLemmas.{pinned_as}
 use Rattle.purge_task.specs.Claims.{sources_left}
-use Rattle.purge_task.specs.Clause.{PurgeSteps, TellsUses, around_purging, seen_in}
+use Rattle.purge_task.specs.Clause.{PurgeSteps, TellsUses, around_purging, seen_by_purge}
 use Rattle.purge_task.specs.Keeping.{PurgeValue}
-use Rattle.purge_task.specs.Stages.{GoesOnBehind, HaveCopied, HaveTaken, IsAtPurge, IsAtStage, IsAtSwitched, IsNextStage, IsLastOf, IsUnderWay, RemovesBehind, taken_of, went_on}
+use Rattle.purge_task.specs.Stages.{GoesOnBehind, HaveCopied, HaveTaken, IsAtPurge, IsAtPurgeStage, IsAtSwitched, IsNextStage, IsLastOf, IsPurging, RemovesBehind, told_taken, went_on}
 use Rattle.purge_task.specs.declared.task.PurgeStage.{PurgeStage}
 use Rattle.purge_task.specs.declared.task.PurgeStage.TheVariants as stage
 use Rattle.purge_task.specs.declared.work.Source.{Source}
@@ -52,7 +52,7 @@ pub record CountsRemoval (t next : PurgeValue) (file : ℕ) (own : List RunEvent
 
 pub removed_way : {D : Type 0} → (t next : PurgeValue) (done left done_now left_now : List Source) (Before : List ℕ → _ → Type 0) (lane file calls : ℕ) (old new : StoreValue D) (run : Run) (place : ℕ) (said : List Reply) → new.map ≡ old.map → old.stopped ≡ false
     → HaveTaken done_now left_now (own_events place run ++ removal_event lane place file calls ∷ []) → (All (HaveCopied old.map (own_events place run)) left → All (HaveCopied old.map (own_events place run)) left_now) → CountsRemoval t next file (own_events place run)
-    → IsUnderWay t done left Before old run place said → IsUnderWay next done_now left_now (GoesOnBehind (and_then run (removal_event lane place file calls))) new (and_then run (removal_event lane place file calls)) place said
+    → IsPurging t done left Before old run place said → IsPurging next done_now left_now (GoesOnBehind (and_then run (removal_event lane place file calls))) new (and_then run (removal_event lane place file calls)) place said
 removed_way t next done left done_now left_now Before lane file calls old new run place said map ran taken fewer counts h = record {
   unsaid = h.unsaid;
   last = record { front = own; last = event; own_are = is; unrefused = refl; behind = refl };
@@ -113,17 +113,17 @@ none_in n (row ∷ rows) h = ap (λ (b : Bool). b || list_any (λ (r : MapRecord
 never_some : {X : Type 0} → (x : X) → Some x ≡ None → ⊥
 never_some x e = cc e
 
-pub did_removal : {D : Type 0} → (around after : Around) (run : Run) (lane place : ℕ) (said : List Reply) (lists : Lists) (file : ℕ) (disk : D) (old : StoreValue D) (before later : Option History) (began faults : Faults) → HasComeTo run (seen_in old before began) → ShowsSeen (seen_in old before began) lists
+pub did_removal : {D : Type 0} → (around after : Around) (run : Run) (lane place : ℕ) (said : List Reply) (lists : Lists) (file : ℕ) (disk : D) (old : StoreValue D) (before later : Option History) (began faults : Faults) → HasComeTo run (seen_by_purge old before began) → ShowsSeen (seen_by_purge old before began) lists
     → old.stopped ≡ false → pins_in file old.files.files ≡ 0 → file ≤ old.drawn.file → AreElsewhere file old.map.records → next_part around run request.Purge (own_events place run) ≡ Some RemovesFile → file_to_remove run (own_events place run) ≡ Some file
     → ((lists : Lists) → IsSettledFor lists before → Leaves lists lists before later) → ((lists : Lists) → IsSettledFor lists before → IsSettledFor lists later) → Grows before later → MailIsKept old.map before later → NoFault began faults
-    → DidSo around after run lane place said lists (seen_in old before began) (seen_in (without file disk old) later faults) did.Quiet None (removal_event lane place file (told_calls later)) None
+    → DidSo around after run lane place said lists (seen_by_purge old before began) (seen_by_purge (without file disk old) later faults) did.Quiet None (removal_event lane place file (told_calls later)) None
 did_removal around after run lane place said lists file disk old before later began faults come shows ran unpinned drawn elsewhere next removes moments rests grows mail quiet =
-    did_part around after run lane place said lists (seen_in old before began) (seen_in (without file disk old) later faults) (removal_event 0 0 file 0)
+    did_part around after run lane place said lists (seen_by_purge old before began) (seen_by_purge (without file disk old) later faults) (removal_event 0 0 file 0)
     (record {
       next = next;
       finds = tt;
       allowed = refl;
-      did = (file, removes, pinned_as run (seen_in old before began) file come ran ∙ ap (λ (n : ℕ). nat_lt 0 n) unpinned, ap (λ (m : MapMeaning). list_any (λ (row : MapRecord). row.file == file) m.records) come.come.map_is ∙ none_in file old.map.records elsewhere, refl);
+      did = (file, removes, pinned_as run (seen_by_purge old before began) file come ran ∙ ap (λ (n : ℕ). nat_lt 0 n) unpinned, ap (λ (m : MapMeaning). list_any (λ (row : MapRecord). row.file == file) m.records) come.come.map_is ∙ none_in file old.map.records elsewhere, refl);
       fits = All-nil _;
       no_step = refl;
       goes_on = λ e. let some = goes_on_some after (and_then run event) (next_taken (own_events place (and_then run event))) in never_some some.0 (sym some.1 ∙ e);
@@ -145,8 +145,8 @@ last_of P (s ∷ front) last h = last_of P front last (All-tail P s (front ++ la
 taken_again : (done left : List Source) (own : List RunEvent) (lane place file calls : ℕ) → HaveTaken done left own → list_any (λ e. is_one_of e.doomed file || is_one_of e.removed file) own ≡ true → HaveTaken done left (own ++ removal_event lane place file calls ∷ [])
 taken_again done left own lane place file calls h gone = record {
   taken = flat_push (λ (e : RunEvent). e.files) own event ∙ (append-nil (flat_map (λ (e : RunEvent). e.files) own) ∙ h.taken);
-  done_are = All-weaker (λ (s : Source). is_done own (taken_of s) ≡ true) (λ (s : Source). is_done (own ++ event ∷ []) (taken_of s) ≡ true) (λ s e. done_push own event (taken_of s) ∙ ap (λ (b : Bool). b || (is_one_of (file ∷ []) s.file.0)) e) done h.done_are;
-  left_are = All-weaker (λ (s : Source). is_done own (taken_of s) ≡ false) (λ (s : Source). is_done (own ++ event ∷ []) (taken_of s) ≡ false) (λ s e. done_push own event (taken_of s) ∙ (ap (λ (b : Bool). b || (is_one_of (file ∷ []) s.file.0)) e ∙ one_other file s.file.0 (λ same. fall (is_done own (taken_of s)) (ap (λ (n : ℕ). list_any (λ (x : RunEvent). is_one_of x.doomed n || is_one_of x.removed n) own) same ∙ gone) e))) left h.left_are;
+  done_are = All-weaker (λ (s : Source). is_done own (told_taken s) ≡ true) (λ (s : Source). is_done (own ++ event ∷ []) (told_taken s) ≡ true) (λ s e. done_push own event (told_taken s) ∙ ap (λ (b : Bool). b || (is_one_of (file ∷ []) s.file.0)) e) done h.done_are;
+  left_are = All-weaker (λ (s : Source). is_done own (told_taken s) ≡ false) (λ (s : Source). is_done (own ++ event ∷ []) (told_taken s) ≡ false) (λ s e. done_push own event (told_taken s) ∙ (ap (λ (b : Bool). b || (is_one_of (file ∷ []) s.file.0)) e ∙ one_other file s.file.0 (λ same. fall (is_done own (told_taken s)) (ap (λ (n : ℕ). list_any (λ (x : RunEvent). is_one_of x.doomed n || is_one_of x.removed n) own) same ∙ gone) e))) left h.left_are;
 }
   where
     event : RunEvent
@@ -160,8 +160,8 @@ pub record LeavesSettled (m : MapMeaning) (before later : Option History) (began
   pub mail : MailIsKept m before later
   pub quiet : NoFault began faults
 
-no_flag : {D : Type 0} → (t : PurgeValue) (store : StoreValue D) (s : PurgeStage) (run : Run) (place : ℕ) (said : List Reply) → t.stage ≡ s → IsAtPurge t store run place said → IsAtStage s t store run place said
-no_flag t store s run place said at h = subst (λ (x : PurgeStage). IsAtStage x t store run place said) at h
+no_flag : {D : Type 0} → (t : PurgeValue) (store : StoreValue D) (s : PurgeStage) (run : Run) (place : ℕ) (said : List Reply) → t.stage ≡ s → IsAtPurge t store run place said → IsAtPurgeStage s t store run place said
+no_flag t store s run place said at h = subst (λ (x : PurgeStage). IsAtPurgeStage x t store run place said) at h
 
 -- A file that was switched is removed.
 pub removing_steps : {D : Type 0} → (after : Around) (t next : PurgeValue) (work : Work) (source : Source) (left : List Source) (disk : D) (old : StoreValue D) (before later : Option History) (began faults : Faults) → t.stage ≡ stage.Removing work → sources_left work ≡ source ∷ left
@@ -170,16 +170,16 @@ pub removing_steps : {D : Type 0} → (after : Around) (t next : PurgeValue) (wo
 removing_steps after t next work source left disk old before later began faults at is to how dropped files instances ran unpinned drawn elsewhere leaves = λ run lane place said lists come shows stood.
     let at_left : IsAtSwitched t (source ∷ left) old run place said = subst (λ (l : List Source). IsAtSwitched t l old run place said) is (no_flag t old (stage.Removing work) run place said at stood.0) in
     let done : List Source = at_left.0 ++ source ∷ [] in
-    let h : IsUnderWay t done left (RemovesBehind run source.file.0) old run place said = at_left.1 in
+    let h : IsPurging t done left (RemovesBehind run source.file.0) old run place said = at_left.1 in
     let own : List RunEvent = own_events place run in
     let event : RunEvent = removal_event lane place source.file.0 (told_calls later) in
     let new : StoreValue _ = without source.file.0 disk old in
-    let here : is_done own (taken_of source) ≡ true = last_of (λ (s : Source). is_done own (taken_of s) ≡ true) at_left.0 source h.taken.done_are in
+    let here : is_done own (told_taken source) ≡ true = last_of (λ (s : Source). is_done own (told_taken s) ≡ true) at_left.0 source h.taken.done_are in
     let gone : is_one_of (gone_files own) source.file.0 ≡ true = done_gone own source.file.0 ∙ here in
     let counts : CountsRemoval t next source.file.0 own = record { dropped = dropped; files = files ∙ sym (ap (λ (b : Bool). if b then t.files else t.files + 1) gone); instances = instances } in
     let taken : HaveTaken done left (own ++ event ∷ []) = taken_again done left own lane place source.file.0 (told_calls later) h.taken here in
     let way = removed_way t next done left done left (RemovesBehind run source.file.0) lane source.file.0 (told_calls later) old new run place said refl ran taken (λ c. c) counts h in
-    stands_so (around_purging [] old) after run lane place said lists (seen_in old before began) (seen_in new later faults) next.did None event None (IsAtPurge next new)
-    (subst (λ (d : _). DidSo (around_purging [] old) after run lane place said lists (seen_in old before began) (seen_in new later faults) d None event None) (sym how)
+    stands_so (around_purging [] old) after run lane place said lists (seen_by_purge old before began) (seen_by_purge new later faults) next.did None event None (IsAtPurge next new)
+    (subst (λ (d : _). DidSo (around_purging [] old) after run lane place said lists (seen_by_purge old before began) (seen_by_purge new later faults) d None event None) (sym how)
     (did_removal (around_purging [] old) after run lane place said lists source.file.0 disk old before later began faults come shows ran unpinned drawn elsewhere (next_removes (around_purging [] old) run place source.file.0 h.last) (removes_switched run own source.file.0 h.last) leaves.moments leaves.rests leaves.grows leaves.mail leaves.quiet))
     (λ none. at_next next work source done left new (and_then run event) place said is to way)

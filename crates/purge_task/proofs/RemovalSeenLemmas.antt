@@ -21,7 +21,7 @@ use Rattle.store_core.specs.Value.{StoreValue}
 use Rattle.store_seen.specs.Seeing.{may_be_barred, may_be_used}
 use Rattle.task_steps.specs.Step.{HasComeTo, KeepsTasks, was_used}
 use Rattle.task_steps.proofs.SeenLemmas.{given_still, gone_still, pins_still, placed_still}
-use Rattle.purge_task.specs.Clause.{seen_in}
+use Rattle.purge_task.specs.Clause.{seen_by_purge}
 use Rattle.purge_task.proofs.RunLemmas.{any_now, any_still, one_itself, one_other, or_none, sum_push}
 
 abbrev pub removal_event : ℕ → ℕ → ℕ → ℕ → RunEvent
@@ -88,8 +88,8 @@ more_true : (a b c : Bool) → (b ≡ true → c ≡ true) → (a && b) ≡ true
 more_true true b c h e = h e
 more_true false b c h e = e
 
-pub removal_comes : {D : Type 0} → (run : Run) (lane place : ℕ) (file : ℕ) (disk : D) (old : StoreValue D) (before after : Option History) (began faults : Faults) → HasComeTo run (seen_in old before began) → old.stopped ≡ false → pins_in file old.files.files ≡ 0 → file ≤ old.drawn.file → told_calls before ≤ told_calls after
-    → HasComeTo (and_then run (removal_event lane place file (told_calls after))) (seen_in (without file disk old) after faults)
+pub removal_comes : {D : Type 0} → (run : Run) (lane place : ℕ) (file : ℕ) (disk : D) (old : StoreValue D) (before after : Option History) (began faults : Faults) → HasComeTo run (seen_by_purge old before began) → old.stopped ≡ false → pins_in file old.files.files ≡ 0 → file ≤ old.drawn.file → told_calls before ≤ told_calls after
+    → HasComeTo (and_then run (removal_event lane place file (told_calls after))) (seen_by_purge (without file disk old) after faults)
 removal_comes {D = D} run lane place file disk old before after began faults h ran unpinned drawn grows = record {
   come = came;
   keeps = λ runs.

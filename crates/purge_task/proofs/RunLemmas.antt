@@ -11,7 +11,7 @@ use Rattle.std.proofs.lemmas.List.Sums.{sum_by-append, sum_by-cons}
 use Rattle.mdbox_base.specs.declared.entries.MapEntry.{MapEntry}
 use Rattle.list_machine.specs.Run.{Run, RunEvent, TakenFile, how_many, is_one_of}
 use Rattle.journal.specs.Events.{is_done}
-use Rattle.purge_task.specs.Stages.{HaveTaken, taken_of}
+use Rattle.purge_task.specs.Stages.{HaveTaken, told_taken}
 use Rattle.purge_task.specs.declared.work.Source.{Source}
 
 pub or_none : (b : Bool) → (b || false) ≡ b
@@ -89,11 +89,11 @@ done_push own event taken = any_push (goes taken.file) own event
 pub taken_still : (done left : List Source) (own : List RunEvent) (event : RunEvent) → event.files ≡ [] → event.doomed ≡ [] → event.removed ≡ [] → HaveTaken done left own → HaveTaken done left (own ++ event ∷ [])
 taken_still done left own event files doomed removed h = record {
   taken = flat_push (λ (e : RunEvent). e.files) own event ∙ (ap (λ (fs : List TakenFile). flat_map (λ (e : RunEvent). e.files) own ++ fs) files ∙ (append-nil (flat_map (λ (e : RunEvent). e.files) own) ∙ h.taken));
-  done_are = All-weaker (λ (s : Source). is_done own (taken_of s) ≡ true) (λ (s : Source). is_done (own ++ event ∷ []) (taken_of s) ≡ true) (λ s e. same s ∙ e) done h.done_are;
-  left_are = All-weaker (λ (s : Source). is_done own (taken_of s) ≡ false) (λ (s : Source). is_done (own ++ event ∷ []) (taken_of s) ≡ false) (λ s e. same s ∙ e) left h.left_are;
+  done_are = All-weaker (λ (s : Source). is_done own (told_taken s) ≡ true) (λ (s : Source). is_done (own ++ event ∷ []) (told_taken s) ≡ true) (λ s e. same s ∙ e) done h.done_are;
+  left_are = All-weaker (λ (s : Source). is_done own (told_taken s) ≡ false) (λ (s : Source). is_done (own ++ event ∷ []) (told_taken s) ≡ false) (λ s e. same s ∙ e) left h.left_are;
 }
   where
-    same : (s : Source) → is_done (own ++ event ∷ []) (taken_of s) ≡ is_done own (taken_of s)
+    same : (s : Source) → is_done (own ++ event ∷ []) (told_taken s) ≡ is_done own (told_taken s)
     same s = any_still (goes s.file.0) own event (ap (λ (fs : List ℕ). is_one_of fs s.file.0 || is_one_of event.removed s.file.0) doomed ∙ ap (λ (fs : List ℕ). is_one_of fs s.file.0) removed)
 
 -- one that dooms or removes the first of those that are left
@@ -101,17 +101,17 @@ pub taken_on : (done : List Source) (source : Source) (left : List Source) (own 
     → HaveTaken (done ++ source ∷ []) left (own ++ event ∷ [])
 taken_on done source left own event files goes_is apart h = record {
   taken = flat_push (λ (e : RunEvent). e.files) own event
-      ∙ (ap (λ (fs : List TakenFile). flat_map (λ (e : RunEvent). e.files) own ++ fs) files ∙ (append-nil (flat_map (λ (e : RunEvent). e.files) own) ∙ (h.taken ∙ ap (λ (l : List Source). map taken_of l) (sym (append_assoc done (source ∷ []) left)))));
-  done_are = All-append (λ (s : Source). is_done (own ++ event ∷ []) (taken_of s) ≡ true) done (source ∷ [])
-      (All-weaker (λ (s : Source). is_done own (taken_of s) ≡ true) (λ (s : Source). is_done (own ++ event ∷ []) (taken_of s) ≡ true) (λ s e. done_push own event (taken_of s) ∙ ap (λ (b : Bool). b || goes s.file.0 event) e) done h.done_are)
-      (All-cons (λ (s : Source). is_done (own ++ event ∷ []) (taken_of s) ≡ true) source []
-      (done_push own event (taken_of source) ∙ (ap (λ (b : Bool). is_done own (taken_of source) || b) (goes_is source.file.0 ∙ eq-eqb source.file.0 source.file.0 refl) ∙ or_true (is_done own (taken_of source)))) (All-nil _));
-  left_are = not_done left apart (All-tail (λ (s : Source). is_done own (taken_of s) ≡ false) source left h.left_are);
+      ∙ (ap (λ (fs : List TakenFile). flat_map (λ (e : RunEvent). e.files) own ++ fs) files ∙ (append-nil (flat_map (λ (e : RunEvent). e.files) own) ∙ (h.taken ∙ ap (λ (l : List Source). map told_taken l) (sym (append_assoc done (source ∷ []) left)))));
+  done_are = All-append (λ (s : Source). is_done (own ++ event ∷ []) (told_taken s) ≡ true) done (source ∷ [])
+      (All-weaker (λ (s : Source). is_done own (told_taken s) ≡ true) (λ (s : Source). is_done (own ++ event ∷ []) (told_taken s) ≡ true) (λ s e. done_push own event (told_taken s) ∙ ap (λ (b : Bool). b || goes s.file.0 event) e) done h.done_are)
+      (All-cons (λ (s : Source). is_done (own ++ event ∷ []) (told_taken s) ≡ true) source []
+      (done_push own event (told_taken source) ∙ (ap (λ (b : Bool). is_done own (told_taken source) || b) (goes_is source.file.0 ∙ eq-eqb source.file.0 source.file.0 refl) ∙ or_true (is_done own (told_taken source)))) (All-nil _));
+  left_are = not_done left apart (All-tail (λ (s : Source). is_done own (told_taken s) ≡ false) source left h.left_are);
 }
   where
-    not_done : (rest : List Source) → All (λ s. source.file.0 < s.file.0) rest → All (λ s. is_done own (taken_of s) ≡ false) rest → All (λ s. is_done (own ++ event ∷ []) (taken_of s) ≡ false) rest
+    not_done : (rest : List Source) → All (λ s. source.file.0 < s.file.0) rest → All (λ s. is_done own (told_taken s) ≡ false) rest → All (λ s. is_done (own ++ event ∷ []) (told_taken s) ≡ false) rest
     not_done [] a k = All-nil _
     not_done (s ∷ rest) a k =
-        All-cons (λ (x : Source). is_done (own ++ event ∷ []) (taken_of x) ≡ false) s rest
-        (done_push own event (taken_of s) ∙ (ap (λ (b : Bool). b || goes s.file.0 event) (All-head (λ (x : Source). is_done own (taken_of x) ≡ false) s rest k) ∙ (goes_is s.file.0 ∙ ne_eqb source.file.0 s.file.0 (λ e. let l = All-head (λ (x : Source). source.file.0 < x.file.0) s rest a in omega (arith, e, l)))))
-        (not_done rest (All-tail (λ (x : Source). source.file.0 < x.file.0) s rest a) (All-tail (λ (x : Source). is_done own (taken_of x) ≡ false) s rest k))
+        All-cons (λ (x : Source). is_done (own ++ event ∷ []) (told_taken x) ≡ false) s rest
+        (done_push own event (told_taken s) ∙ (ap (λ (b : Bool). b || goes s.file.0 event) (All-head (λ (x : Source). is_done own (told_taken x) ≡ false) s rest k) ∙ (goes_is s.file.0 ∙ ne_eqb source.file.0 s.file.0 (λ e. let l = All-head (λ (x : Source). source.file.0 < x.file.0) s rest a in omega (arith, e, l)))))
+        (not_done rest (All-tail (λ (x : Source). source.file.0 < x.file.0) s rest a) (All-tail (λ (x : Source). is_done own (told_taken x) ≡ false) s rest k))

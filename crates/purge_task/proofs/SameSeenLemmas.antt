@@ -18,7 +18,7 @@ use Rattle.store_seen.specs.Seeing.{may_be_barred, may_be_used}
 use Rattle.task_steps.specs.Step.{HasComeTo, was_given, was_used}
 use Rattle.task_steps.specs.Tells.{LeavesFiles}
 use Rattle.task_steps.proofs.SeenLemmas.{doomed_still, file_still_known, given_still, gone_still, pins_still, placed_still, there_before, used_still}
-use Rattle.purge_task.specs.Clause.{seen_in}
+use Rattle.purge_task.specs.Clause.{seen_by_purge}
 use Rattle.purge_task.proofs.RunLemmas.{sum_push}
 
 -- the store with other files, that runs or doesn't
@@ -53,8 +53,8 @@ more_true : (a b c : Bool) → (b ≡ true → c ≡ true) → (a && b) ≡ true
 more_true true b c h e = h e
 more_true false b c h e = e
 
-pub same_comes : {D : Type 0} → (run : Run) (event : RunEvent) (disk : D) (files : FilesValue) (stopped : Bool) (old : StoreValue D) (before after : Option History) (began faults : Faults) → HasComeTo run (seen_in old before began) → old.stopped ≡ false → TellsNoLess old.files.files files.files → LeavesFiles event → event.map_entries ≡ []
-    → event.drew ≡ no_numbers → event.moment ≡ told_calls after → ((uid : ℕ) → begun_in uid event ≡ ended_in uid event) → told_calls before ≤ told_calls after → HasComeTo (and_then run event) (seen_in (with_state disk files stopped old) after faults)
+pub same_comes : {D : Type 0} → (run : Run) (event : RunEvent) (disk : D) (files : FilesValue) (stopped : Bool) (old : StoreValue D) (before after : Option History) (began faults : Faults) → HasComeTo run (seen_by_purge old before began) → old.stopped ≡ false → TellsNoLess old.files.files files.files → LeavesFiles event → event.map_entries ≡ []
+    → event.drew ≡ no_numbers → event.moment ≡ told_calls after → ((uid : ℕ) → begun_in uid event ≡ ended_in uid event) → told_calls before ≤ told_calls after → HasComeTo (and_then run event) (seen_by_purge (with_state disk files stopped old) after faults)
 same_comes {D = D} run event disk files stopped old before after began faults h ran tells leaves entries drew moment dues grows = record {
   come = subst (λ (n : ℕ). HasCome (and_then run event) old.map old.drawn n) moment (comes_on run event old.map old.drawn (told_calls before) h.come (subst (λ (n : ℕ). told_calls before ≤ n) (sym moment) grows) entries drew);
   keeps = λ runs.
@@ -69,7 +69,7 @@ same_comes {D = D} run event disk files stopped old before after began faults h 
         pins = λ n. pins_still run event n leaves.pins leaves.unpins ∙ (t.pins n ∙ sym (tells.pins n));
         doomed = λ n. doomed_still run event n leaves.doomed leaves.removed ∙ (t.doomed n ∙ sym (tells.doomed n));
         instances = λ row. placed_still run event row leaves.placed leaves.gone ∙ t.instances row;
-        files = λ n unsealed known. tells.there n ∙ by_maker n (there_before run event (seen_in old before began) n t leaves.removed unsealed known);
+        files = λ n unsealed known. tells.there n ∙ by_maker n (there_before run event (seen_by_purge old before began) n t leaves.removed unsealed known);
       };
   used = λ n e. more_true (nat_le n old.drawn.file) (uses (file_in n old.files.files)) (uses (file_in n files.files)) (tells.used n) (h.used n (sym (used_still run event n leaves.doomed leaves.removed) ∙ e));
   barred = λ n e. more_true (nat_le n old.drawn.file) (bars (file_in n old.files.files)) (bars (file_in n files.files)) (tells.barred n) (h.barred n e);
@@ -79,7 +79,7 @@ same_comes {D = D} run event disk files stopped old before after began faults h 
   files = λ n e. file_still_known run event n leaves.removed (h.files n (sym (tells.there n) ∙ e));
 }
   where
-    by_maker : (n : ℕ) → ((seen_in old before began).files n ≡ true) ⊎ (is_one_of event.made n ≡ true) → (seen_in old before began).files n ≡ true
+    by_maker : (n : ℕ) → ((seen_by_purge old before began).files n ≡ true) ⊎ (is_one_of event.made n ≡ true) → (seen_by_purge old before began).files n ≡ true
     by_maker n (inl there) = there
     by_maker n (inr made) = absurd (let e : false ≡ true = ap (λ (fs : List ℕ). is_one_of fs n) (sym leaves.made) ∙ made in cc e)
 

@@ -23,7 +23,7 @@ use Rattle.model_meaning.proofs.MapPlaceLemmas.{equal_is, equal_yes}
 use Rattle.model_octets.proofs.PairLemmas.{found_holds, pairs_head, pairs_tail}
 use Rattle.store_core.specs.Removing.{AreElsewhere}
 use Rattle.purge_task.specs.Found.{messages_in}
-use Rattle.purge_task.specs.Switched.{AreListed, target_named}
+use Rattle.purge_task.specs.Switched.{AreSwitchLists, target_named}
 use Rattle.purge_task.proofs.ListingLemmas.{mapped_at, record_there}
 use Rattle.purge_task.proofs.WalkLemmas.{unequal}
 
@@ -52,7 +52,7 @@ any_with : {X : Type 0} → (f : X → ℕ) (n : ℕ) (xs : List X) → list_any
 any_with f n [] e = absurd (let w : false ≡ true = e in cc w)
 any_with f n (x ∷ xs) e = any_step f n x xs (f x == n) refl e (any_with f n xs)
 
-moved_or_dropped : (m : MapMeaning) (file : ℕ) (copied moved : List MapPlace) (dropped : List MapUid) (r : MapRecord) → IsSoundMap m → AreListed m file copied moved dropped → Contains m.records r → r.file ≡ file → (1 ≤ r.count → list_any (λ p. p.uid.0 == r.uid) copied ≡ true) → IsMovedOrDropped moved dropped r
+moved_or_dropped : (m : MapMeaning) (file : ℕ) (copied moved : List MapPlace) (dropped : List MapUid) (r : MapRecord) → IsSoundMap m → AreSwitchLists m file copied moved dropped → Contains m.records r → r.file ≡ file → (1 ≤ r.count → list_any (λ p. p.uid.0 == r.uid) copied ≡ true) → IsMovedOrDropped moved dropped r
 moved_or_dropped m file copied moved dropped r sound listed has here every =
     let at = record_there m r sound has in
     elim (cases_eq r.count 0) [
@@ -93,7 +93,7 @@ apart_any m copied a b follow (i, li, ei) (j, lj, ej) differ =
       ]
     ]
 
-moved_apart : (m : MapMeaning) (file : ℕ) (copied moved : List MapPlace) (dropped : List MapUid) → AreListed m file copied moved dropped → AllPairs (λ x y. HasRecord m x.uid.0 (λ row. x.offset + row.size ≤ y.offset)) copied → AllPairs (ArePlacedApart m) moved
+moved_apart : (m : MapMeaning) (file : ℕ) (copied moved : List MapPlace) (dropped : List MapUid) → AreSwitchLists m file copied moved dropped → AllPairs (λ x y. HasRecord m x.uid.0 (λ row. x.offset + row.size ≤ y.offset)) copied → AllPairs (ArePlacedApart m) moved
 moved_apart m file copied moved dropped listed follow = λ i j d lt l.
     let all = listed.moved_copied in
     let up = AllPairs-from_increasing (map (λ p. p.uid.0) moved) listed.moved_rising i j 0 lt (subst (λ (n : ℕ). j < n) (sym (length-map moved (λ p. p.uid.0))) l) in
@@ -104,7 +104,7 @@ moved_apart m file copied moved dropped listed follow = λ i j d lt l.
 place_fits : (m : MapMeaning) (target end : ℕ) (place : MapPlace) → end ≤ 4294967295 → AreElsewhere target m.records → HasRecord m place.uid.0 (λ row. place.offset + row.size ≤ end) → FitsPlace m target place
 place_fits m target end place few unnamed h = (h.0, h.1, ((let le = h.2 in omega (arith, le, few)), λ k d lt here. absurd (unnamed k d lt here)))
 
-target_fits : (m : MapMeaning) (file target end : ℕ) (copied moved : List MapPlace) (dropped : List MapUid) → AreListed m file copied moved dropped → IsNumber target → target ≢ file → end ≤ 4294967295 → AreElsewhere target m.records
+target_fits : (m : MapMeaning) (file target end : ℕ) (copied moved : List MapPlace) (dropped : List MapUid) → AreSwitchLists m file copied moved dropped → IsNumber target → target ≢ file → end ≤ 4294967295 → AreElsewhere target m.records
     → All (λ place. HasRecord m place.uid.0 (λ row. place.offset + row.size ≤ end)) copied → AllPairs (λ x y. HasRecord m x.uid.0 (λ row. x.offset + row.size ≤ y.offset)) copied → (place : MapPlace) (rest : List MapPlace) → moved ≡ place ∷ rest → FitsTarget m file target (place ∷ rest)
 target_fits m file target end copied moved dropped listed number other few unnamed within follow place rest is = (
   number,
@@ -197,7 +197,7 @@ passes_dropped file r here none = rw (equal_yes r.file file here, equal_yes r.co
 both_of : (m : MapMeaning) (uid : ℕ) (P Q : MapRecord → Type 0) → HasRecord m uid P → HasRecord m uid Q → HasRecord m uid (λ row. P row × Q row)
 both_of m uid P Q a b = (a.0, a.1, (a.2, one_record m uid a.0 Q a.1 b))
 
-pub no_more_than : (m : MapMeaning) (file : ℕ) (copied moved : List MapPlace) (dropped : List MapUid) → IsSoundMap m → AreListed m file copied moved dropped → All (λ place. HasRecord m place.uid.0 (λ row. row.file ≡ file)) copied → length moved + length dropped ≤ messages_in m file
+pub no_more_than : (m : MapMeaning) (file : ℕ) (copied moved : List MapPlace) (dropped : List MapUid) → IsSoundMap m → AreSwitchLists m file copied moved dropped → All (λ place. HasRecord m place.uid.0 (λ row. row.file ≡ file)) copied → length moved + length dropped ≤ messages_in m file
 no_more_than m file copied moved dropped sound listed here =
     let moves = no_more (is_moved file) m.records (map (λ p. p.uid.0) moved) sound.rising (AllPairs-from_increasing (map (λ p. p.uid.0) moved) listed.moved_rising)
     (mapped_all (λ (p : MapPlace). p.uid.0) (StandsFor m.records (is_moved file)) moved (λ k d lt. (let h = listed.moved_copied k d lt in stands_as m (is_moved file) (get_or moved k d).uid.0 (λ row. (row.file ≡ file) × (1 ≤ row.count)) (both_of m (get_or moved k d).uid.0 (λ row. row.file ≡ file) (λ row. 1 ≤ row.count) (All-contains (λ place. HasRecord m place.uid.0 (λ row. row.file ≡ file)) copied (get_or moved k d) here h.0) h.1) (λ r w. passes_moved file r w.0 w.1)))) in
@@ -224,20 +224,20 @@ abbrev pub TargetFits : MapMeaning → ℕ → Option FileNo → List MapPlace �
 TargetFits m file None copied = copied ≡ []
 TargetFits m file (Some target) copied = IsFitTarget m file target.0 copied
 
-pub none_moved : {X : Type 0} → (m : MapMeaning) (file : ℕ) (copied moved : List MapPlace) (dropped : List MapUid) (place : MapPlace) (rest : List MapPlace) → AreListed m file copied moved dropped → copied ≡ [] → moved ≡ place ∷ rest → X
+pub none_moved : {X : Type 0} → (m : MapMeaning) (file : ℕ) (copied moved : List MapPlace) (dropped : List MapUid) (place : MapPlace) (rest : List MapPlace) → AreSwitchLists m file copied moved dropped → copied ≡ [] → moved ≡ place ∷ rest → X
 none_moved m file copied moved dropped place rest listed none is =
     let has : Contains copied place = (All-head (λ p. Contains copied p × HasRecord m p.uid.0 (λ row. 1 ≤ row.count)) place rest (subst (All (λ p. Contains copied p × HasRecord m p.uid.0 (λ row. 1 ≤ row.count))) is listed.moved_copied)).0 in
     let empty : Contains [] place = subst (λ (ps : List MapPlace). Contains ps place) none has in
     let lt = empty.1 in
     absurd (omega (arith, lt))
 
-fits_target : (m : MapMeaning) (file : ℕ) (target : Option FileNo) (copied moved : List MapPlace) (dropped : List MapUid) → AreListed m file copied moved dropped → TargetFits m file target copied → (ps : List MapPlace) → moved ≡ ps → FitsTarget m file (target_named target ps) ps
+fits_target : (m : MapMeaning) (file : ℕ) (target : Option FileNo) (copied moved : List MapPlace) (dropped : List MapUid) → AreSwitchLists m file copied moved dropped → TargetFits m file target copied → (ps : List MapPlace) → moved ≡ ps → FitsTarget m file (target_named target ps) ps
 fits_target m file None copied moved dropped listed fit [] is = refl
 fits_target m file (Some t) copied moved dropped listed fit [] is = refl
 fits_target m file None copied moved dropped listed fit (place ∷ rest) is = none_moved m file copied moved dropped place rest listed fit is
 fits_target m file (Some t) copied moved dropped listed fit (place ∷ rest) is = target_fits m file t.0 fit.end copied moved dropped listed fit.number fit.other fit.few fit.unnamed fit.within fit.follow place rest is
 
-pub entry_fits : (m : MapMeaning) (file : ℕ) (target : Option FileNo) (copied moved : List MapPlace) (dropped : List MapUid) → IsSoundMap m → IsNumber file → AreListed m file copied moved dropped → All (λ place. HasRecord m place.uid.0 (λ row. row.file ≡ file)) copied
+pub entry_fits : (m : MapMeaning) (file : ℕ) (target : Option FileNo) (copied moved : List MapPlace) (dropped : List MapUid) → IsSoundMap m → IsNumber file → AreSwitchLists m file copied moved dropped → All (λ place. HasRecord m place.uid.0 (λ row. row.file ≡ file)) copied
     → All (λ row. row.file ≡ file → 1 ≤ row.count → list_any (λ p. p.uid.0 == row.uid) copied ≡ true) m.records → TargetFits m file target copied → FitsPurged m file (target_named target moved) moved dropped
 entry_fits m file target copied moved dropped sound number listed here every fit = record {
   file_number = number;
@@ -271,7 +271,7 @@ target_below m file None copied (place ∷ rest) fit = omega arith
 target_below m file (Some t) copied [] fit = omega arith
 target_below m file (Some t) copied (place ∷ rest) fit = let high = fit.number.high in omega (arith, high)
 
-pub entry_in_range : (m : MapMeaning) (file : FileNo) (target : Option FileNo) (copied moved : List MapPlace) (dropped : List MapUid) → IsSoundMap m → length m.records ≤ 4294967295 → IsNumber file.0 → AreListed m file.0 copied moved dropped → All (λ place. HasRecord m place.uid.0 (λ row. row.file ≡ file.0)) copied
+pub entry_in_range : (m : MapMeaning) (file : FileNo) (target : Option FileNo) (copied moved : List MapPlace) (dropped : List MapUid) → IsSoundMap m → length m.records ≤ 4294967295 → IsNumber file.0 → AreSwitchLists m file.0 copied moved dropped → All (λ place. HasRecord m place.uid.0 (λ row. row.file ≡ file.0)) copied
     → TargetFits m file.0 target copied → MapInRange (map_entry.P file (target_named target moved) moved dropped)
 entry_in_range m file target copied moved dropped sound few number listed here fit =
     let high = number.high in
@@ -286,7 +286,7 @@ entry_in_range m file target copied moved dropped sound few number listed here f
     )
 
 -- its text has room where 17 octets are, and 8 for each message of the file
-pub entry_short : (m : MapMeaning) (file : FileNo) (target : ℕ) (copied moved : List MapPlace) (dropped : List MapUid) → IsSoundMap m → AreListed m file.0 copied moved dropped → All (λ place. HasRecord m place.uid.0 (λ row. row.file ≡ file.0)) copied
+pub entry_short : (m : MapMeaning) (file : FileNo) (target : ℕ) (copied moved : List MapPlace) (dropped : List MapUid) → IsSoundMap m → AreSwitchLists m file.0 copied moved dropped → All (λ place. HasRecord m place.uid.0 (λ row. row.file ≡ file.0)) copied
     → MapInRange (map_entry.P file target moved dropped) → length (map_text (map_entry.P file target moved dropped)) ≤ 17 + 8 * messages_in m file.0
 entry_short m file target copied moved dropped sound listed here range =
     let most = no_more_than m file.0 copied moved dropped sound listed here in

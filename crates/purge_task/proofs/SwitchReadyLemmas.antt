@@ -32,7 +32,7 @@ use Rattle.map_index.specs.Kept.{IsMapInOrder}
 use Rattle.purge_task.specs.Claims.{sources_left}
 use Rattle.purge_task.specs.Reserved.{IsPresent}
 use Rattle.purge_task.specs.declared.work.Present.{Present}
-use Rattle.purge_task.specs.Switched.{AreListed, IsEntryOf, IsFirst, IsListable, SpendsFirst, mid_of, IsReadyAppend, IsReadyToSwitch, IsTargetWritten, KeepsTarget, ReadsMail, target_named, target_synced}
+use Rattle.purge_task.specs.Switched.{AreSwitchLists, IsSwitchEntry, IsFirst, IsListable, SpendsFirst, mid_of, IsReadyAppend, IsReadyToSwitch, IsTargetWritten, KeepsTarget, ReadsMail, target_named, target_synced}
 use Rattle.purge_task.specs.declared.work.Source.{Source}
 use Rattle.purge_task.specs.declared.work.Work.{Work}
 use Rattle.purge_task.proofs.SwitchFitLemmas.{TargetFits, entry_fits, entry_in_range, entry_short, none_moved, record_here}
@@ -120,10 +120,10 @@ copied_still a b target offset row same c = record {
 }
 
 -- of what is moved each was copied
-moved_copies : (P : MapPlace → Type 0) (m : MapMeaning) (number : ℕ) (copied moved : List MapPlace) (dropped : List MapUid) → AreListed m number copied moved dropped → All P copied → All P moved
+moved_copies : (P : MapPlace → Type 0) (m : MapMeaning) (number : ℕ) (copied moved : List MapPlace) (dropped : List MapUid) → AreSwitchLists m number copied moved dropped → All P copied → All P moved
 moved_copies P m number copied moved dropped listed all = λ k d lt. All-contains P copied (get_or moved k d) all (listed.moved_copied k d lt).0
 
-copies_as : {D : Type 0} → (old mid : StoreValue D) (h k : Option History) (target : Option FileNo) (number : ℕ) (copied : List MapPlace) (dropped : List MapUid) (source : Source) (moved ps : List MapPlace) → moved ≡ ps → ReadsMail h k → AreListed old.map number copied moved dropped → copied ≡ source.copied.items → IsTargetWritten target source old h
+copies_as : {D : Type 0} → (old mid : StoreValue D) (h k : Option History) (target : Option FileNo) (number : ℕ) (copied : List MapPlace) (dropped : List MapUid) (source : Source) (moved ps : List MapPlace) → moved ≡ ps → ReadsMail h k → AreSwitchLists old.map number copied moved dropped → copied ≡ source.copied.items → IsTargetWritten target source old h
     → IfTold k (λ now. AreCopied (files_of now) old.map (target_named target ps) ps)
 copies_as old mid h k target number copied dropped source moved [] is reads listed same written = told_none k (target_named target [])
   where
@@ -153,7 +153,7 @@ region_kept a b target place image row held stays is c =
       same = refl;
     }
 
-synced_as : {D : Type 0} → (old : StoreValue D) (h k : Option History) (target : Option FileNo) (number : ℕ) (copied : List MapPlace) (dropped : List MapUid) (source : Source) (moved ps : List MapPlace) → moved ≡ ps → ReadsMail h k → KeepsTarget target h k → AreListed old.map number copied moved dropped → copied ≡ source.copied.items → IsTargetWritten target source old h
+synced_as : {D : Type 0} → (old : StoreValue D) (h k : Option History) (target : Option FileNo) (number : ℕ) (copied : List MapPlace) (dropped : List MapUid) (source : Source) (moved ps : List MapPlace) → moved ≡ ps → ReadsMail h k → KeepsTarget target h k → AreSwitchLists old.map number copied moved dropped → copied ≡ source.copied.items → IsTargetWritten target source old h
     → IfTold k (λ now. AreCopiesSynced now old.map (target_named target ps) ps)
 synced_as old h k target number copied dropped source moved [] is reads held listed same written = told_none k (target_named target [])
   where
@@ -179,7 +179,7 @@ target_fits_mid h k old mid source (Some t) is order files written =
     record { number = number_of k mid t.0 f.0 is order f.1; end = written.end; few = written.fits; other = written.other; unnamed = written.unnamed; within = written.within; follow = written.follow }
 
 places_below : {D : Type 0} → (h k : Option History) (old mid : StoreValue D) (source : Source) (target : Option FileNo) (dropped : List MapUid) (moved ps : List MapPlace) → moved ≡ ps → IsStore k mid → AreFilesInOrder mid.files → mid.map ≡ old.map → mid.files.files ≡ target_synced source.target old.files.files
-    → AreListed old.map source.file.0 source.copied.items moved dropped → IsTargetWritten target source old h → (target_named target ps ≤ mid.drawn.file) × All (λ place. HasRecord mid.map place.uid.0 (λ row. LiesBelowEnd mid.map.store mid.files.files (record row { file = target_named target ps; offset = place.offset }))) ps
+    → AreSwitchLists old.map source.file.0 source.copied.items moved dropped → IsTargetWritten target source old h → (target_named target ps ≤ mid.drawn.file) × All (λ place. HasRecord mid.map place.uid.0 (λ row. LiesBelowEnd mid.map.store mid.files.files (record row { file = target_named target ps; offset = place.offset }))) ps
 places_below h k old mid source None dropped moved [] same is order maps files listed written = (omega arith, All-nil _)
 places_below h k old mid source (Some t) dropped moved [] same is order maps files listed written = (omega arith, All-nil _)
 places_below h k old mid source None dropped moved (place ∷ rest) same is order maps files listed written = none_moved old.map source.file.0 source.copied.items moved dropped place rest listed written same
@@ -191,7 +191,7 @@ places_below h k old mid source (Some t) dropped moved (place ∷ rest) same is 
     (drawn_of k mid t.0 f.0 is order f.1, subst (All (λ p. HasRecord mid.map p.uid.0 (λ row. LiesBelowEnd mid.map.store mid.files.files (record row { file = t.0; offset = p.offset })))) same (λ i d lt. place_below k mid t.0 written.end f.0 (get_or moved i d) is order f.1 f.2 ends (within i d lt)))
 
 pub entry_ready : {D : Type 0} → (h k : Option History) (old mid : StoreValue D) (source : Source) (work : Work) (entry : MapEntry) → IsStore k mid → AreFilesInOrder mid.files → length mid.map.records ≤ 4294967295 → mid.map ≡ old.map → mid.map_log ≡ old.map_log → mid.files.files ≡ target_synced source.target old.files.files
-    → ReadsMail h k → KeepsTarget source.target h k → IsReadyToSwitch source work old h → IsEntryOf old.map source entry → IsReadyAppend source.file.0 entry mid k × (length (map_text entry) ≤ length work.text.items)
+    → ReadsMail h k → KeepsTarget source.target h k → IsReadyToSwitch source work old h → IsSwitchEntry old.map source entry → IsReadyAppend source.file.0 entry mid k × (length (map_text entry) ≤ length work.text.items)
 entry_ready h k old mid source work entry is order few maps logs files reads held ready of =
     let listed = of.listed in
     let sound : IsSoundMap old.map = subst IsSoundMap maps (store_sound k mid is) in
@@ -234,19 +234,19 @@ pub record IsPrepared {D : Type 0} (source : Source) (present : Present) (work :
   pub file_is : present.file ≡ source.file
   pub target_is : present.target ≡ source.target
   pub first : mid ≡ mid_of source.target mid.disk old
-  pub of : IsEntryOf old.map source entry
+  pub of : IsSwitchEntry old.map source entry
   pub append : IsReadyAppend present.file.0 entry mid k
   pub text : length (map_text entry) ≤ length work.text.items
 
 pub prepared : {D : Type 0} → (work : Work) (source : Source) (left rest : List Source) (present : Present) (entry : MapEntry) (old mid : StoreValue D) (h k : Option History) (m1 m2 : MapMeaning) → sources_left work ≡ source ∷ left → ((s : Source) × (sources_left work ≡ s ∷ rest) × IsPresent s present)
-    → mid ≡ mid_of present.target mid.disk old → IsStore k mid → AreFilesInOrder mid.files → IsMapInOrder m1 → m1 ≡ mid.map → m2 ≡ mid.map → ReadsMail h k → KeepsTarget present.target h k → IsReadyToSwitch source work old h → IsFirst (sources_left work) (λ s. IsEntryOf m2 s entry) → IsPrepared source present work entry old mid k
+    → mid ≡ mid_of present.target mid.disk old → IsStore k mid → AreFilesInOrder mid.files → IsMapInOrder m1 → m1 ≡ mid.map → m2 ≡ mid.map → ReadsMail h k → KeepsTarget present.target h k → IsReadyToSwitch source work old h → IsFirst (sources_left work) (λ s. IsSwitchEntry m2 s entry) → IsPrepared source present work entry old mid k
 prepared work source left rest present entry old mid h k m1 m2 e pres ok is order kept m1_is m2_is reads held ready firsts =
     let same : pres.0 ≡ source = heads (sources_left work) pres.0 source rest left pres.1 e in
     let file_is : present.file ≡ source.file = pres.2.0 ∙ ap (λ (s : Source). s.file) same in
     let target_is : present.target ≡ source.target = pres.2.1 ∙ ap (λ (s : Source). s.target) same in
     let first = subst (λ (t : Option FileNo). mid ≡ mid_of t mid.disk old) target_is ok in
     let maps : mid.map ≡ old.map = ap (λ (v : StoreValue _). v.map) first in
-    let of = subst (λ (m : MapMeaning). IsEntryOf m source entry) (m2_is ∙ maps) (first_is (λ s. IsEntryOf m2 s entry) (sources_left work) source left e firsts) in
+    let of = subst (λ (m : MapMeaning). IsSwitchEntry m source entry) (m2_is ∙ maps) (first_is (λ s. IsSwitchEntry m2 s entry) (sources_left work) source left e firsts) in
     let few : length mid.map.records ≤ 4294967295 = subst (λ (m : MapMeaning). length m.records ≤ 4294967295) m1_is (let a = kept.records.few in let b = kept.fits in omega (arith, a, b)) in
     let all = entry_ready h k old mid source work entry is order few maps (ap (λ (v : StoreValue _). v.map_log) first) (ap (λ (v : StoreValue _). v.files.files) first) reads (subst (λ (t : Option FileNo). KeepsTarget t h k) target_is held) ready of in
     record {

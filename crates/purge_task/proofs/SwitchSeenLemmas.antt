@@ -24,7 +24,7 @@ use Rattle.store_core.specs.Value.{StoreValue}
 use Rattle.store_seen.specs.Seeing.{may_be_used}
 use Rattle.task_steps.specs.Step.{HasComeTo, was_used}
 use Rattle.task_steps.proofs.SeenLemmas.{file_still_known, first_doomed, given_still, gone_still, pins_still, placed_still, there_before}
-use Rattle.purge_task.specs.Clause.{seen_in}
+use Rattle.purge_task.specs.Clause.{seen_by_purge}
 use Rattle.purge_task.proofs.RunLemmas.{any_still, one_itself, one_other, sum_push}
 use Rattle.purge_task.proofs.SameSeenLemmas.{bars, ends, is_before, uses}
 
@@ -59,9 +59,9 @@ doomed_used n files e = by_case (file_in n files) e
     by_case None k = refl
     by_case (Some f) k = k
 
-pub switch_comes : {D : Type 0} → (run : Run) (lane place : ℕ) (file : FileNo) (target : ℕ) (moved : List MapPlace) (dropped : List MapUid) (disk : D) (log : LogState) (dues : List ℕ) (files : FilesValue) (old : StoreValue D) (before after : Option History) (began faults : Faults) → HasComeTo run (seen_in old before began) → old.stopped ≡ false
+pub switch_comes : {D : Type 0} → (run : Run) (lane place : ℕ) (file : FileNo) (target : ℕ) (moved : List MapPlace) (dropped : List MapUid) (disk : D) (log : LogState) (dues : List ℕ) (files : FilesValue) (old : StoreValue D) (before after : Option History) (began faults : Faults) → HasComeTo run (seen_by_purge old before began) → old.stopped ≡ false
     → IsDoomedOf file.0 old.files.files files.files → was_used run file.0 ≡ false → file.0 ≤ old.drawn.file → ((uid : ℕ) → due_at uid (with_map disk log (map_applied (map_entry.P file target moved dropped) old.map) dues files old) ≡ due_at uid old) → told_calls before ≤ told_calls after
-    → HasComeTo (and_then run (switch_event lane place file target moved dropped (told_calls after))) (seen_in (with_map disk log (map_applied (map_entry.P file target moved dropped) old.map) dues files old) after faults)
+    → HasComeTo (and_then run (switch_event lane place file target moved dropped (told_calls after))) (seen_by_purge (with_map disk log (map_applied (map_entry.P file target moved dropped) old.map) dues files old) after faults)
 switch_comes {D = D} run lane place file target moved dropped disk log dues files old before after began faults h ran is unused drawn due grows = record {
   come = came;
   keeps = λ runs.
@@ -82,7 +82,7 @@ switch_comes {D = D} run lane place file target moved dropped disk log dues file
               ∙ ap (λ (b : Bool). list_any (λ (e : RunEvent). is_one_of e.doomed n) run.events && not b) (any_still (λ (e : RunEvent). is_one_of e.removed n) run.events event refl)) ∙ (t.doomed n ∙ sym (is.doomed n apart))
         ];
         instances = λ row. placed_still run event row refl refl ∙ t.instances row;
-        files = λ n unsealed known. ap (λ (o : Option ℕ). is_some o) (is.ended n) ∙ by_maker n (there_before run event (seen_in old before began) n t refl unsealed known);
+        files = λ n unsealed known. ap (λ (o : Option ℕ). is_some o) (is.ended n) ∙ by_maker n (there_before run event (seen_by_purge old before began) n t refl unsealed known);
       };
   used = λ n e. elim (cases_eq n file.0) [
     | inl same ↦ subst (λ (i : ℕ). may_be_used new i ≡ true) (sym same) (and_true (nat_le file.0 old.drawn.file) (uses (file_in file.0 files.files)) (le_true file.0 old.drawn.file drawn) (doomed_used file.0 files.files is.here))
@@ -103,6 +103,6 @@ switch_comes {D = D} run lane place file target moved dropped disk log dues file
     came : HasCome (and_then run event) new.map old.drawn (told_calls after)
     came = subst (λ (d : Highest). HasCome (and_then run event) new.map d (told_calls after)) (drawn_none old.drawn) (comes_on_with run event (map_entry.P file target moved dropped) old.map old.drawn (told_calls before) h.come grows refl)
 
-    by_maker : (n : ℕ) → ((seen_in old before began).files n ≡ true) ⊎ (is_one_of event.made n ≡ true) → (seen_in old before began).files n ≡ true
+    by_maker : (n : ℕ) → ((seen_by_purge old before began).files n ≡ true) ⊎ (is_one_of event.made n ≡ true) → (seen_by_purge old before began).files n ≡ true
     by_maker n (inl there) = there
     by_maker n (inr made) = absurd (let e : false ≡ true = made in cc e)

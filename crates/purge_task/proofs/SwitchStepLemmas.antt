@@ -33,9 +33,9 @@ use Rattle.task_claims.specs.Leaving.{records_within}
 use Rattle.task_steps.specs.Step.{DidEvent, HasComeTo, ShowsSeen, and_told, was_used}
 use Rattle.task_steps.proofs.SeenLemmas.{first_doomed, never_used, pinned_as}
 use Rattle.purge_task.specs.Claims.{sources_left}
-use Rattle.purge_task.specs.Clause.{PurgeSteps, around_purging, seen_in}
-use Rattle.purge_task.specs.Keeping.{AreApart, PurgeValue}
-use Rattle.purge_task.specs.Stages.{CopiesBehind, GoesOnBehind, HaveCopied, HaveTaken, IsAtPurge, IsAtStage, IsAtSwitched, IsLastOf, IsNextStage, IsUnderWay, RemovesBehind, taken_of, went_on}
+use Rattle.purge_task.specs.Clause.{PurgeSteps, around_purging, seen_by_purge}
+use Rattle.purge_task.specs.Keeping.{AreSourcesApart, PurgeValue}
+use Rattle.purge_task.specs.Stages.{CopiesBehind, GoesOnBehind, HaveCopied, HaveTaken, IsAtPurge, IsAtPurgeStage, IsAtSwitched, IsLastOf, IsNextStage, IsPurging, RemovesBehind, told_taken, went_on}
 use Rattle.purge_task.specs.declared.task.PurgeStage.{PurgeStage}
 use Rattle.purge_task.specs.declared.task.PurgeStage.TheVariants as stage
 use Rattle.purge_task.specs.declared.work.Source.{Source}
@@ -54,8 +54,8 @@ pub record IsSpent (source spent : Source) : Type 0 where
   pub file : spent.file ≡ source.file
   pub target : spent.target ≡ source.target
 
-taken_spent : (source spent : Source) → IsSpent source spent → taken_of spent ≡ taken_of source
-taken_spent source spent w = ap (λ (f : FileNo). record (taken_of spent) { file = f.0 }) w.file ∙ ap (λ (t : Option FileNo). record { file = source.file.0; target = option_map_or (λ t. t.0) t 0 }) w.target
+taken_spent : (source spent : Source) → IsSpent source spent → told_taken spent ≡ told_taken source
+taken_spent source spent w = ap (λ (f : FileNo). record (told_taken spent) { file = f.0 }) w.file ∙ ap (λ (t : Option FileNo). record { file = source.file.0; target = option_map_or (λ t. t.0) t 0 }) w.target
 
 abbrev copies : ℕ → RunEvent → Bool
 copies uid e = is_one_of e.copied uid
@@ -67,8 +67,8 @@ pub record CountsSwitch (t next : PurgeValue) (dropped : List MapUid) : Type 0 w
   pub instances : next.instances ≡ t.instances
 
 switched_way : {D : Type 0} → (t next : PurgeValue) (done left : List Source) (source spent : Source) (Before After : List ℕ → EventPart → Type 0) (lane target : ℕ) (moved : List MapPlace) (dropped : List MapUid) (calls : ℕ) (old new : StoreValue D) (run : Run) (place : ℕ) (said : List Reply) → old.stopped ≡ false → IsSpent source spent
-    → AreApart (source ∷ left) → All (λ s. records_within s.file.0 new.map ≡ records_within s.file.0 old.map) left → CountsSwitch t next dropped → After (source.file.0 ∷ []) Switches → IsUnderWay t done (source ∷ left) Before old run place said
-    → IsUnderWay next (done ++ spent ∷ []) left After new (and_then run (switch_event lane place source.file target moved dropped calls)) place said
+    → AreSourcesApart (source ∷ left) → All (λ s. records_within s.file.0 new.map ≡ records_within s.file.0 old.map) left → CountsSwitch t next dropped → After (source.file.0 ∷ []) Switches → IsPurging t done (source ∷ left) Before old run place said
+    → IsPurging next (done ++ spent ∷ []) left After new (and_then run (switch_event lane place source.file target moved dropped calls)) place said
 switched_way t next done left source spent Before After lane target moved dropped calls old new run place said ran w apart within counts behind h = record {
   unsaid = h.unsaid;
   last = record { front = own; last = event; own_are = is; unrefused = refl; behind = behind };
@@ -109,7 +109,7 @@ switched_way t next done left source spent Before After lane target moved droppe
     number = ap (λ (f : FileNo). f.0) w.file
 
     fresh : is_one_of (gone_files own) source.file.0 ≡ false
-    fresh = done_gone own source.file.0 ∙ All-head (λ (s : Source). is_done own (taken_of s) ≡ false) source left h.taken.left_are
+    fresh = done_gone own source.file.0 ∙ All-head (λ (s : Source). is_done own (told_taken s) ≡ false) source left h.taken.left_are
 
     rest : (others : List Source) → All (λ s. records_within s.file.0 new.map ≡ records_within s.file.0 old.map) others → All (HaveCopied old.map own) others → All (HaveCopied new.map (own ++ event ∷ [])) others
     rest [] a b = All-nil _
@@ -126,7 +126,7 @@ switched_way t next done left source spent Before After lane target moved droppe
 pub record HasSwitched {D : Type 0} (source : Source) (target : ℕ) (moved : List MapPlace) (dropped : List MapUid) (old new : StoreValue D) (left : List Source) : Type 0 where
   pub fits : MapFits old.map (map_entry.P source.file target moved dropped)
   pub wanted : All (λ place. HasRecord old.map place.uid.0 (λ row. 1 ≤ row.count)) moved
-  pub target_is : target ≢ 0 → target ≡ (taken_of source).target
+  pub target_is : target ≢ 0 → target ≡ (told_taken source).target
   pub map_is : new.map ≡ map_applied (map_entry.P source.file target moved dropped) old.map
   pub due : (uid : ℕ) → due_at uid new ≡ due_at uid old
   pub boxes : new.map.boxes ≡ old.map.boxes
@@ -155,26 +155,26 @@ some_pin zero = refl
 some_pin (suc n) = grind (arith, common_steps)
 
 pub switch_steps : {D : Type 0} → (after : Around) (t next : PurgeValue) (work : Work) (source spent : Source) (left : List Source) (Before : Run → List ℕ → EventPart → Type 0) (target : ℕ) (moved : List MapPlace) (dropped : List MapUid) (disk : D) (log : LogState) (dues : List ℕ) (files : FilesValue) (old : StoreValue D) (before later : Option History) (began faults : Faults)
-    → ((run : Run) (place : ℕ) (said : List Reply) → IsAtPurge t old run place said → (done : List Source) × IsUnderWay t done (source ∷ left) (Before run) old run place said)
-    → ((run : Run) (place : ℕ) (said : List Reply) (done : List Source) → HasComeTo run (seen_in old before began) → IsUnderWay t done (source ∷ left) (Before run) old run place said → next_part (around_purging [] old) run request.Purge (own_events place run) ≡ Some Switches)
-    → sources_left work ≡ spent ∷ left → IsSpent source spent → AreApart (source ∷ left) → HasSwitched source target moved dropped old (with_map disk log (map_applied (map_entry.P source.file target moved dropped) old.map) dues files old) left → IsBehindSwitch (pins_in source.file.0 old.files.files == 0) work next.stage → next.did ≡ did.Quiet → CountsSwitch t next dropped
+    → ((run : Run) (place : ℕ) (said : List Reply) → IsAtPurge t old run place said → (done : List Source) × IsPurging t done (source ∷ left) (Before run) old run place said)
+    → ((run : Run) (place : ℕ) (said : List Reply) (done : List Source) → HasComeTo run (seen_by_purge old before began) → IsPurging t done (source ∷ left) (Before run) old run place said → next_part (around_purging [] old) run request.Purge (own_events place run) ≡ Some Switches)
+    → sources_left work ≡ spent ∷ left → IsSpent source spent → AreSourcesApart (source ∷ left) → HasSwitched source target moved dropped old (with_map disk log (map_applied (map_entry.P source.file target moved dropped) old.map) dues files old) left → IsBehindSwitch (pins_in source.file.0 old.files.files == 0) work next.stage → next.did ≡ did.Quiet → CountsSwitch t next dropped
     → old.stopped ≡ false → LeavesSettled old.map before later began faults → PurgeSteps [] after t next old (with_map disk log (map_applied (map_entry.P source.file target moved dropped) old.map) dues files old) before later began faults None
 switch_steps {D = D} after t next work source spent left Before target moved dropped disk log dues files old before later began faults stands part is w apart s to how counts ran leaves = λ run lane place said lists come shows stood.
     let around : Around = around_purging [] old in
     let at = stands run place said stood.0 in
     let own : List RunEvent = own_events place run in
     let event : RunEvent = switch_event lane place source.file target moved dropped (told_calls later) in
-    let taken : next_taken own ≡ Some (taken_of source) = next_is at.0 source left own at.1.taken in
-    let unused : was_used run source.file.0 ≡ false = never_used run (seen_in old before began) source.file.0 come s.unused in
+    let taken : next_taken own ≡ Some (told_taken source) = next_is at.0 source left own at.1.taken in
+    let unused : was_used run source.file.0 ≡ false = never_used run (seen_by_purge old before began) source.file.0 come s.unused in
     let came = switch_comes run lane place source.file target moved dropped disk log dues files old before later began faults come ran s.doomed unused s.drawn s.due leaves.grows in
     let pinned : was_pinned (and_then run event) source.file.0 ≡ not (pins_in source.file.0 old.files.files == 0) = (first_doomed run event source.file.0 unused (one_itself source.file.0) refl).0
-    ∙ (pinned_as (and_then run event) (seen_in new later faults) source.file.0 came ran ∙ (ap (λ (n : ℕ). nat_lt 0 n) (s.doomed.pins source.file.0) ∙ some_pin (pins_in source.file.0 old.files.files))) in
-    let so = did_part around after run lane place said lists (seen_in old before began) (seen_in new later faults) (switch_event 0 0 source.file target moved dropped 0)
+    ∙ (pinned_as (and_then run event) (seen_by_purge new later faults) source.file.0 came ran ∙ (ap (λ (n : ℕ). nat_lt 0 n) (s.doomed.pins source.file.0) ∙ some_pin (pins_in source.file.0 old.files.files))) in
+    let so = did_part around after run lane place said lists (seen_by_purge old before began) (seen_by_purge new later faults) (switch_event 0 0 source.file target moved dropped 0)
     (record {
       next = part run place said at.0 come at.1;
       finds = tt;
       allowed = refl;
-      did = (taken_of source, target, moved, dropped, taken, subst (λ (m : MapMeaning). All (λ place. HasRecord m place.uid.0 (λ row. 1 ≤ row.count)) moved) (sym come.come.map_is) s.wanted, s.target_is, refl);
+      did = (told_taken source, target, moved, dropped, taken, subst (λ (m : MapMeaning). All (λ place. HasRecord m place.uid.0 (λ row. 1 ≤ row.count)) moved) (sym come.come.map_is) s.wanted, s.target_is, refl);
       fits = All-cons (MapFits (map_of run)) (map_entry.P source.file target moved dropped) [] (subst (λ (m : MapMeaning). MapFits m (map_entry.P source.file target moved dropped)) (sym come.come.map_is) s.fits) (All-nil _);
       no_step = refl;
       goes_on = behind_some after (and_then run event) event;
@@ -182,10 +182,10 @@ switch_steps {D = D} after t next work source spent left Before target moved dro
       no_guid = refl;
     })
     came (shows.0, subst (λ (bs : List MapBox). ShowLists bs (indexes_of old.boxes) lists) (sym s.boxes) shows.1) ran ran (record { stops = λ x. leaves.moments lists x.0; settled = λ x. leaves.rests lists x.0 }) leaves.grows leaves.mail leaves.quiet in
-    stands_so around after run lane place said lists (seen_in old before began) (seen_in new later faults) next.did None event None (IsAtPurge next new)
-    (subst (λ (d : Did). DidSo around after run lane place said lists (seen_in old before began) (seen_in new later faults) d None event None) (sym how) so)
+    stands_so around after run lane place said lists (seen_by_purge old before began) (seen_by_purge new later faults) next.did None event None (IsAtPurge next new)
+    (subst (λ (d : Did). DidSo around after run lane place said lists (seen_by_purge old before began) (seen_by_purge new later faults) d None event None) (sym how) so)
     (λ none. elim (cases_Bool (pins_in source.file.0 old.files.files == 0)) [
-      | inl free ↦ subst (λ (x : PurgeStage). IsAtStage x next new (and_then run event) place said) (sym (subst (λ (b : Bool). IsBehindSwitch b work next.stage) free to))
+      | inl free ↦ subst (λ (x : PurgeStage). IsAtPurgeStage x next new (and_then run event) place said) (sym (subst (λ (b : Bool). IsBehindSwitch b work next.stage) free to))
           (subst (λ (l : List Source). IsAtSwitched next l new (and_then run event) place said) (sym is) (
             at.0,
             switched_way t next at.0 left source spent (Before run) (RemovesBehind (and_then run event) spent.file.0) lane target moved dropped (told_calls later) old new run place said ran w apart s.within counts

@@ -20,7 +20,7 @@ use Rattle.store_core.specs.Keeping.{KeepsFirm, KeepsMail}
 use Rattle.store_core.specs.Value.{StoreValue}
 use Rattle.store_core.proofs.InstanceKeepingLemmas.{firm_both}
 use Rattle.store_core.proofs.KnownInstanceLemmas.{firm_same}
-use Rattle.purge_task.specs.Switched.{IsEntryOf, IsPlacingIn, IsSwitched, IsTargetWritten, KeepsTarget, ReadsMail, dropped_count, mid_of, files_switched, target_released, target_synced}
+use Rattle.purge_task.specs.Switched.{IsSwitchEntry, IsPlacingIn, IsSwitched, IsTargetWritten, KeepsTarget, ReadsMail, dropped_count, mid_of, files_switched, target_released, target_synced}
 use Rattle.purge_task.specs.declared.switching.Switched.{Switched}
 use Rattle.purge_task.specs.declared.work.Source.{Source}
 use Rattle.purge_task.proofs.SwitchReadyLemmas.{synced_or}
@@ -92,7 +92,7 @@ all_same n target old mid new last first second third =
 
 pub is_switched : {D : Type 0} → (source : Source) (switched : Switched) (entry : MapEntry) (old mid new last : StoreValue D) → mid ≡ mid_of source.target mid.disk old
     → new ≡ record mid { disk = new.disk; map_log = new.map_log; map = new.map; files = record mid.files { files = changed_in source.file.0 made_doomed mid.files.files }; dues = new.dues }
-    → last ≡ record new { files = record new.files { files = target_released source.target new.files.files } } → IsEntryOf old.map source entry → MapFits mid.map entry → new.map ≡ map_applied entry mid.map
+    → last ≡ record new { files = record new.files { files = target_released source.target new.files.files } } → IsSwitchEntry old.map source entry → MapFits mid.map entry → new.map ≡ map_applied entry mid.map
     → switched.is_unpinned ≡ (pins_in source.file.0 mid.files.files == 0) → switched.dropped ≡ dropped_count entry → IsSwitched source switched old last
 is_switched source switched entry old mid new last first second third of fits applied unpinned counted =
     let maps : mid.map ≡ old.map = ap (λ (v : StoreValue _). v.map) first in

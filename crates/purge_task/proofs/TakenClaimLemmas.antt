@@ -13,7 +13,7 @@ use Rattle.storage_files.proofs.FileListLemmas.{file-here, file-other}
 use Rattle.store_core.specs.Value.{StoreValue}
 use Rattle.task_claims.specs.Claims.{Claims, MovesClaims, Thing, Due, Pinned, Taken, Emptied, PlacingPieces, Removing, Held, Made, amount_in, no_claims, one_if}
 use Rattle.purge_task.specs.Claims.{claims_of_sources}
-use Rattle.purge_task.specs.Taken.{CanTake, CanTakeAll, file_taken, source_taken, take_all, targets_given, target_drawn, with_target}
+use Rattle.purge_task.specs.Taken.{CanTake, CanTakeAll, taken_to_empty, source_taken, take_all, targets_given, target_drawn, with_target}
 use Rattle.purge_task.specs.declared.work.Source.{Source}
 use Rattle.purge_task.proofs.TakenLemmas.{highest_step, rest_step}
 use Rattle.purge_task.proofs.TakenStateLemmas.{below_changed, below_step, found_before, found_last, next_highest}
@@ -21,8 +21,8 @@ use Rattle.purge_task.proofs.WalkLemmas.{unequal}
 
 -- ---- what of a file is counted
 
-abbrev taken_of : Option MailFile → ℕ
-taken_of o = one_if (option_map_or (λ f. f.taken) o false)
+abbrev told_taken : Option MailFile → ℕ
+told_taken o = one_if (option_map_or (λ f. f.taken) o false)
 
 abbrev emptied_of : Option MailFile → ℕ
 emptied_of o = one_if (option_map_or (λ f. f.emptied) o false)
@@ -125,7 +125,7 @@ emptied_claim s m = let a = sum_by-cons (λ (o : Source). cond (o.file.0 == m) 1
 
 -- one source, with a target or without
 moves_one : {D : Type 0} → (v : StoreValue D) (s : Source) (b : Bool) (thing : Thing) → Fresh v → CanTake v.files.files s.file.0 → s.target ≡ None
-    → amount_in thing (cond b (target_drawn (file_taken s.file.0 v)) (file_taken s.file.0 v)) ≡ amount_in thing v + claims_of_sources (cond b (record s { target = Some (record { 0 = v.files.highest + 1 }) }) s ∷ []) thing
+    → amount_in thing (cond b (target_drawn (taken_to_empty s.file.0 v)) (taken_to_empty s.file.0 v)) ≡ amount_in thing v + claims_of_sources (cond b (record s { target = Some (record { 0 = v.files.highest + 1 }) }) s ∷ []) thing
 moves_one v s true (Due uid) fresh can none = omega arith
 moves_one v s false (Due uid) fresh can none = omega arith
 moves_one v s true (Held id) fresh can none = omega arith
@@ -151,12 +151,12 @@ moves_one v s true (Removing m) fresh can none =
     omega (arith, a, b, c)
 moves_one v s false (Removing m) fresh can none = let b = emptying_keeps removing_of s.file.0 m v.files.files (λ f. refl) in omega (arith, b)
 moves_one v s true (Taken m) fresh can none =
-    let a = beginning_adds taken_of m (v.files.highest + 1) (changed_in s.file.0 to_empty v.files.files) (fresh_none 0 v.files.highest (changed_in s.file.0 to_empty v.files.files) (below_changed s.file.0 v.files.highest v.files.files fresh)) refl in
-    let b = emptying_keeps taken_of s.file.0 m v.files.files (λ f. refl) in
+    let a = beginning_adds told_taken m (v.files.highest + 1) (changed_in s.file.0 to_empty v.files.files) (fresh_none 0 v.files.highest (changed_in s.file.0 to_empty v.files.files) (below_changed s.file.0 v.files.highest v.files.files fresh)) refl in
+    let b = emptying_keeps told_taken s.file.0 m v.files.files (λ f. refl) in
     let c = taken_claim (record s { target = Some (record { 0 = v.files.highest + 1 }) }) m in
     omega (arith, a, b, c)
 moves_one v s false (Taken m) fresh can none =
-    let b = emptying_keeps taken_of s.file.0 m v.files.files (λ f. refl) in
+    let b = emptying_keeps told_taken s.file.0 m v.files.files (λ f. refl) in
     let c = taken_claim s m in
     let d : ◌≡◌ {A = ℕ} (cond (option_map_or (λ t. t.0 == m) s.target false) 1 0) 0 = ap (λ (o : Option FileNo). cond (option_map_or (λ t. t.0 == m) o false) 1 0) none in
     omega (arith, b, c, d)

@@ -9,7 +9,7 @@ use Rattle.storage_files.specs.declared.file.MailFile.{MailFile}
 use Rattle.storage_files.specs.Files.{changed_in, file_begun, file_in, to_empty}
 use Rattle.storage_files.proofs.FileListLemmas.{file-other}
 use Rattle.store_core.specs.Value.{StoreValue}
-use Rattle.purge_task.specs.Taken.{CanTake, CanTakeAll, file_taken, source_taken, targets_given, target_drawn, with_target}
+use Rattle.purge_task.specs.Taken.{CanTake, CanTakeAll, taken_to_empty, source_taken, targets_given, target_drawn, with_target}
 use Rattle.purge_task.specs.Taken.{take_all as all_taken}
 use Rattle.purge_task.specs.declared.work.Source.{Source}
 
@@ -37,7 +37,7 @@ others_can v s rest can = λ k d lt.
     let up = pairs_head (λ a b. a.file.0 < b.file.0) s rest can.rising k d lt in
     emptied_still v.files.files s.file.0 (get_or rest k d).file.0 (λ e. omega (arith, e, up)) (All-tail (λ o. CanTake v.files.files o.file.0) s rest can.files k d lt)
 
-pub rest_step : {D : Type 0} → (v : StoreValue D) (s : Source) (rest : List Source) (b : Bool) → s.is_wanted ≡ b → CanTakeAll v (s ∷ rest) → CanTakeAll (cond b (target_drawn (file_taken s.file.0 v)) (file_taken s.file.0 v)) rest
+pub rest_step : {D : Type 0} → (v : StoreValue D) (s : Source) (rest : List Source) (b : Bool) → s.is_wanted ≡ b → CanTakeAll v (s ∷ rest) → CanTakeAll (cond b (target_drawn (taken_to_empty s.file.0 v)) (taken_to_empty s.file.0 v)) rest
 rest_step v s rest true is can =
     let count = count_one s rest in
     let one : ◌≡◌ {A = ℕ} (cond s.is_wanted 1 0) 1 = ap (λ (b : Bool). cond b 1 0) is in
@@ -61,7 +61,7 @@ rest_step v s rest false is can =
       numbers = omega (arith, count, one, numbers);
     }
 
-pub highest_step : {D : Type 0} → (v : StoreValue D) (s : Source) (b : Bool) → (cond b (target_drawn (file_taken s.file.0 v)) (file_taken s.file.0 v)).files.highest ≡ v.files.highest + cond b 1 0
+pub highest_step : {D : Type 0} → (v : StoreValue D) (s : Source) (b : Bool) → (cond b (target_drawn (taken_to_empty s.file.0 v)) (taken_to_empty s.file.0 v)).files.highest ≡ v.files.highest + cond b 1 0
 highest_step v s true = refl
 highest_step v s false = omega arith
 

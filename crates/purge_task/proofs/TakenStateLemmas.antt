@@ -11,8 +11,8 @@ use Rattle.storage_files.specs.declared.file.MailFile.{MailFile}
 use Rattle.storage_files.specs.Files.{changed_in, file_begun, file_in, to_empty}
 use Rattle.storage_files.proofs.FileListLemmas.{file-here, file-other}
 use Rattle.store_core.specs.Value.{StoreValue}
-use Rattle.purge_task.specs.Keeping.{AreApart}
-use Rattle.purge_task.specs.Taken.{file_taken, source_taken, take_all, targets_given, target_drawn, with_target}
+use Rattle.purge_task.specs.Keeping.{AreSourcesApart}
+use Rattle.purge_task.specs.Taken.{taken_to_empty, source_taken, take_all, targets_given, target_drawn, with_target}
 use Rattle.purge_task.specs.declared.work.Source.{Source}
 use Rattle.purge_task.proofs.TakenLemmas.{highest_step}
 use Rattle.purge_task.proofs.WalkLemmas.{unequal}
@@ -27,7 +27,7 @@ pub found_last : (m : ℕ) (files : List MailFile) (x : MailFile) → x.file.0 �
 found_last m [] x same none = rw (equal_yes x.file.0 m same) refl
 found_last m (y ∷ ys) x same none = rw (unequal y.file.0 m (All-head (λ f. f.file.0 ≢ m) y ys none)) (found_last m ys x same (All-tail (λ f. f.file.0 ≢ m) y ys none))
 
-other_step : {D : Type 0} → (v : StoreValue D) (s : Source) (m : ℕ) (b : Bool) → m ≤ v.files.highest → file_in m (cond b (target_drawn (file_taken s.file.0 v)) (file_taken s.file.0 v)).files.files ≡ file_in m (changed_in s.file.0 to_empty v.files.files)
+other_step : {D : Type 0} → (v : StoreValue D) (s : Source) (m : ℕ) (b : Bool) → m ≤ v.files.highest → file_in m (cond b (target_drawn (taken_to_empty s.file.0 v)) (taken_to_empty s.file.0 v)).files.files ≡ file_in m (changed_in s.file.0 to_empty v.files.files)
 other_step v s m true le = found_before m (changed_in s.file.0 to_empty v.files.files) (file_begun (record { 0 = v.files.highest + 1 })) (λ e. omega (arith, e, le))
 other_step v s m false le = refl
 
@@ -83,7 +83,7 @@ below_changed n most [] a = All-nil _
 below_changed n most (x ∷ xs) a =
     All-cons (λ f. f.file.0 ≤ most) (cond (x.file.0 == n) (to_empty x) x) (changed_in n to_empty xs) (number_in most x (x.file.0 == n) (All-head (λ f. f.file.0 ≤ most) x xs a)) (below_changed n most xs (All-tail (λ f. f.file.0 ≤ most) x xs a))
 
-pub below_step : {D : Type 0} → (v : StoreValue D) (s : Source) (b : Bool) → All (λ f. f.file.0 ≤ v.files.highest) v.files.files → All (λ f. f.file.0 ≤ (cond b (target_drawn (file_taken s.file.0 v)) (file_taken s.file.0 v)).files.highest) (cond b (target_drawn (file_taken s.file.0 v)) (file_taken s.file.0 v)).files.files
+pub below_step : {D : Type 0} → (v : StoreValue D) (s : Source) (b : Bool) → All (λ f. f.file.0 ≤ v.files.highest) v.files.files → All (λ f. f.file.0 ≤ (cond b (target_drawn (taken_to_empty s.file.0 v)) (taken_to_empty s.file.0 v)).files.highest) (cond b (target_drawn (taken_to_empty s.file.0 v)) (taken_to_empty s.file.0 v)).files.files
 below_step v s true low =
     All-append (λ f. f.file.0 ≤ v.files.highest + 1) (changed_in s.file.0 to_empty v.files.files) (file_begun (record { 0 = v.files.highest + 1 }) ∷ [])
     (All-weaker (λ f. f.file.0 ≤ v.files.highest) (λ f. f.file.0 ≤ v.files.highest + 1) (λ f le. omega (arith, le)) (changed_in s.file.0 to_empty v.files.files) (below_changed s.file.0 v.files.highest v.files.files low))
@@ -99,17 +99,17 @@ never_lower [] v = omega arith
 never_lower (s ∷ rest) v = let a = higher v s in let b = never_lower rest (source_taken v s) in omega (arith, a, b)
 
 first_drawn : {D : Type 0} → (v : StoreValue D) (s : Source) (rest : List Source) (b : Bool) → All (λ f. f.file.0 ≤ v.files.highest) v.files.files → All (λ o. o.file.0 ≤ v.files.highest) rest → s.target ≡ None
-    → TargetIsDrawn v.files.highest (take_all rest (cond b (target_drawn (file_taken s.file.0 v)) (file_taken s.file.0 v))) (cond b (record s { target = Some (record { 0 = v.files.highest + 1 }) }) s)
+    → TargetIsDrawn v.files.highest (take_all rest (cond b (target_drawn (taken_to_empty s.file.0 v)) (taken_to_empty s.file.0 v))) (cond b (record s { target = Some (record { 0 = v.files.highest + 1 }) }) s)
 first_drawn v s rest true low files none =
     let new = file_begun (record { 0 = v.files.highest + 1 }) in
     let there = found_last (v.files.highest + 1) (changed_in s.file.0 to_empty v.files.files) new refl (All-weaker (λ f. f.file.0 ≤ v.files.highest) (λ f. f.file.0 ≢ v.files.highest + 1) (λ f le e. omega (arith, le, e)) (changed_in s.file.0 to_empty v.files.files) (below_changed s.file.0 v.files.highest v.files.files low)) in
-    let up = never_lower rest (target_drawn (file_taken s.file.0 v)) in
+    let up = never_lower rest (target_drawn (taken_to_empty s.file.0 v)) in
     record {
       behind = omega arith;
       drawn_too = omega (arith, up);
-      known = kept_all rest (target_drawn (file_taken s.file.0 v)) (v.files.highest + 1) (omega arith) (All-weaker (λ o. o.file.0 ≤ v.files.highest) (λ o. v.files.highest + 1 ≢ o.file.0) (λ o le e. omega (arith, le, e)) rest files) ∙ there;
+      known = kept_all rest (target_drawn (taken_to_empty s.file.0 v)) (v.files.highest + 1) (omega arith) (All-weaker (λ o. o.file.0 ≤ v.files.highest) (λ o. v.files.highest + 1 ≢ o.file.0) (λ o le e. omega (arith, le, e)) rest files) ∙ there;
     }
-first_drawn v s rest false low files none = subst (λ (o : Option FileNo). IfSome o (IsDrawnFor v.files.highest (take_all rest (file_taken s.file.0 v)))) (sym none) tt
+first_drawn v s rest false low files none = subst (λ (o : Option FileNo). IfSome o (IsDrawnFor v.files.highest (take_all rest (taken_to_empty s.file.0 v)))) (sym none) tt
 
 pub next_highest : (n : ℕ) (b : Bool) → cond b (n + 1) n ≡ n + cond b 1 0
 next_highest n true = refl
@@ -128,7 +128,7 @@ drawn_all (s ∷ rest) v low files none =
 
 -- ---- all else
 
-rest_step : {D : Type 0} → (v : StoreValue D) (s : Source) (b : Bool) → (let w = cond b (target_drawn (file_taken s.file.0 v)) (file_taken s.file.0 v) in w ≡ record v { files = w.files; drawn = record v.drawn { file = w.drawn.file } })
+rest_step : {D : Type 0} → (v : StoreValue D) (s : Source) (b : Bool) → (let w = cond b (target_drawn (taken_to_empty s.file.0 v)) (taken_to_empty s.file.0 v) in w ≡ record v { files = w.files; drawn = record v.drawn { file = w.drawn.file } })
 rest_step v s true = refl
 rest_step v s false = refl
 
@@ -138,7 +138,7 @@ rest_all [] v = refl
 rest_all (s ∷ rest) v =
     rest_all rest (source_taken v s) ∙ ap (λ (u : StoreValue _). record u { files = (take_all (s ∷ rest) v).files; drawn = record u.drawn { file = (take_all (s ∷ rest) v).drawn.file } }) (rest_step v s s.is_wanted)
 
-drawn_step : {D : Type 0} → (v : StoreValue D) (s : Source) (b : Bool) → v.drawn.file ≡ v.files.highest → (let w = cond b (target_drawn (file_taken s.file.0 v)) (file_taken s.file.0 v) in w.drawn.file ≡ w.files.highest)
+drawn_step : {D : Type 0} → (v : StoreValue D) (s : Source) (b : Bool) → v.drawn.file ≡ v.files.highest → (let w = cond b (target_drawn (taken_to_empty s.file.0 v)) (taken_to_empty s.file.0 v) in w.drawn.file ≡ w.files.highest)
 drawn_step v s true e = refl
 drawn_step v s false e = e
 
@@ -196,5 +196,5 @@ targets_apart n (s ∷ rest) none =
     let tail = All-tail (λ o. o.target ≡ None) s rest none in
     AllPairs-cons TargetsRise (with_target n s) (targets_given (cond s.is_wanted (n + 1) n) rest) (rises_over n s s.is_wanted (targets_given (cond s.is_wanted (n + 1) n) rest) (All-head (λ o. o.target ≡ None) s rest none) (given_behind (cond s.is_wanted (n + 1) n) rest tail)) (targets_apart (cond s.is_wanted (n + 1) n) rest tail)
 
-pub are_apart : (n : ℕ) (sources : List Source) → AllPairs (λ a b. a.file.0 < b.file.0) sources → All (λ s. s.target ≡ None) sources → AreApart (targets_given n sources)
+pub are_apart : (n : ℕ) (sources : List Source) → AllPairs (λ a b. a.file.0 < b.file.0) sources → All (λ s. s.target ≡ None) sources → AreSourcesApart (targets_given n sources)
 are_apart n sources rising none = record { files = files_apart n sources rising; targets = targets_apart n sources none }

@@ -21,9 +21,9 @@ use Rattle.storage_files.specs.Files.{FilesValue}
 use Rattle.store_core.specs.Value.{StoreValue}
 use Rattle.task_steps.specs.Step.{HasComeTo, was_given, was_used}
 use Rattle.purge_task.specs.Claims.{sources_left}
-use Rattle.purge_task.specs.Clause.{PurgeSteps, around_purging, seen_in}
+use Rattle.purge_task.specs.Clause.{PurgeSteps, around_purging, seen_by_purge}
 use Rattle.purge_task.specs.Keeping.{PurgeValue}
-use Rattle.purge_task.specs.Stages.{CopiesBehind, GoesOnBehind, HaveCopied, HaveTaken, IsAtPurge, IsAtStage, IsUnderWay, taken_of}
+use Rattle.purge_task.specs.Stages.{CopiesBehind, GoesOnBehind, HaveCopied, HaveTaken, IsAtPurge, IsAtPurgeStage, IsPurging, told_taken}
 use Rattle.purge_task.specs.declared.task.PurgeStage.{PurgeStage}
 use Rattle.purge_task.specs.declared.task.PurgeStage.TheVariants as stage
 use Rattle.purge_task.specs.declared.work.Source.{Source}
@@ -35,7 +35,7 @@ use Rattle.purge_task.proofs.RunLemmas.{any_still, flat_push, gone_files, sum_pu
 use Rattle.purge_task.proofs.TargetSeenLemmas.{IsMadeOf, target_comes, target_event, with_files}
 
 made_way : {D : Type 0} → (t next : PurgeValue) (done left : List Source) (lane target calls : ℕ) (old new : StoreValue D) (run : Run) (place : ℕ) (said : List Reply) → new.map ≡ old.map → old.stopped ≡ false → next.dropped ≡ t.dropped → next.files ≡ t.files → next.instances ≡ t.instances
-    → IsUnderWay t done left (GoesOnBehind run) old run place said → IsUnderWay next done left (λ doomed part. CopiesBehind part) new (and_then run (target_event lane place target calls)) place said
+    → IsPurging t done left (GoesOnBehind run) old run place said → IsPurging next done left (λ doomed part. CopiesBehind part) new (and_then run (target_event lane place target calls)) place said
 made_way t next done left lane target calls old new run place said map ran dropped files instances h = record {
   unsaid = h.unsaid;
   last = record { front = own; last = event; own_are = is; unrefused = refl; behind = tt };
@@ -78,25 +78,25 @@ some_number n l = grind (arith, common_steps, l)
 -- A target is made that no event has used, and in which none has given a GUID.
 pub target_steps : {D : Type 0} → (after : Around) (t next : PurgeValue) (work : Work) (source : Source) (left : List Source) (target : FileNo) (disk : D) (files : FilesValue) (old : StoreValue D) (before later : Option History) (began faults : Faults) → t.stage ≡ stage.Begin work → sources_left work ≡ source ∷ left
     → source.target ≡ Some target → 1 ≤ target.0 → next.stage ≡ stage.Copying work → next.did ≡ did.Quiet → next.dropped ≡ t.dropped → next.files ≡ t.files → next.instances ≡ t.instances → old.stopped ≡ false → IsMadeOf target.0 old.files.files files.files
-    → ((run : Run) → HasComeTo run (seen_in old before began) → was_used run target.0 ≡ false) → ((run : Run) (guid : List ℕ) → HasComeTo run (seen_in old before began) → is_own old.map.store guid ≡ true → number_at 8 guid ≡ target.0 → was_given run guid ≡ false)
+    → ((run : Run) → HasComeTo run (seen_by_purge old before began) → was_used run target.0 ≡ false) → ((run : Run) (guid : List ℕ) → HasComeTo run (seen_by_purge old before began) → is_own old.map.store guid ≡ true → number_at 8 guid ≡ target.0 → was_given run guid ≡ false)
     → LeavesSettled old.map before later began faults → PurgeSteps [] after t next old (with_files disk files old) before later began faults None
 target_steps after t next work source left target disk files old before later began faults at is target_is some to how dropped counted instances ran made unused ungiven leaves = λ run lane place said lists come shows stood.
     let around : Around = around_purging [] old in
-    let stands = subst (λ (x : PurgeStage). IsAtStage x t old run place said) at stood.0 in
-    let h = subst (λ (l : List Source). IsUnderWay t stands.0 l (GoesOnBehind run) old run place said) is stands.1 in
+    let stands = subst (λ (x : PurgeStage). IsAtPurgeStage x t old run place said) at stood.0 in
+    let h = subst (λ (l : List Source). IsPurging t stands.0 l (GoesOnBehind run) old run place said) is stands.1 in
     let event : RunEvent = target_event lane place target.0 (told_calls later) in
     let new : StoreValue _ = with_files disk files old in
-    let taken : next_taken (own_events place run) ≡ Some (taken_of source) = next_is stands.0 source left (own_events place run) h.taken in
-    let number : (taken_of source).target ≡ target.0 = ap (λ (o : Option FileNo). option_map_or (λ t. t.0) o 0) target_is in
+    let taken : next_taken (own_events place run) ≡ Some (told_taken source) = next_is stands.0 source left (own_events place run) h.taken in
+    let number : (told_taken source).target ≡ target.0 = ap (λ (o : Option FileNo). option_map_or (λ t. t.0) o 0) target_is in
     let next_one : next_part around run request.Purge (own_events place run) ≡ Some MakesTarget = next_goes_on around run place h.last
     ∙ (ap (λ (o : Option TakenFile). purge_goes_on around run o) taken
     ∙ ap (λ (b : Bool). if b then Some MakesTarget else (if list_any (λ row. row.file == source.file.0) (map_of run).records then Some Switches else Some RemovesFile)) (ap (λ (n : ℕ). nat_lt 0 n) number ∙ some_number target.0 some)) in
-    let so = did_part around after run lane place said lists (seen_in old before began) (seen_in new later faults) (target_event 0 0 target.0 0)
+    let so = did_part around after run lane place said lists (seen_by_purge old before began) (seen_by_purge new later faults) (target_event 0 0 target.0 0)
     (record {
       next = next_one;
       finds = tt;
       allowed = refl;
-      did = (taken_of source, taken, ap (λ (n : ℕ). target_event lane place n (told_calls later)) (sym number));
+      did = (told_taken source, taken, ap (λ (n : ℕ). target_event lane place n (told_calls later)) (sym number));
       fits = All-nil _;
       no_step = refl;
       goes_on = λ e. let k = copies_some (and_then run event) (own_events place (and_then run event)) in never_some k.0 (sym k.1 ∙ e);
@@ -104,7 +104,7 @@ target_steps after t next work source left target disk files old before later be
       no_guid = refl;
     })
     (target_comes run lane place target.0 disk files old before later began faults come ran made (unused run come) (λ guid own file. ungiven run guid come own file) leaves.grows) shows ran ran (record { stops = λ s. leaves.moments lists s.0; settled = λ s. leaves.rests lists s.0 }) leaves.grows leaves.mail leaves.quiet in
-    stands_so around after run lane place said lists (seen_in old before began) (seen_in new later faults) next.did None event None (IsAtPurge next new)
-    (subst (λ (d : Did). DidSo around after run lane place said lists (seen_in old before began) (seen_in new later faults) d None event None) (sym how) so)
-    (λ none. subst (λ (x : PurgeStage). IsAtStage x next new (and_then run event) place said) (sym to)
-    (stands.0, subst (λ (l : List Source). IsUnderWay next stands.0 l (λ doomed part. CopiesBehind part) new (and_then run event) place said) (sym is) (made_way t next stands.0 (source ∷ left) lane target.0 (told_calls later) old new run place said refl ran dropped counted instances h)))
+    stands_so around after run lane place said lists (seen_by_purge old before began) (seen_by_purge new later faults) next.did None event None (IsAtPurge next new)
+    (subst (λ (d : Did). DidSo around after run lane place said lists (seen_by_purge old before began) (seen_by_purge new later faults) d None event None) (sym how) so)
+    (λ none. subst (λ (x : PurgeStage). IsAtPurgeStage x next new (and_then run event) place said) (sym to)
+    (stands.0, subst (λ (l : List Source). IsPurging next stands.0 l (λ doomed part. CopiesBehind part) new (and_then run event) place said) (sym is) (made_way t next stands.0 (source ∷ left) lane target.0 (told_calls later) old new run place said refl ran dropped counted instances h)))

@@ -19,7 +19,7 @@ use Rattle.store_core.specs.Value.{StoreValue}
 use Rattle.store_seen.specs.Seeing.{may_be_barred, may_be_used}
 use Rattle.task_steps.specs.Step.{HasComeTo, was_given, was_used}
 use Rattle.task_steps.proofs.SeenLemmas.{doomed_still, file_still_known, given_still, gone_still, pins_still, placed_still, there_before, used_still}
-use Rattle.purge_task.specs.Clause.{seen_in}
+use Rattle.purge_task.specs.Clause.{seen_by_purge}
 use Rattle.purge_task.proofs.EventLemmas.{fall}
 use Rattle.purge_task.proofs.RunLemmas.{any_now, any_still, one_alone, one_itself, or_none, or_true, sum_push}
 use Rattle.purge_task.proofs.SameSeenLemmas.{is_before}
@@ -73,8 +73,8 @@ and_true a b x y = rw (x, y) refl
 abbrev ends_after : List ℕ → List MailFile → Bool
 ends_after guid files = is_before (number_at 12 guid) (file_in (number_at 8 guid) files)
 
-pub target_comes : {D : Type 0} → (run : Run) (lane place target : ℕ) (disk : D) (files : FilesValue) (old : StoreValue D) (before after : Option History) (began faults : Faults) → HasComeTo run (seen_in old before began) → old.stopped ≡ false → IsMadeOf target old.files.files files.files
-    → was_used run target ≡ false → ((guid : List ℕ) → is_own old.map.store guid ≡ true → number_at 8 guid ≡ target → was_given run guid ≡ false) → told_calls before ≤ told_calls after → HasComeTo (and_then run (target_event lane place target (told_calls after))) (seen_in (with_files disk files old) after faults)
+pub target_comes : {D : Type 0} → (run : Run) (lane place target : ℕ) (disk : D) (files : FilesValue) (old : StoreValue D) (before after : Option History) (began faults : Faults) → HasComeTo run (seen_by_purge old before began) → old.stopped ≡ false → IsMadeOf target old.files.files files.files
+    → was_used run target ≡ false → ((guid : List ℕ) → is_own old.map.store guid ≡ true → number_at 8 guid ≡ target → was_given run guid ≡ false) → told_calls before ≤ told_calls after → HasComeTo (and_then run (target_event lane place target (told_calls after))) (seen_by_purge (with_files disk files old) after faults)
 target_comes {D = D} run lane place target disk files old before_ after began faults h ran made unused ungiven grows = record {
   come = comes_on run event old.map old.drawn (told_calls before_) h.come grows refl refl;
   keeps = λ runs.
@@ -90,7 +90,7 @@ target_comes {D = D} run lane place target disk files old before_ after began fa
         pins = λ n. pins_still run event n refl refl ∙ (t.pins n ∙ sym (value_same (λ o. option_map_or (λ f. f.pins) o 0) n made.pins));
         doomed = λ n. doomed_still run event n refl refl ∙ (t.doomed n ∙ sym (flag_same (λ o. option_map_or (λ f. f.doomed) o false) n made.doomed));
         instances = λ row. placed_still run event row refl refl ∙ t.instances row;
-        files = λ n unsealed known. elim (there_before run event (seen_in old before_ began) n t refl unsealed known) [
+        files = λ n unsealed known. elim (there_before run event (seen_by_purge old before_ began) n t refl unsealed known) [
           | inl there ↦ elim (cases_eq n target) [
             | inl same ↦ subst (λ (i : ℕ). knows_file new i ≡ true) (sym same) here
             | inr apart ↦ knows_other n apart ∙ there

@@ -62,13 +62,13 @@ pub record TellsUses {D : Type 0} (run : Run) (store : StoreValue D) : Type 0 wh
 -- ---- the clause
 
 -- a store as an event sees it
-abbrev pub seen_in : {D : Type 0} → StoreValue D → Option History → Faults → Seen
-seen_in store history faults = seen_of (λ file. pins_in file store.files.files) store history faults
+abbrev pub seen_by_purge : {D : Type 0} → StoreValue D → Option History → Faults → Seen
+seen_by_purge store history faults = seen_of (λ file. pins_in file store.files.files) store history faults
 
 -- What a step says (`Steps`), where its first event finds these files.
 abbrev pub PurgeSteps : {D : Type 0} → List ℕ → Around → PurgeValue → PurgeValue → StoreValue D → StoreValue D → Option History → Option History → Faults → Faults → Option Reply → Type 0
 PurgeSteps files after t next old new before later began faults ended =
-    Steps (λ run place said. IsAtPurge t old run place said × (old.stopped ≡ false → TellsUses run old)) (IsAtPurge next new) (around_purging files old) after request.Purge (seen_in old before began) (seen_in new later faults) next.did ended
+    Steps (λ run place said. IsAtPurge t old run place said × (old.stopped ≡ false → TellsUses run old)) (IsAtPurge next new) (around_purging files old) after request.Purge (seen_by_purge old before began) (seen_by_purge new later faults) next.did ended
 
 -- What a step says of a store that runs, from one stage to another: that it is ready for its next event, which event it was of whichever run
 -- has come to the store, and that a change of the disk failed if and only if it stopped the store and replies so. Unless it stopped the store, it moves only
@@ -100,13 +100,13 @@ answer_of (Ok next) = progress.More
 answer_of (Err why) = progress.Done (reply.Refused why)
 
 -- What an event did by which the purge was refused: a step, unless for lack of memory or by a fault.
-abbrev pub refused_did : Refusal → Did
-refused_did refusal.NoMemory = did.Quiet
-refused_did refusal.ReadFault = did.Quiet
-refused_did refusal.Stopped = did.Failed
-refused_did why = did.Step half.Whole
+abbrev pub did_of_refusal : Refusal → Did
+did_of_refusal refusal.NoMemory = did.Quiet
+did_of_refusal refusal.ReadFault = did.Quiet
+did_of_refusal refusal.Stopped = did.Failed
+did_of_refusal why = did.Step half.Whole
 
 -- the task behind a part that answers this
 abbrev pub came_to : Result PurgeStage Refusal → PurgeValue → PurgeValue
 came_to (Ok next) t = record t { stage = next; did = did.Quiet }
-came_to (Err why) t = record t { stage = stage.First; did = refused_did why }
+came_to (Err why) t = record t { stage = stage.First; did = did_of_refusal why }

@@ -39,8 +39,8 @@ abbrev pub whole_piece : ℕ → ℕ → Option (List ℕ) → List ℕ
 whole_piece offset size octets = piece_read offset size octets ++ replicate (size - length (piece_read offset size octets)) 0
 
 -- the row is one of the map's
-abbrev pub IsRowOf : MapMeaning → MapRow → Type 0
-IsRowOf m row = (r : MapRecord) × (record_at m r.uid ≡ Some r) × (row ≡ shown_record r)
+abbrev pub IsShownRow : MapMeaning → MapRow → Type 0
+IsShownRow m row = (r : MapRecord) × (record_at m r.uid ≡ Some r) × (row ≡ shown_record r)
 
 -- The region of a message was added to the target, octet for octet.
 pub record IsRegionAdded (row : MapRow) (target : ℕ) (before after : DiskState) : Type 0 where

@@ -105,19 +105,19 @@ abbrev pub found_numbers : List FoundFile → List ℕ
 found_numbers files = map (λ f. f.file.0) files
 
 -- The files that a purge finds, with what it counts of them.
-pub record AreFound {D : Type 0} (store : StoreValue D) (history : Option History) (files : List FoundFile) : Type 0 where
+pub record AreUncleanFound {D : Type 0} (store : StoreValue D) (history : Option History) (files : List FoundFile) : Type 0 where
   pub finds : FindsUnclean store history (found_numbers files)
   pub each : All (IsFoundFile store.map) files
 
 -- What is found of one file that is there: it is to be emptied, or passed over.
-abbrev pub IsFoundAs : {D : Type 0} → StoreValue D → Option History → ℕ → Option FoundFile → Type 0
-IsFoundAs store history number (Some f) = (f.file.0 ≡ number) × MayBeEmptied store.files.files number × IsFoundFile store.map f × IfTold history (λ now. IsCleanFile (files_of now) store.map number → ⊥)
-IsFoundAs store history number None = (MayBeEmptied store.files.files number → ⊥) ⊎ (IsFullToEnd store number × IfTold history (λ now. IsCleanFile (files_of now) store.map number))
+abbrev pub IsFileFound : {D : Type 0} → StoreValue D → Option History → ℕ → Option FoundFile → Type 0
+IsFileFound store history number (Some f) = (f.file.0 ≡ number) × MayBeEmptied store.files.files number × IsFoundFile store.map f × IfTold history (λ now. IsCleanFile (files_of now) store.map number → ⊥)
+IsFileFound store history number None = (MayBeEmptied store.files.files number → ⊥) ⊎ (IsFullToEnd store number × IfTold history (λ now. IsCleanFile (files_of now) store.map number))
 
 -- within the crate: a file was looked at, and listed if it is to be emptied
 pub record IsVisited {D : Type 0} (store : StoreValue D) (history : Option History) (number : ℕ) (before after : List FoundFile) : Type 0 where
   pub found : Option FoundFile
-  pub is : IsFoundAs store history number found
+  pub is : IsFileFound store history number found
   pub listed : after ≡ before ++ option_to_list found
 
 -- how many targets files need
@@ -126,7 +126,7 @@ targets_in files = count_by (λ f. f.is_wanted) files
 
 -- There are numbers for all targets, and each has room in one file.
 pub record HasFound {D : Type 0} (store : StoreValue D) (history : Option History) (found : Found) : Type 0 where
-  pub files : AreFound store history found.files.items
+  pub files : AreUncleanFound store history found.files.items
   pub targets : found.targets ≡ targets_in found.files.items
   pub most : found.most ≡ greatest (λ f. f.messages) found.files.items
   pub numbers : store.files.highest + found.targets ≤ 4294967294
@@ -140,5 +140,5 @@ LacksTargets m drawn files = (4294967294 < drawn + targets_in files) ⊎ ((f : F
 abbrev pub IsFindRefusal : {D : Type 0} → StoreValue D → Option History → Refusal → Type 0
 IsFindRefusal store history refusal.NoMemory = Unit {0}
 IsFindRefusal store history refusal.ReadFault = Unit {0}
-IsFindRefusal store history (refusal.StoreFull most) = (most ≡ 4294967294) × ((files : List FoundFile) × AreFound store history files × LacksTargets store.map store.files.highest files)
+IsFindRefusal store history (refusal.StoreFull most) = (most ≡ 4294967294) × ((files : List FoundFile) × AreUncleanFound store history files × LacksTargets store.map store.files.highest files)
 IsFindRefusal store history other = ⊥

@@ -34,14 +34,6 @@ pub record PurgeValue : Type 0 where
   pub files : ℕ
   pub instances : ℕ
 
--- How many events are still to come at the most: of each file that is left those of its records and four more, one for each known
--- instance, and the reply.
-abbrev pub file_events : {D : Type 0} → StoreValue D → Source → ℕ
-file_events store source = messages_in store.map source.file.0 + 4
-
-abbrev pub instance_events : {D : Type 0} → StoreValue D → ℕ
-instance_events store = length store.instances.known + 2
-
 -- ---- the memory that was taken
 
 -- There is room for the entry of a file that is left, laid out and in the map log: 17 octets, and 8 for each record at the most.
@@ -78,7 +70,7 @@ pub record IsToBegin {D : Type 0} (work : Work) (store : StoreValue D) (source :
   pub room : HasSwitchRoom work store source
 
 -- Each file is another, and so is each target.
-pub record AreApart (sources : List Source) : Type 0 where
+pub record AreSourcesApart (sources : List Source) : Type 0 where
   pub files : AllPairs (λ a b. a.file.0 < b.file.0) sources
   pub targets : AllPairs (λ a b. IfSome a.target (λ t. IfSome b.target (λ u. t.0 < u.0))) sources
 
@@ -114,7 +106,7 @@ pub record IsCopyingTo {D : Type 0} (target : ℕ) (source : Source) (work : Wor
 -- ---- by stage
 
 -- the present file is emptied, and its target is being written
-pub record IsCopied {D : Type 0} (source : Source) (work : Work) (store : StoreValue D) (history : Option History) : Type 0 where
+pub record IsSourceCopied {D : Type 0} (source : Source) (work : Work) (store : StoreValue D) (history : Option History) : Type 0 where
   pub emptied : is_emptied_in source.file.0 store.files.files ≡ true
   pub undropped : source.dropped.items ≡ []
   pub room : HasSwitchRoom work store source
@@ -124,7 +116,7 @@ pub record IsCopied {D : Type 0} (source : Source) (work : Work) (store : StoreV
 
 abbrev pub IsCopyingFirst : {D : Type 0} → List Source → Work → StoreValue D → Option History → Type 0
 IsCopyingFirst [] work store history = ⊥
-IsCopyingFirst (source ∷ left) work store history = IsCopied source work store history × All (IsToBegin work store) left
+IsCopyingFirst (source ∷ left) work store history = IsSourceCopied source work store history × All (IsToBegin work store) left
 
 -- the present file is doomed, has neither a pin nor a record's region, and is to be removed
 abbrev pub IsRemovingFirst : {D : Type 0} → List Source → Work → StoreValue D → Type 0
@@ -141,16 +133,7 @@ abbrev pub HasBlock : Work → Type 0
 HasBlock work = length work.block.items ≡ 65536
 
 abbrev pub HasPurged : {D : Type 0} → PurgeStage → StoreValue D → Option History → Type 0
-HasPurged (stage.Begin work) store history = HasBlock work × AreApart (sources_left work) × IsBeginningFirst (sources_left work) work store
-HasPurged (stage.Copying work) store history = HasBlock work × AreApart (sources_left work) × IsCopyingFirst (sources_left work) work store history
-HasPurged (stage.Removing work) store history = HasBlock work × AreApart (sources_left work) × IsRemovingFirst (sources_left work) work store
+HasPurged (stage.Begin work) store history = HasBlock work × AreSourcesApart (sources_left work) × IsBeginningFirst (sources_left work) work store
+HasPurged (stage.Copying work) store history = HasBlock work × AreSourcesApart (sources_left work) × IsCopyingFirst (sources_left work) work store history
+HasPurged (stage.Removing work) store history = HasBlock work × AreSourcesApart (sources_left work) × IsRemovingFirst (sources_left work) work store
 HasPurged other store history = Unit {0}
-
--- ---- its numbers
-
--- The numbers that it counts fit: so many files it has emptied, each with at most 4,294,967,295 records; and it removes no more instances
--- than are known, and than are still placed.
-pub record HasCountRoom {D : Type 0} (t : PurgeValue) (store : StoreValue D) : Type 0 where
-  pub dropped : t.dropped ≤ t.files * 4294967295
-  pub files : t.files ≤ 4294967294
-  pub instances : t.instances + length store.instances.known ≤ 9223372036854775808 + store.instances.highest

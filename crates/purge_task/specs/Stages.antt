@@ -48,14 +48,14 @@ pub record IsLastOf (Behind : List ℕ → EventPart → Type 0) (own : List Run
 -- ---- its own events
 
 -- the file as the event tells it that took it: 0 stands for a target where there is none
-abbrev pub taken_of : Source → TakenFile
-taken_of source = record { file = source.file.0; target = option_map_or (λ t. t.0) source.target 0 }
+abbrev pub told_taken : Source → TakenFile
+told_taken source = record { file = source.file.0; target = option_map_or (λ t. t.0) source.target 0 }
 
 -- Its own events took these files, of which those in front are done.
 pub record HaveTaken (done left : List Source) (own : List RunEvent) : Type 0 where
-  pub taken : flat_map (λ e. e.files) own ≡ map taken_of (done ++ left)
-  pub done_are : All (λ source. is_done own (taken_of source) ≡ true) done
-  pub left_are : All (λ source. is_done own (taken_of source) ≡ false) left
+  pub taken : flat_map (λ e. e.files) own ≡ map told_taken (done ++ left)
+  pub done_are : All (λ source. is_done own (told_taken source) ≡ true) done
+  pub left_are : All (λ source. is_done own (told_taken source) ≡ false) left
 
 -- Of the records of a file they copied those that are listed as copied.
 abbrev pub HaveCopied : MapMeaning → List RunEvent → Source → Type 0
@@ -68,7 +68,7 @@ pub record HasCounted (t : PurgeValue) (run : Run) (place : ℕ) : Type 0 where
   pub instances : t.instances ≡ instances_gone_by place run
 
 -- The purge is under way. What it has copied is said of the map of a store that isn't stopped.
-pub record IsUnderWay {D : Type 0} (t : PurgeValue) (done left : List Source) (Behind : List ℕ → EventPart → Type 0) (store : StoreValue D) (run : Run) (place : ℕ) (said : List Reply) : Type 0 where
+pub record IsPurging {D : Type 0} (t : PurgeValue) (done left : List Source) (Behind : List ℕ → EventPart → Type 0) (store : StoreValue D) (run : Run) (place : ℕ) (said : List Reply) : Type 0 where
   pub unsaid : said ≡ []
   pub last : IsLastOf Behind (own_events place run)
   pub unrefused : last_refusal (own_events place run) ≡ None
@@ -81,7 +81,7 @@ pub record IsUnderWay {D : Type 0} (t : PurgeValue) (done left : List Source) (B
 -- The present file of those that are left was switched.
 abbrev pub IsAtSwitched : {D : Type 0} → PurgeValue → List Source → StoreValue D → Run → ℕ → List Reply → Type 0
 IsAtSwitched t [] store run place said = ⊥
-IsAtSwitched t (source ∷ left) store run place said = (front : List Source) × IsUnderWay t (front ++ source ∷ []) left (RemovesBehind run source.file.0) store run place said
+IsAtSwitched t (source ∷ left) store run place said = (front : List Source) × IsPurging t (front ++ source ∷ []) left (RemovesBehind run source.file.0) store run place said
 
 -- The stage behind a file: the next file's, or that of instances.
 abbrev pub IsNextStage : Work → PurgeStage → Type 0
@@ -92,12 +92,12 @@ abbrev pub went_on : Work → Work
 went_on work = record work { next = work.next + 1; from = 0 }
 
 -- At which stage it stands, by its store, of a run, of its place in the script, and of the answers of its steps.
-abbrev pub IsAtStage : {D : Type 0} → PurgeStage → PurgeValue → StoreValue D → Run → ℕ → List Reply → Type 0
-IsAtStage stage.First t store run place said = HasNotBegun run place said
-IsAtStage (stage.Begin work) t store run place said = (done : List Source) × IsUnderWay t done (sources_left work) (GoesOnBehind run) store run place said
-IsAtStage (stage.Copying work) t store run place said = (done : List Source) × IsUnderWay t done (sources_left work) (λ doomed part. CopiesBehind part) store run place said
-IsAtStage (stage.Removing work) t store run place said = IsAtSwitched t (sources_left work) store run place said
-IsAtStage stage.Instances t store run place said = (done : List Source) × IsUnderWay t done [] (GoesOnBehind run) store run place said
+abbrev pub IsAtPurgeStage : {D : Type 0} → PurgeStage → PurgeValue → StoreValue D → Run → ℕ → List Reply → Type 0
+IsAtPurgeStage stage.First t store run place said = HasNotBegun run place said
+IsAtPurgeStage (stage.Begin work) t store run place said = (done : List Source) × IsPurging t done (sources_left work) (GoesOnBehind run) store run place said
+IsAtPurgeStage (stage.Copying work) t store run place said = (done : List Source) × IsPurging t done (sources_left work) (λ doomed part. CopiesBehind part) store run place said
+IsAtPurgeStage (stage.Removing work) t store run place said = IsAtSwitched t (sources_left work) store run place said
+IsAtPurgeStage stage.Instances t store run place said = (done : List Source) × IsPurging t done [] (GoesOnBehind run) store run place said
 
 abbrev pub IsAtPurge : {D : Type 0} → PurgeValue → StoreValue D → Run → ℕ → List Reply → Type 0
-IsAtPurge t store run place said = IsAtStage t.stage t store run place said
+IsAtPurge t store run place said = IsAtPurgeStage t.stage t store run place said

@@ -29,7 +29,7 @@ use Rattle.purge_task.specs.declared.work.Work.{Work}
 -- ---- the entry
 
 -- Of what was copied that moves which is wanted now, and of the file's records those are dropped that aren't, each in order of map uid.
-pub record AreListed (m : MapMeaning) (file : ℕ) (copied moved : List MapPlace) (dropped : List MapUid) : Type 0 where
+pub record AreSwitchLists (m : MapMeaning) (file : ℕ) (copied moved : List MapPlace) (dropped : List MapUid) : Type 0 where
   pub moved_rising : IsStrictlyIncreasing (map (λ p. p.uid.0) moved)
   pub moved_copied : All (λ p. Contains copied p × HasRecord m p.uid.0 (λ row. 1 ≤ row.count)) moved
   pub copied_moved : All (λ p. HasRecord m p.uid.0 (λ row. 1 ≤ row.count) → Contains moved p) copied
@@ -69,9 +69,9 @@ abbrev pub switch_entry : Source → MapEntry
 switch_entry source = map_entry.P source.file (target_named source.target source.copied.items) source.copied.items source.dropped.items
 
 -- the source with what is listed now
-pub record IsListed (m : MapMeaning) (old new : Source) : Type 0 where
+pub record IsSourceListed (m : MapMeaning) (old new : Source) : Type 0 where
   pub same : new ≡ record old { copied = new.copied; dropped = new.dropped }
-  pub lists : AreListed m old.file.0 old.copied.items new.copied.items new.dropped.items
+  pub lists : AreSwitchLists m old.file.0 old.copied.items new.copied.items new.dropped.items
 
 -- within the crate: a source whose records can be listed
 pub record IsListable (m : MapMeaning) (source : Source) : Type 0 where
@@ -80,11 +80,11 @@ pub record IsListable (m : MapMeaning) (source : Source) : Type 0 where
   pub undropped : source.dropped.items ≡ []
 
 -- the entry that moves and drops what is listed of a source
-pub record IsEntryOf (m : MapMeaning) (source : Source) (entry : MapEntry) : Type 0 where
+pub record IsSwitchEntry (m : MapMeaning) (source : Source) (entry : MapEntry) : Type 0 where
   pub moved : List MapPlace
   pub dropped : List MapUid
   pub is : entry ≡ map_entry.P source.file (target_named source.target moved) moved dropped
-  pub listed : AreListed m source.file.0 source.copied.items moved dropped
+  pub listed : AreSwitchLists m source.file.0 source.copied.items moved dropped
 
 abbrev pub dropped_count : MapEntry → ℕ
 dropped_count (map_entry.P number target moved dropped) = length dropped
@@ -186,7 +186,7 @@ files_switched source (Some target) files = released_in target.0 (changed_in sou
 pub record IsSwitched {D : Type 0} (source : Source) (switched : Switched) (old new : StoreValue D) : Type 0 where
   pub moved : List MapPlace
   pub dropped : List MapUid
-  pub listed : AreListed old.map source.file.0 source.copied.items moved dropped
+  pub listed : AreSwitchLists old.map source.file.0 source.copied.items moved dropped
   pub fits : MapFits old.map (map_entry.P source.file (target_named source.target moved) moved dropped)
   pub map_is : new.map ≡ map_applied (map_entry.P source.file (target_named source.target moved) moved dropped) old.map
   pub same : new ≡ record old { disk = new.disk; map_log = new.map_log; map = new.map; dues = new.dues; files = record old.files { files = files_switched source.file.0 source.target old.files.files } }

@@ -27,14 +27,14 @@ abbrev pub next_number : {D : Type 0} → StoreValue D → FileNo
 next_number store = record { 0 = store.files.highest + 1 }
 
 -- the store with the file taken to be emptied, and with the next number drawn for its target
-abbrev pub file_taken : {D : Type 0} → ℕ → StoreValue D → StoreValue D
-file_taken number store = record store { files = record store.files { files = changed_in number to_empty store.files.files } }
+abbrev pub taken_to_empty : {D : Type 0} → ℕ → StoreValue D → StoreValue D
+taken_to_empty number store = record store { files = record store.files { files = changed_in number to_empty store.files.files } }
 
 abbrev pub target_drawn : {D : Type 0} → StoreValue D → StoreValue D
 target_drawn store = record store { files = after_take (New (next_number store)) store.files; drawn = record store.drawn { file = store.files.highest + 1 } }
 
 abbrev pub source_taken : {D : Type 0} → StoreValue D → Source → StoreValue D
-source_taken store source = if source.is_wanted then target_drawn (file_taken source.file.0 store) else file_taken source.file.0 store
+source_taken store source = if source.is_wanted then target_drawn (taken_to_empty source.file.0 store) else taken_to_empty source.file.0 store
 
 abbrev pub with_target : ℕ → Source → Source
 with_target drawn source = if source.is_wanted then record source { target = Some (record { 0 = drawn + 1 }) } else source

@@ -12,7 +12,7 @@ ghost use Rattle.storage_files.specs.Files.{end_in, place_begun_in};
 ghost use Rattle.storage_files.specs.OnDisk.{IsPieceAdded};
 ghost use Rattle.store_core.specs.Dues.{KeepsStored};
 ghost use Rattle.purge_task.specs.Claims.{sources_left};
-ghost use Rattle.purge_task.specs.Copied.{AreUnwantedFrom, CopyFaultCounted, IsCopyRefusal, IsNextWanted, IsRegionAdded, IsRowOf, IsTargetAt, NotesCopy, whole_piece};
+ghost use Rattle.purge_task.specs.Copied.{AreUnwantedFrom, CopyFaultCounted, IsCopyRefusal, IsNextWanted, IsRegionAdded, IsShownRow, IsTargetAt, NotesCopy, whole_piece};
 ghost use Rattle.purge_task.specs.Reserved.{HasRoomForCopy};
 
 use crate::work::{PIECE, Work};
@@ -46,7 +46,7 @@ pub fn copy_message<D: Disk>(
     row: MapRow,
 ) -> Result<(), Refusal>
     requires running { store.old.stopped ≡ false }
-    requires row { IsRowOf store.old.map row }
+    requires row { IsShownRow store.old.map row }
     requires begun { (start : ℕ) × (place_begun_in target.0 store.old.files.files ≡ Some start) }
     requires fits { (end : ℕ) × (end_in target.0 store.old.files.files ≡ Some end) × (end + row.size ≤ 4294967295) }
     requires other { row.file.0 ≢ target.0 }
@@ -87,7 +87,7 @@ fn copy_region<D: Disk>(
     row: MapRow,
 ) -> Result<(), Refusal>
     requires running { store.old.stopped ≡ false }
-    requires row { IsRowOf store.old.map row }
+    requires row { IsShownRow store.old.map row }
     requires begun { (start : ℕ) × (place_begun_in target.0 store.old.files.files ≡ Some start) }
     requires fits { (end : ℕ) × (end_in target.0 store.old.files.files ≡ Some end) × (end + row.size ≤ 4294967295) }
     requires other { row.file.0 ≢ target.0 }

@@ -5,7 +5,7 @@ ghost use Rattle.disk_model.specs.FaultCounts.{NoFault, ReadFaultCounted};
 ghost use Rattle.mdbox_base.specs.declared.replies.Refusal.TheVariants as refusal;
 ghost use Rattle.model_meaning.specs.MapMeaning.{greatest};
 ghost use Rattle.storage_files.specs.Files.{end_in, is_doomed_in, is_emptied_in, is_sealed_in, is_taken_in};
-ghost use Rattle.purge_task.specs.Found.{AreFound, HasFound, IsFindRefusal, IsFoundAs, IsReadRefusal, IsVisited, targets_in};
+ghost use Rattle.purge_task.specs.Found.{AreUncleanFound, HasFound, IsFindRefusal, IsFileFound, IsReadRefusal, IsVisited, targets_in};
 ghost use Rattle.purge_task.specs.declared.finding.FoundFile.{FoundFile as FoundFileValue};
 
 use crate::contents::Contents;
@@ -72,7 +72,7 @@ impl Found {
 /// The files that a purge takes.
 fn unclean_files<D: Disk>(store: &mut Store<D>) -> Result<Vec<FoundFile>, Refusal>
     requires running { store.old.stopped ≡ false }
-    ensures found { IfOk result (λ files. AreFound store.old (D.history store.old.disk) files.items) }
+    ensures found { IfOk result (λ files. AreUncleanFound store.old (D.history store.old.disk) files.items) }
     ensures refused { IfErr result IsReadRefusal }
     ensures same { store.new ≡ record store.old { disk = store.new.disk } }
     ensures idle { IsIdle (D.history store.old.disk) (D.history store.new.disk) }
@@ -124,7 +124,7 @@ fn add_found(files: &mut Vec<FoundFile>, found: FoundFile) -> Result<(), Refusal
 fn find_file<D: Disk>(store: &mut Store<D>, file: FileNo) -> Result<Option<FoundFile>, Refusal>
     requires running { store.old.stopped ≡ false }
     requires there { IsSome (end_in file.0 store.old.files.files) }
-    ensures found { IfOk result (IsFoundAs store.old (D.history store.old.disk) file.0) }
+    ensures found { IfOk result (IsFileFound store.old (D.history store.old.disk) file.0) }
     ensures refused { IfErr result IsReadRefusal }
     ensures same { store.new ≡ record store.old { disk = store.new.disk } }
     ensures idle { IsIdle (D.history store.old.disk) (D.history store.new.disk) }

@@ -14,7 +14,7 @@ ghost use Rattle.storage_files.specs.Files.{changed_in, is_taken_in, made_doomed
 ghost use Rattle.store_core.specs.Keeping.{KeepsFirm, KeepsMail};
 ghost use Rattle.purge_task.specs.Claims.{sources_left};
 ghost use Rattle.purge_task.specs.Found.{messages_in};
-ghost use Rattle.purge_task.specs.Switched.{AreDropped, AreMoved, AreUnwanted, IsEntryOf, IsFirst, IsListable, IsListed, IsPlacingIn, IsReadyAppend, IsReadyToSwitch, IsSwitched, KeepsTarget, ReadsMail, SpendsFirst, dropped_count, is_wanted_at, switch_entry, target_released, target_synced};
+ghost use Rattle.purge_task.specs.Switched.{AreDropped, AreMoved, AreUnwanted, IsSwitchEntry, IsFirst, IsListable, IsSourceListed, IsPlacingIn, IsReadyAppend, IsReadyToSwitch, IsSwitched, KeepsTarget, ReadsMail, SpendsFirst, dropped_count, is_wanted_at, switch_entry, target_released, target_synced};
 ghost use Rattle.purge_task.specs.declared.work.Source.{Source as SourceValue};
 
 use crate::work::{Source, Work};
@@ -123,7 +123,7 @@ fn release_target<D: Disk>(store: &mut Store<D>, target: Option<FileNo>)
 fn make_entry(map: &MapIndex, work: &mut Work) -> MapEntry
     requires sound { IsSoundMap map.now.meaning }
     requires listable { IsFirst (sources_left work.old) (IsListable map.now.meaning) }
-    ensures entry { IsFirst (sources_left work.old) (λ source. IsEntryOf map.now.meaning source result) }
+    ensures entry { IsFirst (sources_left work.old) (λ source. IsSwitchEntry map.now.meaning source result) }
     ensures spent { SpendsFirst (sources_left work.old) (sources_left work.new) }
     ensures same { work.new ≡ record work.old { sources = work.new.sources } }
 {
@@ -135,7 +135,7 @@ fn make_entry(map: &MapIndex, work: &mut Work) -> MapEntry
 fn spend(map: &MapIndex, alloc: Global, source: &mut Source) -> MapEntry
     requires sound { IsSoundMap map.now.meaning }
     requires listable { IsListable map.now.meaning source.old }
-    ensures entry { IsEntryOf map.now.meaning source.old result }
+    ensures entry { IsSwitchEntry map.now.meaning source.old result }
     ensures same { source.new ≡ record source.old { copied = source.new.copied; dropped = source.new.dropped } }
 {
     list_records(map, source);
@@ -211,7 +211,7 @@ fn list_records(map: &MapIndex, source: &mut Source)
     requires once { AllPairs (λ a b. a.uid.0 ≢ b.uid.0) source.old.copied.items }
     requires room { messages_in map.now.meaning source.old.file.0 ≤ vec_capacity source.old.dropped }
     requires undropped { source.old.dropped.items ≡ [] }
-    ensures { IsListed map.now.meaning source.old source.new }
+    ensures { IsSourceListed map.now.meaning source.old source.new }
 {
     list_moved(map, &mut source.copied);
     list_dropped(map, source.file, &mut source.dropped);

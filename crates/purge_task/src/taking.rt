@@ -12,7 +12,7 @@ ghost use Rattle.storage_files.specs.OnDisk.{OthersAreNamed};
 ghost use Rattle.store_core.specs.Dues.{KeepsStored};
 ghost use Rattle.purge_task.specs.Keeping.{target_header};
 ghost use Rattle.purge_task.specs.Reserved.{IsNewWork};
-ghost use Rattle.purge_task.specs.Taken.{CanTake, CanTakeAll, file_taken, source_taken, take_all, target_drawn, targets_given, with_target};
+ghost use Rattle.purge_task.specs.Taken.{CanTake, CanTakeAll, taken_to_empty, source_taken, take_all, target_drawn, targets_given, with_target};
 
 use crate::finding::{Found, TARGET_HEADER};
 use crate::work::{Source, Work, entry_size};

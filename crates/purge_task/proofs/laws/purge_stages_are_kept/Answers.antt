@@ -19,6 +19,9 @@ use Rattle.purge_task.proofs.RemovalLemmas.{removing_steps}
 use Rattle.purge_task.proofs.RemovalSeenLemmas.{removal_comes}
 use Rattle.purge_task.proofs.RunLemmas.{taken_on, taken_still}
 use Rattle.purge_task.proofs.EventLemmas.{did_stopped}
+use Rattle.purge_task.proofs.TakeableLemmas.{can_take_all}
+use Rattle.purge_task.proofs.TakenClaimLemmas.{takes_moves}
+use Rattle.purge_task.proofs.TakenStateLemmas.{emptied_all}
 use Rattle.purge_task.proofs.laws.purge_stages_are_kept.Goals as goal
 
 pub returns : goal.returns
