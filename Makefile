@@ -56,6 +56,8 @@ bench: all
 	bench/fetch
 	bench/deliver
 	bench/attach
+	bench/rebuild
+	bench/hostile
 	bench/ops
 	cd crates/log_bench && rt run -- 1
 	bench/sync

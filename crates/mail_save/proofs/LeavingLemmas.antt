@@ -5,6 +5,7 @@ use Rattle.std.specs.Option.{option_map}
 use Rattle.std.proofs.lemmas.Bool.{cases_eq, cond-false, ne_eqb}
 use Rattle.std.proofs.lemmas.List.{append-nil, drop-append-le, length-append, length-drop, take-append-le}
 use Rattle.std.proofs.lemmas.List.Elements.{All-append, All-cons, All-nil}
+use Rattle.std.proofs.lemmas.Option.{same_Some}
 use Rattle.attach_detach.specs.declared.message.Detached.{Detached}
 use Rattle.disk_model.specs.Disk.{DiskState, History, Between, reading}
 use Rattle.disk_model.specs.declared.name.FileName.{FileName}
@@ -28,10 +29,10 @@ use Rattle.storage_files.specs.declared.file.Take.{Take}
 use Rattle.storage_files.specs.declared.file.Take.TheVariants.{Known, New, Full}
 use Rattle.store_core.specs.Keeping.{KeepsInstances, KeepsUids}
 use Rattle.store_core.specs.Value.{StoreValue}
-use Rattle.task_claims.proofs.CountedLemmas.{all_same, found_same, rows_same}
+use Rattle.task_claims.proofs.CountedLemmas.{all_same, found_same, rows_same, same_map, unraised_same}
 use Rattle.task_claims.proofs.RestLemmas.{instance_kept}
 use Rattle.task_claims.specs.Claims.{Claims}
-use Rattle.task_claims.specs.Leaving.{HasRegionOctets, HaveSameInstances, IsSameOrSynced, LeavesOthers, LeavesRecord, LeavesUnlisted, OthersTook, SameButCounts, but_count, records_within}
+use Rattle.task_claims.specs.Leaving.{HasRegionOctets, HaveSameInstances, IsSameOrSynced, LeavesOthers, LeavesRecord, LeavesUnlisted, OthersTook, RaisesNone, SameButCounts, but_count, records_within}
 use Rattle.mail_save.specs.Left.{HoldsRegion}
 use Rattle.mail_save.specs.MailFiles.{AddsInstance, HasAppended, ReadsSameMail, TakesWithHeader, WritesAttachment}
 use Rattle.mail_save.specs.Record.{entry_stored}
@@ -50,13 +51,19 @@ pub record LeavesRecords (Own : ℕ → Type 0) (m n : MapMeaning) : Type 0 wher
   pub records : (uid : ℕ) (row : MapRecord) → record_at m uid ≡ Some row → (now : MapRecord) × (record_at n uid ≡ Some now) × (but_count now ≡ but_count row)
   pub within : (number : ℕ) → (Own number → ⊥) → records_within number n ≡ records_within number m
   pub guids : (number : ℕ) → (Own number → ⊥) → (guid : List ℕ) → number_at 8 guid ≡ number → All (λ row. row.guid ≢ guid) m.records → All (λ row. row.guid ≢ guid) n.records
+  pub unraised : RaisesNone m n
 
-pub counts_leave : (Own : ℕ → Type 0) (m n : MapMeaning) → SameButCounts m n → LeavesRecords Own m n
-counts_leave Own m n same = record {
+pub counts_leave : (Own : ℕ → Type 0) (m n : MapMeaning) → SameButCounts m n → RaisesNone m n → LeavesRecords Own m n
+counts_leave Own m n same unraised = record {
   records = λ uid row there. found_same uid m.records n.records row same there;
   within = λ number other. rows_same number m n same;
   guids = λ number other guid of all. all_same (λ row. row.guid ≢ guid) m.records n.records (λ a b e away is. away (sym (ap (λ (r : MapRecord). r.guid) e) ∙ is)) same all;
+  unraised = unraised;
 }
+
+-- the same map
+pub same_leave : (Own : ℕ → Type 0) (m n : MapMeaning) → n ≡ m → LeavesRecords Own m n
+same_leave Own m n e = counts_leave Own m n (same_map m n e) (unraised_same m n (ap (λ (k : MapMeaning). k.records) e))
 
 within_more : (number : ℕ) (r : MapRecord) (xs : List MapRecord) → r.file ≢ number → filter (λ row. row.file == number) (map but_count (xs ++ r ∷ [])) ≡ filter (λ row. row.file == number) (map but_count xs)
 within_more number r [] other = cond-false (r.file == number) (but_count r ∷ []) [] (ne_eqb r.file number other)
@@ -72,6 +79,9 @@ stored_leave uid at rows m place =
       within = λ number other. ap (λ (rs : List MapRecord). filter (λ r. r.file == number) (map but_count rs)) is ∙ within_more number row m.records (λ e. other (sym e));
       guids = λ number other guid of all. subst (λ (rs : List MapRecord). All (λ r. r.guid ≢ guid) rs) (sym is)
           (All-append (λ (r : MapRecord). r.guid ≢ guid) m.records (row ∷ []) all (All-cons (λ (r : MapRecord). r.guid ≢ guid) row [] (λ e. other (sym of ∙ (ap (number_at 8) (sym e) ∙ place))) (All-nil (λ (r : MapRecord). r.guid ≢ guid))));
+      unraised = λ u found now there none at.
+          let e : now ≡ found = same_Some now found (sym at ∙ (ap (λ (rs : List MapRecord). find (λ r. r.uid == u) rs) is ∙ find_first (λ r. r.uid == u) m.records (row ∷ []) found there)) in
+          ap (λ (r : MapRecord). r.count) e ∙ none;
     }
 
 -- ---- what is known of storage files
@@ -264,6 +274,7 @@ leaves_by mine Own old new before after keeps uids draws room rows known mail un
     reads = between-map GrowsMail (λ a b. (octets : List ℕ) → reading (a (Mail number)) ≡ Some octets → (more : List ℕ) × (reading (b (Mail number)) ≡ Some (octets ++ more))) before after (λ a b m octets is. m.0 number octets is) mail.grows;
   };
   instances = λ row is more. instance_kept row old new before after keeps is;
+  unraised = rows.unraised;
   store = keeps.store;
   numbers = draws.numbers;
   mailboxes = draws.mailboxes;

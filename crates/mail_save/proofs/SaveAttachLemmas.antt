@@ -132,7 +132,7 @@ places_more pins parts attaching more next name time size octets how old new bef
       used = files.used;
       unused = λ n k. absurd (let w : false ≡ true = sym (ap (λ (fs : List ℕ). is_one_of fs n) unmade) ∙ k in cc w);
       barred = files.barred;
-      gave = λ guid k. gave_on old new guid id (let d = ap (λ (h : Highest). h.file) drawn in omega (arith, d)) (same_ends old new files ends).gave k;
+      gave = λ guid k. gave_on old new guid id (let d = ap (λ (h : Highest). h.file) drawn in omega (arith, d)) files.gave k;
       given = λ guid some. absurd (none_given guid event.given none some);
       gone = λ i k. gone_on old new i id (let d = ap (λ (h : Highest). h.instance) drawn in omega (arith, d)) k;
       files = λ n there. inl ((same_ends old new files ends).known n there);

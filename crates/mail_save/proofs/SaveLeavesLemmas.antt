@@ -23,7 +23,7 @@ use Rattle.store_core.specs.Dues.{due_at}
 use Rattle.store_core.specs.Keeping.{KeepsInstances, KeepsUids}
 use Rattle.store_core.specs.Running.{IsStore}
 use Rattle.store_core.specs.Value.{StoreValue, indexes_of, references_to}
-use Rattle.task_claims.proofs.CountedLemmas.{lowered_same, same_map}
+use Rattle.task_claims.proofs.CountedLemmas.{lowered_same, unraised_lower}
 use Rattle.task_claims.specs.Claims.{Claims, Taken, one_if}
 use Rattle.task_claims.specs.Leaving.{LeavesOthers, LeavesUnlisted, OthersTook}
 use Rattle.mail_save.specs.Claims.{save_claims}
@@ -33,7 +33,7 @@ use Rattle.mail_save.specs.Task.{HasLeft, RepliesAt, Saves, stopped_reply}
 use Rattle.mail_save.specs.declared.task.SaveStage.{SaveStage}
 use Rattle.mail_save.specs.declared.task.SaveStage.TheVariants as stage
 use Rattle.mail_save.proofs.AttachEventLemmas.{IsAttachChange, attached_change, unattached_change}
-use Rattle.mail_save.proofs.LeavingLemmas.{LeavesMailBut, LeavesRecords, counts_leave, leaves_by, mail_appended, mail_attached, mail_same, mail_taken, placing_known, released_known, same_known, stored_leave, taking_known}
+use Rattle.mail_save.proofs.LeavingLemmas.{LeavesMailBut, LeavesRecords, counts_leave, same_leave, leaves_by, mail_appended, mail_attached, mail_same, mail_taken, placing_known, released_known, same_known, stored_leave, taking_known}
 use Rattle.mail_save.proofs.SaveClaimLemmas.{stopped_runs}
 use Rattle.mail_save.proofs.SaveEventLemmas.{unfallen}
 use Rattle.mail_save.proofs.SaveFileLemmas.{take_found, taken_undoomed, taken_unemptied}
@@ -128,7 +128,7 @@ record Leaves {D : Type 0} (old new : StoreValue D) (before after : Option Histo
 
 quiet_leaves : {D : Type 0} → (mine : Claims) (old new : StoreValue D) (before after : Option History) → Leaves old new before after → LeavesMailBut NoFile before after → IsQuiet old new → LeavesOthers mine old new before after
 quiet_leaves mine old new before after l mail q =
-    leaves_by mine NoFile old new before after l.keeps l.uids l.draws l.room (counts_leave NoFile old.map new.map (same_map old.map new.map q.map)) (same_known NoFile old.files.files new.files.files q.files) mail
+    leaves_by mine NoFile old new before after l.keeps l.uids l.draws l.room (same_leave NoFile old.map new.map q.map) (same_known NoFile old.files.files new.files.files q.files) mail
     (same_unlisted mine old new q.indexes (λ uid none rec found. due_stays old new uid q.map q.dues)) (λ number took own. own)
 
 -- instances are let go behind an event
@@ -156,7 +156,7 @@ event_leaves (stage.Attaching parts attaching) stage.Ended name time size (progr
 event_leaves (stage.Taking parts) (stage.Placing laid file) name time size progress.More old new before after is ran order left runs stops replies l w e =
     let t = e.1 in
     let map : new.map ≡ old.map = ap (λ (v : StoreValue _). v.map) t.same in
-    leaves_by (save_claims (stage.Taking parts)) (λ number. number ≡ file.0) old new before after l.keeps l.uids l.draws l.room (counts_leave (λ number. number ≡ file.0) old.map new.map (same_map old.map new.map map))
+    leaves_by (save_claims (stage.Taking parts)) (λ number. number ≡ file.0) old new before after l.keeps l.uids l.draws l.room (same_leave (λ number. number ≡ file.0) old.map new.map map)
     (taking_known (length parts.header) (length parts.laid.region) file old new t) (mail_taken parts.header file.0 old before after ((is.running ran).files_known file.0) w)
     (same_unlisted (save_claims (stage.Taking parts)) old new (ap (λ (v : StoreValue _). indexes_of v.boxes) t.same) (λ uid none rec found. due_stays old new uid map (ap (λ (v : StoreValue _). v.dues) t.same)))
     (λ number took own. free_apart (save_claims (stage.Taking parts)) (length parts.header) (length parts.laid.region) file old new number order t took own)
@@ -164,7 +164,7 @@ event_leaves (stage.Taking parts) stage.Ended name time size (progress.Done (rep
     quiet_leaves (save_claims (stage.Taking parts)) old new before after l (mail_same NoFile before after w) (quiet_let_go parts.rows old e.0 new e.2 (quiet_untaken (length parts.laid.region) why old e.0 (sym (ap (λ (v : StoreValue _). v.stopped) e.2) ∙ runs) e.1))
 event_leaves (stage.Placing parts file) (stage.Storing at rows room) name time size progress.More old new before after is ran order left runs stops replies l w e =
     let map : new.map ≡ old.map = ap (λ (v : StoreValue _). v.map) e.same in
-    leaves_by (save_claims (stage.Placing parts file)) (λ number. number ≡ file.0) old new before after l.keeps l.uids l.draws l.room (counts_leave (λ number. number ≡ file.0) old.map new.map (same_map old.map new.map map))
+    leaves_by (save_claims (stage.Placing parts file)) (λ number. number ≡ file.0) old new before after l.keeps l.uids l.draws l.room (same_leave (λ number. number ≡ file.0) old.map new.map map)
     (placing_known parts file at rows old new e) (mail_appended _ file.0 before after (w left.0.0.2.prepared left.0.0.2.laid))
     (same_unlisted (save_claims (stage.Placing parts file)) old new (ap (λ (v : StoreValue _). indexes_of v.boxes) e.same) (λ uid none rec found. due_stays old new uid map (ap (λ (v : StoreValue _). v.dues) e.same)))
     (λ number took own. own_apart (save_claims (stage.Placing parts file)) old file.0 number order left.1.taken (at_one file.0) took own)
@@ -188,18 +188,18 @@ event_leaves (stage.Storing at rows room) stage.Ended name time size (progress.D
     by_cause (inl k) = stopped_runs why new.stopped stops runs k.0
     by_cause (inr k) =
         let map : new.map ≡ old.map = ap (λ (v : StoreValue _). v.map) e.2 ∙ ap (λ (v : StoreValue _). v.map) k.1.same in
-        leaves_by mine (λ number. number ≡ at.file.0) old new before after l.keeps l.uids l.draws l.room (counts_leave (λ number. number ≡ at.file.0) old.map new.map (same_map old.map new.map map))
+        leaves_by mine (λ number. number ≡ at.file.0) old new before after l.keeps l.uids l.draws l.room (same_leave (λ number. number ≡ at.file.0) old.map new.map map)
         (released_known at old new left.0 (ap (λ (v : StoreValue _). v.files.files) e.2 ∙ ap (λ (v : StoreValue _). v.files.files) k.1.same) (λ number. ap (λ (v : StoreValue _). end_in number v.files.files) e.2 ∙ k.1.ends number))
         (mail_same (λ number. number ≡ at.file.0) before after w)
         (same_unlisted mine old new (ap (λ (v : StoreValue _). indexes_of v.boxes) e.2 ∙ ap (λ (v : StoreValue _). indexes_of v.boxes) k.1.same) (λ uid none rec found. due_stays old new uid map (ap (λ (v : StoreValue _). v.dues) e.2 ∙ ap (λ (v : StoreValue _). v.dues) k.1.same)))
         (λ number took own. own_apart mine old at.file.0 number order left.0.taken (at_one at.file.0) took own)
 event_leaves (stage.Adding added room) stage.Ended name time size (progress.Done (reply.Saved uid guid)) old new before after is ran order left runs stops replies l w e =
-    leaves_by (save_claims (stage.Adding added room)) NoFile old new before after l.keeps l.uids l.draws l.room (counts_leave NoFile old.map new.map (same_map old.map new.map (ap (λ (v : StoreValue _). v.map) e.1.same))) (same_known NoFile old.files.files new.files.files (ap (λ (v : StoreValue _). v.files.files) e.1.same))
+    leaves_by (save_claims (stage.Adding added room)) NoFile old new before after l.keeps l.uids l.draws l.room (same_leave NoFile old.map new.map (ap (λ (v : StoreValue _). v.map) e.1.same)) (same_known NoFile old.files.files new.files.files (ap (λ (v : StoreValue _). v.files.files) e.1.same))
     (mail_same NoFile before after w) (added_unlisted (save_claims (stage.Adding added room)) name added uid old new before (λ u. refl) is left.0 e.1) (λ number took own. own)
 event_leaves (stage.Adding added room) stage.Ended name time size (progress.Done (reply.Refused why)) old new before after is ran order left runs stops replies l w e = quiet_leaves (save_claims (stage.Adding added room)) old new before after l (mail_same NoFile before after w) (quiet_alone old new e)
 event_leaves (stage.Adding added room) (stage.GivingBack uid why kept) name time size progress.More old new before after is ran order left runs stops replies l w e = quiet_leaves (save_claims (stage.Adding added room)) old new before after l (mail_same NoFile before after w) (quiet_same old new e.1)
 event_leaves (stage.GivingBack uid why room) stage.Ended name time size (progress.Done (reply.Refused given)) old new before after is ran order left runs stops replies l w (inl e) =
-    leaves_by (save_claims (stage.GivingBack uid why room)) NoFile old new before after l.keeps l.uids l.draws l.room (subst (λ (m : MapMeaning). LeavesRecords NoFile old.map m) (sym e.1.map) (counts_leave NoFile old.map _ (lowered_same (uid ∷ []) old.map)))
+    leaves_by (save_claims (stage.GivingBack uid why room)) NoFile old new before after l.keeps l.uids l.draws l.room (subst (λ (m : MapMeaning). LeavesRecords NoFile old.map m) (sym e.1.map) (counts_leave NoFile old.map _ (lowered_same (uid ∷ []) old.map) (unraised_lower (uid ∷ []) old.map)))
     (same_known NoFile old.files.files new.files.files (ap (λ (v : StoreValue _). v.files.files) e.1.same)) (mail_same NoFile before after w) (lowered_unlisted (save_claims (stage.GivingBack uid why room)) uid old new (λ u. refl) e.1) (λ number took own. own)
 event_leaves (stage.GivingBack uid why room) stage.Ended name time size (progress.Done (reply.Refused given)) old new before after is ran order left runs stops replies l w (inr e) = quiet_leaves (save_claims (stage.GivingBack uid why room)) old new before after l (mail_same NoFile before after w) (quiet_alone old new e.1)
 event_leaves now next name time size answer old new before after is ran order left runs stops replies l w e = absurd e

@@ -268,7 +268,7 @@ taking_more pins parts laid file name time size octets how old new before after 
     new_files taken kind = ap (λ (v : FilesValue). v.files) (t.files ∙ ap (λ (k : Take). taken_files k (length parts.header) (roomy_files old.files)) kind)
 
     unused_new : (n : ℕ) → n ≡ old.drawn.file + 1 → may_be_used old n ≡ false
-    unused_new n next = ap (λ (b : Bool). b && option_map_or (λ f. f.doomed || is_none f.end) (file_in n old.files.files) true) (above n old.drawn.file next)
+    unused_new n next = ap (λ (b : Bool). b && option_map_or (λ f. f.doomed) (file_in n old.files.files) true) (above n old.drawn.file next)
 
     made_tells : (taken : FileNo) → IsTakeFor (length parts.laid.region) old.files (New taken) → t.take ≡ New taken → taken ≡ file → new.drawn ≡ record old.drawn { file = file.0 } → TellsFiles old new
     made_tells taken is kind same drawn =
@@ -310,7 +310,7 @@ taking_more pins parts laid file name time size octets how old new before after 
           used = (made_tells taken is kind took.0 took.1).used;
           unused = λ n k. unused_new n (sym (only_one file.0 n (sym (ap (λ (fs : List ℕ). is_one_of fs n) made) ∙ k)) ∙ next);
           barred = (made_tells taken is kind took.0 took.1).barred;
-          gave = λ guid k. gave_on old new guid id (omega (arith, drawn, next)) (λ n offset le b. ap (λ (o : Option ℕ). is_before offset o) (took.4 n (λ q. omega (arith, q, le, next))) ∙ b) k;
+          gave = λ guid k. gave_on old new guid id (omega (arith, drawn, next)) (made_tells taken is kind took.0 took.1).gave k;
           given = λ guid some. absurd (let k : false ≡ true = sym (ap (list_any (bytes_eq guid)) none) ∙ some in cc k);
           files = λ n there. elim (cases_eq n file.0) [
             | inl same ↦ inr (ap (λ (fs : List ℕ). is_one_of fs n) made ∙ made_itself file.0 n (sym same))
@@ -389,9 +389,6 @@ taking_refused pins parts why name time size octets how old new before after beg
 some_end : (a b : ℕ) → Some a ≡ Some b → a ≡ b
 some_end a b e = cc e
 
-past_still : (offset end size : ℕ) → is_before offset (Some end) ≡ true → is_before offset (Some (end + size)) ≡ true
-past_still offset end size b = let l = lt_true offset end b in true_lt offset (end + size) (omega (arith, l))
-
 pub placing_more : {D : Type 0} → (pins : ℕ → ℕ) (parts : SavedParts) (file : FileNo) (at : SavedAt) (rows : List InstRow) (room : LowerRoom) (name : List ℕ) (time size : ℕ) (octets : List ℕ) (how : Did) (old new : StoreValue D) (before after : Option History) (began faulted : Faults) → EventOf (stage.Placing parts file) (stage.Storing at rows room) name time size octets progress.More how old new before after began faulted
     → PlacesParts parts file at rows old new → 1 ≤ at.size → DeliveryClause pins octets (stage.Placing parts file) (stage.Storing at rows room) name time progress.More how old new before after began faulted
 placing_more pins parts file at rows room name time size octets how old new before after began faulted e p some =
@@ -420,13 +417,7 @@ placing_more pins parts file at rows room name time size octets how old new befo
       due = λ uid. due_stays old new uid map (ap (λ (v : StoreValue _). v.dues) p.same);
     }) drawn
     (tells_store pins old new before after began faulted e.ran (ap (λ (m : MapMeaning). m.store) map) (omega (arith, number)) (record {
-      tells = tells_ended old new file.0 at.offset (at.offset + at.size) (omega (arith, number)) p.began (ap (λ (v : StoreValue _). v.files.files) p.same);
-      gave = λ n offset le b. elim (cases_eq n file.0) [
-        | inl same ↦
-            ap (λ (k : ℕ). is_before offset (end_in k new.files.files)) same
-            ∙ (ap (λ (o : Option ℕ). is_before offset o) p.ends ∙ past_still offset at.offset at.size (sym (ap (λ (k : ℕ). is_before offset (end_in k old.files.files)) same ∙ ap (λ (o : Option ℕ). is_before offset o) p.began) ∙ b))
-        | inr apart ↦ ap (λ (o : Option ℕ). is_before offset o) (p.others n apart) ∙ b
-      ];
+      tells = tells_ended old new file.0 at.offset at.size (omega (arith, number)) p.began (ap (λ (v : StoreValue _). v.files.files) p.same);
       known = λ n there. elim (cases_eq n file.0) [
         | inl same ↦ ap (λ (k : ℕ). is_some (end_in k old.files.files)) same ∙ ap (λ (o : Option ℕ). is_some o) p.began
         | inr apart ↦ ap (λ (o : Option ℕ). is_some o) (sym (p.others n apart)) ∙ there

@@ -1,8 +1,8 @@
 -- A store before and after an event of a delivery, as the event sees it.
 use Rattle.std.proofs.Common.{◌≡◌, ◌≤◌, ◌<◌, ◌+◌, ◌-◌, ◌^◌, ◌==◌, ◌&&◌, ◌||◌, ℕ, Bool, true, false, not, List, [], ◌∷◌, ◌++◌, length, Option, Some, None, refl, sym, ◌∙◌, ap, subst, arith, inl, inr}
-use Rattle.std.specs.Prelude.{◌/◌, ◌%◌, nat_le, nat_lt, is_none, is_some, ◌≢◌, All, if◌then◌else◌, cond}
+use Rattle.std.specs.Prelude.{◌/◌, ◌%◌, nat_le, nat_lt, is_some, ◌≢◌, All, if◌then◌else◌, cond}
 use Rattle.std.specs.Int.{w32, to_be_bytes}
-use Rattle.std.specs.Option.{option_map_or, option_and_then}
+use Rattle.std.specs.Option.{option_map, option_map_or, option_and_then}
 use Rattle.std.proofs.lemmas.Bool.{cases_eq, eq-eqb, ne_eqb, cond-false}
 use Rattle.std.proofs.lemmas.Grind.{common_steps}
 use Rattle.std.proofs.lemmas.List.{length-append}
@@ -21,7 +21,7 @@ use Rattle.model_store.specs.Listing.{ShowLists}
 use Rattle.model_store.specs.Settled.{IsSettledFor, Leaves}
 use Rattle.list_machine.specs.Run.{drawn_also}
 use Rattle.storage_files.specs.Files.{AreFilesInOrder, changed_in, end_in, ending_at, file_begun, file_in, given_back, is_doomed_in, released_in, with_taken, without_file}
-use Rattle.storage_files.proofs.FileListLemmas.{KeepsNumber, file-before_begun, file-begun, file-other}
+use Rattle.storage_files.proofs.FileListLemmas.{KeepsNumber, file-before_begun, file-begun, file-here, file-other}
 use Rattle.storage_files.specs.declared.file.MailFile.{MailFile}
 use Rattle.saved_message.specs.Region.{guid_of_place}
 use Rattle.sis_store.specs.Instances.{AreInstances}
@@ -40,7 +40,7 @@ use Rattle.mail_save.proofs.PlaceLemmas.{own_place, file_of_place, offset_of_pla
 use Rattle.mail_save.proofs.SaveDidLemmas.{fall, HasRun, KeepsTelling, Lasts, StaysSo}
 use Rattle.mail_save.proofs.SaveFileLemmas.{value_changed}
 use Rattle.mail_save.proofs.SaveFrontLemmas.{SeesAround}
-use Rattle.mail_save.proofs.SaveRoomLemmas.{RoomIs, room_is, both_true, le_true, true_le}
+use Rattle.mail_save.proofs.SaveRoomLemmas.{RoomIs, room_is, both_true, le_true, lt_true, true_le, true_lt}
 use Rattle.mail_save.proofs.SeenInstanceLemmas.{KnowsAlike, candidate_known, gone_on}
 
 -- ---- what it finds
@@ -74,24 +74,31 @@ sees_around pins octets now store history faults is order ids = record {
 
 -- ---- files and GUIDs
 
--- an offset lies before the end, if there is one
-abbrev pub is_before : ℕ → Option ℕ → Bool
-is_before offset end = option_map_or (λ e. nat_lt offset e) end true
+-- an offset lies before the end of a file, or there is no file
+abbrev pub is_before : ℕ → Option MailFile → Bool
+is_before offset o = option_map_or (λ f. option_map_or (λ end. nat_lt offset end) f.end false) o true
+
+-- of a file that ends
+ended_before : (offset end : ℕ) (o : Option MailFile) → option_and_then (λ f. f.end) o ≡ Some end → is_before offset o ≡ nat_lt offset end
+ended_before offset end None e = absurd (let w : None ≡ Some end = e in cc w)
+ended_before offset end (Some f) e = ap (λ (x : Option ℕ). option_map_or (λ n. nat_lt offset n) x false) e
 
 -- ---- which are barred, doomed, or may be used
 
--- All that the value tells of files but their ends stays: files that may be barred or used, and those that are doomed.
+-- All that the value tells of files but their ends stays: files that may be barred or used, and those that are doomed. What a file
+-- that was drawn has before its end, it has still.
 pub record TellsFiles {D : Type 0} (old new : StoreValue D) : Type 0 where
   pub barred : (n : ℕ) → may_be_barred old n ≡ true → may_be_barred new n ≡ true
   pub used : (n : ℕ) → may_be_used old n ≡ true → may_be_used new n ≡ true
   pub doomed : (n : ℕ) → is_doomed_in n new.files.files ≡ is_doomed_in n old.files.files
+  pub gave : (n offset : ℕ) → n ≤ old.drawn.file → is_before offset (file_in n old.files.files) ≡ true → is_before offset (file_in n new.files.files) ≡ true
 
--- the file is barred, or not there; and it is doomed, or doesn't end
+-- the file is barred, or not there; and it is doomed, or not there
 abbrev bars : Option MailFile → Bool
 bars o = option_map_or (λ f. f.barred) o true
 
 abbrev uses : Option MailFile → Bool
-uses o = option_map_or (λ f. f.doomed || is_none f.end) o true
+uses o = option_map_or (λ f. f.doomed) o true
 
 abbrev dooms : Option MailFile → Bool
 dooms o = option_map_or (λ f. f.doomed) o false
@@ -106,37 +113,54 @@ drawn_on drawn later before now n more stays e =
     both_so (nat_le n later) now (le_true n later (omega (arith, le, more))) (stays le k.1)
 
 tells_by : {D : Type 0} → (old new : StoreValue D) → old.drawn.file ≤ new.drawn.file → ((n : ℕ) → n ≤ old.drawn.file → bars (file_in n old.files.files) ≡ true → bars (file_in n new.files.files) ≡ true)
-    → ((n : ℕ) → n ≤ old.drawn.file → uses (file_in n old.files.files) ≡ true → uses (file_in n new.files.files) ≡ true) → ((n : ℕ) → dooms (file_in n new.files.files) ≡ dooms (file_in n old.files.files)) → TellsFiles old new
-tells_by old new more barred used doomed = record {
+    → ((n : ℕ) → n ≤ old.drawn.file → uses (file_in n old.files.files) ≡ true → uses (file_in n new.files.files) ≡ true) → ((n : ℕ) → dooms (file_in n new.files.files) ≡ dooms (file_in n old.files.files))
+    → ((n offset : ℕ) → n ≤ old.drawn.file → is_before offset (file_in n old.files.files) ≡ true → is_before offset (file_in n new.files.files) ≡ true) → TellsFiles old new
+tells_by old new more barred used doomed gave = record {
   barred = λ n e. drawn_on old.drawn.file new.drawn.file (bars (file_in n old.files.files)) (bars (file_in n new.files.files)) n more (barred n) e;
   used = λ n e. drawn_on old.drawn.file new.drawn.file (uses (file_in n old.files.files)) (uses (file_in n new.files.files)) n more (used n) e;
   doomed = doomed;
+  gave = gave;
 }
 
 -- where files are as they were
 pub tells_same : {D : Type 0} → (old new : StoreValue D) → old.drawn.file ≤ new.drawn.file → new.files.files ≡ old.files.files → TellsFiles old new
-tells_same old new more same = tells_by old new more (λ n le e. ap (λ (fs : List MailFile). bars (file_in n fs)) same ∙ e) (λ n le e. ap (λ (fs : List MailFile). uses (file_in n fs)) same ∙ e) (λ n. ap (λ (fs : List MailFile). dooms (file_in n fs)) same)
+tells_same old new more same = tells_by old new more (λ n le e. ap (λ (fs : List MailFile). bars (file_in n fs)) same ∙ e) (λ n le e. ap (λ (fs : List MailFile). uses (file_in n fs)) same ∙ e) (λ n. ap (λ (fs : List MailFile). dooms (file_in n fs)) same) (λ n offset le e. ap (λ (fs : List MailFile). is_before offset (file_in n fs)) same ∙ e)
+
+-- what lies before its end, lies there still
+rises_in : (offset file n : ℕ) (step : MailFile → MailFile) (files : List MailFile) → KeepsNumber step → ((f : MailFile) → file_in file files ≡ Some f → is_before offset (Some f) ≡ true → is_before offset (Some (step f)) ≡ true) → is_before offset (file_in n files) ≡ true → is_before offset (file_in n (changed_in file step files)) ≡ true
+rises_in offset file n step files keeps rises e = elim (cases_eq n file) [
+  | inl same ↦
+      ap (λ (k : ℕ). is_before offset (file_in k (changed_in file step files))) same
+      ∙ (ap (is_before offset) (file-here file step files keeps) ∙ by_file (file_in file files) refl (sym (ap (λ (k : ℕ). is_before offset (file_in k files)) same) ∙ e))
+  | inr apart ↦ ap (is_before offset) (file-other file n step files keeps apart) ∙ e
+]
+  where
+    by_file : (o : Option MailFile) → file_in file files ≡ o → is_before offset o ≡ true → is_before offset (option_map step o) ≡ true
+    by_file None at b = refl
+    by_file (Some f) at b = rises f at b
 
 pub tells_changed : {D : Type 0} → (old new : StoreValue D) (file : ℕ) (step : MailFile → MailFile) → old.drawn.file ≤ new.drawn.file → new.files.files ≡ changed_in file step old.files.files → KeepsNumber step → ((f : MailFile) → (step f).barred ≡ f.barred) → ((f : MailFile) → (step f).doomed ≡ f.doomed)
-    → ((f : MailFile) → file_in file old.files.files ≡ Some f → is_none (step f).end ≡ is_none f.end) → TellsFiles old new
-tells_changed old new file step more is keeps barred doomed ended = tells_by old new more
+    → ((f : MailFile) (offset : ℕ) → file_in file old.files.files ≡ Some f → is_before offset (Some f) ≡ true → is_before offset (Some (step f)) ≡ true) → TellsFiles old new
+tells_changed old new file step more is keeps barred doomed rises = tells_by old new more
     (λ n le e. ap (λ (fs : List MailFile). bars (file_in n fs)) is ∙ (value_changed bars file n step old.files.files keeps (λ f at. barred f) ∙ e))
-    (λ n le e. ap (λ (fs : List MailFile). uses (file_in n fs)) is ∙ (value_changed uses file n step old.files.files keeps (λ f at. ap (λ (b : Bool). b || is_none (step f).end) (doomed f) ∙ ap (λ (b : Bool). f.doomed || b) (ended f at)) ∙ e))
+    (λ n le e. ap (λ (fs : List MailFile). uses (file_in n fs)) is ∙ (value_changed uses file n step old.files.files keeps (λ f at. doomed f) ∙ e))
     (λ n. ap (λ (fs : List MailFile). dooms (file_in n fs)) is ∙ value_changed dooms file n step old.files.files keeps (λ f at. doomed f))
+    (λ n offset le e. ap (λ (fs : List MailFile). is_before offset (file_in n fs)) is ∙ rises_in offset file n step old.files.files keeps (λ f at b. rises f offset at b) e)
 
 pub tells_taken : {D : Type 0} → (old new : StoreValue D) (file : ℕ) → old.drawn.file ≤ new.drawn.file → new.files.files ≡ changed_in file (with_taken true) old.files.files → TellsFiles old new
-tells_taken old new file more is = tells_changed old new file (with_taken true) more is (λ f. refl) (λ f. refl) (λ f. refl) (λ f at. refl)
+tells_taken old new file more is = tells_changed old new file (with_taken true) more is (λ f. refl) (λ f. refl) (λ f. refl) (λ f offset at b. b)
 
 -- of a file that ended before
 end_is : (n end : ℕ) (files : List MailFile) (f : MailFile) → end_in n files ≡ Some end → file_in n files ≡ Some f → f.end ≡ Some end
 end_is n end files f ends at = sym (ap (λ (o : Option MailFile). option_and_then (λ g. g.end) o) at) ∙ ends
 
-pub tells_ended : {D : Type 0} → (old new : StoreValue D) (file from to : ℕ) → old.drawn.file ≤ new.drawn.file → end_in file old.files.files ≡ Some from → new.files.files ≡ changed_in file (ending_at to) old.files.files → TellsFiles old new
-tells_ended old new file from to more ends is = tells_changed old new file (ending_at to) more is (λ f. refl) (λ f. refl) (λ f. refl) (λ f at. sym (ap (λ (o : Option ℕ). is_none o) (end_is file from old.files.files f ends at)))
+pub tells_ended : {D : Type 0} → (old new : StoreValue D) (file from more_octets : ℕ) → old.drawn.file ≤ new.drawn.file → end_in file old.files.files ≡ Some from → new.files.files ≡ changed_in file (ending_at (from + more_octets)) old.files.files → TellsFiles old new
+tells_ended old new file from more_octets more ends is = tells_changed old new file (ending_at (from + more_octets)) more is (λ f. refl) (λ f. refl) (λ f. refl)
+    (λ f offset at b. let l : offset < from = lt_true offset from (sym (ended_before offset from (Some f) (end_is file from old.files.files f ends at)) ∙ b) in true_lt offset (from + more_octets) (omega (arith, l)))
 
 pub tells_released : {D : Type 0} → (old new : StoreValue D) (file end : ℕ) → old.drawn.file ≤ new.drawn.file → end_in file old.files.files ≡ Some end → new.files.files ≡ released_in file old.files.files → TellsFiles old new
 tells_released old new file end more ends is =
-    tells_changed old new file given_back more (is ∙ ap (λ (o : Option ℕ). if is_some o then changed_in file given_back old.files.files else without_file file old.files.files) ends) (λ f. refl) (λ f. refl) (λ f. refl) (λ f at. refl)
+    tells_changed old new file given_back more (is ∙ ap (λ (o : Option ℕ). if is_some o then changed_in file given_back old.files.files else without_file file old.files.files) ends) (λ f. refl) (λ f. refl) (λ f. refl) (λ f offset at b. b)
 
 -- where a new one was begun, or made
 begun_alike : (value : Option MailFile → Bool) (file : FileNo) (m : ℕ) (files : List MailFile) → m ≢ file.0 → value (file_in m (files ++ file_begun file ∷ [])) ≡ value (file_in m files)
@@ -153,26 +177,26 @@ tells_begun old new file none next more is = tells_by old new more
     (λ n le e. ap (λ (fs : List MailFile). bars (file_in n fs)) is ∙ (begun_alike bars file n old.files.files (λ same. omega (arith, same, next, le)) ∙ e))
     (λ n le e. ap (λ (fs : List MailFile). uses (file_in n fs)) is ∙ (begun_alike uses file n old.files.files (λ same. omega (arith, same, next, le)) ∙ e))
     (λ n. ap (λ (fs : List MailFile). dooms (file_in n fs)) is ∙ dooms_begun file n old.files.files none)
+    (λ n offset le e. ap (λ (fs : List MailFile). is_before offset (file_in n fs)) is ∙ (begun_alike (is_before offset) file n old.files.files (λ same. omega (arith, same, next, le)) ∙ e))
 
 pub tells_made : {D : Type 0} → (old new : StoreValue D) (file : FileNo) (end : ℕ) → file_in file.0 old.files.files ≡ None → file.0 ≡ old.drawn.file + 1 → old.drawn.file ≤ new.drawn.file → new.files.files ≡ changed_in file.0 (ending_at end) (old.files.files ++ file_begun file ∷ []) → TellsFiles old new
 tells_made old new file end none next more is = tells_by old new more
     (λ n le e. made bars n (λ same. omega (arith, same, next, le)) ∙ e)
     (λ n le e. made uses n (λ same. omega (arith, same, next, le)) ∙ e)
     (λ n. ap (λ (fs : List MailFile). dooms (file_in n fs)) is ∙ (value_changed dooms file.0 n (ending_at end) (old.files.files ++ file_begun file ∷ []) (λ f. refl) (λ f at. refl) ∙ dooms_begun file n old.files.files none))
+    (λ n offset le e. made (is_before offset) n (λ same. omega (arith, same, next, le)) ∙ e)
   where
     made : (value : Option MailFile → Bool) (n : ℕ) → n ≢ file.0 → value (file_in n new.files.files) ≡ value (file_in n old.files.files)
     made value n apart = ap (λ (fs : List MailFile). value (file_in n fs)) is ∙ (ap value (file-other file.0 n (ending_at end) (old.files.files ++ file_begun file ∷ []) (λ f. refl) apart) ∙ begun_alike value file n old.files.files apart)
 
--- What a storage file that was drawn has before its end, it has still, and no file is there that wasn't. All else that is told of files
--- stays.
+-- The same files are there. All else that is told of files stays.
 pub record EndsGoOn {D : Type 0} (old new : StoreValue D) : Type 0 where
   pub tells : TellsFiles old new
-  pub gave : (n offset : ℕ) → n ≤ old.drawn.file → is_before offset (end_in n old.files.files) ≡ true → is_before offset (end_in n new.files.files) ≡ true
   pub known : (n : ℕ) → is_some (end_in n new.files.files) ≡ true → is_some (end_in n old.files.files) ≡ true
   pub there : (n : ℕ) → is_some (end_in n old.files.files) ≡ true → is_some (end_in n new.files.files) ≡ true
 
 pub same_ends : {D : Type 0} → (old new : StoreValue D) → TellsFiles old new → AreEndsSame old new → EndsGoOn old new
-same_ends old new tells same = record { tells = tells; gave = λ n offset le e. ap (λ (o : Option ℕ). is_before offset o) (same n) ∙ e; known = λ n e. ap (λ (o : Option ℕ). is_some o) (sym (same n)) ∙ e; there = λ n e. ap (λ (o : Option ℕ). is_some o) (same n) ∙ e }
+same_ends old new tells same = record { tells = tells; known = λ n e. ap (λ (o : Option ℕ). is_some o) (sym (same n)) ∙ e; there = λ n e. ap (λ (o : Option ℕ). is_some o) (same n) ∙ e }
 
 all_true : (a b c : Bool) → a ≡ true → b ≡ true → c ≡ true → (a && (b && c)) ≡ true
 all_true a b c x y z = rw (x, y, z) refl
@@ -180,12 +204,12 @@ all_true a b c x y z = rw (x, y, z) refl
 -- ---- which GUIDs were given
 
 pub gave_on : {D : Type 0} → (old new : StoreValue D) (guid : List ℕ) → new.map.store ≡ old.map.store → old.drawn.file ≤ new.drawn.file
-    → ((n offset : ℕ) → n ≤ old.drawn.file → is_before offset (end_in n old.files.files) ≡ true → is_before offset (end_in n new.files.files) ≡ true) → may_have_given old guid ≡ true → may_have_given new guid ≡ true
+    → ((n offset : ℕ) → n ≤ old.drawn.file → is_before offset (file_in n old.files.files) ≡ true → is_before offset (file_in n new.files.files) ≡ true) → may_have_given old guid ≡ true → may_have_given new guid ≡ true
 gave_on old new guid id more ends e =
-    let a = both_true (is_own old.map.store guid) (nat_le (number_at 8 guid) old.drawn.file && is_before (number_at 12 guid) (end_in (number_at 8 guid) old.files.files)) e in
-    let b = both_true (nat_le (number_at 8 guid) old.drawn.file) (is_before (number_at 12 guid) (end_in (number_at 8 guid) old.files.files)) a.1 in
+    let a = both_true (is_own old.map.store guid) (nat_le (number_at 8 guid) old.drawn.file && is_before (number_at 12 guid) (file_in (number_at 8 guid) old.files.files)) e in
+    let b = both_true (nat_le (number_at 8 guid) old.drawn.file) (is_before (number_at 12 guid) (file_in (number_at 8 guid) old.files.files)) a.1 in
     let le : number_at 8 guid ≤ old.drawn.file = true_le (number_at 8 guid) old.drawn.file b.0 in
-    all_true (is_own new.map.store guid) (nat_le (number_at 8 guid) new.drawn.file) (is_before (number_at 12 guid) (end_in (number_at 8 guid) new.files.files)) (ap (λ (s : List ℕ). is_own s guid) id ∙ a.0) (le_true (number_at 8 guid) new.drawn.file (omega (arith, le, more))) (ends (number_at 8 guid) (number_at 12 guid) le b.1)
+    all_true (is_own new.map.store guid) (nat_le (number_at 8 guid) new.drawn.file) (is_before (number_at 12 guid) (file_in (number_at 8 guid) new.files.files)) (ap (λ (s : List ℕ). is_own s guid) id ∙ a.0) (le_true (number_at 8 guid) new.drawn.file (omega (arith, le, more))) (ends (number_at 8 guid) (number_at 12 guid) le b.1)
 
 pub tells_store : {D : Type 0} → (pins : ℕ → ℕ) (old new : StoreValue D) (before after : Option History) (began faulted : Faults) → old.stopped ≡ false → new.map.store ≡ old.map.store → old.drawn.file ≤ new.drawn.file → EndsGoOn old new → KnowsAlike old new → KeepsTelling (seen_of pins old before began) (seen_of pins new after faulted)
 tells_store pins old new before after began faulted ran id more ends knows = record {
@@ -194,7 +218,7 @@ tells_store pins old new before after began faulted ran id more ends knows = rec
   doomed = λ file. ends.tells.doomed file;
   used = λ file e. ends.tells.used file e;
   barred = λ file e. ends.tells.barred file e;
-  gave = λ guid e. gave_on old new guid id more ends.gave e;
+  gave = λ guid e. gave_on old new guid id more ends.tells.gave e;
   gone = λ instance e. gone_on old new instance id knows.drawn e;
   files = λ file e. ends.known file e;
   there = λ file e. ends.there file e;
@@ -311,9 +335,9 @@ past a b l = grind (arith, common_steps, l)
 pub place_new : {D : Type 0} → (store : StoreValue D) (file offset : ℕ) → length store.map.store ≡ 8 → file < 2 ^ 32 → offset < 2 ^ 32 → end_in file store.files.files ≡ Some offset → may_have_given store (guid_of_place store.map.store file offset) ≡ false
 place_new store file offset long f o end =
     let guid : List ℕ = guid_of_place store.map.store file offset in
-    let at : is_before (number_at 12 guid) (end_in (number_at 8 guid) store.files.files) ≡ false =
-    ap (λ (n : ℕ). is_before (number_at 12 guid) (end_in n store.files.files)) (file_of_place store.map.store file offset long f)
-    ∙ (ap (λ (e : Option ℕ). is_before (number_at 12 guid) e) end ∙ (ap (λ (n : ℕ). nat_lt n offset) (offset_of_place store.map.store file offset long o) ∙ not_past offset)) in
+    let at : is_before (number_at 12 guid) (file_in (number_at 8 guid) store.files.files) ≡ false =
+    ap (λ (n : ℕ). is_before (number_at 12 guid) (file_in n store.files.files)) (file_of_place store.map.store file offset long f)
+    ∙ (ended_before (number_at 12 guid) offset (file_in file store.files.files) end ∙ (ap (λ (n : ℕ). nat_lt n offset) (offset_of_place store.map.store file offset long o) ∙ not_past offset)) in
     ap (λ (b : Bool). is_own store.map.store guid && (nat_le (number_at 8 guid) store.drawn.file && b)) at ∙ and_false (is_own store.map.store guid) (nat_le (number_at 8 guid) store.drawn.file)
 
 -- it was, once the file ends behind it
@@ -321,10 +345,10 @@ pub place_given : {D : Type 0} → (store : StoreValue D) (id : List ℕ) (file 
 place_given store id file offset end same long f o drawn ends before =
     let guid : List ℕ = guid_of_place id file offset in
     let named = file_of_place id file offset long f in
-    all_true (is_own store.map.store guid) (nat_le (number_at 8 guid) store.drawn.file) (is_before (number_at 12 guid) (end_in (number_at 8 guid) store.files.files)) (ap (λ (s : List ℕ). is_own s guid) same ∙ own_place id file offset long)
+    all_true (is_own store.map.store guid) (nat_le (number_at 8 guid) store.drawn.file) (is_before (number_at 12 guid) (file_in (number_at 8 guid) store.files.files)) (ap (λ (s : List ℕ). is_own s guid) same ∙ own_place id file offset long)
     (le_true (number_at 8 guid) store.drawn.file (omega (arith, named, drawn)))
-    (ap (λ (n : ℕ). is_before (number_at 12 guid) (end_in n store.files.files)) named
-    ∙ (ap (λ (e : Option ℕ). is_before (number_at 12 guid) e) ends ∙ (ap (λ (n : ℕ). nat_lt n end) (offset_of_place id file offset long o) ∙ past offset end before)))
+    (ap (λ (n : ℕ). is_before (number_at 12 guid) (file_in n store.files.files)) named
+    ∙ (ended_before (number_at 12 guid) end (file_in file store.files.files) ends ∙ (ap (λ (n : ℕ). nat_lt n end) (offset_of_place id file offset long o) ∙ past offset end before)))
 
 -- a file that ends has a number that was drawn
 pub file_below : (n most end : ℕ) (files : List MailFile) → All (λ f. f.file.0 ≤ most) files → end_in n files ≡ Some end → n ≤ most

@@ -1,25 +1,30 @@
 -- The last event of a resync: what it leaves to the tasks beside it, and that the counts are exact then.
 use Rattle.std.proofs.Common.{◌≡◌, ◌≤◌, ◌+◌, ◌==◌, ℕ, false, List, [], ◌∷◌, Option, map, refl, sym, ◌∙◌, ap, subst, arith}
 use Rattle.std.specs.Prelude.{Contains, count_by, max, sum_by}
-use Rattle.std.proofs.lemmas.List.Elements.{All-nil, All-cons}
+use Rattle.std.proofs.lemmas.Bool.{eqb-true}
+use Rattle.std.proofs.lemmas.List.Elements.{All-contains, All-nil, All-cons}
 use Rattle.disk_model.specs.Disk.{History, Faults}
 use Rattle.mdbox_base.specs.declared.entries.MapCount.{MapCount}
 use Rattle.mdbox_base.specs.declared.entries.MapEntry.TheVariants as entry
+use Rattle.model_appends.specs.Amounts.{IsAccounted}
 use Rattle.model_lists.specs.Lists.{Lists}
 use Rattle.model_meaning.specs.BoxMeaning.{BoxMeaning, LogRow}
 use Rattle.model_meaning.specs.MapFits.{MapFits}
 use Rattle.model_meaning.specs.MapMeaning.{MapBox, MapMeaning, MapRecord, count_given, numbers_of}
 use Rattle.model_meaning.proofs.AppliedLemmas.{records_by_counted}
+use Rattle.model_octets.proofs.SearchLemmas.{found_one}
 use Rattle.model_store.specs.Listing.{ShowLists, meaning_named, refs_in}
-use Rattle.store_core.specs.Dues.{due_at, listed_at}
+use Rattle.model_store.specs.Opening.{listed_of}
+use Rattle.store_core.specs.Dues.{due_at, leak_at, listed_at}
 use Rattle.store_core.specs.Keeping.{KeepsUids}
 use Rattle.store_core.specs.Running.{IsStore}
 use Rattle.store_core.specs.Value.{StoreValue, indexes_of, list_named}
+use Rattle.store_core.proofs.DueLemmas.{listed_meant, store_counts}
 use Rattle.resync_task.specs.WrongCounts.{wrong_of}
 use Rattle.store_seen.specs.Seeing.{seen_of}
 use Rattle.store_seen.proofs.SeeingLemmas.{due_as_before, tells_as_before}
 use Rattle.task_claims.specs.Claims.{MovesClaims, no_claims}
-use Rattle.task_claims.specs.Leaving.{LeavesOthers, SameButCounts, but_count}
+use Rattle.task_claims.specs.Leaving.{LeavesOthers, RaisesNone, SameButCounts, but_count}
 use Rattle.task_claims.proofs.RestLemmas.{mail_same, rest_amounts, rest_leaves, same_claims}
 use Rattle.task_steps.specs.Step.{ShowsSeen}
 use Rattle.task_steps.specs.Tells.{TellsSame}
@@ -64,20 +69,34 @@ lists_stay old new boxes indexes = λ name uid held k.
     let named : list_named new name ≡ list_named old name = ap (λ (bs : List MapBox). meaning_named name bs (indexes_of new.boxes)) boxes ∙ ap (meaning_named name old.map.boxes) indexes in
     record { m = k.m; named = named ∙ k.named; below = k.below; same = k.same }
 
-pub right_leaves : {D : Type 0} → (corrected : ℕ) (old new : StoreValue D) (before after : Option History) (began now : Faults) → PutsRight corrected old new before after began now → LeavesOthers no_claims old new before after
-right_leaves corrected old new before after began now p =
+-- how many rows of what logs of mailboxes mean have this map uid
+abbrev listed_in : ℕ → List BoxMeaning → ℕ
+listed_in uid meanings = sum_by (λ (m : BoxMeaning). count_by (λ (row : LogRow). row.map_uid == uid) m.rows) meanings
+
+-- a count of 0 is right, so it stays
+right_unraised : {D : Type 0} → (history : Option History) (corrected : ℕ) (old new : StoreValue D) (before after : Option History) (began now : Faults) → IsStore history old → PutsRight corrected old new before after began now → RaisesNone old.map new.map
+right_unraised history corrected old new before after began now s p uid row later there none is =
+    let in_old = found_one (λ (r : MapRecord). r.uid == uid) old.map.records row there in
+    let in_new = found_one (λ (r : MapRecord). r.uid == uid) new.map.records later is in
+    let counted = right_in_map old.map (λ u. listed_at u old + due_at u old) later (uids_rise history old s) (subst (λ (m : MapMeaning). Contains m.records later) p.map in_new.0) in
+    let same : later.uid ≡ row.uid = eqb-true later.uid uid in_new.1 ∙ sym (eqb-true row.uid uid in_old.1) in
+    let covered : row.count ≡ listed_of s.logs row.uid + due_at row.uid old + leak_at row.uid old =
+    All-contains (IsAccounted (λ u. due_at u old) (λ u. leak_at u old) s.logs) old.map.records row (store_counts history old s.logs s (uids_rise history old s) s.boxes_are) in_old.0 in
+    let listed : listed_at row.uid old ≡ listed_of s.logs row.uid = ap (listed_in row.uid) s.boxes_are ∙ listed_meant row.uid s.logs in
+    let lists = ap (λ (u : ℕ). listed_at u old) same in
+    let due = ap (λ (u : ℕ). due_at u old) same in
+    omega (arith, counted, covered, listed, lists, due, none)
+
+pub right_leaves : {D : Type 0} → (history : Option History) (corrected : ℕ) (old new : StoreValue D) (before after : Option History) (began now : Faults) → IsStore history old → PutsRight corrected old new before after began now → LeavesOthers no_claims old new before after
+right_leaves history corrected old new before after began now s p =
     rest_leaves no_claims old new before after (ap (λ (v : StoreValue _). v.files) p.keeps.rest) (ap (λ (v : StoreValue _). v.instances) p.keeps.rest) (mail_same before after p.mail)
-    (subst (λ (m : MapMeaning). SameButCounts old.map m) (sym p.map) (corrected_same (wrong_of old) old.map))
+    (subst (λ (m : MapMeaning). SameButCounts old.map m) (sym p.map) (corrected_same (wrong_of old) old.map)) (right_unraised history corrected old new before after began now s p)
     (subst (λ (m : MapMeaning). old.map.highest.mailbox ≤ m.highest.mailbox) (sym p.map) (corrected_highest (wrong_of old) old.map))
     (lists_stay old new p.keeps.mailboxes p.keeps.indexes) p.keeps.room
     (λ uid row none found listed. (ap (λ (ms : List BoxMeaning). refs_in ms row.guid) p.keeps.indexes ∙ listed, p.due uid))
 
 pub right_claims : {D : Type 0} → (corrected : ℕ) (old new : StoreValue D) (before after : Option History) (began now : Faults) → PutsRight corrected old new before after began now → MovesClaims no_claims no_claims old new
 right_claims corrected old new before after began now p = same_claims no_claims old new (rest_amounts old new p.due p.keeps.rest)
-
--- how many rows of what logs of mailboxes mean have this map uid
-abbrev listed_in : ℕ → List BoxMeaning → ℕ
-listed_in uid meanings = sum_by (λ (m : BoxMeaning). count_by (λ (row : LogRow). row.map_uid == uid) m.rows) meanings
 
 -- each count is what is listed and due
 pub right_exact : {D : Type 0} → (history : Option History) (corrected : ℕ) (old new : StoreValue D) (before after : Option History) (began now : Faults) → IsStore history old → PutsRight corrected old new before after began now → AreExact new

@@ -302,7 +302,7 @@ known_right files damaged corrected old new before after began then s ran p = re
   rest = p.keeps.rest;
   mail = record { stays = λ m. p.keeps.stays m; left = λ k. mail_same before after p.mail };
   claims = λ r. right_claims corrected old new before after began then p;
-  leaves = λ r. right_leaves corrected old new before after began then p;
+  leaves = λ r. right_leaves before corrected old new before after began then s p;
   grows = p.keeps.grows;
   left = λ e. absurd (done_more _ e);
 }
