@@ -1,0 +1,59 @@
+-- The clause of an event of a purge that removes a storage file in which no message lies.
+use Rattle.std.proofs.Common.{◌≡◌, ◌≤◌, ◌<◌, ◌+◌, ◌==◌, ℕ, Bool, true, false, List, [], ◌∷◌, ◌++◌, Option, Some, None, refl, sym, ◌∙◌, ap, subst, All}
+use Rattle.std.specs.Prelude.{nat_lt, if◌then◌else◌}
+use Rattle.std.specs.List.{list_any}
+use Rattle.std.specs.Option.{option_map_or}
+use Rattle.std.proofs.lemmas.List.Elements.{All-head, All-tail}
+use Rattle.disk_model.specs.Disk.{Faults, History, told_calls}
+use Rattle.mdbox_base.specs.declared.ids.FileNo.{FileNo}
+use Rattle.mdbox_base.specs.declared.progress.Did.{Did}
+use Rattle.mdbox_base.specs.declared.progress.Did.TheVariants as did
+use Rattle.mdbox_base.specs.declared.replies.Reply.{Reply}
+use Rattle.mdbox_base.specs.declared.requests.Request.TheVariants as request
+use Rattle.model_meaning.specs.MapMeaning.{MapMeaning}
+use Rattle.model_octets.proofs.PairLemmas.{pairs_head}
+use Rattle.list_machine.specs.Run.{MakesTarget, RemovesFile, Run, RunEvent, Switches, TakenFile, and_then, is_one_of, map_of, own_events}
+use Rattle.journal.specs.Events.{Around, file_to_remove, is_done, next_part, next_taken, purge_goes_on}
+use Rattle.storage_files.specs.Files.{pins_in}
+use Rattle.store_core.specs.Removing.{AreElsewhere}
+use Rattle.store_core.specs.Value.{StoreValue}
+use Rattle.purge_task.specs.Claims.{sources_left}
+use Rattle.purge_task.specs.Clause.{PurgeSteps, around_purging, seen_by_purge}
+use Rattle.purge_task.specs.Keeping.{AreSourcesApart, PurgeValue}
+use Rattle.purge_task.specs.Stages.{GoesOnBehind, HaveCopied, HaveTaken, IsAtPurge, IsAtPurgeStage, IsNextStage, IsPurging, told_taken, went_on}
+use Rattle.purge_task.specs.declared.task.PurgeStage.{PurgeStage}
+use Rattle.purge_task.specs.declared.task.PurgeStage.TheVariants as stage
+use Rattle.purge_task.specs.declared.work.Source.{Source}
+use Rattle.purge_task.specs.declared.work.Work.{Work}
+use Rattle.purge_task.proofs.EventLemmas.{DidSo, stands_so}
+use Rattle.purge_task.proofs.PartLemmas.{next_goes_on, next_is}
+use Rattle.purge_task.proofs.RemovalLemmas.{CountsRemoval, LeavesSettled, did_removal, none_in, removed_way}
+use Rattle.purge_task.proofs.RemovalSeenLemmas.{removal_event, without}
+use Rattle.purge_task.proofs.RunLemmas.{done_gone, gone_files, one_alone, taken_on}
+use Rattle.purge_task.proofs.StageLemmas.{at_next}
+
+-- As the journal has it, the file that the last event doomed comes first, so this asks that it is the one to be removed.
+pub bare_steps : {D : Type 0} → (after : Around) (t next : PurgeValue) (work : Work) (source : Source) (left : List Source) (disk : D) (old : StoreValue D) (before later : Option History) (began faults : Faults) → t.stage ≡ stage.Begin work → sources_left work ≡ source ∷ left → source.target ≡ None → AreSourcesApart (source ∷ left)
+    → ((run : Run) (place : ℕ) (said : List Reply) → IsAtPurge t old run place said → file_to_remove run (own_events place run) ≡ Some source.file.0) → IsNextStage (went_on work) next.stage → next.did ≡ did.Quiet → next.dropped ≡ t.dropped → next.files ≡ t.files + 1 → next.instances ≡ t.instances → old.stopped ≡ false → pins_in source.file.0 old.files.files ≡ 0
+    → source.file.0 ≤ old.drawn.file → AreElsewhere source.file.0 old.map.records → LeavesSettled old.map before later began faults → PurgeSteps [] after t next old (without source.file.0 disk old) before later began faults None
+bare_steps after t next work source left disk old before later began faults at is none apart removes to how dropped counted instances ran unpinned drawn elsewhere leaves = λ run lane place said lists come shows stood.
+    let around : Around = around_purging [] old in
+    let stands = subst (λ (x : PurgeStage). IsAtPurgeStage x t old run place said) at stood.0 in
+    let h = subst (λ (l : List Source). IsPurging t stands.0 l (GoesOnBehind run) old run place said) is stands.1 in
+    let own : List RunEvent = own_events place run in
+    let event : RunEvent = removal_event lane place source.file.0 (told_calls later) in
+    let new : StoreValue _ = without source.file.0 disk old in
+    let taken : next_taken own ≡ Some (told_taken source) = next_is stands.0 source left own h.taken in
+    let number : (told_taken source).target ≡ 0 = ap (λ (o : Option FileNo). option_map_or (λ t. t.0) o 0) none in
+    let next_one : next_part around run request.Purge own ≡ Some RemovesFile = next_goes_on around run place h.last
+    ∙ (ap (λ (o : Option TakenFile). purge_goes_on around run o) taken
+    ∙ (ap (λ (n : ℕ). if nat_lt 0 n then Some MakesTarget else (if list_any (λ row. row.file == source.file.0) (map_of run).records then Some Switches else Some RemovesFile)) number
+    ∙ ap (λ (b : Bool). if b then Some Switches else Some RemovesFile) (ap (λ (m : MapMeaning). list_any (λ row. row.file == source.file.0) m.records) come.come.map_is ∙ none_in source.file.0 old.map.records elsewhere))) in
+    let fresh : is_one_of (gone_files own) source.file.0 ≡ false = done_gone own source.file.0 ∙ All-head (λ (s : Source). is_done own (told_taken s) ≡ false) source left h.taken.left_are in
+    let counts : CountsRemoval t next source.file.0 own = record { dropped = dropped; files = counted ∙ sym (ap (λ (b : Bool). if b then t.files else t.files + 1) fresh); instances = instances } in
+    let now_taken : HaveTaken (stands.0 ++ source ∷ []) left (own ++ event ∷ []) = taken_on stands.0 source left own event refl (λ file. one_alone source.file.0 file) (pairs_head (λ (a b : Source). a.file.0 < b.file.0) source left apart.files) h.taken in
+    let way = removed_way t next stands.0 (source ∷ left) (stands.0 ++ source ∷ []) left (GoesOnBehind run) lane source.file.0 (told_calls later) old new run place said refl ran now_taken (λ c. All-tail (HaveCopied old.map own) source left c) counts h in
+    stands_so around after run lane place said lists (seen_by_purge old before began) (seen_by_purge new later faults) next.did None event None (IsAtPurge next new)
+    (subst (λ (d : Did). DidSo around after run lane place said lists (seen_by_purge old before began) (seen_by_purge new later faults) d None event None) (sym how)
+    (did_removal around after run lane place said lists source.file.0 disk old before later began faults come shows ran unpinned drawn elsewhere next_one (removes run place said stood.0) leaves.moments leaves.rests leaves.grows leaves.mail leaves.quiet))
+    (λ goes. at_next next work source (stands.0 ++ source ∷ []) left new (and_then run event) place said is to way)

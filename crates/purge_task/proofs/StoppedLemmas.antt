@@ -1,0 +1,46 @@
+-- A purge of a store that is stopped.
+use Rattle.std.proofs.Common.{◌≡◌, ℕ, List, [], ◌∷◌, ◌++◌, Some, None, refl, sym, ◌∙◌, ap, subst, Option}
+use Rattle.disk_model.specs.Disk.{Faults, History}
+use Rattle.mdbox_base.specs.declared.progress.Did.{Did}
+use Rattle.mdbox_base.specs.declared.progress.Did.TheVariants as did
+use Rattle.mdbox_base.specs.declared.replies.Refusal.TheVariants as refusal
+use Rattle.mdbox_base.specs.declared.replies.Reply.{Reply}
+use Rattle.mdbox_base.specs.declared.replies.Reply.TheVariants as reply
+use Rattle.mdbox_base.specs.declared.requests.Request.TheVariants as request
+use Rattle.std.proofs.Common.{true}
+use Rattle.list_machine.specs.Run.{EventPart, First, RemovesFile, Run, own_events}
+use Rattle.journal.specs.Events.{Around, next_part, next_taken}
+use Rattle.store_core.specs.Value.{StoreValue}
+use Rattle.task_steps.specs.Step.{DidEvent}
+use Rattle.task_steps.proofs.OneEventLemmas.{never_more, next_first}
+use Rattle.purge_task.specs.Claims.{sources_left}
+use Rattle.purge_task.specs.Clause.{PurgeSteps, around_purging, seen_by_purge}
+use Rattle.purge_task.specs.Keeping.{PurgeValue}
+use Rattle.purge_task.specs.Stages.{IsAtPurge, IsAtPurgeStage, IsAtSwitched}
+use Rattle.purge_task.specs.declared.task.PurgeStage.{PurgeStage}
+use Rattle.purge_task.specs.declared.task.PurgeStage.TheVariants as stage
+use Rattle.purge_task.specs.declared.work.Source.{Source}
+use Rattle.purge_task.specs.declared.work.Work.{Work}
+use Rattle.purge_task.proofs.EventLemmas.{did_stopped}
+use Rattle.purge_task.proofs.PartLemmas.{copies_some, goes_on_some, next_copies, next_goes_on, next_removes}
+
+-- a purge that stands at a stage has a next part
+pub next_some : {D : Type 0} → (around : Around) (s : PurgeStage) (t : PurgeValue) (store : StoreValue D) (run : Run) (place : ℕ) (said : List Reply) → IsAtPurgeStage s t store run place said → (part : EventPart) × (next_part around run request.Purge (own_events place run) ≡ Some part)
+next_some around stage.First t store run place said h = (First, next_first around run request.Purge (own_events place run) h.0)
+next_some around (stage.Begin work) t store run place said h = let k = goes_on_some around run (next_taken (own_events place run)) in (k.0, next_goes_on around run place h.1.last ∙ k.1)
+next_some around (stage.Copying work) t store run place said h = let k = copies_some run (own_events place run) in (k.0, next_copies around run place h.1.last ∙ k.1)
+next_some around (stage.Removing work) t store run place said h = by_left (sources_left work) h
+  where
+    by_left : (left : List Source) → IsAtSwitched t left store run place said → (part : EventPart) × (next_part around run request.Purge (own_events place run) ≡ Some part)
+    by_left [] h = absurd h
+    by_left (source ∷ left) h = (RemovesFile, next_removes around run place source.file.0 h.1.last)
+next_some around stage.Instances t store run place said h = let k = goes_on_some around run (next_taken (own_events place run)) in (k.0, next_goes_on around run place h.1.last ∙ k.1)
+
+pub stopped_steps : {D : Type 0} → (after : Around) (t next : PurgeValue) (store : StoreValue D) (history : Option History) (faults : Faults) → next.did ≡ did.Quiet → store.stopped ≡ true → PurgeSteps [] after t next store store history history faults faults (Some (reply.Refused refusal.Stopped))
+stopped_steps after t next store history faults how stopped = λ run lane place said lists come shows stood.
+    let around : Around = around_purging [] store in
+    let part = next_some around t.stage t store run place said stood.0 in (
+      subst (λ (d : Did). DidEvent around after run lane place said request.Purge lists (seen_by_purge store history faults) (seen_by_purge store history faults) d (Some (reply.Refused refusal.Stopped))) (sym how)
+          (did_stopped around after run lane place said lists (seen_by_purge store history faults) part.0 come shows stopped part.1 refl),
+      λ e. absurd (never_more _ e),
+    )

@@ -1,0 +1,40 @@
+use Rattle.std.proofs.Common.{◌≡◌, false, refl, sym, ◌∙◌, ap, subst}
+use Rattle.mdbox_base.specs.declared.ids.InstId.{InstId}
+use Rattle.mdbox_base.specs.declared.progress.Progress.TheVariants as progress
+use Rattle.mdbox_base.specs.declared.replies.Refusal.TheVariants as refusal
+use Rattle.mdbox_base.specs.declared.replies.Reply.TheVariants as reply
+use Rattle.map_index.specs.Shown.{is_instance_named}
+use Rattle.sis_store.specs.Instances.{holders_in, instance_in}
+use Rattle.std.specs.Prelude.{IsSome}
+use Rattle.purge_task.specs.Clause.{IsPurgeStep, at_stage}
+use Rattle.purge_task.specs.Keeping.{PurgeValue}
+use Rattle.purge_task.specs.declared.task.PurgeStage.TheVariants as stage
+use Rattle.purge_task.proofs.GoneCallLemmas.{failed_says, gone_says, stage_as, useless_one}
+use Rattle.purge_task.proofs.task.PurgeTask.remove_useless.Goals as goal
+
+pub remove_instance-requires-clause-known : goal.remove_instance-requires-clause-known
+remove_instance-requires-clause-known g c =
+    let one = useless_one c.args.store.now c.args.id c.facts.ensures.ids c.requires.useless in
+    subst (λ (i : InstId). IsSome (instance_in i c.args.store.now.instances.known)) one.id_is (subst (λ o. IsSome o) (sym one.known) refl)
+
+pub remove_instance-requires-clause-unheld : goal.remove_instance-requires-clause-unheld
+remove_instance-requires-clause-unheld g c =
+    let one = useless_one c.args.store.now c.args.id c.facts.ensures.ids c.requires.useless in
+    subst (λ (i : InstId). holders_in i c.args.store.now.instances.known ≡ 0) one.id_is one.unheld
+
+pub remove_instance-requires-clause-unnamed : goal.remove_instance-requires-clause-unnamed
+remove_instance-requires-clause-unnamed g c =
+    let one = useless_one c.args.store.now c.args.id c.facts.ensures.ids c.requires.useless in
+    subst (λ (i : InstId). is_instance_named c.args.store.now.map i.0 ≡ false) one.id_is one.unnamed
+
+pub returns-in-Ok : goal.returns-in-Ok
+returns-in-Ok g c =
+    let quiet = ap (λ (t : PurgeValue). t.did) c.self.view_is ∙ c.requires.quiet in
+    stage_as stage.Instances _ c.args.self.now _ _ c.args.store.now c.remove_instance.new.self _ _ _ _ c.self.view_is
+    (gone_says g.D.Disk.history g.D.Disk.faults _ _ c.args.id c.args.store.now c.remove_instance.new.self refl refl quiet refl refl refl c.requires.running c.facts.ensures.instances c.facts.ensures.ids c.known_id.ensures.long c.known_id.ensures.octets c.requires.useless
+    c.in-Ok.ensures.any_moment c.in-Ok.ensures.mail_stays c.in-Ok.ensures.settled c.in-Ok.ensures.others c.in-Ok.ensures.firm c.in-Ok.ensures.ok c.in-Ok.ensures.grows c.in-Ok.ensures.unfailed)
+
+pub returns-in-Err : goal.returns-in-Err
+returns-in-Err g c =
+    stage_as stage.Instances _ c.args.self.now _ _ c.args.store.now c.remove_instance.new.self _ _ _ _ c.self.view_is
+    (failed_says g.D.Disk.history g.D.Disk.faults _ _ c.args.store.now c.remove_instance.new.self refl c.requires.running c.in-Err.ensures.any_moment c.in-Err.ensures.mail_stays c.in-Err.ensures.err c.in-Err.ensures.grows _ refl c.in-Err.ensures.fault)

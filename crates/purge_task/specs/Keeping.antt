@@ -1,0 +1,139 @@
+-- What a purge keeps between its events, of the store and of its disk.
+use Rattle.std.specs.Prelude.{◌≡◌, ◌<◌, ◌≤◌, ◌+◌, ◌*◌, ◌==◌, ◌&&◌, nat_le, ℕ, true, List, [], ◌∷◌, All, AllPairs, length, sum_by, Option, Some, None, if◌then◌else◌}
+use Rattle.std.specs.List.{list_any}
+use Rattle.std.specs.Option.{IfSome}
+use Rattle.disk_model.specs.Disk.{History, IfTold, MayLeave}
+use Rattle.disk_model.specs.declared.name.FileName.TheVariants.{Mail}
+use Rattle.list_machine.specs.Run.{is_copied_from, target_length}
+use Rattle.mdbox_base.specs.declared.ids.FileNo.{FileNo}
+use Rattle.mdbox_base.specs.declared.entries.MapPlace.{MapPlace}
+use Rattle.mdbox_base.specs.declared.progress.Did.{Did}
+use Rattle.model_appends.specs.MapAppending.{AreCopied}
+use Rattle.model_meaning.specs.MapFits.{HasRecord}
+use Rattle.model_meaning.specs.MapMeaning.{MapMeaning}
+use Rattle.model_store.specs.Settled.{files_of}
+use Rattle.storage_files.specs.Files.{end_in, is_doomed_in, is_emptied_in, is_taken_in, pins_in, place_begun_in}
+use Rattle.store_core.specs.Removing.{AreElsewhere}
+use Rattle.store_core.specs.Value.{StoreValue}
+use Rattle.purge_task.specs.Claims.{sources_left}
+use Rattle.purge_task.specs.Found.{messages_in}
+use Rattle.purge_task.specs.Reserved.{HasListRoom}
+use Rattle.purge_task.specs.declared.task.PurgeStage.{PurgeStage}
+use Rattle.purge_task.specs.declared.task.PurgeStage.TheVariants as stage
+use Rattle.purge_task.specs.declared.work.Source.{Source}
+use Rattle.purge_task.specs.declared.work.Work.{Work}
+
+-- ---- its value
+
+-- Which event is next, what the last one did, and how many records it has dropped, storage files it has doomed or removed alone, and
+-- instances it has removed.
+pub record PurgeValue : Type 0 where
+  pub stage : PurgeStage
+  pub did : Did
+  pub dropped : ℕ
+  pub files : ℕ
+  pub instances : ℕ
+
+-- ---- the memory that was taken
+
+-- There is room for the entry of a file that is left, laid out and in the map log: 17 octets, and 8 for each record at the most.
+pub record HasSwitchRoom {D : Type 0} (work : Work) (store : StoreValue D) (source : Source) : Type 0 where
+  pub lists : HasListRoom (messages_in store.map source.file.0) source
+  pub text : 17 + 8 * messages_in store.map source.file.0 ≤ length work.text.items
+  pub log : 17 + 8 * messages_in store.map source.file.0 + 5 ≤ store.map_log.room
+
+-- ---- the files
+
+-- no message of a file is wanted
+abbrev pub IsUnwanted : MapMeaning → ℕ → Type 0
+IsUnwanted m file = All (λ row. row.file ≡ file → row.count ≡ 0) m.records
+
+-- The target of a file is taken to add to it, and isn't made yet: its number was drawn.
+pub record IsToMake {D : Type 0} (target : ℕ) (store : StoreValue D) : Type 0 where
+  pub taken : is_taken_in target store.files.files ≡ true
+  pub unmade : end_in target store.files.files ≡ None
+  pub drawn : target ≤ store.drawn.file
+  pub unnamed : AreElsewhere target store.map.records
+
+abbrev pub IsTargetToMake : {D : Type 0} → ℕ → Option FileNo → StoreValue D → Type 0
+IsTargetToMake file None store = IsUnwanted store.map file
+IsTargetToMake file (Some target) store = IsToMake target.0 store × (1 ≤ target.0) × (file < target.0)
+
+-- A file that is to be emptied is taken for that, and so is its target, if a message of it was wanted. Nothing of it was copied, and what
+-- is wanted of it has room in one file.
+pub record IsToBegin {D : Type 0} (work : Work) (store : StoreValue D) (source : Source) : Type 0 where
+  pub emptied : is_emptied_in source.file.0 store.files.files ≡ true
+  pub target : IsTargetToMake source.file.0 source.target store
+  pub short : target_length store.map source.file.0 ≤ 4294967294
+  pub uncopied : source.copied.items ≡ []
+  pub undropped : source.dropped.items ≡ []
+  pub room : HasSwitchRoom work store source
+
+-- Each file is another, and so is each target.
+pub record AreSourcesApart (sources : List Source) : Type 0 where
+  pub files : AllPairs (λ a b. a.file.0 < b.file.0) sources
+  pub targets : AllPairs (λ a b. IfSome a.target (λ t. IfSome b.target (λ u. t.0 < u.0))) sources
+
+-- ---- what was copied
+
+-- "2 M1e C0" and a line feed
+abbrev pub target_header : List ℕ
+target_header = 50 ∷ 32 ∷ 77 ∷ 49 ∷ 101 ∷ 32 ∷ 67 ∷ 48 ∷ 10 ∷ []
+
+-- The messages of the source before this offset that are wanted were copied, and no others. The copies stand one behind another in the
+-- target, behind its header and to this end, and there is room for what is still to be copied.
+pub record AreCopiedUpTo (source from end : ℕ) (copied : List MapPlace) (m : MapMeaning) : Type 0 where
+  pub there : All (λ place. HasRecord m place.uid.0 (λ row. (row.file ≡ source) × (row.offset + row.size ≤ from) × (place.offset + row.size ≤ end))) copied
+  pub every : All (λ row. row.file ≡ source → row.offset < from → 1 ≤ row.count → list_any (λ place. place.uid.0 == row.uid) copied ≡ true) m.records
+  pub behind : All (λ place. length target_header ≤ place.offset) copied
+  pub follow : AllPairs (λ a b. HasRecord m a.uid.0 (λ row. a.offset + row.size ≤ b.offset)) copied
+  pub fits : end + sum_by (λ row. if is_copied_from source row && nat_le from row.offset then row.size else 0) m.records ≤ 4294967294
+
+-- The target is there, with octets being placed in it from its header on; no crash takes it away; and what was copied stands in it octet
+-- for octet.
+pub record IsCopyingTo {D : Type 0} (target : ℕ) (source : Source) (work : Work) (store : StoreValue D) (history : Option History) : Type 0 where
+  pub taken : is_taken_in target store.files.files ≡ true
+  pub begun : place_begun_in target store.files.files ≡ Some (length target_header)
+  pub end : ℕ
+  pub ends : end_in target store.files.files ≡ Some end
+  pub drawn : target ≤ store.drawn.file
+  pub unnamed : AreElsewhere target store.map.records
+  pub behind : source.file.0 < target
+  pub copied : AreCopiedUpTo source.file.0 work.from end source.copied.items store.map
+  pub octets : IfTold history (λ now. AreCopied (files_of now) store.map target source.copied.items)
+  pub stays : IfTold history (λ now. MayLeave (now (Mail target)) None → ⊥)
+
+-- ---- by stage
+
+-- the present file is emptied, and its target is being written
+pub record IsSourceCopied {D : Type 0} (source : Source) (work : Work) (store : StoreValue D) (history : Option History) : Type 0 where
+  pub emptied : is_emptied_in source.file.0 store.files.files ≡ true
+  pub undropped : source.dropped.items ≡ []
+  pub room : HasSwitchRoom work store source
+  pub target : FileNo
+  pub target_is : source.target ≡ Some target
+  pub copying : IsCopyingTo target.0 source work store history
+
+abbrev pub IsCopyingFirst : {D : Type 0} → List Source → Work → StoreValue D → Option History → Type 0
+IsCopyingFirst [] work store history = ⊥
+IsCopyingFirst (source ∷ left) work store history = IsSourceCopied source work store history × All (IsToBegin work store) left
+
+-- the present file is doomed, has neither a pin nor a record's region, and is to be removed
+abbrev pub IsRemovingFirst : {D : Type 0} → List Source → Work → StoreValue D → Type 0
+IsRemovingFirst [] work store = ⊥
+IsRemovingFirst (source ∷ left) work store = (is_doomed_in source.file.0 store.files.files ≡ true) × (pins_in source.file.0 store.files.files ≡ 0) × AreElsewhere source.file.0 store.map.records × All (IsToBegin work store) left
+
+-- a purge at its beginning has a file that is to be emptied
+abbrev pub IsBeginningFirst : {D : Type 0} → List Source → Work → StoreValue D → Type 0
+IsBeginningFirst [] work store = ⊥
+IsBeginningFirst (source ∷ left) work store = (work.from ≡ 0) × All (IsToBegin work store) (source ∷ left)
+
+-- how many octets are copied at a time
+abbrev pub HasBlock : Work → Type 0
+HasBlock work = length work.block.items ≡ 65536
+
+abbrev pub HasPurged : {D : Type 0} → PurgeStage → StoreValue D → Option History → Type 0
+HasPurged (stage.Begin work) store history = HasBlock work × AreSourcesApart (sources_left work) × IsBeginningFirst (sources_left work) work store
+HasPurged (stage.Copying work) store history = HasBlock work × AreSourcesApart (sources_left work) × IsCopyingFirst (sources_left work) work store history
+HasPurged (stage.Removing work) store history = HasBlock work × AreSourcesApart (sources_left work) × IsRemovingFirst (sources_left work) work store
+HasPurged other store history = Unit {0}

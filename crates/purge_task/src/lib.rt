@@ -1,0 +1,20 @@
+//! The events of a purge: what no mailbox lists leaves the storage files, beneath those who read them.
+#![tactic(auto)]
+
+pub use contents::Contents;
+pub use copying::{copy_message, next_wanted};
+pub use finding::{Found, FoundFile, TARGET_HEADER};
+pub use laws::{purge_stages_are_kept, purges_stand};
+pub use switching::{Switched, switch};
+pub use taking::{make_target, reserve, take_files};
+pub use task::{PurgeStage, PurgeTask, did_refused, remove_source};
+pub use work::{PIECE, Present, Source, Work, entry_size};
+
+mod contents;
+mod copying;
+mod finding;
+mod laws;
+mod switching;
+mod taking;
+mod task;
+mod work;
