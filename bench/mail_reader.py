@@ -24,12 +24,12 @@ def header_end(octets):
 
 
 def is_begun(octets):
-    """Whether fewer than 30 octets begin a message's header."""
+    """Whether fewer than 30 octets begin a message's header: the size's digits that are there leave room for a size that fits."""
     letters = b"\x01\x02N"
     return all(
         octet == letters[place] if place < 3 else 0x20 <= octet <= 0x7E if place < 13 else chr(octet) in "0123456789abcdefABCDEF"
         for place, octet in enumerate(octets)
-    )
+    ) and int(octets[13:].decode("latin1").ljust(16, "0"), 16) <= LARGEST_NUMBER
 
 
 def message_at(octets, offset):
