@@ -258,7 +258,7 @@ script_rests script text given entries h k old new began now o d shows = λ none
 unopened_may : (why : OpenError) → why ≡ error.DiskFault → IsOneOf (5 ∷ 6 ∷ 8 ∷ []) (status_of (opening_outcome why))
 unopened_may why e = inr (inl (ap (λ (w : OpenError). status_of (opening_outcome w)) e))
 
-unopened_as : (Done : Outcome → Type 0) (h : Option (List ℕ)) (old new : Option History) (began now : Faults) (why : OpenError) → IsUnopened why old new began now → OpenedOutcome Done h h old new began now (opening_outcome why)
+pub unopened_as : (Done : Outcome → Type 0) (h : Option (List ℕ)) (old new : Option History) (began now : Faults) (why : OpenError) → IsUnopened why old new began now → OpenedOutcome Done h h old new began now (opening_outcome why)
 unopened_as Done h old new began now why u = inl (record { why = why; ended_is = refl; unprinted = refl; cause = u.cause; idle = u.idle; untouched = u.untouched; stays = u.stays; unfailed = u.unfailed }, counted_as (why ≡ error.DiskFault) (opening_outcome why ≡ outcome.DiskFault) began now (λ e. opening_fault why e) u.fault)
 
 pub unopened_script : (script : Requests) (h : Option (List ℕ)) (old new : Option History) (began now : Faults) (why : OpenError) → IsUnopened why old new began now → ScriptOutcome script h h old new began now (opening_outcome why)

@@ -33,4 +33,5 @@ pub mod ServedLemmas
 pub mod StaysLemmas
 pub mod TextReadLemmas
 pub mod UnderWayLemmas
+pub mod WorkLemmas
 pub mod WroteLemmas

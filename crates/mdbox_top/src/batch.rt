@@ -9,6 +9,7 @@ ghost use Rattle.request_text.specs.declared.outcome.Outcome.TheVariants as outc
 ghost use Rattle.script_run.specs.Done.{MayBeServed};
 ghost use Rattle.script_text.specs.Script.{FitsScript, IsForLanes};
 ghost use Rattle.mdbox_top.specs.BatchRun.{BatchOutcome, BatchMoments, BatchRests, HasNoScript, ReadsScript, ScriptOutcome, ScriptMoments, ScriptRests, ShowsReplies, TellsScriptFaults};
+ghost use Rattle.mdbox_top.specs.BatchWork.{BatchWorks, WorkOutcome};
 ghost use Rattle.mdbox_top.specs.InputRun.{OfInput, IsOneOf};
 
 use crate::deliver::unread;
@@ -40,6 +41,7 @@ pub fn batch<D: Disk, I: Source, O: Sink>(
 ) -> (Outcome, D)
     requires lanes { (1 ≤ lanes) × (lanes ≤ 64) }
     ensures ends { BatchOutcome lanes (I.left input.old) (O.held output.old) (O.held output.new) (D.history disk) (D.history result.1) (D.faults disk) (D.faults result.1) result.0 }
+    ensures worked { BatchWorks D lanes (I.left input.old) (O.held output.old) (O.held output.new) (D.history disk) (D.history result.1) (D.faults disk) (D.faults result.1) result.0 }
     ensures moments { BatchMoments lanes (I.left input.old) (D.history disk) (D.history result.1) }
     ensures rests { BatchRests lanes (I.left input.old) (IsOneOf (5 ∷ 6 ∷ 8 ∷ []) (status_of result.0)) (D.faults disk) (D.faults result.1) (D.history disk) (D.history result.1) }
     ensures disk_fault { TellsScriptFaults lanes (I.left input.old) (D.history disk) → AnyFaultCounted (result.0 ≡ outcome.DiskFault) (D.faults disk) (D.faults result.1) }
@@ -133,6 +135,7 @@ fn run_requests<D: Disk, O: Sink>(
     requires fits { IsForLanes script }
     requires given { AreGiven script.requests prepared }
     ensures ends { ScriptOutcome script.requests (O.held output.old) (O.held output.new) (D.history disk) (D.history result.1) (D.faults disk) (D.faults result.1) result.0 }
+    ensures worked { WorkOutcome D script (O.held output.old) (O.held output.new) (D.history disk) (D.history result.1) (D.faults disk) (D.faults result.1) result.0 }
     ensures moments { ScriptMoments script.requests (D.history disk) (D.history result.1) }
     ensures rests { ScriptRests script.requests (IsOneOf (5 ∷ 6 ∷ 8 ∷ []) (status_of result.0)) (D.faults disk) (D.faults result.1) (D.history disk) (D.history result.1) }
     ensures disk_fault { MayBeServed script.requests (D.history disk) → AnyFaultCounted (result.0 ≡ outcome.DiskFault) (D.faults disk) (D.faults result.1) }

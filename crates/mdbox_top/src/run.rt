@@ -8,6 +8,7 @@ ghost use Rattle.request_text.specs.Outcomes.{status_of, error_text};
 ghost use Rattle.request_text.specs.declared.command.Command.{Command};
 ghost use Rattle.request_text.specs.declared.outcome.Outcome.TheVariants as outcome;
 ghost use Rattle.request_text.specs.declared.outcome.InputRefusal.{InputRefusal};
+ghost use Rattle.mdbox_top.specs.BatchWork.{CommandWorks};
 ghost use Rattle.mdbox_top.specs.DeliverRun.{IsReadWhole};
 ghost use Rattle.mdbox_top.specs.Run.{Ends, RunOutcome, Moments, Rests, HasStatus, MayHaveFailed, TellsFaults, reads_input, uses_disk, asks_clock};
 
@@ -38,6 +39,10 @@ pub fn mdbox_run<D: Disk, I: Source, O: Sink, E: Sink, C: Clock>(
     // What was read and printed, what the disk holds, what was told, and the status.
     ensures run { (command : Command) → Says (map string_bytes words.now) command
         → RunOutcome (Ends command (I.left input.old) (C.time clock.old) (O.held output.old) (O.held output.new) (D.history disk) (D.history result.1) (D.faults disk) (D.faults result.1)) result.0.0 (E.held errors.old) (E.faults errors.old) (E.held errors.new) (E.faults errors.new) }
+
+    // Of a script, whatever the disk: the replies and places that are printed are of what its lanes did.
+    ensures worked { (command : Command) → Says (map string_bytes words.now) command
+        → RunOutcome (CommandWorks D command (I.left input.old) (O.held output.old) (O.held output.new) (D.history disk) (D.history result.1) (D.faults disk) (D.faults result.1)) result.0.0 (E.held errors.old) (E.faults errors.old) (E.held errors.new) (E.faults errors.new) }
 
     // What a crash at any moment of the run leaves, whatever the result.
     ensures moments { (command : Command) → Says (map string_bytes words.now) command → Moments command (I.left input.old) (C.time clock.old) (D.history disk) (D.history result.1) }
@@ -93,6 +98,7 @@ pub fn mdbox_alone<D: Disk, I: Source, O: Sink, E: Sink, C: Clock>(
 ) -> (Status, D)
     requires range { IsInRange command }
     ensures run { RunOutcome (Ends command (I.left input.old) (C.time clock.old) (O.held output.old) (O.held output.new) (D.history disk) (D.history result.1) (D.faults disk) (D.faults result.1)) result.0.0 (E.held errors.old) (E.faults errors.old) (E.held errors.new) (E.faults errors.new) }
+    ensures worked { RunOutcome (CommandWorks D command (I.left input.old) (O.held output.old) (O.held output.new) (D.history disk) (D.history result.1) (D.faults disk) (D.faults result.1)) result.0.0 (E.held errors.old) (E.faults errors.old) (E.held errors.new) (E.faults errors.new) }
     ensures moments { Moments command (I.left input.old) (C.time clock.old) (D.history disk) (D.history result.1) }
     ensures rests { Rests command (I.left input.old) (C.time clock.old) (MayHaveFailed command result.0.0) (D.faults disk) (D.faults result.1) (D.history disk) (D.history result.1) }
     ensures status { HasStatus command (I.left input.old) (D.history disk) result.0.0 }
@@ -125,6 +131,7 @@ fn perform<D: Disk, I: Source, O: Sink, C: Clock>(
 ) -> (Outcome, D)
     requires range { IsInRange command }
     ensures ends { Ends command (I.left input.old) (C.time clock.old) (O.held output.old) (O.held output.new) (D.history disk) (D.history result.1) (D.faults disk) (D.faults result.1) result.0 }
+    ensures worked { CommandWorks D command (I.left input.old) (O.held output.old) (O.held output.new) (D.history disk) (D.history result.1) (D.faults disk) (D.faults result.1) result.0 }
     ensures moments { Moments command (I.left input.old) (C.time clock.old) (D.history disk) (D.history result.1) }
     ensures unread { reads_input command ≡ false → input.new ≡ input.old }
     ensures untouched { uses_disk command ≡ false → result.1 ≡ disk }

@@ -18,3 +18,4 @@ pub mod SomeListsLemmas
 pub mod StillLemmas
 pub mod ToldLemmas
 pub mod UnchangedLemmas
+pub mod WorkedLemmas

@@ -4,3 +4,4 @@ pub mod LeftOpen
 pub mod One
 pub mod Opening
 pub mod Script
+pub mod Worked

@@ -1,11 +1,13 @@
 // The run of a script, and of a request alone.
 ghost use Rattle.std.specs.Prelude.{◌≡◌, ◌≤◌, ◌∷◌, [], List, Some, length, map, IfErr, IfOk};
 ghost use Rattle.mdbox_base.specs.declared.replies.Reply.{Reply as ReplyValue};
+ghost use Rattle.mdbox_base.specs.declared.script.JournalEntry.{JournalEntry as EntryValue};
 ghost use Rattle.lanes.specs.Worlds.{AreGiven, AreOfLanes, HasItsMessage};
 ghost use Rattle.script_run.specs.Done.{IsScriptDone};
 ghost use Rattle.script_run.specs.LeftOpen.{IsRequestDone, IsServedOpen};
 ghost use Rattle.script_run.specs.One.{alone};
 ghost use Rattle.script_run.specs.Opening.{IsUnopened};
+ghost use Rattle.script_run.specs.Worked.{IsWorkedOut};
 
 use attach_detach::Prepared;
 use disk_model::Disk;
@@ -47,6 +49,7 @@ pub fn run_script<D: Disk>(
     requires few { length script.requests ≤ 100000 }
     requires given { AreGiven script.requests prepared }
     ensures done { IfOk result (λ done. (given : List ReplyValue) × (done.replies ≡ map Some given) × IsScriptDone script.requests given done.journal (D.history disk) (D.history done.disk) (D.faults disk) (D.faults done.disk)) }
+    ensures worked { IfOk result (λ done. IsWorkedOut D script.requests script.lanes done.replies done.journal (D.history disk) (D.history done.disk) (D.faults disk) (D.faults done.disk)) }
     ensures refused { IfErr result (λ refused. IsUnopened refused.error (D.history disk) (D.history refused.disk) (D.faults disk) (D.faults refused.disk)) }
 {
     match serve_script(alloc, disk, script, prepared) {
@@ -76,6 +79,7 @@ pub fn serve_script<D: Disk>(
     requires few { length script.requests ≤ 100000 }
     requires given { AreGiven script.requests prepared }
     ensures served { IfOk result (λ served. (given : List ReplyValue) × (served.replies ≡ map Some given) × IsServedOpen script.requests given served.journal (D.history disk) (D.history served.store.disk) (D.faults disk) (D.faults served.store.disk) served.store) }
+    ensures worked { IfOk result (λ served. IsWorkedOut D script.requests script.lanes served.replies served.journal (D.history disk) (D.history served.store.disk) (D.faults disk) (D.faults served.store.disk)) }
     ensures refused { IfErr result (λ refused. IsUnopened refused.error (D.history disk) (D.history refused.disk) (D.faults disk) (D.faults refused.disk)) }
 {
     listings_are_shown();
@@ -118,6 +122,7 @@ pub fn run_request<D: Disk>(
 ) -> Result<(Reply, D), OpenRefused<D>>
     requires given { HasItsMessage request prepared }
     ensures done { IfOk result (λ done. IsRequestDone request done.0 (D.history disk) (D.history done.1) (D.faults disk) (D.faults done.1)) }
+    ensures worked { IfOk result (λ done. (entries : List EntryValue) × IsWorkedOut D (alone request) 1 (Some done.0 ∷ []) entries (D.history disk) (D.history done.1) (D.faults disk) (D.faults done.1)) }
     ensures refused { IfErr result (λ refused. IsUnopened refused.error (D.history disk) (D.history refused.disk) (D.faults disk) (D.faults refused.disk)) }
 {
     match script_of(alloc, request, prepared) {

@@ -37,3 +37,9 @@ returns-in-Ok-clause-disk_fault g c = λ tells. c.run_requests.ensures.disk_faul
 
 pub returns-in-Ok-clause-disk_quiet : goal.returns-in-Ok-clause-disk_quiet
 returns-in-Ok-clause-disk_quiet g c = λ tells. c.run_requests.ensures.disk_quiet (tells c.in-Ok.script c.in-Ok.ensures.script)
+
+pub returns-in-Ok-clause-worked : goal.returns-in-Ok-clause-worked
+returns-in-Ok-clause-worked g c = inr (c.in-Ok.script, c.in-Ok.ensures.script, c.run_requests.ensures.worked)
+
+pub returns-in-Err-clause-worked : goal.returns-in-Err-clause-worked
+returns-in-Err-clause-worked g c = inl c.in-Err.ensures.none

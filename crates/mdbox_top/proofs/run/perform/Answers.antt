@@ -40,3 +40,6 @@ returns-in-Exercise-clause-rests g c = rw c.in-Exercise.is
 
 pub returns-in-Exercise-clause-disk_quiet : goal.returns-in-Exercise-clause-disk_quiet
 returns-in-Exercise-clause-disk_quiet g c = rw c.in-Exercise.is (λ tells none. c.exercise.ensures.disk_quiet (λ e. none (ap status_of e)))
+
+pub returns-in-Batch-clause-worked : goal.returns-in-Batch-clause-worked
+returns-in-Batch-clause-worked g c = rw c.in-Batch.is c.batch.ensures.worked

@@ -2,6 +2,7 @@ use Rattle.std.proofs.Common.{subst}
 use Rattle.script_run.proofs.DoneLemmas.{EndedParts, handed_out, no_task, run_done}
 use Rattle.script_run.proofs.RunBeginsLemmas.{OpenedNow}
 use Rattle.script_run.proofs.StillLemmas.{unopened_still}
+use Rattle.script_run.proofs.WorkedLemmas.{worked_out}
 use Rattle.store_core.specs.Running.{IsStore}
 use Rattle.script_run.proofs.run.serve_script.Goals as goal
 
@@ -65,3 +66,9 @@ returns-in-Ok-open_store-clause-served g c =
     (no_task (history c.args.disk) (history s.disk) s opened c.facts.ensures.ids o.made) c.lanes_begin.ensures c.worlds_begin.ensures c.lanes_end.ensures c.of-world.ensures c.finish.ensures.goes.1
     (kept.began, kept.requests)
     (c.idle_worlds_have_replied.ensures ended _ c.known_facts.ensures c.finish.ensures.idle) c.finish.ensures.idle later)
+
+pub returns-in-Ok-open_store-clause-worked : goal.returns-in-Ok-open_store-clause-worked
+returns-in-Ok-open_store-clause-worked g c =
+    let o = c.in-Ok-open_store.ensures in
+    worked_out g.D.Disk.history g.D.Disk.faults c.args.script.requests c.args.script.lanes c.in-Ok.parts (g.D.Disk.history c.args.disk) (g.D.Disk.faults c.args.disk) c.in-Ok-open_store.store c.of-world.result c.finish.new.self c.finish.ensures.goes.0 c.into_parts-store.result
+    o.opened (o.swept.0, o.swept.2) c.facts.ensures.store o.state.1 c.in-Ok.ensures c.of-world.ensures c.finish.ensures.goes.1 c.into_parts-store.ensures (o.unfailed (λ f. f))

@@ -1,0 +1,61 @@
+-- What a world did is handed out with its store, and handed back with the disk.
+use Rattle.std.specs.Prelude.{◌≡◌, ℕ, false, List, [], ◌∷◌, Option, Some}
+use Rattle.std.proofs.Common.{refl, sym, ap, subst}
+use Rattle.disk_model.specs.Disk.{Faults, History}
+use Rattle.mdbox_base.specs.declared.replies.Reply.{Reply}
+use Rattle.mdbox_base.specs.declared.requests.Request.{Request}
+use Rattle.mdbox_base.specs.declared.script.JournalEntry.{JournalEntry}
+use Rattle.mdbox_base.specs.declared.script.Script.{Script}
+use Rattle.journal.specs.Journal.{Requests}
+use Rattle.lanes.specs.Worlds.{ArePartsOf, GoesOnBy, IsFreshWorld, PartsValue, WorldValue}
+use Rattle.store_core.specs.Running.{IsStore}
+use Rattle.store_core.specs.Value.{StoreValue, indexes_of}
+use Rattle.store_open.specs.Opened.{IsOpenedAs}
+use Rattle.store_sweep.specs.Swept.{IsSwept}
+use Rattle.script_run.proofs.DoneLemmas.{EndedParts}
+use Rattle.script_run.specs.One.{alone}
+use Rattle.script_run.specs.Worked.{IsWorkedOut}
+
+-- A world that began with these parts went on to one that was taken apart so.
+pub worked_out : {D : Type 0} → (history : D → Option History) (faults : D → Faults) (script : Requests) (lanes : ℕ) (parts : PartsValue) (old : Option History) (began : Faults) (s : StoreValue D) (world ended : WorldValue D) (turns : List ℕ) (apart : EndedParts D) → IsOpenedAs old s.map (indexes_of s.boxes) → (generation : ℕ) × IsSwept generation s.map old (history s.disk) → IsStore (history s.disk) s → s.stopped ≡ false
+    → ArePartsOf script lanes parts → IsFreshWorld s parts (history s.disk) world → GoesOnBy turns world ended (history world.store.disk) (history ended.store.disk) (faults world.store.disk) (faults ended.store.disk) → apart ≡ (ended.store, ended.replies, ended.journal, ended.broken) → faults s.disk ≡ began
+    → IsWorkedOut D script lanes apart.1 apart.2 old (history apart.0.disk) began (faults apart.0.disk)
+worked_out {D} history faults script lanes parts old began s world ended turns apart opens swept sound running are begun goes is same =
+    subst (λ (f : Faults). IsWorkedOut D script lanes apart.1 apart.2 old (history apart.0.disk) f (faults apart.0.disk)) same
+    (subst (λ (p : EndedParts D). IsWorkedOut D script lanes p.1 p.2 old (history p.0.disk) (faults s.disk) (faults p.0.disk)) (sym is) whole)
+  where
+    whole : IsWorkedOut D script lanes ended.replies ended.journal old (history ended.store.disk) (faults s.disk) (faults ended.store.disk)
+    whole = record {
+      opened = history s.disk;
+      store = s;
+      opens = opens;
+      swept = swept;
+      sound = sound;
+      running = running;
+      parts = parts;
+      are = are;
+      fresh = world;
+      begins = begun;
+      last = ended;
+      turns = turns;
+      goes = subst (λ (t : StoreValue D). GoesOnBy turns world ended (history t.disk) (history ended.store.disk) (faults t.disk) (faults ended.store.disk)) (ap (λ (w : WorldValue D). w.store) begun.2) goes;
+      replies_are = refl;
+      entries_are = refl;
+    }
+
+-- The store's disk is handed back.
+pub worked_back : {D : Type 0} → (history : D → Option History) (faults : D → Faults) (script : Requests) (lanes : ℕ) (replies : List (Option Reply)) (entries : List JournalEntry) (old : Option History) (began : Faults) (store : StoreValue D) (disk : D) → disk ≡ store.disk
+    → IsWorkedOut D script lanes replies entries old (history store.disk) began (faults store.disk) → IsWorkedOut D script lanes replies entries old (history disk) began (faults disk)
+worked_back {D} history faults script lanes replies entries old began store disk is worked =
+    subst (λ (d : D). IsWorkedOut D script lanes replies entries old (history d) began (faults d)) (sym is) worked
+
+-- The script was that of a request alone.
+pub worked_alone : {D : Type 0} → (history : D → Option History) (faults : D → Faults) (request : Request) (script : Script) (one : Reply) (replies : List (Option Reply)) (entries : List JournalEntry) (old : Option History) (began : Faults) (store : StoreValue D) (disk : D) → disk ≡ store.disk → script.lanes ≡ 1 → script.requests ≡ alone request → replies ≡ Some one ∷ []
+    → IsWorkedOut D script.requests script.lanes replies entries old (history store.disk) began (faults store.disk) → (entries : List JournalEntry) × IsWorkedOut D (alone request) 1 (Some one ∷ []) entries old (history disk) began (faults disk)
+worked_alone {D} history faults request script one replies entries old began store disk is lanes requests given worked =
+    let a = worked_back history faults script.requests script.lanes replies entries old began store disk is worked in
+    let b = subst (λ (n : ℕ). IsWorkedOut D script.requests n replies entries old (history disk) began (faults disk)) lanes a in
+    let c = subst (λ (q : Requests). IsWorkedOut D q 1 replies entries old (history disk) began (faults disk)) requests b in (
+      entries,
+      subst (λ (rs : List (Option Reply)). IsWorkedOut D (alone request) 1 rs entries old (history disk) began (faults disk)) given c,
+    )

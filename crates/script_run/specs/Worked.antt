@@ -1,0 +1,31 @@
+-- What the lanes of a script did, whatever the disk.
+use Rattle.std.specs.Prelude.{◌≡◌, ℕ, false, List, Option}
+use Rattle.disk_model.specs.Disk.{Faults, History}
+use Rattle.mdbox_base.specs.declared.replies.Reply.{Reply}
+use Rattle.mdbox_base.specs.declared.script.JournalEntry.{JournalEntry}
+use Rattle.journal.specs.Journal.{Requests}
+use Rattle.lanes.specs.Worlds.{ArePartsOf, GoesOnBy, IsFreshWorld, PartsValue, WorldValue}
+use Rattle.store_core.specs.Running.{IsStore}
+use Rattle.store_core.specs.Value.{StoreValue, indexes_of}
+use Rattle.store_open.specs.Opened.{IsOpenedAs}
+use Rattle.store_sweep.specs.Swept.{IsSwept}
+
+-- The store was opened, with logs that the files have, and isn't stopped; a world of the script's requests, of so many lanes, began over it, and went on by its events in
+-- rounds: each is a step of its request's task, from the store as it was then. The replies and the journal are those that the world had
+-- at its end.
+pub record IsWorkedOut (D : Type 0) (script : Requests) (lanes : ℕ) (replies : List (Option Reply)) (entries : List JournalEntry) (old new : Option History) (began now : Faults) : Type 0 where
+  pub opened : Option History
+  pub store : StoreValue D
+  pub opens : IsOpenedAs old store.map (indexes_of store.boxes)
+  pub swept : (generation : ℕ) × IsSwept generation store.map old opened
+  pub sound : IsStore opened store
+  pub running : store.stopped ≡ false
+  pub parts : PartsValue
+  pub are : ArePartsOf script lanes parts
+  pub fresh : WorldValue D
+  pub begins : IsFreshWorld store parts opened fresh
+  pub last : WorldValue D
+  pub turns : List ℕ
+  pub goes : GoesOnBy turns fresh last opened new began now
+  pub replies_are : replies ≡ last.replies
+  pub entries_are : entries ≡ last.journal
