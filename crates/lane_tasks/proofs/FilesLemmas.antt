@@ -10,7 +10,7 @@ use Rattle.mdbox_base.specs.declared.requests.Request.{Request}
 use Rattle.mdbox_base.specs.declared.requests.Request.TheVariants as request
 use Rattle.model_lists.specs.Lists.{ListedMessage, Lists}
 use Rattle.list_machine.specs.Machine.{message_at}
-use Rattle.list_machine.specs.Run.{EventPart, First, Last, SecondHalf, GivesBack, RemovesFile, RunEvent, Run, TakenFile, and_then, own_events}
+use Rattle.list_machine.specs.Run.{EventPart, First, Last, SecondHalf, GivesBack, ReadsFile, RemovesFile, RunEvent, Run, TakenFile, and_then, own_events}
 use Rattle.journal.specs.Events.{Around, DidCopy, DidPart, RemovesIfThere}
 use Rattle.journal.specs.Found.{took_file}
 use Rattle.journal.proofs.OwnEventLemmas.{own_more, own_other}
@@ -66,6 +66,12 @@ pub fetch_takes_none : (name : List ℕ) (uid : Uid) → TakesNone (request.Fetc
 fetch_takes_none name uid around run lists event First d = files_of event _ d.2
 fetch_takes_none name uid around run lists event RemovesFile d = files_of event _ d.4
 fetch_takes_none name uid around run lists event part d = files_of event _ d
+
+pub resync_takes_none : TakesNone request.Resync
+resync_takes_none around run lists event First d = files_of event _ d
+resync_takes_none around run lists event ReadsFile d = files_of event _ d
+resync_takes_none around run lists event Last d = files_of event _ d.3
+resync_takes_none around run lists event part d = files_of event _ d
 
 -- ---- all of a request's
 

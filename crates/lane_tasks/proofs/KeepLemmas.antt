@@ -5,6 +5,7 @@ use Rattle.disk_model.specs.Disk.{History, Faults, Grows, IsIdle, DiskState, tol
 use Rattle.disk_model.specs.declared.name.FileName.TheVariants as file
 use Rattle.disk_model.specs.FaultCounts.{NoFault, ChangeFaultCounted}
 use Rattle.disk_model.proofs.IdleLemmas.{idle-begins}
+use Rattle.mdbox_base.specs.declared.progress.Did.{Did}
 use Rattle.mdbox_base.specs.declared.progress.Progress.{Progress}
 use Rattle.mdbox_base.specs.declared.progress.Progress.TheVariants as progress
 use Rattle.mdbox_base.specs.declared.replies.Refusal.TheVariants as refusal
@@ -47,6 +48,10 @@ use Rattle.mail_ops.specs.declared.moving.MoveStage.TheVariants as move_stage
 use Rattle.mail_save.specs.SaveEffects.{SaveEffects}
 use Rattle.mail_save.specs.declared.task.SaveStage.{SaveStage}
 use Rattle.mail_save.specs.declared.task.SaveStage.TheVariants as save_stage
+use Rattle.resync_task.specs.Clause.{CountsFaults, KeepsMessages}
+use Rattle.resync_task.specs.Correcting.{AreExact}
+use Rattle.resync_task.specs.Stages.{ResyncAt, ToList, ToRead}
+use Rattle.resync_task.specs.Task.{ResyncValue, ResyncsOn}
 use Rattle.lane_tasks.specs.Clause.{IsAtStart, StaysOfRequest, TaskKeeps, TellsStore, OnlyReads, WritesTask, progress_by}
 use Rattle.lane_tasks.specs.declared.task.Task.{Task}
 use Rattle.lane_tasks.specs.declared.task.Task.TheVariants as task
@@ -228,6 +233,57 @@ keeps_saving history faults t next old new answer request ends saves = by_run ol
     by_run : (b : Bool) → old.stopped ≡ b → Same history faults (task.Deliver t) (task.Deliver next) old new (ended_by answer)
     by_run true was = keeps_still history faults (task.Deliver t) (task.Deliver next) old new (ended_by answer) request (λ runs synced. absurd (let k : false ≡ true = sym runs ∙ (ap (λ (s : StoreValue _). s.stopped) (ends.still was) ∙ was) in cc k)) tt (ends.still was)
     by_run false r = ran r (saves r)
+
+-- ---- of a resync
+
+told_so : (a : Progress) (given : Reply) → ended_by a ≡ Some given → a ≡ progress.Done given
+told_so progress.More given e = absurd (let n : None ≡ Some given = e in cc n)
+told_so (progress.Done other) given e = (let n : Some other ≡ Some given = e in let z : other ≡ given = cc n in ap progress.Done z)
+
+-- a first event that is refused changes nothing
+resync_refused : {D : Type 0} → (now next : ResyncAt) (how : Did) (old new : StoreValue D) (before after : Option History) (began then : Faults) (answer : Progress) (why : Refusal) → now ≡ ToList → answer ≡ progress.Done (reply.Refused why)
+    → ResyncsOn now next answer how old new before after began then → new ≡ old
+resync_refused now next how old new before after began then answer why is e said =
+    by_next next why (subst (λ (k : ResyncAt). ResyncsOn k next (progress.Done (reply.Refused why)) how old new before after began then) is (subst (λ (a : Progress). ResyncsOn now next a how old new before after began then) e said))
+  where
+    by_next : (next : ResyncAt) (why : Refusal) → ResyncsOn ToList next (progress.Done (reply.Refused why)) how old new before after began then → new ≡ old
+    by_next ToList refusal.NoMemory s = s.1
+    by_next ToList why s = absurd s
+    by_next (ToRead files read damaged) why s = absurd s
+
+pub keeps_resyncing : {D : Type 0} → (history : D → Option History) (faults : D → Faults) (t next : ResyncValue) (old new : StoreValue D) (answer : Progress)
+    → (old.stopped ≡ false → ResyncsOn t.stage next.stage answer next.did old new (history old.disk) (history new.disk) (faults old.disk) (faults new.disk)) → ((corrected damaged : ℕ) → answer ≡ progress.Done (reply.Resynced corrected damaged) → AreExact new)
+    → (IsStoppedReply answer ↔ (new.stopped ≡ true)) → (old.stopped ≡ true → new ≡ old) → CountsFaults answer old new (faults old.disk) (faults new.disk) → KeepsMessages (new.stopped ≡ old.stopped) (history old.disk) (history new.disk) → Grows (history old.disk) (history new.disk)
+    → Same history faults (task.Resync t) (task.Resync next) old new (ended_by answer)
+keeps_resyncing history faults t next old new answer on exact halts still fault mail grows = record {
+  request = tt;
+  grows = grows;
+  mail = λ m kept. mail.stays m;
+  reads = fault.reads;
+  changes = fault.changes;
+  unfailed = fault.steady;
+  fell = λ ran stops. fault.change ran (halts.1 stops);
+  unread = λ none. absurd none;
+  tells = λ corrected damaged e. exact corrected damaged (told_so answer (reply.Resynced corrected damaged) e);
+  idle = λ reads. absurd reads;
+  still = λ stopped. (idle_same (still stopped), subst (λ (d : _). (faults d).changes ≡ (faults old.disk).changes) (sym (disk_same (still stopped))) refl);
+  same = idle_disk;
+  refused = λ why begun e step. idle_same (by_stop why begun (told_so answer (reply.Refused why) e) old.stopped refl);
+  left = λ runs. mail.left (runs ∙ sym (ran_before old.stopped new.stopped (λ was. ap (λ (s : StoreValue _). s.stopped) (still was) ∙ was) runs));
+}
+  where
+    disk_same : new ≡ old → new.disk ≡ old.disk
+    disk_same same = ap (λ (s : StoreValue _). s.disk) same
+
+    idle_disk : new.disk ≡ old.disk → IsIdle (history old.disk) (history new.disk)
+    idle_disk same = subst (λ (d : _). IsIdle (history old.disk) (history d)) (sym same) (idle-begins (history old.disk))
+
+    idle_same : new ≡ old → IsIdle (history old.disk) (history new.disk)
+    idle_same same = idle_disk (disk_same same)
+
+    by_stop : (why : Refusal) → t.stage ≡ ToList → answer ≡ progress.Done (reply.Refused why) → (b : Bool) → old.stopped ≡ b → new ≡ old
+    by_stop why begun e true was = still was
+    by_stop why begun e false ran = resync_refused t.stage next.stage next.did old new (history old.disk) (history new.disk) (faults old.disk) (faults new.disk) answer why begun e (on ran)
 
 -- ---- a first event that is refused
 

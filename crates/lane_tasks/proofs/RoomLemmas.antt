@@ -52,6 +52,7 @@ task_claims_few (task.Make t) store history ready = none_few (make_claims t.stag
 task_claims_few (task.Copy t) store history ready = none_few (claims_at (task.Copy t)) (λ file. refl) (λ id. refl)
 task_claims_few (task.Move t) store history ready = none_few (claims_at (task.Move t)) (λ file. refl) (λ id. refl)
 task_claims_few (task.Expunge t) store history ready = none_few (claims_at (task.Expunge t)) (λ file. refl) (λ id. refl)
+task_claims_few (task.Resync t) store history ready = none_few (claims_at (task.Resync t)) (λ file. refl) (λ id. refl)
 task_claims_few (task.Fetch t) store history ready = record { pinned = claims_one_pin t.stage; held = λ id. claims_few t.stage store id ready }
 task_claims_few (task.Deliver t) store history ready = record {
   pinned = λ file. omega arith;
@@ -132,6 +133,7 @@ found_free (task.Make t) asked store history around file s order none found = ab
 found_free (task.Copy t) asked store history around file s order none found = absurd (no_room file around.room none found)
 found_free (task.Move t) asked store history around file s order none found = absurd (no_room file around.room none found)
 found_free (task.Expunge t) asked store history around file s order none found = absurd (no_room file around.room none found)
+found_free (task.Resync t) asked store history around file s order none found = absurd (no_room file around.room none found)
 found_free (task.Fetch t) asked store history around file s order none found = absurd (no_room file around.room none found)
 
 -- ---- what files read
@@ -144,4 +146,5 @@ safe_answered (task.Make t) lists store history is runs safe = tt
 safe_answered (task.Copy t) lists store history is runs safe = tt
 safe_answered (task.Move t) lists store history is runs safe = tt
 safe_answered (task.Expunge t) lists store history is runs safe = tt
+safe_answered (task.Resync t) lists store history is runs safe = tt
 safe_answered (task.Deliver t) lists store history is runs safe = tt

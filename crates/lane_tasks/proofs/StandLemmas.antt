@@ -54,6 +54,8 @@ use Rattle.mail_save.proofs.SaveKeptLemmas.{save_kept}
 use Rattle.mail_save.proofs.SaveReadyLemmas.{begins_ready as fresh_delivery}
 use Rattle.mail_save.proofs.SaveTakenLemmas.{taken_claimed}
 use Rattle.mail_save.proofs.StableSaveLemmas.{save_stable}
+use Rattle.resync_task.specs.Stages.{ResyncAt, IsAtResync}
+use Rattle.resync_task.proofs.ResyncEventLemmas.{resyncs_are_kept}
 use Rattle.lane_tasks.specs.Clause.{PassesBy}
 use Rattle.lane_tasks.specs.Tasks.{BeginsTask, IsAtDelivery, IsAtFirst, IsAtTask, IsFreshDelivery, IsMakeNumber, IsReadyTask, StandsTask, TookFiles, TookNoFile, claims_at}
 use Rattle.lane_tasks.specs.declared.task.Task.{Task}
@@ -70,6 +72,7 @@ task_stable (task.Copy t) old new before after b ready = copy_stable t.name t.ui
 task_stable (task.Move t) old new before after b ready = move_stable t.name t.uid t.stage old new before after b ready
 task_stable (task.Expunge t) old new before after b ready = expunge_stable t.stage old new before after b ready
 task_stable (task.Fetch t) old new before after b ready = fetch_stable t.stage old new before after b ready
+task_stable (task.Resync t) old new before after b ready = tt
 task_stable (task.Deliver t) old new before after b ready = (ready.0, save_stable t.stage t.name t.time t.size ready.0 old new before after b ready.1)
 
 delivery_stays : {D : Type 0} → (t : SaveValue) (old new : StoreValue D) (before after : Option History) (asked : Request) (run : Run) (place : ℕ) (said : List Reply) (event : RunEvent) → PassesBy (task.Deliver t) old new before after → event.request ≢ place → GivesNew run event
@@ -88,6 +91,7 @@ at_stays (task.Move t) old new before after asked run place said event passes ot
 at_stays (task.Expunge t) old new before after asked run place said event passes other gives at = expunge_kept t.stage run place said event other gives at
 at_stays (task.Fetch t) old new before after asked run place said event passes other gives at =
     stay_beside t.stage old new before after run event place said other (λ runs. (passes runs).0) (λ runs. ((passes runs).2, (passes runs).1)) at
+at_stays (task.Resync t) old new before after asked run place said event passes other gives at = resyncs_are_kept t.stage run place said event other gives at
 at_stays (task.Deliver t) old new before after asked run place said event passes other gives at = delivery_stays t old new before after asked run place said event passes other gives at
 
 took_stays : (t : Task) (run : Run) (place : ℕ) (event : RunEvent) → event.request ≢ place → TookFiles t run place → TookFiles t (and_then run event) place
@@ -98,6 +102,7 @@ took_stays (task.Copy t) run place event other took = took_none_other run place 
 took_stays (task.Move t) run place event other took = took_none_other run place event other took
 took_stays (task.Expunge t) run place event other took = took_none_other run place event other took
 took_stays (task.Fetch t) run place event other took = took_none_other run place event other took
+took_stays (task.Resync t) run place event other took = took_none_other run place event other took
 took_stays (task.Deliver t) run place event other took = tt
 
 pub task_stands : {D : Type 0} → (t : Task) (old new : StoreValue D) (before after : Option History) (asked : Request) (run : Run) (place : ℕ) (said : List Reply) (event : RunEvent) → PassesBy t old new before after → event.request ≢ place → GivesNew run event
@@ -120,6 +125,7 @@ at_kept (task.Copy t) store history asked = copy_kept t.stage
 at_kept (task.Move t) store history asked = move_kept t.uid t.stage
 at_kept (task.Expunge t) store history asked = expunge_kept t.stage
 at_kept (task.Fetch t) store history asked = fetch_stays t.stage store.stopped history
+at_kept (task.Resync t) store history asked = resyncs_are_kept t.stage
 at_kept (task.Deliver t) store history asked = delivery_kept t store history asked
 
 pub task_kept : {D : Type 0} → (t : Task) (store : StoreValue D) (history : Option History) (asked : Request) → IsKept (StandsTask t store history asked)
@@ -166,6 +172,7 @@ begins_unclaimed asked (task.Copy t) b = copy_first t.stage b.at
 begins_unclaimed asked (task.Move t) b = move_first t.stage b.at
 begins_unclaimed asked (task.Expunge t) b = expunge_first t.stage b.at
 begins_unclaimed asked (task.Fetch t) b = λ thing. ap (λ (s : FetchStage). fetch_claims s thing) b.at
+begins_unclaimed asked (task.Resync t) b = λ thing. refl
 begins_unclaimed asked (task.Deliver t) b = delivery_unclaimed t asked b.at
 
 fresh_ready : {D : Type 0} → (t : SaveValue) (name : List ℕ) (time : ℕ) (octets : List ℕ) (store : StoreValue D) (history : Option History) → IsFreshDelivery t (request.Deliver name time octets) → IsReadyToDeliver t.stage t.name t.time t.size octets store history
@@ -185,6 +192,7 @@ begins_ready asked (task.Copy t) store history b = subst (λ (s : CopyStage). Is
 begins_ready asked (task.Move t) store history b = subst (λ (s : MoveStage). IsReadyToMove t.name t.uid s store) (sym b.at) (record { due = λ other. omega arith; source = tt })
 begins_ready asked (task.Expunge t) store history b = subst (λ (s : ExpungeStage). AreDueIn store (expunge_amounts s)) (sym b.at) (λ other. omega arith)
 begins_ready asked (task.Fetch t) store history b = subst (λ (s : FetchStage). IsReadyToFetch s store) (sym b.at) tt
+begins_ready asked (task.Resync t) store history b = tt
 begins_ready asked (task.Deliver t) store history b = delivery_ready t asked store history b.at
 
 delivery_at : {D : Type 0} → (t : SaveValue) (store : StoreValue D) (history : Option History) (asked : Request) (run : Run) (place : ℕ) (said : List Reply) → IsFreshDelivery t asked → HasNotBegun run place said → IsAtDelivery t store history asked run place said
@@ -204,6 +212,7 @@ begins_at (task.Copy t) store history asked run place said at begun = subst (λ 
 begins_at (task.Move t) store history asked run place said at begun = subst (λ (s : MoveStage). IsAtMove t.uid s run place said) (sym at) begun
 begins_at (task.Expunge t) store history asked run place said at begun = subst (λ (s : ExpungeStage). IsAtExpunge s run place said) (sym at) begun
 begins_at (task.Fetch t) store history asked run place said at begun = subst (λ (s : FetchStage). IsAtFetch s store.stopped history run place said) (sym at) begun
+begins_at (task.Resync t) store history asked run place said at begun = subst (λ (s : ResyncAt). IsAtResync s run place said) (sym at) begun
 begins_at (task.Deliver t) store history asked run place said at begun = delivery_at t store history asked run place said at begun
 
 none_took : (run : Run) (place : ℕ) → own_events place run ≡ [] → TookNoFile run place
@@ -217,6 +226,7 @@ begins_took (task.Copy t) run place none = none_took run place none
 begins_took (task.Move t) run place none = none_took run place none
 begins_took (task.Expunge t) run place none = none_took run place none
 begins_took (task.Fetch t) run place none = none_took run place none
+begins_took (task.Resync t) run place none = none_took run place none
 begins_took (task.Deliver t) run place none = tt
 
 pub begins_standing : {D : Type 0} → (asked : Request) (t : Task) (store : StoreValue D) (history : Option History) (run : Run) (place : ℕ) (said : List Reply) → BeginsTask asked t → HasNotBegun run place said → StandsTask t store history asked run place said
@@ -244,4 +254,5 @@ task_taken (task.Copy t) store history asked run place said file stood some is l
 task_taken (task.Move t) store history asked run place said file stood some is left = no_file_taken (claims_at (task.Move t)) run place file stood.took is
 task_taken (task.Expunge t) store history asked run place said file stood some is left = no_file_taken (claims_at (task.Expunge t)) run place file stood.took is
 task_taken (task.Fetch t) store history asked run place said file stood some is left = no_file_taken (claims_at (task.Fetch t)) run place file stood.took is
+task_taken (task.Resync t) store history asked run place said file stood some is left = no_file_taken (claims_at (task.Resync t)) run place file stood.took is
 task_taken (task.Deliver t) store history asked run place said file stood some is left = inl (delivery_taken t store history asked run place said file stood.at some is left)

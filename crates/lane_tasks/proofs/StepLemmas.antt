@@ -45,26 +45,31 @@ use Rattle.mail_save.specs.SaveSeen.{HasItsParts, IsAtSave, StepsWithRoom, aroun
 use Rattle.mail_save.specs.Task.{EndsSave, IsReadyToDeliver, SaveValue}
 use Rattle.mail_save.specs.declared.task.SaveStage.{SaveStage}
 use Rattle.mail_save.proofs.SavePartLemmas.{ready_has_parts}
-use Rattle.lane_tasks.specs.Clause.{DoomsNothing, SetsNoFlags, StaysOfRequest, StepsTask, around_at}
+use Rattle.resync_task.specs.Clause.{ResyncClause}
+use Rattle.resync_task.specs.Task.{ResyncValue}
+use Rattle.lane_tasks.specs.Clause.{DoomsNothing, FindsAround, SetsNoFlags, StaysOfRequest, StepsTask, around_at}
 use Rattle.lane_tasks.specs.Tasks.{IsAtTask, IsDeliveryOf, IsMakeNumber, IsTaskOf, TookFiles, TookNoFile, did_of, work_left}
 use Rattle.lane_tasks.specs.declared.task.Task.{Task}
 use Rattle.lane_tasks.specs.declared.task.Task.TheVariants as task
-use Rattle.lane_tasks.proofs.FilesLemmas.{TakesNone, copy_takes_none, counts_takes_none, expunge_takes_none, fetch_takes_none, flag_takes_none, list_takes_none, make_takes_none, move_takes_none, took_none_more}
+use Rattle.lane_tasks.proofs.FilesLemmas.{TakesNone, copy_takes_none, counts_takes_none, expunge_takes_none, fetch_takes_none, flag_takes_none, list_takes_none, make_takes_none, move_takes_none, resync_takes_none, took_none_more}
 
--- of a task that takes no files, and whose next value is of its request, in a store that keeps its files as they are
-pub steps_by : {D : Type 0} → (t next : Task) (q : Request) (old new : StoreValue D) (before after : Option History) (began now : Faults) (ended : Option Reply)
+-- of a task that takes no files, and whose next value is of its request, in a store that keeps its files as they are, with what its event found
+pub steps_found : {D : Type 0} → (t next : Task) (q : Request) (old new : StoreValue D) (before after : Option History) (began now : Faults) (ended : Option Reply)
     → ((asked : Request) → IsTaskOf t asked → (asked ≡ q) × IsTaskOf next asked) → TakesNone q → new.files ≡ old.files → ((run : Run) (place : ℕ) → TookFiles t run place → TookNoFile run place) → ((run : Run) (place : ℕ) → TookNoFile run place → TookFiles next run place)
-    → ((around behind : Around) (pins : ℕ → ℕ) → Steps (IsAtTask t old before q) (IsAtTask next new after q) around behind q (seen_of pins old before began) (seen_of pins new after now) (did_of next) ended)
+    → ((asked : Request) (around behind : Around) (pins : ℕ → ℕ) → (found : Around) × FindsAround t asked old before around ended found × Steps (IsAtTask t old before q) (IsAtTask next new after q) found behind q (seen_of pins old before began) (seen_of pins new after now) (did_of next) ended)
     → StepsTask t next old new before after began now ended
-steps_by t next q old new before after began now ended is none files took_is took_so steps asked around behind run lane place said lists come shown room reads stood =
+steps_found t next q old new before after began now ended is none files took_is took_so steps asked around behind run lane place said lists come shown room reads stood =
     let same = (is asked stood.is_of).0 in
-    let found = around_at t asked old around in
+    let by = steps asked around behind (λ file. pins_in file old.files.files) in
+    let found = by.0 in
     let seen : Steps (IsAtTask t old before q) (IsAtTask next new after q) found behind q (seen_in old before began) (seen_in new after now) (did_of next) ended =
     subst (λ (kept : FilesValue). Steps (IsAtTask t old before q) (IsAtTask next new after q) found behind q (seen_in old before began) (seen_of (λ file. pins_in file kept.files) new after now) (did_of next) ended) (sym files)
-    (steps found behind (λ file. pins_in file old.files.files)) in
+    by.2 in
     let does : Steps (IsAtTask t old before asked) (IsAtTask next new after asked) found behind asked (seen_in old before began) (seen_in new after now) (did_of next) ended =
     subst (λ (k : Request). Steps (IsAtTask t old before k) (IsAtTask next new after k) found behind k (seen_in old before began) (seen_in new after now) (did_of next) ended) (sym same) seen in
     let d = does run lane place said lists come shown stood.at in (
+      found,
+      by.1,
       d.0,
       λ more. record {
         is_of = (is asked stood.is_of).1;
@@ -73,6 +78,15 @@ steps_by t next q old new before after began now ended is none files took_is too
             (λ done. none found run lists d.0.makes.event d.0.makes.event.part (subst (λ (k : Request). DidPart found run lists k d.0.makes.event d.0.makes.event.part) same (d.0.makes.is_event.did done))) (took_is run place stood.took));
       },
     )
+
+-- of one whose event finds what is asked of it
+pub steps_by : {D : Type 0} → (t next : Task) (q : Request) (old new : StoreValue D) (before after : Option History) (began now : Faults) (ended : Option Reply)
+    → ((asked : Request) → IsTaskOf t asked → (asked ≡ q) × IsTaskOf next asked) → TakesNone q → new.files ≡ old.files → ((run : Run) (place : ℕ) → TookFiles t run place → TookNoFile run place) → ((run : Run) (place : ℕ) → TookNoFile run place → TookFiles next run place)
+    → ((asked : Request) (around : Around) → FindsAround t asked old before around ended (around_at t asked old around))
+    → ((around behind : Around) (pins : ℕ → ℕ) → Steps (IsAtTask t old before q) (IsAtTask next new after q) around behind q (seen_of pins old before began) (seen_of pins new after now) (did_of next) ended)
+    → StepsTask t next old new before after began now ended
+steps_by t next q old new before after began now ended is none files took_is took_so finds steps =
+    steps_found t next q old new before after began now ended is none files took_is took_so (λ asked around behind pins. (around_at t asked old around, finds asked around, steps (around_at t asked old around) behind pins))
 
 -- ---- each kind
 
@@ -98,23 +112,23 @@ expunge_request t u e = let n = e.0 in let i = e.1 in cc (n, i)
 pub copy_does : {D : Type 0} → (t u : CopyValue) (old new : StoreValue D) (before after : Option History) (began now : Faults) (ended : Option Reply) → (u.name ≡ t.name) × (u.uid ≡ t.uid) × (u.target ≡ t.target) → KeepsRest old new
     → StepsFrom (IsAtCopy t.stage) (IsAtCopy u.stage) (request.Copy t.name t.uid t.target) old new before after began now u.did ended → StepsTask (task.Copy t) (task.Copy u) old new before after began now ended
 copy_does t u old new before after began now ended same rest steps =
-    steps_by (task.Copy t) (task.Copy u) (request.Copy t.name t.uid t.target) old new before after began now ended (λ asked is. (is, is ∙ copy_request t u same)) (copy_takes_none t.name t.uid t.target) (rest_files old new rest) (λ run place took. took) (λ run place took. took) steps
+    steps_by (task.Copy t) (task.Copy u) (request.Copy t.name t.uid t.target) old new before after began now ended (λ asked is. (is, is ∙ copy_request t u same)) (copy_takes_none t.name t.uid t.target) (rest_files old new rest) (λ run place took. took) (λ run place took. took) (λ asked around. refl) steps
 
 pub move_does : {D : Type 0} → (t u : MoveValue) (old new : StoreValue D) (before after : Option History) (began now : Faults) (ended : Option Reply) → (u.name ≡ t.name) × (u.uid ≡ t.uid) × (u.target ≡ t.target) → KeepsRest old new
     → StepsFrom (IsAtMove t.uid t.stage) (IsAtMove t.uid u.stage) (request.Move t.name t.uid t.target) old new before after began now u.did ended → StepsTask (task.Move t) (task.Move u) old new before after began now ended
 move_does t u old new before after began now ended same rest steps =
-    steps_by (task.Move t) (task.Move u) (request.Move t.name t.uid t.target) old new before after began now ended (λ asked is. (is, is ∙ move_request t u same)) (move_takes_none t.name t.uid t.target) (rest_files old new rest) (λ run place took. took) (λ run place took. took)
+    steps_by (task.Move t) (task.Move u) (request.Move t.name t.uid t.target) old new before after began now ended (λ asked is. (is, is ∙ move_request t u same)) (move_takes_none t.name t.uid t.target) (rest_files old new rest) (λ run place took. took) (λ run place took. took) (λ asked around. refl)
     (λ around behind pins. subst (λ (k : Uid). Steps (IsAtMove t.uid t.stage) (IsAtMove k u.stage) around behind (request.Move t.name t.uid t.target) (seen_of pins old before began) (seen_of pins new after now) u.did ended) (sym same.1) (steps around behind pins))
 
 pub expunge_does : {D : Type 0} → (t u : ExpungeValue) (old new : StoreValue D) (before after : Option History) (began now : Faults) (ended : Option Reply) → (u.name ≡ t.name) × (u.uid ≡ t.uid) → KeepsRest old new
     → StepsFrom (IsAtExpunge t.stage) (IsAtExpunge u.stage) (request.Expunge t.name t.uid) old new before after began now u.did ended → StepsTask (task.Expunge t) (task.Expunge u) old new before after began now ended
 expunge_does t u old new before after began now ended same rest steps =
-    steps_by (task.Expunge t) (task.Expunge u) (request.Expunge t.name t.uid) old new before after began now ended (λ asked is. (is, is ∙ expunge_request t u same)) (expunge_takes_none t.name t.uid) (rest_files old new rest) (λ run place took. took) (λ run place took. took) steps
+    steps_by (task.Expunge t) (task.Expunge u) (request.Expunge t.name t.uid) old new before after began now ended (λ asked is. (is, is ∙ expunge_request t u same)) (expunge_takes_none t.name t.uid) (rest_files old new rest) (λ run place took. took) (λ run place took. took) (λ asked around. refl) steps
 
 pub make_does : {D : Type 0} → (t u : MakeValue) (old new : StoreValue D) (before after : Option History) (began now : Faults) (ended : Option Reply) → u.name ≡ t.name → KeepsAllButLogs old new
     → StepsFrom (IsAtMake t.stage) (IsAtMake u.stage) (request.Make t.name) old new before after began now u.did ended → StepsTask (task.Make t) (task.Make u) old new before after began now ended
 make_does t u old new before after began now ended same rest steps =
-    steps_by (task.Make t) (task.Make u) (request.Make t.name) old new before after began now ended (λ asked is. (is, is ∙ ap request.Make (sym same))) (make_takes_none t.name) (logs_files old new rest) (λ run place took. took) (λ run place took. took) steps
+    steps_by (task.Make t) (task.Make u) (request.Make t.name) old new before after began now ended (λ asked is. (is, is ∙ ap request.Make (sym same))) (make_takes_none t.name) (logs_files old new rest) (λ run place took. took) (λ run place took. took) (λ asked around. refl) steps
 
 ops_takes_none : (q : Request) → IsOpsRequest q → TakesNone q
 ops_takes_none (request.List name) is = list_takes_none name
@@ -130,11 +144,16 @@ ops_asked other old new given r = absurd r
 pub ops_does : {D : Type 0} → (t u : TaskValue) (old new : StoreValue D) (before after : Option History) (began now : Faults) (ended : Option Reply) → IsOpsRequest t.request → u.request ≡ t.request → KeepsRest old new
     → StepsFrom (IsAt t.stage) (IsAt u.stage) t.request old new before after began now u.did ended → StepsTask (task.Ops t) (task.Ops u) old new before after began now ended
 ops_does t u old new before after began now ended is_ops same rest steps =
-    steps_by (task.Ops t) (task.Ops u) t.request old new before after began now ended (λ asked is. (is, is ∙ sym same)) (ops_takes_none t.request is_ops) (rest_files old new rest) (λ run place took. took) (λ run place took. took) steps
+    steps_by (task.Ops t) (task.Ops u) t.request old new before after began now ended (λ asked is. (is, is ∙ sym same)) (ops_takes_none t.request is_ops) (rest_files old new rest) (λ run place took. took) (λ run place took. took) (λ asked around. refl) steps
 
 pub counts_does : {D : Type 0} → (t u : Did) (store : StoreValue D) (history : Option History) (faults : Faults) (ended : Option Reply) → StepsFrom HasNotBegun HasNotBegun request.Counts store store history history faults faults u ended
     → StepsTask (task.Counts t) (task.Counts u) store store history history faults faults ended
-counts_does t u store history faults ended steps = steps_by (task.Counts t) (task.Counts u) request.Counts store store history history faults faults ended (λ asked is. (is, is)) counts_takes_none refl (λ run place took. took) (λ run place took. took) steps
+counts_does t u store history faults ended steps = steps_by (task.Counts t) (task.Counts u) request.Counts store store history history faults faults ended (λ asked is. (is, is)) counts_takes_none refl (λ run place took. took) (λ run place took. took) (λ asked around. refl) steps
+
+pub resync_does : {D : Type 0} → (t u : ResyncValue) (old new : StoreValue D) (before after : Option History) (began now : Faults) (ended : Option Reply) → KeepsRest old new → ResyncClause t.stage u.stage old new before after began now u.did ended
+    → StepsTask (task.Resync t) (task.Resync u) old new before after began now ended
+resync_does t u old new before after began now ended rest steps =
+    steps_found (task.Resync t) (task.Resync u) request.Resync old new before after began now ended (λ asked is. (is, is)) resync_takes_none (rest_files old new rest) (λ run place took. took) (λ run place took. took) (λ asked around behind pins. steps behind pins)
 
 -- ---- a store that is stopped, and files that are doomed
 
@@ -220,6 +239,8 @@ fetch_does t u old new before after began now ended same undoomed steps asked ar
     let does : StepsOf (λ ls. CanFetch t.stage t.name t.uid ls old.map before) (IsAtFetch t.stage old.stopped before) (IsAtFetch u.stage new.stopped after) around behind asked (seen_in old before began) (seen_in new after now) u.did ended =
     subst (λ (k : Request). StepsOf (λ ls. CanFetch t.stage t.name t.uid ls old.map before) (IsAtFetch t.stage old.stopped before) (IsAtFetch u.stage new.stopped after) around behind k (seen_in old before began) (seen_in new after now) u.did ended) (sym is) (steps around behind undoomed) in
     let d = does run lane place said lists come shown reads stood.at in (
+      around,
+      refl,
       d.0,
       λ more. record {
         is_of = is ∙ fetch_request t u same;
@@ -311,6 +332,8 @@ deliver_does t u old new before after began now result same claims ready steps (
     (steps octets (λ file. pins_in file old.files.files) behind stood.at.1 (λ runs. (stood.at.2 runs).ready)) in
     let d = does run lane place said lists come shown (stood.at.0, room) in
     let pinned : new.stopped ≡ false → (file : ℕ) → pins_in file new.files.files ≡ pins_in file old.files.files = λ runs file. let c = claims runs (Pinned file) in omega (arith, c) in (
+      around_saving octets t.stage old,
+      refl,
       event_with (around_saving octets t.stage old) behind run lane place said (request.Deliver name time octets) lists (seen_in old before began) (seen_of (λ file. pins_in file old.files.files) new after now) u.did (ended_by result) (λ file. pins_in file new.files.files) pinned d.0,
       λ more.
           let runs = still_runs new.stopped (ended_by result) d.0.ends.halts.1 more in
@@ -339,6 +362,7 @@ request_stays (task.Move t) (task.Move next) asked same is = is ∙ ap (λ (n : 
 request_stays (task.Expunge t) (task.Expunge next) asked same is = is ∙ ap (λ (n : List ℕ). request.Expunge n t.uid) (sym same.0) ∙ ap (λ (u : Uid). request.Expunge next.name u) (sym same.1)
 request_stays (task.Fetch t) (task.Fetch next) asked same is = is ∙ ap (λ (n : List ℕ). request.Fetch n t.uid) (sym same.0) ∙ ap (λ (u : Uid). request.Fetch next.name u) (sym same.1)
 request_stays (task.Deliver t) (task.Deliver next) asked same is = deliver_stays_of t next asked same is
+request_stays (task.Resync t) (task.Resync next) asked same is = is
 request_stays t next asked same is = absurd same
 
 -- one that goes on ran in a store that runs

@@ -74,3 +74,4 @@ work_stays (task.Copy t) mine old new before after ready leaves = omega arith
 work_stays (task.Move t) mine old new before after ready leaves = omega arith
 work_stays (task.Expunge t) mine old new before after ready leaves = omega arith
 work_stays (task.Fetch t) mine old new before after ready leaves = omega arith
+work_stays (task.Resync t) mine old new before after ready leaves = omega arith

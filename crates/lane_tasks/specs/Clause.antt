@@ -40,6 +40,9 @@ use Rattle.mail_save.specs.MailFiles.{WritesMail}
 use Rattle.mail_save.specs.SaveSeen.{around_saving}
 use Rattle.mail_save.specs.Task.{SaveValue}
 use Rattle.mail_save.specs.declared.task.SaveStage.TheVariants as save_stage
+use Rattle.resync_task.specs.Clause.{FindsResync}
+use Rattle.resync_task.specs.Correcting.{AreExact}
+use Rattle.resync_task.specs.Stages.{ToList}
 use Rattle.lane_tasks.specs.Tasks.{IsReadyTask, StandsTask, claims_at, did_of}
 use Rattle.lane_tasks.specs.declared.task.Task.{Task}
 use Rattle.lane_tasks.specs.declared.task.Task.TheVariants as task
@@ -71,6 +74,11 @@ abbrev pub around_at : {D : Type 0} → Task → Request → StoreValue D → Ar
 around_at (task.Deliver t) asked store around = found_saving t asked store around
 around_at other asked store around = around
 
+-- What an event that ended its request so found: of a resync what its files have, as far as the disk tells; of every other task this.
+abbrev pub FindsAround : {D : Type 0} → Task → Request → StoreValue D → Option History → Around → Option Reply → Around → Type 0
+FindsAround (task.Resync t) asked store history around ended found = FindsResync t.stage ended store history found
+FindsAround other asked store history around ended found = found ≡ around_at other asked store around
+
 -- a storage file that no task has taken, to add to it or to empty it
 pub record IsFreeToTake {D : Type 0} (file : ℕ) (store : StoreValue D) : Type 0 where
   pub some : 1 ≤ file
@@ -87,12 +95,13 @@ CanAnswer other lists store history = Unit {0}
 
 -- Of every run that has come to the store, of any lists that it shows, and where the task stands, unless the store runs and a request
 -- has taken the file that it finds; of lists of which the files store what it answers by. It is `Steps`, with the
--- store and what its disk tells.
+-- store and what its disk tells, of what the event found.
 abbrev pub StepsTask : {D : Type 0} → Task → Task → StoreValue D → StoreValue D → Option History → Option History → Faults → Faults → Option Reply → Type 0
 StepsTask task next old new before after began now ended =
     (asked : Request) (around behind : Around) (run : Run) (lane place : ℕ) (said : List Reply) (lists : Lists) → HasComeTo run (seen_in old before began) → ShowsSeen (seen_in old before began) lists
     → (old.stopped ≡ false → FindsRoom (around_at task asked old around) run) → (old.stopped ≡ false → CanAnswer task lists old before) → StandsTask task old before asked run place said
-    → (d : DidEvent (around_at task asked old around) behind run lane place said asked lists (seen_in old before began) (seen_in new after now) (did_of next) ended)
+    → (found : Around) × FindsAround task asked old before around ended found
+    × (d : DidEvent found behind run lane place said asked lists (seen_in old before began) (seen_in new after now) (did_of next) ended)
     × (ended ≡ None → StandsTask next new after asked (and_then run d.makes.event) place (and_told said d.makes.answer))
 
 -- An event of another task beside this one: unless the store is stopped then, it ran before, this task was ready, and the event moved
@@ -117,6 +126,7 @@ OnlyReads other = ⊥
 abbrev pub ReadsNoOctets : Task → Type 0
 ReadsNoOctets (task.Fetch t) = ⊥
 ReadsNoOctets (task.Deliver t) = ⊥
+ReadsNoOctets (task.Resync t) = ⊥
 ReadsNoOctets other = Unit {0}
 
 -- how an event ended: with a reply, or its request goes on
@@ -125,13 +135,15 @@ progress_by None = progress.More
 progress_by (Some given) = progress.Done given
 
 -- What a task answers, by what its event found in the store and left of it: of a listing or a setting of flags, and, unless the store
--- was stopped, of a make, a copy, a move or an expunge, with the stages before and after.
+-- was stopped, of a make, a copy, a move or an expunge, with the stages before and after. A resync that puts counts right leaves each
+-- exact.
 abbrev pub TellsStore : {D : Type 0} → Task → Task → StoreValue D → StoreValue D → Option History → Option History → Option Reply → Type 0
 TellsStore (task.Ops t) next old new before after ended = (given : Reply) × (ended ≡ Some given) × Replies t.request old new given
 TellsStore (task.Make t) (task.Make next) old new before after ended = old.stopped ≡ false → MakeAnswers t.name t.stage old new before after next.stage (progress_by ended)
 TellsStore (task.Copy t) (task.Copy next) old new before after ended = old.stopped ≡ false → CopyAnswers t.name t.uid t.target t.stage old new next.stage (progress_by ended)
 TellsStore (task.Move t) (task.Move next) old new before after ended = old.stopped ≡ false → MoveAnswers t.name t.uid t.target t.stage old new next.stage (progress_by ended)
 TellsStore (task.Expunge t) (task.Expunge next) old new before after ended = old.stopped ≡ false → ExpungeAnswers t.name t.uid t.stage old new next.stage (progress_by ended)
+TellsStore (task.Resync t) next old new before after ended = (corrected damaged : ℕ) → ended ≡ Some (reply.Resynced corrected damaged) → AreExact new
 TellsStore t next old new before after ended = Unit {0}
 
 -- For which maps storage files and instances stay: of a delivery for that of its store, of every other task for each.
@@ -152,6 +164,7 @@ IsAtStart (task.Move t) = t.stage ≡ move_stage.First
 IsAtStart (task.Expunge t) = t.stage ≡ expunge_stage.First
 IsAtStart (task.Fetch t) = t.stage ≡ fetch_stage.First
 IsAtStart (task.Deliver t) = (prepared : Prepared) × (t.stage ≡ save_stage.First prepared)
+IsAtStart (task.Resync t) = t.stage ≡ ToList
 IsAtStart other = Unit {0}
 
 -- It is of the same kind and of the same request, as far as the task tells it: of a delivery its message's size.
@@ -164,6 +177,7 @@ StaysOfRequest (task.Move t) (task.Move next) = (next.name ≡ t.name) × (next.
 StaysOfRequest (task.Expunge t) (task.Expunge next) = (next.name ≡ t.name) × (next.uid ≡ t.uid)
 StaysOfRequest (task.Fetch t) (task.Fetch next) = (next.name ≡ t.name) × (next.uid ≡ t.uid)
 StaysOfRequest (task.Deliver t) (task.Deliver next) = (next.name ≡ t.name) × (next.time ≡ t.time) × (next.size ≡ t.size)
+StaysOfRequest (task.Resync t) (task.Resync next) = Unit {0}
 StaysOfRequest t next = ⊥
 
 -- Whatever the disk is and fails: time goes on, and at each moment storage files and instances have what the map needs. No count of

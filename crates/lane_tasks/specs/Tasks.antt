@@ -32,16 +32,17 @@ use Rattle.mail_save.specs.Claims.{save_claims}
 use Rattle.mail_save.specs.SaveSeen.{HasItsParts, IsAtSave}
 use Rattle.mail_save.specs.Task.{IsReadyToDeliver, SaveValue, save_events_left}
 use Rattle.mail_save.specs.declared.task.SaveStage.TheVariants as save_stage
+use Rattle.resync_task.specs.Stages.{IsAtResync, ToList}
+use Rattle.resync_task.specs.Task.{resync_left}
 use Rattle.lane_tasks.specs.declared.task.Task.{Task}
 use Rattle.lane_tasks.specs.declared.task.Task.TheVariants as task
 
 -- ---- its request
 
--- the requests that have a task as they are: a delivery's message is prepared first, and those of the whole store have none yet
+-- the requests that have a task as they are: a delivery's message is prepared first, and a purge has none yet
 abbrev pub HasTask : Request → Type 0
 HasTask (request.Deliver name time octets) = ⊥
 HasTask request.Purge = ⊥
-HasTask request.Resync = ⊥
 HasTask other = Unit {0}
 
 -- A delivery's request is of its mailbox and time. Of the message the task keeps no octets, so these may be any.
@@ -59,6 +60,7 @@ IsTaskOf (task.Move t) asked = asked ≡ request.Move t.name t.uid t.target
 IsTaskOf (task.Expunge t) asked = asked ≡ request.Expunge t.name t.uid
 IsTaskOf (task.Fetch t) asked = asked ≡ request.Fetch t.name t.uid
 IsTaskOf (task.Deliver t) asked = IsDeliveryOf t asked
+IsTaskOf (task.Resync t) asked = asked ≡ request.Resync
 
 -- what its last event did: nothing before the first
 abbrev pub did_of : Task → Did
@@ -70,6 +72,7 @@ did_of (task.Move t) = t.did
 did_of (task.Expunge t) = t.did
 did_of (task.Fetch t) = t.did
 did_of (task.Deliver t) = t.did
+did_of (task.Resync t) = t.did
 
 -- a delivery that has begun nothing has the request's message, prepared
 abbrev pub IsFreshDelivery : SaveValue → Request → Type 0
@@ -84,6 +87,7 @@ IsAtFirst (task.Move t) asked = t.stage ≡ move_stage.First
 IsAtFirst (task.Expunge t) asked = t.stage ≡ expunge_stage.First
 IsAtFirst (task.Fetch t) asked = t.stage ≡ fetch_stage.First
 IsAtFirst (task.Deliver t) asked = IsFreshDelivery t asked
+IsAtFirst (task.Resync t) asked = t.stage ≡ ToList
 IsAtFirst other asked = Unit {0}
 
 -- A request has this task as it begins.
@@ -127,6 +131,7 @@ work_left (task.Move t) store = move_left t.stage
 work_left (task.Expunge t) store = expunge_left t.stage
 work_left (task.Fetch t) store = events_left t.stage
 work_left (task.Deliver t) store = save_events_left t.stage store.instances
+work_left (task.Resync t) store = resync_left t.stage
 work_left other store = 1
 
 -- ---- where it stands
@@ -149,6 +154,7 @@ IsAtTask (task.Move t) store history asked run place said = IsAtMove t.uid t.sta
 IsAtTask (task.Expunge t) store history asked run place said = IsAtExpunge t.stage run place said
 IsAtTask (task.Fetch t) store history asked run place said = IsAtFetch t.stage store.stopped history run place said
 IsAtTask (task.Deliver t) store history asked run place said = IsAtDelivery t store history asked run place said
+IsAtTask (task.Resync t) store history asked run place said = IsAtResync t.stage run place said
 
 -- none of a request's events that wasn't refused took a storage file
 abbrev pub TookNoFile : Run → ℕ → Type 0

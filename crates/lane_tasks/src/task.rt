@@ -18,6 +18,7 @@ use mail_fetch::FetchTask;
 use mail_ops::{CopyTask, CountsTask, ExpungeTask, MakeTask, MoveTask, OpsTask};
 use mail_save::SaveTask;
 use mdbox_base::{Did, Name, Progress, Request};
+use resync_task::ResyncTask;
 use store_core::Store;
 
 /// The task of a request of any kind.
@@ -39,6 +40,8 @@ pub enum Task {
     Fetch(FetchTask),
     /// Of a delivery.
     Deliver(SaveTask),
+    /// Of a resync.
+    Resync(ResyncTask),
 }
 
 impl Task {
@@ -49,6 +52,7 @@ impl Task {
     {
         match request {
             Request::Counts => Task::Counts(CountsTask::of()),
+            Request::Resync => Task::Resync(ResyncTask::of()),
             Request::Make { name } => Task::Make(MakeTask::of(name)),
             Request::Copy { name, uid, target } => Task::Copy(CopyTask::of(name, uid, target)),
             Request::Move { name, uid, target } => Task::Move(MoveTask::of(name, uid, target)),
@@ -83,6 +87,7 @@ impl Task {
             Task::Expunge(task) => task.did(),
             Task::Fetch(task) => task.did(),
             Task::Deliver(task) => task.did(),
+            Task::Resync(task) => task.did(),
         }
     }
 
@@ -122,6 +127,7 @@ impl Task {
             Task::Expunge(task) => task.step(store),
             Task::Fetch(task) => task.step(store),
             Task::Deliver(task) => task.step(store),
+            Task::Resync(task) => task.step(store),
         }
     }
 }

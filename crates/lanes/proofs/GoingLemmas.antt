@@ -16,6 +16,7 @@ use Rattle.mdbox_base.specs.declared.requests.Request.{Request}
 use Rattle.mdbox_base.specs.declared.script.Half.{Half}
 use Rattle.model_lists.specs.Lists.{Lists}
 use Rattle.list_machine.specs.Run.{Run, RunEvent, and_then}
+use Rattle.journal.specs.Events.{Around}
 use Rattle.journal.specs.Journal.{Broken, JournalStep, Requests, half_of, left_by}
 use Rattle.journal.specs.JournalExamples.{nothing_around}
 use Rattle.journal.specs.Makes.{steps_made}
@@ -33,7 +34,7 @@ use Rattle.task_claims.specs.Leaving.{LeavesOthers}
 use Rattle.task_steps.specs.Serves.{BreaksBy, IsTurn}
 use Rattle.task_steps.specs.Step.{DidEvent, FaultsGrow, FindsRoom, IsFault, Seen, Went, and_told, ended_by}
 use Rattle.mail_fetch.specs.Task.{seen_in}
-use Rattle.lane_tasks.specs.Clause.{CanAnswer, PassesBy, around_at}
+use Rattle.lane_tasks.specs.Clause.{CanAnswer, FindsAround, PassesBy, around_at}
 use Rattle.lane_tasks.specs.Tasks.{BeginsTask, IsReadyTask, StandsTask, claims_at, did_of}
 use Rattle.lane_tasks.specs.declared.task.Task.{Task}
 use Rattle.lane_tasks.proofs.StandLemmas.{begins_ready, begins_standing, begins_unclaimed, task_stable, task_stands}
@@ -302,7 +303,7 @@ going_on {D} start script run journal broken replies began rows k row now event 
         accounts = λ runs. accounts_row rows k row now event old new before after first second there (begin_some script (k + 1) row.waiting are) runs g (s.accounts (ran runs));
         undoomed = λ runs. g.goes.undoomed runs (s.undoomed (ran runs));
         fetched = s.fetched;
-        undamaged = undamaged_on (around_at g.queued.task turn.0 old nothing_around) nothing_around script run replies (k + 1) g.queued.place turn.0 (left_by start journal) d.0.makes.event (ended_by event.ended) (and_told (said_by journal g.queued.place) d.0.makes.answer) turn.1.asked turn.1.unanswered d.0.makes.request_is
+        undamaged = undamaged_on found nothing_around script run replies (k + 1) g.queued.place turn.0 (left_by start journal) d.0.makes.event (ended_by event.ended) (and_told (said_by journal g.queued.place) d.0.makes.answer) turn.1.asked turn.1.unanswered d.0.makes.request_is
             d.0.makes.ended_is d.0.makes.is_event d.0.ends.replied (λ more name uid fetch. stands_undamaged g.next new after name uid then_run g.queued.place (and_told (said_by journal g.queued.place) d.0.makes.answer)
             (subst (λ (q : Request). StandsTask g.next new after q then_run g.queued.place (and_told (said_by journal g.queued.place) d.0.makes.answer)) fetch (d.1 more))) s.undamaged;
         quiet = λ runs unread. quiet_then ran d.0.ends.unfailed (unfaulted turn.0 run (left_by start journal) d.0.left d.0.makes.event d.0.makes.answer (seen_in old before first) (seen_in new after second) (did_of g.next) d.0.went) runs unread;
@@ -324,9 +325,17 @@ going_on {D} start script run journal broken replies began rows k row now event 
     answers : old.stopped ≡ false → CanAnswer g.queued.task (left_by start journal) old before
     answers runs = can_answer g.queued.task turn.0 (left_by start journal) old before g.goes.store runs turn.2.is_of (λ name uid is. s.serving.serves.settled runs (s.fetched g.queued.place (k + 1) name uid (turn.1.asked ∙ ap (λ (q : Request). Some (k + 1, q)) is)))
 
-    d : (d : DidEvent (around_at g.queued.task turn.0 old nothing_around) nothing_around run (k + 1) g.queued.place (said_by journal g.queued.place) turn.0 (left_by start journal) (seen_in old before first) (seen_in new after second) (did_of g.next) (ended_by event.ended))
+    did : (found : Around) × FindsAround g.queued.task turn.0 old before nothing_around (ended_by event.ended) found
+        × (d : DidEvent found nothing_around run (k + 1) g.queued.place (said_by journal g.queued.place) turn.0 (left_by start journal) (seen_in old before first) (seen_in new after second) (did_of g.next) (ended_by event.ended))
         × (ended_by event.ended ≡ None → StandsTask g.next new after turn.0 (and_then run d.makes.event) g.queued.place (and_told (said_by journal g.queued.place) d.makes.answer))
-    d = g.goes.steps turn.0 nothing_around nothing_around run (k + 1) g.queued.place (said_by journal g.queued.place) (left_by start journal) s.serving.serves.come s.serving.serves.shown finds answers turn.2
+    did = g.goes.steps turn.0 nothing_around nothing_around run (k + 1) g.queued.place (said_by journal g.queued.place) (left_by start journal) s.serving.serves.come s.serving.serves.shown finds answers turn.2
+
+    found : Around
+    found = did.0
+
+    d : (d : DidEvent found nothing_around run (k + 1) g.queued.place (said_by journal g.queued.place) turn.0 (left_by start journal) (seen_in old before first) (seen_in new after second) (did_of g.next) (ended_by event.ended))
+        × (ended_by event.ended ≡ None → StandsTask g.next new after turn.0 (and_then run d.makes.event) g.queued.place (and_told (said_by journal g.queued.place) d.makes.answer))
+    d = (did.2, did.3)
 
     then_run : Run
     then_run = and_then run d.0.makes.event
@@ -343,5 +352,5 @@ going_on {D} start script run journal broken replies began rows k row now event 
 
     goes : (failed : Broken) × IsServing (stands_in new after) start script then_run then_journal failed (replies_behind (ended_by event.ended) g.queued.place replies) began (seen_in new after second) (slice_set (lanes_of rows) k (lane_behind (ended_by event.ended) g.next (lane_value row)))
         × BreaksBy (did_of g.next) run d.0.makes.event (told_calls before) broken failed
-    goes = lane_goes_on (stands_in old before) (stands_in new after) start script run journal broken replies began (seen_in old before first) (seen_in new after second) (lanes_of rows) k g.queued.place (map (λ (q : Queued). q.place) row.waiting) (lane_value row) turn.0 g.next (around_at g.queued.task turn.0 old nothing_around) nothing_around (did_of g.next) (ended_by event.ended)
+    goes = lane_goes_on (stands_in old before) (stands_in new after) start script run journal broken replies began (seen_in old before first) (seen_in new after second) (lanes_of rows) k g.queued.place (map (λ (q : Queued). q.place) row.waiting) (lane_value row) turn.0 g.next found nothing_around (did_of g.next) (ended_by event.ended)
         s.serving (others_stand rows k row g.queued g.next old new before after there g.was ran g.goes.claims g.goes.leaves s.accounts) (value_at rows k row there) (queue_is row g.queued g.was) turn.1.asked d.0 g.goes.image (λ runs. (g.goes.leaves runs).firm.stays) d.1

@@ -140,6 +140,7 @@ reads_next (task.Copy t) next reads kind = absurd reads
 reads_next (task.Move t) next reads kind = absurd reads
 reads_next (task.Expunge t) next reads kind = absurd reads
 reads_next (task.Deliver t) next reads kind = absurd reads
+reads_next (task.Resync t) next reads kind = absurd reads
 reads_next (task.Ops t) next reads kind = absurd kind
 reads_next (task.Counts t) next reads kind = absurd kind
 reads_next (task.Fetch t) next reads kind = absurd kind
@@ -164,8 +165,10 @@ reads_on origin lane old mid before between first counted e is =
 unread_next : (t next : Task) → ReadsNoOctets t → StaysOfRequest t next → ReadsNoOctets next
 unread_next (task.Fetch t) next none kind = absurd none
 unread_next (task.Deliver t) next none kind = absurd none
+unread_next (task.Resync t) next none kind = absurd none
 unread_next t (task.Fetch next) none kind = absurd kind
 unread_next t (task.Deliver next) none kind = absurd kind
+unread_next t (task.Resync next) none kind = absurd kind
 unread_next t next none kind = tt
 
 pub record HasReadNoOctets {D : Type 0} (start : Faults) (world : WorldValue D) (history : Option History) (faults : Faults) : Type 0 where

@@ -138,7 +138,6 @@ at_given (r ∷ rest) one (suc n, l, c) = let h = at_given rest one (n, omega (a
 -- a request that is given what it wants is no purge
 not_purging : (asked : Request) (one : Option Prepared) → HasItsMessage asked one → Purges asked → ⊥
 not_purging request.Purge one h p = h.0
-not_purging request.Resync one h p = h.0
 not_purging asked one h p = p
 
 pub none_purges : (script : Requests) (prepared : List (Option Prepared)) → AreGiven script prepared → (i : ℕ) (asked : ℕ × Request) → slice_get script i ≡ Some asked → Purges asked.1 → ⊥

@@ -1,8 +1,9 @@
 -- Events of which none moves or drops records: all but those of a purge.
 use Rattle.std.specs.Prelude.{◌≡◌, ℕ, suc, Bool, false, List, [], ◌∷◌, All, slice_get, Option, Some, None}
 use Rattle.std.specs.List.{list_any}
-use Rattle.std.proofs.Common.{refl, ap}
+use Rattle.std.proofs.Common.{refl, ◌∙◌, ap}
 use Rattle.std.proofs.lemmas.List.Elements.{All-cons, All-nil}
+use Rattle.mdbox_base.specs.declared.entries.MapCount.{MapCount}
 use Rattle.mdbox_base.specs.declared.replies.Refusal.{Refusal}
 use Rattle.mdbox_base.specs.declared.requests.Request.{Request}
 use Rattle.mdbox_base.specs.declared.requests.Request.TheVariants as request
@@ -10,7 +11,7 @@ use Rattle.mdbox_base.specs.declared.ids.Uid.{Uid}
 use Rattle.model_lists.specs.Lists.{ListedMessage, Lists}
 use Rattle.list_machine.specs.Machine.{message_at}
 use Rattle.list_machine.specs.Run.{EventPart, RunEvent, Run, before, First, Compares, PlacesInstance, TakesFile, PlacesMessage, StoresRecord, Last, SecondHalf, GivesBack, StartsOver, ReadsPiece, Unpins, RemovesFile, MakesTarget, CopiesMessage, Switches, RemovesInstance, ReadsFile}
-use Rattle.journal.specs.Events.{Around, DidCopy, DidDeliver, DidFetch, DidMake, DidPart, IsEvent, Lowers, Removes, RemovesIfThere}
+use Rattle.journal.specs.Events.{Around, DidCopy, DidDeliver, DidFetch, DidMake, DidPart, DidResync, IsEvent, Lowers, Removes, RemovesIfThere, corrects}
 use Rattle.journal.specs.Journal.{JournalStep, Requests}
 use Rattle.journal.specs.Makes.{AreNextEvents, lists_before}
 use Rattle.task_steps.specs.Serves.{NoneMoved, moves_records}
@@ -107,10 +108,9 @@ by_fetch run lists name uid event Switches d = ap entries_moved d
 by_fetch run lists name uid event RemovesInstance d = ap entries_moved d
 by_fetch run lists name uid event ReadsFile d = ap entries_moved d
 
--- of a request that is neither a purge nor a resync
+-- of a request that is no purge
 abbrev pub Purges : Request → Type 0
 Purges request.Purge = Unit {0}
-Purges request.Resync = Unit {0}
 Purges other = ⊥
 
 removed_if_there : (run : Run) (lists : Lists) (name : List ℕ) (uid : ℕ) (event : RunEvent) (found : Option ListedMessage) → RemovesIfThere run lists name uid event found → Unmoved event
@@ -217,6 +217,31 @@ by_counts around run lists event Switches d = ap entries_moved d
 by_counts around run lists event RemovesInstance d = ap entries_moved d
 by_counts around run lists event ReadsFile d = ap entries_moved d
 
+-- a resync changes counts at the most
+corrects_counts : (counts : List MapCount) → list_any moves_records (corrects counts) ≡ false
+corrects_counts [] = refl
+corrects_counts (count ∷ counts) = refl
+
+by_resync : (around : Around) (run : Run) (lists : Lists) (event : RunEvent) (part : EventPart) → DidResync around run lists event part → Unmoved event
+by_resync around run lists event First d = ap entries_moved d
+by_resync around run lists event Compares d = ap entries_moved d
+by_resync around run lists event PlacesInstance d = ap entries_moved d
+by_resync around run lists event (TakesFile new) d = ap entries_moved d
+by_resync around run lists event PlacesMessage d = ap entries_moved d
+by_resync around run lists event StoresRecord d = ap entries_moved d
+by_resync around run lists event Last d = ap entries_moved d.3 ∙ corrects_counts d.0
+by_resync around run lists event SecondHalf d = ap entries_moved d
+by_resync around run lists event GivesBack d = ap entries_moved d
+by_resync around run lists event StartsOver d = ap entries_moved d
+by_resync around run lists event ReadsPiece d = ap entries_moved d
+by_resync around run lists event Unpins d = ap entries_moved d
+by_resync around run lists event RemovesFile d = ap entries_moved d
+by_resync around run lists event MakesTarget d = ap entries_moved d
+by_resync around run lists event CopiesMessage d = ap entries_moved d
+by_resync around run lists event Switches d = ap entries_moved d
+by_resync around run lists event RemovesInstance d = ap entries_moved d
+by_resync around run lists event ReadsFile d = ap entries_moved d
+
 by_part : (around : Around) (run : Run) (lists : Lists) (asked : Request) (event : RunEvent) (part : EventPart) → (Purges asked → ⊥) → DidPart around run lists asked event part → Unmoved event
 by_part around run lists (request.Deliver name time octets) event part none d = by_deliver around run lists name time octets event part d
 by_part around run lists (request.List name) event part none d = by_list around run lists name event part d
@@ -228,7 +253,7 @@ by_part around run lists (request.Expunge name uid) event part none d = by_expun
 by_part around run lists (request.Make name) event part none d = by_make run name event part d
 by_part around run lists request.Counts event part none d = by_counts around run lists event part d
 by_part around run lists request.Purge event part none d = absurd (none tt)
-by_part around run lists request.Resync event part none d = absurd (none tt)
+by_part around run lists request.Resync event part none d = by_resync around run lists event part d
 
 -- an event that was refused did nothing
 unmoved_event : (around after : Around) (run : Run) (lists : Lists) (asked : Request) (event : RunEvent) → (Purges asked → ⊥) → IsEvent around after run lists asked event → Unmoved event
@@ -242,7 +267,7 @@ pub all_at : {X : Type 0} → (P : X → Type 0) (xs : List X) → ((n : ℕ) (x
 all_at P [] each = All-nil P
 all_at P (x ∷ xs) each = All-cons P x xs (each 0 x refl) (all_at P xs (λ n y at. each (suc n) y at))
 
--- No event of a script moves records that has neither a purge nor a resync.
+-- No event of a script moves records that has no purge.
 pub none_moved : (around after : ℕ → Around) (script : Requests) (start : Lists) (run : Run) (journal : List JournalStep) → ((i : ℕ) (asked : ℕ × Request) → slice_get script i ≡ Some asked → Purges asked.1 → ⊥) → AreNextEvents around after script start run journal → NoneMoved run.events
 none_moved around after script start run journal none next = all_at Unmoved run.events
     (λ n event at. let e = next n event at in unmoved_event (around n) (after n) (before n run) (lists_before start journal n) e.asked.1 event (none event.request e.asked e.request_is) e.is_event)

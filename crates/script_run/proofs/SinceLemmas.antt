@@ -64,6 +64,7 @@ begun_first asked (task.Copy t) b = b.at
 begun_first asked (task.Move t) b = b.at
 begun_first asked (task.Expunge t) b = b.at
 begun_first asked (task.Fetch t) b = b.at
+begun_first asked (task.Resync t) b = b.at
 begun_first (request.Deliver name time octets) (task.Deliver t) b = (b.at.0, b.at.1)
 begun_first asked (task.Deliver t) b = absurd b.at
 
@@ -83,6 +84,7 @@ reads_task asked (task.Copy t) reads of = absurd (reads_as asked (request.Copy t
 reads_task asked (task.Move t) reads of = absurd (reads_as asked (request.Move t.name t.uid t.target) refl of reads)
 reads_task asked (task.Expunge t) reads of = absurd (reads_as asked (request.Expunge t.name t.uid) refl of reads)
 reads_task asked (task.Fetch t) reads of = tt
+reads_task asked (task.Resync t) reads of = absurd (reads_as asked request.Resync refl of reads)
 reads_task (request.Deliver name time octets) (task.Deliver t) reads of = absurd (let k : false ≡ true = reads in cc k)
 reads_task asked (task.Deliver t) reads of = absurd of
 
@@ -100,6 +102,7 @@ undelivered_first script place lane asked t none at begins = no_delivery asked t
 -- a request that reads no octets begins with a task that reads none
 no_octets : (asked : Request) (t : Task) → reads_mail asked ≡ false → IsTaskOf t asked → ReadsNoOctets t
 no_octets asked (task.Fetch t) none of = absurd (let k : true ≡ false = sym (ap reads_mail of) ∙ none in cc k)
+no_octets asked (task.Resync t) none of = absurd (let k : true ≡ false = sym (ap reads_mail of) ∙ none in cc k)
 no_octets (request.Deliver name time octets) (task.Deliver t) none of = absurd (let k : true ≡ false = none in cc k)
 no_octets asked (task.Deliver t) none of = absurd of
 no_octets asked t none of = tt

@@ -18,8 +18,8 @@ use Rattle.mail_ops.specs.Making.{MakeAnswers}
 use Rattle.mail_ops.specs.Moving.{MoveAnswers}
 use Rattle.mail_fetch.proofs.StageLemmas.{used_doomed, used_only, used_runs}
 use Rattle.mail_save.proofs.SaveReadyLemmas.{left_with_room}
-use Rattle.lane_tasks.proofs.KeepLemmas.{copy_refused, expunge_refused, keeps_by, keeps_fetching, keeps_saving, keeps_still, make_refused, move_refused, ops_refused, progress_back}
-use Rattle.lane_tasks.proofs.StepLemmas.{copy_does, counts_does, deliver_does, deliver_ran, doomed_as, doomed_rest, expunge_does, fetch_does, fetch_halts, logs_files, make_does, make_fewer, lists_same, make_numbered, move_does, ops_asked, ops_does, ops_halted, ops_still, ran_before, ready_as, rest_files, stays_stopped, unpins_undoomed, use_room}
+use Rattle.lane_tasks.proofs.KeepLemmas.{copy_refused, expunge_refused, keeps_by, keeps_fetching, keeps_resyncing, keeps_saving, keeps_still, make_refused, move_refused, ops_refused, progress_back}
+use Rattle.lane_tasks.proofs.StepLemmas.{copy_does, counts_does, deliver_does, deliver_ran, doomed_as, doomed_rest, expunge_does, fetch_does, fetch_halts, logs_files, make_does, make_fewer, lists_same, make_numbered, move_does, ops_asked, ops_does, ops_halted, ops_still, ran_before, ready_as, resync_does, rest_files, stays_stopped, unpins_undoomed, use_room}
 use Rattle.lane_tasks.proofs.task.Task.step.Goals as goal
 
 pub returns-in-Ops-clause-does : goal.returns-in-Ops-clause-does
@@ -275,3 +275,24 @@ returns-in-Deliver-clause-keeps g c =
     let new = c.step-in-Deliver.new.store in
     subst (λ (k : Task). TaskKeeps k (task.Deliver c.step-in-Deliver.new.self) old new (g.D.Disk.history old.disk) (g.D.Disk.history new.disk) (g.D.Disk.faults old.disk) (g.D.Disk.faults new.disk) (ended_by c.step-in-Deliver.result)) (sym c.in-Deliver.is)
     (keeps_saving g.D.Disk.history g.D.Disk.faults c.in-Deliver.task c.step-in-Deliver.new.self old new c.step-in-Deliver.result c.step-in-Deliver.ensures.request c.step-in-Deliver.ensures.ended c.step-in-Deliver.ensures.saves)
+
+-- ---- a resync
+
+pub returns-in-Resync-clause-does : goal.returns-in-Resync-clause-does
+returns-in-Resync-clause-does g c =
+    subst (λ (t : Task). StepsTask t (task.Resync c.step-in-Resync.new.self) c.args.store.now c.step-in-Resync.new.store (g.D.Disk.history c.args.store.now.disk) (g.D.Disk.history c.step-in-Resync.new.store.disk) (g.D.Disk.faults c.args.store.now.disk) (g.D.Disk.faults c.step-in-Resync.new.store.disk) (ended_by c.step-in-Resync.result)) (sym c.in-Resync.is)
+    (resync_does c.in-Resync.task c.step-in-Resync.new.self c.args.store.now c.step-in-Resync.new.store (g.D.Disk.history c.args.store.now.disk) (g.D.Disk.history c.step-in-Resync.new.store.disk) (g.D.Disk.faults c.args.store.now.disk) (g.D.Disk.faults c.step-in-Resync.new.store.disk) (ended_by c.step-in-Resync.result) c.step-in-Resync.ensures.rest c.step-in-Resync.ensures.does)
+
+pub returns-in-Resync-clause-halted : goal.returns-in-Resync-clause-halted
+returns-in-Resync-clause-halted g c = stays_stopped c.args.store.now c.step-in-Resync.new.store (λ stopped. (c.step-in-Resync.ensures.still stopped).0)
+
+pub returns-in-Resync-clause-undoomed : goal.returns-in-Resync-clause-undoomed
+returns-in-Resync-clause-undoomed g c = λ runs. doomed_rest c.args.store.now c.step-in-Resync.new.store (rest_files c.args.store.now c.step-in-Resync.new.store c.step-in-Resync.ensures.rest)
+
+pub returns-in-Resync-clause-keeps : goal.returns-in-Resync-clause-keeps
+returns-in-Resync-clause-keeps g c =
+    let s = c.step-in-Resync.ensures in
+    let old = c.args.store.now in
+    let new = c.step-in-Resync.new.store in
+    subst (λ (k : Task). TaskKeeps k (task.Resync c.step-in-Resync.new.self) old new (g.D.Disk.history old.disk) (g.D.Disk.history new.disk) (g.D.Disk.faults old.disk) (g.D.Disk.faults new.disk) (ended_by c.step-in-Resync.result)) (sym c.in-Resync.is)
+    (keeps_resyncing g.D.Disk.history g.D.Disk.faults c.in-Resync.task c.step-in-Resync.new.self old new c.step-in-Resync.result s.on s.exact s.stopped (λ stopped. (s.still stopped).0) s.fault s.mail s.grows)
