@@ -1,4 +1,3 @@
-pub mod AloneLemmas
 pub mod BatchLemmas
 pub mod CountsLemmas
 pub mod ChangeLemmas
@@ -13,7 +12,6 @@ pub mod InputLemmas
 pub mod KnownFirstLemmas
 pub mod ListLemmas
 pub mod MailLemmas
-pub mod MakeFileLemmas
 pub mod MakeLemmas
 pub mod NumbersLemmas
 pub mod OneStepLemmas

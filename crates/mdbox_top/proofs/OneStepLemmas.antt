@@ -61,7 +61,7 @@ one_of : (given one : Reply) → Contains (given ∷ []) one → given ≡ one
 one_of given one (zero, l, is) = is
 one_of given one (suc n, l, is) = absurd (omega (arith, l))
 
-served_from : (asked : Request) (given : Reply) (entries : List JournalEntry) (old new : Option History) (began now : Faults) → IsDone asked given entries old new began now → MakesSteps asked → MayBeServed (alone asked) old
+pub served_from : (asked : Request) (given : Reply) (entries : List JournalEntry) (old new : Option History) (began now : Faults) → IsDone asked given entries old new began now → MakesSteps asked → MayBeServed (alone asked) old
 served_from asked given entries old new began now done one = let some = some_lists old done.m done.meanings done.opened in (some.0, may_read asked one some.0 old)
 
 never_stopped : (asked : Request) (given : Reply) (entries : List JournalEntry) (old new : Option History) (began now : Faults) → IsDone asked given entries old new began now → MakesSteps asked → only_reads asked ≡ true → given ≡ reply.Refused refusal.Stopped → ⊥
@@ -70,13 +70,14 @@ never_stopped asked given entries old new began now done one reads e = done.runn
 reads_no_mail : (asked : Request) → MakesSteps asked → has_mail_read (alone asked) ≡ false
 reads_no_mail (request.List name) one = refl
 reads_no_mail (request.Flag name uid flags) one = refl
+reads_no_mail (request.Make name) one = refl
 reads_no_mail (request.Expunge name uid) one = refl
 reads_no_mail (request.Copy name uid target) one = refl
 reads_no_mail (request.Move name uid target) one = refl
 reads_no_mail request.Counts one = refl
 reads_no_mail other one = absurd one
 
-one_faults : (asked : Request) (given : Reply) (entries : List JournalEntry) (old new : Option History) (began now : Faults) → IsDone asked given entries old new began now → MakesSteps asked → (given ≡ reply.Refused refusal.ReadFault → ⊥) → FaultsByReply given began now
+pub one_faults : (asked : Request) (given : Reply) (entries : List JournalEntry) (old new : Option History) (began now : Faults) → IsDone asked given entries old new began now → MakesSteps asked → (given ≡ reply.Refused refusal.ReadFault → ⊥) → FaultsByReply given began now
 one_faults asked given entries old new began now done one read =
     let f = done.faults (served_from asked given entries old new began now done one) in
     record {
@@ -156,7 +157,7 @@ counts_tells given entries old new began now done =
 
 -- ---- a change of the lists
 
-unfailed_by : (given : Reply) → (given ≡ reply.Refused refusal.ReadFault → ⊥) → (given ≡ reply.Refused refusal.Stopped → ⊥) → IsUnfailed given
+pub unfailed_by : (given : Reply) → (given ≡ reply.Refused refusal.ReadFault → ⊥) → (given ≡ reply.Refused refusal.Stopped → ⊥) → IsUnfailed given
 unfailed_by (reply.Refused refusal.ReadFault) read running = read refl
 unfailed_by (reply.Refused refusal.Stopped) read running = running refl
 unfailed_by given read running = tt
@@ -169,7 +170,7 @@ record IsOneChange (asked : Request) (given : Reply) (entries : List JournalEntr
   told : (answer : Reply) (lists left : Lists) → AreListsTold asked answer lists left → left ≡ lists_told asked answer lists
   delivers : has_delivery (alone asked) ≡ false
 
-stopped_one : (given : Reply) → (given ≡ reply.Refused refusal.Stopped → ⊥) → HasStopped (given ∷ []) → ⊥
+pub stopped_one : (given : Reply) → (given ≡ reply.Refused refusal.Stopped → ⊥) → HasStopped (given ∷ []) → ⊥
 stopped_one given running c = running (one_of given (reply.Refused refusal.Stopped) c)
 
 -- the lists that it leaves, unless the store is stopped
@@ -430,22 +431,23 @@ move_rests name uid target given entries old new began now k = λ none lists at.
 
 -- ---- it was done
 
-pub done_one : (asked : Request) (given : Reply) (old new : Option History) (began now : Faults) → IsRequestDone asked given old new began now → MakesSteps asked → ListsAnswer → IsDoneAlone asked given old new began now
-done_one (request.List name) given old new began now w one answer = record {
+-- a make by what is said of it
+pub done_one : (asked : Request) (given : Reply) (old new : Option History) (began now : Faults) → IsRequestDone asked given old new began now → MakesSteps asked → ListsAnswer → ((name : List ℕ) → asked ≡ request.Make name → IsDoneAlone asked given old new began now) → IsDoneAlone asked given old new began now
+done_one (request.List name) given old new began now w one answer make = record {
   tells = list_tells name given w.entries old new began now w.done answer;
   serves = λ lists safe. serves_one (request.List name) given w.entries old new began now w.done lists safe (may_read (request.List name) one lists old);
   moments = read_leaves (request.List name) given w.entries old new began now w.done one refl;
   rests = read_rests (request.List name) given w.entries old new began now (given ≡ reply.Refused refusal.Stopped) w.done refl;
   faults = one_faults (request.List name) given w.entries old new began now w.done one (unread (request.List name) given w.entries old new began now w.done one);
 }
-done_one request.Counts given old new began now w one answer = record {
+done_one request.Counts given old new began now w one answer make = record {
   tells = counts_tells given w.entries old new began now w.done;
   serves = λ lists safe. serves_one request.Counts given w.entries old new began now w.done lists safe (may_read request.Counts one lists old);
   moments = read_leaves request.Counts given w.entries old new began now w.done one refl;
   rests = read_rests request.Counts given w.entries old new began now (given ≡ reply.Refused refusal.Stopped) w.done refl;
   faults = one_faults request.Counts given w.entries old new began now w.done one (unread request.Counts given w.entries old new began now w.done one);
 }
-done_one (request.Flag name uid flags) given old new began now w one answer =
+done_one (request.Flag name uid flags) given old new began now w one answer make =
     let k = flag_change name uid flags given w.entries old new began now w.done in
     record {
       tells = flag_tells name uid flags given old new began now w;
@@ -454,7 +456,7 @@ done_one (request.Flag name uid flags) given old new began now w one answer =
       rests = change_rests (flagging name uid flags) (λ lists. set_flags name uid.0 flags lists) given w.entries old new began now k (along_flag name uid flags);
       faults = one_faults (flagging name uid flags) given w.entries old new began now w.done tt k.calm;
     }
-done_one (request.Expunge name uid) given old new began now w one answer =
+done_one (request.Expunge name uid) given old new began now w one answer make =
     let k = expunge_change name uid given old new began now w in
     record {
       tells = expunge_tells name uid given old new began now w;
@@ -463,7 +465,7 @@ done_one (request.Expunge name uid) given old new began now w one answer =
       rests = change_rests (expunging name uid) (lists_without name uid) given w.entries old new began now k (along_expunge name uid);
       faults = one_faults (expunging name uid) given w.entries old new began now w.done tt k.calm;
     }
-done_one (request.Copy name uid target) given old new began now w one answer =
+done_one (request.Copy name uid target) given old new began now w one answer make =
     let k = copy_change name uid target given old new began now w in
     record {
       tells = copy_tells name uid target given old new began now w;
@@ -472,7 +474,7 @@ done_one (request.Copy name uid target) given old new began now w one answer =
       rests = change_rests (copying name uid target) (copied_lists name uid target) given w.entries old new began now k (along_copy name uid target);
       faults = one_faults (copying name uid target) given w.entries old new began now w.done tt k.calm;
     }
-done_one (request.Move name uid target) given old new began now w one answer =
+done_one (request.Move name uid target) given old new began now w one answer make =
     let k = move_change name uid target given old new began now w in
     record {
       tells = move_tells name uid target given old new began now w;
@@ -481,4 +483,5 @@ done_one (request.Move name uid target) given old new began now w one answer =
       rests = move_rests name uid target given w.entries old new began now k;
       faults = one_faults (moving name uid target) given w.entries old new began now w.done tt k.calm;
     }
-done_one other given old new began now w one answer = absurd one
+done_one (request.Make name) given old new began now w one answer make = make name refl
+done_one other given old new began now w one answer make = absurd one

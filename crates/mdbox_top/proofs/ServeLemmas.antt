@@ -22,12 +22,12 @@ use Rattle.request_text.specs.ReplyText.{reply_text, single_text}
 use Rattle.request_text.specs.declared.outcome.Outcome.{Outcome}
 use Rattle.request_text.specs.declared.outcome.Outcome.TheVariants as outcome
 use Rattle.script_run.specs.Opening.{IsUnopened}
-use Rattle.script_run.specs.One.{moved_lists}
+use Rattle.script_run.specs.One.{MakesSteps, moved_lists}
 use Rattle.mdbox_top.specs.FetchRun.{FetchRests}
 use Rattle.mdbox_top.specs.Changed.{ChangeMoments}
 use Rattle.mdbox_top.specs.OpeningOutcome.{opening_outcome}
 use Rattle.mdbox_top.specs.Served.{ShowsReply, RequestOutcome}
-use Rattle.mdbox_top.specs.Alone.{ReplyTells, RequestMoments, RequestRests, MayFail, IsDoneAlone, IsServedAlone}
+use Rattle.mdbox_top.specs.Alone.{ReplyTells, RequestMoments, RequestRests, MayFail, IsDoneAlone}
 use Rattle.mdbox_top.proofs.RequestLemmas.{faulted_is, failed_outcome, failed_status, unopened}
 use Rattle.mdbox_top.proofs.ListLemmas.{list_calm, list_runs}
 use Rattle.mdbox_top.proofs.CountsLemmas.{counts_calm, counts_run}
@@ -36,7 +36,7 @@ use Rattle.mdbox_top.proofs.MakeLemmas.{SafeForMade}
 
 -- ---- how it is printed
 
-plain_text : (request : Request) (given : Reply) → IsServedAlone request → single_text request given ≡ reply_text given
+plain_text : (request : Request) (given : Reply) → MakesSteps request → single_text request given ≡ reply_text given
 plain_text (request.List name) given one = refl
 plain_text (request.Flag name uid flags) given one = refl
 plain_text (request.Expunge name uid) given one = refl
@@ -46,7 +46,7 @@ plain_text (request.Make name) given one = refl
 plain_text request.Counts given one = refl
 plain_text other given one = absurd one
 
-pub shows_text : (request : Request) (given : Reply) (h k : Option (List ℕ)) (o : Outcome) → IsServedAlone request → ShowsReply (reply_text given) given h k o → ShowsReply (single_text request given) given h k o
+pub shows_text : (request : Request) (given : Reply) (h k : Option (List ℕ)) (o : Outcome) → MakesSteps request → ShowsReply (reply_text given) given h k o → ShowsReply (single_text request given) given h k o
 shows_text request given h k o one s = subst (λ (text : List ℕ). ShowsReply text given h k o) (sym (plain_text request given one)) s
 
 -- a fault of the disk ends with a status that says so, or may hide it
@@ -97,7 +97,7 @@ unopened_ends request h old new began now why u = unopened (ReplyTells request) 
 change_unopened_leaves : (change : Lists → Lists) (old new : Option History) (began now : Faults) (why : OpenError) → IsUnopened why old new began now → ChangeMoments change old new
 change_unopened_leaves change old new began now why u = λ lists at. each_image-map (λ _ image. Safe image lists) (λ _ image. Safe image lists ⊎ Safe image (change lists)) old new (λ m image h. inl h) (u.moments lists at)
 
-pub unopened_leaves : (request : Request) (old new : Option History) (began now : Faults) (why : OpenError) → IsServedAlone request → IsUnopened why old new began now → RequestMoments request old new
+pub unopened_leaves : (request : Request) (old new : Option History) (began now : Faults) (why : OpenError) → MakesSteps request → IsUnopened why old new began now → RequestMoments request old new
 unopened_leaves (request.List name) old new began now why one u = record { safe = u.moments; stays = u.stays; closed_well = u.closed_well }
 unopened_leaves request.Counts old new began now why one u = record { safe = u.moments; stays = u.stays; closed_well = u.closed_well }
 unopened_leaves (request.Flag name uid flags) old new began now why one u = change_unopened_leaves (set_flags name uid.0 flags) old new began now why u
@@ -108,7 +108,7 @@ unopened_leaves (request.Move name uid target) old new began now why one u = λ 
 unopened_leaves (request.Make name) old new began now why one u = λ lists at. each_image-map (λ _ image. Safe image lists) (SafeForMade name old lists) old new (λ m image h. inl h) (u.moments lists at)
 unopened_leaves other old new began now why one u = absurd one
 
-pub unopened_rests : (request : Request) (old new : Option History) (began now : Faults) (why : OpenError) → IsServedAlone request → IsUnopened why old new began now → RequestRests request (MayFail request (status_of (opening_outcome why))) began now old new
+pub unopened_rests : (request : Request) (old new : Option History) (began now : Faults) (why : OpenError) → MakesSteps request → IsUnopened why old new began now → RequestRests request (MayFail request (status_of (opening_outcome why))) began now old new
 unopened_rests (request.List name) old new began now why one u = λ none. (u.settled_again (λ f. none (unopened_may (request.List name) why f)), u.carried (λ f. none (unopened_may (request.List name) why f)))
 unopened_rests request.Counts old new began now why one u = λ none. (u.settled_again (λ f. none (unopened_may request.Counts why f)), u.carried (λ f. none (unopened_may request.Counts why f)))
 unopened_rests (request.Flag name uid flags) old new began now why one u = λ none lists at. inl (u.settled_again (λ f. none (unopened_may (request.Flag name uid flags) why f)) lists at)

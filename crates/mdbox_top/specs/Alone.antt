@@ -8,7 +8,7 @@ use Rattle.mdbox_base.specs.declared.requests.Request.{Request}
 use Rattle.mdbox_base.specs.declared.requests.Request.TheVariants as request
 use Rattle.model_lists.specs.Lists.{Lists}
 use Rattle.script_run.specs.Opening.{AreSafeFor}
-use Rattle.script_run.specs.One.{MakesSteps, ServesRequest}
+use Rattle.script_run.specs.One.{ServesRequest}
 use Rattle.mdbox_top.specs.InputRun.{IsOneOf}
 use Rattle.mdbox_top.specs.Served.{FaultsByReply}
 use Rattle.mdbox_top.specs.ListRun.{IsListReply, ListMoments, ListRests}
@@ -20,11 +20,6 @@ use Rattle.mdbox_top.specs.MakeRun.{IsMakeReply, MakeMoments, MakeRests}
 use Rattle.mdbox_top.specs.MoveRun.{IsMoveReply, MoveMoments, MoveRests}
 use Rattle.mdbox_top.specs.ExpungeRun.{IsExpungeReply, ExpungeMoments, ExpungeRests}
 use Rattle.mdbox_top.specs.CountsRun.{IsCountsReply, CountsMoments, CountsRests}
-
--- the requests that one function serves: a make too; not a delivery, which reads its message first, nor a fetch, which prints octets
-abbrev pub IsServedAlone : Request → Type 0
-IsServedAlone (request.Make name) = Unit {0}
-IsServedAlone asked = MakesSteps asked
 
 -- what its reply tells
 abbrev pub ReplyTells : Request → Option History → Option History → Reply → Type 0

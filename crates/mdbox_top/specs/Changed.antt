@@ -48,10 +48,6 @@ ChangeMoments change old new = (lists : Lists) → IsSettledFor lists old → Le
 abbrev pub ChangeRests : (Lists → Lists) → Type 0 → Faults → Faults → Option History → Option History → Type 0
 ChangeRests change failed began now old new = NoFailedChange failed began now → (lists : Lists) → IsSettledFor lists old → IsSettledFor lists new ⊎ IsSettledFor (change lists) new
 
--- these lists, or those that the change makes of them
-abbrev pub AreOneOf : (Lists → Lists) → Lists → Lists → Type 0
-AreOneOf change lists some = (some ≡ lists) ⊎ (some ≡ change lists)
-
 -- A crash at any moment leaves a disk that is safe for some that are among the lists that this tells, of those for which it was
 -- settled.
 abbrev pub SafeForAmong : (Lists → Lists → Type 0) → Lists → ℕ → Files → Type 0

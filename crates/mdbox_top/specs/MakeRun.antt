@@ -1,18 +1,14 @@
 -- How `make` ends.
-use Rattle.std.specs.Prelude.{◌≡◌, ◌⊎◌, ◌+◌, ◌++◌, ◌∷◌, [], ℕ, nat_le, List, length, is_some, Option}
-use Rattle.std.specs.Option.{option_or}
-use Rattle.disk_model.specs.Disk.{History, Faults, EachImage, Between, reading}
-use Rattle.disk_model.specs.declared.name.FileName.{FileName}
-use Rattle.mdbox_base.specs.declared.entries.MapEntry.TheVariants as map_entry
+use Rattle.std.specs.Prelude.{◌≡◌, ◌⊎◌, ◌++◌, ◌∷◌, [], ℕ, List, Option}
+use Rattle.disk_model.specs.Disk.{History, Faults, EachImage}
 use Rattle.mdbox_base.specs.declared.replies.Refusal.{Refusal}
 use Rattle.mdbox_base.specs.declared.replies.Refusal.TheVariants as refusal
 use Rattle.mdbox_base.specs.declared.replies.Reply.{Reply}
 use Rattle.mdbox_base.specs.declared.replies.Reply.TheVariants as reply
 use Rattle.mdbox_base.specs.declared.requests.Request.TheVariants as request
 use Rattle.model_lists.specs.Lists.{Lists}
-use Rattle.list_machine.specs.Machine.{refused_where, is_used_up}
 use Rattle.model_meaning.specs.BoxMeaning.{BoxMeaning, box_meaning}
-use Rattle.model_meaning.specs.MapMeaning.{MapMeaning, map_applied}
+use Rattle.model_meaning.specs.MapMeaning.{MapMeaning}
 use Rattle.model_store.specs.Listing.{meaning_named}
 use Rattle.model_store.specs.Safe.{Safe}
 use Rattle.model_store.specs.Settled.{IsSettledFor}
@@ -22,32 +18,14 @@ use Rattle.store_open.specs.Opened.{IsOpenedAs, KeepsOpenedMail}
 use Rattle.store_sweep.specs.Moments.{NoFailedChange}
 use Rattle.store_sweep.specs.Swept.{IsSwept}
 use Rattle.request_text.specs.declared.outcome.Outcome.{Outcome}
-use Rattle.script_run.specs.One.{IsChangeAnswer, OpensUnchanged}
+use Rattle.script_run.specs.One.{IsChangeAnswer, OpensUnchanged, ReadAlike, next_mailbox, unmade_cause, with_next_named}
 use Rattle.mdbox_top.specs.Changed.{OpensChanged}
 use Rattle.mdbox_top.specs.Served.{RequestOutcome}
-
--- Why no mailbox is made, by what the log of the mailbox with its name and the map's log mean: there is one, 1,024 mailboxes are
--- there, or the numbers of mailboxes are used up.
-abbrev pub unmade_cause : Option BoxMeaning → MapMeaning → Option Refusal
-unmade_cause found m =
-    option_or (option_or (refused_where (is_some found) refusal.Exists) (refused_where (nat_le 1024 (length m.boxes)) (refusal.TooManyMailboxes 1024))) (refused_where (is_used_up m.highest.mailbox) (refusal.StoreFull 4294967294))
-
--- the number of the mailbox that is made: the next above the highest that the map's log names
-abbrev pub next_mailbox : MapMeaning → ℕ
-next_mailbox m = m.highest.mailbox + 1
-
--- what the map's log means with the entry that names the next mailbox
-abbrev pub with_next_named : List ℕ → MapMeaning → MapMeaning
-with_next_named name m = map_applied (map_entry.B (record { 0 = next_mailbox m }) 1 name) m
 
 -- the lists that this reply leaves: it is done, and an empty mailbox with this number and name is last; or they are the same
 abbrev pub lists_by_making : ℕ → List ℕ → Reply → Lists → Lists
 lists_by_making number name reply.Done lists = with_mailbox number name lists
 lists_by_making number name given lists = lists
-
--- each file reads as it did
-abbrev pub ReadAlike : Option History → Option History → Type 0
-ReadAlike = Between (λ a b. (name : FileName) → reading (b name) ≡ reading (a name))
 
 -- The opening swept the disk, and storage files and instances stayed at each moment of it and afterwards, whatever failed. Unless the
 -- store is stopped, they are as the opening left them, but that their names may be synced; and unless it is done, each file reads as it did then: so the log that

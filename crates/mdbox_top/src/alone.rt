@@ -2,26 +2,23 @@
 ghost use Rattle.std.specs.Prelude.{◌≡◌, ◌≢◌, ◌≤◌, IfOk, IfErr};
 ghost use Rattle.disk_model.specs.FaultCounts.{NoFault, AnyFaultCounted};
 ghost use Rattle.mdbox_base.specs.Streams.{Rose};
-ghost use Rattle.mdbox_base.specs.declared.requests.Request.TheVariants as request;
 ghost use Rattle.script_run.specs.One.{MakesSteps};
 ghost use Rattle.script_run.specs.Opening.{IsUnopened};
-ghost use Rattle.mdbox_top.specs.Alone.{IsServedAlone, ReplyTells, RequestMoments, RequestRests, MayFail, IsDoneAlone};
+ghost use Rattle.mdbox_top.specs.Alone.{ReplyTells, RequestMoments, RequestRests, MayFail, IsDoneAlone};
 ghost use Rattle.mdbox_top.specs.Served.{RequestOutcome, ShowsReply};
 ghost use Rattle.request_text.specs.Outcomes.{status_of};
 ghost use Rattle.request_text.specs.ReplyText.{reply_text};
 ghost use Rattle.request_text.specs.declared.outcome.Outcome.TheVariants as outcome;
 
-use crate::making::make_mailbox;
 use crate::opening::outcome_of;
 use disk_model::Disk;
 use mail_ops::listings_are_answered;
-use mdbox_base::{Name, Reply, Request, Sink};
+use mdbox_base::{Reply, Request, Sink};
 use piece_writer::PrintError;
 use request_text::{Outcome, outcome_of_reply, print_reply};
 use script_run::run_request;
 use std::alloc::Global;
-use store_core::listings_are_shown;
-use store_open::{OpenRefused, open_store};
+use store_open::OpenRefused;
 
 /// Opens the store, does a request, prints its reply, and hands the disk back.
 pub fn serve<D: Disk, O: Sink>(
@@ -30,7 +27,7 @@ pub fn serve<D: Disk, O: Sink>(
     disk: D,
     output: &mut O,
 ) -> (Outcome, D)
-    requires { IsServedAlone request }
+    requires { MakesSteps request }
     ensures ends { RequestOutcome (ReplyTells request) request (O.held output.old) (O.held output.new) (D.history disk) (D.history result.1) (D.faults disk) (D.faults result.1) result.0 }
     ensures moments { RequestMoments request (D.history disk) (D.history result.1) }
     ensures rests { RequestRests request (MayFail request (status_of result.0)) (D.faults disk) (D.faults result.1) (D.history disk) (D.history result.1) }
@@ -46,24 +43,8 @@ pub fn serve<D: Disk, O: Sink>(
     }
 }
 
-/// Opens the store, does a request, and answers its reply.
-fn reply_alone<D: Disk>(
-    alloc: Global,
-    request: Request,
-    disk: D,
-) -> Result<(Reply, D), OpenRefused<D>>
-    requires { IsServedAlone request }
-    ensures done { IfOk result (λ done. IsDoneAlone request done.0 (D.history disk) (D.history done.1) (D.faults disk) (D.faults done.1)) }
-    ensures refused { IfErr result (λ refused. IsUnopened refused.error (D.history disk) (D.history refused.disk) (D.faults disk) (D.faults refused.disk)) }
-{
-    match request {
-        Request::Make { name } => make_alone(alloc, name, disk),
-        request => script_alone(alloc, request, disk),
-    }
-}
-
 /// Opens the store, does a request as a script of one, and answers its reply.
-fn script_alone<D: Disk>(
+fn reply_alone<D: Disk>(
     alloc: Global,
     request: Request,
     disk: D,
@@ -75,25 +56,6 @@ fn script_alone<D: Disk>(
     listings_are_answered();
     let (reply, disk) = run_request(alloc, disk, request, None)?;
     Ok((reply, disk))
-}
-
-/// Opens the store, does the events of a make, and answers its reply.
-fn make_alone<D: Disk>(alloc: Global, name: Name, disk: D) -> Result<(Reply, D), OpenRefused<D>>
-    ensures done { IfOk result (λ done. IsDoneAlone (request.Make name) done.0 (D.history disk) (D.history done.1) (D.faults disk) (D.faults done.1)) }
-    ensures refused { IfErr result (λ refused. IsUnopened refused.error (D.history disk) (D.history refused.disk) (D.faults disk) (D.faults refused.disk)) }
-{
-    listings_are_shown();
-    match open_store(alloc, disk, 1) {
-        Ok(store) => {
-            let mut store = store;
-            store.facts();
-            store.known_logs();
-            let reply = make_mailbox(&mut store, name);
-            store.facts();
-            Ok((reply, store.into_disk()))
-        }
-        Err(refused) => Err(refused),
-    }
 }
 
 /// Prints a reply.

@@ -17,7 +17,6 @@ mod init;
 mod input_commands;
 mod known;
 mod laws;
-mod making;
 mod numbers;
 mod opening;
 mod rebuild;

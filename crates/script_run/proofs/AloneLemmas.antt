@@ -16,8 +16,8 @@ use Rattle.mdbox_base.specs.declared.requests.Request.TheVariants as request
 use Rattle.mdbox_base.specs.declared.script.JournalEntry.{JournalEntry}
 use Rattle.model_lists.specs.Lists.{Lists}
 use Rattle.list_machine.specs.Machine.{Answers, is_step}
-use Rattle.list_machine.specs.Run.{EventPart, First, GivesBack, Last, SecondHalf, Run, RunEvent, before, own_events, first_in, reply_of}
-use Rattle.journal.specs.Events.{Around, IsEvent, MayMeet, behind_addition, behind_copy, behind_event, behind_expunge, behind_move, is_fault, is_faulted, next_part, reads_octets}
+use Rattle.list_machine.specs.Run.{EventPart, First, GivesBack, Last, SecondHalf, Run, RunEvent, before, own_events, first_in, reply_of, StartsOver}
+use Rattle.journal.specs.Events.{Around, IsEvent, MayMeet, behind_addition, behind_copy, behind_event, behind_expunge, behind_make, behind_move, is_fault, is_faulted, next_part, reads_octets, is_overtaken}
 use Rattle.journal.specs.GoesOn.{IsOneStep}
 use Rattle.journal.specs.Journal.{Requests, AreSteps, Broken, IsReplyOf, JournalStep, Reached, as_if, is_read_fault, left_by}
 use Rattle.journal.specs.Makes.{AreNextEvents, lists_before}
@@ -99,6 +99,12 @@ calm_copy : (part next : EventPart) → behind_copy part ≡ Some next → (aske
 calm_copy First next is asked calm = let k : Some Last ≡ Some next = is in let z : Last ≡ next = cc k in ap (λ (p : EventPart). reads_octets p asked) (sym z) ∙ calm
 calm_copy part next is asked calm = absurd (let k : None ≡ Some next = is in cc k)
 
+calm_make : (overtaken : Bool) (part next : EventPart) → behind_make overtaken part ≡ Some next → (asked : Request) → reads_octets First asked ≡ false → reads_octets Last asked ≡ false → reads_octets StartsOver asked ≡ false → reads_octets next asked ≡ false
+calm_make true First next is asked first last over = let k : Some StartsOver ≡ Some next = is in let z : StartsOver ≡ next = cc k in ap (λ (p : EventPart). reads_octets p asked) (sym z) ∙ over
+calm_make false First next is asked first last over = let k : Some Last ≡ Some next = is in let z : Last ≡ next = cc k in ap (λ (p : EventPart). reads_octets p asked) (sym z) ∙ last
+calm_make overtaken StartsOver next is asked first last over = let k : Some First ≡ Some next = is in let z : First ≡ next = cc k in ap (λ (p : EventPart). reads_octets p asked) (sym z) ∙ first
+calm_make overtaken part next is asked first last over = absurd (let k : None ≡ Some next = is in cc k)
+
 calm_addition : (part : EventPart) (why : Refusal) (next : EventPart) → behind_addition part why ≡ Some next → (asked : Request) → reads_octets GivesBack asked ≡ false → reads_octets next asked ≡ false
 calm_addition Last refusal.Stopped next is asked calm = absurd (let k : None ≡ Some next = is in cc k)
 calm_addition Last why next is asked calm = let k : Some GivesBack ≡ Some next = is in let z : GivesBack ≡ next = cc k in ap (λ (p : EventPart). reads_octets p asked) (sym z) ∙ calm
@@ -117,6 +123,8 @@ calm_move event part next is asked last second back = absurd (let k : None ≡ S
 calm_behind : (asked : Request) → MakesSteps asked → (around : Around) (run : Run) (event : RunEvent) (why : Option Refusal) (part : EventPart) → behind_event around run asked event why ≡ Some part → reads_octets part asked ≡ false
 calm_behind (request.Expunge name uid) one around run event None part is = calm_expunge event.part part is (request.Expunge name uid) refl
 calm_behind (request.Expunge name uid) one around run event (Some why) part is = absurd (let k : None ≡ Some part = is in cc k)
+calm_behind (request.Make name) one around run event None part is = calm_make (is_overtaken run event.request) event.part part is (request.Make name) refl refl refl
+calm_behind (request.Make name) one around run event (Some why) part is = absurd (let k : None ≡ Some part = is in cc k)
 calm_behind (request.Copy name uid target) one around run event None part is = calm_copy event.part part is (request.Copy name uid target) refl
 calm_behind (request.Copy name uid target) one around run event (Some why) part is = calm_addition event.part why part is (request.Copy name uid target) refl
 calm_behind (request.Move name uid target) one around run event None part is = calm_move event event.part part is (request.Move name uid target) refl refl refl
@@ -145,6 +153,7 @@ one_makes other one = absurd one
 pub may_read : (asked : Request) → MakesSteps asked → (lists : Lists) (old : Option History) → MayRead (alone asked) lists old
 may_read (request.List name) one lists old = λ f. absurd (let e : false ≡ true = f in cc e)
 may_read (request.Flag name uid flags) one lists old = λ f. absurd (let e : false ≡ true = f in cc e)
+may_read (request.Make name) one lists old = λ f. absurd (let e : false ≡ true = f in cc e)
 may_read (request.Expunge name uid) one lists old = λ f. absurd (let e : false ≡ true = f in cc e)
 may_read (request.Copy name uid target) one lists old = λ f. absurd (let e : false ≡ true = f in cc e)
 may_read (request.Move name uid target) one lists old = λ f. absurd (let e : false ≡ true = f in cc e)
@@ -283,7 +292,7 @@ request_done {D} history faults asked script given replies one entries old began
     let e : o.0 ≡ one = cc same in
     let s = subst (λ (rs : List Reply). IsServedOpen (alone asked) rs entries old (history store.disk) began (faults store.disk) store) (o.1 ∙ ap (λ (r : Reply). r ∷ []) e)
     (subst (λ (q : Requests). IsServedOpen q given entries old (history store.disk) began (faults store.disk) store) is served) in
-    let done : IsRequestDone asked one old (history store.disk) began (faults store.disk) = record { entries = entries; done = s.done; later = store.map; later_meanings = indexes_of store.boxes; comes = s.comes; told = s.told; undone = s.undone } in
+    let done : IsRequestDone asked one old (history store.disk) began (faults store.disk) = record { entries = entries; done = s.done; later = store.map; later_meanings = indexes_of store.boxes; comes = s.comes; told = s.told; undone = s.undone; unmade = s.unmade } in
     subst (λ (d : D). IsRequestDone asked one old (history d) began (faults d)) (sym back) done
 
 -- ---- a request of one event that is refused

@@ -42,7 +42,7 @@ use Rattle.lane_tasks.specs.Tasks.{BeginsTask}
 use Rattle.mail_ops.specs.Flagging.{flag_refusal}
 use Rattle.mail_ops.specs.Requests.{Replies}
 use Rattle.lane_tasks.specs.declared.task.Task.{Task}
-use Rattle.script_run.specs.One.{IsFlagAnswer, IsGivenBackAlone, IsToldAlone, IsUndoneAlone, MeansAlike, missing_cause}
+use Rattle.script_run.specs.One.{IsFlagAnswer, IsGivenBackAlone, IsToldAlone, IsUndoneAlone, IsUnmadeAlone, MeansAlike, MeansByMake, ReadAlike, missing_cause}
 use Rattle.script_run.specs.Done.{IsScriptDone, LeavesStore, MayBeKept, MayBeServed, MayRead}
 use Rattle.script_run.specs.Faults.{FaultsByReplies, HasReadFault}
 use Rattle.script_run.specs.LeftOpen.{IsServedOpen}
@@ -53,6 +53,7 @@ use Rattle.script_run.proofs.MailStaysLemmas.{opening_keeps, run_keeps, stays_fr
 use Rattle.script_run.proofs.CopyTaskLemmas.{IsCopyTold, StandsCopy, begun_copy, keeps_copy}
 use Rattle.script_run.proofs.ChainLemmas.{HasCounted, HasNotDelivered, HasOnlyRead, NoDelivery, counted_first, counted_on, reads_on, stays_over, syncs_first, undelivered_on, HasReadNoOctets, unread_on}
 use Rattle.script_run.proofs.SinceLemmas.{ServedSince, begun_first, fresh_tasks, reads_first, served_since, undelivered_first, unread_first}
+use Rattle.script_run.proofs.MakeTaskLemmas.{IsMakeTold, StandsMake, begun_make, keeps_make, making_cause, unmade_alike}
 use Rattle.script_run.proofs.MoveTaskLemmas.{IsMoveTold, StandsMove, begun_move, keeps_move}
 use Rattle.script_run.proofs.MovedLemmas.{Purges, all_at, none_moved}
 use Rattle.script_run.proofs.OneTaskLemmas.{IsAloneSo, IsExpungeTold, IsFlagTold, KeepsAlone, StandsExpunge, StandsFlag, alone_fresh, alone_on, begun_expunge, keeps_expunge, keeps_flag}
@@ -341,14 +342,21 @@ move_told : {D : Type 0} → (at : ℕ) (name : List ℕ) (uid : Uid) (target : 
 move_told at name uid target one old mid new first last s world ended r are =
     alone_told (StandsMove name uid target s mid) (IsMoveTold name uid target s mid) at (request.Move name uid target) one old mid new first last s world ended r are refl (keeps_move name uid target s mid) (begun_move name uid target s mid r.opened.running)
 
+make_told : {D : Type 0} → (at : ℕ) (name : List ℕ) (one : Reply) (old mid new : Option History) (first last : Faults) (s : StoreValue D) (world ended : WorldValue D) → ScriptRan ((at, request.Make name) ∷ []) old mid new first last s world ended → ended.replies ≡ Some one ∷ []
+    → IsMakeTold name s mid one ended.store new
+make_told at name one old mid new first last s world ended r are =
+    alone_told (StandsMake name s mid) (IsMakeTold name s mid) at (request.Make name) one old mid new first last s world ended r are refl (keeps_make name s mid r.opened.drawn) (begun_make name s mid r.opened.running)
+
 told_alone : {D : Type 0} → (script : Requests) (old mid new : Option History) (first last : Faults) (s : StoreValue D) (world ended : WorldValue D) → ScriptRan script old mid new first last s world ended → (given : List Reply) → ended.replies ≡ map Some given → IsToldAlone script s.map (indexes_of s.boxes) given
 told_alone ((at, request.Flag name uid flags) ∷ []) old mid new first last s world ended r (one ∷ []) are = flag_told at name uid flags one old mid new first last s world ended r are
+told_alone ((at, request.Make name) ∷ []) old mid new first last s world ended r (one ∷ []) are = making_cause name s one r.opened.drawn (make_told at name one old mid new first last s world ended r are).given_is
 told_alone ((at, request.Expunge name uid) ∷ []) old mid new first last s world ended r (one ∷ []) are = (expunge_told at name uid one old mid new first last s world ended r are).given_is
 told_alone ((at, request.Copy name uid target) ∷ []) old mid new first last s world ended r (one ∷ []) are = (copy_told at name uid target one old mid new first last s world ended r are).given_is
 told_alone ((at, request.Move name uid target) ∷ []) old mid new first last s world ended r (one ∷ []) are = (move_told at name uid target one old mid new first last s world ended r are).given_is
 told_alone script old mid new first last s world ended r given are = tt
 
 undone_alone : {D : Type 0} → (script : Requests) (old mid new : Option History) (first last : Faults) (s : StoreValue D) (world ended : WorldValue D) → ScriptRan script old mid new first last s world ended → (given : List Reply) → ended.replies ≡ map Some given → IsUndoneAlone script given → IsIdle mid new
+undone_alone ((at, request.Make name) ∷ []) old mid new first last s world ended r (reply.Refused why ∷ []) are runs = (make_told at name (reply.Refused why) old mid new first last s world ended r are).unchanged why refl runs.0 runs.1
 undone_alone ((at, request.Expunge name uid) ∷ []) old mid new first last s world ended r (reply.Refused why ∷ []) are running = (expunge_told at name uid (reply.Refused why) old mid new first last s world ended r are).unchanged why refl running
 undone_alone ((at, request.Copy name uid target) ∷ []) old mid new first last s world ended r (reply.Refused why ∷ []) are runs = (copy_told at name uid target (reply.Refused why) old mid new first last s world ended r are).unchanged why refl runs.0 runs.1
 undone_alone ((at, request.Move name uid target) ∷ []) old mid new first last s world ended r (reply.Refused why ∷ []) are runs = (move_told at name uid target (reply.Refused why) old mid new first last s world ended r are).unchanged why refl runs.0 runs.1
@@ -358,6 +366,15 @@ alike_alone : {D : Type 0} → (script : Requests) (old mid new : Option History
 alike_alone ((at, request.Copy name uid target) ∷ []) old mid new first last s world ended r (reply.Refused refusal.NoMemory ∷ []) are back = (copy_told at name uid target (reply.Refused refusal.NoMemory) old mid new first last s world ended r are).alike refl
 alike_alone ((at, request.Move name uid target) ∷ []) old mid new first last s world ended r (reply.Refused refusal.NoMemory ∷ []) are back = (move_told at name uid target (reply.Refused refusal.NoMemory) old mid new first last s world ended r are).alike refl
 alike_alone script old mid new first last s world ended r given are none = absurd none
+
+made_alone : {D : Type 0} → (script : Requests) (old mid new : Option History) (first last : Faults) (s : StoreValue D) (world ended : WorldValue D) → ScriptRan script old mid new first last s world ended → (given : List Reply) → ended.replies ≡ map Some given → MeansByMake script given s.map (indexes_of s.boxes) ended.store.map (indexes_of ended.store.boxes)
+made_alone ((at, request.Make name) ∷ []) old mid new first last s world ended r (reply.Refused refusal.NoMemory ∷ []) are = (make_told at name (reply.Refused refusal.NoMemory) old mid new first last s world ended r are).memory refl
+made_alone ((at, request.Make name) ∷ []) old mid new first last s world ended r (reply.Done ∷ []) are = (make_told at name reply.Done old mid new first last s world ended r are).more refl
+made_alone script old mid new first last s world ended r given are = tt
+
+unmade_alone : {D : Type 0} → (script : Requests) (old mid new : Option History) (first last : Faults) (s : StoreValue D) (world ended : WorldValue D) → ScriptRan script old mid new first last s world ended → (given : List Reply) → ended.replies ≡ map Some given → IsUnmadeAlone script given → ReadAlike mid new
+unmade_alone ((at, request.Make name) ∷ []) old mid new first last s world ended r (reply.Refused why ∷ []) are running = unmade_alike r.opened.swept.0 s old mid new r.opened.swept.1 ((make_told at name (reply.Refused why) old mid new first last s world ended r are).leaves why refl running)
+unmade_alone script old mid new first last s world ended r given are none = absurd none
 
 -- what it left of the store
 leaves_run : {D : Type 0} → (script : Requests) (old mid new : Option History) (first last : Faults) (s : StoreValue D) (world ended : WorldValue D) → ScriptRan script old mid new first last s world ended → (given : List Reply) → ended.replies ≡ map Some given → LeavesStore script s.map given old new
@@ -426,10 +443,12 @@ script_done script old mid new first last s world ended r =
           shows = λ lists shows may. (serves_run script old mid new first last s world ended r g.0 g.1 lists shows may).1;
           again = λ unstopped. opens_again new ended.store r.later (stopped_by script old mid new first last s world ended r g.0 g.1 unstopped);
           alike = alike_alone script old mid new first last s world ended r g.0 g.1;
+          made = made_alone script old mid new first last s world ended r g.0 g.1;
         };
         stopped = λ e. replied_by script old mid new first last s world ended r g.0 g.1 e;
         told = told_alone script old mid new first last s world ended r g.0 g.1;
         undone = undone_alone script old mid new first last s world ended r g.0 g.1;
+        unmade = unmade_alone script old mid new first last s world ended r g.0 g.1;
       },
     )
 

@@ -4,12 +4,14 @@ pub mod CopyTaskLemmas
 pub mod DoneLemmas
 pub mod EndLemmas
 pub mod MailStaysLemmas
+pub mod MakeTaskLemmas
 pub mod MoveTaskLemmas
 pub mod MovedLemmas
 pub mod OneTaskLemmas
 pub mod OpenedLemmas
 pub mod ReadFaultLemmas
 pub mod ReachedLemmas
+pub mod ReachedMakeLemmas
 pub mod ReachedMoveLemmas
 pub mod RunBeginsLemmas
 pub mod ShownLemmas

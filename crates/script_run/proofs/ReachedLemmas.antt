@@ -245,7 +245,7 @@ broken_at asked run broken start (step ∷ steps) w one s place =
 
 -- ---- the lists that are reached
 
-prefix_of : (steps : List JournalStep) (p : ℕ) → length steps ≤ 1 → (take p steps ≡ []) ⊎ (take p steps ≡ steps)
+pub prefix_of : (steps : List JournalStep) (p : ℕ) → length steps ≤ 1 → (take p steps ≡ []) ⊎ (take p steps ≡ steps)
 prefix_of steps zero few = inl refl
 prefix_of [] (suc p) few = inl refl
 prefix_of (step ∷ []) (suc zero) few = inr refl

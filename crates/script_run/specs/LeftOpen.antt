@@ -11,7 +11,7 @@ use Rattle.journal.specs.Journal.{Requests, left_by}
 use Rattle.store_core.specs.Value.{StoreValue, indexes_of}
 use Rattle.store_open.specs.Opened.{IsOpenedAs}
 use Rattle.script_run.specs.Done.{IsScriptDone, MayRead}
-use Rattle.script_run.specs.One.{IsGivenBackAlone, IsToldAlone, IsUndoneAlone, MeansAlike, alone}
+use Rattle.script_run.specs.One.{IsGivenBackAlone, IsToldAlone, IsUndoneAlone, IsUnmadeAlone, MeansAlike, MeansByMake, ReadAlike, alone}
 use Rattle.script_run.specs.Opening.{LogsShowLists}
 use Rattle.script_run.specs.Script.{HasStopped}
 
@@ -21,20 +21,23 @@ pub record ComesTo (script : Requests) (given : List Reply) (entries : List Jour
   pub shows : (lists : Lists) (shown_by : LogsShowLists done.m done.meanings lists) (may : MayRead script lists old) → LogsShowLists m meanings (left_by lists (done.serves lists shown_by may).journal)
   pub again : (HasStopped given → ⊥) → IsOpenedAs new m meanings
   pub alike : IsGivenBackAlone script given → MeansAlike done.m done.meanings m meanings
+  pub made : MeansByMake script given done.m done.meanings m meanings
 
 -- The script was done, and this store is left open, which has come to where the logs have: it is stopped only if a reply says so. Of a
--- script that is a setting of flags alone, or an expunge alone, the reply is so by the logs with which the store opened; and an expunge
--- alone that is refused has changed nothing since then, unless the store is stopped.
+-- script of one request that may change lists, but for a delivery, the reply is so by the logs with which the store opened; and one that
+-- is refused has changed nothing since then, unless the store is stopped. A make alone that isn't done leaves each file reading as it did
+-- then: the log that it made is removed.
 pub record IsServedOpen {D : Type 0} (script : Requests) (given : List Reply) (entries : List JournalEntry) (old new : Option History) (began now : Faults) (store : StoreValue D) : Type 0 where
   pub done : IsScriptDone script given entries old new began now
   pub comes : ComesTo script given entries old new began now done store.map (indexes_of store.boxes)
   pub stopped : store.stopped ≡ true → HasStopped given
   pub told : IsToldAlone script done.m done.meanings given
   pub undone : IsUndoneAlone script given → IsIdle done.leaves.opened new
+  pub unmade : IsUnmadeAlone script given → ReadAlike done.leaves.opened new
 
 -- A request alone was done, as a script of its own, and logs mean this now, which have come to what it leaves; flags are set, or not, and
 -- a message is removed, or not, as the logs said with which the store opened. Where it isn't removed, nothing has changed since then,
--- unless the store is stopped.
+-- unless the store is stopped. Where a mailbox isn't made, each file reads as it did then.
 pub record IsRequestDone (request : Request) (given : Reply) (old new : Option History) (began now : Faults) : Type 0 where
   pub entries : List JournalEntry
   pub done : IsScriptDone (alone request) (given ∷ []) entries old new began now
@@ -43,3 +46,4 @@ pub record IsRequestDone (request : Request) (given : Reply) (old new : Option H
   pub comes : ComesTo (alone request) (given ∷ []) entries old new began now done later later_meanings
   pub told : IsToldAlone (alone request) done.m done.meanings (given ∷ [])
   pub undone : IsUndoneAlone (alone request) (given ∷ []) → IsIdle done.leaves.opened new
+  pub unmade : IsUnmadeAlone (alone request) (given ∷ []) → ReadAlike done.leaves.opened new

@@ -1,8 +1,10 @@
 -- A script of one request, and the lists that it leaves.
-use Rattle.std.specs.Prelude.{◌≡◌, ◌<◌, ◌⊎◌, ℕ, nat_le, Bool, List, [], ◌∷◌, All, if◌then◌else◌, is_some, Option, Some, None}
+use Rattle.std.specs.Prelude.{◌≡◌, ◌<◌, ◌+◌, ◌++◌, ◌⊎◌, ℕ, nat_le, Bool, List, [], ◌∷◌, All, if◌then◌else◌, is_some, length, Option, Some, None}
 use Rattle.std.specs.Option.{option_map_or, option_or}
-use Rattle.disk_model.specs.Disk.{told_calls, History, Faults, EachImage}
+use Rattle.disk_model.specs.Disk.{Between, told_calls, History, Faults, EachImage, reading}
+use Rattle.disk_model.specs.declared.name.FileName.{FileName}
 use Rattle.mdbox_base.specs.declared.entries.Highest.{Highest}
+use Rattle.mdbox_base.specs.declared.entries.MapEntry.TheVariants as map_entry
 use Rattle.mdbox_base.specs.declared.ids.Guid.{Guid}
 use Rattle.mdbox_base.specs.declared.ids.Uid.{Uid}
 use Rattle.mdbox_base.specs.declared.replies.Refusal.{Refusal}
@@ -12,11 +14,11 @@ use Rattle.mdbox_base.specs.declared.replies.Reply.TheVariants as reply
 use Rattle.mdbox_base.specs.declared.requests.Request.{Request}
 use Rattle.mdbox_base.specs.declared.requests.Request.TheVariants as request
 use Rattle.model_lists.specs.Lists.{Lists}
-use Rattle.model_meaning.specs.BoxMeaning.{BoxMeaning, row_at}
-use Rattle.model_meaning.specs.MapMeaning.{MapMeaning, count_of, map_meaning}
+use Rattle.model_meaning.specs.BoxMeaning.{BoxMeaning, box_meaning, row_at}
+use Rattle.model_meaning.specs.MapMeaning.{MapMeaning, count_of, map_applied, map_meaning}
 use Rattle.model_store.specs.Listing.{meaning_named}
 use Rattle.model_store.specs.Settled.{IsSettledFor}
-use Rattle.list_machine.specs.Machine.{Answers, add_message, expunge, refused_where, set_flags}
+use Rattle.list_machine.specs.Machine.{Answers, add_message, expunge, is_used_up, refused_where, set_flags}
 use Rattle.list_machine.specs.Run.{First, Run, RunEvent, map_of}
 use Rattle.journal.specs.Journal.{JournalStep, Broken, Requests, left_by}
 use Rattle.journal.specs.Makes.{IsServed}
@@ -82,8 +84,10 @@ MakesOneStep (request.Expunge name uid) = Unit {0}
 MakesOneStep (request.Copy name uid target) = Unit {0}
 MakesOneStep asked = HasOneEvent asked
 
--- A request that makes one step so, or a move, which makes two. None of them reads octets of messages.
+-- A request that makes one step so; or a make, which makes one step, of a mailbox whose number its reply doesn't tell; or a move, which
+-- makes two. None of them reads octets of messages.
 abbrev pub MakesSteps : Request → Type 0
+MakesSteps (request.Make name) = Unit {0}
 MakesSteps (request.Move name uid target) = Unit {0}
 MakesSteps asked = MakesOneStep asked
 
@@ -175,8 +179,31 @@ IsMoveAnswer None to given = IsMovedAs to given ⊎ ((given ≡ reply.Refused re
 abbrev pub AreAlongMove : List ℕ → Uid → List ℕ → Lists → Lists → Type 0
 AreAlongMove name uid target lists some = (some ≡ lists) ⊎ ((some ≡ copied_lists name uid target lists) ⊎ (some ≡ moved_lists name uid target lists))
 
--- The reply to a setting of flags, an expunge, a copy or a move alone is so by the logs with which the store opened.
+-- Why no mailbox is made, by what the log of the mailbox with its name and the map's log mean: there is one, 1,024 mailboxes are
+-- there, or the numbers of mailboxes are used up.
+abbrev pub unmade_cause : Option BoxMeaning → MapMeaning → Option Refusal
+unmade_cause found m =
+    option_or (option_or (refused_where (is_some found) refusal.Exists) (refused_where (nat_le 1024 (length m.boxes)) (refusal.TooManyMailboxes 1024))) (refused_where (is_used_up m.highest.mailbox) (refusal.StoreFull 4294967294))
+
+-- the number of the mailbox that is made: the next above the highest that the map's log names
+abbrev pub next_mailbox : MapMeaning → ℕ
+next_mailbox m = m.highest.mailbox + 1
+
+-- what the map's log means with the entry that names the next mailbox
+abbrev pub with_next_named : List ℕ → MapMeaning → MapMeaning
+with_next_named name m = map_applied (map_entry.B (record { 0 = next_mailbox m }) 1 name) m
+
+-- each file reads as it did
+abbrev pub ReadAlike : Option History → Option History → Type 0
+ReadAlike = Between (λ a b. (name : FileName) → reading (b name) ≡ reading (a name))
+
+-- these lists, or those with the mailbox of this number
+abbrev pub AreAlongMake : ℕ → List ℕ → Lists → Lists → Type 0
+AreAlongMake number name lists some = (some ≡ lists) ⊎ (some ≡ with_mailbox number name lists)
+
+-- The reply to a make, a setting of flags, an expunge, a copy or a move alone is so by the logs with which the store opened.
 abbrev pub IsToldAlone : Requests → MapMeaning → List BoxMeaning → List Reply → Type 0
+IsToldAlone ((lane, request.Make name) ∷ []) m meanings (given ∷ []) = IsChangeAnswer (unmade_cause (meaning_named name m.boxes meanings) m) given
 IsToldAlone ((lane, request.Flag name uid flags) ∷ []) m meanings (given ∷ []) = IsFlagAnswer (missing_cause (meaning_named name m.boxes meanings) uid.0) given
 IsToldAlone ((lane, request.Expunge name uid) ∷ []) m meanings (given ∷ []) = IsChangeAnswer (missing_cause (meaning_named name m.boxes meanings) uid.0) given
 IsToldAlone ((lane, request.Copy name uid target) ∷ []) m meanings (given ∷ []) =
@@ -185,9 +212,10 @@ IsToldAlone ((lane, request.Move name uid target) ∷ []) m meanings (given ∷ 
     IsMoveAnswer (uncopied_cause (meaning_named name m.boxes meanings) (meaning_named target m.boxes meanings) m uid.0) (meaning_named target m.boxes meanings) given
 IsToldAlone script m meanings given = Unit {0}
 
--- An expunge, a copy or a move alone was refused, and the store isn't stopped: nothing has changed since the opening. So it is of an
+-- A make, an expunge, a copy or a move alone was refused, and the store isn't stopped: nothing has changed since the opening. So it is of an
 -- expunge also for want of memory.
 abbrev pub IsUndoneAlone : Requests → List Reply → Type 0
+IsUndoneAlone ((lane, request.Make name) ∷ []) (reply.Refused why ∷ []) = (why ≡ refusal.Stopped → ⊥) × (why ≡ refusal.NoMemory → ⊥)
 IsUndoneAlone ((lane, request.Expunge name uid) ∷ []) (reply.Refused why ∷ []) = why ≡ refusal.Stopped → ⊥
 IsUndoneAlone ((lane, request.Copy name uid target) ∷ []) (reply.Refused why ∷ []) = (why ≡ refusal.Stopped → ⊥) × (why ≡ refusal.NoMemory → ⊥)
 IsUndoneAlone ((lane, request.Move name uid target) ∷ []) (reply.Refused why ∷ []) = (why ≡ refusal.Stopped → ⊥) × (why ≡ refusal.NoMemory → ⊥)
@@ -204,3 +232,15 @@ pub record MeansAlike (m : MapMeaning) (meanings : List BoxMeaning) (later : Map
   pub indexes : later_meanings ≡ meanings
   pub mailboxes : later.boxes ≡ m.boxes
   pub records : later.records ≡ m.records
+
+-- Of a make alone: out of memory logs mean what they did; and where it is done they name the mailbox of the next number too, whose
+-- log means nothing yet.
+abbrev pub MeansByMake : Requests → List Reply → MapMeaning → List BoxMeaning → MapMeaning → List BoxMeaning → Type 0
+MeansByMake ((lane, request.Make name) ∷ []) (reply.Refused refusal.NoMemory ∷ []) m meanings later later_meanings = (later ≡ m) × (later_meanings ≡ meanings)
+MeansByMake ((lane, request.Make name) ∷ []) (reply.Done ∷ []) m meanings later later_meanings = (later ≡ with_next_named name m) × (later_meanings ≡ meanings ++ box_meaning [] ∷ [])
+MeansByMake script given m meanings later later_meanings = Unit {0}
+
+-- A make alone was refused, or there was no memory, and the store isn't stopped.
+abbrev pub IsUnmadeAlone : Requests → List Reply → Type 0
+IsUnmadeAlone ((lane, request.Make name) ∷ []) (reply.Refused why ∷ []) = why ≡ refusal.Stopped → ⊥
+IsUnmadeAlone script given = ⊥

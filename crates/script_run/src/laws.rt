@@ -21,7 +21,7 @@ ghost use Rattle.journal.specs.Journal.{Broken, IsLegal, JournalStep, Reached, l
 ghost use Rattle.journal.specs.Makes.{IsServed};
 ghost use Rattle.store_open.specs.Opened.{IsOpenedAs};
 ghost use Rattle.script_run.specs.Done.{IsScriptDone, MayRead};
-ghost use Rattle.script_run.specs.One.{AreAlongMove, AreListsTold, HasOneEvent, IsAlongOne, IsAnsweredFirst, IsUnanswered, IsUnfailed, MakesOneStep, MakesSteps, OpensUnchanged, ServesRequest, alone};
+ghost use Rattle.script_run.specs.One.{AreAlongMake, AreAlongMove, AreListsTold, HasOneEvent, IsAlongOne, IsAnsweredFirst, IsUnanswered, IsUnfailed, MakesOneStep, MakesSteps, OpensUnchanged, ServesRequest, alone, next_mailbox};
 ghost use Rattle.script_run.specs.Opening.{AreSafeFor, LogsShowLists};
 ghost use Rattle.script_run.specs.Script.{only_reads};
 
@@ -58,6 +58,14 @@ pub fn requests_of_one_event()
     ensures reached { (asked : Request) (start : Lists) (run : Run) (journal : List JournalStep) (broken : Broken) (replies : List (Option Reply)) (old new : Faults) (first m : MapMeaning) (drawn : Highest) (calls : ℕ) → MakesOneStep asked → IsServed start (alone asked) run journal broken replies old new first m drawn calls
         → (moment : ℕ) (lists : Lists) → Reached start run journal broken moment lists → IsAlongOne asked start lists }
     ensures refused { (asked : Request) (given : Reply) (entries : List JournalEntry) (old new : Option History) (began now : Faults) → (done : IsScriptDone (alone asked) (given ∷ []) entries old new began now) → HasOneEvent asked → (why : Refusal) → is_step why ≡ true → given ≡ reply.Refused why → IsIdle done.leaves.opened new }
+{}
+
+/// A make alone makes one step: it leaves the lists before it, or those with the mailbox, whose number is the next one of the map with
+/// which its run begins; and so does a crash within it.
+pub fn makes_make_one_step()
+    ensures left { (name : List ℕ) (start : Lists) (run : Run) (journal : List JournalStep) (broken : Broken) (replies : List (Option Reply)) (old new : Faults) (first m : MapMeaning) (drawn : Highest) (calls : ℕ) → IsServed start (alone (request.Make name)) run journal broken replies old new first m drawn calls → AreAlongMake (next_mailbox first) name start (left_by start journal) }
+    ensures reached { (name : List ℕ) (start : Lists) (run : Run) (journal : List JournalStep) (broken : Broken) (replies : List (Option Reply)) (old new : Faults) (first m : MapMeaning) (drawn : Highest) (calls : ℕ) → IsServed start (alone (request.Make name)) run journal broken replies old new first m drawn calls
+        → (moment : ℕ) (lists : Lists) → Reached start run journal broken moment lists → AreAlongMake (next_mailbox first) name start lists }
 {}
 
 /// A crash within a move alone leaves the lists before it, those with the copy, or those that are moved; and its second step finds the

@@ -2,8 +2,8 @@
 #![tactic(auto)]
 
 pub use laws::{
-    moves_make_two_steps, one_request, opened_logs_show_lists, requests_of_one_event,
-    requests_that_read, safe_files_are_shown,
+    makes_make_one_step, moves_make_two_steps, one_request, opened_logs_show_lists,
+    requests_of_one_event, requests_that_read, safe_files_are_shown,
 };
 pub use run::{ScriptRun, ServedScript, run_request, run_script, serve_script};
 
