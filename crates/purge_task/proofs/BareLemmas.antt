@@ -13,7 +13,7 @@ use Rattle.mdbox_base.specs.declared.requests.Request.TheVariants as request
 use Rattle.model_meaning.specs.MapMeaning.{MapMeaning}
 use Rattle.model_octets.proofs.PairLemmas.{pairs_head}
 use Rattle.list_machine.specs.Run.{MakesTarget, RemovesFile, Run, RunEvent, Switches, TakenFile, and_then, is_one_of, map_of, own_events}
-use Rattle.journal.specs.Events.{Around, file_to_remove, is_done, next_part, next_taken, purge_goes_on}
+use Rattle.journal.specs.Events.{Around, is_done, next_part, next_taken, purge_goes_on}
 use Rattle.storage_files.specs.Files.{pins_in}
 use Rattle.store_core.specs.Removing.{AreElsewhere}
 use Rattle.store_core.specs.Value.{StoreValue}
@@ -27,16 +27,15 @@ use Rattle.purge_task.specs.declared.work.Source.{Source}
 use Rattle.purge_task.specs.declared.work.Work.{Work}
 use Rattle.purge_task.proofs.EventLemmas.{DidSo, stands_so}
 use Rattle.purge_task.proofs.PartLemmas.{next_goes_on, next_is}
-use Rattle.purge_task.proofs.RemovalLemmas.{CountsRemoval, LeavesSettled, did_removal, none_in, removed_way}
+use Rattle.purge_task.proofs.RemovalLemmas.{CountsRemoval, LeavesSettled, did_removal, none_in, removed_way, removes_taken}
 use Rattle.purge_task.proofs.RemovalSeenLemmas.{removal_event, without}
 use Rattle.purge_task.proofs.RunLemmas.{done_gone, gone_files, one_alone, taken_on}
 use Rattle.purge_task.proofs.StageLemmas.{at_next}
 
--- As the journal has it, the file that the last event doomed comes first, so this asks that it is the one to be removed.
 pub bare_steps : {D : Type 0} → (after : Around) (t next : PurgeValue) (work : Work) (source : Source) (left : List Source) (disk : D) (old : StoreValue D) (before later : Option History) (began faults : Faults) → t.stage ≡ stage.Begin work → sources_left work ≡ source ∷ left → source.target ≡ None → AreSourcesApart (source ∷ left)
-    → ((run : Run) (place : ℕ) (said : List Reply) → IsAtPurge t old run place said → file_to_remove run (own_events place run) ≡ Some source.file.0) → IsNextStage (went_on work) next.stage → next.did ≡ did.Quiet → next.dropped ≡ t.dropped → next.files ≡ t.files + 1 → next.instances ≡ t.instances → old.stopped ≡ false → pins_in source.file.0 old.files.files ≡ 0
+    → IsNextStage (went_on work) next.stage → next.did ≡ did.Quiet → next.dropped ≡ t.dropped → next.files ≡ t.files + 1 → next.instances ≡ t.instances → old.stopped ≡ false → pins_in source.file.0 old.files.files ≡ 0
     → source.file.0 ≤ old.drawn.file → AreElsewhere source.file.0 old.map.records → LeavesSettled old.map before later began faults → PurgeSteps [] after t next old (without source.file.0 disk old) before later began faults None
-bare_steps after t next work source left disk old before later began faults at is none apart removes to how dropped counted instances ran unpinned drawn elsewhere leaves = λ run lane place said lists come shows stood.
+bare_steps after t next work source left disk old before later began faults at is none apart to how dropped counted instances ran unpinned drawn elsewhere leaves = λ run lane place said lists come shows stood.
     let around : Around = around_purging [] old in
     let stands = subst (λ (x : PurgeStage). IsAtPurgeStage x t old run place said) at stood.0 in
     let h = subst (λ (l : List Source). IsPurging t stands.0 l (GoesOnBehind run) old run place said) is stands.1 in
@@ -55,5 +54,5 @@ bare_steps after t next work source left disk old before later began faults at i
     let way = removed_way t next stands.0 (source ∷ left) (stands.0 ++ source ∷ []) left (GoesOnBehind run) lane source.file.0 (told_calls later) old new run place said refl ran now_taken (λ c. All-tail (HaveCopied old.map own) source left c) counts h in
     stands_so around after run lane place said lists (seen_by_purge old before began) (seen_by_purge new later faults) next.did None event None (IsAtPurge next new)
     (subst (λ (d : Did). DidSo around after run lane place said lists (seen_by_purge old before began) (seen_by_purge new later faults) d None event None) (sym how)
-    (did_removal around after run lane place said lists source.file.0 disk old before later began faults come shows ran unpinned drawn elsewhere next_one (removes run place said stood.0) leaves.moments leaves.rests leaves.grows leaves.mail leaves.quiet))
+    (did_removal around after run lane place said lists source.file.0 disk old before later began faults come shows ran unpinned drawn elsewhere next_one (removes_taken run own (told_taken source) h.last taken) leaves.moments leaves.rests leaves.grows leaves.mail leaves.quiet))
     (λ goes. at_next next work source (stands.0 ++ source ∷ []) left new (and_then run event) place said is to way)

@@ -1,7 +1,11 @@
+pub mod BareCallLemmas
 pub mod BareLemmas
 pub mod BesideLemmas
+pub mod CanReleaseLemmas
 pub mod CleanLemmas
 pub mod ContentsLemmas
+pub mod CopiedMoreLemmas
+pub mod CopiedOctetsLemmas
 pub mod CopyLemmas
 pub mod CopyStepLemmas
 pub mod EventLemmas
@@ -24,7 +28,9 @@ pub mod NextLemmas
 pub mod NumberLemmas
 pub mod PartLemmas
 pub mod ReadingLemmas
+pub mod ReadyLemmas
 pub mod RegionLemmas
+pub mod ReleaseLemmas
 pub mod RemovalCallLemmas
 pub mod RemovalLemmas
 pub mod RemovalSeenLemmas
@@ -37,6 +43,8 @@ pub mod SwitchReadyLemmas
 pub mod SwitchSeenLemmas
 pub mod SwitchStepLemmas
 pub mod SwitchedLemmas
+pub mod TargetCallLemmas
+pub mod TargetLeavingLemmas
 pub mod TargetLemmas
 pub mod TargetSeenLemmas
 pub mod TakeableLemmas

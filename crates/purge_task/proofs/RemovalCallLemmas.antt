@@ -78,7 +78,7 @@ doomed_untaken n files d =
 
 -- ---- claims
 
-same_in : {Y : Type 0} → (value : Option MailFile → Y) (n file : ℕ) (files : List MailFile) → value None ≡ value (file_in file files) → value (file_in n (without_file file files)) ≡ value (file_in n files)
+pub same_in : {Y : Type 0} → (value : Option MailFile → Y) (n file : ℕ) (files : List MailFile) → value None ≡ value (file_in file files) → value (file_in n (without_file file files)) ≡ value (file_in n files)
 same_in value n file files same = elim (cases_eq n file) [
   | inl is ↦ subst (λ (i : ℕ). value (file_in i (without_file file files)) ≡ value (file_in i files)) (sym is) (ap value (file-gone file files) ∙ same)
   | inr apart ↦ ap value (file-without file n files apart)
@@ -164,7 +164,7 @@ stays_ready work source s disk store before h = record {
           h.2,
         )
 
-ready_next : {D : Type 0} → (work : Work) (source : Source) (left : List Source) (next : PurgeStage) (disk : D) (store : StoreValue D) (later : Option History) → sources_left work ≡ source ∷ left → IsNextStage (went_on work) next → length work.block.items ≡ 65536 → AreSourcesApart (source ∷ left) → All (IsToBegin work store) left
+pub ready_next : {D : Type 0} → (work : Work) (source : Source) (left : List Source) (next : PurgeStage) (disk : D) (store : StoreValue D) (later : Option History) → sources_left work ≡ source ∷ left → IsNextStage (went_on work) next → length work.block.items ≡ 65536 → AreSourcesApart (source ∷ left) → All (IsToBegin work store) left
     → HasPurged next (without source.file.0 disk store) later
 ready_next work source left next disk store later is (inl none) block apart each = subst (λ (s : PurgeStage). HasPurged s (without source.file.0 disk store) later) (sym none.1) tt
 ready_next work source left next disk store later is (inr some) block apart each = subst (λ (s : PurgeStage). HasPurged s (without source.file.0 disk store) later) (sym some.1) (block, now_apart, beginning)

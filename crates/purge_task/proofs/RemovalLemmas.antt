@@ -17,7 +17,7 @@ use Rattle.model_kept.specs.Kept.{MailIsKept}
 use Rattle.model_lists.specs.Lists.{Lists}
 use Rattle.model_meaning.specs.MapMeaning.{MapMeaning, MapRecord}
 use Rattle.model_store.specs.Settled.{IsSettledFor, Leaves}
-use Rattle.list_machine.specs.Run.{First, RemovesFile, RemovesInstance, Run, RunEvent, Switches, TakenFile, and_then, dropped_in, first_in, how_many, is_one_of, is_pinned, map_of, own_events}
+use Rattle.list_machine.specs.Run.{EventPart, First, RemovesFile, RemovesInstance, Run, RunEvent, Switches, TakenFile, and_then, dropped_in, first_in, how_many, is_one_of, is_pinned, map_of, own_events}
 use Rattle.journal.specs.Events.{Around, doomed_last, file_to_remove, is_done, last_refusal, next_part, next_taken, purge_goes_on, behind_event, was_pinned}
 use Rattle.journal.proofs.OwnEventLemmas.{own_more}
 use Rattle.storage_files.specs.Files.{pins_in}
@@ -104,6 +104,25 @@ removes_switched run own file l =
   where
     by_part : (part : _) → RemovesBehind run file l.last.doomed part → (l.last.doomed ≡ file ∷ []) × (was_pinned run file ≡ false)
     by_part Switches h = h
+    by_part part h = absurd h
+
+-- Behind an event that doomed no file, or one that had a pin then, the next file is removed.
+pub removes_taken : (run : Run) (own : List RunEvent) (taken : TakenFile) → IsLastOf (GoesOnBehind run) own → next_taken own ≡ Some taken → file_to_remove run own ≡ Some taken.file
+removes_taken run own taken l next =
+    ap (λ (fs : List ℕ). option_or (first_in unpinned fs) (option_map (λ (taken : TakenFile). taken.file) (next_taken own))) (ap doomed_last l.own_are ∙ last_doomed l.front l.last)
+    ∙ (ap (λ (o : Option ℕ). option_or o (option_map (λ (taken : TakenFile). taken.file) (next_taken own))) (by_part l.last.part l.behind) ∙ ap (λ (o : Option TakenFile). option_or None (option_map (λ (taken : TakenFile). taken.file) o)) next)
+  where
+    unpinned : ℕ → Option ℕ
+    unpinned n = if was_pinned run n then None else Some n
+
+    none_doomed : l.last.doomed ≡ [] → first_in unpinned l.last.doomed ≡ None
+    none_doomed none = ap (λ (fs : List ℕ). first_in unpinned fs) none
+
+    by_part : (part : EventPart) → GoesOnBehind run l.last.doomed part → first_in unpinned l.last.doomed ≡ None
+    by_part First h = none_doomed h
+    by_part RemovesFile h = none_doomed h
+    by_part RemovesInstance h = none_doomed h
+    by_part Switches h = ap (λ (fs : List ℕ). first_in unpinned fs) h.1 ∙ ap (λ (b : Bool). option_or (if b then None else Some h.0) None) h.2
     by_part part h = absurd h
 
 pub none_in : (n : ℕ) (rows : List MapRecord) → AreElsewhere n rows → list_any (λ row. row.file == n) rows ≡ false

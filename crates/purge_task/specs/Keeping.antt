@@ -1,5 +1,5 @@
 -- What a purge keeps between its events, of the store and of its disk.
-use Rattle.std.specs.Prelude.{◌≡◌, ◌<◌, ◌≤◌, ◌+◌, ◌*◌, ◌==◌, ◌&&◌, nat_le, ℕ, true, List, [], ◌∷◌, All, AllPairs, length, sum_by, Option, Some, None, if◌then◌else◌}
+use Rattle.std.specs.Prelude.{◌≡◌, ◌≢◌, ◌<◌, ◌≤◌, ◌+◌, ◌*◌, ◌==◌, ◌&&◌, nat_le, ℕ, true, List, [], ◌∷◌, All, AllPairs, length, sum_by, Option, Some, None, if◌then◌else◌}
 use Rattle.std.specs.List.{list_any}
 use Rattle.std.specs.Option.{IfSome}
 use Rattle.disk_model.specs.Disk.{History, IfTold, MayLeave}
@@ -33,6 +33,14 @@ pub record PurgeValue : Type 0 where
   pub dropped : ℕ
   pub files : ℕ
   pub instances : ℕ
+
+-- How many events are still to come at the most: of each file that is left those of its records and four more, one for each known
+-- instance, and the reply.
+abbrev pub file_events : {D : Type 0} → StoreValue D → Source → ℕ
+file_events store source = messages_in store.map source.file.0 + 4
+
+abbrev pub instance_events : {D : Type 0} → StoreValue D → ℕ
+instance_events store = length store.instances.known + 2
 
 -- ---- the memory that was taken
 
@@ -80,11 +88,12 @@ pub record AreSourcesApart (sources : List Source) : Type 0 where
 abbrev pub target_header : List ℕ
 target_header = 50 ∷ 32 ∷ 77 ∷ 49 ∷ 101 ∷ 32 ∷ 67 ∷ 48 ∷ 10 ∷ []
 
--- The messages of the source before this offset that are wanted were copied, and no others. The copies stand one behind another in the
+-- The messages of the source before this offset that are wanted were copied, each once, and no others. The copies stand one behind another in the
 -- target, behind its header and to this end, and there is room for what is still to be copied.
 pub record AreCopiedUpTo (source from end : ℕ) (copied : List MapPlace) (m : MapMeaning) : Type 0 where
   pub there : All (λ place. HasRecord m place.uid.0 (λ row. (row.file ≡ source) × (row.offset + row.size ≤ from) × (place.offset + row.size ≤ end))) copied
   pub every : All (λ row. row.file ≡ source → row.offset < from → 1 ≤ row.count → list_any (λ place. place.uid.0 == row.uid) copied ≡ true) m.records
+  pub once : AllPairs (λ a b. a.uid.0 ≢ b.uid.0) copied
   pub behind : All (λ place. length target_header ≤ place.offset) copied
   pub follow : AllPairs (λ a b. HasRecord m a.uid.0 (λ row. a.offset + row.size ≤ b.offset)) copied
   pub fits : end + sum_by (λ row. if is_copied_from source row && nat_le from row.offset then row.size else 0) m.records ≤ 4294967294
@@ -123,6 +132,16 @@ abbrev pub IsRemovingFirst : {D : Type 0} → List Source → Work → StoreValu
 IsRemovingFirst [] work store = ⊥
 IsRemovingFirst (source ∷ left) work store = (is_doomed_in source.file.0 store.files.files ≡ true) × (pins_in source.file.0 store.files.files ≡ 0) × AreElsewhere source.file.0 store.map.records × All (IsToBegin work store) left
 
+-- in the present file, which has no target, lies no message
+abbrev pub IsBareFirst : List Source → MapMeaning → Type 0
+IsBareFirst [] m = ⊥
+IsBareFirst (source ∷ left) m = (source.target ≡ None) × AreElsewhere source.file.0 m.records
+
+-- the present file has this target
+abbrev pub IsTargetFirst : List Source → FileNo → Type 0
+IsTargetFirst [] target = ⊥
+IsTargetFirst (source ∷ left) target = source.target ≡ Some target
+
 -- a purge at its beginning has a file that is to be emptied
 abbrev pub IsBeginningFirst : {D : Type 0} → List Source → Work → StoreValue D → Type 0
 IsBeginningFirst [] work store = ⊥
@@ -137,3 +156,12 @@ HasPurged (stage.Begin work) store history = HasBlock work × AreSourcesApart (s
 HasPurged (stage.Copying work) store history = HasBlock work × AreSourcesApart (sources_left work) × IsCopyingFirst (sources_left work) work store history
 HasPurged (stage.Removing work) store history = HasBlock work × AreSourcesApart (sources_left work) × IsRemovingFirst (sources_left work) work store
 HasPurged other store history = Unit {0}
+
+-- ---- its numbers
+
+-- The numbers that it counts fit: so many files it has emptied, each with at most 4,294,967,295 records; and it removes no more instances
+-- than are known, and than are still placed.
+pub record HasCountRoom {D : Type 0} (t : PurgeValue) (store : StoreValue D) : Type 0 where
+  pub dropped : t.dropped ≤ t.files * 4294967295
+  pub files : t.files ≤ 4294967294
+  pub instances : t.instances + length store.instances.known ≤ 9223372036854775808 + store.instances.highest

@@ -1,10 +1,12 @@
--- What a purge takes at its first event: the files that it empties, and a number for each target.
-use Rattle.std.specs.Prelude.{◌≡◌, ◌≤◌, ◌<◌, ◌+◌, ℕ, false, List, [], ◌∷◌, fold, count_by, if◌then◌else◌, Some, All, AllPairs}
+-- What a purge takes at its first event: the files that it empties, and a number for each target. And how it gives them back.
+use Rattle.std.specs.Prelude.{◌≡◌, ◌≤◌, ◌<◌, ◌+◌, ◌||◌, ℕ, true, false, List, [], ◌∷◌, fold, count_by, if◌then◌else◌, Some, All, AllPairs}
+use Rattle.std.specs.Option.{IfSome}
 use Rattle.mdbox_base.specs.declared.ids.FileNo.{FileNo}
 use Rattle.storage_files.specs.declared.file.MailFile.{MailFile}
 use Rattle.storage_files.specs.declared.file.Take.TheVariants.{New}
-use Rattle.storage_files.specs.Files.{IsUntakenFile, after_take, changed_in, file_in, to_empty}
+use Rattle.storage_files.specs.Files.{IsUntakenFile, after_take, changed_in, file_in, is_emptied_in, is_taken_in, released_in, to_empty}
 use Rattle.store_core.specs.Value.{StoreValue}
+use Rattle.purge_task.specs.Switched.{target_released}
 use Rattle.purge_task.specs.declared.work.Source.{Source}
 
 -- nobody has taken the file, and it is neither sealed nor doomed
@@ -48,3 +50,17 @@ take_all sources store = fold source_taken store sources
 abbrev pub targets_given : ℕ → List Source → List Source
 targets_given drawn [] = []
 targets_given drawn (source ∷ rest) = with_target drawn source ∷ targets_given (if source.is_wanted then drawn + 1 else drawn) rest
+
+-- ---- given back
+
+-- a file and its target are given back
+abbrev pub source_released : List MailFile → Source → List MailFile
+source_released files source = target_released source.target (released_in source.file.0 files)
+
+abbrev pub all_released : List Source → List MailFile → List MailFile
+all_released sources files = fold source_released files sources
+
+-- each of them is taken still, and so is its target, as those before it were given back
+abbrev pub CanRelease : List Source → List MailFile → Type 0
+CanRelease [] files = Unit {0}
+CanRelease (source ∷ left) files = ((is_taken_in source.file.0 files || is_emptied_in source.file.0 files) ≡ true) × IfSome source.target (λ t. is_taken_in t.0 (released_in source.file.0 files) ≡ true) × CanRelease left (source_released files source)

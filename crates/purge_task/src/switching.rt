@@ -110,7 +110,7 @@ fn sync_target<D: Disk>(store: &mut Store<D>, target: Option<FileNo>) -> Result<
 }
 
 /// Gives a target back.
-fn release_target<D: Disk>(store: &mut Store<D>, target: Option<FileNo>)
+pub fn release_target<D: Disk>(store: &mut Store<D>, target: Option<FileNo>)
     requires { IfSome target (λ t. is_taken_in t.0 store.old.files.files ≡ true) }
     ensures { store.new ≡ record store.old { files = record store.old.files { files = target_released target store.old.files.files } } }
 {

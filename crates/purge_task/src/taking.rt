@@ -1,5 +1,5 @@
 // What a purge takes at its first event: memory, the files that it empties, and a number for each target.
-ghost use Rattle.std.specs.Prelude.{◌≡◌, ◌≤◌, ◌<◌, ◌+◌, ◌*◌, ℕ, true, false, length, Some, None, IfOk, IfErr, IsErr, OnOk};
+ghost use Rattle.std.specs.Prelude.{◌≡◌, ◌≤◌, ◌<◌, ◌+◌, ◌*◌, ◌||◌, ℕ, IfSome, true, false, length, Some, None, IfOk, IfErr, IsErr, OnOk};
 ghost use Rattle.disk_model.specs.Disk.{Grows, IfTold, Keeps};
 ghost use Rattle.disk_model.specs.FaultCounts.{NoFault, ChangeFaultCounted};
 ghost use Rattle.disk_model.specs.declared.name.FileName.TheVariants.{Mail};
@@ -7,14 +7,15 @@ ghost use Rattle.mdbox_base.specs.declared.replies.Refusal.TheVariants as refusa
 ghost use Rattle.model_kept.specs.Kept.{MailIsKept};
 ghost use Rattle.model_lists.specs.Lists.{Lists};
 ghost use Rattle.model_store.specs.Settled.{IsSettledFor, Leaves};
-ghost use Rattle.storage_files.specs.Files.{changed_in, end_in, ending_at, is_taken_in, placing_begun};
+ghost use Rattle.storage_files.specs.Files.{changed_in, end_in, ending_at, is_emptied_in, is_taken_in, placing_begun, released_in};
 ghost use Rattle.storage_files.specs.OnDisk.{OthersAreNamed};
 ghost use Rattle.store_core.specs.Dues.{KeepsStored};
 ghost use Rattle.purge_task.specs.Keeping.{target_header};
 ghost use Rattle.purge_task.specs.Reserved.{IsNewWork};
-ghost use Rattle.purge_task.specs.Taken.{CanTake, CanTakeAll, taken_to_empty, source_taken, take_all, target_drawn, targets_given, with_target};
+ghost use Rattle.purge_task.specs.Taken.{CanRelease, CanTake, CanTakeAll, all_released, taken_to_empty, source_released, source_taken, take_all, target_drawn, targets_given, with_target};
 
 use crate::finding::{Found, TARGET_HEADER};
+use crate::switching::release_target;
 use crate::work::{Source, Work, entry_size};
 use disk_model::Disk;
 use mdbox_base::{FileNo, NoMemory, Refusal};
@@ -98,4 +99,28 @@ pub fn make_target<D: Disk>(store: &mut Store<D>, target: FileNo) -> Result<(), 
         }
         Err(_) => Err(Refusal::Stopped),
     }
+}
+
+/// Gives back files that are still taken, and their targets, unless the store is stopped.
+pub fn give_back<D: Disk>(store: &mut Store<D>, sources: &[Source])
+    requires { store.old.stopped ≡ false → CanRelease sources.now store.old.files.files }
+    ensures stopped { store.old.stopped ≡ true → store.new ≡ store.old }
+    ensures running { store.old.stopped ≡ false → store.new ≡ record store.old { files = record store.old.files { files = all_released sources.now store.old.files.files } } }
+{
+    if store.stopped() {
+        return;
+    }
+    for source in sources {
+        release_source(store, source);
+    }
+}
+
+/// Gives back a file and its target.
+fn release_source<D: Disk>(store: &mut Store<D>, source: &Source)
+    requires taken { (is_taken_in source.now.file.0 store.old.files.files || is_emptied_in source.now.file.0 store.old.files.files) ≡ true }
+    requires target { IfSome source.now.target (λ t. is_taken_in t.0 (released_in source.now.file.0 store.old.files.files) ≡ true) }
+    ensures { store.new ≡ record store.old { files = record store.old.files { files = source_released store.old.files.files source.now } } }
+{
+    store.release(source.file);
+    release_target(store, source.target);
 }

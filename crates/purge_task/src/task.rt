@@ -1,17 +1,34 @@
-// The task of a purge, as far as its events are put together.
-ghost use Rattle.std.specs.Prelude.{◌≡◌, ◌<◌, length, false, Some, None};
+// The task of a purge.
+ghost use Rattle.std.specs.Prelude.{◌≡◌, ◌≤◌, ◌<◌, ◌+◌, ◌↔◌, ℕ, List, length, true, false, Some, None};
+ghost use Rattle.disk_model.specs.Disk.{Grows};
+ghost use Rattle.journal.specs.Events.{Around};
+ghost use Rattle.mdbox_base.specs.Streams.{Rose};
+ghost use Rattle.model_kept.specs.Kept.{MailIsKept};
+ghost use Rattle.task_steps.specs.Step.{ended_by};
 ghost use Rattle.mdbox_base.specs.Words.{IsOctets};
 ghost use Rattle.mdbox_base.specs.declared.progress.Did.TheVariants as did;
+ghost use Rattle.mdbox_base.specs.declared.progress.Progress.TheVariants as progress;
+ghost use Rattle.mdbox_base.specs.declared.replies.Refusal.TheVariants as refusal;
+ghost use Rattle.mdbox_base.specs.declared.replies.Reply.{Reply as ReplyValue};
+ghost use Rattle.mdbox_base.specs.declared.replies.Reply.TheVariants as reply;
 ghost use Rattle.store_core.specs.Removing.{useless_past};
-ghost use Rattle.purge_task.specs.Clause.{IsPurgeStep, answer_of, at_stage, came_to, did_of_refusal};
-ghost use Rattle.purge_task.specs.Keeping.{HasPurged, PurgeValue};
+ghost use Rattle.task_claims.specs.Claims.{ClaimsNothing, MovesClaims};
+ghost use Rattle.task_claims.specs.Leaving.{LeavesOthers};
+ghost use Rattle.purge_task.specs.Claims.{purge_claims, sources_left};
+ghost use Rattle.purge_task.specs.Clause.{IsPurgeStep, PurgeSteps, answer_of, at_stage, came_to, did_of_refusal};
+ghost use Rattle.purge_task.specs.Keeping.{HasCountRoom, HasPurged, IsBareFirst, IsTargetFirst, PurgeValue};
 ghost use Rattle.purge_task.specs.Stages.{IsNextStage};
 ghost use Rattle.purge_task.specs.declared.task.PurgeStage.TheVariants as stage;
 
+use crate::copying::{copy_message, next_wanted};
+use crate::finding::Found;
+use crate::switching::switch;
+use crate::taking::{give_back, make_target, reserve, take_files};
 use crate::work::Work;
 use disk_model::Disk;
-use mdbox_base::{Did, Half, InstId, Progress, Refusal, Reply};
+use mdbox_base::{Did, FileNo, Half, InstId, Progress, Refusal, Reply};
 use std::marker::Model;
+use std::mem;
 use store_core::Store;
 
 /// Which event of a purge is the next.
@@ -38,7 +55,7 @@ struct Done {
     instances: u64,
 }
 
-/// The task of a purge: which event is the next, what the last one did, and what it has done so far.
+/// The task of a purge: its events, one at a step.
 #[derive(Drop)]
 pub struct PurgeTask {
     stage: PurgeStage,
@@ -55,6 +72,12 @@ impl Model for PurgeTask {
 }
 
 impl PurgeTask {
+    const NOTHING: Done = Done {
+        dropped: 0,
+        files: 0,
+        instances: 0,
+    };
+
     /// A purge that has done nothing.
     pub fn of() -> PurgeTask
         ensures { result ≡ record { stage = stage.First; did = did.Quiet; dropped = 0; files = 0; instances = 0 } }
@@ -62,11 +85,7 @@ impl PurgeTask {
         PurgeTask {
             stage: PurgeStage::First,
             did: Did::Quiet,
-            done: Done {
-                dropped: 0,
-                files: 0,
-                instances: 0,
-            },
+            done: PurgeTask::NOTHING,
         }
     }
 
@@ -75,6 +94,125 @@ impl PurgeTask {
         ensures { result ≡ self.now.did }
     {
         self.did
+    }
+
+    /// Does the next event. A task that has given its reply begins anew; one that was stopped stays where it was.
+    pub fn step<D: Disk>(&mut self, store: &mut Store<D>) -> Progress
+        // Unless the store is stopped, what it has taken, made and copied so far is so in the store, and on a disk that is modelled;
+        // and so it is afterwards, if it goes on.
+        requires ready { store.old.stopped ≡ false → HasPurged self.old.stage store.old (D.history store.old.disk) }
+        requires fits { store.old.stopped ≡ false → HasCountRoom self.old store.old }
+        ensures ready { result ≡ progress.More → store.new.stopped ≡ false → HasPurged self.new.stage store.new (D.history store.new.disk) }
+
+        // Of every run that has come to the store, and whose requests use what is used in it: which event it was, of the files that the
+        // first one finds, what it answered, and which crash images it leaves.
+        ensures does { (files : List ℕ) × ((after : Around) → PurgeSteps files after self.old self.new store.old store.new (D.history store.old.disk) (D.history store.new.disk) (D.faults store.old.disk) (D.faults store.new.disk) (ended_by result)) }
+
+        // A store that is stopped replies so, and no other does.
+        ensures stopped { (result ≡ progress.Done (reply.Refused refusal.Stopped)) ↔ (store.new.stopped ≡ true) }
+        ensures still { store.old.stopped ≡ true → (store.new ≡ store.old) × (self.new.stage ≡ self.old.stage) }
+
+        // Unless it stops the store, it moves only its own claims, and leaves to other tasks what is theirs. One that was replied claims
+        // nothing.
+        ensures claims { store.new.stopped ≡ false → MovesClaims (purge_claims self.old.stage) (purge_claims self.new.stage) store.old store.new }
+        ensures leaves { store.new.stopped ≡ false → LeavesOthers (purge_claims self.old.stage) store.old store.new (D.history store.old.disk) (D.history store.new.disk) }
+        ensures ended { (given : ReplyValue) → result ≡ progress.Done given → store.new.stopped ≡ false → ClaimsNothing (purge_claims self.new.stage) }
+
+        // At each moment storage files and instances have what the map needs. Unless the store is stopped then, no change of the disk
+        // failed; an event that stops it is one in which a change failed, and no read.
+        ensures grows { Grows (D.history store.old.disk) (D.history store.new.disk) }
+        ensures mail { MailIsKept store.old.map (D.history store.old.disk) (D.history store.new.disk) }
+        ensures reads { (D.faults store.old.disk).reads ≤ (D.faults store.new.disk).reads }
+        ensures changes { (D.faults store.old.disk).changes ≤ (D.faults store.new.disk).changes }
+        ensures unfailed { store.new.stopped ≡ false → (D.faults store.new.disk).changes ≡ (D.faults store.old.disk).changes }
+        ensures fell { store.old.stopped ≡ false → store.new.stopped ≡ true → Rose (D.faults store.old.disk).changes (D.faults store.new.disk).changes × ((D.faults store.new.disk).reads ≡ (D.faults store.old.disk).reads) }
+    {
+        self.did = Did::Quiet;
+        if store.stopped() {
+            return Progress::Done(Reply::Refused(Refusal::Stopped));
+        }
+        let next = match mem::replace(&mut self.stage, PurgeStage::First) {
+            PurgeStage::First => self.begin(store),
+            PurgeStage::Begin(work) => self.begin_file(store, work),
+            PurgeStage::Copying(work) => self.copy_or_switch(store, work),
+            PurgeStage::Removing(work) => remove_source(store, work),
+            PurgeStage::Instances => return self.remove_instance(store),
+        };
+        match next {
+            Ok(stage) => {
+                self.stage = stage;
+                Progress::More
+            }
+            Err(why) => {
+                self.did = did_refused(&why);
+                Progress::Done(Reply::Refused(why))
+            }
+        }
+    }
+
+    /// The first event: finds the files, takes the memory, and then takes the files.
+    fn begin<D: Disk>(&mut self, store: &mut Store<D>) -> Result<PurgeStage, Refusal> {
+        self.done = PurgeTask::NOTHING;
+        let found = Found::of(store)?;
+        let mut work = reserve(store, &found).map_err(|_| Refusal::NoMemory)?;
+        take_files(store, &mut work.sources);
+        Ok(goes_on(work))
+    }
+
+    /// The first event of a file.
+    fn begin_file<D: Disk>(
+        &mut self,
+        store: &mut Store<D>,
+        work: Work,
+    ) -> Result<PurgeStage, Refusal> {
+        let Some(source) = work.present() else {
+            unreachable!()
+        };
+        if let Some(target) = source.target {
+            return begin_target(store, work, target);
+        }
+        if store.map().in_file(source.file, 0).is_some() {
+            self.switch(store, work)
+        } else {
+            self.done.files += 1;
+            remove_bare(store, work)
+        }
+    }
+
+    /// Copies the next message, or switches the file. A message that can't be read ends the purge, and all that it has taken is
+    /// given back.
+    fn copy_or_switch<D: Disk>(
+        &mut self,
+        store: &mut Store<D>,
+        work: Work,
+    ) -> Result<PurgeStage, Refusal> {
+        let mut work = work;
+        let Some(source) = work.present() else {
+            unreachable!()
+        };
+        let wanted = next_wanted(store.map(), source.file, work.from);
+        match (source.target, wanted) {
+            (Some(target), Some(row)) => match copy_message(store, &mut work, target, row) {
+                Ok(()) => Ok(PurgeStage::Copying(work)),
+                Err(why) => {
+                    give_back(store, work.left());
+                    Err(why)
+                }
+            },
+            _ => self.switch(store, work),
+        }
+    }
+
+    fn switch<D: Disk>(&mut self, store: &mut Store<D>, work: Work) -> Result<PurgeStage, Refusal> {
+        let mut work = work;
+        let switched = switch(store, &mut work)?;
+        self.done.dropped += switched.dropped;
+        self.done.files += 1;
+        if switched.is_unpinned {
+            return Ok(PurgeStage::Removing(work));
+        }
+        work.go_on();
+        Ok(goes_on(work))
     }
 
     /// Removes the next instance that nobody needs, or gives the reply.
@@ -144,6 +282,41 @@ pub fn remove_source<D: Disk>(store: &mut Store<D>, work: Work) -> Result<PurgeS
     requires running { store.old.stopped ≡ false }
     requires ready { HasPurged (stage.Removing work) store.old (D.history store.old.disk) }
     ensures { (t : PurgeValue) → t.stage ≡ stage.Removing work → IsPurgeStep t (came_to result t) (answer_of result) store.old store.new (D.history store.old.disk) (D.history store.new.disk) (D.faults store.old.disk) (D.faults store.new.disk) }
+{
+    store.facts();
+    let mut work = work;
+    let Some(source) = work.present() else {
+        unreachable!()
+    };
+    match store.remove_file(source.file) {
+        Ok(()) => {
+            work.go_on();
+            Ok(goes_on(work))
+        }
+        Err(_) => Err(Refusal::Stopped),
+    }
+}
+
+/// Makes the target of the present file.
+fn begin_target<D: Disk>(store: &mut Store<D>, work: Work, target: FileNo) -> Result<PurgeStage, Refusal>
+    requires running { store.old.stopped ≡ false }
+    requires ready { HasPurged (stage.Begin work) store.old (D.history store.old.disk) }
+    requires target { IsTargetFirst (sources_left work) target }
+    ensures { (t : PurgeValue) → t.stage ≡ stage.Begin work → IsPurgeStep t (came_to result t) (answer_of result) store.old store.new (D.history store.old.disk) (D.history store.new.disk) (D.faults store.old.disk) (D.faults store.new.disk) }
+{
+    store.facts();
+    match make_target(store, target) {
+        Ok(()) => Ok(PurgeStage::Copying(work)),
+        Err(_) => Err(Refusal::Stopped),
+    }
+}
+
+/// Removes the present file, which was taken and in which no message lies.
+fn remove_bare<D: Disk>(store: &mut Store<D>, work: Work) -> Result<PurgeStage, Refusal>
+    requires running { store.old.stopped ≡ false }
+    requires ready { HasPurged (stage.Begin work) store.old (D.history store.old.disk) }
+    requires bare { IsBareFirst (sources_left work) store.old.map }
+    ensures { (t : PurgeValue) → t.stage ≡ stage.Begin work → IsPurgeStep t (came_to result (record t { files = t.files + 1 })) (answer_of result) store.old store.new (D.history store.old.disk) (D.history store.new.disk) (D.faults store.old.disk) (D.faults store.new.disk) }
 {
     store.facts();
     let mut work = work;

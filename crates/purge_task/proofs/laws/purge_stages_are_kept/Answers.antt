@@ -8,7 +8,11 @@ use Rattle.purge_task.proofs.FailLemmas.{fail_steps, memory_steps, unread_steps}
 use Rattle.purge_task.proofs.FindsLemmas.{finds_files}
 use Rattle.purge_task.proofs.FirstStepLemmas.{first_steps}
 use Rattle.purge_task.proofs.FullLemmas.{full_steps}
-use Rattle.purge_task.proofs.BareLemmas.{bare_steps}
+use Rattle.purge_task.proofs.CopiedOctetsLemmas.{copied_octets}
+use Rattle.purge_task.proofs.CopiedMoreLemmas.{copied_more}
+use Rattle.purge_task.proofs.CanReleaseLemmas.{copying_held, grown_held, held_release}
+use Rattle.purge_task.proofs.TargetLeavingLemmas.{same_others}
+use Rattle.purge_task.proofs.ReadyLemmas.{ready_copied, ready_unwanted}
 use Rattle.purge_task.proofs.RemovalCallLemmas.{removing_one, removing_says}
 use Rattle.purge_task.proofs.LeavingLemmas.{gone_leaves, removal_leaves}
 use Rattle.purge_task.proofs.WithinLemmas.{uids_within}
