@@ -12,5 +12,6 @@ ghost use Rattle.model_appends.specs.Appending.{lists_by};
 pub fn entries_are_steps()
     ensures flagged { (lists : Lists) (name : List ℕ) (x : Mailbox) (octets : List ℕ) (uid : Uid) (flags : ℕ) → AreWellFormed lists → mailbox_named name lists ≡ Some x → lists_by x.number octets (box_entry.F uid flags) lists ≡ set_flags name uid.0 flags lists }
     ensures removed { (lists : Lists) (name : List ℕ) (x : Mailbox) (octets : List ℕ) (uid : Uid) → AreWellFormed lists → mailbox_named name lists ≡ Some x → lists_by x.number octets (box_entry.R uid) lists ≡ expunge name uid.0 lists }
-    ensures added { (lists : Lists) (name : List ℕ) (x : Mailbox) (octets : List ℕ) (uid : Uid) (flags time size : ℕ) (map_uid : MapUid) (guid : Guid) → AreWellFormed lists → mailbox_named name lists ≡ Some x → uid.0 ≡ x.next_uid → lists_by x.number octets (box_entry.A uid flags time size map_uid guid) lists ≡ add_message name (record { uid = uid.0; flags = flags; time = time; guid = guid.0; octets = octets }) lists }
+    ensures added { (lists : Lists) (name : List ℕ) (x : Mailbox) (octets : List ℕ) (uid : Uid) (flags time size : ℕ) (map_uid : MapUid) (guid : Guid) → AreWellFormed lists → mailbox_named name lists ≡ Some x → uid.0 ≡ x.next_uid
+        → lists_by x.number octets (box_entry.A uid flags time size map_uid guid) lists ≡ add_message name (record { uid = uid.0; flags = flags; time = time; guid = guid.0; octets = octets }) lists }
 {}

@@ -30,7 +30,8 @@ pub fn runs_come_on()
 
 /// A run in which each event was the next of its lane goes on with one that is, and the step that it made.
 pub fn runs_go_on()
-    ensures { (around after : ℕ → Around) (script : Requests) (start : Lists) (run : Run) (journal : List JournalStep) (request : Request) (event : RunEvent) (answer : Option Reply) (left : Lists) → AreSteps run script start journal → AreNextEvents around after script start run journal → IsNextEvent (around (length run.events)) (after (length run.events)) script run (left_by start journal) event → AreNextEvents around after script start (and_then run event) (journal ++ steps_made run request event answer left) }
+    ensures { (around after : ℕ → Around) (script : Requests) (start : Lists) (run : Run) (journal : List JournalStep) (request : Request) (event : RunEvent) (answer : Option Reply) (left : Lists) → AreSteps run script start journal → AreNextEvents around after script start run journal
+        → IsNextEvent (around (length run.events)) (after (length run.events)) script run (left_by start journal) event → AreNextEvents around after script start (and_then run event) (journal ++ steps_made run request event answer left) }
 {}
 
 /// Replies of read faults are at most as many as the events that a read fault refused.
@@ -40,11 +41,16 @@ pub fn read_faults_have_events()
 
 /// Where a task tells what its step made, the journal goes on by it.
 pub fn tasks_make_journals()
-    ensures { (start : Lists) (script : Requests) (run : Run) (journal : List JournalStep) (replies : List (Option Reply)) (old new : Faults) (around after : Around) (lane place : ℕ) (request : Request) (left : Lists) (m later : MapMeaning) (drawn drawn_then : Highest) (calls calls_then : ℕ) (ended : Option Reply) → IsLegal start script run journal replies old new → HasCome run m drawn calls → calls ≤ calls_then → slice_get script place ≡ Some (lane, request) → (k : Makes around after run lane place request (left_by start journal) left later drawn_then calls_then ended) → AllMayCome script journal replies (steps_made run request k.event k.answer left) → IsLegal start script (and_then run k.event) (journal ++ steps_made run request k.event k.answer left) replies old new }
+    ensures { (start : Lists) (script : Requests) (run : Run) (journal : List JournalStep) (replies : List (Option Reply)) (old new : Faults) (around after : Around) (lane place : ℕ) (request : Request) (left : Lists) (m later : MapMeaning) (drawn drawn_then : Highest) (calls calls_then : ℕ) (ended : Option Reply)
+        → IsLegal start script run journal replies old new → HasCome run m drawn calls → calls ≤ calls_then → slice_get script place ≡ Some (lane, request) → (k : Makes around after run lane place request (left_by start journal) left later drawn_then calls_then ended)
+        → AllMayCome script journal replies (steps_made run request k.event k.answer left) → IsLegal start script (and_then run k.event) (journal ++ steps_made run request k.event k.answer left) replies old new }
 {}
 
 /// What the two events of an expunge make, of every run that has come to where the store stood.
 pub fn expunges_make_two_events()
-    ensures removal { (around after : Around) (run : Run) (lane place : ℕ) (name : List ℕ) (uid : Uid) (old : Lists) (m : MapMeaning) (drawn : Highest) (calls later : ℕ) (mailbox : Mailbox) (row : MapRecord) → HasCome run m drawn calls → calls ≤ later → IsAtStage ToRemove (own_events place run) → first_refusal run old (part_checks run (removal lane place mailbox uid row.uid later) (request.Expunge name uid) First) ≡ None → mailbox_named name old ≡ Some mailbox → IsRecord run old name uid.0 row → (k : Makes around after run lane place (request.Expunge name uid) old (expunge name uid.0 old) m drawn later None) × IsAtStage (ToLower row.uid) (own_events place run ++ k.event ∷ []) }
-    ensures lowering { (around after : Around) (run : Run) (lane place : ℕ) (name : List ℕ) (uid : Uid) (old : Lists) (m : MapMeaning) (drawn : Highest) (calls later owed : ℕ) → HasCome run m drawn calls → calls ≤ later → IsAtStage (ToLower owed) (own_events place run) → MapFits (map_of run) (entry.D (record { 0 = owed } ∷ [])) → Makes around after run lane place (request.Expunge name uid) old old (map_applied (entry.D (record { 0 = owed } ∷ [])) m) (drawn_also drawn no_numbers) later (Some reply.Done) }
+    ensures removal { (around after : Around) (run : Run) (lane place : ℕ) (name : List ℕ) (uid : Uid) (old : Lists) (m : MapMeaning) (drawn : Highest) (calls later : ℕ) (mailbox : Mailbox) (row : MapRecord) → HasCome run m drawn calls → calls ≤ later → IsAtStage ToRemove (own_events place run)
+        → first_refusal run old (part_checks run (removal lane place mailbox uid row.uid later) (request.Expunge name uid) First) ≡ None → mailbox_named name old ≡ Some mailbox → IsRecord run old name uid.0 row → (k : Makes around after run lane place (request.Expunge name uid) old (expunge name uid.0 old) m drawn later None)
+        × IsAtStage (ToLower row.uid) (own_events place run ++ k.event ∷ []) }
+    ensures lowering { (around after : Around) (run : Run) (lane place : ℕ) (name : List ℕ) (uid : Uid) (old : Lists) (m : MapMeaning) (drawn : Highest) (calls later owed : ℕ) → HasCome run m drawn calls → calls ≤ later → IsAtStage (ToLower owed) (own_events place run)
+        → MapFits (map_of run) (entry.D (record { 0 = owed } ∷ [])) → Makes around after run lane place (request.Expunge name uid) old old (map_applied (entry.D (record { 0 = owed } ∷ [])) m) (drawn_also drawn no_numbers) later (Some reply.Done) }
 {}

@@ -17,7 +17,8 @@ pub fn reached_lists_stay()
 /// at which the append began.
 pub fn failed_appends_are_reached()
     ensures none { (run : Run) → IsOfFailure run no_broken }
-    ensures failure { (run : Run) (failed would : RunEvent) (began : ℕ) (step : JournalStep) → All (λ e. e.refused ≢ Some refusal.Stopped) run.events → All (λ e. e.moment ≤ began) run.events → failed.refused ≡ Some refusal.Stopped → would.lane ≡ failed.lane → would.request ≡ failed.request → would.part ≡ failed.part → step.event ≡ length run.events → IsOfFailure (and_then run failed) (broken_by run would began step) }
+    ensures failure { (run : Run) (failed would : RunEvent) (began : ℕ) (step : JournalStep) → All (λ e. e.refused ≢ Some refusal.Stopped) run.events → All (λ e. e.moment ≤ began) run.events → failed.refused ≡ Some refusal.Stopped → would.lane ≡ failed.lane → would.request ≡ failed.request → would.part ≡ failed.part
+        → step.event ≡ length run.events → IsOfFailure (and_then run failed) (broken_by run would began step) }
     ensures still { (run : Run) (event : RunEvent) (broken : Broken) → broken.place ≤ length run.events → IsOfFailure run broken → IsOfFailure (and_then run event) broken }
     ensures broken { (run : Run) (script : Requests) (start : Lists) (journal : List JournalStep) (failed would : RunEvent) (began : ℕ) (step : JournalStep) → IsStep (and_then run would) script (left_by start journal) step → AreBroken (and_then run failed) script start journal (broken_by run would began step) }
     ensures before { (start : Lists) (run : Run) (journal : List JournalStep) (broken : Broken) (m : ℕ) (lists : Lists) → Reached start run journal no_broken m lists → Reached start run journal broken m lists }

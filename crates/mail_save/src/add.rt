@@ -69,7 +69,8 @@ pub fn add_message<D: Disk>(store: &mut Store<D>, name: &Name, added: Added) -> 
 
     // Of a settled disk each image at every moment is safe for its lists, or for those with the message; and after Ok the disk
     // is settled for the latter.
-    ensures any_moment { (number : BoxNo) (uid : Uid) → HasRoomUnder name.now number uid store.old → (lists : Lists) (octets : List ℕ) → Brings store.old.map (entry_added uid added) octets (D.history store.old.disk) → IsSettledFor lists (D.history store.old.disk) → Leaves lists (lists_by number.0 octets (entry_added uid added) lists) (D.history store.old.disk) (D.history store.new.disk) }
+    ensures any_moment { (number : BoxNo) (uid : Uid) → HasRoomUnder name.now number uid store.old → (lists : Lists) (octets : List ℕ)
+        → Brings store.old.map (entry_added uid added) octets (D.history store.old.disk) → IsSettledFor lists (D.history store.old.disk) → Leaves lists (lists_by number.0 octets (entry_added uid added) lists) (D.history store.old.disk) (D.history store.new.disk) }
     ensures mail_stays { MailIsKept store.old.map (D.history store.old.disk) (D.history store.new.disk) }
     ensures settled { IfOk result (λ uid. (number : BoxNo) → HasRoomUnder name.now number uid store.old → (lists : Lists) (octets : List ℕ) → Brings store.old.map (entry_added uid added) octets (D.history store.old.disk) → IsSettledFor lists (D.history store.old.disk) → IsSettledFor (lists_by number.0 octets (entry_added uid added) lists) (D.history store.new.disk)) }
     ensures unadded { IsErr result → store.new.stopped ≡ false → store.new ≡ store.old }

@@ -18,7 +18,6 @@ pub use replies::{ListRow, Refusal, Reply};
 pub use requests::Request;
 pub use script::{Half, JournalEntry, Script};
 pub use seq::Seq;
-pub use skipped::{Reason, RebuildReport, Skipped};
 pub use stream::{InputError, Sink, SinkFault, Source, SourceFault, give_all, read_all};
 
 mod clock;
@@ -38,5 +37,4 @@ mod replies;
 mod requests;
 mod script;
 mod seq;
-mod skipped;
 mod stream;

@@ -127,7 +127,7 @@ bare_amount source left disk store d bare none (PlacingPieces n) =
     let e = same_in (λ (o : Option MailFile). one_if (is_some (option_and_then (λ f. f.begun) o))) n source.file.0 store.files.files (sym (ap (λ (o : Option ℕ). one_if (is_some o)) (unplaced_in source.file.0 store.files.files d))) in omega (arith, e)
 bare_amount source left disk store d bare none (Removing n) =
     let e = same_in (λ (o : Option MailFile). one_if (option_map_or (λ f. f.doomed) o false && (option_map_or (λ f. f.pins) o 0 == 0))) n source.file.0 store.files.files
-            (sym (ap (λ (b : Bool). one_if (b && (pins_in source.file.0 store.files.files == 0))) (undoomed_in source.file.0 store.files.files d))) in omega (arith, e)
+    (sym (ap (λ (b : Bool). one_if (b && (pins_in source.file.0 store.files.files == 0))) (undoomed_in source.file.0 store.files.files d))) in omega (arith, e)
 bare_amount source left disk store d bare none (Emptied n) =
     let k = sum_by-cons (λ (s : Source). cond (s.file.0 == n) 1 0) source left in
     elim (cases_eq n source.file.0) [

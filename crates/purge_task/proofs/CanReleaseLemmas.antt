@@ -69,7 +69,7 @@ can_release (source ∷ left) files own held clear =
       or_true (is_taken_in source.file.0 files) (is_emptied_in source.file.0 files) h.emptied,
       target_held source.target (All-head (λ (s : Source). IfSome s.target (λ t. t.0 ≢ s.file.0)) source left own) h.taken,
       can_release left (source_released files source) (All-tail (λ (s : Source). IfSome s.target (λ t. t.0 ≢ s.file.0)) source left own)
-      (each left (pairs_head AreClear source left clear) (All-tail (IsHeldIn files) source left held)) (pairs_tail AreClear source left clear),
+          (each left (pairs_head AreClear source left clear) (All-tail (IsHeldIn files) source left held)) (pairs_tail AreClear source left clear),
     )
   where
     target_held : (o : Option FileNo) → IfSome o (λ t. t.0 ≢ source.file.0) → IfSome o (λ t. is_taken_in t.0 files ≡ true) → IfSome o (λ t. is_taken_in t.0 (released_in source.file.0 files) ≡ true)

@@ -38,8 +38,8 @@ overlap_same m a b sound in_a in_b here low high =
 
     by_case : SameOrApart a b → a ≡ b
     by_case (inl same) = same
-    by_case (inr (inl r)) = elim (r here) [ | inl l ↦ absurd (omega (arith, l, low, high, some)) | inr l ↦ absurd (omega (arith, l, low, high, some)) ]
-    by_case (inr (inr r)) = elim (r (sym here)) [ | inl l ↦ absurd (omega (arith, l, low, high, some)) | inr l ↦ absurd (omega (arith, l, low, high, some)) ]
+    by_case (inr (inl r)) = elim (r here) [ inl l ↦ absurd (omega (arith, l, low, high, some)) | inr l ↦ absurd (omega (arith, l, low, high, some)) ]
+    by_case (inr (inr r)) = elim (r (sym here)) [ inl l ↦ absurd (omega (arith, l, low, high, some)) | inr l ↦ absurd (omega (arith, l, low, high, some)) ]
 
 -- ---- what is still to be copied
 

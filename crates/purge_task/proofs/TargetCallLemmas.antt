@@ -225,7 +225,7 @@ none_copied work source store places none from short = subst (λ (ps : List MapP
   follow = pairs_nil (λ (a b : MapPlace). HasRecord store.map a.uid.0 (λ row. a.offset + row.size ≤ b.offset));
   fits =
       let l = sum_by-le-sum_by (λ (row : MapRecord). if is_copied_from source.file.0 row && nat_le work.from row.offset then row.size else 0) (λ (row : MapRecord). if is_copied_from source.file.0 row then row.size else 0) store.map.records
-              (λ row. either_less (is_copied_from source.file.0 row) (nat_le work.from row.offset) row.size) in
+      (λ row. either_less (is_copied_from source.file.0 row) (nat_le work.from row.offset) row.size) in
       omega (arith, l, short);
 })
 

@@ -298,7 +298,11 @@ pub fn remove_source<D: Disk>(store: &mut Store<D>, work: Work) -> Result<PurgeS
 }
 
 /// Makes the target of the present file.
-fn begin_target<D: Disk>(store: &mut Store<D>, work: Work, target: FileNo) -> Result<PurgeStage, Refusal>
+fn begin_target<D: Disk>(
+    store: &mut Store<D>,
+    work: Work,
+    target: FileNo,
+) -> Result<PurgeStage, Refusal>
     requires running { store.old.stopped ≡ false }
     requires ready { HasPurged (stage.Begin work) store.old (D.history store.old.disk) }
     requires target { IsTargetFirst (sources_left work) target }
