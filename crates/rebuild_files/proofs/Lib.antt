@@ -1,4 +1,3 @@
 pub mod FindingLemmas
 pub mod ListingLemmas
 pub mod NumberLemmas
-pub mod RootLemmas

@@ -7,7 +7,6 @@ pub use found::{FoundAt, FoundPlace};
 pub use generations::{free_box_generation, free_map_generation};
 pub use instances::highest_instance;
 pub use lost::check_lost;
-pub use root::remove_root;
 pub use storage::storage_numbers;
 
 mod device;
@@ -17,5 +16,4 @@ mod found;
 mod generations;
 mod instances;
 mod lost;
-mod root;
 mod storage;

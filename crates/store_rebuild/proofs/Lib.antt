@@ -7,6 +7,7 @@ pub mod MakeLemmas
 pub mod MapTextLemmas
 pub mod PlannedLemmas
 pub mod ReportLemmas
+pub mod RootLemmas
 pub mod SealLemmas
 pub mod SettledLemmas
 pub mod StoreLemmas

@@ -13,7 +13,7 @@ use Rattle.disk_model.proofs.OneFileLemmas.{change-here}
 use Rattle.mdbox_base.specs.declared.entries.InstRow.{InstRow}
 use Rattle.model_rebuild.specs.RebuildMoments.{IsBeforeLogs, IsOldButForRoot}
 use Rattle.model_store.specs.Settled.{files_of}
-use Rattle.rebuild_files.proofs.RootLemmas.{looked_images}
+use Rattle.store_rebuild.proofs.RootLemmas.{looked_images}
 use Rattle.rebuild_judge.specs.declared.taken.TakenRow.{TakenRow}
 use Rattle.store_rebuild.specs.Writing.{AreFilesSynced, AreFilesThere, IsInstanceSynced, IsInstanceThere, IsOnlySynced, IsFileSynced}
 use Rattle.store_rebuild.proofs.FileLemmas.{synced_synced}

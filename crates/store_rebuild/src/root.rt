@@ -5,7 +5,7 @@ ghost use Rattle.disk_model.specs.FaultCounts.{NoFault, AnyFaultCounted, ReadFau
 ghost use Rattle.disk_model.specs.declared.name.FileName.{FileName};
 ghost use Rattle.disk_model.specs.declared.name.FileName.TheVariants as file;
 ghost use Rattle.model_rebuild.specs.RebuildMoments.{IsBeforeLogs, IsOldButForRoot};
-ghost use Rattle.rebuild_files.specs.Rootless.{IsRootTaken};
+ghost use Rattle.store_rebuild.specs.Rootless.{IsRootTaken};
 ghost use Rattle.store_rebuild.specs.Writing.{IsRootless};
 
 use disk_model::{Disk, DiskError, FileName};

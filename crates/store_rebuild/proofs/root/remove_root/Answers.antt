@@ -3,8 +3,8 @@ use Rattle.disk_model.proofs.MomentLemmas.{if_told-after}
 use Rattle.disk_model.specs.Disk.{IsThere, change_all, named}
 use Rattle.disk_model.specs.declared.name.FileName.TheVariants as file
 use Rattle.model_rebuild.specs.RebuildMoments.{IsBeforeLogs}
-use Rattle.rebuild_files.proofs.RootLemmas.{changed_images, rootless, unsynced_images}
-use Rattle.rebuild_files.specs.Rootless.{IsRootTaken}
+use Rattle.store_rebuild.proofs.RootLemmas.{changed_images, rootless, unsynced_images}
+use Rattle.store_rebuild.specs.Rootless.{IsRootTaken}
 use Rattle.store_rebuild.specs.Writing.{IsRootless}
 use Rattle.store_rebuild.proofs.FileLemmas.{named_gone}
 use Rattle.store_rebuild.proofs.root.remove_root.Goals as goal

@@ -2,7 +2,7 @@ use Rattle.disk_model.proofs.IdleLemmas.{idle-on}
 use Rattle.disk_model.specs.Disk.{change, removed}
 use Rattle.disk_model.specs.declared.name.FileName.TheVariants as file
 use Rattle.model_rebuild.specs.RebuildMoments.{IsBeforeLogs}
-use Rattle.rebuild_files.proofs.RootLemmas.{changed_images, failed_images, looked_images, none_taken, root_taken}
+use Rattle.store_rebuild.proofs.RootLemmas.{changed_images, failed_images, looked_images, none_taken, root_taken}
 use Rattle.store_rebuild.proofs.root.take_root.Goals as goal
 
 pub returns-in_err-has_root-clause-any_moment : goal.returns-in_err-has_root-clause-any_moment

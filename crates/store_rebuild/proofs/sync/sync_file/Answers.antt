@@ -1,7 +1,7 @@
 use Rattle.disk_model.proofs.BetweenLemmas.{between-step}
 use Rattle.disk_model.proofs.IdleLemmas.{idle-begins}
 use Rattle.disk_model.specs.Disk.{change, synced}
-use Rattle.rebuild_files.proofs.RootLemmas.{looked_images, unsynced_images}
+use Rattle.store_rebuild.proofs.RootLemmas.{looked_images, unsynced_images}
 use Rattle.store_rebuild.specs.Writing.{IsOnlySynced}
 use Rattle.store_rebuild.proofs.SyncLemmas.{only_synced, sync_before, sync_images, sync_stays, sync_synced}
 use Rattle.store_rebuild.proofs.sync.sync_file.Goals as goal

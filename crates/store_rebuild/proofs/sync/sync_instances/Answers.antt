@@ -4,7 +4,7 @@ use Rattle.disk_model.proofs.BetweenLemmas.{between-begins, between-then}
 use Rattle.disk_model.proofs.FaultCountLemmas.{no_fault-then}
 use Rattle.disk_model.proofs.IdleLemmas.{idle-begins}
 use Rattle.disk_model.proofs.MomentLemmas.{each_image-then, if_told-all}
-use Rattle.rebuild_files.proofs.RootLemmas.{looked_images}
+use Rattle.store_rebuild.proofs.RootLemmas.{looked_images}
 use Rattle.store_rebuild.specs.Writing.{IsInstanceSynced, IsInstanceThere, IsOnlySynced}
 use Rattle.store_rebuild.proofs.SyncLemmas.{first_there, instance_keeps, instance_stays, left_begins, left_ends, left_more, only_begins, only_then, others_there}
 use Rattle.store_rebuild.proofs.sync.sync_instances.Goals as goal

@@ -3,7 +3,7 @@ use Rattle.disk_model.specs.declared.name.FileName.TheVariants as file
 use Rattle.disk_model.proofs.BetweenLemmas.{between-begins}
 use Rattle.disk_model.proofs.IdleLemmas.{idle-begins}
 use Rattle.disk_model.proofs.MomentLemmas.{if_told-map}
-use Rattle.rebuild_files.proofs.RootLemmas.{looked_images}
+use Rattle.store_rebuild.proofs.RootLemmas.{looked_images}
 use Rattle.store_rebuild.specs.Writing.{IsOnlySynced, IsFileSynced}
 use Rattle.store_rebuild.proofs.SyncLemmas.{only_begins}
 use Rattle.store_rebuild.proofs.sync.sync_storage.Goals as goal

@@ -6,7 +6,7 @@ use Rattle.disk_model.proofs.IdleLemmas.{idle-begins}
 use Rattle.disk_model.proofs.MomentLemmas.{each_image-then, if_told-all, if_told-map}
 use Rattle.disk_model.specs.Disk.{Between, IfTold, IsThere}
 use Rattle.disk_model.specs.declared.name.FileName.TheVariants as file
-use Rattle.rebuild_files.proofs.RootLemmas.{looked_images}
+use Rattle.store_rebuild.proofs.RootLemmas.{looked_images}
 use Rattle.store_rebuild.specs.Writing.{AreFilesSynced, AreFilesThere, IsInstanceThere, IsOnlySynced}
 use Rattle.store_rebuild.proofs.SyncLemmas.{IsLastSynced, both_synced, first_there, left_begins, left_ends, left_more, message_keeps, message_stays, only_begins, only_then, others_there, same_as_last}
 use Rattle.store_rebuild.proofs.sync.sync_taken.Goals as goal

@@ -11,7 +11,8 @@ use Rattle.disk_model.specs.Name.{IsLogName}
 use Rattle.disk_model.specs.declared.name.FileName.TheVariants as file
 use Rattle.model_rebuild.specs.RebuildMoments.{IsBeforeLogs, IsBeforeRoot, IsOldButForRoot}
 use Rattle.model_store.specs.Opening.{HasNoEntry}
-use Rattle.rebuild_files.specs.Rootless.{IsRootTaken}
+use Rattle.store_rebuild.proofs.FileLemmas.{named_gone}
+use Rattle.store_rebuild.specs.Rootless.{IsRootTaken}
 
 -- ---- images
 
@@ -85,12 +86,6 @@ root_taken keeps old now new idle is =
 no_root : (left : Option (List ℕ)) → MayLeave no_file left → HasNoEntry left
 no_root None leaves = tt
 no_root (Some octets) holds = elim holds.named [ inl gone ↦ absurd (false≢true gone) | inr loose ↦ absurd (false≢true loose) ]
-
-named_gone : (f : FileState) → (IsThere f → ⊥) → named f ≡ no_file
-named_gone f gone = elim (cases_Bool f.is_there) [
-  | inl there ↦ absurd (gone there)
-  | inr e ↦ cond-false f.is_there (record f { is_name_loose = false }) no_file e
-]
 
 pub rootless : (first now : DiskState) → IsBeforeLogs first now → (IsThere (now file.Root) → ⊥) → IsBeforeRoot first (change_all named now)
 rootless first now b gone = (
