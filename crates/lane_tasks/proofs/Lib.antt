@@ -1,5 +1,6 @@
 pub mod FilesLemmas
 pub mod KeepLemmas
+pub mod PurgeTakenLemmas
 pub mod RoomLemmas
 pub mod StandLemmas
 pub mod StepLemmas

@@ -36,7 +36,7 @@ use Rattle.mail_fetch.specs.Claims.{HasFetchRoom, HasUseRoom}
 use Rattle.mail_fetch.specs.Clause.{CanFetch, FetchSteps, StepsOf}
 use Rattle.mail_fetch.specs.Events.{FetchesNext, fetch_refusal}
 use Rattle.mail_fetch.specs.Stages.{IsAtFetch}
-use Rattle.mail_fetch.specs.Task.{FetchValue, UnpinsUndoomed, seen_in}
+use Rattle.mail_fetch.specs.Task.{FetchValue, seen_in}
 use Rattle.mail_fetch.specs.declared.task.FetchStage.{FetchStage}
 use Rattle.mail_fetch.specs.declared.task.FetchStage.TheVariants as fetch_stage
 use Rattle.mail_save.specs.Claims.{save_claims}
@@ -45,9 +45,12 @@ use Rattle.mail_save.specs.SaveSeen.{HasItsParts, IsAtSave, StepsWithRoom, aroun
 use Rattle.mail_save.specs.Task.{EndsSave, IsReadyToDeliver, SaveValue}
 use Rattle.mail_save.specs.declared.task.SaveStage.{SaveStage}
 use Rattle.mail_save.proofs.SavePartLemmas.{ready_has_parts}
+use Rattle.purge_task.specs.Clause.{PurgeSteps, TellsUses, around_purging}
+use Rattle.purge_task.specs.Keeping.{PurgeValue}
+use Rattle.purge_task.specs.Stages.{IsAtPurge}
 use Rattle.resync_task.specs.Clause.{ResyncClause}
 use Rattle.resync_task.specs.Task.{ResyncValue}
-use Rattle.lane_tasks.specs.Clause.{DoomsNothing, FindsAround, SetsNoFlags, StaysOfRequest, StepsTask, around_at}
+use Rattle.lane_tasks.specs.Clause.{DoomsNone, FindsAround, LeavesUndoomed, SetsNoFlags, StaysOfRequest, StepsTask, around_at}
 use Rattle.lane_tasks.specs.Tasks.{IsAtTask, IsDeliveryOf, IsMakeNumber, IsTaskOf, TookFiles, TookNoFile, did_of, work_left}
 use Rattle.lane_tasks.specs.declared.task.Task.{Task}
 use Rattle.lane_tasks.specs.declared.task.Task.TheVariants as task
@@ -58,7 +61,7 @@ pub steps_found : {D : Type 0} → (t next : Task) (q : Request) (old new : Stor
     → ((asked : Request) → IsTaskOf t asked → (asked ≡ q) × IsTaskOf next asked) → TakesNone q → new.files ≡ old.files → ((run : Run) (place : ℕ) → TookFiles t run place → TookNoFile run place) → ((run : Run) (place : ℕ) → TookNoFile run place → TookFiles next run place)
     → ((asked : Request) (around behind : Around) (pins : ℕ → ℕ) → (found : Around) × FindsAround t asked old before around ended found × Steps (IsAtTask t old before q) (IsAtTask next new after q) found behind q (seen_of pins old before began) (seen_of pins new after now) (did_of next) ended)
     → StepsTask t next old new before after began now ended
-steps_found t next q old new before after began now ended is none files took_is took_so steps asked around behind run lane place said lists come shown room reads stood =
+steps_found t next q old new before after began now ended is none files took_is took_so steps asked around behind run lane place said lists come shown room tells reads stood =
     let same = (is asked stood.is_of).0 in
     let by = steps asked around behind (λ file. pins_in file old.files.files) in
     let found = by.0 in
@@ -177,11 +180,17 @@ lists_same (request.List name) old new is same none = same tt
 lists_same (request.Flag name uid flags) old new is same none = absurd none
 lists_same other old new is same none = absurd is
 
-pub doomed_as : {D : Type 0} → (old new : StoreValue D) → ((file : ℕ) → is_doomed_in file new.files.files ≡ is_doomed_in file old.files.files) → DoomsNothing old → DoomsNothing new
-doomed_as old new same none file = same file ∙ none file
+-- a store that runs ran before
+pub ran_before : (old new : Bool) → (old ≡ true → new ≡ true) → new ≡ false → old ≡ false
+ran_before true new still runs = sym (still refl) ∙ runs
+ran_before false new still runs = refl
 
-pub doomed_rest : {D : Type 0} → (old new : StoreValue D) → new.files ≡ old.files → DoomsNothing old → DoomsNothing new
-doomed_rest old new same none file = ap (λ (f : FilesValue). is_doomed_in file f.files) same ∙ none file
+-- of a store that dooms what it doomed
+pub undoomed_by : {D : Type 0} → (t next : Task) (old new : StoreValue D) → (DoomsNone t → DoomsNone next) → (new.stopped ≡ false → old.stopped ≡ false) → (new.stopped ≡ false → (file : ℕ) → is_doomed_in file new.files.files ≡ is_doomed_in file old.files.files) → LeavesUndoomed t next old new
+undoomed_by t next old new stays ran same none nothing = (stays none, λ runs file. same runs file ∙ nothing (ran runs) file)
+
+pub undoomed_rest : {D : Type 0} → (t next : Task) (old new : StoreValue D) → (DoomsNone t → DoomsNone next) → (old.stopped ≡ true → new.stopped ≡ true) → new.files ≡ old.files → LeavesUndoomed t next old new
+undoomed_rest t next old new stays halted files = undoomed_by t next old new stays (ran_before old.stopped new.stopped halted) (λ runs file. ap (λ (f : FilesValue). is_doomed_in file f.files) files)
 
 -- ---- a make
 
@@ -217,27 +226,23 @@ fetch_halts name uid fetch_stage.First next answer store history began faults sa
     (said.refused refusal.Stopped (ap (λ (b : Bool). if b then Some refusal.Stopped else fetch_refusal name uid (record store { stopped = false })) stopped)).0
 fetch_halts name uid (fetch_stage.Reading region) next answer store history began faults said stopped = (said.0 stopped).0
 fetch_halts name uid (fetch_stage.Unpinning from given) next answer store history began faults said stopped = (said.0 stopped).0
+fetch_halts name uid (fetch_stage.Removing file given) next answer store history began faults said stopped = (said.0 stopped).0
 
 pub use_room : {D : Type 0} → (now : FetchStage) (store : StoreValue D) → HasUseRoom store → HasFetchRoom now store
 use_room fetch_stage.First store room = room
 use_room (fetch_stage.Reading region) store room = tt
 use_room (fetch_stage.Unpinning from given) store room = tt
-
-pub unpins_undoomed : {D : Type 0} → (now : FetchStage) (store : StoreValue D) → DoomsNothing store → UnpinsUndoomed now store
-unpins_undoomed fetch_stage.First store none = tt
-unpins_undoomed (fetch_stage.Reading region) store none = tt
-unpins_undoomed (fetch_stage.Unpinning from given) store none = none from.file.0
+use_room (fetch_stage.Removing file given) store room = tt
 
 fetch_request : (t u : FetchValue) → (u.name ≡ t.name) × (u.uid ≡ t.uid) → request.Fetch t.name t.uid ≡ request.Fetch u.name u.uid
 fetch_request t u e = let n = e.0 in let i = e.1 in cc (n, i)
 
-pub fetch_does : {D : Type 0} → (t u : FetchValue) (old new : StoreValue D) (before after : Option History) (began now : Faults) (ended : Option Reply) → (u.name ≡ t.name) × (u.uid ≡ t.uid) → (old.stopped ≡ false → UnpinsUndoomed t.stage old)
-    → ((around behind : Around) → (old.stopped ≡ false → UnpinsUndoomed t.stage old) → FetchSteps around behind t.name t.uid t.stage u.stage old new before after began now u.did ended)
-    → StepsTask (task.Fetch t) (task.Fetch u) old new before after began now ended
-fetch_does t u old new before after began now ended same undoomed steps asked around behind run lane place said lists come shown room reads stood =
+pub fetch_does : {D : Type 0} → (t u : FetchValue) (old new : StoreValue D) (before after : Option History) (began now : Faults) (ended : Option Reply) → (u.name ≡ t.name) × (u.uid ≡ t.uid)
+    → ((around behind : Around) → FetchSteps around behind t.name t.uid t.stage u.stage old new before after began now u.did ended) → StepsTask (task.Fetch t) (task.Fetch u) old new before after began now ended
+fetch_does t u old new before after began now ended same steps asked around behind run lane place said lists come shown room tells reads stood =
     let is : asked ≡ request.Fetch t.name t.uid = stood.is_of in
     let does : StepsOf (λ ls. CanFetch t.stage t.name t.uid ls old.map before) (IsAtFetch t.stage old.stopped before) (IsAtFetch u.stage new.stopped after) around behind asked (seen_in old before began) (seen_in new after now) u.did ended =
-    subst (λ (k : Request). StepsOf (λ ls. CanFetch t.stage t.name t.uid ls old.map before) (IsAtFetch t.stage old.stopped before) (IsAtFetch u.stage new.stopped after) around behind k (seen_in old before began) (seen_in new after now) u.did ended) (sym is) (steps around behind undoomed) in
+    subst (λ (k : Request). StepsOf (λ ls. CanFetch t.stage t.name t.uid ls old.map before) (IsAtFetch t.stage old.stopped before) (IsAtFetch u.stage new.stopped after) around behind k (seen_in old before began) (seen_in new after now) u.did ended) (sym is) (steps around behind) in
     let d = does run lane place said lists come shown reads stood.at in (
       around,
       refl,
@@ -308,10 +313,6 @@ pub still_runs : (stopped : Bool) (ended : Option Reply) → (stopped ≡ true �
 still_runs true ended halts none = absurd (let k : None ≡ Some (reply.Refused refusal.Stopped) = sym none ∙ halts refl in cc k)
 still_runs false ended halts none = refl
 
-pub ran_before : (old new : Bool) → (old ≡ true → new ≡ true) → new ≡ false → old ≡ false
-ran_before true new still runs = sym (still refl) ∙ runs
-ran_before false new still runs = refl
-
 deliver_request : (t : SaveValue) (name : List ℕ) (time : ℕ) (octets : List ℕ) → (name ≡ t.name) × (time ≡ t.time) → request.Deliver t.name t.time octets ≡ request.Deliver name time octets
 deliver_request t name time octets e = let n = e.0 in let i = e.1 in cc (n, i)
 
@@ -326,7 +327,7 @@ pub deliver_does : {D : Type 0} → (t u : SaveValue) (old new : StoreValue D) (
     → StepsWithRoom (IsAtSave t.stage) (IsAtSave u.stage) (around_saving octets t.stage old) behind (request.Deliver t.name t.time octets) (seen_of pins old before began) (seen_of pins new after now) u.did (ended_by result))
     → StepsTask (task.Deliver t) (task.Deliver u) old new before after began now (ended_by result)
 unfolding event_with
-deliver_does t u old new before after began now result same claims ready steps (request.Deliver name time octets) around behind run lane place said lists come shown room reads stood =
+deliver_does t u old new before after began now result same claims ready steps (request.Deliver name time octets) around behind run lane place said lists come shown room tells reads stood =
     let does : StepsWithRoom (IsAtSave t.stage) (IsAtSave u.stage) (around_saving octets t.stage old) behind (request.Deliver name time octets) (seen_in old before began) (seen_of (λ file. pins_in file old.files.files) new after now) u.did (ended_by result) =
     subst (λ (k : Request). StepsWithRoom (IsAtSave t.stage) (IsAtSave u.stage) (around_saving octets t.stage old) behind k (seen_in old before began) (seen_of (λ file. pins_in file old.files.files) new after now) u.did (ended_by result)) (deliver_request t name time octets stood.is_of)
     (steps octets (λ file. pins_in file old.files.files) behind stood.at.1 (λ runs. (stood.at.2 runs).ready)) in
@@ -345,7 +346,24 @@ deliver_does t u old new before after began now result same claims ready steps (
             took = tt;
           },
     )
-deliver_does t u old new before after began now result same claims ready steps asked around behind run lane place said lists come shown room reads stood = absurd stood.is_of
+deliver_does t u old new before after began now result same claims ready steps asked around behind run lane place said lists come shown room tells reads stood = absurd stood.is_of
+
+-- ---- a purge
+
+pub purge_does : {D : Type 0} → (t u : PurgeValue) (old new : StoreValue D) (before after : Option History) (began now : Faults) (ended : Option Reply) → (files : List ℕ) × ((around : Around) → PurgeSteps files around t u old new before after began now ended)
+    → StepsTask (task.Purge t) (task.Purge u) old new before after began now ended
+purge_does t u old new before after began now ended does asked around behind run lane place said lists come shown room tells reads stood =
+    let steps : PurgeSteps does.0 behind t u old new before after began now ended = does.1 behind in
+    let as : Steps (λ run place said. IsAtPurge t old run place said × (old.stopped ≡ false → TellsUses run old)) (IsAtPurge u new) (around_purging does.0 old) behind asked (seen_in old before began) (seen_in new after now) u.did ended =
+    subst (λ (k : Request). Steps (λ run place said. IsAtPurge t old run place said × (old.stopped ≡ false → TellsUses run old)) (IsAtPurge u new) (around_purging does.0 old) behind k (seen_in old before began) (seen_in new after now) u.did ended) (sym stood.is_of) steps in
+    let d = as run lane place said lists come shown (stood.at, tells) in (
+      around_purging does.0 old,
+      (does.0, refl),
+      d.0,
+      λ more. record { is_of = stood.is_of; at = d.1 more; took = tt },
+    )
+
+-- ---- all kinds
 
 -- it stays of its requests
 deliver_stays_of : (t u : SaveValue) (asked : Request) → (u.name ≡ t.name) × (u.time ≡ t.time) × (u.size ≡ t.size) → IsDeliveryOf t asked → IsDeliveryOf u asked
@@ -363,6 +381,7 @@ request_stays (task.Expunge t) (task.Expunge next) asked same is = is ∙ ap (λ
 request_stays (task.Fetch t) (task.Fetch next) asked same is = is ∙ ap (λ (n : List ℕ). request.Fetch n t.uid) (sym same.0) ∙ ap (λ (u : Uid). request.Fetch next.name u) (sym same.1)
 request_stays (task.Deliver t) (task.Deliver next) asked same is = deliver_stays_of t next asked same is
 request_stays (task.Resync t) (task.Resync next) asked same is = is
+request_stays (task.Purge t) (task.Purge next) asked same is = is
 request_stays t next asked same is = absurd same
 
 -- one that goes on ran in a store that runs
