@@ -5,19 +5,21 @@ use Rattle.purge_task.specs.Claims.{sources_left}
 use Rattle.purge_task.specs.declared.task.PurgeStage.{PurgeStage}
 use Rattle.purge_task.specs.declared.task.PurgeStage.TheVariants as stage
 
--- how many storage files are still to be counted, which are neither doomed nor removed yet
+-- How many storage files are still to be counted, which are neither doomed nor removed yet. Before the first event there may be one of each
+-- number.
 abbrev pub purge_files : PurgeStage → ℕ
+purge_files stage.First = 4294967295
 purge_files (stage.Begin work) = length (sources_left work)
 purge_files (stage.Copying work) = length (sources_left work)
 purge_files (stage.Removing work) = length (drop 1 (sources_left work))
-purge_files other = 0
+purge_files stage.Instances = 0
 
 -- So many events at the most are of these files: of each, its target is made, its messages are copied, each from a greater offset than the one
 -- before, and it is switched and removed.
 abbrev pub events_of_files : ℕ → ℕ
 events_of_files files = files * 4294967298
 
--- So many are to come before that of instances. Before the first event there may be a file of each number.
+-- so many are to come before those of instances
 abbrev pub events_before_instances : PurgeStage → ℕ
 events_before_instances stage.First = events_of_files 4294967295
 events_before_instances (stage.Begin work) = events_of_files (length (sources_left work))
