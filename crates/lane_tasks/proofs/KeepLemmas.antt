@@ -25,7 +25,7 @@ use Rattle.mail_fetch.specs.Task.{FetchValue}
 use Rattle.mail_fetch.specs.declared.parts.StoredAt.{StoredAt}
 use Rattle.mail_fetch.specs.declared.task.FetchStage.{FetchStage}
 use Rattle.mail_fetch.specs.declared.task.FetchStage.TheVariants as fetch_stage
-use Rattle.mail_fetch.proofs.StageLemmas.{used_doomed, used_runs}
+use Rattle.mail_fetch.proofs.StageLemmas.{used_undoomed, used_runs}
 use Rattle.purge_task.specs.Keeping.{PurgeValue}
 use Rattle.mail_save.specs.Task.{EndsSave, FaultsAt, SaveValue, Saves}
 use Rattle.attach_detach.specs.declared.message.Prepared.{Prepared}
@@ -266,7 +266,7 @@ keeps_fetching history faults t next name uid old new answer request alone =
       tells = tt;
       undoomed = λ none nothing. (
         fetch_removes name uid t.stage next.stage answer old (history old.disk) (faults old.disk) (faults new.disk) alone.replies none nothing,
-        λ runs file. used_doomed t.stage next.stage old new file alone.same (nothing (used_runs t.stage next.stage old new alone.same runs) file),
+        λ runs file. used_undoomed t.stage next.stage old new file alone.same (nothing (used_runs t.stage next.stage old new alone.same runs) file),
       );
       idle = λ reads none. k.idle none;
       still = k.still;

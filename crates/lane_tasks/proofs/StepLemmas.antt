@@ -34,7 +34,6 @@ use Rattle.mail_ops.specs.declared.making.MakeStage.{MakeStage}
 use Rattle.mail_ops.specs.declared.making.MakeStage.TheVariants as make_stage
 use Rattle.mail_fetch.specs.Claims.{HasFetchRoom, HasUseRoom}
 use Rattle.mail_fetch.specs.Clause.{CanFetch, FetchSteps, StepsOf}
-use Rattle.mail_fetch.specs.Events.{FetchesNext, fetch_refusal}
 use Rattle.mail_fetch.specs.Stages.{IsAtFetch}
 use Rattle.mail_fetch.specs.Task.{FetchValue, seen_in}
 use Rattle.mail_fetch.specs.declared.task.FetchStage.{FetchStage}
@@ -219,14 +218,6 @@ make_fewer name t u old new before after answer said more fewer =
     omega (arith, fewer, same)
 
 -- ---- a fetch
-
--- the reply of a store that is stopped
-pub fetch_halts : {D : Type 0} → (name : List ℕ) (uid : ℕ) (now next : FetchStage) (answer : Progress) (store : StoreValue D) (history : Option History) (began faults : Faults) → FetchesNext name uid now next answer store history began faults → store.stopped ≡ true → answer ≡ progress.Done (reply.Refused refusal.Stopped)
-fetch_halts name uid fetch_stage.First next answer store history began faults said stopped =
-    (said.refused refusal.Stopped (ap (λ (b : Bool). if b then Some refusal.Stopped else fetch_refusal name uid (record store { stopped = false })) stopped)).0
-fetch_halts name uid (fetch_stage.Reading region) next answer store history began faults said stopped = (said.0 stopped).0
-fetch_halts name uid (fetch_stage.Unpinning from given) next answer store history began faults said stopped = (said.0 stopped).0
-fetch_halts name uid (fetch_stage.Removing file given) next answer store history began faults said stopped = (said.0 stopped).0
 
 pub use_room : {D : Type 0} → (now : FetchStage) (store : StoreValue D) → HasUseRoom store → HasFetchRoom now store
 use_room fetch_stage.First store room = room
