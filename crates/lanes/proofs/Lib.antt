@@ -9,6 +9,7 @@ pub mod PartsLemmas
 pub mod RoomLemmas
 pub mod RoundLemmas
 pub mod SoundLemmas
+pub mod SparedLemmas
 pub mod TraceLemmas
 pub mod WaitingLemmas
 pub mod WorldLemmas
