@@ -111,13 +111,16 @@ target_is : (file : ℕ) (o : Option FileNo) → 1 ≤ file → (option_map_or (
 target_is file None some at = absurd (let z = same 0 file at in omega (arith, z, some))
 target_is file (Some target) some at = at
 
+abbrev counted : Bool → ℕ
+counted b = cond b 1 0
+
 abbrev emptied_once : ℕ → Source → ℕ
-emptied_once file s = cond (s.file.0 == file) 1 0
+emptied_once file s = counted (s.file.0 == file)
 
 abbrev taken_once : ℕ → Source → ℕ
-taken_once file s = cond (option_map_or (λ (t : FileNo). t.0 == file) s.target false) 1 0
+taken_once file s = counted (option_map_or (λ (t : FileNo). t.0 == file) s.target false)
 
-once : (b : Bool) → b ≡ true → cond b 1 0 ≡ 1
+once : (b : Bool) → b ≡ true → counted b ≡ 1
 once true e = refl
 once false e = absurd (let z : false ≡ true = e in cc z)
 
@@ -132,8 +135,8 @@ left_claimed file (s ∷ left) some is = by_first (or_of (is_of file (told_taken
     taken = sum_by-cons (taken_once file) s left
 
     by_which : ((s.file.0 == file) ≡ true) ⊎ (((told_taken s).target == file) ≡ true) → Claimed (s ∷ left) file
-    by_which (inl at) = let n = once (s.file.0 == file) at in inr (omega (arith, emptied, n))
-    by_which (inr at) = let n = once (option_map_or (λ (t : FileNo). t.0 == file) s.target false) (target_is file s.target some at) in inl (omega (arith, taken, n))
+    by_which (inl at) = let n : emptied_once file s ≡ 1 = once (s.file.0 == file) at in inr (omega (arith, emptied, n))
+    by_which (inr at) = let n : taken_once file s ≡ 1 = once (option_map_or (λ (t : FileNo). t.0 == file) s.target false) (target_is file s.target some at) in inl (omega (arith, taken, n))
 
     by_rest : Claimed left file → Claimed (s ∷ left) file
     by_rest (inl n) = inl (omega (arith, taken, n))

@@ -79,8 +79,8 @@ switched_holds_none (source ∷ left) id = refl
 purge_holds : (now : PurgeStage) (id : InstId) → purge_claims now (Held id) ≡ 0
 purge_holds purge_stage.First id = refl
 purge_holds (purge_stage.Begin work) id = refl
-purge_holds (purge_stage.Copying work) id = target_holds_none (sources_left work) id
-purge_holds (purge_stage.Removing work) id = switched_holds_none (sources_left work) id
+purge_holds (purge_stage.Copying work) id = let none = target_holds_none (sources_left work) id in omega (arith, none)
+purge_holds (purge_stage.Removing work) id = let none = switched_holds_none (sources_left work) id in omega (arith, none)
 purge_holds purge_stage.Instances id = refl
 
 pub task_claims_few : {D : Type 0} → (t : Task) (store : StoreValue D) (history : Option History) → IsReadyTask t store history → ClaimsFew (claims_at t)
