@@ -1,5 +1,7 @@
 pub mod FilesLemmas
 pub mod KeepLemmas
+pub mod PurgeApartLemmas
+pub mod PurgeClaimedLemmas
 pub mod PurgeTakenLemmas
 pub mod RoomLemmas
 pub mod StandLemmas

@@ -31,7 +31,7 @@ or_none : (a b : Bool) → (a || b) ≡ false → (a ≡ false) × (b ≡ false)
 or_none true b e = absurd (let z : true ≡ false = e in cc z)
 or_none false b e = (refl, e)
 
-or_both : (a b : Bool) → (a ≡ true) ⊎ (b ≡ true) → (a || b) ≡ true
+pub or_both : (a b : Bool) → (a ≡ true) ⊎ (b ≡ true) → (a || b) ≡ true
 or_both true b e = refl
 or_both false b (inl e) = absurd (let z : false ≡ true = e in cc z)
 or_both false b (inr e) = e
@@ -40,16 +40,16 @@ and_of : (a b : Bool) → (a && b) ≡ true → b ≡ true
 and_of true b e = e
 and_of false b e = absurd (let z : false ≡ true = e in cc z)
 
-and_both : (a b : Bool) → a ≡ true → b ≡ true → (a && b) ≡ true
+pub and_both : (a b : Bool) → a ≡ true → b ≡ true → (a && b) ≡ true
 and_both a b x y = ap (λ (t : Bool). t && b) x ∙ y
 
-same : (a b : ℕ) → (a == b) ≡ true → a ≡ b
+pub same : (a b : ℕ) → (a == b) ≡ true → a ≡ b
 same a b e = grind (arith, common_steps, e)
 
 -- ---- what was taken
 
 -- the file is what was taken, or its target
-abbrev is_of : ℕ → TakenFile → Bool
+abbrev pub is_of : ℕ → TakenFile → Bool
 is_of file t = (t.file == file) || (t.target == file)
 
 all_taken : (file : ℕ) (own : List RunEvent) → list_any (took_file file) own ≡ true → list_any (is_of file) (flat_map (λ (e : RunEvent). e.files) own) ≡ true
@@ -65,10 +65,10 @@ all_taken file (x ∷ own) is =
 
 -- ---- what was given back
 
-abbrev is_gone : ℕ → RunEvent → Bool
+abbrev pub is_gone : ℕ → RunEvent → Bool
 is_gone file e = is_one_of e.doomed file || is_one_of e.removed file
 
-abbrev is_target_done : ℕ → List RunEvent → TakenFile → Bool
+abbrev pub is_target_done : ℕ → List RunEvent → TakenFile → Bool
 is_target_done file own t = (t.target == file) && is_done own t
 
 none_gone : (file : ℕ) (own : List RunEvent) → list_any (λ (e : RunEvent). is_storing e.part || is_gone file e) own ≡ false → list_any (is_gone file) own ≡ false
@@ -111,7 +111,7 @@ target_is : (file : ℕ) (o : Option FileNo) → 1 ≤ file → (option_map_or (
 target_is file None some at = absurd (let z = same 0 file at in omega (arith, z, some))
 target_is file (Some target) some at = at
 
-abbrev counted : Bool → ℕ
+abbrev pub counted : Bool → ℕ
 counted b = cond b 1 0
 
 abbrev emptied_once : ℕ → Source → ℕ

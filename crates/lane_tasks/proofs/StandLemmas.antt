@@ -68,6 +68,7 @@ use Rattle.lane_tasks.specs.Tasks.{BeginsTask, IsAtDelivery, IsAtFirst, IsAtTask
 use Rattle.lane_tasks.specs.declared.task.Task.{Task}
 use Rattle.lane_tasks.specs.declared.task.Task.TheVariants as task
 use Rattle.lane_tasks.proofs.FilesLemmas.{none_taken, took_none_other}
+use Rattle.lane_tasks.proofs.PurgeApartLemmas.{apart_first, apart_other}
 use Rattle.lane_tasks.proofs.PurgeTakenLemmas.{purge_taken}
 
 -- ---- beside events of others
@@ -116,7 +117,7 @@ took_stays (task.Move t) run place event other took = took_none_other run place 
 took_stays (task.Expunge t) run place event other took = took_none_other run place event other took
 took_stays (task.Fetch t) run place event other took = took_none_other run place event other took
 took_stays (task.Resync t) run place event other took = took_none_other run place event other took
-took_stays (task.Purge t) run place event other took = tt
+took_stays (task.Purge t) run place event other took = apart_other run place event other took
 took_stays (task.Deliver t) run place event other took = tt
 
 pub task_stands : {D : Type 0} → (t : Task) (old new : StoreValue D) (before after : Option History) (faults : Faults) (asked : Request) (run : Run) (place : ℕ) (said : List Reply) (event : RunEvent) → PassesBy t old new before after → PassesInRun t new after faults run event → event.request ≢ place → GivesNew run event
@@ -222,7 +223,7 @@ begins_took (task.Move t) run place none = none_took run place none
 begins_took (task.Expunge t) run place none = none_took run place none
 begins_took (task.Fetch t) run place none = none_took run place none
 begins_took (task.Resync t) run place none = none_took run place none
-begins_took (task.Purge t) run place none = tt
+begins_took (task.Purge t) run place none = apart_first run place none
 begins_took (task.Deliver t) run place none = tt
 
 pub begins_standing : {D : Type 0} → (asked : Request) (t : Task) (store : StoreValue D) (history : Option History) (run : Run) (place : ℕ) (said : List Reply) → BeginsTask asked t → HasNotBegun run place said → StandsTask t store history asked run place said

@@ -1,12 +1,14 @@
 -- The clause of a task's step, from that of its kind.
 use Rattle.std.proofs.Common.{◌≡◌, ◌<◌, ◌-◌, ℕ, Bool, true, false, List, Option, Some, None, refl, sym, ◌∙◌, ap, subst, arith}
-use Rattle.std.specs.Prelude.{if◌then◌else◌}
+use Rattle.std.specs.Prelude.{◌≤◌, ◌==◌, if◌then◌else◌, is_some}
 use Rattle.disk_model.specs.Disk.{History, Faults}
+use Rattle.mdbox_base.specs.declared.entries.Highest.{Highest}
 use Rattle.mdbox_base.specs.declared.ids.Uid.{Uid}
 use Rattle.mdbox_base.specs.declared.progress.Did.{Did}
 use Rattle.mdbox_base.specs.declared.progress.Did.TheVariants as did
 use Rattle.mdbox_base.specs.declared.progress.Progress.{Progress}
 use Rattle.mdbox_base.specs.declared.progress.Progress.TheVariants as progress
+use Rattle.mdbox_base.specs.declared.replies.Refusal.{Refusal}
 use Rattle.mdbox_base.specs.declared.replies.Refusal.TheVariants as refusal
 use Rattle.mdbox_base.specs.declared.replies.Reply.{Reply}
 use Rattle.mdbox_base.specs.declared.replies.Reply.TheVariants as reply
@@ -14,11 +16,16 @@ use Rattle.mdbox_base.specs.declared.requests.Request.{Request}
 use Rattle.mdbox_base.specs.declared.requests.Request.TheVariants as request
 use Rattle.model_lists.specs.Lists.{Lists}
 use Rattle.model_meaning.specs.MapMeaning.{MapMeaning}
-use Rattle.list_machine.specs.Run.{Run, RunEvent, and_then}
-use Rattle.journal.specs.Events.{Around, DidPart}
-use Rattle.storage_files.specs.Files.{FilesValue, is_doomed_in, pins_in}
+use Rattle.model_octets.proofs.PairLemmas.{found_holds}
+use Rattle.list_machine.specs.Run.{Run, RunEvent, and_then, drawn_of}
+use Rattle.journal.specs.Events.{Around, DidPart, IsEvent, behind_event}
+use Rattle.journal.specs.Found.{AgreesWithRun, IsFreeFile}
+use Rattle.storage_files.specs.Files.{AreFilesInOrder, FilesValue, end_in, is_doomed_in, pins_in}
+use Rattle.storage_files.specs.declared.file.MailFile.{MailFile}
+use Rattle.storage_files.proofs.UseLemmas.{found-ending}
 use Rattle.store_core.specs.Keeping.{KeepsRest}
 use Rattle.store_core.specs.MadeLogs.{without_box}
+use Rattle.store_core.specs.Running.{IsStore}
 use Rattle.store_core.specs.Value.{StoreValue}
 use Rattle.store_seen.specs.Seeing.{seen_of}
 use Rattle.task_steps.specs.Step.{DidEvent, Fell, HasComeTo, HasNotBegun, Leads, Seen, Steps, Went, ended_by}
@@ -54,6 +61,8 @@ use Rattle.lane_tasks.specs.Tasks.{IsAtTask, IsDeliveryOf, IsMakeNumber, IsTaskO
 use Rattle.lane_tasks.specs.declared.task.Task.{Task}
 use Rattle.lane_tasks.specs.declared.task.Task.TheVariants as task
 use Rattle.lane_tasks.proofs.FilesLemmas.{TakesNone, copy_takes_none, counts_takes_none, expunge_takes_none, fetch_takes_none, flag_takes_none, list_takes_none, make_takes_none, move_takes_none, resync_takes_none, took_none_more}
+use Rattle.lane_tasks.proofs.PurgeApartLemmas.{apart_on}
+use Rattle.lane_tasks.proofs.PurgeTakenLemmas.{same}
 
 -- of a task that takes no files, and whose next value is of its request, in a store that keeps its files as they are, with what its event found
 pub steps_found : {D : Type 0} → (t next : Task) (q : Request) (old new : StoreValue D) (before after : Option History) (began now : Faults) (ended : Option Reply)
@@ -341,17 +350,51 @@ deliver_does t u old new before after began now result same claims ready steps a
 
 -- ---- a purge
 
-pub purge_does : {D : Type 0} → (t u : PurgeValue) (old new : StoreValue D) (before after : Option History) (began now : Faults) (ended : Option Reply) → (files : List ℕ) × ((around : Around) → PurgeSteps files around t u old new before after began now ended)
+-- a file that may be taken is one that the store knows, and has drawn
+known_drawn : {D : Type 0} → (run : Run) (store : StoreValue D) (history : Option History) (faults : Faults) → HasComeTo run (seen_in store history faults) → store.stopped ≡ false → IsStore history store → AreFilesInOrder store.files → (file : ℕ) → IsFreeFile run file → file ≤ (drawn_of run).file
+known_drawn run store history faults come runs is order file free = by_end (end_in file store.files.files) refl ((come.keeps runs).files file free.unsealed free.known)
+  where
+    highest : store.files.highest ≡ (drawn_of run).file
+    highest = is.files.highest ∙ ap (λ (h : Highest). h.file) (sym come.come.drawn_is)
+
+    by_end : (o : Option ℕ) → end_in file store.files.files ≡ o → is_some o ≡ true → file ≤ (drawn_of run).file
+    by_end None e known = absurd (let z : false ≡ true = known in cc z)
+    by_end (Some end) e known =
+        let found = found-ending file store.files.files end e in
+        let low = found_holds (λ (f : MailFile). f.file.0 == file) store.files.files found.0 (λ (f : MailFile). f.file.0 ≤ store.files.highest) found.1 order.below in
+        let within = low.0 in
+        let at = same found.0.file.0 file low.1 in
+        omega (arith, within, at, highest)
+
+-- one that goes on isn't refused
+purge_unrefused : (around behind : Around) (run : Run) (lists : Lists) (event : RunEvent) → IsEvent around behind run lists request.Purge event → event.reply ≡ None → event.refused ≡ None
+purge_unrefused around behind run lists event is none = by_refused event.refused refl
+  where
+    by_refused : (o : Option Refusal) → event.refused ≡ o → event.refused ≡ None
+    by_refused None e = e
+    by_refused (Some why) e = absurd (is.ends.1 (ap (behind_event behind (and_then run event) request.Purge event) e) none)
+
+pub purge_does : {D : Type 0} → (t u : PurgeValue) (old new : StoreValue D) (before after : Option History) (began now : Faults) (ended : Option Reply) → IsStore before old → AreFilesInOrder old.files → (files : List ℕ) × ((around : Around) → PurgeSteps files around t u old new before after began now ended)
     → StepsTask (task.Purge t) (task.Purge u) old new before after began now ended
-purge_does t u old new before after began now ended does asked around behind run lane place said lists come shown room tells reads stood =
+purge_does t u old new before after began now ended is order does asked around behind run lane place said lists come shown room tells reads stood =
     let steps : PurgeSteps does.0 behind t u old new before after began now ended = does.1 behind in
-    let as : Steps (λ run place said. IsAtPurge t old run place said × (old.stopped ≡ false → TellsUses run old)) (IsAtPurge u new) (around_purging does.0 old) behind asked (seen_in old before began) (seen_in new after now) u.did ended =
+    let stepped : Steps (λ run place said. IsAtPurge t old run place said × (old.stopped ≡ false → TellsUses run old)) (IsAtPurge u new) (around_purging does.0 old) behind asked (seen_in old before began) (seen_in new after now) u.did ended =
     subst (λ (k : Request). Steps (λ run place said. IsAtPurge t old run place said × (old.stopped ≡ false → TellsUses run old)) (IsAtPurge u new) (around_purging does.0 old) behind k (seen_in old before began) (seen_in new after now) u.did ended) (sym stood.is_of) steps in
-    let d = as run lane place said lists come shown (stood.at, tells) in (
+    let d = stepped run lane place said lists come shown (stood.at, tells) in (
       around_purging does.0 old,
       (does.0, refl),
       d.0,
-      λ more. record { is_of = stood.is_of; at = d.1 more; took = tt },
+      λ more.
+          let runs = still_runs new.stopped ended d.0.ends.halts.1 more in
+          let ran = ran_before old.stopped new.stopped (λ stopped. ap (λ (s : Seen). s.stopped) (d.0.ends.still stopped) ∙ stopped) runs in
+          let event : IsEvent (around_purging does.0 old) behind run lists request.Purge d.0.makes.event = subst (λ (k : Request). IsEvent (around_purging does.0 old) behind run lists k d.0.makes.event) stood.is_of d.0.makes.is_event in
+          let agrees : AgreesWithRun (around_purging does.0 old) run request.Purge d.0.makes.event d.0.makes.event.part =
+          subst (λ (k : Request). AgreesWithRun (around_purging does.0 old) run k d.0.makes.event d.0.makes.event.part) stood.is_of d.0.found in
+          record {
+            is_of = stood.is_of;
+            at = d.1 more;
+            took = apart_on (around_purging does.0 old) behind run lists d.0.makes.event place d.0.makes.request_is event (purge_unrefused (around_purging does.0 old) behind run lists d.0.makes.event event (d.0.makes.ended_is ∙ more)) agrees (known_drawn run old before began come ran is order) stood.took;
+          },
     )
 
 -- ---- all kinds

@@ -1,5 +1,5 @@
 -- A task of any kind: its request, where it stands, what it claims, and what it needs of the store.
-use Rattle.std.specs.Prelude.{◌≡◌, ◌≤◌, ◌*◌, ◌+◌, ◌-◌, ℕ, false, List, [], All, length, Option, None}
+use Rattle.std.specs.Prelude.{◌≡◌, ◌≢◌, ◌≤◌, ◌<◌, ◌⊎◌, ◌*◌, ◌+◌, ◌-◌, ℕ, false, List, [], All, AllPairs, flat_map, length, Option, None}
 use Rattle.attach_detach.specs.Prepared.{IsPrepared}
 use Rattle.attach_detach.specs.declared.message.Prepared.{Prepared}
 use Rattle.disk_model.specs.Disk.{History}
@@ -8,7 +8,8 @@ use Rattle.mdbox_base.specs.declared.progress.Did.TheVariants as did
 use Rattle.mdbox_base.specs.declared.replies.Reply.{Reply}
 use Rattle.mdbox_base.specs.declared.requests.Request.{Request}
 use Rattle.mdbox_base.specs.declared.requests.Request.TheVariants as request
-use Rattle.list_machine.specs.Run.{Run, own_events}
+use Rattle.list_machine.specs.Run.{Run, RunEvent, TakenFile, own_events}
+use Rattle.journal.specs.Found.{is_storing}
 use Rattle.store_core.specs.Value.{StoreValue}
 use Rattle.task_claims.specs.Claims.{Claims, no_claims}
 use Rattle.task_steps.specs.Step.{HasNotBegun}
@@ -171,11 +172,27 @@ IsAtTask (task.Purge t) store history asked run place said = IsAtPurge t store r
 abbrev pub TookNoFile : Run → ℕ → Type 0
 TookNoFile run place = All (λ event. event.refused ≡ None → event.files ≡ []) (own_events place run)
 
--- The files that it took: a delivery's stage tells of the one that it has, a purge's of those that it empties and of their targets, and no
--- other kind of task takes any.
+-- what a purge took: a file of a number up to this one, and a target of a greater number, or none
+abbrev pub IsTakenWithin : ℕ → TakenFile → Type 0
+IsTakenWithin most t = (t.file ≤ most) × ((t.target ≡ 0) ⊎ (most < t.target))
+
+-- an event that stores no record, and neither dooms nor removes a file of a greater number
+abbrev pub EndsWithin : ℕ → RunEvent → Type 0
+EndsWithin most event = (is_storing event.part ≡ false) × All (λ file. file ≤ most) event.doomed × All (λ file. file ≤ most) event.removed
+
+-- The files that these events of a purge took and the targets that they drew are apart: targets have greater numbers than all that it took,
+-- each its own, and none is doomed or removed.
+pub record TookApart (own : List RunEvent) : Type 0 where
+  pub most : ℕ
+  pub files : All (IsTakenWithin most) (flat_map (λ e. e.files) own)
+  pub targets : AllPairs (λ a b. (a.target ≡ 0) ⊎ (a.target ≢ b.target)) (flat_map (λ e. e.files) own)
+  pub ended : All (EndsWithin most) own
+
+-- The files that it took: a delivery's stage tells of the one that it has, and a purge's of those that it empties and of their targets, which
+-- are apart; no other kind of task takes any.
 abbrev pub TookFiles : Task → Run → ℕ → Type 0
 TookFiles (task.Deliver t) run place = Unit {0}
-TookFiles (task.Purge t) run place = Unit {0}
+TookFiles (task.Purge t) run place = TookApart (own_events place run)
 TookFiles other run place = TookNoFile run place
 
 -- A task stands so in a run that has come to this store: it is of the request at this place, is at its stage, and took these files.

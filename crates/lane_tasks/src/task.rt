@@ -123,6 +123,7 @@ impl Task {
         // So it ends.
         ensures left { result ≡ progress.More → work_left self.new store.new < work_left self.old store.old }
     {
+        store.facts();
         match self {
             Task::Ops(task) => task.step(store),
             Task::Counts(task) => task.step(store),

@@ -270,7 +270,7 @@ returns-in-Resync-clause-keeps g c =
 pub returns-in-Purge-clause-does : goal.returns-in-Purge-clause-does
 returns-in-Purge-clause-does g c =
     subst (λ (t : Task). StepsTask t (task.Purge c.step-in-Purge.new.self) c.args.store.now c.step-in-Purge.new.store (g.D.Disk.history c.args.store.now.disk) (g.D.Disk.history c.step-in-Purge.new.store.disk) (g.D.Disk.faults c.args.store.now.disk) (g.D.Disk.faults c.step-in-Purge.new.store.disk) (ended_by c.step-in-Purge.result)) (sym c.in-Purge.is)
-    (purge_does c.in-Purge.task c.step-in-Purge.new.self c.args.store.now c.step-in-Purge.new.store (g.D.Disk.history c.args.store.now.disk) (g.D.Disk.history c.step-in-Purge.new.store.disk) (g.D.Disk.faults c.args.store.now.disk) (g.D.Disk.faults c.step-in-Purge.new.store.disk) (ended_by c.step-in-Purge.result) c.step-in-Purge.ensures.does)
+    (purge_does c.in-Purge.task c.step-in-Purge.new.self c.args.store.now c.step-in-Purge.new.store (g.D.Disk.history c.args.store.now.disk) (g.D.Disk.history c.step-in-Purge.new.store.disk) (g.D.Disk.faults c.args.store.now.disk) (g.D.Disk.faults c.step-in-Purge.new.store.disk) (ended_by c.step-in-Purge.result) c.facts.ensures.store c.facts.ensures.files c.step-in-Purge.ensures.does)
 
 pub returns-in-Purge-clause-claims : goal.returns-in-Purge-clause-claims
 returns-in-Purge-clause-claims g c = λ runs.
