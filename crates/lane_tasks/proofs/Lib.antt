@@ -1,6 +1,9 @@
 pub mod FilesLemmas
+pub mod HoldsLemmas
 pub mod KeepLemmas
+pub mod NamedLemmas
 pub mod RoomLemmas
 pub mod StandLemmas
 pub mod StepLemmas
+pub mod TakesLemmas
 pub mod WorkLemmas

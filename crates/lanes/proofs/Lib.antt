@@ -5,10 +5,13 @@ pub mod FindingLemmas
 pub mod GoingLemmas
 pub mod LeftLemmas
 pub mod OpeningLemmas
+pub mod OwnUseLemmas
 pub mod PartsLemmas
 pub mod RoomLemmas
 pub mod RoundLemmas
 pub mod SoundLemmas
+pub mod TellsUsesLemmas
 pub mod TraceLemmas
+pub mod UnpinnedLemmas
 pub mod WaitingLemmas
 pub mod WorldLemmas
