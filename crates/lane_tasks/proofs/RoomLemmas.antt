@@ -76,7 +76,7 @@ switched_holds_none : (left : List Source) (id : InstId) → claims_of_switched 
 switched_holds_none [] id = refl
 switched_holds_none (source ∷ left) id = refl
 
-purge_holds : (now : PurgeStage) (id : InstId) → purge_claims now (Held id) ≡ 0
+pub purge_holds : (now : PurgeStage) (id : InstId) → purge_claims now (Held id) ≡ 0
 purge_holds purge_stage.First id = refl
 purge_holds (purge_stage.Begin work) id = refl
 purge_holds (purge_stage.Copying work) id = let none = target_holds_none (sources_left work) id in omega (arith, none)

@@ -47,6 +47,7 @@ use Rattle.mail_fetch.specs.declared.task.FetchStage.{FetchStage}
 use Rattle.mail_fetch.specs.declared.task.FetchStage.TheVariants as fetch_stage
 use Rattle.mail_save.specs.Claims.{save_claims}
 use Rattle.mail_save.specs.Ready.{IsReadyToSave}
+use Rattle.mail_save.specs.SaveEffects.{SaveEffects}
 use Rattle.mail_save.specs.SaveSeen.{HasItsParts, IsAtSave, StepsWithRoom, around_saving}
 use Rattle.mail_save.specs.Task.{EndsSave, IsReadyToDeliver, SaveValue}
 use Rattle.mail_save.specs.declared.task.SaveStage.{SaveStage}
@@ -60,6 +61,7 @@ use Rattle.lane_tasks.specs.Clause.{DoomsNone, FindsAround, LeavesUndoomed, Sets
 use Rattle.lane_tasks.specs.Tasks.{IsAtTask, IsDeliveryOf, IsMakeNumber, IsTaskOf, TookFiles, TookNoFile, did_of, work_left}
 use Rattle.lane_tasks.specs.declared.task.Task.{Task}
 use Rattle.lane_tasks.specs.declared.task.Task.TheVariants as task
+use Rattle.lane_tasks.proofs.NamedLemmas.{names_on}
 use Rattle.lane_tasks.proofs.FilesLemmas.{TakesNone, copy_takes_none, counts_takes_none, expunge_takes_none, fetch_takes_none, flag_takes_none, list_takes_none, make_takes_none, move_takes_none, resync_takes_none, took_none_more}
 use Rattle.lane_tasks.proofs.PurgeApartLemmas.{apart_on}
 use Rattle.lane_tasks.proofs.PurgeTakenLemmas.{same}
@@ -323,11 +325,12 @@ ready_as t u octets store history same ready =
 
 pub deliver_does : {D : Type 0} → (t u : SaveValue) (old new : StoreValue D) (before after : Option History) (began now : Faults) (result : Progress) → (u.name ≡ t.name) × (u.time ≡ t.time) × (u.size ≡ t.size) → (new.stopped ≡ false → MovesClaims (save_claims t.stage) (save_claims u.stage) old new)
     → (result ≡ progress.More → (octets : List ℕ) → IsReadyToDeliver t.stage t.name t.time t.size octets old before → IsReadyToDeliver u.stage t.name t.time t.size octets new after)
+    → (old.stopped ≡ false → SaveEffects t.stage u.stage t.name t.time t.size result old new)
     → ((octets : List ℕ) (pins : ℕ → ℕ) (behind : Around) → HasItsParts t.stage octets → (old.stopped ≡ false → IsReadyToSave t.stage t.name t.time t.size octets old before)
     → StepsWithRoom (IsAtSave t.stage) (IsAtSave u.stage) (around_saving octets t.stage old) behind (request.Deliver t.name t.time octets) (seen_of pins old before began) (seen_of pins new after now) u.did (ended_by result))
     → StepsTask (task.Deliver t) (task.Deliver u) old new before after began now (ended_by result)
 unfolding event_with
-deliver_does t u old new before after began now result same claims ready steps (request.Deliver name time octets) around behind run lane place said lists come shown room tells reads stood =
+deliver_does t u old new before after began now result same claims ready effects steps (request.Deliver name time octets) around behind run lane place said lists come shown room tells reads stood =
     let does : StepsWithRoom (IsAtSave t.stage) (IsAtSave u.stage) (around_saving octets t.stage old) behind (request.Deliver name time octets) (seen_in old before began) (seen_of (λ file. pins_in file old.files.files) new after now) u.did (ended_by result) =
     subst (λ (k : Request). StepsWithRoom (IsAtSave t.stage) (IsAtSave u.stage) (around_saving octets t.stage old) behind k (seen_in old before began) (seen_of (λ file. pins_in file old.files.files) new after now) u.did (ended_by result)) (deliver_request t name time octets stood.is_of)
     (steps octets (λ file. pins_in file old.files.files) behind stood.at.1 (λ runs. (stood.at.2 runs).ready)) in
@@ -342,11 +345,16 @@ deliver_does t u old new before after began now result same claims ready steps (
           let next = ready (more_of result more) octets (stood.at.2 ran) in
           record {
             is_of = (stood.is_of.0 ∙ sym same.0, stood.is_of.1 ∙ sym same.1);
-            at = (d.1 more, ready_has_parts u.stage t.name t.time t.size octets new after next.ready, λ running. ready_as t u octets new after same next);
+            at = (
+              d.1 more,
+              ready_has_parts u.stage t.name t.time t.size octets new after next.ready,
+              λ running. ready_as t u octets new after same next,
+              λ running. names_on t.stage u.stage t.name t.time t.size result old new run place said (and_told said d.0.makes.answer) d.0.makes.event d.0.makes.request_is (λ why refused. (d.0.makes.is_event.undone why refused).0) stood.at.0 (d.1 more) (effects ran) (stood.at.3 ran),
+            );
             took = tt;
           },
     )
-deliver_does t u old new before after began now result same claims ready steps asked around behind run lane place said lists come shown room tells reads stood = absurd stood.is_of
+deliver_does t u old new before after began now result same claims ready effects steps asked around behind run lane place said lists come shown room tells reads stood = absurd stood.is_of
 
 -- ---- a purge
 

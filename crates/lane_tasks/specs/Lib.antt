@@ -1,2 +1,3 @@
 pub mod Clause
 pub mod Tasks
+pub mod Uses

@@ -10,6 +10,8 @@ use Rattle.mdbox_base.specs.declared.requests.Request.{Request}
 use Rattle.mdbox_base.specs.declared.requests.Request.TheVariants as request
 use Rattle.list_machine.specs.Run.{Run, RunEvent, TakenFile, own_events}
 use Rattle.journal.specs.Found.{is_storing}
+use Rattle.journal.specs.Events.{instances_found}
+use Rattle.model_meaning.specs.MapFits.{HasRecord}
 use Rattle.store_core.specs.Value.{StoreValue}
 use Rattle.task_claims.specs.Claims.{Claims, no_claims}
 use Rattle.task_steps.specs.Step.{HasNotBegun}
@@ -32,6 +34,7 @@ use Rattle.mail_ops.specs.declared.moving.MoveStage.TheVariants as move_stage
 use Rattle.mail_save.specs.Claims.{save_claims}
 use Rattle.mail_save.specs.SaveSeen.{HasItsParts, IsAtSave}
 use Rattle.mail_save.specs.Task.{IsReadyToDeliver, SaveValue, save_events_left}
+use Rattle.mail_save.specs.declared.task.SaveStage.{SaveStage}
 use Rattle.mail_save.specs.declared.task.SaveStage.TheVariants as save_stage
 use Rattle.purge_task.specs.Claims.{purge_claims}
 use Rattle.purge_task.specs.Keeping.{IsReadyToPurge}
@@ -147,11 +150,17 @@ work_left other store = 1
 
 -- ---- where it stands
 
+-- The record that a delivery has stored names the instances that its events found, until it is added or its count is lowered.
+abbrev pub NamesFound : {D : Type 0} → SaveStage → StoreValue D → Run → ℕ → Type 0
+NamesFound (save_stage.Adding added room) store run place = HasRecord store.map added.map_uid.0 (λ row. row.instances ≡ instances_found place run)
+NamesFound (save_stage.GivingBack uid why room) store run place = HasRecord store.map uid.0 (λ row. row.instances ≡ instances_found place run)
+NamesFound now store run place = Unit {0}
+
 -- A delivery is at its stage, knows how many attachments the request's message has, and, unless the store is stopped, is ready for
--- its next event with it.
+-- its next event with it, and what it has stored names what it found.
 abbrev pub IsAtDelivery : {D : Type 0} → SaveValue → StoreValue D → Option History → Request → Run → ℕ → List Reply → Type 0
 IsAtDelivery t store history (request.Deliver name time octets) run place said =
-    IsAtSave t.stage run place said × HasItsParts t.stage octets × (store.stopped ≡ false → IsReadyToDeliver t.stage t.name t.time t.size octets store history)
+    IsAtSave t.stage run place said × HasItsParts t.stage octets × (store.stopped ≡ false → IsReadyToDeliver t.stage t.name t.time t.size octets store history) × (store.stopped ≡ false → NamesFound t.stage store run place)
 IsAtDelivery t store history other run place said = ⊥
 
 -- Of a store, of what its disk tells, and of the request: at which stage the task is, of a run, of its place in the script, and of the

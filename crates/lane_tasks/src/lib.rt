@@ -6,6 +6,8 @@ pub use laws::{
     tasks_have_room, tasks_have_taken, tasks_leave_work, tasks_stand,
 };
 pub use task::Task;
+pub use uses::{deliveries_hold, fetches_hold, tasks_claim_taken, tasks_tell_holds};
 
 mod laws;
 mod task;
+mod uses;

@@ -5,11 +5,14 @@ pub mod FindingLemmas
 pub mod GoingLemmas
 pub mod LeftLemmas
 pub mod OpeningLemmas
+pub mod OwnUseLemmas
 pub mod PartsLemmas
 pub mod RoomLemmas
 pub mod RoundLemmas
 pub mod SoundLemmas
 pub mod SparedLemmas
+pub mod TellsUsesLemmas
 pub mod TraceLemmas
+pub mod UnpinnedLemmas
 pub mod WaitingLemmas
 pub mod WorldLemmas

@@ -17,6 +17,7 @@ ghost use Rattle.store_seen.specs.Seeing.{IsAtOpening};
 ghost use Rattle.task_claims.specs.Claims.{HasNoTask};
 ghost use Rattle.task_steps.specs.Step.{IsFirmAt, Seen, ShowsSeen, ended_by};
 ghost use Rattle.mail_fetch.specs.Task.{seen_in};
+ghost use Rattle.purge_task.specs.Clause.{TellsUses};
 ghost use Rattle.lanes.specs.Going.{AddsEvent, AreFreshRows, IsGoing};
 ghost use Rattle.lanes.specs.Rows.{LaneRow, RowGoesOn, lanes_of};
 ghost use Rattle.lanes.specs.Worlds.{AreEntriesAt, ArePartsOf, GoesOnBy, IsFreshWorld, IsLaneEvent, IsServedOn, IsSoundWorld, IsWorldOf, KeepsWorld, PartsValue, WorldValue};
@@ -71,4 +72,11 @@ pub fn worlds_begin<D: Disk>()
 /// The entries of a world over a disk that is modelled are those of its steps.
 pub fn entries_are_told()
     ensures { (history : History) (began : ℕ) (run : Run) (steps : List JournalStep) (entries : List JournalEntry) → AreEntriesAt (Some history) began (moment_of run) steps entries → AreEntriesOf run began steps entries }
+{}
+
+/// Lanes that serve a script over a store that runs tell who uses it: by the run the same storage files are taken, and the instances that
+/// its requests have found, placed or pinned are held in the store or named by a record, and all that are held.
+pub fn worlds_tell_uses<D: Disk>()
+    ensures { (start : Lists) (script : Requests) (run : Run) (journal : List JournalStep) (broken : Broken) (replies : List (Option Reply)) (began : Seen) (store : StoreValue D) (history : Option History) (faults : Faults) (rows : List LaneRow) → IsGoing start script run journal broken replies began store history faults rows
+        → store.stopped ≡ false → TellsUses run store }
 {}

@@ -4,7 +4,7 @@
 pub use lane::{Lane, LaneEvent, Queued};
 pub use laws::{
     entries_are_told, idle_worlds_have_replied, lanes_begin, lanes_end, lanes_go_on, worlds_begin,
-    worlds_go_on,
+    worlds_go_on, worlds_tell_uses,
 };
 pub use parts::WorldParts;
 pub use turn::{Turn, Turned};

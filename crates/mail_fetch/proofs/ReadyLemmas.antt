@@ -51,7 +51,7 @@ pinned_ready history name uid old new region k same moves few (row, entry, store
     let keeps : (r : InstRow) → IsKnownRow old.instances.known r → IsKnownRow new.instances.known r = λ r there. subst (λ (s : StoreValue _). IsKnownRow s.instances.known r) (sym same) (rows_held region.from.instances r.id old.instances.known ∙ there) in
     let named : All (IsKnownRow new.instances.known) entry.instances = All-weaker (IsKnownRow old.instances.known) (IsKnownRow new.instances.known) keeps entry.instances (named_each (IsKnownRow old.instances.known) old.map row.map_uid entry stored.stored k.kept.named) in
     subst (λ (r : RegionValue). MovesClaims no_claims (claims_of_pinned r.from) old new → length r.from.instances ≤ 65535 → IsReadyToRead r new) (sym is)
-    (λ m most. record { parts = all_claimed (stored_at row entry); left = parts_known new.instances.known row entry named; instances = named; own = record { claimed = claimed_now (claims_of_pinned (stored_at row entry)) old new m; few = most } }) moves few
+    (λ m most. record { parts = all_claimed (stored_at row entry); left = parts_known new.instances.known row entry named; own = record { claimed = claimed_now (claims_of_pinned (stored_at row entry)) old new m; known = named; few = most } }) moves few
 
 -- behind a piece
 goes_ready : {D : Type 0} → (region : RegionValue) (piece : List ℕ) (next : FetchStage) (store : StoreValue D) → IsReadyToRead region store → GoesOnWith (with_piece region piece) next → IsReadyToFetch next store
@@ -61,7 +61,7 @@ goes_ready region piece next store ready goes = by_left (pieces_left (left_after
     by_left zero e = let l = goes.last e in subst (λ (s : FetchStage). IsReadyToFetch s store) (sym l.1) ready.own
     by_left (suc n) e =
         subst (λ (s : FetchStage). IsReadyToFetch s store) (sym (goes.more (omega (arith, e))))
-        (record { parts = left_claimed region.from region.left ready.parts; left = known_after store.instances.known region.left ready.left; instances = ready.instances; own = ready.own })
+        (record { parts = left_claimed region.from region.left ready.parts; left = known_after store.instances.known region.left ready.left; own = ready.own })
 
 read_ready : {D : Type 0} → (region : RegionValue) (next : FetchStage) (store : StoreValue D) (history : Option History) (old new : Faults) → IsReadyToRead region store → IsPieceRead region next history old new → IsReadyToFetch next store
 read_ready region next store history old new ready (inl (piece, told, goes)) = goes_ready region piece next store ready goes
@@ -69,14 +69,13 @@ read_ready region next store history old new ready (inr failed) = subst (λ (s :
 
 -- on another disk
 own_at : {D : Type 0} → (from : StoredAt) (store : StoreValue D) (disk : D) → HasClaimed from store → HasClaimed from (record store { disk = disk })
-own_at from store disk own = record { claimed = λ thing. subst (λ (n : ℕ). claims_of_pinned from thing ≤ n) (sym (same_amount store disk thing)) (own.claimed thing); few = own.few }
+own_at from store disk own = record { claimed = λ thing. subst (λ (n : ℕ). claims_of_pinned from thing ≤ n) (sym (same_amount store disk thing)) (own.claimed thing); known = own.known; few = own.few }
 
 at_disk : {D : Type 0} → (now : FetchStage) (store : StoreValue D) (disk : D) → IsReadyToFetch now store → IsReadyToFetch now (record store { disk = disk })
 at_disk stage.First store disk ready = tt
 at_disk (stage.Reading region) store disk ready = record {
   parts = ready.parts;
   left = ready.left;
-  instances = ready.instances;
   own = own_at region.from store disk ready.own;
 }
 at_disk (stage.Unpinning from given) store disk ready = own_at from store disk ready

@@ -28,7 +28,7 @@ use Rattle.task_claims.specs.Leaving.{HasRegionOctets, LeavesInstance}
 use Rattle.task_claims.specs.Stable.{Beside, IsStable}
 use Rattle.task_claims.proofs.LeftLemmas.{claim_left, instance_left, pinned_left}
 use Rattle.task_claims.proofs.StoredLemmas.{KeepsRow, stores_on}
-use Rattle.mail_fetch.specs.Claims.{IsClaimedPart, IsClaimedTo, IsReadyToFetch, IsReadyToRead, ReadsStored, claims_of_pinned, fetch_claims}
+use Rattle.mail_fetch.specs.Claims.{HasClaimed, IsClaimedPart, IsClaimedTo, IsReadyToFetch, IsReadyToRead, ReadsStored, claims_of_pinned, fetch_claims}
 use Rattle.mail_fetch.specs.Parts.{KnowsSource, instance_part, part_read, parts_read, parts_to_read, pieces_left, region_part, source_file}
 use Rattle.mail_fetch.specs.Region.{RegionValue}
 use Rattle.mail_fetch.specs.Stages.{HasReadAllBut, IsAtFetch, IsFrontOfStored, Reading, UnpinsNext}
@@ -70,9 +70,16 @@ own_holds rows = held_among rows rows (λ id. omega arith)
 
 -- ---- what is left to it
 
-rows_left : {D : Type 0} → (region : RegionValue) (old new : StoreValue D) (before after : Option History) → Beside (fetch_claims (stage.Reading region)) old new before after → All (IsKnownRow old.instances.known) region.from.instances
-    → All (λ row. LeavesInstance row old new before after) region.from.instances
-rows_left region old new before after b known = λ i d lt. instance_left (fetch_claims (stage.Reading region)) old new before after (get_or region.from.instances i d) b (own_holds region.from.instances i d lt) (known i d lt)
+rows_left : {D : Type 0} → (from : StoredAt) (old new : StoreValue D) (before after : Option History) → Beside (claims_of_pinned from) old new before after → All (IsKnownRow old.instances.known) from.instances → All (λ row. LeavesInstance row old new before after) from.instances
+rows_left from old new before after b known = λ i d lt. instance_left (claims_of_pinned from) old new before after (get_or from.instances i d) b (own_holds from.instances i d lt) (known i d lt)
+
+-- and what it claims stays so
+own_left : {D : Type 0} → (from : StoredAt) (old new : StoreValue D) (before after : Option History) → Beside (claims_of_pinned from) old new before after → HasClaimed from old → HasClaimed from new
+own_left from old new before after b own = record {
+  claimed = λ thing. claim_left (claims_of_pinned from) old new before after thing b;
+  known = λ i d lt. (rows_left from old new before after b own.known i d lt).known;
+  few = own.few;
+}
 
 -- an instance of which a part is left, or no instance
 LeavesSource : {D : Type 0} → StoreValue D → StoreValue D → Option History → Option History → Source → Type 0
@@ -94,12 +101,11 @@ parts_left region old new before after b ready = λ i d lt. let part = get_or re
 
 pub fetch_stable : {D : Type 0} → (now : FetchStage) → IsStable {D = D} (fetch_claims now) (λ store history. IsReadyToFetch now store)
 fetch_stable stage.First old new before after b ready = tt
-fetch_stable (stage.Unpinning from given) old new before after b ready = record { claimed = λ thing. claim_left (claims_of_pinned from) old new before after thing b; few = ready.few }
+fetch_stable (stage.Unpinning from given) old new before after b ready = own_left from old new before after b ready
 fetch_stable (stage.Reading region) old new before after b ready = record {
   parts = ready.parts;
   left = λ i d lt. still_known old new before after (get_or region.left i d).source (parts_left region old new before after b ready i d lt);
-  instances = λ i d lt. (rows_left region old new before after b ready.instances i d lt).known;
-  own = record { claimed = λ thing. claim_left (claims_of_pinned region.from) old new before after thing b; few = ready.own.few };
+  own = own_left region.from old new before after b ready.own;
 }
 
 -- ---- what the disk stores
@@ -194,7 +200,7 @@ reads_stay region octets old new (Some was) None b ready f = absurd b.leaves.tol
 reads_stay region octets old new (Some was) (Some is) b ready f =
     front_left region octets (files_of was.now) (files_of is.now)
     ((pinned_left (fetch_claims (stage.Reading region)) old new (Some was) (Some is) region.from.file.0 b (own_pin region.from.file.0)).0.reads)
-    (λ i d lt. (rows_left region old new (Some was) (Some is) b ready.instances i d lt).reads)
+    (λ i d lt. (rows_left region.from old new (Some was) (Some is) b ready.own.known i d lt).reads)
     ready.parts
     (λ i d lt. reads_alike old new was is (get_or region.left i d).source (parts_left region old new (Some was) (Some is) b ready i d lt))
     f

@@ -84,16 +84,16 @@ IsClaimedTo from end (source.Instance row) = 1 ≤ holds_of from.instances row.i
 abbrev pub IsClaimedPart : StoredAt → Part → Type 0
 IsClaimedPart from part = IsClaimedTo from (part.offset + part.size) part.source
 
--- What it claims of a message is among what all tasks do, and a record names 65,535 instances at the most.
+-- What it claims of a message is among what all tasks do, the store knows its instances, and a record names 65,535 at the most.
 pub record HasClaimed {D : Type 0} (from : StoredAt) (store : StoreValue D) : Type 0 where
   pub claimed : AreIn store (claims_of_pinned from)
+  pub known : All (IsKnownRow store.instances.known) from.instances
   pub few : length from.instances ≤ 65535
 
--- A fetch reads parts that it claims, and the store knows its instances and those that are left to read.
+-- A fetch reads parts that it claims, and the store knows the instances that are left to read.
 pub record IsReadyToRead {D : Type 0} (region : RegionValue) (store : StoreValue D) : Type 0 where
   pub parts : All (IsClaimedPart region.from) region.left
   pub left : All (λ part. KnowsSource store.instances.known part.source) region.left
-  pub instances : All (IsKnownRow store.instances.known) region.from.instances
   pub own : HasClaimed region.from store
 
 abbrev pub IsReadyToFetch : {D : Type 0} → FetchStage → StoreValue D → Type 0

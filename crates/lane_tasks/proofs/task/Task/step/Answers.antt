@@ -150,7 +150,7 @@ pub returns-in-Deliver-clause-does : goal.returns-in-Deliver-clause-does
 returns-in-Deliver-clause-does g c =
     subst (λ (t : Task). StepsTask t (task.Deliver c.step-in-Deliver.new.self) c.args.store.now c.step-in-Deliver.new.store (g.D.Disk.history c.args.store.now.disk) (g.D.Disk.history c.step-in-Deliver.new.store.disk) (g.D.Disk.faults c.args.store.now.disk) (g.D.Disk.faults c.step-in-Deliver.new.store.disk) (ended_by c.step-in-Deliver.result)) (sym c.in-Deliver.is)
     (let r = c.step-in-Deliver.ensures.request in deliver_does c.in-Deliver.task c.step-in-Deliver.new.self c.args.store.now c.step-in-Deliver.new.store (g.D.Disk.history c.args.store.now.disk) (g.D.Disk.history c.step-in-Deliver.new.store.disk) (g.D.Disk.faults c.args.store.now.disk) (g.D.Disk.faults c.step-in-Deliver.new.store.disk) c.step-in-Deliver.result r c.step-in-Deliver.ensures.claims
-    c.step-in-Deliver.ensures.ready (λ octets pins behind. c.step-in-Deliver.ensures.does octets pins behind))
+    c.step-in-Deliver.ensures.ready (λ ran. (c.step-in-Deliver.ensures.saves ran).effects) (λ octets pins behind. c.step-in-Deliver.ensures.does octets pins behind))
 
 pub returns-in-Deliver-clause-claims : goal.returns-in-Deliver-clause-claims
 returns-in-Deliver-clause-claims g c = λ runs.

@@ -1,0 +1,182 @@
+-- The storage files that tasks claim to have taken are those that their requests' events took and haven't given back.
+use Rattle.std.proofs.Common.{◌≡◌, ◌≤◌, ◌==◌, ◌&&◌, ◌||◌, ℕ, Bool, true, false, List, [], ◌∷◌, ◌++◌, Option, None, refl, sym, ◌∙◌, ap, subst, arith, inl, inr}
+use Rattle.std.specs.Prelude.{◌⊎◌, flat_map, is_none}
+use Rattle.std.specs.List.{AllByRecursion, list_any}
+use Rattle.std.proofs.lemmas.Bool.{eq-eqb, eqb-true}
+use Rattle.std.proofs.lemmas.List.Folds.{list_any-append}
+use Rattle.disk_model.specs.Disk.{History}
+use Rattle.mdbox_base.specs.declared.entries.InstRow.{InstRow}
+use Rattle.mdbox_base.specs.declared.replies.Refusal.{Refusal}
+use Rattle.mdbox_base.specs.declared.replies.Reply.{Reply}
+use Rattle.mdbox_base.specs.declared.requests.Request.{Request}
+use Rattle.mdbox_base.specs.declared.requests.Request.TheVariants as request
+use Rattle.list_machine.specs.Run.{Compares, EventPart, First, PlacesInstance, PlacesMessage, Run, RunEvent, TakenFile, TakesFile, is_one_of, own_events}
+use Rattle.journal.specs.Events.{is_done}
+use Rattle.journal.specs.Found.{gave_back, is_storing, took_file}
+use Rattle.store_core.specs.Value.{StoreValue}
+use Rattle.task_claims.specs.Claims.{Emptied, Taken, one_if}
+use Rattle.mail_fetch.specs.Claims.{fetch_claims}
+use Rattle.mail_fetch.specs.declared.task.FetchStage.{FetchStage}
+use Rattle.mail_fetch.specs.declared.task.FetchStage.TheVariants as fetch_stage
+use Rattle.mail_ops.specs.Claims.{make_claims}
+use Rattle.mail_ops.specs.declared.making.MakeStage.{MakeStage}
+use Rattle.mail_ops.specs.declared.making.MakeStage.TheVariants as make_stage
+use Rattle.mail_save.specs.Claims.{save_claims}
+use Rattle.mail_save.specs.SaveSeen.{IsAtSave}
+use Rattle.mail_save.specs.SaveStages.{AreAttachedSoFar, HasAttached, TookFile}
+use Rattle.mail_save.specs.Task.{SaveValue}
+use Rattle.mail_save.specs.declared.task.SaveStage.{SaveStage}
+use Rattle.mail_save.specs.declared.task.SaveStage.TheVariants as save_stage
+use Rattle.lane_tasks.specs.Tasks.{StandsTask, claims_at}
+use Rattle.lane_tasks.proofs.PurgeClaimedLemmas.{purge_claimed}
+use Rattle.lane_tasks.specs.declared.task.Task.{Task}
+use Rattle.lane_tasks.specs.declared.task.Task.TheVariants as task
+
+-- What a task's own events say of a file: one took it, and none gave it back.
+abbrev pub HasIt : ℕ → List RunEvent → Type 0
+HasIt file own = (list_any (took_file file) own ≡ true) × (gave_back file own ≡ false)
+
+unclaimed : {X : Type 0} → (a b : ℕ) → a ≡ 0 → b ≡ 0 → (1 ≤ a) ⊎ (1 ≤ b) → X
+unclaimed a b x y (inl some) = absurd (omega (arith, x, some))
+unclaimed a b x y (inr some) = absurd (omega (arith, y, some))
+
+-- ---- events that give no file back
+
+pub record Keeps (event : RunEvent) : Type 0 where
+  pub part : is_storing event.part ≡ false
+  pub doomed : event.doomed ≡ []
+  pub removed : event.removed ≡ []
+
+either_false : (a b : Bool) → a ≡ false → b ≡ false → (a || b) ≡ false
+either_false true b x y = absurd (let k : true ≡ false = x in cc k)
+either_false false b x y = y
+
+none_ended : (event : RunEvent) (file : ℕ) → Keeps event → (is_one_of event.doomed file || is_one_of event.removed file) ≡ false
+none_ended event file k = either_false (is_one_of event.doomed file) (is_one_of event.removed file) (ap (λ (files : List ℕ). is_one_of files file) k.doomed) (ap (λ (files : List ℕ). is_one_of files file) k.removed)
+
+none_given : (file : ℕ) (own : List RunEvent) → AllByRecursion Keeps own → list_any (λ e. is_storing e.part || (is_one_of e.doomed file || is_one_of e.removed file)) own ≡ false
+none_given file [] all = refl
+none_given file (e ∷ own) all = either_false _ _ (either_false (is_storing e.part) _ all.0.part (none_ended e file all.0)) (none_given file own all.1)
+
+none_done : (taken : TakenFile) (own : List RunEvent) → AllByRecursion Keeps own → is_done own taken ≡ false
+none_done taken [] all = refl
+none_done taken (e ∷ own) all = either_false _ _ (none_ended e taken.file all.0) (none_done taken own all.1)
+
+and_false : (a b : Bool) → b ≡ false → (a && b) ≡ false
+and_false true b e = e
+and_false false b e = refl
+
+targets_kept : (file : ℕ) (own : List RunEvent) (taken : List TakenFile) → AllByRecursion Keeps own → list_any (λ t. (t.target == file) && is_done own t) taken ≡ false
+targets_kept file own [] all = refl
+targets_kept file own (t ∷ taken) all = either_false _ _ (and_false (t.target == file) (is_done own t) (none_done t own all)) (targets_kept file own taken all)
+
+not_given : (file : ℕ) (own : List RunEvent) → AllByRecursion Keeps own → gave_back file own ≡ false
+not_given file own all = either_false _ _ (none_given file own all) (targets_kept file own (flat_map (λ e. e.files) own) all)
+
+keeping_both : (a b : List RunEvent) → AllByRecursion Keeps a → AllByRecursion Keeps b → AllByRecursion Keeps (a ++ b)
+keeping_both [] b x y = y
+keeping_both (e ∷ a) b x y = (x.0, keeping_both a b x.1 y)
+
+-- ---- a delivery
+
+attached_keep : (event : RunEvent) → HasAttached event → Keeps event
+attached_keep event h = record { part = by_part h.part; doomed = ap (λ (e : RunEvent). e.doomed) h.did; removed = ap (λ (e : RunEvent). e.removed) h.did }
+  where
+    by_part : (event.part ≡ Compares) ⊎ (event.part ≡ PlacesInstance) → is_storing event.part ≡ false
+    by_part (inl is) = ap is_storing is
+    by_part (inr is) = ap is_storing is
+
+all_keep : (events : List RunEvent) → AllByRecursion HasAttached events → AllByRecursion Keeps events
+all_keep [] all = tt
+all_keep (e ∷ more) all = (attached_keep e all.0, all_keep more all.1)
+
+front_keeps : (rows : List InstRow) (own : List RunEvent) → AreAttachedSoFar rows own → AllByRecursion Keeps own
+front_keeps rows own a =
+    let first : Keeps a.first = record { part = ap is_storing a.laid.part; doomed = ap (λ (e : RunEvent). e.doomed) a.laid.did; removed = ap (λ (e : RunEvent). e.removed) a.laid.did } in
+    let all : AllByRecursion Keeps (a.first ∷ a.more) = (first, all_keep a.more a.attached) in
+    by_own own a.own_are all
+  where
+    by_own : (own : List RunEvent) → own ≡ a.first ∷ a.more → AllByRecursion Keeps (a.first ∷ a.more) → AllByRecursion Keeps own
+    by_own own is all = subst (AllByRecursion Keeps) (sym is) all
+
+took_keeps : (file : ℕ) (event : RunEvent) → TookFile file event → Keeps event
+took_keeps file event t = record { part = ap is_storing t.part; doomed = ap (λ (e : RunEvent). e.doomed) t.did; removed = ap (λ (e : RunEvent). e.removed) t.did }
+
+first_true : (a b : Bool) → a ≡ true → (a || b) ≡ true
+first_true true b e = refl
+first_true false b e = absurd (let k : false ≡ true = e in cc k)
+
+second_true : (a b : Bool) → b ≡ true → (a || b) ≡ true
+second_true true b e = refl
+second_true false b e = e
+
+both_true : (a b : Bool) → a ≡ true → b ≡ true → (a && b) ≡ true
+both_true true b x y = y
+both_true false b x y = absurd (let k : false ≡ true = x in cc k)
+
+took_it : (file taken : ℕ) (event : RunEvent) → TookFile taken event → taken ≡ file → took_file file event ≡ true
+took_it file taken event t same =
+    let unrefused : is_none event.refused ≡ true = ap (λ (e : RunEvent). is_none e.refused) t.did in
+    let files : event.files ≡ record { file = taken; target = 0 } ∷ [] = ap (λ (e : RunEvent). e.files) t.did in
+    both_true (is_none event.refused) _ unrefused
+    (ap (λ (ts : List TakenFile). list_any (λ t. (t.file == file) || (t.target == file)) ts) files ∙ first_true ((taken == file) || (0 == file)) false (first_true (taken == file) (0 == file) (eq-eqb taken file same)))
+
+-- behind the events that attached, the one that took the file, and such as keep it
+has_it : (rows : List InstRow) (file taken : ℕ) (own front later : List RunEvent) (event : RunEvent) → own ≡ front ++ event ∷ later → AreAttachedSoFar rows front → TookFile taken event → AllByRecursion Keeps later → taken ≡ file → HasIt file own
+has_it rows file taken own front later event is attached took keep same = (
+  ap (list_any (took_file file)) is
+  ∙ (list_any-append (took_file file) front (event ∷ later) ∙ second_true (list_any (took_file file) front) _ (first_true (took_file file event) (list_any (took_file file) later) (took_it file taken event took same))),
+  ap (gave_back file) is ∙ not_given file (front ++ event ∷ later) (keeping_both front (event ∷ later) (front_keeps rows front attached) (took_keeps taken event took, keep)),
+)
+
+is_file : (taken file : ℕ) → 1 ≤ one_if (taken == file) → taken ≡ file
+is_file taken file some = by_test (taken == file) refl some
+  where
+    by_test : (t : Bool) → (taken == file) ≡ t → 1 ≤ one_if t → taken ≡ file
+    by_test true e s = eqb-true taken file e
+    by_test false e s = absurd (let k : 1 ≤ 0 = s in omega (arith, k))
+
+stage_taken : (now : SaveStage) (run : Run) (place : ℕ) (said : List Reply) (file : ℕ) → IsAtSave now run place said → (1 ≤ save_claims now (Taken file)) ⊎ (1 ≤ save_claims now (Emptied file)) → HasIt file (own_events place run)
+stage_taken (save_stage.Placing parts taken) run place said file at (inl some) = let a = at.0 in has_it parts.rows file taken.0 (own_events place run) a.front [] a.second a.own_are a.attached a.took tt (is_file taken.0 file some)
+stage_taken (save_stage.Placing parts taken) run place said file at (inr some) = unclaimed 0 0 refl refl (inr some)
+stage_taken (save_stage.Storing place_at rows room) run place said file at (inl some) =
+    let a = at.0 in
+    let placed : Keeps a.third = record { part = ap is_storing a.placed.part; doomed = ap (λ (e : RunEvent). e.doomed) a.placed.did; removed = ap (λ (e : RunEvent). e.removed) a.placed.did } in
+    has_it rows file place_at.file.0 (own_events place run) a.front (a.third ∷ []) a.second a.own_are a.attached a.took (placed, tt) (is_file place_at.file.0 file some)
+stage_taken (save_stage.Storing place_at rows room) run place said file at (inr some) = unclaimed 0 0 refl refl (inr some)
+stage_taken (save_stage.First prepared) run place said file at some = unclaimed 0 0 refl refl some
+stage_taken (save_stage.Attaching parts attaching) run place said file at some = unclaimed 0 0 refl refl some
+stage_taken (save_stage.Taking parts) run place said file at some = unclaimed 0 0 refl refl some
+stage_taken (save_stage.Adding added room) run place said file at some = unclaimed 0 0 refl refl some
+stage_taken (save_stage.GivingBack uid why room) run place said file at some = unclaimed 0 0 refl refl some
+stage_taken save_stage.Ended run place said file at some = unclaimed 0 0 refl refl some
+
+delivery_taken : {D : Type 0} → (t : SaveValue) (store : StoreValue D) (history : Option History) (asked : Request) (run : Run) (place : ℕ) (said : List Reply) (file : ℕ) → StandsTask (task.Deliver t) store history asked run place said
+    → (1 ≤ save_claims t.stage (Taken file)) ⊎ (1 ≤ save_claims t.stage (Emptied file)) → HasIt file (own_events place run)
+delivery_taken t store history (request.Deliver name time octets) run place said file s some = stage_taken t.stage run place said file s.at.0 some
+delivery_taken t store history asked run place said file s some = absurd s.is_of
+
+-- ---- each kind
+
+make_takes : (now : MakeStage) (file : ℕ) → (make_claims now (Taken file) ≡ 0) × (make_claims now (Emptied file) ≡ 0)
+make_takes make_stage.First file = (refl, refl)
+make_takes (make_stage.Naming number) file = (refl, refl)
+
+fetch_takes : (now : FetchStage) (file : ℕ) → (fetch_claims now (Taken file) ≡ 0) × (fetch_claims now (Emptied file) ≡ 0)
+fetch_takes fetch_stage.First file = (refl, refl)
+fetch_takes (fetch_stage.Reading region) file = (refl, refl)
+fetch_takes (fetch_stage.Unpinning from given) file = (refl, refl)
+fetch_takes (fetch_stage.Removing gone given) file = (refl, refl)
+
+pub claimed_taken : {D : Type 0} → (t : Task) (store : StoreValue D) (history : Option History) (asked : Request) (run : Run) (place : ℕ) (said : List Reply) (file : ℕ) → StandsTask t store history asked run place said → 1 ≤ file → (1 ≤ claims_at t (Taken file)) ⊎ (1 ≤ claims_at t (Emptied file))
+    → (list_any (took_file file) (own_events place run) ≡ true) × (gave_back file (own_events place run) ≡ false)
+claimed_taken (task.Deliver t) store history asked run place said file s low some = delivery_taken t store history asked run place said file s some
+claimed_taken (task.Ops t) store history asked run place said file s low some = unclaimed 0 0 refl refl some
+claimed_taken (task.Counts t) store history asked run place said file s low some = unclaimed 0 0 refl refl some
+claimed_taken (task.Make t) store history asked run place said file s low some = let none = make_takes t.stage file in unclaimed _ _ none.0 none.1 some
+claimed_taken (task.Copy t) store history asked run place said file s low some = unclaimed 0 0 refl refl some
+claimed_taken (task.Move t) store history asked run place said file s low some = unclaimed 0 0 refl refl some
+claimed_taken (task.Expunge t) store history asked run place said file s low some = unclaimed 0 0 refl refl some
+claimed_taken (task.Fetch t) store history asked run place said file s low some = let none = fetch_takes t.stage file in unclaimed _ _ none.0 none.1 some
+claimed_taken (task.Resync t) store history asked run place said file s low some = unclaimed 0 0 refl refl some
+claimed_taken (task.Purge t) store history asked run place said file s low some = purge_claimed t t.stage store run place said file s.at s.took low some

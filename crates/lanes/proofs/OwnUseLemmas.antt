@@ -1,0 +1,172 @@
+-- Which events of a legal run use instances: only those of a delivery find or place them, and only those of a fetch pin them.
+use Rattle.std.proofs.Common.{◌≡◌, ◌||◌, ℕ, Bool, true, false, List, [], Option, Some, None, refl, sym, ◌∙◌, ap}
+use Rattle.std.specs.List.{list_any}
+use Rattle.mdbox_base.specs.declared.entries.InstRow.{InstRow}
+use Rattle.mdbox_base.specs.declared.ids.Uid.{Uid}
+use Rattle.mdbox_base.specs.declared.replies.Refusal.{Refusal}
+use Rattle.mdbox_base.specs.declared.requests.Request.{Request}
+use Rattle.mdbox_base.specs.declared.requests.Request.TheVariants as request
+use Rattle.model_lists.specs.Lists.{ListedMessage, Lists}
+use Rattle.list_machine.specs.Machine.{message_at}
+use Rattle.list_machine.specs.Run.{Compares, CopiesMessage, EventPart, First, GivesBack, Last, MakesTarget, Pin, PlacesInstance, PlacesMessage, ReadsFile, RemovesFile, RemovesInstance, RunEvent, Run, SecondHalf, StoresRecord, Switches, TakesFile}
+use Rattle.journal.specs.Events.{Around, DidCopy, DidDeliver, DidFetch, DidNothing, DidPart, DidPurge, IsEvent, RemovesIfThere}
+use Rattle.journal.specs.Found.{is_same_instance}
+use Rattle.lane_tasks.specs.Uses.{finds_instance, pins_instance}
+
+-- ---- one event
+
+-- it found no instance, and pinned none
+abbrev pub FindsNone : RunEvent → Type 0
+FindsNone event = (event.equal ≡ []) × (event.placed ≡ [])
+
+abbrev pub PinsNone : RunEvent → Type 0
+PinsNone event = event.pins ≡ []
+
+finds_as : (a b : RunEvent) → a ≡ b → (a.equal ≡ b.equal) × (a.placed ≡ b.placed)
+finds_as a b e = (ap (λ (x : RunEvent). x.equal) e, ap (λ (x : RunEvent). x.placed) e)
+
+pins_as : (a b : RunEvent) → a ≡ b → a.pins ≡ b.pins
+pins_as a b e = ap (λ (x : RunEvent). x.pins) e
+
+-- neither
+abbrev pub UsesNone : RunEvent → Type 0
+UsesNone event = FindsNone event × PinsNone event
+
+uses_as : (a b : RunEvent) → a ≡ b → ((a.equal ≡ b.equal) × (a.placed ≡ b.placed)) × (a.pins ≡ b.pins)
+uses_as a b e = (finds_as a b e, pins_as a b e)
+
+-- ---- each kind, where it wasn't refused
+
+copied_none : (run : Run) (lists : Lists) (name : List ℕ) (uid : ℕ) (target : List ℕ) (event : RunEvent) (part : EventPart) → DidCopy run lists name uid target event part → UsesNone event
+copied_none run lists name uid target event First d = uses_as event _ d.2
+copied_none run lists name uid target event Last d = uses_as event _ d.2.4
+copied_none run lists name uid target event GivesBack d = uses_as event _ d.2
+copied_none run lists name uid target event part d = absurd d
+
+removed_none : (run : Run) (lists : Lists) (name : List ℕ) (uid : ℕ) (event : RunEvent) (there : Option ListedMessage) → RemovesIfThere run lists name uid event there → UsesNone event
+removed_none run lists name uid event None d = uses_as event _ d
+removed_none run lists name uid event (Some message) d = uses_as event _ d.4
+
+purged_none : (around : Around) (run : Run) (event : RunEvent) (part : EventPart) → DidPurge around run event part → UsesNone event
+purged_none around run event First d = uses_as event _ d.2
+purged_none around run event MakesTarget d = uses_as event _ d.2
+purged_none around run event CopiesMessage d = uses_as event _ d.2
+purged_none around run event Switches d = uses_as event _ d.7
+purged_none around run event RemovesFile d = uses_as event _ d.4
+purged_none around run event RemovesInstance d = uses_as event _ d.2
+purged_none around run event part d = uses_as event _ d
+
+delivered_pins : (around : Around) (run : Run) (lists : Lists) (name : List ℕ) (time : ℕ) (octets : List ℕ) (event : RunEvent) (part : EventPart) → DidDeliver around run lists name time octets event part → PinsNone event
+delivered_pins around run lists name time octets event First d = pins_as event _ d
+delivered_pins around run lists name time octets event Compares d = pins_as event _ d.3
+delivered_pins around run lists name time octets event PlacesInstance d = pins_as event _ d.2
+delivered_pins around run lists name time octets event (TakesFile new) d = pins_as event _ d
+delivered_pins around run lists name time octets event PlacesMessage d = pins_as event _ d.3
+delivered_pins around run lists name time octets event StoresRecord d = pins_as event _ d.3
+delivered_pins around run lists name time octets event Last d = pins_as event _ d.2.4
+delivered_pins around run lists name time octets event GivesBack d = pins_as event _ d.2
+delivered_pins around run lists name time octets event part d = absurd d
+
+fetched_finds : (run : Run) (lists : Lists) (name : List ℕ) (uid : ℕ) (event : RunEvent) (part : EventPart) → DidFetch run lists name uid event part → FindsNone event
+fetched_finds run lists name uid event First d = finds_as event _ d.2
+fetched_finds run lists name uid event RemovesFile d = finds_as event _ d.4
+fetched_finds run lists name uid event part d = finds_as event _ d
+
+-- of requests that are neither a delivery nor a fetch
+abbrev pub DidOther : Request → Type 0
+DidOther asked = (around : Around) (run : Run) (lists : Lists) (event : RunEvent) (part : EventPart) → DidPart around run lists asked event part → UsesNone event
+
+listed_none : (name : List ℕ) → DidOther (request.List name)
+listed_none name around run lists event part d = uses_as event _ d
+
+counted_none : DidOther request.Counts
+counted_none around run lists event part d = uses_as event _ d
+
+flagged_none : (name : List ℕ) (uid : Uid) (flags : ℕ) → DidOther (request.Flag name uid flags)
+flagged_none name uid flags around run lists event First d = uses_as event _ d.2
+flagged_none name uid flags around run lists event part d = uses_as event _ d
+
+expunged_none : (name : List ℕ) (uid : Uid) → DidOther (request.Expunge name uid)
+expunged_none name uid around run lists event First d = uses_as event _ d.4
+expunged_none name uid around run lists event GivesBack d = uses_as event _ d.2
+expunged_none name uid around run lists event part d = uses_as event _ d
+
+moved_none : (name : List ℕ) (uid : Uid) (target : List ℕ) → DidOther (request.Move name uid target)
+moved_none name uid target around run lists event SecondHalf d = removed_none run lists name uid.0 event (message_at name uid.0 lists) d
+moved_none name uid target around run lists event part d = copied_none run lists name uid.0 target event part d
+
+made_none : (name : List ℕ) → DidOther (request.Make name)
+made_none name around run lists event First d = uses_as event _ d
+made_none name around run lists event Last d = uses_as event _ d
+made_none name around run lists event part d = uses_as event _ d
+
+resynced_none : DidOther request.Resync
+resynced_none around run lists event First d = uses_as event _ d
+resynced_none around run lists event ReadsFile d = uses_as event _ d
+resynced_none around run lists event Last d = uses_as event _ d.3
+resynced_none around run lists event part d = uses_as event _ d
+
+-- ---- of whatever request
+
+-- An event finds no instance unless it is one of a delivery, and pins none unless it is one of a fetch.
+abbrev pub UsesAs : Request → RunEvent → Type 0
+UsesAs (request.Deliver name time octets) event = PinsNone event
+UsesAs (request.Fetch name uid) event = FindsNone event
+UsesAs asked event = UsesNone event
+
+used_as : (asked : Request) (event : RunEvent) → UsesNone event → UsesAs asked event
+used_as (request.Deliver name time octets) event none = none.1
+used_as (request.Fetch name uid) event none = none.0
+used_as asked event none = none
+
+did_uses : (asked : Request) (around : Around) (run : Run) (lists : Lists) (event : RunEvent) (part : EventPart) → DidPart around run lists asked event part → UsesAs asked event
+did_uses (request.Deliver name time octets) around run lists event part d = delivered_pins around run lists name time octets event part d
+did_uses (request.Fetch name uid) around run lists event part d = fetched_finds run lists name uid.0 event part d
+did_uses (request.List name) around run lists event part d = listed_none name around run lists event part d
+did_uses (request.Flag name uid flags) around run lists event part d = flagged_none name uid flags around run lists event part d
+did_uses (request.Copy name uid target) around run lists event part d = copied_none run lists name uid.0 target event part d
+did_uses (request.Move name uid target) around run lists event part d = moved_none name uid target around run lists event part d
+did_uses (request.Expunge name uid) around run lists event part d = expunged_none name uid around run lists event part d
+did_uses (request.Make name) around run lists event part d = made_none name around run lists event part d
+did_uses request.Counts around run lists event part d = counted_none around run lists event part d
+did_uses request.Purge around run lists event part d = purged_none around run event part d
+did_uses request.Resync around run lists event part d = resynced_none around run lists event part d
+
+pub nothing_used : (event : RunEvent) → DidNothing event → UsesNone event
+nothing_used event d = uses_as event _ d
+
+pub event_uses : (around after : Around) (run : Run) (lists : Lists) (asked : Request) (event : RunEvent) → IsEvent around after run lists asked event → UsesAs asked event
+event_uses around after run lists asked event e = by_refusal event.refused refl
+  where
+    by_refusal : (o : Option Refusal) → event.refused ≡ o → UsesAs asked event
+    by_refusal None none = did_uses asked around run lists event event.part (e.did none)
+    by_refusal (Some why) is = used_as asked event (nothing_used event (e.undone why is).0)
+
+-- ---- so
+
+no_true : {X : Type 0} → false ≡ true → X
+no_true e = absurd (cc e)
+
+finds_false : (instance : InstRow) (event : RunEvent) → FindsNone event → finds_instance instance event ≡ false
+finds_false instance event none = ap (λ (rows : List InstRow). list_any (is_same_instance instance) rows || list_any (is_same_instance instance) event.placed) none.0 ∙ ap (list_any (is_same_instance instance)) none.1
+
+pub pins_false : (instance : InstRow) (event : RunEvent) → PinsNone event → pins_instance instance event ≡ false
+pins_false instance event none = ap (λ (pins : List Pin). list_any (λ p. list_any (is_same_instance instance) p.instances) pins) none
+
+-- an event that found an instance is one of a delivery
+abbrev pub IsDelivery : Request → Type 0
+IsDelivery asked = (name : List ℕ) × (time : ℕ) × (octets : List ℕ) × (asked ≡ request.Deliver name time octets)
+
+pub finds_in_delivery : (asked : Request) (event : RunEvent) (instance : InstRow) → UsesAs asked event → finds_instance instance event ≡ true → IsDelivery asked
+finds_in_delivery (request.Deliver name time octets) event instance uses found = (name, time, octets, refl)
+finds_in_delivery (request.Fetch name uid) event instance uses found = no_true (sym (finds_false instance event uses) ∙ found)
+finds_in_delivery asked event instance uses found = no_true (sym (finds_false instance event uses.0) ∙ found)
+
+-- and one that pinned an instance, one of a fetch
+abbrev pub IsFetch : Request → Type 0
+IsFetch asked = (name : List ℕ) × (uid : Uid) × (asked ≡ request.Fetch name uid)
+
+pub pins_in_fetch : (asked : Request) (event : RunEvent) (instance : InstRow) → UsesAs asked event → pins_instance instance event ≡ true → IsFetch asked
+pins_in_fetch (request.Fetch name uid) event instance uses pinned = (name, uid, refl)
+pins_in_fetch (request.Deliver name time octets) event instance uses pinned = no_true (sym (pins_false instance event uses) ∙ pinned)
+pins_in_fetch asked event instance uses pinned = no_true (sym (pins_false instance event uses.1) ∙ pinned)
