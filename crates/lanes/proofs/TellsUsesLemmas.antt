@@ -295,7 +295,7 @@ uses_told store history script run journal lanes place instance at (inr pinned) 
 pub tells_uses : {D : Type 0} → (start : Lists) (script : Requests) (run : Run) (journal : List JournalStep) (broken : Broken) (replies : List (Option Reply)) (began now : Seen) (lanes : List (LaneValue Task)) (store : StoreValue D) (history : Option History)
     → IsServing (stands_in store history) start script run journal broken replies began now lanes → HaveLanes script lanes → LanesAccount claims_at IsReadyTask store history lanes → now.stopped ≡ false → store.stopped ≡ false → TellsUses run store
 tells_uses {D} start script run journal broken replies began now lanes store history s have accounts running runs = record {
-  taken = λ file some. agree (is_taken run file) (is_taken_in file store.files.files || is_emptied_in file store.files.files) (λ is. in_use file (uses_taken start script run journal broken replies began now store history lanes s have accounts.adds_up file some is)) (used file);
+  taken = λ file some. agree (is_taken run file) (is_taken_in file store.files.files || is_emptied_in file store.files.files) (λ is. in_use file (uses_taken start script run journal broken replies began now store history lanes s have accounts.adds_up file some is)) (used file some);
   used = λ instance is. by_use instance (or_true (is_held run instance) (is_pinned_instance run instance) is);
   held = λ instance knows some.
       let c = task_of_claim start script run journal broken replies began now lanes store history (Held instance.id) s accounts.adds_up some in
@@ -306,16 +306,16 @@ tells_uses {D} start script run journal broken replies began now lanes store his
     in_use file (inl taken) = first_true (is_taken_in file store.files.files) (is_emptied_in file store.files.files) taken
     in_use file (inr emptied) = second_true (is_taken_in file store.files.files) (is_emptied_in file store.files.files) emptied
 
-    by_file : (file : ℕ) → (is_taken_in file store.files.files ≡ true) ⊎ (is_emptied_in file store.files.files ≡ true) → is_taken run file ≡ true
-    by_file file (inl taken) =
+    by_file : (file : ℕ) → 1 ≤ file → (is_taken_in file store.files.files ≡ true) ⊎ (is_emptied_in file store.files.files ≡ true) → is_taken run file ≡ true
+    by_file file low (inl taken) =
         let c = task_of_claim start script run journal broken replies began now lanes store history (Taken file) s accounts.adds_up (one_true (is_taken_in file store.files.files) taken) in
-        taken_told store history script run journal lanes c.place file c.at (inl c.claims)
-    by_file file (inr emptied) =
+        taken_told store history script run journal lanes c.place file c.at low (inl c.claims)
+    by_file file low (inr emptied) =
         let c = task_of_claim start script run journal broken replies began now lanes store history (Emptied file) s accounts.adds_up (one_true (is_emptied_in file store.files.files) emptied) in
-        taken_told store history script run journal lanes c.place file c.at (inr c.claims)
+        taken_told store history script run journal lanes c.place file c.at low (inr c.claims)
 
-    used : (file : ℕ) → (is_taken_in file store.files.files || is_emptied_in file store.files.files) ≡ true → is_taken run file ≡ true
-    used file is = by_file file (or_true (is_taken_in file store.files.files) (is_emptied_in file store.files.files) is)
+    used : (file : ℕ) → 1 ≤ file → (is_taken_in file store.files.files || is_emptied_in file store.files.files) ≡ true → is_taken run file ≡ true
+    used file low is = by_file file low (or_true (is_taken_in file store.files.files) (is_emptied_in file store.files.files) is)
 
     -- what a task claims is held
     claimed : (place : ℕ) (instance : InstRow) (at : TaskStands store history script run journal lanes place) → 1 ≤ claims_at at.task (Held instance.id) → 1 ≤ holders_in instance.id store.instances.known
