@@ -203,7 +203,7 @@ apart_on around behind run lists event place at is unrefused agrees drawn took =
     (apart_by around run event (own_events place run) event.part (ap (λ (n : ℕ). own_events n run) (sym at)) refl alone behind_is within (is.did unrefused) took)
   where
     alone : event.part ≡ First → own_events place run ≡ []
-    alone first = subst (λ (n : ℕ). own_events n run ≡ []) at (elim (purge_next around run (own_events event.request run) event.part is.part_is) [ inl both ↦ both.0 | inr no ↦ absurd (subst IsBehind first no) ])
+    alone first = subst (λ (n : ℕ). own_events n run ≡ []) at (elim (purge_next around run (own_events event.request run) event.part is.part_is) [ inl both ↦ both.0 | inr later ↦ absurd (subst IsBehind first later) ])
 
     behind_is : IsBehind event.part ⊎ (event.part ≡ First)
     behind_is = elim (purge_next around run (own_events event.request run) event.part is.part_is) [ inl both ↦ inr both.1 | inr is ↦ inl is ]

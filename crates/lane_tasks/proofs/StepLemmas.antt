@@ -28,7 +28,7 @@ use Rattle.store_core.specs.MadeLogs.{without_box}
 use Rattle.store_core.specs.Running.{IsStore}
 use Rattle.store_core.specs.Value.{StoreValue}
 use Rattle.store_seen.specs.Seeing.{seen_of}
-use Rattle.task_steps.specs.Step.{DidEvent, Fell, HasComeTo, HasNotBegun, Leads, Seen, Steps, Went, ended_by}
+use Rattle.task_steps.specs.Step.{DidEvent, and_told, Fell, HasComeTo, HasNotBegun, Leads, Seen, Steps, Went, ended_by}
 use Rattle.task_claims.specs.Claims.{MovesClaims, Pinned}
 use Rattle.mail_ops.specs.Copy.{CopyValue, IsAtCopy}
 use Rattle.mail_ops.specs.Expunging.{ExpungeValue, IsAtExpunge}
