@@ -3,7 +3,7 @@ use Rattle.mdbox_base.specs.declared.progress.Did.TheVariants as did
 use Rattle.mdbox_base.specs.declared.progress.Progress.TheVariants as progress
 use Rattle.mdbox_base.specs.declared.replies.Refusal.TheVariants as refusal
 use Rattle.mdbox_base.specs.declared.replies.Reply.TheVariants as reply
-use Rattle.mail_fetch.specs.Claims.{HasFetchRoom, IsReadyToFetch, claims_of_pinned}
+use Rattle.mail_fetch.specs.Claims.{HasFetchRoom, IsReadyToFetch}
 use Rattle.mail_fetch.specs.Task.{HasPieceLeft}
 use Rattle.mail_fetch.specs.declared.task.FetchStage.{FetchStage}
 use Rattle.mail_fetch.specs.declared.task.FetchStage.TheVariants as stage
@@ -18,9 +18,9 @@ pub read_piece-requires-clause-known : goal.read_piece-requires-clause-known
 read_piece-requires-clause-known g c =
     (subst (λ (s : FetchStage). IsReadyToFetch s c.args.store.now) (stage_seen _ c.args.self.now (stage.Reading c.in-Reading.region) c.self.view_is (sym c.replace.ensures.value ∙ c.in-Reading.is)) (c.requires.ready (sym c.stopped.ensures ∙ c.if-stopped.false))).left
 
-pub give_back-requires : goal.give_back-requires
-give_back-requires g c =
-    (subst (λ (s : FetchStage). IsReadyToFetch s c.args.store.now) (stage_seen _ c.args.self.now (stage.Unpinning c.in-Unpinning.from c.in-Unpinning.reply) c.self.view_is (sym c.replace.ensures.value ∙ c.in-Unpinning.is)) (c.requires.ready (sym c.stopped.ensures ∙ c.if-stopped.false))).claimed
+pub unpin-next-requires-clause-claimed : goal.unpin-next-requires-clause-claimed
+unpin-next-requires-clause-claimed g c =
+    subst (λ (s : FetchStage). IsReadyToFetch s c.args.store.now) (stage_seen _ c.args.self.now (stage.Unpinning c.in-Unpinning.from c.in-Unpinning.reply) c.self.view_is (sym c.replace.ensures.value ∙ c.in-Unpinning.is)) (c.requires.ready (sym c.stopped.ensures ∙ c.if-stopped.false))
 
 pub returns-then-stopped-clause-does : goal.returns-then-stopped-clause-does
 returns-then-stopped-clause-does g c =
@@ -151,43 +151,48 @@ pub returns-in-Unpinning-clause-does : goal.returns-in-Unpinning-clause-does
 returns-in-Unpinning-clause-does g c =
     let runs = sym c.stopped.ensures ∙ c.if-stopped.false in
     let at = sym c.replace.ensures.value ∙ c.in-Unpinning.is in
-    let claimed = subst (λ (s : FetchStage). IsReadyToFetch s c.args.store.now) (stage_seen _ c.args.self.now (stage.Unpinning c.in-Unpinning.from c.in-Unpinning.reply) c.self.view_is at) (c.requires.ready runs) in
-    let says = says_seen g.D.Disk.history g.D.Disk.faults _ c.args.self.now (stage.Unpinning c.in-Unpinning.from c.in-Unpinning.reply) stage.First c.replace.new.dest c.args.store.now c.give_back.new.store did.Quiet (progress.Done c.in-Unpinning.reply) c.self.view_is at c.replace.ensures.after
-    (unpinning_says g.D.Disk.history g.D.Disk.faults c.self.inside.name c.self.inside.uid c.in-Unpinning.from c.in-Unpinning.reply c.args.store.now c.give_back.new.store runs claimed c.give_back.ensures.same c.give_back.ensures.claims (c.give_back.ensures.leaves (claims_of_pinned c.in-Unpinning.from))) in
+    let own = subst (λ (s : FetchStage). IsReadyToFetch s c.args.store.now) (stage_seen _ c.args.self.now (stage.Unpinning c.in-Unpinning.from c.in-Unpinning.reply) c.self.view_is at) (c.requires.ready runs) in
+    let unpinned = c.unpin-next.ensures in
+    let says = says_seen g.D.Disk.history g.D.Disk.faults _ c.args.self.now (stage.Unpinning c.in-Unpinning.from c.in-Unpinning.reply) c.unpin-next.result.0 c.unpin-next.result.0 c.args.store.now c.unpin-next.new.store did.Quiet c.unpin-next.result.1 c.self.view_is at refl
+    (unpinning_says g.D.Disk.history g.D.Disk.faults c.self.inside.name c.self.inside.uid c.in-Unpinning.from c.in-Unpinning.reply c.unpin-next.result.0 c.unpin-next.result.1 c.args.store.now c.unpin-next.new.store runs own unpinned.unpinned unpinned.same unpinned.claims unpinned.leaves unpinned.ready) in
     says.does
 
 pub returns-in-Unpinning-clause-claims : goal.returns-in-Unpinning-clause-claims
 returns-in-Unpinning-clause-claims g c =
     let runs = sym c.stopped.ensures ∙ c.if-stopped.false in
     let at = sym c.replace.ensures.value ∙ c.in-Unpinning.is in
-    let claimed = subst (λ (s : FetchStage). IsReadyToFetch s c.args.store.now) (stage_seen _ c.args.self.now (stage.Unpinning c.in-Unpinning.from c.in-Unpinning.reply) c.self.view_is at) (c.requires.ready runs) in
-    let says = says_seen g.D.Disk.history g.D.Disk.faults _ c.args.self.now (stage.Unpinning c.in-Unpinning.from c.in-Unpinning.reply) stage.First c.replace.new.dest c.args.store.now c.give_back.new.store did.Quiet (progress.Done c.in-Unpinning.reply) c.self.view_is at c.replace.ensures.after
-    (unpinning_says g.D.Disk.history g.D.Disk.faults c.self.inside.name c.self.inside.uid c.in-Unpinning.from c.in-Unpinning.reply c.args.store.now c.give_back.new.store runs claimed c.give_back.ensures.same c.give_back.ensures.claims (c.give_back.ensures.leaves (claims_of_pinned c.in-Unpinning.from))) in
+    let own = subst (λ (s : FetchStage). IsReadyToFetch s c.args.store.now) (stage_seen _ c.args.self.now (stage.Unpinning c.in-Unpinning.from c.in-Unpinning.reply) c.self.view_is at) (c.requires.ready runs) in
+    let unpinned = c.unpin-next.ensures in
+    let says = says_seen g.D.Disk.history g.D.Disk.faults _ c.args.self.now (stage.Unpinning c.in-Unpinning.from c.in-Unpinning.reply) c.unpin-next.result.0 c.unpin-next.result.0 c.args.store.now c.unpin-next.new.store did.Quiet c.unpin-next.result.1 c.self.view_is at refl
+    (unpinning_says g.D.Disk.history g.D.Disk.faults c.self.inside.name c.self.inside.uid c.in-Unpinning.from c.in-Unpinning.reply c.unpin-next.result.0 c.unpin-next.result.1 c.args.store.now c.unpin-next.new.store runs own unpinned.unpinned unpinned.same unpinned.claims unpinned.leaves unpinned.ready) in
     says.claims
 
 pub returns-in-Unpinning-clause-leaves : goal.returns-in-Unpinning-clause-leaves
 returns-in-Unpinning-clause-leaves g c =
     let runs = sym c.stopped.ensures ∙ c.if-stopped.false in
     let at = sym c.replace.ensures.value ∙ c.in-Unpinning.is in
-    let claimed = subst (λ (s : FetchStage). IsReadyToFetch s c.args.store.now) (stage_seen _ c.args.self.now (stage.Unpinning c.in-Unpinning.from c.in-Unpinning.reply) c.self.view_is at) (c.requires.ready runs) in
-    let says = says_seen g.D.Disk.history g.D.Disk.faults _ c.args.self.now (stage.Unpinning c.in-Unpinning.from c.in-Unpinning.reply) stage.First c.replace.new.dest c.args.store.now c.give_back.new.store did.Quiet (progress.Done c.in-Unpinning.reply) c.self.view_is at c.replace.ensures.after
-    (unpinning_says g.D.Disk.history g.D.Disk.faults c.self.inside.name c.self.inside.uid c.in-Unpinning.from c.in-Unpinning.reply c.args.store.now c.give_back.new.store runs claimed c.give_back.ensures.same c.give_back.ensures.claims (c.give_back.ensures.leaves (claims_of_pinned c.in-Unpinning.from))) in
+    let own = subst (λ (s : FetchStage). IsReadyToFetch s c.args.store.now) (stage_seen _ c.args.self.now (stage.Unpinning c.in-Unpinning.from c.in-Unpinning.reply) c.self.view_is at) (c.requires.ready runs) in
+    let unpinned = c.unpin-next.ensures in
+    let says = says_seen g.D.Disk.history g.D.Disk.faults _ c.args.self.now (stage.Unpinning c.in-Unpinning.from c.in-Unpinning.reply) c.unpin-next.result.0 c.unpin-next.result.0 c.args.store.now c.unpin-next.new.store did.Quiet c.unpin-next.result.1 c.self.view_is at refl
+    (unpinning_says g.D.Disk.history g.D.Disk.faults c.self.inside.name c.self.inside.uid c.in-Unpinning.from c.in-Unpinning.reply c.unpin-next.result.0 c.unpin-next.result.1 c.args.store.now c.unpin-next.new.store runs own unpinned.unpinned unpinned.same unpinned.claims unpinned.leaves unpinned.ready) in
     says.leaves
 
 pub returns-in-Unpinning-clause-ended : goal.returns-in-Unpinning-clause-ended
 returns-in-Unpinning-clause-ended g c =
     let runs = sym c.stopped.ensures ∙ c.if-stopped.false in
     let at = sym c.replace.ensures.value ∙ c.in-Unpinning.is in
-    let claimed = subst (λ (s : FetchStage). IsReadyToFetch s c.args.store.now) (stage_seen _ c.args.self.now (stage.Unpinning c.in-Unpinning.from c.in-Unpinning.reply) c.self.view_is at) (c.requires.ready runs) in
-    let says = says_seen g.D.Disk.history g.D.Disk.faults _ c.args.self.now (stage.Unpinning c.in-Unpinning.from c.in-Unpinning.reply) stage.First c.replace.new.dest c.args.store.now c.give_back.new.store did.Quiet (progress.Done c.in-Unpinning.reply) c.self.view_is at c.replace.ensures.after
-    (unpinning_says g.D.Disk.history g.D.Disk.faults c.self.inside.name c.self.inside.uid c.in-Unpinning.from c.in-Unpinning.reply c.args.store.now c.give_back.new.store runs claimed c.give_back.ensures.same c.give_back.ensures.claims (c.give_back.ensures.leaves (claims_of_pinned c.in-Unpinning.from))) in
+    let own = subst (λ (s : FetchStage). IsReadyToFetch s c.args.store.now) (stage_seen _ c.args.self.now (stage.Unpinning c.in-Unpinning.from c.in-Unpinning.reply) c.self.view_is at) (c.requires.ready runs) in
+    let unpinned = c.unpin-next.ensures in
+    let says = says_seen g.D.Disk.history g.D.Disk.faults _ c.args.self.now (stage.Unpinning c.in-Unpinning.from c.in-Unpinning.reply) c.unpin-next.result.0 c.unpin-next.result.0 c.args.store.now c.unpin-next.new.store did.Quiet c.unpin-next.result.1 c.self.view_is at refl
+    (unpinning_says g.D.Disk.history g.D.Disk.faults c.self.inside.name c.self.inside.uid c.in-Unpinning.from c.in-Unpinning.reply c.unpin-next.result.0 c.unpin-next.result.1 c.args.store.now c.unpin-next.new.store runs own unpinned.unpinned unpinned.same unpinned.claims unpinned.leaves unpinned.ready) in
     says.ended
 
 pub returns-in-Unpinning-clause-alone : goal.returns-in-Unpinning-clause-alone
 returns-in-Unpinning-clause-alone g c =
     let runs = sym c.stopped.ensures ∙ c.if-stopped.false in
     let at = sym c.replace.ensures.value ∙ c.in-Unpinning.is in
-    let claimed = subst (λ (s : FetchStage). IsReadyToFetch s c.args.store.now) (stage_seen _ c.args.self.now (stage.Unpinning c.in-Unpinning.from c.in-Unpinning.reply) c.self.view_is at) (c.requires.ready runs) in
-    let says = says_seen g.D.Disk.history g.D.Disk.faults _ c.args.self.now (stage.Unpinning c.in-Unpinning.from c.in-Unpinning.reply) stage.First c.replace.new.dest c.args.store.now c.give_back.new.store did.Quiet (progress.Done c.in-Unpinning.reply) c.self.view_is at c.replace.ensures.after
-    (unpinning_says g.D.Disk.history g.D.Disk.faults c.self.inside.name c.self.inside.uid c.in-Unpinning.from c.in-Unpinning.reply c.args.store.now c.give_back.new.store runs claimed c.give_back.ensures.same c.give_back.ensures.claims (c.give_back.ensures.leaves (claims_of_pinned c.in-Unpinning.from))) in
+    let own = subst (λ (s : FetchStage). IsReadyToFetch s c.args.store.now) (stage_seen _ c.args.self.now (stage.Unpinning c.in-Unpinning.from c.in-Unpinning.reply) c.self.view_is at) (c.requires.ready runs) in
+    let unpinned = c.unpin-next.ensures in
+    let says = says_seen g.D.Disk.history g.D.Disk.faults _ c.args.self.now (stage.Unpinning c.in-Unpinning.from c.in-Unpinning.reply) c.unpin-next.result.0 c.unpin-next.result.0 c.args.store.now c.unpin-next.new.store did.Quiet c.unpin-next.result.1 c.self.view_is at refl
+    (unpinning_says g.D.Disk.history g.D.Disk.faults c.self.inside.name c.self.inside.uid c.in-Unpinning.from c.in-Unpinning.reply c.unpin-next.result.0 c.unpin-next.result.1 c.args.store.now c.unpin-next.new.store runs own unpinned.unpinned unpinned.same unpinned.claims unpinned.leaves unpinned.ready) in
     says.alone
