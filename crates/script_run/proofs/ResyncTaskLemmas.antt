@@ -37,7 +37,7 @@ use Rattle.lane_tasks.specs.Tasks.{BeginsTask}
 use Rattle.lane_tasks.specs.declared.task.Task.{Task}
 use Rattle.lane_tasks.specs.declared.task.Task.TheVariants as task
 use Rattle.lane_tasks.proofs.StepLemmas.{ops_asked}
-use Rattle.script_run.specs.Resynced.{AreDamagedRegions, IsResyncAnswer, IsResynced, listed_in, wrong_in}
+use Rattle.script_run.specs.Resynced.{AreDamagedRegions, IsResyncAnswer, IsResynced, references_in, wrong_in}
 use Rattle.script_run.proofs.OneTaskLemmas.{KeepsAlone, one_refusal, some_reply}
 
 -- ---- lists
@@ -183,7 +183,7 @@ free_at : {D : Type 0} → (s : StoreValue D) → s.dues ≡ none_due s.map.reco
 free_at s free uid = ap (number_beside uid s.map.records) free ∙ no_due s.map.records uid
 
 wrong_alone : {D : Type 0} → (s : StoreValue D) → s.dues ≡ none_due s.map.records → wrong_of s ≡ wrong_in (indexes_of s.boxes) s.map
-wrong_alone s free = wrong_same (λ uid. listed_at uid s + due_at uid s) (listed_in (indexes_of s.boxes)) (λ uid. let none = free_at s free uid in omega (arith, none)) s.map.records
+wrong_alone s free = wrong_same (λ uid. listed_at uid s + due_at uid s) (references_in (indexes_of s.boxes)) (λ uid. let none = free_at s free uid in omega (arith, none)) s.map.records
 
 put_right : {D : Type 0} → (s old new : StoreValue D) (mid before after : Option History) (files : List ℕ) (read damaged corrected told : ℕ) (began then : Faults) → s.dues ≡ none_due s.map.records → HasReadFiles s mid files read damaged old before → read ≡ length files → told ≡ damaged → PutsRight corrected old new before after began then → AreExact new
     → IsResynced corrected told mid s.map (indexes_of s.boxes) new.map (indexes_of new.boxes)

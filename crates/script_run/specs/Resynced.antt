@@ -15,12 +15,12 @@ use Rattle.resync_task.specs.Stages.{corrected_map}
 use Rattle.resync_task.specs.WrongCounts.{wrong_beside}
 
 -- how many messages the logs of mailboxes list of the record with this map uid: its references
-abbrev pub listed_in : List BoxMeaning → ℕ → ℕ
-listed_in meanings uid = sum_by (λ m. count_by (λ row. row.map_uid == uid) m.rows) meanings
+abbrev pub references_in : List BoxMeaning → ℕ → ℕ
+references_in meanings uid = sum_by (λ m. count_by (λ row. row.map_uid == uid) m.rows) meanings
 
 -- the counts of the map that aren't so, in order of map uid, each as it is right
 abbrev pub wrong_in : List BoxMeaning → MapMeaning → List MapCount
-wrong_in meanings m = wrong_beside (listed_in meanings) m.records
+wrong_in meanings m = wrong_beside (references_in meanings) m.records
 
 -- These are the map uids of the records whose regions aren't one message of that size with the record's GUID, each once, as far as the
 -- disk tells.
@@ -35,7 +35,7 @@ pub record IsResynced (corrected damaged : ℕ) (opened : Option History) (m : M
   pub listings : later_meanings ≡ meanings
   pub corrected_are : corrected ≡ length (wrong_in meanings m)
   pub map_is : later ≡ corrected_map (wrong_in meanings m) m
-  pub exact : (row : MapRecord) → Contains later.records row → row.count ≡ listed_in later_meanings row.uid
+  pub exact : (row : MapRecord) → Contains later.records row → row.count ≡ references_in later_meanings row.uid
   pub damaged_regions : List ℕ
   pub damaged_are : damaged ≡ length damaged_regions
   pub regions : AreDamagedRegions opened m damaged_regions
