@@ -11,7 +11,7 @@ use Rattle.model_lists.specs.Lists.{Lists}
 use Rattle.model_meaning.specs.BoxMeaning.{BoxMeaning}
 use Rattle.model_meaning.specs.MapMeaning.{MapMeaning}
 use Rattle.model_store.specs.Settled.{IsSettledFor}
-use Rattle.journal.specs.Journal.{is_read_fault}
+use Rattle.journal.specs.Journal.{RoseBy, is_read_fault}
 use Rattle.request_text.specs.Outcomes.{reply_outcome, status_of}
 use Rattle.request_text.specs.declared.outcome.Outcome.{Outcome}
 use Rattle.script_run.specs.Done.{MayBeServed}
@@ -57,7 +57,9 @@ resync_faults given old new began now w =
     record {
       reads = f.counted;
       changes = f.changes;
-      read_fault = λ e. (let rose = f.reads in let once = ap (λ (r : Reply). count_by is_read_fault (Some r ∷ [])) e in omega (arith, rose, once));
+      read_fault = λ e.
+          let once : count_by is_read_fault (Some given ∷ []) ≡ 1 = ap (λ (r : Reply). count_by is_read_fault (Some r ∷ [])) e in
+          subst (λ (n : ℕ). RoseBy n began.reads now.reads) once f.reads;
       read_alone = λ e. f.unchanged (stopped_one given (λ stopped. other_refusal given stopped e));
       stopped = λ e. f.stopped (0, omega arith, e);
       change_alone = λ e. w.done.counts.calm refl (unread_one given (other_refusal given e));
