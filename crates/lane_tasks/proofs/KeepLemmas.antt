@@ -86,6 +86,7 @@ keeps_still history faults t next old new ended kind writes tells same =
       unfailed = λ runs. refl;
       fell = λ ran stops. absurd (let k : true ≡ false = sym stops ∙ (ap (λ (s : StoreValue _). s.stopped) same ∙ ran) in cc k);
       unread = λ none. refl;
+      calm = λ answers told. refl;
       tells = tells;
       idle = λ reads. (idle-begins (history old.disk), refl, ap (λ (s : StoreValue _). s.stopped) same);
       still = λ stopped. (idle-begins (history old.disk), refl);
@@ -115,6 +116,7 @@ keeps_by history faults t next old new answer kind mail halts still fault unfail
   unfailed = λ runs. ap (λ (f : Faults). f.changes) (unfailed (λ e. absurd (let k : true ≡ false = sym (halts.0 e) ∙ runs in cc k)));
   fell = λ ran stops. ((fault ran).rose (halts.1 stops), (fault ran).reads);
   unread = λ none. unread old.stopped refl;
+  calm = λ answers told. unread old.stopped refl;
   tells = tells;
   idle = λ r. (
     idle_same (reads r),
@@ -165,6 +167,7 @@ keeps_fetching t next name uid old new before after began now answer request alo
   unfailed = λ runs. alone.fault.changes;
   fell = λ ran stops. absurd (let k : true ≡ false = sym stops ∙ (same ∙ ran) in cc k);
   unread = λ none. absurd none;
+  calm = λ answers. absurd answers;
   tells = tt;
   idle = λ reads. (alone.idle, alone.fault.changes, same);
   still = λ stopped. (alone.idle, alone.fault.changes);
@@ -180,16 +183,17 @@ record RoseAs (answer : Progress) (began now : Faults) : Type 0 where
   reads : began.reads ≤ now.reads
   changes : began.changes ≤ now.changes
   unfailed : (IsStoppedReply answer → ⊥) → now.changes ≡ began.changes
+  calm : (answer ≡ progress.Done (reply.Refused refusal.ReadFault) → ⊥) → now.reads ≡ began.reads
 
 rose_none : (answer : Progress) (began now : Faults) → NoFault began now → RoseAs answer began now
 rose_none answer began now same =
     let reads = ap (λ (f : Faults). f.reads) same in
     let changes = ap (λ (f : Faults). f.changes) same in
-    record { reads = omega (arith, reads); changes = omega (arith, changes); unfailed = λ no. changes }
+    record { reads = omega (arith, reads); changes = omega (arith, changes); unfailed = λ no. changes; calm = λ no. reads }
 
 rose_as : (answer : Progress) (began now : Faults) → FaultsAt answer began now → RoseAs answer began now
-rose_as (progress.Done (reply.Refused refusal.Stopped)) began now f = let same = f.reads in record { reads = omega (arith, same); changes = f.changes; unfailed = λ no. absurd (no refl) }
-rose_as (progress.Done (reply.Refused refusal.ReadFault)) began now f = let same = f.changes in record { reads = f.reads; changes = omega (arith, same); unfailed = λ no. f.changes }
+rose_as (progress.Done (reply.Refused refusal.Stopped)) began now f = let same = f.reads in record { reads = omega (arith, same); changes = f.changes; unfailed = λ no. absurd (no refl); calm = λ no. f.reads }
+rose_as (progress.Done (reply.Refused refusal.ReadFault)) began now f = let same = f.changes in record { reads = f.reads; changes = omega (arith, same); unfailed = λ no. f.changes; calm = λ no. absurd (no refl) }
 rose_as answer began now f = rose_none answer began now f
 
 pub keeps_saving : {D : Type 0} → (history : D → Option History) (faults : D → Faults) (t next : SaveValue) (old new : StoreValue D) (answer : Progress) → (next.name ≡ t.name) × (next.time ≡ t.time) × (next.size ≡ t.size) → EndsSave next.stage answer old new
@@ -222,6 +226,7 @@ keeps_saving history faults t next old new answer request ends saves = by_run ol
           unfailed = λ runs. f.unfailed (λ e. absurd (let k : true ≡ false = sym (s.stopped.0 e) ∙ runs in cc k));
           fell = λ ran stops. let f = subst (λ (a : Progress). FaultsAt a (faults old.disk) (faults new.disk)) (s.stopped.1 stops) s.faults in (f.rose tt, f.reads);
           unread = λ none. absurd none;
+          calm = λ answers told. f.calm (λ e. told (ap ended_by e));
           tells = tt;
           idle = λ reads. absurd reads;
           still = λ was. absurd (let k : true ≡ false = sym was ∙ r in cc k);
@@ -264,7 +269,11 @@ keeps_resyncing history faults t next old new answer on exact halts still fault 
   unfailed = fault.steady;
   fell = λ ran stops. fault.change ran (halts.1 stops);
   unread = λ none. absurd none;
-  tells = λ corrected damaged e. exact corrected damaged (told_so answer (reply.Resynced corrected damaged) e);
+  calm = λ answers told. by_calm (λ e. told (ap ended_by e)) old.stopped refl;
+  tells = (
+    λ ran. (faults old.disk, faults new.disk, subst (λ (a : Progress). ResyncsOn t.stage next.stage a next.did old new (history old.disk) (history new.disk) (faults old.disk) (faults new.disk)) (sym (progress_back answer)) (on ran)),
+    λ corrected damaged e. exact corrected damaged (told_so answer (reply.Resynced corrected damaged) e),
+  );
   idle = λ reads. absurd reads;
   still = λ stopped. (idle_same (still stopped), subst (λ (d : _). (faults d).changes ≡ (faults old.disk).changes) (sym (disk_same (still stopped))) refl);
   same = idle_disk;
@@ -280,6 +289,17 @@ keeps_resyncing history faults t next old new answer on exact halts still fault 
 
     idle_same : new ≡ old → IsIdle (history old.disk) (history new.disk)
     idle_same same = idle_disk (disk_same same)
+
+    same_reads : new ≡ old → (faults new.disk).reads ≡ (faults old.disk).reads
+    same_reads same = subst (λ (d : _). (faults d).reads ≡ (faults old.disk).reads) (sym (disk_same same)) refl
+
+    by_calm : (answer ≡ progress.Done (reply.Refused refusal.ReadFault) → ⊥) → (b : Bool) → old.stopped ≡ b → (faults new.disk).reads ≡ (faults old.disk).reads
+    by_calm unread true was = same_reads (still was)
+    by_calm unread false ran = by_end new.stopped refl
+      where
+        by_end : (b : Bool) → new.stopped ≡ b → (faults new.disk).reads ≡ (faults old.disk).reads
+        by_end true stops = (fault.change ran (halts.1 stops)).1
+        by_end false runs = ap (λ (f : Faults). f.reads) (fault.unfailed unread (λ e. absurd (let k : true ≡ false = sym (halts.0 e) ∙ runs in cc k)))
 
     by_stop : (why : Refusal) → t.stage ≡ ToList → answer ≡ progress.Done (reply.Refused why) → (b : Bool) → old.stopped ≡ b → new ≡ old
     by_stop why begun e true was = still was

@@ -54,6 +54,7 @@ fn read_one(word: &str) -> Result<Command, WordsError>
 {
     match word {
         "counts" => Ok(Command::Counts),
+        "resync" => Ok(Command::Resync),
         "dump" => Ok(Command::Dump),
         "logdump" => Ok(Command::LogDump),
         "--help" => Ok(Command::Help),
