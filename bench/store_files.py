@@ -12,13 +12,13 @@ LEAST_SIZE, LARGEST_SIZE = 2_000, 12_000
 class Message:
     """A message, and where the store has it."""
 
-    def __init__(self, number, sizes):
+    def __init__(self, number, sizes, least=LEAST_SIZE, largest=LARGEST_SIZE):
         self.number = number
         self.flags = number % 32
         self.time = FIRST_TIME + number
         head = b"From: a@example.org\nTo: b@example.org\nSubject: message %d\n\n" % number
         line = b"The quick brown fox jumps over the lazy dog, again and again and again.\n"
-        size = sizes.randint(LEAST_SIZE, LARGEST_SIZE)
+        size = sizes.randint(least, largest)
         self.octets = (head + line * (size // len(line) + 1))[:size]
 
     def stored(self, file, offset):
@@ -83,15 +83,15 @@ def write_mail_files(folder, messages):
     out.close()
 
 
-def write_store(folder, count, half=False, last=None):
+def write_store(folder, count, half=False, last=None, second=False, least=LEAST_SIZE, largest=LARGEST_SIZE):
     """Writes a store of so many messages in INBOX, beside which there is an empty mailbox, EMPTY, into a folder. If only half
-    of them are to stay, the others are expunged in any order; if the last one's octets are given, it has these. Answers all
-    messages, and those that stay."""
+    of them are to stay, the others are expunged in any order; or every second one is; if the last one's octets are given, it has
+    these. Answers all messages, and those that stay."""
     sizes = random.Random(count)
-    messages = [Message(number, sizes) for number in range(1, count + 1)]
+    messages = [Message(number, sizes, least, largest) for number in range(1, count + 1)]
     if last is not None:
         messages[-1].octets = last
-    expunged = sizes.sample(messages, count // 2) if half else []
+    expunged = sizes.sample(messages, count // 2) if half else messages[1::2] if second else []
     storage, mailboxes = (os.path.join(folder, name) for name in ("storage", "mailboxes"))
     os.mkdir(storage)
     os.mkdir(mailboxes)

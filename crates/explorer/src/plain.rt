@@ -92,7 +92,15 @@ impl Followed {
                 None => Ok(None),
             },
             Request::Counts => Ok(Some(self.counts())),
-            _ => Ok(None),
+            Request::Purge => Ok(Some(Reply::Purged {
+                dropped: 0,
+                files: 0,
+                instances: 0,
+            })),
+            Request::Resync => Ok(Some(Reply::Resynced {
+                corrected: 0,
+                damaged: 0,
+            })),
         }
     }
 
@@ -214,7 +222,8 @@ impl Followed {
 const MOST_OCTETS: usize = 67_108_864;
 
 /// Whether a store's reply is the one that lists answer. Of a count they tell how many messages are listed; the counts that are kept are
-/// as many, and one more for each of so many requests that may have begun beside it.
+/// as many, and one more for each of so many requests that may have begun beside it. Of a purge and a resync they tell nothing but that
+/// the lists stay, and that no message is damaged.
 pub fn is_answer(given: &Reply, wanted: &Reply, others: u64) -> bool {
     match (given, wanted) {
         (Reply::Saved { uid: a, guid: x }, Reply::Saved { uid: b, guid: y }) => a == b && x == y,
@@ -231,6 +240,8 @@ pub fn is_answer(given: &Reply, wanted: &Reply, others: u64) -> bool {
             },
             Reply::Counted { references: b, .. },
         ) => a == b && counts >= b && *counts <= b.saturating_add(others),
+        (Reply::Purged { .. }, Reply::Purged { .. }) => true,
+        (Reply::Resynced { damaged: a, .. }, Reply::Resynced { damaged: b, .. }) => a == b,
         (Reply::Refused(a), Reply::Refused(b)) => a == b,
         _ => false,
     }

@@ -97,6 +97,7 @@ keeps_still history faults t next old new ended kind dooms writes tells same =
       unfailed = λ runs. refl;
       fell = λ ran stops. absurd (let k : true ≡ false = sym stops ∙ (ap (λ (s : StoreValue _). s.stopped) same ∙ ran) in cc k);
       unread = λ none. refl;
+      calm = λ answers told. refl;
       tells = tells;
       undoomed = undoomed_rest t next old new dooms (λ stopped. ap (λ (s : StoreValue _). s.stopped) same ∙ stopped) (ap (λ (s : StoreValue _). s.files) same);
       idle = λ reads none. (idle-begins (history old.disk), refl, ap (λ (s : StoreValue _). s.stopped) same);
@@ -127,6 +128,7 @@ keeps_by history faults t next old new answer kind dooms files mail halts still 
   unfailed = λ runs. ap (λ (f : Faults). f.changes) (unfailed (λ e. absurd (let k : true ≡ false = sym (halts.0 e) ∙ runs in cc k)));
   fell = λ ran stops. ((fault ran).rose (halts.1 stops), (fault ran).reads);
   unread = λ none. unread old.stopped refl;
+  calm = λ answers told. unread old.stopped refl;
   tells = tells;
   undoomed = undoomed_rest t next old new dooms (λ was. ap (λ (s : StoreValue _). s.stopped) (still was) ∙ was) files;
   idle = λ r none. (
@@ -263,6 +265,7 @@ keeps_fetching history faults t next name uid old new answer request alone =
       unfailed = k.unfailed;
       fell = k.fell;
       unread = λ none. absurd none;
+      calm = λ answers. absurd answers;
       tells = tt;
       undoomed = λ none nothing. (
         fetch_removes name uid t.stage next.stage answer old (history old.disk) (faults old.disk) (faults new.disk) alone.replies none nothing,
@@ -282,16 +285,17 @@ record RoseAs (answer : Progress) (began now : Faults) : Type 0 where
   reads : began.reads ≤ now.reads
   changes : began.changes ≤ now.changes
   unfailed : (IsStoppedReply answer → ⊥) → now.changes ≡ began.changes
+  calm : (answer ≡ progress.Done (reply.Refused refusal.ReadFault) → ⊥) → now.reads ≡ began.reads
 
 rose_none : (answer : Progress) (began now : Faults) → NoFault began now → RoseAs answer began now
 rose_none answer began now same =
     let reads = ap (λ (f : Faults). f.reads) same in
     let changes = ap (λ (f : Faults). f.changes) same in
-    record { reads = omega (arith, reads); changes = omega (arith, changes); unfailed = λ no. changes }
+    record { reads = omega (arith, reads); changes = omega (arith, changes); unfailed = λ no. changes; calm = λ no. reads }
 
 rose_as : (answer : Progress) (began now : Faults) → FaultsAt answer began now → RoseAs answer began now
-rose_as (progress.Done (reply.Refused refusal.Stopped)) began now f = let same = f.reads in record { reads = omega (arith, same); changes = f.changes; unfailed = λ no. absurd (no refl) }
-rose_as (progress.Done (reply.Refused refusal.ReadFault)) began now f = let same = f.changes in record { reads = f.reads; changes = omega (arith, same); unfailed = λ no. f.changes }
+rose_as (progress.Done (reply.Refused refusal.Stopped)) began now f = let same = f.reads in record { reads = omega (arith, same); changes = f.changes; unfailed = λ no. absurd (no refl); calm = λ no. f.reads }
+rose_as (progress.Done (reply.Refused refusal.ReadFault)) began now f = let same = f.changes in record { reads = f.reads; changes = omega (arith, same); unfailed = λ no. f.changes; calm = λ no. absurd (no refl) }
 rose_as answer began now f = rose_none answer began now f
 
 pub keeps_saving : {D : Type 0} → (history : D → Option History) (faults : D → Faults) (t next : SaveValue) (old new : StoreValue D) (answer : Progress) → (next.name ≡ t.name) × (next.time ≡ t.time) × (next.size ≡ t.size) → EndsSave next.stage answer old new
@@ -324,6 +328,7 @@ keeps_saving history faults t next old new answer request ends saves = by_run ol
           unfailed = λ runs. f.unfailed (λ e. absurd (let k : true ≡ false = sym (s.stopped.0 e) ∙ runs in cc k));
           fell = λ ran stops. let f = subst (λ (a : Progress). FaultsAt a (faults old.disk) (faults new.disk)) (s.stopped.1 stops) s.faults in (f.rose tt, f.reads);
           unread = λ none. absurd none;
+          calm = λ answers told. f.calm (λ e. told (ap ended_by e));
           tells = tt;
           undoomed = undoomed_by (task.Deliver t) (task.Deliver next) old new (λ none. none) (λ runs. r) ends.doomed;
           idle = λ reads none. absurd reads;
@@ -367,7 +372,11 @@ keeps_resyncing history faults t next old new answer on exact halts still fault 
   unfailed = fault.steady;
   fell = λ ran stops. fault.change ran (halts.1 stops);
   unread = λ none. absurd none;
-  tells = λ corrected damaged e. exact corrected damaged (told_so answer (reply.Resynced corrected damaged) e);
+  calm = λ answers told. by_calm (λ e. told (ap ended_by e)) old.stopped refl;
+  tells = (
+    λ ran. (faults old.disk, faults new.disk, subst (λ (a : Progress). ResyncsOn t.stage next.stage a next.did old new (history old.disk) (history new.disk) (faults old.disk) (faults new.disk)) (sym (progress_back answer)) (on ran)),
+    λ corrected damaged e. exact corrected damaged (told_so answer (reply.Resynced corrected damaged) e),
+  );
   undoomed = undoomed_rest (task.Resync t) (task.Resync next) old new (λ none. none) (λ was. ap (λ (s : StoreValue _). s.stopped) (still was) ∙ was) files;
   idle = λ reads none. absurd reads;
   still = λ stopped. (idle_same (still stopped), subst (λ (d : _). (faults d).changes ≡ (faults old.disk).changes) (sym (disk_same (still stopped))) refl);
@@ -385,16 +394,27 @@ keeps_resyncing history faults t next old new answer on exact halts still fault 
     idle_same : new ≡ old → IsIdle (history old.disk) (history new.disk)
     idle_same same = idle_disk (disk_same same)
 
+    same_reads : new ≡ old → (faults new.disk).reads ≡ (faults old.disk).reads
+    same_reads same = subst (λ (d : _). (faults d).reads ≡ (faults old.disk).reads) (sym (disk_same same)) refl
+
+    by_calm : (answer ≡ progress.Done (reply.Refused refusal.ReadFault) → ⊥) → (b : Bool) → old.stopped ≡ b → (faults new.disk).reads ≡ (faults old.disk).reads
+    by_calm unread true was = same_reads (still was)
+    by_calm unread false ran = by_end new.stopped refl
+      where
+        by_end : (b : Bool) → new.stopped ≡ b → (faults new.disk).reads ≡ (faults old.disk).reads
+        by_end true stops = (fault.change ran (halts.1 stops)).1
+        by_end false runs = ap (λ (f : Faults). f.reads) (fault.unfailed unread (λ e. absurd (let k : true ≡ false = sym (halts.0 e) ∙ runs in cc k)))
+
     by_stop : (why : Refusal) → t.stage ≡ ToList → answer ≡ progress.Done (reply.Refused why) → (b : Bool) → old.stopped ≡ b → new ≡ old
     by_stop why begun e true was = still was
     by_stop why begun e false ran = resync_refused t.stage next.stage next.did old new (history old.disk) (history new.disk) (faults old.disk) (faults new.disk) answer why begun e (on ran)
 
 -- ---- of a purge
 
-pub keeps_purging : {D : Type 0} → (history : D → Option History) (faults : D → Faults) (t next : PurgeValue) (old new : StoreValue D) (ended : Option Reply) → Grows (history old.disk) (history new.disk) → MailIsKept old.map (history old.disk) (history new.disk) → (faults old.disk).reads ≤ (faults new.disk).reads → (faults old.disk).changes ≤ (faults new.disk).changes
+pub keeps_purging : {D : Type 0} → (history : D → Option History) (faults : D → Faults) (t next : PurgeValue) (old new : StoreValue D) (ended : Option Reply) → Grows (history old.disk) (history new.disk) → MailIsKept old.map (history old.disk) (history new.disk) → (faults old.disk).reads ≤ (faults new.disk).reads → ((ended ≡ Some (reply.Refused refusal.ReadFault) → ⊥) → (faults new.disk).reads ≡ (faults old.disk).reads) → (faults old.disk).changes ≤ (faults new.disk).changes
     → (new.stopped ≡ false → (faults new.disk).changes ≡ (faults old.disk).changes) → (old.stopped ≡ false → new.stopped ≡ true → Rose (faults old.disk).changes (faults new.disk).changes × ((faults new.disk).reads ≡ (faults old.disk).reads)) → (old.stopped ≡ true → new ≡ old)
     → Same history faults (task.Purge t) (task.Purge next) old new ended
-keeps_purging history faults t next old new ended grows mail reads changes unfailed fell still = record {
+keeps_purging history faults t next old new ended grows mail reads calm changes unfailed fell still = record {
   request = tt;
   grows = grows;
   mail = λ m is. subst (λ (n : MapMeaning). MailIsKept n (history old.disk) (history new.disk)) (sym is) mail;
@@ -403,6 +423,7 @@ keeps_purging history faults t next old new ended grows mail reads changes unfai
   unfailed = unfailed;
   fell = fell;
   unread = λ none. absurd none;
+  calm = λ answers told. calm told;
   tells = tt;
   undoomed = λ none. absurd none;
   idle = λ reads. absurd reads;

@@ -5,6 +5,7 @@ use Rattle.attach_detach.specs.declared.message.Prepared.{Prepared}
 use Rattle.mdbox_base.specs.declared.progress.Progress.{Progress}
 use Rattle.mdbox_base.specs.declared.progress.Progress.TheVariants as progress
 use Rattle.mdbox_base.specs.declared.replies.Refusal.{Refusal}
+use Rattle.mdbox_base.specs.declared.replies.Refusal.TheVariants as refusal
 use Rattle.mdbox_base.specs.declared.replies.Reply.{Reply}
 use Rattle.mdbox_base.specs.declared.replies.Reply.TheVariants as reply
 use Rattle.mdbox_base.specs.declared.ids.InstId.{InstId}
@@ -45,6 +46,7 @@ use Rattle.purge_task.specs.Clause.{TellsUses, around_purging}
 use Rattle.resync_task.specs.Clause.{FindsResync}
 use Rattle.resync_task.specs.Correcting.{AreExact}
 use Rattle.resync_task.specs.Stages.{ToList}
+use Rattle.resync_task.specs.Task.{ResyncValue, ResyncsOn}
 use Rattle.lane_tasks.specs.Tasks.{IsReadyTask, StandsTask, claims_at, did_of}
 use Rattle.lane_tasks.specs.declared.task.Task.{Task}
 use Rattle.lane_tasks.specs.declared.task.Task.TheVariants as task
@@ -159,21 +161,30 @@ ReadsNoOctets (task.Resync t) = ⊥
 ReadsNoOctets (task.Purge t) = ⊥
 ReadsNoOctets other = Unit {0}
 
+-- A task that answers its request at the event in which a read failed. A fetch unpins first.
+abbrev pub AnswersReads : Task → Type 0
+AnswersReads (task.Fetch t) = ⊥
+AnswersReads other = Unit {0}
+
 -- how an event ended: with a reply, or its request goes on
 abbrev pub progress_by : Option Reply → Progress
 progress_by None = progress.More
 progress_by (Some given) = progress.Done given
 
+-- What an event of a resync did to the store and answers, whatever calls failed before.
+abbrev pub ResyncsSo : {D : Type 0} → ResyncValue → ResyncValue → StoreValue D → StoreValue D → Option History → Option History → Option Reply → Type 0
+ResyncsSo t next old new before after ended = (began : Faults) × (now : Faults) × ResyncsOn t.stage next.stage (progress_by ended) next.did old new before after began now
+
 -- What a task answers, by what its event found in the store and left of it: of a listing or a setting of flags, and, unless the store
--- was stopped, of a make, a copy, a move or an expunge, with the stages before and after. A resync that puts counts right leaves each
--- exact.
+-- was stopped, of a make, a copy, a move, an expunge or a resync, with the stages before and after. A resync that puts counts right
+-- leaves each exact.
 abbrev pub TellsStore : {D : Type 0} → Task → Task → StoreValue D → StoreValue D → Option History → Option History → Option Reply → Type 0
 TellsStore (task.Ops t) next old new before after ended = (given : Reply) × (ended ≡ Some given) × Replies t.request old new given
 TellsStore (task.Make t) (task.Make next) old new before after ended = old.stopped ≡ false → MakeAnswers t.name t.stage old new before after next.stage (progress_by ended)
 TellsStore (task.Copy t) (task.Copy next) old new before after ended = old.stopped ≡ false → CopyAnswers t.name t.uid t.target t.stage old new next.stage (progress_by ended)
 TellsStore (task.Move t) (task.Move next) old new before after ended = old.stopped ≡ false → MoveAnswers t.name t.uid t.target t.stage old new next.stage (progress_by ended)
 TellsStore (task.Expunge t) (task.Expunge next) old new before after ended = old.stopped ≡ false → ExpungeAnswers t.name t.uid t.stage old new next.stage (progress_by ended)
-TellsStore (task.Resync t) next old new before after ended = (corrected damaged : ℕ) → ended ≡ Some (reply.Resynced corrected damaged) → AreExact new
+TellsStore (task.Resync t) (task.Resync next) old new before after ended = (old.stopped ≡ false → ResyncsSo t next old new before after ended) × ((corrected damaged : ℕ) → ended ≡ Some (reply.Resynced corrected damaged) → AreExact new)
 TellsStore t next old new before after ended = Unit {0}
 
 -- For which maps storage files and instances stay: of a delivery, a purge and a removal for that of its store, of every other event for each.
@@ -219,10 +230,10 @@ StaysOfRequest t next = ⊥
 
 -- Whatever the disk is and fails: time goes on, and at each moment storage files and instances have what the map needs. No count of
 -- faults falls; unless the store is stopped then no change failed, and an event that stops it is one in which a change failed and no
--- read. A task that reads no octets counts no failed read. One that reads at the most changes nothing, unless it is a fetch that removes a
--- file which a purge has doomed. A first event changes nothing that is refused, but for want of memory or by a failed call, nor does any event
--- of a store that was stopped, nor one that leaves the store's disk as it was. It is answered by what the store has (`TellsStore`). It stays the
--- task of its request.
+-- read. A task that reads no octets counts no failed read, and any but a fetch one only if it replies so. One that reads at the
+-- most changes nothing, unless it is a fetch that removes a file which a purge has doomed. A first event changes nothing that is refused,
+-- but for want of memory or by a failed call, nor does any event of a store that was stopped, nor one that leaves the store's disk as it
+-- was. It is answered by what the store has (`TellsStore`). It stays the task of its request.
 pub record TaskKeeps {D : Type 0} (t next : Task) (old new : StoreValue D) (before after : Option History) (began now : Faults) (ended : Option Reply) : Type 0 where
   pub request : StaysOfRequest t next
   pub grows : Grows before after
@@ -232,6 +243,7 @@ pub record TaskKeeps {D : Type 0} (t next : Task) (old new : StoreValue D) (befo
   pub unfailed : new.stopped ≡ false → now.changes ≡ began.changes
   pub fell : old.stopped ≡ false → new.stopped ≡ true → Rose began.changes now.changes × (now.reads ≡ began.reads)
   pub unread : ReadsNoOctets t → now.reads ≡ began.reads
+  pub calm : AnswersReads t → (ended ≡ Some (reply.Refused refusal.ReadFault) → ⊥) → now.reads ≡ began.reads
   pub tells : TellsStore t next old new before after ended
   pub undoomed : LeavesUndoomed t next old new
   pub idle : OnlyReads t → DoomsNone t → IsIdle before after × (now.changes ≡ began.changes) × (new.stopped ≡ old.stopped)

@@ -123,7 +123,7 @@ nothing_given (request.Expunge name uid) f unlike = (tt, refl)
 nothing_given (request.Make name) f unlike = (tt, refl)
 nothing_given request.Counts f unlike = (tt, refl)
 nothing_given request.Purge f unlike = absurd f
-nothing_given request.Resync f unlike = absurd f
+nothing_given request.Resync f unlike = (tt, refl)
 
 -- ---- how replies are printed
 

@@ -56,7 +56,7 @@ count_number : (m : MapMeaning) (meanings : List BoxMeaning) (given : Reply) →
 count_number m meanings given (inl e) one = let k : 0 ≡ 1 = sym (ap (λ (r : Reply). status_of (reply_outcome r)) e) ∙ one in omega (arith, k)
 count_number m meanings given (inr e) one = let k : 5 ≡ 1 = sym (ap (λ (r : Reply). status_of (reply_outcome r)) e) ∙ one in omega (arith, k)
 
-shown_one : (text : List ℕ) (given : Reply) (h k : Option (List ℕ)) (o : Outcome) → ShowsReply text given h k o → status_of o ≡ 1 → status_of (reply_outcome given) ≡ 1
+pub shown_one : (text : List ℕ) (given : Reply) (h k : Option (List ℕ)) (o : Outcome) → ShowsReply text given h k o → status_of o ≡ 1 → status_of (reply_outcome given) ≡ 1
 shown_one text given h k outcome.No s one = sym (ap status_of s.0)
 shown_one text given h k outcome.Done s one = absurd (omega (arith, one))
 shown_one text given h k outcome.Usage s one = absurd (omega (arith, one))
@@ -67,7 +67,7 @@ shown_one text given h k outcome.WriteFault s one = absurd (omega (arith, one))
 shown_one text given h k (outcome.StoreRefused why) s one = absurd (omega (arith, one))
 shown_one text given h k (outcome.InputRefused why) s one = absurd (omega (arith, one))
 
-opening_one : (n : ℕ) → IsOneOf (3 ∷ 5 ∷ 6 ∷ []) n → n ≡ 1 → ⊥
+pub opening_one : (n : ℕ) → IsOneOf (3 ∷ 5 ∷ 6 ∷ []) n → n ≡ 1 → ⊥
 opening_one n (inl a) e = omega (arith, a, e)
 opening_one n (inr (inl a)) e = omega (arith, a, e)
 opening_one n (inr (inr (inl a))) e = omega (arith, a, e)
@@ -77,7 +77,7 @@ never_one : (h k : Option (List ℕ)) (old new : Option History) (f g : Faults) 
 never_one h k old new f g o (inl n) one = opening_one (status_of (opening_outcome n.why)) (opening_number n.why) (sym (ap status_of n.ended_is) ∙ one)
 never_one h k old new f g o (inr l) one = count_number l.tells.m l.tells.meanings l.given l.tells.given_is (shown_one _ l.given h k o l.printed one)
 
-others_of : (n : ℕ) → IsOneOf (0 ∷ 1 ∷ 5 ∷ 6 ∷ 8 ∷ []) n → (n ≡ 1 → ⊥) → IsOneOf (0 ∷ 5 ∷ 6 ∷ 8 ∷ []) n
+pub others_of : (n : ℕ) → IsOneOf (0 ∷ 1 ∷ 5 ∷ 6 ∷ 8 ∷ []) n → (n ≡ 1 → ⊥) → IsOneOf (0 ∷ 5 ∷ 6 ∷ 8 ∷ []) n
 others_of n (inl a) never = inl a
 others_of n (inr (inl a)) never = absurd (never a)
 others_of n (inr (inr a)) never = inr a

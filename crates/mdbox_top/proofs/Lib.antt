@@ -22,6 +22,7 @@ pub mod ReplyFaultLemmas
 pub mod ReplyKindLemmas
 pub mod ReplyReadLemmas
 pub mod RequestLemmas
+pub mod ResyncLemmas
 pub mod RoomLemmas
 pub mod RunLemmas
 pub mod SaveLemmas

@@ -18,7 +18,7 @@ use Rattle.script_run.specs.Done.{IsScriptDone, MayBeServed}
 use Rattle.script_run.specs.LeftOpen.{IsRequestDone}
 use Rattle.script_run.specs.One.{AreAlongMove, AreListsTold, IsAnsweredFirst, IsGivenBackAlone, IsUnanswered, IsUndoneAlone, MakesOneStep, MakesSteps, alone, IsFlagAnswer, IsUnfailed, lists_behind, lists_told, missing_cause, moved_lists}
 use Rattle.script_run.specs.Script.{HasStopped, only_reads, has_delivery, has_mail_read}
-use Rattle.script_run.proofs.AloneLemmas.{answered_first, may_read, unread, refused_idle}
+use Rattle.script_run.proofs.AloneLemmas.{answered_first, makes_alone, may_read, unread, refused_idle}
 use Rattle.script_run.proofs.CopyTaskLemmas.{memory_runs}
 use Rattle.script_run.proofs.OneTaskLemmas.{one_refusal}
 use Rattle.script_run.proofs.ReachedLemmas.{reached_once}
@@ -62,7 +62,7 @@ one_of given one (zero, l, is) = is
 one_of given one (suc n, l, is) = absurd (omega (arith, l))
 
 pub served_from : (asked : Request) (given : Reply) (entries : List JournalEntry) (old new : Option History) (began now : Faults) → IsDone asked given entries old new began now → MakesSteps asked → MayBeServed (alone asked) old
-served_from asked given entries old new began now done one = let some = some_lists old done.m done.meanings done.opened in (some.0, may_read asked one some.0 old)
+served_from asked given entries old new began now done one = let some = some_lists old done.m done.meanings done.opened in (some.0, may_read asked (makes_alone asked one) some.0 old)
 
 never_stopped : (asked : Request) (given : Reply) (entries : List JournalEntry) (old new : Option History) (began now : Faults) → IsDone asked given entries old new began now → MakesSteps asked → only_reads asked ≡ true → given ≡ reply.Refused refusal.Stopped → ⊥
 never_stopped asked given entries old new began now done one reads e = done.running (served_from asked given entries old new began now done one) (changes_none asked reads) (0, omega arith, e)
@@ -175,9 +175,9 @@ stopped_one given running c = running (one_of given (reply.Refused refusal.Stopp
 
 -- the lists that it leaves, unless the store is stopped
 change_left : (asked : Request) (given : Reply) (entries : List JournalEntry) (old new : Option History) (began now : Faults) → (k : IsOneChange asked given entries old new began now) → (given ≡ reply.Refused refusal.Stopped → ⊥) → (lists : Lists) → (shows : LogsShowLists k.done.m k.done.meanings lists)
-    → left_by lists (k.done.serves lists shows (may_read asked k.one lists old)).journal ≡ lists_told asked given lists
+    → left_by lists (k.done.serves lists shows (may_read asked (makes_alone asked k.one) lists old)).journal ≡ lists_told asked given lists
 change_left asked given entries old new began now k running lists shows =
-    let s = k.done.serves lists shows (may_read asked k.one lists old) in
+    let s = k.done.serves lists shows (may_read asked (makes_alone asked k.one) lists old) in
     k.told given lists (left_by lists s.journal) (told_left lists asked s.run s.journal given began now s.served.legal (unfailed_by given k.calm running))
 
 change_settles : (asked : Request) (given : Reply) (entries : List JournalEntry) (old new : Option History) (began now : Faults) → IsOneChange asked given entries old new began now → (given ≡ reply.Refused refusal.Stopped → ⊥) → (lists : Lists) → IsSettledFor lists old
@@ -185,7 +185,7 @@ change_settles : (asked : Request) (given : Reply) (entries : List JournalEntry)
 change_settles asked given entries old new began now k running lists at =
     let shows = k.done.shown lists (settled_safe lists old at) in
     subst (λ (ls : Lists). IsSettledFor ls new) (change_left asked given entries old new began now k running lists shows)
-    ((k.done.serves lists shows (may_read asked k.one lists old)).settled (stopped_one given running) at)
+    ((k.done.serves lists shows (may_read asked (makes_alone asked k.one) lists old)).settled (stopped_one given running) at)
 
 -- the logs behind it show the lists with the change, where the reply tells it
 change_opens : (asked : Request) (change : Lists → Lists) (given : Reply) (old new : Option History) (began now : Faults) → (w : IsRequestDone asked given old new began now) → IsOneChange asked given w.entries old new began now → (given ≡ reply.Refused refusal.Stopped → ⊥) → ((lists : Lists) → lists_told asked given lists ≡ change lists)
@@ -196,7 +196,7 @@ change_opens asked change given old new began now w k running tells = record {
   opened = w.comes.again (stopped_one given running);
   shows = λ lists formed shows.
       let c : IsOneChange asked given w.entries old new began now = record { done = w.done; one = k.one; calm = k.calm; told = k.told; delivers = k.delivers } in
-      subst (λ (ls : Lists). ShowLists w.later.boxes w.later_meanings ls) (change_left asked given w.entries old new began now c running lists (formed, shows) ∙ tells lists) (w.comes.shows lists (formed, shows) (may_read asked k.one lists old)).1;
+      subst (λ (ls : Lists). ShowLists w.later.boxes w.later_meanings ls) (change_left asked given w.entries old new began now c running lists (formed, shows) ∙ tells lists) (w.comes.shows lists (formed, shows) (may_read asked (makes_alone asked k.one) lists old)).1;
 }
 
 change_mail : (asked : Request) (given : Reply) (entries : List JournalEntry) (old new : Option History) (began now : Faults) → (k : IsOneChange asked given entries old new began now) → LeavesMail k.done.m given old new
@@ -210,7 +210,7 @@ change_mail asked given entries old new began now k = record {
 
 change_leaves : (asked : Request) (change : Lists → Lists) (given : Reply) (entries : List JournalEntry) (old new : Option History) (began now : Faults) → IsOneChange asked given entries old new began now → MakesOneStep asked → ((answer : Reply) (lists : Lists) → (lists_told asked answer lists ≡ lists) ⊎ (lists_told asked answer lists ≡ change lists)) → ChangeMoments change old new
 change_leaves asked change given entries old new began now k one along = λ lists at.
-    let s = k.done.serves lists (k.done.shown lists (settled_safe lists old at)) (may_read asked k.one lists old) in
+    let s = k.done.serves lists (k.done.shown lists (settled_safe lists old at)) (may_read asked (makes_alone asked k.one) lists old) in
     each_image-map (IsReached lists s.run s.journal s.broken) (λ _ image. Safe image lists ⊎ Safe image (change lists)) old new
     (λ m image is.
     let reached = reached_once asked lists s.run s.journal s.broken (Some given ∷ []) began now _ s.m s.drawn _ one s.served m is.0 is.1 in

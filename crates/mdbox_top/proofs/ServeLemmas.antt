@@ -22,7 +22,7 @@ use Rattle.request_text.specs.ReplyText.{reply_text, single_text}
 use Rattle.request_text.specs.declared.outcome.Outcome.{Outcome}
 use Rattle.request_text.specs.declared.outcome.Outcome.TheVariants as outcome
 use Rattle.script_run.specs.Opening.{IsUnopened}
-use Rattle.script_run.specs.One.{MakesSteps, moved_lists}
+use Rattle.script_run.specs.One.{RunsAlone, moved_lists}
 use Rattle.mdbox_top.specs.FetchRun.{FetchRests}
 use Rattle.mdbox_top.specs.Changed.{ChangeMoments}
 use Rattle.mdbox_top.specs.OpeningOutcome.{opening_outcome}
@@ -36,7 +36,7 @@ use Rattle.mdbox_top.proofs.MakeLemmas.{SafeForMade}
 
 -- ---- how it is printed
 
-plain_text : (request : Request) (given : Reply) → MakesSteps request → single_text request given ≡ reply_text given
+plain_text : (request : Request) (given : Reply) → RunsAlone request → single_text request given ≡ reply_text given
 plain_text (request.List name) given one = refl
 plain_text (request.Flag name uid flags) given one = refl
 plain_text (request.Expunge name uid) given one = refl
@@ -44,9 +44,10 @@ plain_text (request.Copy name uid target) given one = refl
 plain_text (request.Move name uid target) given one = refl
 plain_text (request.Make name) given one = refl
 plain_text request.Counts given one = refl
+plain_text request.Resync given one = refl
 plain_text other given one = absurd one
 
-pub shows_text : (request : Request) (given : Reply) (h k : Option (List ℕ)) (o : Outcome) → MakesSteps request → ShowsReply (reply_text given) given h k o → ShowsReply (single_text request given) given h k o
+pub shows_text : (request : Request) (given : Reply) (h k : Option (List ℕ)) (o : Outcome) → RunsAlone request → ShowsReply (reply_text given) given h k o → ShowsReply (single_text request given) given h k o
 shows_text request given h k o one s = subst (λ (text : List ℕ). ShowsReply text given h k o) (sym (plain_text request given one)) s
 
 -- a fault of the disk ends with a status that says so, or may hide it
@@ -68,6 +69,7 @@ rests_as (request.Copy name uid target) F G began now old new h r = λ none. r (
 rests_as (request.Move name uid target) F G began now old new h r = λ none. r (λ failed. none (h failed))
 rests_as (request.Make name) F G began now old new h r = λ none. r (λ failed. none (h failed))
 rests_as request.Counts F G began now old new h r = λ none. r (λ failed. none (h failed))
+rests_as request.Resync F G began now old new h r = λ none. r (λ failed. none (h failed))
 rests_as other F G began now old new h r = r
 
 pub served_rests : (request : Request) (text : List ℕ) (given : Reply) (h k : Option (List ℕ)) (old new : Option History) (began now : Faults) (o : Outcome) → IsDoneAlone request given old new began now → ShowsReply text given h k o → RequestRests request (MayFail request (status_of o)) began now old new
@@ -97,9 +99,10 @@ unopened_ends request h old new began now why u = unopened (ReplyTells request) 
 change_unopened_leaves : (change : Lists → Lists) (old new : Option History) (began now : Faults) (why : OpenError) → IsUnopened why old new began now → ChangeMoments change old new
 change_unopened_leaves change old new began now why u = λ lists at. each_image-map (λ _ image. Safe image lists) (λ _ image. Safe image lists ⊎ Safe image (change lists)) old new (λ m image h. inl h) (u.moments lists at)
 
-pub unopened_leaves : (request : Request) (old new : Option History) (began now : Faults) (why : OpenError) → MakesSteps request → IsUnopened why old new began now → RequestMoments request old new
+pub unopened_leaves : (request : Request) (old new : Option History) (began now : Faults) (why : OpenError) → RunsAlone request → IsUnopened why old new began now → RequestMoments request old new
 unopened_leaves (request.List name) old new began now why one u = record { safe = u.moments; stays = u.stays; closed_well = u.closed_well }
 unopened_leaves request.Counts old new began now why one u = record { safe = u.moments; stays = u.stays; closed_well = u.closed_well }
+unopened_leaves request.Resync old new began now why one u = u.moments
 unopened_leaves (request.Flag name uid flags) old new began now why one u = change_unopened_leaves (set_flags name uid.0 flags) old new began now why u
 unopened_leaves (request.Expunge name uid) old new began now why one u = change_unopened_leaves (lists_without name uid) old new began now why u
 unopened_leaves (request.Copy name uid target) old new began now why one u = change_unopened_leaves (copied_lists name uid target) old new began now why u
@@ -108,9 +111,10 @@ unopened_leaves (request.Move name uid target) old new began now why one u = λ 
 unopened_leaves (request.Make name) old new began now why one u = λ lists at. each_image-map (λ _ image. Safe image lists) (SafeForMade name old lists) old new (λ m image h. inl h) (u.moments lists at)
 unopened_leaves other old new began now why one u = absurd one
 
-pub unopened_rests : (request : Request) (old new : Option History) (began now : Faults) (why : OpenError) → MakesSteps request → IsUnopened why old new began now → RequestRests request (MayFail request (status_of (opening_outcome why))) began now old new
+pub unopened_rests : (request : Request) (old new : Option History) (began now : Faults) (why : OpenError) → RunsAlone request → IsUnopened why old new began now → RequestRests request (MayFail request (status_of (opening_outcome why))) began now old new
 unopened_rests (request.List name) old new began now why one u = λ none. (u.settled_again (λ f. none (unopened_may (request.List name) why f)), u.carried (λ f. none (unopened_may (request.List name) why f)))
 unopened_rests request.Counts old new began now why one u = λ none. (u.settled_again (λ f. none (unopened_may request.Counts why f)), u.carried (λ f. none (unopened_may request.Counts why f)))
+unopened_rests request.Resync old new began now why one u = λ none. u.settled_again (λ f. none (unopened_may request.Resync why f))
 unopened_rests (request.Flag name uid flags) old new began now why one u = λ none lists at. inl (u.settled_again (λ f. none (unopened_may (request.Flag name uid flags) why f)) lists at)
 unopened_rests (request.Expunge name uid) old new began now why one u = λ none lists at. inl (u.settled_again (λ f. none (unopened_may (request.Expunge name uid) why f)) lists at)
 unopened_rests (request.Copy name uid target) old new began now why one u = λ none lists at. inl (u.settled_again (λ f. none (unopened_may (request.Copy name uid target) why f)) lists at)

@@ -21,6 +21,7 @@ pub mod OpeningOutcome
 pub mod PrintedPlaces
 pub mod PrintedReplies
 pub mod RebuildRun
+pub mod ResyncRun
 pub mod Run
 pub mod SavedMail
 pub mod Served

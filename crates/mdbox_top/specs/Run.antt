@@ -25,6 +25,7 @@ use Rattle.mdbox_top.specs.MakeRun.{MakeOutcome, MakeMoments, MakeRests}
 use Rattle.mdbox_top.specs.MoveRun.{MoveOutcome, MoveMoments, MoveRests}
 use Rattle.mdbox_top.specs.ExpungeRun.{ExpungeOutcome, ExpungeMoments, ExpungeRests}
 use Rattle.mdbox_top.specs.CountsRun.{CountsOutcome, CountsMoments, CountsRests}
+use Rattle.mdbox_top.specs.ResyncRun.{ResyncOutcome, ResyncMoments, ResyncRests}
 
 -- How a command ends: this was left of the input, this is the time that the clock would tell, the output held this before and
 -- holds that later, the disk was this and is that now, and so were its counts of faults.
@@ -39,6 +40,7 @@ Ends (command.Copy name uid target) left told held later old new began now outco
 Ends (command.Move name uid target) left told held later old new began now outcome = MoveOutcome name uid target held later old new began now outcome
 Ends (command.Make name) left told held later old new began now outcome = MakeOutcome name held later old new began now outcome
 Ends command.Counts left told held later old new began now outcome = CountsOutcome held later old new began now outcome
+Ends command.Resync left told held later old new began now outcome = ResyncOutcome held later old new began now outcome
 Ends (command.Batch lanes) left told held later old new began now outcome = BatchOutcome lanes left held later old new began now outcome
 Ends (command.Exercise lanes count number) left told held later old new began now outcome = ExerciseOutcome lanes count number held later old new began now outcome
 Ends (command.Rebuild id) left told held later old new began now outcome = RebuildOutcome id.0 held later old new outcome
@@ -66,6 +68,7 @@ Moments (command.Copy name uid target) left told old new = CopyMoments name uid 
 Moments (command.Move name uid target) left told old new = MoveMoments name uid target old new
 Moments (command.Make name) left told old new = MakeMoments name old new
 Moments command.Counts left told old new = CountsMoments old new
+Moments command.Resync left told old new = ResyncMoments old new
 Moments (command.Batch lanes) left told old new = BatchMoments lanes left old new
 Moments (command.Exercise lanes count number) left told old new = ExerciseMoments lanes count number old new
 Moments (command.Rebuild id) left told old new = RebuildMoments old new
@@ -82,12 +85,13 @@ Rests (command.Copy name uid target) left told failed began now old new = CopyRe
 Rests (command.Move name uid target) left told failed began now old new = MoveRests name uid target failed began now old new
 Rests (command.Make name) left told failed began now old new = MakeRests name failed began now old new
 Rests command.Counts left told failed began now old new = CountsRests failed began now old new
+Rests command.Resync left told failed began now old new = ResyncRests failed began now old new
 Rests (command.Batch lanes) left told failed began now old new = BatchRests lanes left failed began now old new
 Rests (command.Exercise lanes count number) left told failed began now old new = ExerciseRests lanes count number failed began now old new
 Rests other left told failed began now old new = Unit {0}
 
 -- The statuses that may come, by what was left of the input and what the disk was: no file refuses a store that can be made,
--- or rebuilt, or a request on a settled disk, `counts` has no reply that refuses it, and `--help` and `--version` fail with the output alone.
+-- or rebuilt, or a request on a settled disk, `counts` and `resync` have no reply that refuses them, and `--help` and `--version` fail with the output alone.
 abbrev pub HasStatus : Command → Option (List ℕ) → Option History → ℕ → Type 0
 HasStatus (command.Init id) left old status = MayMakeStore old → IsOneOf (0 ∷ 5 ∷ 6 ∷ 8 ∷ []) status
 HasStatus (command.Deliver name) left old status = DeliverStatus left old status
@@ -99,6 +103,7 @@ HasStatus (command.Copy name uid target) left old status = (lists : Lists) → I
 HasStatus (command.Move name uid target) left old status = (lists : Lists) → IsSettledFor lists old → IsOneOf (0 ∷ 1 ∷ 5 ∷ 6 ∷ 8 ∷ []) status
 HasStatus (command.Make name) left old status = (lists : Lists) → IsSettledFor lists old → IsOneOf (0 ∷ 1 ∷ 5 ∷ 6 ∷ 8 ∷ []) status
 HasStatus command.Counts left old status = (lists : Lists) → IsSettledFor lists old → IsOneOf (0 ∷ 5 ∷ 6 ∷ 8 ∷ []) status
+HasStatus command.Resync left old status = (lists : Lists) → IsSettledFor lists old → IsOneOf (0 ∷ 5 ∷ 6 ∷ 8 ∷ []) status
 HasStatus (command.Batch lanes) left old status = BatchStatus lanes left old status
 HasStatus (command.Exercise lanes count number) left old status = (lists : Lists) → IsSettledFor lists old → IsOneOf (0 ∷ 1 ∷ 5 ∷ 6 ∷ 8 ∷ []) status
 HasStatus (command.Rebuild id) left old status = (IsLostNow old → IsOneOf (0 ∷ 5 ∷ 6 ∷ 8 ∷ []) status) × (IsWholeNow old → IsOneOf (3 ∷ 5 ∷ 6 ∷ []) status)
@@ -117,6 +122,7 @@ MayHaveFailed (command.Expunge name uid) status = MayFail (request.Expunge name 
 MayHaveFailed (command.Copy name uid target) status = MayFail (request.Copy name uid target) status
 MayHaveFailed (command.Move name uid target) status = MayFail (request.Move name uid target) status
 MayHaveFailed (command.Make name) status = MayFail (request.Make name) status
+MayHaveFailed command.Resync status = MayFail request.Resync status
 MayHaveFailed (command.Batch lanes) status = IsOneOf (5 ∷ 6 ∷ 8 ∷ []) status
 MayHaveFailed other status = status ≡ 6
 
@@ -145,6 +151,7 @@ uses_disk (command.Copy name uid target) = true
 uses_disk (command.Move name uid target) = true
 uses_disk (command.Make name) = true
 uses_disk command.Counts = true
+uses_disk command.Resync = true
 uses_disk (command.Batch lanes) = true
 uses_disk (command.Exercise lanes count number) = true
 uses_disk (command.Rebuild id) = true

@@ -2,7 +2,7 @@
 ghost use Rattle.std.specs.Prelude.{◌≡◌, ◌≢◌, ◌≤◌, IfOk, IfErr};
 ghost use Rattle.disk_model.specs.FaultCounts.{NoFault, AnyFaultCounted};
 ghost use Rattle.mdbox_base.specs.Streams.{Rose};
-ghost use Rattle.script_run.specs.One.{MakesSteps};
+ghost use Rattle.script_run.specs.One.{RunsAlone};
 ghost use Rattle.script_run.specs.Opening.{IsUnopened};
 ghost use Rattle.mdbox_top.specs.Alone.{ReplyTells, RequestMoments, RequestRests, MayFail, IsDoneAlone};
 ghost use Rattle.mdbox_top.specs.Served.{RequestOutcome, ShowsReply};
@@ -27,7 +27,7 @@ pub fn serve<D: Disk, O: Sink>(
     disk: D,
     output: &mut O,
 ) -> (Outcome, D)
-    requires { MakesSteps request }
+    requires { RunsAlone request }
     ensures ends { RequestOutcome (ReplyTells request) request (O.held output.old) (O.held output.new) (D.history disk) (D.history result.1) (D.faults disk) (D.faults result.1) result.0 }
     ensures moments { RequestMoments request (D.history disk) (D.history result.1) }
     ensures rests { RequestRests request (MayFail request (status_of result.0)) (D.faults disk) (D.faults result.1) (D.history disk) (D.history result.1) }
@@ -49,7 +49,7 @@ fn reply_alone<D: Disk>(
     request: Request,
     disk: D,
 ) -> Result<(Reply, D), OpenRefused<D>>
-    requires { MakesSteps request }
+    requires { RunsAlone request }
     ensures done { IfOk result (λ done. IsDoneAlone request done.0 (D.history disk) (D.history done.1) (D.faults disk) (D.faults done.1)) }
     ensures refused { IfErr result (λ refused. IsUnopened refused.error (D.history disk) (D.history refused.disk) (D.faults disk) (D.faults refused.disk)) }
 {

@@ -157,6 +157,7 @@ fn perform<D: Disk, I: Source, O: Sink, C: Clock>(
             serve(alloc, Request::Flag { name, uid, flags }, disk, output)
         }
         Command::Counts => serve(alloc, Request::Counts, disk, output),
+        Command::Resync => serve(alloc, Request::Resync, disk, output),
         Command::Expunge { name, uid } => {
             serve(alloc, Request::Expunge { name, uid }, disk, output)
         }

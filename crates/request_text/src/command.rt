@@ -16,6 +16,10 @@ pub enum Command {
     Flag { name: Name, uid: Uid, flags: Flags },
     /// Counts what the store has.
     Counts,
+    /// Removes from storage files what no mailbox lists, and the attachments that no message needs.
+    Purge,
+    /// Makes the counts of the store exact, and counts the damaged messages.
+    Resync,
     /// Removes the message with this UID from the mailbox with this name.
     Expunge { name: Name, uid: Uid },
     /// Adds the message with this UID, from the mailbox with this name, to the target.
@@ -61,6 +65,12 @@ flag BOX UID BITS
 counts      prints OK and four numbers of the store in the current folder: how many messages it has stored, how
             many its mailboxes list, the sum of the counts that it keeps of these (what is above is a leak), and
             how many attachments it keeps apart, each once
+purge       copies what is wanted out of storage files in which something isn't, removes these files, and the
+            attachments that no message names, and prints OK and three numbers: how many messages, storage files
+            and attachments went; or prints NO 16 store full or NO 18 read fault
+resync      counts anew how often the mailboxes list each stored message, reads all storage files, and prints OK and
+            two numbers: how many counts were wrong and are put right, and how many messages are damaged; or
+            prints NO 18 read fault
 expunge BOX UID
             removes the message with this UID from the mailbox and prints OK; or prints NO 10 no mailbox or
             NO 12 no message

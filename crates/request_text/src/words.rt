@@ -54,6 +54,8 @@ fn read_one(word: &str) -> Result<Command, WordsError>
 {
     match word {
         "counts" => Ok(Command::Counts),
+        "purge" => Ok(Command::Purge),
+        "resync" => Ok(Command::Resync),
         "dump" => Ok(Command::Dump),
         "logdump" => Ok(Command::LogDump),
         "--help" => Ok(Command::Help),

@@ -26,7 +26,7 @@ use Rattle.journal.proofs.FaultLemmas.{faults_have_events}
 use Rattle.store_core.specs.Value.{StoreValue, indexes_of}
 use Rattle.script_run.specs.Done.{IsScriptDone, MayRead}
 use Rattle.script_run.specs.LeftOpen.{IsRequestDone, IsServedOpen}
-use Rattle.script_run.specs.One.{AreListsTold, HasOneEvent, IsAnsweredFirst, IsUnanswered, MakesSteps, alone}
+use Rattle.script_run.specs.One.{AreListsTold, HasOneEvent, IsAnsweredFirst, IsUnanswered, MakesSteps, RunsAlone, alone}
 use Rattle.script_run.specs.Opening.{LogsShowLists}
 use Rattle.script_run.specs.Script.{only_reads, has_purge, IsRefusedAtOnce}
 use Rattle.script_run.proofs.SomeListsLemmas.{some_lists}
@@ -149,14 +149,19 @@ one_makes (request.Flag name uid flags) one = one
 one_makes request.Counts one = one
 one_makes other one = absurd one
 
--- they read no message
-pub may_read : (asked : Request) → MakesSteps asked → (lists : Lists) (old : Option History) → MayRead (alone asked) lists old
+pub makes_alone : (asked : Request) → MakesSteps asked → RunsAlone asked
+makes_alone request.Resync one = tt
+makes_alone asked one = one
+
+-- they fetch no message
+pub may_read : (asked : Request) → RunsAlone asked → (lists : Lists) (old : Option History) → MayRead (alone asked) lists old
 may_read (request.List name) one lists old = λ f. absurd (let e : false ≡ true = f in cc e)
 may_read (request.Flag name uid flags) one lists old = λ f. absurd (let e : false ≡ true = f in cc e)
 may_read (request.Make name) one lists old = λ f. absurd (let e : false ≡ true = f in cc e)
 may_read (request.Expunge name uid) one lists old = λ f. absurd (let e : false ≡ true = f in cc e)
 may_read (request.Copy name uid target) one lists old = λ f. absurd (let e : false ≡ true = f in cc e)
 may_read (request.Move name uid target) one lists old = λ f. absurd (let e : false ≡ true = f in cc e)
+may_read request.Resync one lists old = λ f. absurd (let e : false ≡ true = f in cc e)
 may_read request.Counts one lists old = λ f. absurd (let e : false ≡ true = f in cc e)
 may_read other one lists old = absurd one
 
@@ -181,7 +186,7 @@ unfaulted part asked none (Some why) may = refl
 pub unread : (asked : Request) (given : Reply) (entries : List JournalEntry) (old new : Option History) (began now : Faults) → IsScriptDone (alone asked) (given ∷ []) entries old new began now → MakesSteps asked → given ≡ reply.Refused refusal.ReadFault → ⊥
 unread asked given entries old new began now done one is =
     let some = some_lists old done.m done.meanings done.opened in
-    let s = done.serves some.0 some.1 (may_read asked one some.0 old) in
+    let s = done.serves some.0 some.1 (may_read asked (makes_alone asked one) some.0 old) in
     let few : count_by is_read_fault (Some given ∷ []) ≤ count_by is_faulted s.run.events = faults_have_events s.served.around s.served.after (alone asked) some.0 s.run s.journal (Some given ∷ []) s.served.next s.served.given in
     let none = none_faulted s.run.events (λ n e at.
     let k = (own_event s.served.around s.served.after some.0 asked s.run s.journal s.served.next n e at).1 in
@@ -220,7 +225,7 @@ ends_by other given answers one r = absurd one
 answered : (asked : Request) (given : Reply) (entries : List JournalEntry) (old new : Option History) (began now : Faults) → (done : IsScriptDone (alone asked) (given ∷ []) entries old new began now) → HasOneEvent asked → (lists : Lists) → LogsShowLists done.m done.meanings lists → IsOneStep asked given
     → IsAnsweredFirst asked done.m lists given
 answered asked given entries old new began now done one lists shows step =
-    let may = may_read asked (one_makes asked one) lists old in
+    let may = may_read asked (makes_alone asked (one_makes asked one)) lists old in
     let s = done.serves lists shows may in
     let a = reply_alone lists (1, asked) s.run s.journal given began now s.served.legal step in
     let k = own_event s.served.around s.served.after lists asked s.run s.journal s.served.next a.1.place a.1.event a.1.event_is in
@@ -241,7 +246,7 @@ pub answered_first : (asked : Request) (given : Reply) (entries : List JournalEn
     → IsUnanswered given ⊎ IsAnsweredFirst asked done.m lists given
 unfolding Ends
 answered_first asked given entries old new began now done one lists shows =
-    let s = done.serves lists shows (may_read asked (one_makes asked one) lists old) in
+    let s = done.serves lists shows (may_read asked (makes_alone asked (one_makes asked one)) lists old) in
     by_end (ends_by asked given _ one (replied_one lists asked s.run s.journal given began now s.served.legal))
   where
     by_end : IsUnanswered given ⊎ ((given ≡ reply.Refused refusal.ReadFault) ⊎ IsOneStep asked given) → IsUnanswered given ⊎ IsAnsweredFirst asked done.m lists given
@@ -249,19 +254,28 @@ answered_first asked given entries old new began now done one lists shows =
     by_end (inr (inl read)) = absurd (unread asked given entries old new began now done (one_makes asked one) read)
     by_end (inr (inr step)) = inr (answered asked given entries old new began now done one lists shows step)
 
--- ---- a request that only reads leaves the lists
+-- ---- a request that only reads leaves the lists, and so does a resync
 
-reads_still : (asked : Request) (given : Reply) (old new : Lists) → only_reads asked ≡ true → AreListsTold asked given old new → new ≡ old
+abbrev pub leaves_lists : Request → Bool
+leaves_lists request.Resync = true
+leaves_lists asked = only_reads asked
+
+pub reads_leave : (asked : Request) → only_reads asked ≡ true → leaves_lists asked ≡ true
+reads_leave request.Resync reads = refl
+reads_leave asked reads = reads
+
+reads_still : (asked : Request) (given : Reply) (old new : Lists) → leaves_lists asked ≡ true → AreListsTold asked given old new → new ≡ old
 reads_still (request.List name) given old new reads told = told
 reads_still (request.Fetch name uid) given old new reads told = told
 reads_still request.Counts given old new reads told = told
+reads_still request.Resync given old new reads told = told
 reads_still other given old new reads told = absurd (let e : false ≡ true = reads in cc e)
 
-moves_none : (asked : Request) → only_reads asked ≡ true → IsMove asked → ⊥
+moves_none : (asked : Request) → leaves_lists asked ≡ true → IsMove asked → ⊥
 moves_none (request.Move name uid target) reads m = let e : false ≡ true = reads in cc e
 moves_none asked reads m = m
 
-pub left_still : (asked : Request) (run : Run) (start : Lists) (steps : List JournalStep) → only_reads asked ≡ true → AreSteps run (alone asked) start steps → left_by start steps ≡ start
+pub left_still : (asked : Request) (run : Run) (start : Lists) (steps : List JournalStep) → leaves_lists asked ≡ true → AreSteps run (alone asked) start steps → left_by start steps ≡ start
 left_still asked run start [] reads s = refl
 left_still asked run start (step ∷ steps) reads s =
     let a = step_answers run asked start step s.0 in
@@ -272,7 +286,7 @@ steps_taken asked run start steps zero s = tt
 steps_taken asked run start [] (suc p) s = tt
 steps_taken asked run start (step ∷ steps) (suc p) s = (s.0, steps_taken asked run step.left steps p s.1)
 
-pub reached_still : (asked : Request) (run : Run) (start : Lists) (journal : List JournalStep) (broken : Broken) (m : ℕ) (lists : Lists) → only_reads asked ≡ true → AreSteps run (alone asked) start journal → AreSteps (as_if run broken) (alone asked) (left_by start journal) broken.steps
+pub reached_still : (asked : Request) (run : Run) (start : Lists) (journal : List JournalStep) (broken : Broken) (m : ℕ) (lists : Lists) → leaves_lists asked ≡ true → AreSteps run (alone asked) start journal → AreSteps (as_if run broken) (alone asked) (left_by start journal) broken.steps
     → Reached start run journal broken m lists → lists ≡ start
 reached_still asked run start journal broken m lists reads s t (inl (p, acknowledged, is)) = is ∙ left_still asked run start (take p journal) reads (steps_taken asked run start journal p s)
 reached_still asked run start journal broken m lists reads s t (inr (began, is)) = is ∙ (left_still asked (as_if run broken) (left_by start journal) broken.steps reads t ∙ left_still asked run start journal reads s)
@@ -316,7 +330,7 @@ purges_none asked one = refl
 pub refused_idle : (asked : Request) (given : Reply) (entries : List JournalEntry) (old new : Option History) (began now : Faults) → (done : IsScriptDone (alone asked) (given ∷ []) entries old new began now) → HasOneEvent asked → (why : Refusal) → is_step why ≡ true → given ≡ reply.Refused why → IsIdle done.leaves.opened new
 refused_idle asked given entries old new began now done one why step is =
     let some = some_lists old done.m done.meanings done.opened in
-    let s = done.serves some.0 some.1 (may_read asked (one_makes asked one) some.0 old) in
+    let s = done.serves some.0 some.1 (may_read asked (makes_alone asked (one_makes asked one)) some.0 old) in
     let told : Some (Some given) ≡ Some (reply_of 0 s.run) = s.served.given.1 0 (omega arith) in
     let reply : reply_of 0 s.run ≡ Some given = (let k : Some given ≡ reply_of 0 s.run = cc told in sym k) in
     s.refused (purges_none asked one) (elim (one_at_most s.run.events (first_only s.served.around s.served.after some.0 asked s.run s.journal one s.served.next)) [

@@ -18,7 +18,7 @@ use Rattle.serving.proofs.LaneLemmas.{get_set_other, get_set_same, nat_cases, on
 use Rattle.store_core.specs.Value.{StoreValue}
 use Rattle.task_claims.specs.Leaving.{IsSameOrSynced, SyncsMail}
 use Rattle.task_steps.specs.Step.{ended_by}
-use Rattle.lane_tasks.specs.Clause.{DoomsNone, DoomsNothing, StaysOfRequest, TaskKeeps, OnlyReads, ReadsNoOctets, SetsNoFlags, WritesTask}
+use Rattle.lane_tasks.specs.Clause.{AnswersReads, DoomsNone, DoomsNothing, OnlyReads, ReadsNoOctets, SetsNoFlags, StaysOfRequest, TaskKeeps, WritesTask}
 use Rattle.lane_tasks.specs.declared.task.Task.{Task}
 use Rattle.lane_tasks.specs.declared.task.Task.TheVariants as task
 use Rattle.lane_tasks.proofs.StepLemmas.{ran_before}
@@ -198,6 +198,31 @@ unread_on start lane old mid before between first counted e is =
     let k = e.works.goes.goes.keeps in
     let own = (in_turn ReadsNoOctets lane old mid before between first counted e is.tasks).0 in
     record { tasks = tasks_after ReadsNoOctets lane old mid before between first counted e (λ more. unread_next e.works.goes.queued.task e.works.goes.next own k.request) is.tasks; unread = k.unread own ∙ is.unread }
+
+-- ---- tasks that answer a failed read at once
+
+answers_next : (t next : Task) → AnswersReads t → StaysOfRequest t next → AnswersReads next
+answers_next (task.Fetch t) next answers kind = absurd answers
+answers_next t (task.Fetch next) answers kind = absurd kind
+answers_next t next answers kind = tt
+
+pub record HasReadAsTold {D : Type 0} (start : Faults) (world : WorldValue D) (history : Option History) (faults : Faults) : Type 0 where
+  pub tasks : AllTasks AnswersReads world.rows
+  pub calm : ((i : ℕ) → HasReply world.replies i (reply.Refused refusal.ReadFault) → ⊥) → faults.reads ≡ start.reads
+
+pub calm_on : {D : Type 0} → (start : Faults) → StaysOver {D = D} (HasReadAsTold start)
+calm_on start lane old mid before between first counted e is =
+    let w = e.works in
+    let k = w.goes.goes.keeps in
+    let own = (in_turn AnswersReads lane old mid before between first counted e is.tasks).0 in
+    record {
+      tasks = tasks_after AnswersReads lane old mid before between first counted e (λ more. answers_next w.goes.queued.task w.goes.next own k.request) is.tasks;
+      calm = λ untold.
+          k.calm own
+              (λ told. untold w.event.place
+              (ap (λ (rs : List (Option Reply)). slice_get rs w.event.place) w.replies_are ∙ replied_now (reply.Refused refusal.ReadFault) (ended_by w.event.ended) w.event.place old.replies w.unanswered told))
+          ∙ is.calm (λ i was. untold i (replied_on i (reply.Refused refusal.ReadFault) lane old mid before between first counted e was));
+    }
 
 -- ---- tasks that write nothing to storage files
 

@@ -37,7 +37,7 @@ use Rattle.lanes.specs.Rows.{LaneRow, lane_value, lanes_of}
 use Rattle.attach_detach.specs.declared.message.Prepared.{Prepared}
 use Rattle.lanes.specs.Worlds.{AreGiven, AreOfLanes, ArePartsOf, GoesOnBy, IsFreshWorld, IsWorldOf, PartsValue, WorldValue, and_events}
 use Rattle.lanes.proofs.TraceLemmas.{as_finished, world_finished}
-use Rattle.lane_tasks.specs.Clause.{DoomsNone, IsAtStart, OnlyReads, ReadsNoOctets}
+use Rattle.lane_tasks.specs.Clause.{AnswersReads, DoomsNone, IsAtStart, OnlyReads, ReadsNoOctets}
 use Rattle.task_steps.proofs.UnmovedLemmas.{mail_still}
 use Rattle.lane_tasks.specs.Tasks.{BeginsTask}
 use Rattle.mail_ops.specs.Flagging.{flag_refusal}
@@ -48,18 +48,20 @@ use Rattle.script_run.specs.Done.{IsScriptDone, LeavesStore, MayBeKept, MayBeSer
 use Rattle.script_run.specs.Faults.{FaultsByReplies, HasReadFault}
 use Rattle.script_run.specs.LeftOpen.{IsServedOpen}
 use Rattle.script_run.specs.Opening.{AreSafeFor, LogsShowLists}
-use Rattle.script_run.specs.Script.{HasStopped, ServesScript, has_change, has_delivery, has_fetch, is_fetch, is_purge, has_mail_read, has_purge}
+use Rattle.script_run.specs.Script.{HasStopped, ServesScript, has_change, has_delivery, has_fetch, has_mail_read, has_purge, is_fetch, is_purge}
 use Rattle.script_run.proofs.EndLemmas.{all_given, script_served, serves_from, unharmed}
 use Rattle.script_run.proofs.MailStaysLemmas.{opening_keeps, run_keeps, stays_from}
 use Rattle.script_run.proofs.CopyTaskLemmas.{IsCopyTold, StandsCopy, begun_copy, keeps_copy}
-use Rattle.script_run.proofs.ChainLemmas.{HasCounted, HasDoomedNone, HasOnlyRead, HasWrittenNone, WritesNoMail, counted_first, counted_on, reads_on, stays_over, syncs_first, unwritten_on, HasReadNoOctets, unread_on}
-use Rattle.script_run.proofs.SinceLemmas.{ServedSince, begun_first, changes_none, dooms_first, fresh_tasks, reads_first, reads_unpurged, served_since, unpurged, unread_first, unwritten_first}
+use Rattle.script_run.proofs.ChainLemmas.{HasCounted, HasDoomedNone, HasOnlyRead, HasReadAsTold, HasReadNoOctets, HasWrittenNone, WritesNoMail, calm_on, counted_first, counted_on, reads_on, stays_over, syncs_first, unread_on, unwritten_on}
+use Rattle.script_run.proofs.SinceLemmas.{ServedSince, answers_first, begun_first, changes_none, dooms_first, fresh_tasks, reads_first, reads_unpurged, served_since, unpurged, unread_first, unwritten_first}
+use Rattle.script_run.specs.Resynced.{IsResyncedAlone}
 use Rattle.script_run.proofs.MakeTaskLemmas.{IsMakeTold, StandsMake, begun_make, keeps_make, making_cause, unmade_alike}
 use Rattle.script_run.proofs.MoveTaskLemmas.{IsMoveTold, StandsMove, begun_move, keeps_move}
 use Rattle.script_run.proofs.MovedLemmas.{all_at, none_moved}
 use Rattle.script_run.proofs.OneTaskLemmas.{IsAloneSo, IsExpungeTold, IsFlagTold, KeepsAlone, StandsExpunge, StandsFlag, alone_fresh, alone_on, begun_expunge, keeps_expunge, keeps_flag}
 use Rattle.script_run.proofs.OpenedLemmas.{none_doomed, none_holds, none_used}
 use Rattle.script_run.proofs.ReadFaultLemmas.{TellsFault, faults_are_told}
+use Rattle.script_run.proofs.ResyncTaskLemmas.{IsResyncTold, StandsResync, begun_resync, keeps_resync}
 use Rattle.script_run.proofs.RunBeginsLemmas.{OpenedNow, at_opening, before_opening, beginning, first_come, opening_begins}
 use Rattle.script_run.proofs.ShownLemmas.{LogsShow, opened_logs_show, opens_again}
 use Rattle.script_run.proofs.SomeListsLemmas.{some_lists}
@@ -266,6 +268,13 @@ unread_run script old mid new first last s world ended r none =
     stays_over (HasReadNoOctets first) (unread_on first) 0 r.turns (as_finished world) ended mid new first last r.chain
     (record { tasks = fresh_tasks ReadsNoOctets script world.rows (λ place lane asked t at begins. unread_first script place lane asked t none at begins) r.fresh; unread = refl })
 
+-- One that fetches no message counts a failed read only if a reply says so.
+calm_run : {D : Type 0} → (script : Requests) (old mid new : Option History) (first last : Faults) (s : StoreValue D) (world ended : WorldValue D) → ScriptRan script old mid new first last s world ended → (given : List Reply) → ended.replies ≡ map Some given → has_fetch script ≡ false → (HasReadFault given → ⊥) → last.reads ≡ first.reads
+calm_run script old mid new first last s world ended r given are none untold =
+    (stays_over (HasReadAsTold first) (calm_on first) 0 r.turns (as_finished world) ended mid new first last r.chain
+    (record { tasks = fresh_tasks AnswersReads script world.rows (λ place lane asked t at begins. answers_first script place lane asked t none at begins) r.fresh; calm = λ unread. refl })).calm
+    (λ i had. untold (given_at given i (reply.Refused refusal.ReadFault) (subst (λ (rs : List (Option Reply)). HasReply rs i (reply.Refused refusal.ReadFault)) are had)))
+
 -- it is served from them, and the logs show in the end what its journal leaves
 serves_run : {D : Type 0} → (script : Requests) (old mid new : Option History) (first last : Faults) (s : StoreValue D) (world ended : WorldValue D) → (r : ScriptRan script old mid new first last s world ended) → (given : List Reply) → ended.replies ≡ map Some given → (start : Lists) → LogsShowLists s.map (indexes_of s.boxes) start → MayRead script start old
     → (was : ServesScript script start given ended.journal first last old mid new) × LogsShowLists ended.store.map (indexes_of ended.store.boxes) (left_by start was.journal)
@@ -341,6 +350,11 @@ make_told : {D : Type 0} → (at : ℕ) (name : List ℕ) (one : Reply) (old mid
 make_told at name one old mid new first last s world ended r are =
     alone_told (StandsMake name s mid) (IsMakeTold name s mid) at (request.Make name) one old mid new first last s world ended r are refl (keeps_make name s mid r.opened.drawn) (begun_make name s mid r.opened.running)
 
+resync_told : {D : Type 0} → (at : ℕ) (one : Reply) (old mid new : Option History) (first last : Faults) (s : StoreValue D) (world ended : WorldValue D) → ScriptRan ((at, request.Resync) ∷ []) old mid new first last s world ended → ended.replies ≡ Some one ∷ []
+    → IsResyncTold s mid one ended.store new
+resync_told at one old mid new first last s world ended r are =
+    alone_told (StandsResync s mid) (IsResyncTold s mid) at request.Resync one old mid new first last s world ended r are refl (keeps_resync s mid r.opened.free) (begun_resync s mid r.opened.running)
+
 told_alone : {D : Type 0} → (script : Requests) (old mid new : Option History) (first last : Faults) (s : StoreValue D) (world ended : WorldValue D) → ScriptRan script old mid new first last s world ended → (given : List Reply) → ended.replies ≡ map Some given → IsToldAlone script s.map (indexes_of s.boxes) given
 told_alone ((at, request.Flag name uid flags) ∷ []) old mid new first last s world ended r (one ∷ []) are = flag_told at name uid flags one old mid new first last s world ended r are
 told_alone ((at, request.Make name) ∷ []) old mid new first last s world ended r (one ∷ []) are = making_cause name s one r.opened.drawn (make_told at name one old mid new first last s world ended r are).given_is
@@ -354,6 +368,7 @@ undone_alone ((at, request.Make name) ∷ []) old mid new first last s world end
 undone_alone ((at, request.Expunge name uid) ∷ []) old mid new first last s world ended r (reply.Refused why ∷ []) are running = (expunge_told at name uid (reply.Refused why) old mid new first last s world ended r are).unchanged why refl running
 undone_alone ((at, request.Copy name uid target) ∷ []) old mid new first last s world ended r (reply.Refused why ∷ []) are runs = (copy_told at name uid target (reply.Refused why) old mid new first last s world ended r are).unchanged why refl runs.0 runs.1
 undone_alone ((at, request.Move name uid target) ∷ []) old mid new first last s world ended r (reply.Refused why ∷ []) are runs = (move_told at name uid target (reply.Refused why) old mid new first last s world ended r are).unchanged why refl runs.0 runs.1
+undone_alone ((at, request.Resync) ∷ []) old mid new first last s world ended r (reply.Refused why ∷ []) are running = (resync_told at (reply.Refused why) old mid new first last s world ended r are).unchanged why refl running
 undone_alone script old mid new first last s world ended r given are none = absurd none
 
 alike_alone : {D : Type 0} → (script : Requests) (old mid new : Option History) (first last : Faults) (s : StoreValue D) (world ended : WorldValue D) → ScriptRan script old mid new first last s world ended → (given : List Reply) → ended.replies ≡ map Some given → IsGivenBackAlone script given → MeansAlike s.map (indexes_of s.boxes) ended.store.map (indexes_of ended.store.boxes)
@@ -365,6 +380,11 @@ made_alone : {D : Type 0} → (script : Requests) (old mid new : Option History)
 made_alone ((at, request.Make name) ∷ []) old mid new first last s world ended r (reply.Refused refusal.NoMemory ∷ []) are = (make_told at name (reply.Refused refusal.NoMemory) old mid new first last s world ended r are).memory refl
 made_alone ((at, request.Make name) ∷ []) old mid new first last s world ended r (reply.Done ∷ []) are = (make_told at name reply.Done old mid new first last s world ended r are).more refl
 made_alone script old mid new first last s world ended r given are = tt
+
+resynced_alone : {D : Type 0} → (script : Requests) (old mid new : Option History) (first last : Faults) (s : StoreValue D) (world ended : WorldValue D) → ScriptRan script old mid new first last s world ended → (given : List Reply) → ended.replies ≡ map Some given
+    → IsResyncedAlone script given mid s.map (indexes_of s.boxes) ended.store.map (indexes_of ended.store.boxes)
+resynced_alone ((at, request.Resync) ∷ []) old mid new first last s world ended r (one ∷ []) are = (resync_told at one old mid new first last s world ended r are).answer
+resynced_alone script old mid new first last s world ended r given are = tt
 
 unmade_alone : {D : Type 0} → (script : Requests) (old mid new : Option History) (first last : Faults) (s : StoreValue D) (world ended : WorldValue D) → ScriptRan script old mid new first last s world ended → (given : List Reply) → ended.replies ≡ map Some given → IsUnmadeAlone script given → ReadAlike mid new
 unmade_alone ((at, request.Make name) ∷ []) old mid new first last s world ended r (reply.Refused why ∷ []) are running = unmade_alike r.opened.swept.0 s old mid new r.opened.swept.1 ((make_told at name (reply.Refused why) old mid new first last s world ended r are).leaves why refl running)
@@ -418,7 +438,7 @@ done_run script old mid new first last s world ended r given are =
           let e : true ≡ false = sym stopped ∙ (idle_run script old mid new first last s world ended r none).running in
           cc e;
       faults = λ may. let start = start_of script old mid s r.opened r.show may in faults_of_run script old mid new first last s world ended r given are start.0 start.1 start.2;
-      counts = record { counted = counts.reads; changes = counts.changes; unchanged = λ unstopped. counts.unchanged (stopped_by script old mid new first last s world ended r given are unstopped); unread = λ none. (unread_run script old mid new first last s world ended r none).unread };
+      counts = record { counted = counts.reads; changes = counts.changes; unchanged = λ unstopped. counts.unchanged (stopped_by script old mid new first last s world ended r given are unstopped); unread = λ none. (unread_run script old mid new first last s world ended r none).unread; calm = λ none untold. calm_run script old mid new first last s world ended r given are none untold };
       leaves = leaves_run script old mid new first last s world ended r given are;
       stays = λ may. stays_run script old mid new first last s world ended r may;
     }
@@ -438,6 +458,7 @@ script_done script old mid new first last s world ended r =
           again = λ unstopped. opens_again new ended.store r.later (stopped_by script old mid new first last s world ended r g.0 g.1 unstopped);
           alike = alike_alone script old mid new first last s world ended r g.0 g.1;
           made = made_alone script old mid new first last s world ended r g.0 g.1;
+          resynced = resynced_alone script old mid new first last s world ended r g.0 g.1;
         };
         stopped = λ e. replied_by script old mid new first last s world ended r g.0 g.1 e;
         told = told_alone script old mid new first last s world ended r g.0 g.1;

@@ -13,6 +13,7 @@ pub mod ReadFaultLemmas
 pub mod ReachedLemmas
 pub mod ReachedMakeLemmas
 pub mod ReachedMoveLemmas
+pub mod ResyncTaskLemmas
 pub mod RunBeginsLemmas
 pub mod ShownLemmas
 pub mod SinceLemmas

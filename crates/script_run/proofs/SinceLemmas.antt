@@ -13,7 +13,7 @@ use Rattle.model_lists.specs.Lists.{Lists}
 use Rattle.list_machine.specs.Run.{Run, RunEvent, and_then}
 use Rattle.journal.specs.Journal.{Broken, JournalStep, Requests}
 use Rattle.task_steps.specs.Step.{Seen, ended_by}
-use Rattle.lane_tasks.specs.Clause.{DoomsNone, IsAtStart, OnlyReads, ReadsNoOctets, RemovesNothing, SetsNoFlags}
+use Rattle.lane_tasks.specs.Clause.{AnswersReads, DoomsNone, IsAtStart, OnlyReads, ReadsNoOctets, RemovesNothing, SetsNoFlags}
 use Rattle.lane_tasks.specs.Tasks.{BeginsTask, IsTaskOf}
 use Rattle.lane_tasks.specs.declared.task.Task.{Task}
 use Rattle.lane_tasks.specs.declared.task.Task.TheVariants as task
@@ -21,7 +21,7 @@ use Rattle.lanes.specs.Going.{AreFreshRows, IsFreshRow, WaitsWithTask}
 use Rattle.lanes.specs.Rows.{LaneRow}
 use Rattle.lanes.specs.Worlds.{GoesInRounds, IsWorldOf, WorldValue, and_events, queued_in}
 use Rattle.lanes.specs.declared.lane.Queued.{Queued}
-use Rattle.script_run.specs.Script.{IsRefusedAtOnce, has_change, has_delivery, has_mail_read, has_purge, is_delivery, is_purge, only_reads, reads_mail}
+use Rattle.script_run.specs.Script.{IsRefusedAtOnce, has_change, has_delivery, has_fetch, has_mail_read, has_purge, is_delivery, is_fetch, is_purge, only_reads, reads_mail}
 use Rattle.script_run.proofs.ChainLemmas.{AllTasks, WritesNoMail, in_turn, tasks_after}
 
 -- ---- the tasks with which requests begin
@@ -130,6 +130,14 @@ no_octets asked t none of = tt
 
 pub unread_first : (script : Requests) (place lane : ℕ) (asked : Request) (t : Task) → has_mail_read script ≡ false → slice_get script place ≡ Some (lane, asked) → BeginsTask asked t → ReadsNoOctets t
 unread_first script place lane asked t none at begins = no_octets asked t (any_false (λ (q : ℕ × Request). reads_mail q.1) script place (lane, asked) none at) begins.is_of
+
+-- a request that fetches no message begins with a task that answers a failed read at once
+answers_task : (asked : Request) (t : Task) → is_fetch asked ≡ false → IsTaskOf t asked → AnswersReads t
+answers_task asked (task.Fetch t) none of = absurd (let k : true ≡ false = sym (ap is_fetch of) ∙ none in cc k)
+answers_task asked t none of = tt
+
+pub answers_first : (script : Requests) (place lane : ℕ) (asked : Request) (t : Task) → has_fetch script ≡ false → slice_get script place ≡ Some (lane, asked) → BeginsTask asked t → AnswersReads t
+answers_first script place lane asked t none at begins = answers_task asked t (any_false (λ (q : ℕ × Request). is_fetch q.1) script place (lane, asked) none at) begins.is_of
 
 -- ---- the run
 

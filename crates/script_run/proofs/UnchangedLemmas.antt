@@ -21,8 +21,8 @@ use Rattle.store_sweep.specs.Swept.{IsSwept}
 use Rattle.task_steps.specs.Serves.{IsReached}
 use Rattle.script_run.specs.Done.{IsScriptDone}
 use Rattle.script_run.specs.One.{OpensUnchanged, alone}
-use Rattle.script_run.specs.Script.{has_change, only_reads}
-use Rattle.script_run.proofs.AloneLemmas.{left_still, reached_still}
+use Rattle.script_run.specs.Script.{HasStopped, has_change, only_reads}
+use Rattle.script_run.proofs.AloneLemmas.{leaves_lists, left_still, reached_still, reads_leave}
 use Rattle.script_run.proofs.DoneLemmas.{settled_safe}
 
 -- ---- what is the same since
@@ -68,12 +68,20 @@ closed_since old mid new closed idle = if_told-map (λ disk. IsClosedWell disk �
 pub changes_none : (asked : Request) → only_reads asked ≡ true → has_change (alone asked) ≡ false
 changes_none asked reads = ap (λ (b : Bool). not b || false) reads
 
--- Of a disk that was settled for lists each image since the beginning is safe for them, and it is settled for them again.
+-- Of a disk that was settled for lists each image since the beginning is safe for them, and it is settled for them again, unless the
+-- store is stopped.
+pub listed_safe : (asked : Request) (given : Reply) (entries : List JournalEntry) (old new : Option History) (began now : Faults) → IsScriptDone (alone asked) (given ∷ []) entries old new began now → leaves_lists asked ≡ true → (lists : Lists) → IsSettledFor lists old
+    → EachImage (λ _ image. Safe image lists) old new × ((HasStopped (given ∷ []) → ⊥) → IsSettledFor lists new)
+listed_safe asked given entries old new began now done leaves lists at =
+    let s = done.serves lists (done.shown lists (settled_safe lists old at)) (λ fetch. at) in (
+      each_image-map (IsReached lists s.run s.journal s.broken) (λ _ image. Safe image lists) old new
+          (λ m image is. subst (λ (ls : Lists). Safe image ls) (reached_still asked s.run lists s.journal s.broken m is.0 leaves s.served.legal.steps s.served.broken_is is.1) is.2) (s.crash at),
+      λ running. subst (λ (ls : Lists). IsSettledFor ls new) (left_still asked s.run lists s.journal leaves s.served.legal.steps) (s.settled running at),
+    )
+
+-- One that only reads never stops it.
 pub reads_safe : (asked : Request) (given : Reply) (entries : List JournalEntry) (old new : Option History) (began now : Faults) → IsScriptDone (alone asked) (given ∷ []) entries old new began now → only_reads asked ≡ true → (lists : Lists) → IsSettledFor lists old
     → EachImage (λ _ image. Safe image lists) old new × IsSettledFor lists new
 reads_safe asked given entries old new began now done reads lists at =
-    let s = done.serves lists (done.shown lists (settled_safe lists old at)) (λ fetch. at) in (
-      each_image-map (IsReached lists s.run s.journal s.broken) (λ _ image. Safe image lists) old new
-          (λ m image is. subst (λ (ls : Lists). Safe image ls) (reached_still asked s.run lists s.journal s.broken m is.0 reads s.served.legal.steps s.served.broken_is is.1) is.2) (s.crash at),
-      subst (λ (ls : Lists). IsSettledFor ls new) (left_still asked s.run lists s.journal reads s.served.legal.steps) (s.settled (done.running (lists, λ fetch. at) (changes_none asked reads)) at),
-    )
+    let safe = listed_safe asked given entries old new began now done (reads_leave asked reads) lists at in
+    (safe.0, safe.1 (done.running (lists, λ fetch. at) (changes_none asked reads)))

@@ -7,7 +7,7 @@ use Rattle.mdbox_base.specs.declared.replies.Refusal.TheVariants as refusal
 use Rattle.mdbox_base.specs.declared.replies.Reply.{Reply}
 use Rattle.mdbox_base.specs.declared.replies.Reply.TheVariants as reply
 use Rattle.journal.specs.Journal.{Requests, RoseBy, is_read_fault}
-use Rattle.script_run.specs.Script.{HasStopped, has_mail_read}
+use Rattle.script_run.specs.Script.{HasStopped, has_fetch, has_mail_read}
 
 -- some request was replied that a read failed
 abbrev pub HasReadFault : List Reply → Type 0
@@ -23,9 +23,11 @@ pub record FaultsByReplies (given : List Reply) (began now : Faults) : Type 0 wh
   pub unchanged : (HasStopped given → ⊥) → now.changes ≡ began.changes
   pub quiet : (HasReadFault given → ⊥) → (HasStopped given → ⊥) → NoFault began now
 
--- What is said of them of every script, whatever the disk: no read fails of one that reads no octets of messages.
+-- What is said of them of every script, whatever the disk: no read fails of one that reads no octets of messages; and of one that fetches
+-- no message a read failed only if a reply says so.
 pub record CountsStay (script : Requests) (given : List Reply) (began now : Faults) : Type 0 where
   pub counted : began.reads ≤ now.reads
   pub changes : began.changes ≤ now.changes
   pub unchanged : (HasStopped given → ⊥) → now.changes ≡ began.changes
   pub unread : has_mail_read script ≡ false → now.reads ≡ began.reads
+  pub calm : has_fetch script ≡ false → (HasReadFault given → ⊥) → now.reads ≡ began.reads

@@ -91,6 +91,11 @@ MakesSteps (request.Make name) = Unit {0}
 MakesSteps (request.Move name uid target) = Unit {0}
 MakesSteps asked = MakesOneStep asked
 
+-- A request that makes its steps so; or a resync, which makes one step too, and reads the messages.
+abbrev pub RunsAlone : Request → Type 0
+RunsAlone request.Resync = Unit {0}
+RunsAlone asked = MakesSteps asked
+
 -- It was replied what the machine answers, on these lists, at its first event: of a run whose map is this then.
 pub record IsAnsweredFirst (request : Request) (m : MapMeaning) (lists : Lists) (given : Reply) : Type 0 where
   pub run : Run
@@ -212,13 +217,14 @@ IsToldAlone ((lane, request.Move name uid target) ∷ []) m meanings (given ∷ 
     IsMoveAnswer (uncopied_cause (meaning_named name m.boxes meanings) (meaning_named target m.boxes meanings) m uid.0) (meaning_named target m.boxes meanings) given
 IsToldAlone script m meanings given = Unit {0}
 
--- A make, an expunge, a copy or a move alone was refused, and the store isn't stopped: nothing has changed since the opening. So it is of an
--- expunge also for want of memory.
+-- A make, an expunge, a copy, a move or a resync alone was refused, and the store isn't stopped: nothing has changed since the opening. So
+-- it is of an expunge and a resync also for want of memory.
 abbrev pub IsUndoneAlone : Requests → List Reply → Type 0
 IsUndoneAlone ((lane, request.Make name) ∷ []) (reply.Refused why ∷ []) = (why ≡ refusal.Stopped → ⊥) × (why ≡ refusal.NoMemory → ⊥)
 IsUndoneAlone ((lane, request.Expunge name uid) ∷ []) (reply.Refused why ∷ []) = why ≡ refusal.Stopped → ⊥
 IsUndoneAlone ((lane, request.Copy name uid target) ∷ []) (reply.Refused why ∷ []) = (why ≡ refusal.Stopped → ⊥) × (why ≡ refusal.NoMemory → ⊥)
 IsUndoneAlone ((lane, request.Move name uid target) ∷ []) (reply.Refused why ∷ []) = (why ≡ refusal.Stopped → ⊥) × (why ≡ refusal.NoMemory → ⊥)
+IsUndoneAlone ((lane, request.Resync) ∷ []) (reply.Refused why ∷ []) = why ≡ refusal.Stopped → ⊥
 IsUndoneAlone script given = ⊥
 
 -- There was no memory for a copy or a move alone, which gives back the count that it may have raised.

@@ -19,8 +19,8 @@ use Rattle.script_text.proofs.RequestLemmas.{differ, name_then, number_then, sho
 
 pub plain_asked : (asked : Request) (words rest : List ℕ) → IsOneWord asked → words ≡ spaced (request_words asked) → IsRequestOf words rest asked rest
 plain_asked request.Counts words rest p e = record { fits = tt; words_are = e; message_is = refl }
-plain_asked request.Purge words rest p e = absurd p
-plain_asked request.Resync words rest p e = absurd p
+plain_asked request.Purge words rest p e = record { fits = tt; words_are = e; message_is = refl }
+plain_asked request.Resync words rest p e = record { fits = tt; words_are = e; message_is = refl }
 plain_asked other words rest p e = absurd p
 
 nothing_alone_of : (words rest after : List ℕ) → ((before behind : List ℕ) → words ≢ before ++ 32 ∷ behind) → ((asked : Request) → IsOneWord asked → words ≢ spaced (request_words asked)) → (asked : Request) → IsRequestOf words rest asked after → ⊥
@@ -33,8 +33,8 @@ nothing_alone_of words rest after space none (request.Move name uid target) is =
 nothing_alone_of words rest after space none (request.Expunge name uid) is = space (codes "expunge") (name_word name ++ 32 ∷ decimal_text uid.0) is.words_are
 nothing_alone_of words rest after space none (request.Make name) is = space (codes "make") (name_word name) is.words_are
 nothing_alone_of words rest after space none request.Counts is = none request.Counts tt is.words_are
-nothing_alone_of words rest after space none request.Purge is = is.fits
-nothing_alone_of words rest after space none request.Resync is = is.fits
+nothing_alone_of words rest after space none request.Purge is = none request.Purge tt is.words_are
+nothing_alone_of words rest after space none request.Resync is = none request.Resync tt is.words_are
 
 pub nothing_alone : (words rest : List ℕ) → ((before behind : List ℕ) → words ≢ before ++ 32 ∷ behind) → ((asked : Request) → IsOneWord asked → words ≢ spaced (request_words asked)) → AsksNothing words rest
 nothing_alone words rest space none asked after is = nothing_alone_of words rest after space none asked is

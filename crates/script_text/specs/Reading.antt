@@ -18,6 +18,8 @@ AsksNothing words rest = (asked : Request) (after : List ℕ) → IsRequestOf wo
 -- a request of one word
 abbrev pub IsOneWord : Request → Type 0
 IsOneWord request.Counts = Unit {0}
+IsOneWord request.Purge = Unit {0}
+IsOneWord request.Resync = Unit {0}
 IsOneWord other = ⊥
 
 -- the verb of a request that has further words

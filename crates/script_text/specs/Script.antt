@@ -46,7 +46,7 @@ abbrev pub script_text : List (ℕ × Request) → List ℕ
 script_text requests = flat_map request_text requests
 
 -- Names are those of mailboxes, UIDs are from 1 to 4,294,967,294, flags are a sum of bits up to 16, a time is below 2 ^ 64,
--- and a message has at most 67,108,864 octets. No task serves `purge` and `resync` yet, so a script has none.
+-- and a message has at most 67,108,864 octets.
 abbrev pub FitsScript : Request → Type 0
 FitsScript (request.Deliver name time message) = IsName name × (time < 2 ^ 64) × (length message ≤ 67108864)
 FitsScript (request.List name) = IsName name
@@ -57,8 +57,8 @@ FitsScript (request.Move name uid target) = IsName name × IsNumber uid.0 × IsN
 FitsScript (request.Expunge name uid) = IsName name × IsNumber uid.0
 FitsScript (request.Make name) = IsName name
 FitsScript request.Counts = Unit {0}
-FitsScript request.Purge = ⊥
-FitsScript request.Resync = ⊥
+FitsScript request.Purge = Unit {0}
+FitsScript request.Resync = Unit {0}
 
 -- a request of one of so many lanes
 pub record FitsLanes (lanes : ℕ) (asked : ℕ × Request) : Type 0 where

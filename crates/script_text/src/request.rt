@@ -68,6 +68,8 @@ fn asked_alone(word: &[u8]) -> Option<Request>
 {
     match word {
         b"counts" => Some(Request::Counts),
+        b"purge" => Some(Request::Purge),
+        b"resync" => Some(Request::Resync),
         _ => None,
     }
 }

@@ -1,5 +1,5 @@
-use Rattle.mdbox_top.proofs.MakeLemmas.{done_alone}
+use Rattle.mdbox_top.proofs.ResyncLemmas.{alone_done}
 use Rattle.mdbox_top.proofs.alone.reply_alone.Goals as goal
 
 pub returns-clause-done : goal.returns-clause-done
-returns-clause-done g c = done_alone c.args.request c.in_ok-reply.reply _ _ _ _ c.in_ok-reply.ensures.done c.requires c.listings_are_answered.ensures
+returns-clause-done g c = alone_done c.args.request c.in_ok-reply.reply _ _ _ _ c.in_ok-reply.ensures.done c.requires c.listings_are_answered.ensures
