@@ -91,6 +91,7 @@ impl Followed {
                 Some(name) => Ok(Some(self.make(name)?)),
                 None => Ok(None),
             },
+            Request::Move { .. } => Ok(None),
             Request::Counts => Ok(Some(self.counts())),
             Request::Purge => Ok(Some(Reply::Purged {
                 dropped: 0,

@@ -63,7 +63,7 @@ use Rattle.resync_task.specs.Clause.{CountsFaults, KeepsMessages}
 use Rattle.resync_task.specs.Correcting.{AreExact}
 use Rattle.resync_task.specs.Stages.{ResyncAt, ToList, ToRead}
 use Rattle.resync_task.specs.Task.{ResyncValue, ResyncsOn}
-use Rattle.lane_tasks.specs.Clause.{DoomsNone, DoomsNothing, IsAtStart, RemovesNothing, StaysOfRequest, TaskKeeps, TellsStore, OnlyReads, WritesTask, progress_by}
+use Rattle.lane_tasks.specs.Clause.{DoomsNone, DoomsNothing, IsAtStart, PurgesSo, RemovesNothing, StaysOfRequest, TaskKeeps, TellsStore, OnlyReads, WritesTask, progress_by}
 use Rattle.lane_tasks.specs.declared.task.Task.{Task}
 use Rattle.lane_tasks.specs.declared.task.Task.TheVariants as task
 use Rattle.lane_tasks.proofs.StepLemmas.{ran_before, undoomed_by, undoomed_rest}
@@ -412,9 +412,9 @@ keeps_resyncing history faults t next old new answer on exact halts still fault 
 -- ---- of a purge
 
 pub keeps_purging : {D : Type 0} → (history : D → Option History) (faults : D → Faults) (t next : PurgeValue) (old new : StoreValue D) (ended : Option Reply) → Grows (history old.disk) (history new.disk) → MailIsKept old.map (history old.disk) (history new.disk) → (faults old.disk).reads ≤ (faults new.disk).reads → ((ended ≡ Some (reply.Refused refusal.ReadFault) → ⊥) → (faults new.disk).reads ≡ (faults old.disk).reads) → (faults old.disk).changes ≤ (faults new.disk).changes
-    → (new.stopped ≡ false → (faults new.disk).changes ≡ (faults old.disk).changes) → (old.stopped ≡ false → new.stopped ≡ true → Rose (faults old.disk).changes (faults new.disk).changes × ((faults new.disk).reads ≡ (faults old.disk).reads)) → (old.stopped ≡ true → new ≡ old)
+    → (new.stopped ≡ false → (faults new.disk).changes ≡ (faults old.disk).changes) → (old.stopped ≡ false → new.stopped ≡ true → Rose (faults old.disk).changes (faults new.disk).changes × ((faults new.disk).reads ≡ (faults old.disk).reads)) → (old.stopped ≡ true → new ≡ old) → PurgesSo t next old new ended
     → Same history faults (task.Purge t) (task.Purge next) old new ended
-keeps_purging history faults t next old new ended grows mail reads calm changes unfailed fell still = record {
+keeps_purging history faults t next old new ended grows mail reads calm changes unfailed fell still tells = record {
   request = tt;
   grows = grows;
   mail = λ m is. subst (λ (n : MapMeaning). MailIsKept n (history old.disk) (history new.disk)) (sym is) mail;
@@ -424,7 +424,7 @@ keeps_purging history faults t next old new ended grows mail reads calm changes 
   fell = fell;
   unread = λ none. absurd none;
   calm = λ answers told. calm told;
-  tells = tt;
+  tells = tells;
   undoomed = λ none. absurd none;
   idle = λ reads. absurd reads;
   still = λ was. (idle_disk (ap (λ (s : StoreValue _). s.disk) (still was)), ap (λ (s : StoreValue _). (faults s.disk).changes) (still was));

@@ -122,7 +122,7 @@ nothing_given (request.Move name uid target) f unlike = (tt, refl)
 nothing_given (request.Expunge name uid) f unlike = (tt, refl)
 nothing_given (request.Make name) f unlike = (tt, refl)
 nothing_given request.Counts f unlike = (tt, refl)
-nothing_given request.Purge f unlike = absurd f
+nothing_given request.Purge f unlike = (tt, refl)
 nothing_given request.Resync f unlike = (tt, refl)
 
 -- ---- how replies are printed

@@ -17,6 +17,7 @@ pub mod NumbersLemmas
 pub mod OneStepLemmas
 pub mod PlaceLemmas
 pub mod PrefixLemmas
+pub mod PurgeLemmas
 pub mod RebuildLemmas
 pub mod ReplyFaultLemmas
 pub mod ReplyKindLemmas

@@ -17,7 +17,7 @@ use Rattle.list_machine.proofs.OneStepLemmas.{answers_one}
 use Rattle.script_run.specs.Done.{IsScriptDone, MayBeServed}
 use Rattle.script_run.specs.LeftOpen.{IsRequestDone}
 use Rattle.script_run.specs.One.{AreAlongMove, AreListsTold, IsAnsweredFirst, IsGivenBackAlone, IsUnanswered, IsUndoneAlone, MakesOneStep, MakesSteps, alone, IsFlagAnswer, IsUnfailed, lists_behind, lists_told, missing_cause, moved_lists}
-use Rattle.script_run.specs.Script.{HasStopped, only_reads, has_delivery, has_mail_read}
+use Rattle.script_run.specs.Script.{HasStopped, only_reads, has_delivery, has_mail_read, has_purge}
 use Rattle.script_run.proofs.AloneLemmas.{answered_first, makes_alone, may_read, unread, refused_idle}
 use Rattle.script_run.proofs.CopyTaskLemmas.{memory_runs}
 use Rattle.script_run.proofs.OneTaskLemmas.{one_refusal}
@@ -67,6 +67,10 @@ served_from asked given entries old new began now done one = let some = some_lis
 never_stopped : (asked : Request) (given : Reply) (entries : List JournalEntry) (old new : Option History) (began now : Faults) → IsDone asked given entries old new began now → MakesSteps asked → only_reads asked ≡ true → given ≡ reply.Refused refusal.Stopped → ⊥
 never_stopped asked given entries old new began now done one reads e = done.running (served_from asked given entries old new began now done one) (changes_none asked reads) (0, omega arith, e)
 
+purges_none : (asked : Request) → MakesSteps asked → has_purge (alone asked) ≡ false
+purges_none request.Purge one = absurd one
+purges_none asked one = refl
+
 reads_no_mail : (asked : Request) → MakesSteps asked → has_mail_read (alone asked) ≡ false
 reads_no_mail (request.List name) one = refl
 reads_no_mail (request.Flag name uid flags) one = refl
@@ -95,7 +99,7 @@ one_faults asked given entries old new began now done one read =
 read_leaves : (asked : Request) (given : Reply) (entries : List JournalEntry) (old new : Option History) (began now : Faults) → IsDone asked given entries old new began now → MakesSteps asked → only_reads asked ≡ true → ListMoments old new
 read_leaves asked given entries old new began now done one reads = record {
   safe = λ lists at. (reads_safe asked given entries old new began now done reads lists at).0;
-  stays = done.stays (λ delivers. served_from asked given entries old new began now done one);
+  stays = done.stays (purges_none asked one, λ delivers. served_from asked given entries old new began now done one);
   closed_well = closed_since old done.leaves.opened new done.leaves.closed_well (done.leaves.idle (changes_none asked reads));
 }
 
@@ -204,8 +208,8 @@ change_mail asked given entries old new began now k = record {
   generation = k.done.leaves.generation;
   opened = k.done.leaves.opened;
   swept = k.done.leaves.swept;
-  stays = k.done.stays (λ delivers. served_from asked given entries old new began now k.done k.one);
-  mail = λ running. k.done.leaves.mail k.delivers (stopped_one given running);
+  stays = k.done.stays (purges_none asked k.one, λ delivers. served_from asked given entries old new began now k.done k.one);
+  mail = λ running. k.done.leaves.mail k.delivers (purges_none asked k.one) (stopped_one given running);
 }
 
 change_leaves : (asked : Request) (change : Lists → Lists) (given : Reply) (entries : List JournalEntry) (old new : Option History) (began now : Faults) → IsOneChange asked given entries old new began now → MakesOneStep asked → ((answer : Reply) (lists : Lists) → (lists_told asked answer lists ≡ lists) ⊎ (lists_told asked answer lists ≡ change lists)) → ChangeMoments change old new

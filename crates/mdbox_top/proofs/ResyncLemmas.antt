@@ -19,9 +19,8 @@ use Rattle.script_run.specs.Faults.{HasReadFault}
 use Rattle.script_run.specs.LeftOpen.{IsRequestDone}
 use Rattle.script_run.specs.One.{IsUndoneAlone, RunsAlone, alone}
 use Rattle.script_run.specs.Resynced.{IsResyncAnswer, IsResynced}
-use Rattle.script_run.specs.Script.{HasStopped}
+use Rattle.script_run.specs.Script.{HasStopped, has_fetch}
 use Rattle.script_run.proofs.AloneLemmas.{may_read}
-use Rattle.script_run.proofs.ShownLemmas.{ListsAnswer}
 use Rattle.script_run.proofs.SomeListsLemmas.{some_lists}
 use Rattle.script_run.proofs.ToldLemmas.{serves_one}
 use Rattle.script_run.proofs.UnchangedLemmas.{listed_safe, unchanged_since}
@@ -30,7 +29,6 @@ use Rattle.mdbox_top.specs.InputRun.{IsOneOf}
 use Rattle.mdbox_top.specs.ResyncRun.{IsResyncReply, MayReplyResync, OpensResynced, ResyncOutcome}
 use Rattle.mdbox_top.specs.Served.{FaultsByReply}
 use Rattle.mdbox_top.proofs.CountsLemmas.{opening_one, others_of, shown_one}
-use Rattle.mdbox_top.proofs.MakeLemmas.{done_alone}
 use Rattle.mdbox_top.proofs.OneStepLemmas.{stopped_one}
 use Rattle.mdbox_top.proofs.RequestLemmas.{opening_number, request_status}
 use Rattle.mdbox_top.specs.OpeningOutcome.{opening_outcome}
@@ -39,8 +37,8 @@ abbrev ResyncDone : Reply → Option History → Option History → Faults → F
 ResyncDone given old new began now = IsRequestDone request.Resync given old new began now
 
 -- it may be served from some lists, whatever the files are
-served_some : (given : Reply) (old new : Option History) (began now : Faults) → ResyncDone given old new began now → MayBeServed (alone request.Resync) old
-served_some given old new began now w = let some = some_lists old w.done.m w.done.meanings w.done.opened in (some.0, may_read request.Resync tt some.0 old)
+pub served_some : (asked : Request) (given : Reply) (old new : Option History) (began now : Faults) → IsRequestDone asked given old new began now → RunsAlone asked → MayBeServed (alone asked) old
+served_some asked given old new began now w one = let some = some_lists old w.done.m w.done.meanings w.done.opened in (some.0, may_read asked one some.0 old)
 
 -- ---- its faults
 
@@ -51,9 +49,10 @@ unread_one given calm (suc n, l, is) = omega (arith, l)
 other_refusal : (given : Reply) → given ≡ reply.Refused refusal.Stopped → given ≡ reply.Refused refusal.ReadFault → ⊥
 other_refusal given stopped read = let k : reply.Refused refusal.Stopped ≡ reply.Refused refusal.ReadFault = sym stopped ∙ read in cc k
 
-resync_faults : (given : Reply) (old new : Option History) (began now : Faults) → ResyncDone given old new began now → FaultsByReply given began now
-resync_faults given old new began now w =
-    let f = w.done.faults (served_some given old new began now w) in
+-- of any request that fetches no message
+pub alone_faults : (asked : Request) (given : Reply) (old new : Option History) (began now : Faults) → IsRequestDone asked given old new began now → RunsAlone asked → has_fetch (alone asked) ≡ false → FaultsByReply given began now
+alone_faults asked given old new began now w one fetches =
+    let f = w.done.faults (served_some asked given old new began now w one) in
     record {
       reads = f.counted;
       changes = f.changes;
@@ -62,7 +61,7 @@ resync_faults given old new began now w =
           subst (λ (n : ℕ). RoseBy n began.reads now.reads) once f.reads;
       read_alone = λ e. f.unchanged (stopped_one given (λ stopped. other_refusal given stopped e));
       stopped = λ e. f.stopped (0, omega arith, e);
-      change_alone = λ e. w.done.counts.calm refl (unread_one given (other_refusal given e));
+      change_alone = λ e. w.done.counts.calm fetches (unread_one given (other_refusal given e));
       unfailed = λ calm running. f.quiet (unread_one given calm) (stopped_one given running);
     }
 
@@ -88,8 +87,8 @@ resync_tells given old new began now w = record {
     generation = w.done.leaves.generation;
     opened = w.done.leaves.opened;
     swept = w.done.leaves.swept;
-    stays = w.done.stays (λ delivers. served_some given old new began now w);
-    mail = λ running. w.done.leaves.mail refl (stopped_one given running);
+    stays = w.done.stays (refl, λ delivers. served_some request.Resync given old new began now w tt);
+    mail = λ running. w.done.leaves.mail refl refl (stopped_one given running);
   };
   done = λ corrected damaged e. record {
     map = w.later;
@@ -101,18 +100,14 @@ resync_tells given old new began now w = record {
   settled = λ running lists at. (listed_safe request.Resync given w.entries old new began now w.done refl lists at).1 (stopped_one given running);
 }
 
-resync_done : (given : Reply) (old new : Option History) (began now : Faults) → ResyncDone given old new began now → IsDoneAlone request.Resync given old new began now
+pub resync_done : (given : Reply) (old new : Option History) (began now : Faults) → ResyncDone given old new began now → IsDoneAlone request.Resync given old new began now
 resync_done given old new began now w = record {
   tells = resync_tells given old new began now w;
   serves = λ lists safe. serves_one request.Resync given w.entries old new began now w.done lists safe (may_read request.Resync tt lists old);
   moments = λ lists at. (listed_safe request.Resync given w.entries old new began now w.done refl lists at).0;
-  rests = λ none lists at. (listed_safe request.Resync given w.entries old new began now w.done refl lists at).1 (stopped_one given (λ e. none e ((resync_faults given old new began now w).stopped e)));
-  faults = resync_faults given old new began now w;
+  rests = λ none lists at. (listed_safe request.Resync given w.entries old new began now w.done refl lists at).1 (stopped_one given (λ e. none e ((alone_faults request.Resync given old new began now w tt refl).stopped e)));
+  faults = alone_faults request.Resync given old new began now w tt refl;
 }
-
-pub alone_done : (asked : Request) (given : Reply) (old new : Option History) (began now : Faults) → IsRequestDone asked given old new began now → RunsAlone asked → ListsAnswer → IsDoneAlone asked given old new began now
-alone_done request.Resync given old new began now w one answer = resync_done given old new began now w
-alone_done asked given old new began now w one answer = done_alone asked given old new began now w one answer
 
 -- ---- its status
 

@@ -38,6 +38,7 @@ use Rattle.mdbox_top.specs.MakeRun.{IsMakeReply, AreMade}
 use Rattle.mdbox_top.specs.MoveRun.{IsMoveReply}
 use Rattle.mdbox_top.specs.ExpungeRun.{IsExpungeReply, lists_without}
 use Rattle.mdbox_top.specs.CountsRun.{IsCountsReply}
+use Rattle.mdbox_top.specs.PurgeRun.{IsPurgeReply}
 use Rattle.mdbox_top.specs.ResyncRun.{IsResyncReply}
 use Rattle.mdbox_top.proofs.BatchLemmas.{batch_damage, batch_input, batch_rests_as, batch_status, batch_used}
 use Rattle.mdbox_top.proofs.CountsLemmas.{counts_status}
@@ -61,6 +62,7 @@ input_memory (command.Move name uid target) left told h k old new f g why e = ab
 input_memory (command.Make name) left told h k old new f g why e = absurd (request_input (IsMakeReply name) (request.Make name) h k old new f g why e)
 input_memory command.Counts left told h k old new f g why e = absurd (request_input IsCountsReply request.Counts h k old new f g why e)
 input_memory command.Resync left told h k old new f g why e = absurd (request_input IsResyncReply request.Resync h k old new f g why e)
+input_memory command.Purge left told h k old new f g why e = absurd (request_input IsPurgeReply request.Purge h k old new f g why e)
 input_memory (command.Batch lanes) left told h k old new f g why e = batch_input lanes left h k old new f g why e
 input_memory (command.Exercise lanes count number) left told h k old new f g why e = absurd (exercise_input lanes count number h k old new f g why e)
 input_memory (command.Rebuild id) left told h k old new f g why e = absurd e
@@ -80,6 +82,7 @@ damage_memory (command.Move box uid target) left told h k old new f g name place
 damage_memory (command.Make box) left told h k old new f g name place e = request_damage (IsMakeReply box) (request.Make box) h k old new f g (store.Damaged name place) e
 damage_memory command.Counts left told h k old new f g name place e = request_damage IsCountsReply request.Counts h k old new f g (store.Damaged name place) e
 damage_memory command.Resync left told h k old new f g name place e = request_damage IsResyncReply request.Resync h k old new f g (store.Damaged name place) e
+damage_memory command.Purge left told h k old new f g name place e = request_damage IsPurgeReply request.Purge h k old new f g (store.Damaged name place) e
 damage_memory (command.Batch lanes) left told h k old new f g name place e = batch_damage lanes left h k old new f g (store.Damaged name place) e
 damage_memory (command.Exercise lanes count number) left told h k old new f g name place e = exercise_damage lanes count number h k old new f g (store.Damaged name place) e
 damage_memory (command.Rebuild id) left told h k old new f g name place e = absurd e
@@ -121,6 +124,7 @@ has_status (command.Move name uid target) r left told h k old new f g o e = λ l
 has_status (command.Make name) r left told h k old new f g o e = λ lists s. request_status (IsMakeReply name) (request.Make name) h k old new f g o e lists s
 has_status command.Counts r left told h k old new f g o e = λ lists s. counts_status h k old new f g o e lists s
 has_status command.Resync r left told h k old new f g o e = λ lists s. resync_status h k old new f g o e lists s
+has_status command.Purge r left told h k old new f g o e = λ lists s. request_status IsPurgeReply request.Purge h k old new f g o e lists s
 has_status (command.Batch lanes) r left told h k old new f g o e = batch_status lanes left h k old new f g o (omega (arith, r.1)) e
 has_status (command.Exercise lanes count number) r left told h k old new f g o e = λ lists s. exercise_status lanes count number h k old new f g o e lists s
 has_status (command.Rebuild id) r left told h k old new f g o e = rebuild_status id.0 h k old new o e
@@ -142,6 +146,7 @@ used (command.Move name uid target) left told h k old new f g e = request_used (
 used (command.Make name) left told h k old new f g e = request_used (IsMakeReply name) (request.Make name) h k old new f g e
 used command.Counts left told h k old new f g e = request_used IsCountsReply request.Counts h k old new f g e
 used command.Resync left told h k old new f g e = request_used IsResyncReply request.Resync h k old new f g e
+used command.Purge left told h k old new f g e = request_used IsPurgeReply request.Purge h k old new f g e
 used (command.Batch lanes) left told h k old new f g e = batch_used lanes left h k old new f g e
 used (command.Exercise lanes count number) left told h k old new f g e = exercise_used lanes count number h k old new f g e
 used (command.Rebuild id) left told h k old new f g e = e
@@ -267,6 +272,7 @@ fails_last (command.Copy name uid target) o last y e = one_last o last y e
 fails_last (command.Move name uid target) o last y e = one_last o last y e
 fails_last (command.Make name) o last y e = one_last o last y e
 fails_last command.Resync o last y e = one_last o last y e
+fails_last command.Purge o last y e = one_last o last y e
 fails_last (command.Batch lanes) o last y e = one_last o last y e
 fails_last other o last y e = six_last o last y e
 
@@ -281,6 +287,7 @@ rests_last (command.Move name uid target) left told F G f g old new h r = λ non
 rests_last (command.Make name) left told F G f g old new h r = λ none. r (λ failed. none (h failed))
 rests_last command.Counts left told F G f g old new h r = λ none. r (λ failed. none (h failed))
 rests_last command.Resync left told F G f g old new h r = λ none. r (λ failed. none (h failed))
+rests_last command.Purge left told F G f g old new h r = λ none. r (λ failed. none (h failed))
 rests_last (command.Batch lanes) left told F G f g old new h r = batch_rests_as lanes left F G f g old new h r
 rests_last (command.Exercise lanes count number) left told F G f g old new h r = exercise_rests_as lanes count number F G f g old new h r
 rests_last other left told F G f g old new h r = tt

@@ -45,6 +45,7 @@ plain_text (request.Move name uid target) given one = refl
 plain_text (request.Make name) given one = refl
 plain_text request.Counts given one = refl
 plain_text request.Resync given one = refl
+plain_text request.Purge given one = refl
 plain_text other given one = absurd one
 
 pub shows_text : (request : Request) (given : Reply) (h k : Option (List ℕ)) (o : Outcome) → RunsAlone request → ShowsReply (reply_text given) given h k o → ShowsReply (single_text request given) given h k o
@@ -70,6 +71,7 @@ rests_as (request.Move name uid target) F G began now old new h r = λ none. r (
 rests_as (request.Make name) F G began now old new h r = λ none. r (λ failed. none (h failed))
 rests_as request.Counts F G began now old new h r = λ none. r (λ failed. none (h failed))
 rests_as request.Resync F G began now old new h r = λ none. r (λ failed. none (h failed))
+rests_as request.Purge F G began now old new h r = λ none. r (λ failed. none (h failed))
 rests_as other F G began now old new h r = r
 
 pub served_rests : (request : Request) (text : List ℕ) (given : Reply) (h k : Option (List ℕ)) (old new : Option History) (began now : Faults) (o : Outcome) → IsDoneAlone request given old new began now → ShowsReply text given h k o → RequestRests request (MayFail request (status_of o)) began now old new
@@ -103,6 +105,7 @@ pub unopened_leaves : (request : Request) (old new : Option History) (began now 
 unopened_leaves (request.List name) old new began now why one u = record { safe = u.moments; stays = u.stays; closed_well = u.closed_well }
 unopened_leaves request.Counts old new began now why one u = record { safe = u.moments; stays = u.stays; closed_well = u.closed_well }
 unopened_leaves request.Resync old new began now why one u = u.moments
+unopened_leaves request.Purge old new began now why one u = u.moments
 unopened_leaves (request.Flag name uid flags) old new began now why one u = change_unopened_leaves (set_flags name uid.0 flags) old new began now why u
 unopened_leaves (request.Expunge name uid) old new began now why one u = change_unopened_leaves (lists_without name uid) old new began now why u
 unopened_leaves (request.Copy name uid target) old new began now why one u = change_unopened_leaves (copied_lists name uid target) old new began now why u
@@ -115,6 +118,7 @@ pub unopened_rests : (request : Request) (old new : Option History) (began now :
 unopened_rests (request.List name) old new began now why one u = λ none. (u.settled_again (λ f. none (unopened_may (request.List name) why f)), u.carried (λ f. none (unopened_may (request.List name) why f)))
 unopened_rests request.Counts old new began now why one u = λ none. (u.settled_again (λ f. none (unopened_may request.Counts why f)), u.carried (λ f. none (unopened_may request.Counts why f)))
 unopened_rests request.Resync old new began now why one u = λ none. u.settled_again (λ f. none (unopened_may request.Resync why f))
+unopened_rests request.Purge old new began now why one u = λ none. u.settled_again (λ f. none (unopened_may request.Purge why f))
 unopened_rests (request.Flag name uid flags) old new began now why one u = λ none lists at. inl (u.settled_again (λ f. none (unopened_may (request.Flag name uid flags) why f)) lists at)
 unopened_rests (request.Expunge name uid) old new began now why one u = λ none lists at. inl (u.settled_again (λ f. none (unopened_may (request.Expunge name uid) why f)) lists at)
 unopened_rests (request.Copy name uid target) old new began now why one u = λ none lists at. inl (u.settled_again (λ f. none (unopened_may (request.Copy name uid target) why f)) lists at)

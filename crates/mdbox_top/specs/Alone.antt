@@ -20,6 +20,7 @@ use Rattle.mdbox_top.specs.MakeRun.{IsMakeReply, MakeMoments, MakeRests}
 use Rattle.mdbox_top.specs.MoveRun.{IsMoveReply, MoveMoments, MoveRests}
 use Rattle.mdbox_top.specs.ExpungeRun.{IsExpungeReply, ExpungeMoments, ExpungeRests}
 use Rattle.mdbox_top.specs.CountsRun.{IsCountsReply, CountsMoments, CountsRests}
+use Rattle.mdbox_top.specs.PurgeRun.{IsPurgeReply, PurgeMoments, PurgeRests}
 use Rattle.mdbox_top.specs.ResyncRun.{IsResyncReply, ResyncMoments, ResyncRests}
 
 -- what its reply tells
@@ -34,6 +35,7 @@ ReplyTells (request.Move name uid target) = IsMoveReply name uid target
 ReplyTells (request.Make name) = IsMakeReply name
 ReplyTells request.Counts = IsCountsReply
 ReplyTells request.Resync = IsResyncReply
+ReplyTells request.Purge = IsPurgeReply
 ReplyTells other = λ old new given. ⊥
 
 -- what a crash at any moment of it may leave
@@ -48,6 +50,7 @@ RequestMoments (request.Move name uid target) = MoveMoments name uid target
 RequestMoments (request.Make name) = MakeMoments name
 RequestMoments request.Counts = CountsMoments
 RequestMoments request.Resync = ResyncMoments
+RequestMoments request.Purge = PurgeMoments
 RequestMoments other = λ old new. ⊥
 
 -- what it leaves of the disk when it ends, by whether it failed and the counts of the disk's faults
@@ -62,6 +65,7 @@ RequestRests (request.Move name uid target) = MoveRests name uid target
 RequestRests (request.Make name) = MakeRests name
 RequestRests request.Counts = CountsRests
 RequestRests request.Resync = ResyncRests
+RequestRests request.Purge = PurgeRests
 RequestRests other = λ failed began now old new. ⊥
 
 -- The statuses with which it may end if a call of the disk failed. A listing or a count reads no file once the store is open. Any

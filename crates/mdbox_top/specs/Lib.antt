@@ -20,6 +20,7 @@ pub mod Numbers
 pub mod OpeningOutcome
 pub mod PrintedPlaces
 pub mod PrintedReplies
+pub mod PurgeRun
 pub mod RebuildRun
 pub mod ResyncRun
 pub mod Run

@@ -25,6 +25,7 @@ use Rattle.mdbox_top.specs.MakeRun.{MakeOutcome, MakeMoments, MakeRests}
 use Rattle.mdbox_top.specs.MoveRun.{MoveOutcome, MoveMoments, MoveRests}
 use Rattle.mdbox_top.specs.ExpungeRun.{ExpungeOutcome, ExpungeMoments, ExpungeRests}
 use Rattle.mdbox_top.specs.CountsRun.{CountsOutcome, CountsMoments, CountsRests}
+use Rattle.mdbox_top.specs.PurgeRun.{PurgeOutcome, PurgeMoments, PurgeRests}
 use Rattle.mdbox_top.specs.ResyncRun.{ResyncOutcome, ResyncMoments, ResyncRests}
 
 -- How a command ends: this was left of the input, this is the time that the clock would tell, the output held this before and
@@ -41,6 +42,7 @@ Ends (command.Move name uid target) left told held later old new began now outco
 Ends (command.Make name) left told held later old new began now outcome = MakeOutcome name held later old new began now outcome
 Ends command.Counts left told held later old new began now outcome = CountsOutcome held later old new began now outcome
 Ends command.Resync left told held later old new began now outcome = ResyncOutcome held later old new began now outcome
+Ends command.Purge left told held later old new began now outcome = PurgeOutcome held later old new began now outcome
 Ends (command.Batch lanes) left told held later old new began now outcome = BatchOutcome lanes left held later old new began now outcome
 Ends (command.Exercise lanes count number) left told held later old new began now outcome = ExerciseOutcome lanes count number held later old new began now outcome
 Ends (command.Rebuild id) left told held later old new began now outcome = RebuildOutcome id.0 held later old new outcome
@@ -69,6 +71,7 @@ Moments (command.Move name uid target) left told old new = MoveMoments name uid 
 Moments (command.Make name) left told old new = MakeMoments name old new
 Moments command.Counts left told old new = CountsMoments old new
 Moments command.Resync left told old new = ResyncMoments old new
+Moments command.Purge left told old new = PurgeMoments old new
 Moments (command.Batch lanes) left told old new = BatchMoments lanes left old new
 Moments (command.Exercise lanes count number) left told old new = ExerciseMoments lanes count number old new
 Moments (command.Rebuild id) left told old new = RebuildMoments old new
@@ -86,6 +89,7 @@ Rests (command.Move name uid target) left told failed began now old new = MoveRe
 Rests (command.Make name) left told failed began now old new = MakeRests name failed began now old new
 Rests command.Counts left told failed began now old new = CountsRests failed began now old new
 Rests command.Resync left told failed began now old new = ResyncRests failed began now old new
+Rests command.Purge left told failed began now old new = PurgeRests failed began now old new
 Rests (command.Batch lanes) left told failed began now old new = BatchRests lanes left failed began now old new
 Rests (command.Exercise lanes count number) left told failed began now old new = ExerciseRests lanes count number failed began now old new
 Rests other left told failed began now old new = Unit {0}
@@ -104,6 +108,7 @@ HasStatus (command.Move name uid target) left old status = (lists : Lists) → I
 HasStatus (command.Make name) left old status = (lists : Lists) → IsSettledFor lists old → IsOneOf (0 ∷ 1 ∷ 5 ∷ 6 ∷ 8 ∷ []) status
 HasStatus command.Counts left old status = (lists : Lists) → IsSettledFor lists old → IsOneOf (0 ∷ 5 ∷ 6 ∷ 8 ∷ []) status
 HasStatus command.Resync left old status = (lists : Lists) → IsSettledFor lists old → IsOneOf (0 ∷ 5 ∷ 6 ∷ 8 ∷ []) status
+HasStatus command.Purge left old status = (lists : Lists) → IsSettledFor lists old → IsOneOf (0 ∷ 1 ∷ 5 ∷ 6 ∷ 8 ∷ []) status
 HasStatus (command.Batch lanes) left old status = BatchStatus lanes left old status
 HasStatus (command.Exercise lanes count number) left old status = (lists : Lists) → IsSettledFor lists old → IsOneOf (0 ∷ 1 ∷ 5 ∷ 6 ∷ 8 ∷ []) status
 HasStatus (command.Rebuild id) left old status = (IsLostNow old → IsOneOf (0 ∷ 5 ∷ 6 ∷ 8 ∷ []) status) × (IsWholeNow old → IsOneOf (3 ∷ 5 ∷ 6 ∷ []) status)
@@ -123,6 +128,7 @@ MayHaveFailed (command.Copy name uid target) status = MayFail (request.Copy name
 MayHaveFailed (command.Move name uid target) status = MayFail (request.Move name uid target) status
 MayHaveFailed (command.Make name) status = MayFail (request.Make name) status
 MayHaveFailed command.Resync status = MayFail request.Resync status
+MayHaveFailed command.Purge status = MayFail request.Purge status
 MayHaveFailed (command.Batch lanes) status = IsOneOf (5 ∷ 6 ∷ 8 ∷ []) status
 MayHaveFailed other status = status ≡ 6
 
@@ -152,6 +158,7 @@ uses_disk (command.Move name uid target) = true
 uses_disk (command.Make name) = true
 uses_disk command.Counts = true
 uses_disk command.Resync = true
+uses_disk command.Purge = true
 uses_disk (command.Batch lanes) = true
 uses_disk (command.Exercise lanes count number) = true
 uses_disk (command.Rebuild id) = true

@@ -158,6 +158,7 @@ fn perform<D: Disk, I: Source, O: Sink, C: Clock>(
         }
         Command::Counts => serve(alloc, Request::Counts, disk, output),
         Command::Resync => serve(alloc, Request::Resync, disk, output),
+        Command::Purge => serve(alloc, Request::Purge, disk, output),
         Command::Expunge { name, uid } => {
             serve(alloc, Request::Expunge { name, uid }, disk, output)
         }

@@ -8,6 +8,7 @@ pub mod CopiedMoreLemmas
 pub mod CopiedOctetsLemmas
 pub mod CopyLemmas
 pub mod CopyStepLemmas
+pub mod DropLemmas
 pub mod EventLemmas
 pub mod FailLemmas
 pub mod FewInstanceLemmas

@@ -151,6 +151,7 @@ one_makes other one = absurd one
 
 pub makes_alone : (asked : Request) → MakesSteps asked → RunsAlone asked
 makes_alone request.Resync one = tt
+makes_alone request.Purge one = tt
 makes_alone asked one = one
 
 -- they fetch no message
@@ -162,6 +163,7 @@ may_read (request.Expunge name uid) one lists old = λ f. absurd (let e : false 
 may_read (request.Copy name uid target) one lists old = λ f. absurd (let e : false ≡ true = f in cc e)
 may_read (request.Move name uid target) one lists old = λ f. absurd (let e : false ≡ true = f in cc e)
 may_read request.Resync one lists old = λ f. absurd (let e : false ≡ true = f in cc e)
+may_read request.Purge one lists old = λ f. absurd (let e : false ≡ true = f in cc e)
 may_read request.Counts one lists old = λ f. absurd (let e : false ≡ true = f in cc e)
 may_read other one lists old = absurd one
 
@@ -254,14 +256,16 @@ answered_first asked given entries old new began now done one lists shows =
     by_end (inr (inl read)) = absurd (unread asked given entries old new began now done (one_makes asked one) read)
     by_end (inr (inr step)) = inr (answered asked given entries old new began now done one lists shows step)
 
--- ---- a request that only reads leaves the lists, and so does a resync
+-- ---- a request that only reads leaves the lists, and so do a resync and a purge
 
 abbrev pub leaves_lists : Request → Bool
 leaves_lists request.Resync = true
+leaves_lists request.Purge = true
 leaves_lists asked = only_reads asked
 
 pub reads_leave : (asked : Request) → only_reads asked ≡ true → leaves_lists asked ≡ true
 reads_leave request.Resync reads = refl
+reads_leave request.Purge reads = refl
 reads_leave asked reads = reads
 
 reads_still : (asked : Request) (given : Reply) (old new : Lists) → leaves_lists asked ≡ true → AreListsTold asked given old new → new ≡ old
@@ -269,6 +273,7 @@ reads_still (request.List name) given old new reads told = told
 reads_still (request.Fetch name uid) given old new reads told = told
 reads_still request.Counts given old new reads told = told
 reads_still request.Resync given old new reads told = told
+reads_still request.Purge given old new reads told = told
 reads_still other given old new reads told = absurd (let e : false ≡ true = reads in cc e)
 
 moves_none : (asked : Request) → leaves_lists asked ≡ true → IsMove asked → ⊥

@@ -54,6 +54,7 @@ use Rattle.script_run.proofs.MailStaysLemmas.{opening_keeps, run_keeps, stays_fr
 use Rattle.script_run.proofs.CopyTaskLemmas.{IsCopyTold, StandsCopy, begun_copy, keeps_copy}
 use Rattle.script_run.proofs.ChainLemmas.{HasCounted, HasDoomedNone, HasOnlyRead, HasReadAsTold, HasReadNoOctets, HasWrittenNone, WritesNoMail, calm_on, counted_first, counted_on, reads_on, stays_over, syncs_first, unread_on, unwritten_on}
 use Rattle.script_run.proofs.SinceLemmas.{ServedSince, answers_first, begun_first, changes_none, dooms_first, fresh_tasks, reads_first, reads_unpurged, served_since, unpurged, unread_first, unwritten_first}
+use Rattle.script_run.specs.Purged.{IsPurgedAlone}
 use Rattle.script_run.specs.Resynced.{IsResyncedAlone}
 use Rattle.script_run.proofs.MakeTaskLemmas.{IsMakeTold, StandsMake, begun_make, keeps_make, making_cause, unmade_alike}
 use Rattle.script_run.proofs.MoveTaskLemmas.{IsMoveTold, StandsMove, begun_move, keeps_move}
@@ -61,6 +62,7 @@ use Rattle.script_run.proofs.MovedLemmas.{all_at, none_moved}
 use Rattle.script_run.proofs.OneTaskLemmas.{IsAloneSo, IsExpungeTold, IsFlagTold, KeepsAlone, StandsExpunge, StandsFlag, alone_fresh, alone_on, begun_expunge, keeps_expunge, keeps_flag}
 use Rattle.script_run.proofs.OpenedLemmas.{none_doomed, none_holds, none_used}
 use Rattle.script_run.proofs.ReadFaultLemmas.{TellsFault, faults_are_told}
+use Rattle.script_run.proofs.PurgeTaskLemmas.{IsPurgeTold, StandsPurge, begun_purge, keeps_purge}
 use Rattle.script_run.proofs.ResyncTaskLemmas.{IsResyncTold, StandsResync, begun_resync, keeps_resync}
 use Rattle.script_run.proofs.RunBeginsLemmas.{OpenedNow, at_opening, before_opening, beginning, first_come, opening_begins}
 use Rattle.script_run.proofs.ShownLemmas.{LogsShow, opened_logs_show, opens_again}
@@ -355,6 +357,10 @@ resync_told : {D : Type 0} → (at : ℕ) (one : Reply) (old mid new : Option Hi
 resync_told at one old mid new first last s world ended r are =
     alone_told (StandsResync s mid) (IsResyncTold s mid) at request.Resync one old mid new first last s world ended r are refl (keeps_resync s mid r.opened.free) (begun_resync s mid r.opened.running)
 
+purge_told : {D : Type 0} → (at : ℕ) (one : Reply) (old mid new : Option History) (first last : Faults) (s : StoreValue D) (world ended : WorldValue D) → ScriptRan ((at, request.Purge) ∷ []) old mid new first last s world ended → ended.replies ≡ Some one ∷ [] → IsPurgeTold s one ended.store new
+purge_told at one old mid new first last s world ended r are =
+    alone_told (StandsPurge s) (IsPurgeTold s) at request.Purge one old mid new first last s world ended r are refl (keeps_purge s) (begun_purge s mid r.opened.running)
+
 told_alone : {D : Type 0} → (script : Requests) (old mid new : Option History) (first last : Faults) (s : StoreValue D) (world ended : WorldValue D) → ScriptRan script old mid new first last s world ended → (given : List Reply) → ended.replies ≡ map Some given → IsToldAlone script s.map (indexes_of s.boxes) given
 told_alone ((at, request.Flag name uid flags) ∷ []) old mid new first last s world ended r (one ∷ []) are = flag_told at name uid flags one old mid new first last s world ended r are
 told_alone ((at, request.Make name) ∷ []) old mid new first last s world ended r (one ∷ []) are = making_cause name s one r.opened.drawn (make_told at name one old mid new first last s world ended r are).given_is
@@ -385,6 +391,10 @@ resynced_alone : {D : Type 0} → (script : Requests) (old mid new : Option Hist
     → IsResyncedAlone script given mid s.map (indexes_of s.boxes) ended.store.map (indexes_of ended.store.boxes)
 resynced_alone ((at, request.Resync) ∷ []) old mid new first last s world ended r (one ∷ []) are = (resync_told at one old mid new first last s world ended r are).answer
 resynced_alone script old mid new first last s world ended r given are = tt
+
+purged_alone : {D : Type 0} → (script : Requests) (old mid new : Option History) (first last : Faults) (s : StoreValue D) (world ended : WorldValue D) → ScriptRan script old mid new first last s world ended → (given : List Reply) → ended.replies ≡ map Some given → IsPurgedAlone script given s.map ended.store.map
+purged_alone ((at, request.Purge) ∷ []) old mid new first last s world ended r (one ∷ []) are = purge_told at one old mid new first last s world ended r are
+purged_alone script old mid new first last s world ended r given are = tt
 
 unmade_alone : {D : Type 0} → (script : Requests) (old mid new : Option History) (first last : Faults) (s : StoreValue D) (world ended : WorldValue D) → ScriptRan script old mid new first last s world ended → (given : List Reply) → ended.replies ≡ map Some given → IsUnmadeAlone script given → ReadAlike mid new
 unmade_alone ((at, request.Make name) ∷ []) old mid new first last s world ended r (reply.Refused why ∷ []) are running = unmade_alike r.opened.swept.0 s old mid new r.opened.swept.1 ((make_told at name (reply.Refused why) old mid new first last s world ended r are).leaves why refl running)
@@ -459,6 +469,7 @@ script_done script old mid new first last s world ended r =
           alike = alike_alone script old mid new first last s world ended r g.0 g.1;
           made = made_alone script old mid new first last s world ended r g.0 g.1;
           resynced = resynced_alone script old mid new first last s world ended r g.0 g.1;
+          purged = purged_alone script old mid new first last s world ended r g.0 g.1;
         };
         stopped = λ e. replied_by script old mid new first last s world ended r g.0 g.1 e;
         told = told_alone script old mid new first last s world ended r g.0 g.1;

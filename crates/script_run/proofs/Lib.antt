@@ -10,6 +10,7 @@ pub mod MovedLemmas
 pub mod OneTaskLemmas
 pub mod OpenedLemmas
 pub mod ReadFaultLemmas
+pub mod PurgeTaskLemmas
 pub mod ReachedLemmas
 pub mod ReachedMakeLemmas
 pub mod ReachedMoveLemmas

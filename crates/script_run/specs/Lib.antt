@@ -3,6 +3,7 @@ pub mod Faults
 pub mod LeftOpen
 pub mod One
 pub mod Opening
+pub mod Purged
 pub mod Resynced
 pub mod Script
 pub mod Worked

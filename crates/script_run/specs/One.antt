@@ -91,9 +91,10 @@ MakesSteps (request.Make name) = Unit {0}
 MakesSteps (request.Move name uid target) = Unit {0}
 MakesSteps asked = MakesOneStep asked
 
--- A request that makes its steps so; or a resync, which makes one step too, and reads the messages.
+-- A request that makes its steps so; or a resync or a purge, which make one step too, and read messages.
 abbrev pub RunsAlone : Request → Type 0
 RunsAlone request.Resync = Unit {0}
+RunsAlone request.Purge = Unit {0}
 RunsAlone asked = MakesSteps asked
 
 -- It was replied what the machine answers, on these lists, at its first event: of a run whose map is this then.

@@ -1,4 +1,4 @@
-use Rattle.mdbox_top.proofs.ResyncLemmas.{alone_done}
+use Rattle.mdbox_top.proofs.PurgeLemmas.{alone_done}
 use Rattle.mdbox_top.proofs.alone.reply_alone.Goals as goal
 
 pub returns-clause-done : goal.returns-clause-done
