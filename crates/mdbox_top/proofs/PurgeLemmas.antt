@@ -1,5 +1,5 @@
 -- A purge alone, by the script that it is.
-use Rattle.std.specs.Prelude.{◌≡◌, ◌⊎◌, ℕ, nat_lt, Bool, true, false, List, [], ◌∷◌, map, Option, Some, None}
+use Rattle.std.specs.Prelude.{◌≡◌, ◌+◌, ℕ, nat_lt, Bool, true, false, List, [], ◌∷◌, length, map, Option, Some, None}
 use Rattle.std.specs.Option.{option_or}
 use Rattle.std.proofs.Common.{refl, sym, ◌∙◌, ap, subst}
 use Rattle.disk_model.specs.Disk.{Faults, History}
@@ -12,8 +12,8 @@ use Rattle.mdbox_base.specs.declared.requests.Request.TheVariants as request
 use Rattle.model_lists.specs.Lists.{Lists}
 use Rattle.model_meaning.specs.MapMeaning.{MapMeaning}
 use Rattle.model_store.specs.Listing.{ShowLists}
-use Rattle.list_machine.specs.Machine.{Check, PartAnswers, TargetFits, NextFiles, first_refusal, part_checks, purge_checks, refusal_at, refused_where}
-use Rattle.list_machine.specs.Run.{EventPart, First, Last, Run, RunEvent, before}
+use Rattle.list_machine.specs.Machine.{PartAnswers, TargetFits, NextFiles, first_refusal, part_checks, refusal_at, refused_where}
+use Rattle.list_machine.specs.Run.{EventPart, First, Last, Run, RunEvent, TakenFile, before, drawn_of, map_of, target_length, with_targets}
 use Rattle.journal.specs.Journal.{AreSteps, IsReplyOf, JournalStep}
 use Rattle.purge_task.specs.Dropped.{DropsUnwanted}
 use Rattle.script_run.specs.LeftOpen.{IsRequestDone}
@@ -39,7 +39,7 @@ abbrev Full : Option Refusal → Type 0
 Full o = (why : Refusal) → o ≡ Some why → why ≡ refusal.StoreFull 4294967294
 
 full_where : (b : Bool) → Full (refused_where b (refusal.StoreFull 4294967294))
-full_where true why e = let k : Some (refusal.StoreFull 4294967294) ≡ Some why = e in sym (cc k)
+full_where true why e = let k : Some (refusal.StoreFull 4294967294) ≡ Some why = e in let z : refusal.StoreFull 4294967294 ≡ why = cc k in sym z
 full_where false why e = absurd (let k : None ≡ Some why = e in cc k)
 
 full_either : (a b : Option Refusal) → Full a → Full b → Full (option_or a b)
@@ -51,7 +51,11 @@ full_targets run lists octets [] why e = absurd (let k : None ≡ Some why = e i
 full_targets run lists octets (x ∷ files) = full_either (refusal_at run lists (TargetFits (octets x))) (first_refusal run lists (map (λ t. TargetFits (octets t)) files)) (full_where (nat_lt 4294967294 (octets x))) (full_targets run lists octets files)
 
 full_checks : (run : Run) (event : RunEvent) (lists : Lists) (part : EventPart) → Full (first_refusal run lists (part_checks run event request.Purge part))
-full_checks run event lists First = full_either _ _ (full_where _) (full_targets run lists _ _)
+full_checks run event lists First =
+    let m = map_of run in
+    let targets = with_targets m event.files in
+    full_either (refusal_at run lists (NextFiles (length targets))) (first_refusal run lists (map (λ t. TargetFits (target_length m t.file)) targets)) (full_where (nat_lt 4294967294 ((drawn_of run).file + length targets)))
+    (full_targets run lists (λ (t : TakenFile). target_length m t.file) targets)
 full_checks run event lists part why e = absurd (let k : None ≡ Some why = e in cc k)
 
 refused_kind : (why : Refusal) → why ≡ refusal.StoreFull 4294967294 → MayReplyPurge (reply.Refused why)
