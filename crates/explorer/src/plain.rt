@@ -236,6 +236,16 @@ pub fn is_answer(given: &Reply, wanted: &Reply, others: u64) -> bool {
             },
             Reply::Counted { references: b, .. },
         ) => a == b && counts >= b && *counts <= b.saturating_add(others),
+        (
+            Reply::Resynced {
+                corrected: a,
+                damaged: x,
+            },
+            Reply::Resynced {
+                corrected: b,
+                damaged: y,
+            },
+        ) => a == b && x == y,
         (Reply::Refused(a), Reply::Refused(b)) => a == b,
         _ => false,
     }
