@@ -193,9 +193,10 @@ StaysOfRequest t next = ⊥
 
 -- Whatever the disk is and fails: time goes on, and at each moment storage files and instances have what the map needs. No count of
 -- faults falls; unless the store is stopped then no change failed, and an event that stops it is one in which a change failed and no
--- read. A task that reads no octets counts no failed read, and any but a fetch one only if it replies so. One that reads at the most changes nothing, nor does a first event that is
--- refused, but for want of memory or by a failed call, nor any event of a store that was stopped, nor one that leaves the store's disk as
--- it was. It is answered by what the store has (`TellsStore`). It stays the task of its request.
+-- read. A task that reads no octets counts no failed read, and any but a fetch one only if it replies so. One that reads at the most
+-- changes nothing, nor does a first event that is refused, but for want of memory or by a failed call, nor any event of a store that was
+-- stopped, nor one that leaves the store's disk as it was. It is answered by what the store has (`TellsStore`). It stays the task of its
+-- request.
 pub record TaskKeeps {D : Type 0} (t next : Task) (old new : StoreValue D) (before after : Option History) (began now : Faults) (ended : Option Reply) : Type 0 where
   pub request : StaysOfRequest t next
   pub grows : Grows before after
