@@ -1,5 +1,5 @@
 -- A resync alone: what its task knows from one event to the next.
-use Rattle.std.specs.Prelude.{◌≡◌, ◌≢◌, ◌<◌, ◌≤◌, ◌+◌, ◌==◌, ◌⊎◌, ◌++◌, ℕ, zero, suc, Bool, true, false, cond, List, [], ◌∷◌, All, AllPairs, Contains, length, slice_get, if◌counted◌else◌, Option, Some, None}
+use Rattle.std.specs.Prelude.{◌≡◌, ◌≢◌, ◌<◌, ◌≤◌, ◌+◌, ◌==◌, ◌⊎◌, ◌++◌, ℕ, zero, suc, Bool, true, false, cond, List, [], ◌∷◌, All, AllPairs, Contains, length, slice_get, if◌then◌else◌, Option, Some, None}
 use Rattle.std.proofs.Common.{refl, sym, ◌∙◌, ap, subst, inl, inr, arith}
 use Rattle.std.proofs.lemmas.Bool.{cases_lt}
 use Rattle.std.proofs.lemmas.List.{length-append}
@@ -176,8 +176,8 @@ no_due (row ∷ rows) uid = by_test (row.uid == uid) refl (no_due rows uid)
 wrong_same : (f g : ℕ → ℕ) → ((uid : ℕ) → f uid ≡ g uid) → (rows : List MapRecord) → wrong_beside f rows ≡ wrong_beside g rows
 wrong_same f g same [] = refl
 wrong_same f g same (row ∷ rows) =
-    ap (λ (n : ℕ). if row.count == n counted wrong_beside f rows else record { uid = record { 0 = row.uid }; count = n } ∷ wrong_beside f rows) (same row.uid)
-    ∙ ap (λ (rest : List _). if row.count == g row.uid counted rest else record { uid = record { 0 = row.uid }; count = g row.uid } ∷ rest) (wrong_same f g same rows)
+    ap (λ (n : ℕ). if row.count == n then wrong_beside f rows else record { uid = record { 0 = row.uid }; count = n } ∷ wrong_beside f rows) (same row.uid)
+    ∙ ap (λ (rest : List _). if row.count == g row.uid then rest else record { uid = record { 0 = row.uid }; count = g row.uid } ∷ rest) (wrong_same f g same rows)
 
 free_at : {D : Type 0} → (s : StoreValue D) → s.dues ≡ none_due s.map.records → (uid : ℕ) → due_at uid s ≡ 0
 free_at s free uid = ap (number_beside uid s.map.records) free ∙ no_due s.map.records uid
