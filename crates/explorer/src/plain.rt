@@ -242,7 +242,16 @@ pub fn is_answer(given: &Reply, wanted: &Reply, others: u64) -> bool {
             Reply::Counted { references: b, .. },
         ) => a == b && counts >= b && *counts <= b.saturating_add(others),
         (Reply::Purged { .. }, Reply::Purged { .. }) => true,
-        (Reply::Resynced { damaged: a, .. }, Reply::Resynced { damaged: b, .. }) => a == b,
+        (
+            Reply::Resynced {
+                corrected: a,
+                damaged: x,
+            },
+            Reply::Resynced {
+                corrected: b,
+                damaged: y,
+            },
+        ) => a == b && x == y,
         (Reply::Refused(a), Reply::Refused(b)) => a == b,
         _ => false,
     }

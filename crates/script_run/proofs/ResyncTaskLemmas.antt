@@ -54,7 +54,7 @@ place_of (y ∷ xs) x (zero, l, e) = (0, omega arith, ap (λ (z : _). Some z) e)
 place_of (y ∷ xs) x (suc n, l, e) = let k = place_of xs x (n, omega (arith, l), e) in let lt = k.1 in (suc k.0, omega (arith, lt), k.2)
 
 -- one of the first so many numbers
-abbrev IsAmongFirst : ℕ → List ℕ → ℕ → Type 0
+abbrev pub IsAmongFirst : ℕ → List ℕ → ℕ → Type 0
 IsAmongFirst read files file = (i : ℕ) × (i < read) × (slice_get files i ≡ Some file)
 
 -- of numbers that rise, the next isn't one of them
@@ -82,15 +82,15 @@ first_or_next files read file next at first = elim (cases_lt first.0 read) [
 
 -- It has read so many of the files, and found these damaged regions in them; of the store only the disk may be another, and of that
 -- nothing has changed.
-record HasReadFiles {D : Type 0} (s : StoreValue D) (mid : Option History) (files : List ℕ) (read damaged : ℕ) (store : StoreValue D) (history : Option History) : Type 0 where
-  same : store ≡ record s { disk = store.disk }
-  idle : IsIdle mid history
-  listed : AreRecordFiles s.map files
-  uids : List ℕ
-  damaged_are : damaged ≡ length uids
-  once : AllPairs (λ a b. a ≢ b) uids
-  bad : All (λ uid. HasRecord s.map uid (λ row. IsAmongFirst read files row.file × HasDamagedRegion mid row)) uids
-  every : All (λ row. IsAmongFirst read files row.file → Contains uids row.uid ⊎ HasWholeRegion mid row) s.map.records
+pub record HasReadFiles {D : Type 0} (s : StoreValue D) (mid : Option History) (files : List ℕ) (read damaged : ℕ) (store : StoreValue D) (history : Option History) : Type 0 where
+  pub same : store ≡ record s { disk = store.disk }
+  pub idle : IsIdle mid history
+  pub listed : AreRecordFiles s.map files
+  pub uids : List ℕ
+  pub damaged_are : damaged ≡ length uids
+  pub once : AllPairs (λ a b. a ≢ b) uids
+  pub bad : All (λ uid. HasRecord s.map uid (λ row. IsAmongFirst read files row.file × HasDamagedRegion mid row)) uids
+  pub every : All (λ row. IsAmongFirst read files row.file → Contains uids row.uid ⊎ HasWholeRegion mid row) s.map.records
 
 abbrev AtResync : {D : Type 0} → StoreValue D → Option History → ResyncAt → StoreValue D → Option History → Type 0
 AtResync s mid ToList store history = (store ≡ s) × (history ≡ mid)
@@ -120,8 +120,8 @@ none_read s old new mid before after files same was still idle listed = record {
   every = λ k d l first. absurd (let lt = first.1 in omega (arith, lt));
 }
 
-read_on : {D : Type 0} → (s old new : StoreValue D) (mid before after : Option History) (files : List ℕ) (read damaged : ℕ) (uids : List ℕ) (began then : Faults) → HasReadFiles s mid files read damaged old before → ReadsNext files read uids old new before after began then → HasReadFiles s mid files (read + 1) (damaged + length uids) new after
-read_on {D} s old new mid before after files read damaged uids began then at reads = record {
+read_on : {D : Type 0} → (s old new : StoreValue D) (mid before after : Option History) (files : List ℕ) (read damaged : ℕ) (uids : List ℕ) (began counted : Faults) → HasReadFiles s mid files read damaged old before → ReadsNext files read uids old new before after began counted → HasReadFiles s mid files (read + 1) (damaged + length uids) new after
+read_on {D} s old new mid before after files read damaged uids began counted at reads = record {
   same = reads.only.same ∙ ap (λ (v : StoreValue D). record v { disk = new.disk }) at.same;
   idle = idle-then mid before after at.idle reads.only.idle;
   listed = at.listed;
@@ -185,9 +185,9 @@ free_at s free uid = ap (number_beside uid s.map.records) free ∙ no_due s.map.
 wrong_alone : {D : Type 0} → (s : StoreValue D) → s.dues ≡ none_due s.map.records → wrong_of s ≡ wrong_in (indexes_of s.boxes) s.map
 wrong_alone s free = wrong_same (λ uid. listed_at uid s + due_at uid s) (references_in (indexes_of s.boxes)) (λ uid. let none = free_at s free uid in omega (arith, none)) s.map.records
 
-put_right : {D : Type 0} → (s old new : StoreValue D) (mid before after : Option History) (files : List ℕ) (read damaged corrected told : ℕ) (began then : Faults) → s.dues ≡ none_due s.map.records → HasReadFiles s mid files read damaged old before → read ≡ length files → told ≡ damaged → PutsRight corrected old new before after began then → AreExact new
+put_right : {D : Type 0} → (s old new : StoreValue D) (mid before after : Option History) (files : List ℕ) (read damaged corrected told : ℕ) (began counted : Faults) → s.dues ≡ none_due s.map.records → HasReadFiles s mid files read damaged old before → read ≡ length files → told ≡ damaged → PutsRight corrected old new before after began counted → AreExact new
     → IsResynced corrected told mid s.map (indexes_of s.boxes) new.map (indexes_of new.boxes)
-put_right {D} s old new mid before after files read damaged corrected told began then free at all said puts exact =
+put_right {D} s old new mid before after files read damaged corrected told began counted free at all said puts exact =
     let wrong : wrong_of old ≡ wrong_in (indexes_of s.boxes) s.map = ap wrong_of at.same ∙ wrong_alone s free in
     record {
       listings = puts.keeps.indexes ∙ ap (λ (v : StoreValue D). indexes_of v.boxes) at.same;
@@ -217,26 +217,26 @@ refused_resync : {D : Type 0} → (Stands : Type 0) (s : StoreValue D) (mid : Op
     → ResyncOn Stands s mid new after (Some (reply.Refused why))
 refused_resync Stands s mid new after why answer same = ends_resync Stands s mid new after (reply.Refused why) (record { answer = answer; unchanged = λ other e running. same (λ f. running (sym (one_refusal why other e) ∙ f)) })
 
-resync_at : {D : Type 0} → (s : StoreValue D) (mid : Option History) (now next : ResyncAt) (how : Did) (old new : StoreValue D) (before after : Option History) (began then : Faults) (ended : Option Reply) → s.dues ≡ none_due s.map.records → AtResync s mid now old before → ResyncsOn now next (progress_by ended) how old new before after began then
+resync_at : {D : Type 0} → (s : StoreValue D) (mid : Option History) (now next : ResyncAt) (how : Did) (old new : StoreValue D) (before after : Option History) (began counted : Faults) (ended : Option Reply) → s.dues ≡ none_due s.map.records → AtResync s mid now old before → ResyncsOn now next (progress_by ended) how old new before after began counted
     → ((corrected damaged : ℕ) → ended ≡ Some (reply.Resynced corrected damaged) → AreExact new) → (new ≡ old → IsIdle before after) → ResyncOn (AtResync s mid next new after) s mid new after ended
-resync_at s mid ToList (ToRead files read damaged) how old new before after began then None free at on exact same =
+resync_at s mid ToList (ToRead files read damaged) how old new before after began counted None free at on exact same =
     goes_resync _ s mid new after
     (subst (λ (n : ℕ). HasReadFiles s mid files n damaged new after) (sym on.3) (subst (λ (n : ℕ). HasReadFiles s mid files 0 n new after) (sym on.4) (none_read s old new mid before after files at.0 at.1 on.5 (same on.5) on.1)))
-resync_at s mid ToList ToList how old new before after began then (Some (reply.Refused refusal.NoMemory)) free at on exact same = refused_resync _ s mid new after refusal.NoMemory tt (λ running. subst (λ (h : Option History). IsIdle h after) at.1 (same on.1))
-resync_at s mid (ToRead files read damaged) (ToRead still more all) how old new before after began then None free at on exact same =
+resync_at s mid ToList ToList how old new before after began counted (Some (reply.Refused refusal.NoMemory)) free at on exact same = refused_resync _ s mid new after refusal.NoMemory tt (λ running. subst (λ (h : Option History). IsIdle h after) at.1 (same on.1))
+resync_at s mid (ToRead files read damaged) (ToRead still more all) how old new before after began counted None free at on exact same =
     goes_resync _ s mid new after
     (subst (λ (fs : List ℕ). HasReadFiles s mid fs more all new after) (sym on.1.1)
-    (subst (λ (n : ℕ). HasReadFiles s mid files n all new after) (sym on.1.2) (subst (λ (n : ℕ). HasReadFiles s mid files (read + 1) n new after) (sym on.1.3) (read_on s old new mid before after files read damaged on.1.0 began then at on.1.4))))
-resync_at s mid (ToRead files read damaged) ToList how old new before after began then (Some (reply.Resynced corrected told)) free at on exact same =
+    (subst (λ (n : ℕ). HasReadFiles s mid files n all new after) (sym on.1.2) (subst (λ (n : ℕ). HasReadFiles s mid files (read + 1) n new after) (sym on.1.3) (read_on s old new mid before after files read damaged on.1.0 began counted at on.1.4))))
+resync_at s mid (ToRead files read damaged) ToList how old new before after began counted (Some (reply.Resynced corrected told)) free at on exact same =
     ends_resync _ s mid new after (reply.Resynced corrected told)
     (record {
-      answer = put_right s old new mid before after files read damaged corrected told began then free at on.1 on.2 on.3 (exact corrected told refl);
+      answer = put_right s old new mid before after files read damaged corrected told began counted free at on.1 on.2 on.3 (exact corrected told refl);
       unchanged = λ why e. absurd (let k : reply.Resynced corrected told ≡ reply.Refused why = e in cc k);
     })
-resync_at s mid (ToRead files read damaged) ToList how old new before after began then (Some (reply.Refused refusal.NoMemory)) free at on exact same = refused_resync _ s mid new after refusal.NoMemory tt (λ running. idle-then mid before after at.idle on.2.idle)
-resync_at s mid (ToRead files read damaged) ToList how old new before after began then (Some (reply.Refused refusal.ReadFault)) free at on exact same = refused_resync _ s mid new after refusal.ReadFault tt (λ running. idle-then mid before after at.idle on.2.idle)
-resync_at s mid (ToRead files read damaged) ToList how old new before after began then (Some (reply.Refused refusal.Stopped)) free at on exact same = refused_resync _ s mid new after refusal.Stopped tt (λ running. absurd (running refl))
-resync_at s mid now next how old new before after began then ended free at on exact same = absurd on
+resync_at s mid (ToRead files read damaged) ToList how old new before after began counted (Some (reply.Refused refusal.NoMemory)) free at on exact same = refused_resync _ s mid new after refusal.NoMemory tt (λ running. idle-then mid before after at.idle on.2.idle)
+resync_at s mid (ToRead files read damaged) ToList how old new before after began counted (Some (reply.Refused refusal.ReadFault)) free at on exact same = refused_resync _ s mid new after refusal.ReadFault tt (λ running. idle-then mid before after at.idle on.2.idle)
+resync_at s mid (ToRead files read damaged) ToList how old new before after began counted (Some (reply.Refused refusal.Stopped)) free at on exact same = refused_resync _ s mid new after refusal.Stopped tt (λ running. absurd (running refl))
+resync_at s mid now next how old new before after began counted ended free at on exact same = absurd on
 
 resync_on : {D : Type 0} → (s : StoreValue D) (mid : Option History) (t next : Task) (old new : StoreValue D) (before after : Option History) (ended : Option Reply) → s.dues ≡ none_due s.map.records → StandsResync s mid t old before → StaysOfRequest t next → TellsStore t next old new before after ended → (new ≡ old → IsIdle before after) → (ended ≡ None → new.stopped ≡ false)
     → (ended ≡ None → StandsResync s mid next new after) × ((given : Reply) → ended ≡ Some given → IsResyncTold s mid given new after)
