@@ -292,6 +292,10 @@ uses_told store history script run journal lanes place instance at (inr pinned) 
     (any_own (pins_instance instance) (λ e. pins_instance instance e && not (has_unpinned e.request run)) place run.events
     (λ e same is. both_true (pins_instance instance e) _ is (not_true (has_unpinned e.request run) (ap (λ (p : ℕ). has_unpinned p run) same ∙ pinned.1))) pinned.0)
 
+still_pinned : (run : Run) (instance : InstRow) (n : ℕ) (event : RunEvent) → slice_get run.events n ≡ Some event → pins_instance instance event ≡ true → has_unpinned event.request run ≡ false → HoldsNothing (own_events event.request run) → ⊥
+still_pinned run instance n event there pinned still (inl bare) = let k : false ≡ true = sym (bare instance) ∙ own_any (pins_instance instance) run.events n event.request event there refl pinned in cc k
+still_pinned run instance n event there pinned still (inr unpinned) = let k : false ≡ true = sym still ∙ unpinned in cc k
+
 pub tells_uses : {D : Type 0} → (start : Lists) (script : Requests) (run : Run) (journal : List JournalStep) (broken : Broken) (replies : List (Option Reply)) (began now : Seen) (lanes : List (LaneValue Task)) (store : StoreValue D) (history : Option History)
     → IsServing (stands_in store history) start script run journal broken replies began now lanes → HaveLanes script lanes → LanesAccount claims_at IsReadyTask store history lanes → now.stopped ≡ false → store.stopped ≡ false → TellsUses run store
 tells_uses {D} start script run journal broken replies began now lanes store history s have accounts running runs = record {
@@ -352,11 +356,7 @@ tells_uses {D} start script run journal broken replies began now lanes store his
         let next = s.follows.next n event there in
         let q = pins_in_fetch next.asked.1 event instance (event_uses _ _ _ _ next.asked.1 event next.is_event) pinned in
         let asked : slice_get script event.request ≡ Some (next.asked.0, request.Fetch q.0 q.1) = next.request_is ∙ ap (λ (a : Request). Some (next.asked.0, a)) q.2 in
-        absurd (none_left instance n event there pinned still (answered_holds_nothing s.follows.around s.follows.after script start run journal event.request next.asked.0 q.0 q.1 given s.follows.next (s.serves.unrefused running) asked answered))
-      where
-        none_left : (instance : InstRow) (n : ℕ) (event : RunEvent) → slice_get run.events n ≡ Some event → pins_instance instance event ≡ true → has_unpinned event.request run ≡ false → HoldsNothing (own_events event.request run) → ⊥
-        none_left instance n event there pinned still (inl bare) = let k : false ≡ true = sym (bare instance) ∙ own_any (pins_instance instance) run.events n event.request event there refl pinned in cc k
-        none_left instance n event there pinned still (inr unpinned) = let k : false ≡ true = sym still ∙ unpinned in cc k
+        absurd (still_pinned run instance n event there pinned still (answered_holds_nothing s.follows.around s.follows.after script start run journal event.request next.asked.0 q.0 q.1 given s.follows.next (s.serves.unrefused running) asked answered))
 
     by_use : (instance : InstRow) → (is_held run instance ≡ true) ⊎ (is_pinned_instance run instance ≡ true) → (1 ≤ holders_in instance.id store.instances.known) ⊎ (is_instance_named store.map instance.id.0 ≡ true)
     by_use instance (inl is) =
