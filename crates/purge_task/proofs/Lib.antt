@@ -41,6 +41,7 @@ pub mod RunLemmas
 pub mod SameSeenLemmas
 pub mod StableLemmas
 pub mod StageLemmas
+pub mod StepLemmas
 pub mod StoppedLemmas
 pub mod SwitchFitLemmas
 pub mod SwitchReadyLemmas

@@ -11,10 +11,12 @@ pub use task::{PurgeStage, PurgeTask, did_refused, remove_source};
 pub use work::{PIECE, Present, Source, Work, entry_size};
 
 mod contents;
+mod copy_event;
 mod copying;
 mod finding;
 mod first_event;
 mod laws;
+mod switch_event;
 mod switching;
 mod taking;
 mod task;
