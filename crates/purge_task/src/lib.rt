@@ -2,6 +2,7 @@
 #![tactic(auto)]
 
 pub use contents::Contents;
+pub use copy_event::copy_next;
 pub use copying::{copy_message, next_wanted};
 pub use finding::{Found, FoundFile, TARGET_HEADER};
 pub use laws::{purge_stages_are_kept, purges_stand};
@@ -11,6 +12,7 @@ pub use task::{PurgeStage, PurgeTask, did_refused, remove_source};
 pub use work::{PIECE, Present, Source, Work, entry_size};
 
 mod contents;
+mod copy_event;
 mod copying;
 mod finding;
 mod laws;
