@@ -1,9 +1,10 @@
 // The event of a purge that copies a message.
-ghost use Rattle.std.specs.Prelude.{◌≡◌, false};
+ghost use Rattle.std.specs.Prelude.{◌≡◌, false, IfOk};
 ghost use Rattle.purge_task.specs.Claims.{sources_left};
 ghost use Rattle.purge_task.specs.Clause.{IsPurgeStep, answer_of, came_to};
 ghost use Rattle.purge_task.specs.Copied.{IsNextWantedFirst};
 ghost use Rattle.purge_task.specs.Keeping.{HasPurged, IsTargetFirst, PurgeValue};
+ghost use Rattle.purge_task.specs.Left.{IsFurther};
 ghost use Rattle.purge_task.specs.declared.task.PurgeStage.TheVariants as stage;
 
 use crate::copying::copy_message;
@@ -27,7 +28,8 @@ pub fn copy_next<D: Disk>(
     requires ready { HasPurged (stage.Copying work) store.old (D.history store.old.disk) }
     requires target { IsTargetFirst (sources_left work) target }
     requires wanted { IsNextWantedFirst (sources_left work) work.from store.old.map row }
-    ensures { (t : PurgeValue) → t.stage ≡ stage.Copying work → IsPurgeStep t (came_to result t) (answer_of result) store.old store.new (D.history store.old.disk) (D.history store.new.disk) (D.faults store.old.disk) (D.faults store.new.disk) }
+    ensures step { (t : PurgeValue) → t.stage ≡ stage.Copying work → IsPurgeStep t (came_to result t) (answer_of result) store.old store.new (D.history store.old.disk) (D.history store.new.disk) (D.faults store.old.disk) (D.faults store.new.disk) }
+    ensures further { IfOk result (IsFurther 0 (stage.Copying work)) }
 {
     store.facts();
     let mut work = work;
