@@ -1,6 +1,6 @@
 -- What a purge says that copies a message.
-use Rattle.std.proofs.Common.{◌≡◌, ◌≢◌, ◌≤◌, ◌<◌, ◌+◌, ◌==◌, ◌++◌, ℕ, Bool, true, false, cond, List, [], ◌∷◌, length, Option, Some, None, All, refl, sym, ◌∙◌, ap, subst, arith, inl, inr}
-use Rattle.std.specs.Prelude.{◌↔◌, AllPairs, vec_capacity}
+use Rattle.std.proofs.Common.{◌≡◌, ◌≢◌, ◌≤◌, ◌<◌, ◌+◌, ◌==◌, ◌++◌, ℕ, Bool, false, cond, List, [], ◌∷◌, length, Option, Some, None, All, refl, sym, ◌∙◌, ap, subst, arith}
+use Rattle.std.specs.Prelude.{vec_capacity}
 use Rattle.std.specs.Option.{IfSome, option_and_then, option_map, option_map_or}
 use Rattle.std.proofs.lemmas.List.Kept.{AllPairs-cons}
 use Rattle.std.proofs.lemmas.List.Sums.{sum_by-cons}
@@ -8,17 +8,14 @@ use Rattle.disk_model.specs.Disk.{Between, DiskState, Faults, Grows, History, If
 use Rattle.disk_model.specs.FaultCounts.{NoFault}
 use Rattle.disk_model.specs.declared.name.FileName.{FileName}
 use Rattle.disk_model.specs.declared.name.FileName.TheVariants as file
-use Rattle.disk_model.proofs.BetweenLemmas.{between-both, between-map, between-on}
+use Rattle.disk_model.proofs.BetweenLemmas.{between-both, between-on}
 use Rattle.disk_model.proofs.MomentLemmas.{if_told-both}
 use Rattle.mdbox_base.specs.declared.entries.MapPlace.{MapPlace}
 use Rattle.mdbox_base.specs.declared.ids.FileNo.{FileNo}
 use Rattle.mdbox_base.specs.declared.progress.Did.TheVariants as did
-use Rattle.mdbox_base.specs.declared.progress.Progress.{Progress}
 use Rattle.mdbox_base.specs.declared.progress.Progress.TheVariants as progress
 use Rattle.mdbox_base.specs.declared.replies.Refusal.TheVariants as refusal
-use Rattle.mdbox_base.specs.declared.replies.Reply.{Reply}
 use Rattle.mdbox_base.specs.declared.replies.Reply.TheVariants as reply
-use Rattle.map_index.specs.Shown.{shown_record}
 use Rattle.map_rows.specs.declared.rows.MapRow.{MapRow}
 use Rattle.model_appends.specs.MapAppending.{AreCopied}
 use Rattle.model_kept.specs.Kept.{MailIsKept}
@@ -27,9 +24,8 @@ use Rattle.model_meaning.specs.MapMeaning.{MapMeaning, record_at}
 use Rattle.model_meaning.specs.Sound.{IsSoundMap}
 use Rattle.model_octets.proofs.PairLemmas.{pairs_head, pairs_tail}
 use Rattle.model_store.specs.Settled.{IsSettledFor, Leaves, files_of}
-use Rattle.storage_files.specs.Files.{FilesValue, IsUsedFile, changed_in, end_in, ending_at, file_in, is_emptied_in}
+use Rattle.storage_files.specs.Files.{FilesValue, IsUsedFile, changed_in, end_in, ending_at, is_emptied_in}
 use Rattle.storage_files.specs.OnDisk.{IsAsKnown}
-use Rattle.storage_files.specs.declared.file.MailFile.{MailFile}
 use Rattle.storage_files.proofs.FileListLemmas.{file-other}
 use Rattle.store_core.specs.Value.{StoreValue}
 use Rattle.task_claims.specs.Claims.{Due, Emptied, Held, Made, MovesClaims, Pinned, PlacingPieces, Removing, Taken, Thing}
@@ -48,8 +44,6 @@ use Rattle.purge_task.proofs.CopyStepLemmas.{copy_steps}
 use Rattle.purge_task.proofs.CopyingLemmas.{HasMore, IsCopyingOne, each_still, grown_amount, grown_ends, grown_keeps, grown_of, later_targets, more_copied, more_grows, target_untaken}
 use Rattle.purge_task.proofs.EventLemmas.{fall}
 use Rattle.purge_task.proofs.RegionLemmas.{with_end}
-use Rattle.purge_task.proofs.RemovalLemmas.{LeavesSettled}
-use Rattle.purge_task.proofs.SameSeenLemmas.{with_state}
 use Rattle.purge_task.proofs.TargetLeavingLemmas.{one_file_leaves, same_others}
 
 -- ---- what is noted

@@ -1,6 +1,5 @@
 -- The file of which a message is copied, and its target, which has grown.
-use Rattle.std.proofs.Common.{◌≡◌, ◌≢◌, ◌≤◌, ◌<◌, ◌+◌, ◌==◌, ◌&&◌, ◌⊎◌, ◌++◌, ℕ, Bool, true, false, cond, List, [], ◌∷◌, length, Option, Some, None, All, refl, sym, ◌∙◌, ap, subst, arith, inl, inr}
-use Rattle.std.specs.Prelude.{count_by, is_some, sum_by}
+use Rattle.std.proofs.Common.{◌≡◌, ◌≢◌, ◌≤◌, ◌<◌, ◌+◌, ◌==◌, ◌&&◌, ◌++◌, ℕ, Bool, true, false, cond, List, [], ◌∷◌, length, Option, Some, None, All, refl, sym, ◌∙◌, ap, subst, arith, inl, inr}
 use Rattle.std.specs.Option.{IfSome, option_and_then, option_map, option_map_or}
 use Rattle.std.proofs.lemmas.Bool.{cases_eq, eq-eqb}
 use Rattle.std.proofs.lemmas.List.Elements.{All-cons, All-head, All-nil, All-tail}
@@ -20,7 +19,7 @@ use Rattle.storage_files.proofs.FileListLemmas.{ends-here, ends-other, file-here
 use Rattle.store_core.specs.Value.{StoreValue}
 use Rattle.task_claims.specs.Claims.{Due, Emptied, Held, Made, Pinned, PlacingPieces, Removing, Taken, Thing, amount_in, one_if}
 use Rattle.task_claims.specs.Leaving.{OnlyGrows, OthersTook}
-use Rattle.purge_task.specs.Claims.{claims_of_sources, claims_of_target, purge_claims, sources_left}
+use Rattle.purge_task.specs.Claims.{claims_of_sources, purge_claims, sources_left}
 use Rattle.purge_task.specs.Copied.{IsNextWanted, IsNextWantedFirst, IsShownRow}
 use Rattle.purge_task.specs.Keeping.{AreCopiedUpTo, AreSourcesApart, HasPurged, HasSwitchRoom, IsCopyingFirst, IsCopyingTo, IsTargetFirst, IsTargetToMake, IsToBegin, target_header}
 use Rattle.purge_task.specs.Reserved.{HasRoomForCopy}
@@ -29,7 +28,7 @@ use Rattle.purge_task.specs.declared.work.Source.{Source}
 use Rattle.purge_task.specs.declared.work.Work.{Work}
 use Rattle.purge_task.proofs.CopiedMoreLemmas.{copied_more}
 use Rattle.purge_task.proofs.CopyRoomLemmas.{room_for_copy}
-use Rattle.purge_task.proofs.GivenBackLemmas.{IsGivenBack, IsTakenFile, adding_of, emptying_of, pinned_of, placing_of, removing_of, taken_back, taken_file}
+use Rattle.purge_task.proofs.GivenBackLemmas.{IsGivenBack, adding_of, emptying_of, pinned_of, placing_of, removing_of, taken_back, taken_file}
 use Rattle.purge_task.proofs.RegionLemmas.{file_as, with_end}
 use Rattle.purge_task.proofs.SameSeenLemmas.{IsGrownOf}
 

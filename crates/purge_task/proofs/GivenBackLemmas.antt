@@ -1,6 +1,6 @@
 -- What is claimed of storage files that a purge gives back, and what other tasks see of them.
-use Rattle.std.proofs.Common.{◌≡◌, ◌≢◌, ◌≤◌, ◌<◌, ◌+◌, ◌==◌, ◌&&◌, ◌⊎◌, ℕ, zero, suc, Bool, true, false, cond, List, [], ◌∷◌, Option, Some, None, All, refl, sym, ◌∙◌, ap, subst, arith, inl, inr}
-use Rattle.std.specs.Prelude.{AllPairs, IsSome, is_some, if◌then◌else◌}
+use Rattle.std.proofs.Common.{◌≡◌, ◌≢◌, ◌+◌, ◌==◌, ◌&&◌, ◌⊎◌, ℕ, zero, suc, Bool, true, false, cond, List, [], ◌∷◌, Option, Some, None, All, refl, sym, ◌∙◌, ap, subst, arith, inl, inr}
+use Rattle.std.specs.Prelude.{AllPairs, is_some, if◌then◌else◌}
 use Rattle.std.specs.Option.{IfSome, option_and_then, option_map, option_map_or}
 use Rattle.std.proofs.lemmas.Bool.{cases_eq, eq-eqb, ne_eqb}
 use Rattle.std.proofs.lemmas.List.Elements.{All-cons, All-contains, All-head, All-nil, All-tail}
@@ -8,7 +8,7 @@ use Rattle.std.proofs.lemmas.List.Sums.{sum_by-cons}
 use Rattle.mdbox_base.specs.declared.ids.FileNo.{FileNo}
 use Rattle.model_octets.proofs.PairLemmas.{pairs_head, pairs_tail}
 use Rattle.model_octets.proofs.SearchLemmas.{found_one}
-use Rattle.storage_files.specs.Files.{IsUsedFile, changed_in, end_in, file_in, given_back, is_emptied_in, is_taken_in, place_begun_in, released_in, without_file}
+use Rattle.storage_files.specs.Files.{IsUsedFile, changed_in, end_in, file_in, given_back, is_emptied_in, is_taken_in, released_in, without_file}
 use Rattle.storage_files.specs.declared.file.MailFile.{MailFile}
 use Rattle.storage_files.proofs.FileListLemmas.{ends-kept, ends-unmade, file-gone, file-here}
 use Rattle.store_core.specs.Value.{StoreValue}

@@ -1,19 +1,16 @@
 -- What a purge says that can't copy a message: one that can't be read, so that all that was taken is given back, or one of which a write
 -- failed.
-use Rattle.std.proofs.Common.{◌≡◌, ◌≢◌, ◌≤◌, ◌<◌, ◌+◌, ◌⊎◌, ℕ, Bool, true, false, List, [], ◌∷◌, length, get_or, Option, Some, None, All, refl, sym, ◌∙◌, ap, subst, arith, inl, inr}
-use Rattle.std.specs.Prelude.{◌↔◌, AllPairs, Err, Result, is_some}
+use Rattle.std.proofs.Common.{◌≡◌, ◌≢◌, ◌≤◌, ◌<◌, ◌+◌, ◌⊎◌, ℕ, Bool, true, false, List, [], ◌∷◌, get_or, Option, Some, None, All, refl, sym, ◌∙◌, ap, subst, arith, inl, inr}
+use Rattle.std.specs.Prelude.{AllPairs, Err, Result, is_some}
 use Rattle.std.specs.Option.{IfSome, option_and_then, option_map_or}
 use Rattle.std.proofs.lemmas.List.Elements.{All-cons, All-head, All-nil, All-tail}
 use Rattle.disk_model.specs.Disk.{Between, Faults, Grows, History, SameButFor}
 use Rattle.disk_model.specs.declared.name.FileName.TheVariants as file
-use Rattle.mdbox_base.specs.Streams.{Rose}
 use Rattle.mdbox_base.specs.declared.ids.FileNo.{FileNo}
 use Rattle.mdbox_base.specs.declared.progress.Did.TheVariants as did
-use Rattle.mdbox_base.specs.declared.progress.Progress.{Progress}
 use Rattle.mdbox_base.specs.declared.progress.Progress.TheVariants as progress
 use Rattle.mdbox_base.specs.declared.replies.Refusal.{Refusal}
 use Rattle.mdbox_base.specs.declared.replies.Refusal.TheVariants as refusal
-use Rattle.mdbox_base.specs.declared.replies.Reply.{Reply}
 use Rattle.mdbox_base.specs.declared.replies.Reply.TheVariants as reply
 use Rattle.map_rows.specs.declared.rows.MapRow.{MapRow}
 use Rattle.list_machine.specs.Run.{CopiesMessage}
@@ -39,9 +36,8 @@ use Rattle.purge_task.specs.declared.work.Work.{Work}
 use Rattle.purge_task.proofs.CanReleaseLemmas.{AreClear, IsHeldIn, copying_held, grown_held, held_clear, held_release}
 use Rattle.purge_task.proofs.CopyStepLemmas.{next_copy}
 use Rattle.purge_task.proofs.CopyingLemmas.{HasMore, IsCopyingOne, each_still, grown_amount, grown_ends, grown_keeps, grown_of, later_targets, more_grows, target_untaken}
-use Rattle.purge_task.proofs.EventLemmas.{fall}
 use Rattle.purge_task.proofs.FailLemmas.{LeavesFailed, LeavesUnread, fail_steps, unread_steps}
-use Rattle.purge_task.proofs.GivenBackLemmas.{IsFreeFile, IsGivenBack, IsToGiveBack, adding_of, emptied_back, emptying_of, ends_given, given_free, present_amount, removing_of, taken_back, tells_given, with_released}
+use Rattle.purge_task.proofs.GivenBackLemmas.{IsFreeFile, IsGivenBack, IsToGiveBack, emptied_back, ends_given, given_free, present_amount, taken_back, tells_given, with_released}
 use Rattle.purge_task.proofs.RegionLemmas.{with_end}
 use Rattle.purge_task.proofs.SameSeenLemmas.{tells_grown, with_state}
 use Rattle.purge_task.proofs.TargetCallLemmas.{unmade_file, unmade_unplaced}

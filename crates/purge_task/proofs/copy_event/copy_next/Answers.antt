@@ -1,7 +1,6 @@
 use Rattle.std.proofs.Common.{refl, ap, ◌∙◌}
 use Rattle.store_core.proofs.BoxAppendLemmas.{store_sound}
 use Rattle.purge_task.specs.Claims.{sources_left}
-use Rattle.purge_task.specs.declared.work.Work.{Work}
 use Rattle.purge_task.proofs.CopyCallLemmas.{copied_says, noted_for}
 use Rattle.purge_task.proofs.CopyingLemmas.{copying_one, first_left, may_copy}
 use Rattle.purge_task.proofs.FurtherLemmas.{further_copy}
