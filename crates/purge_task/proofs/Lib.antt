@@ -6,8 +6,11 @@ pub mod CleanLemmas
 pub mod ContentsLemmas
 pub mod CopiedMoreLemmas
 pub mod CopiedOctetsLemmas
+pub mod CopyCallLemmas
 pub mod CopyLemmas
+pub mod CopyRoomLemmas
 pub mod CopyStepLemmas
+pub mod CopyingLemmas
 pub mod EventLemmas
 pub mod FailLemmas
 pub mod FewInstanceLemmas
@@ -20,6 +23,7 @@ pub mod FirstStepLemmas
 pub mod FreeInstanceLemmas
 pub mod FullLemmas
 pub mod FurtherLemmas
+pub mod GivenBackLemmas
 pub mod GoneCallLemmas
 pub mod GoneLemmas
 pub mod HeaderLemmas
@@ -57,6 +61,7 @@ pub mod TargetCallLemmas
 pub mod TargetLeavingLemmas
 pub mod TargetLemmas
 pub mod TargetSeenLemmas
+pub mod UnreadCallLemmas
 pub mod WalkLemmas
 pub mod WithinCountLemmas
 pub mod WithinLemmas

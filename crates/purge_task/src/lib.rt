@@ -2,6 +2,7 @@
 #![tactic(auto)]
 
 pub use contents::Contents;
+pub use copy_event::copy_next;
 pub use copying::{copy_message, next_wanted};
 pub use finding::{Found, FoundFile, TARGET_HEADER};
 pub use laws::{purge_stages_are_kept, purges_are_stable, purges_leave_work, purges_stand};
