@@ -26,10 +26,11 @@ use Rattle.sis_store.specs.Instances.{has_id, instance_in, without_instance}
 use Rattle.sis_store.specs.declared.instance.KnownInstance.{KnownInstance}
 use Rattle.store_core.specs.Removing.{AreElsewhere}
 use Rattle.store_core.specs.Value.{StoreValue}
+use Rattle.task_steps.specs.Step.{ended_by}
 use Rattle.purge_task.specs.Claims.{purge_claims, sources_left}
 use Rattle.purge_task.specs.Clause.{IsPurgeStep, PurgeSteps, answer_of, at_stage, came_to}
 use Rattle.purge_task.specs.Copied.{AreUnwantedFrom, IsNextWanted, IsNextWantedFirst}
-use Rattle.purge_task.specs.Keeping.{HasLowCounts, HasPurged, IsBareFirst, IsBeginningFirst, IsCopyingFirst, IsTargetFirst, LeavesLess, PurgeValue}
+use Rattle.purge_task.specs.Keeping.{HasLowCounts, HasPurged, IsBareFirst, IsBeginningFirst, IsCopyingFirst, IsReadyToPurge, IsTargetFirst, LeavesLess, PurgeValue}
 use Rattle.purge_task.specs.Left.{IsFurther, events_before_instances, purge_files, purge_left}
 use Rattle.purge_task.specs.Stages.{GoesOnBehind, CopiesBehind, IsAtPurge, IsAtPurgeStage, IsAtSwitched, IsPurging, RemovesBehind}
 use Rattle.purge_task.specs.SwitchEvent.{IsCopiedFirst, IsToSwitch, IsUnwantedFirst, answer_of_switch, came_by_switch}
@@ -243,3 +244,60 @@ one_there m file None e = sym (each m.records (none_found m file 0 e))
       where
         none_both : (a b : Bool) → a ≡ false → b ≡ false → (a || b) ≡ false
         none_both a b x y = rw (x, y) refl
+
+-- ---- a step, of the task as it was
+
+pub came_ok : (s : PurgeStage) (inside t : PurgeValue) → inside ≡ t → t.did ≡ did.Quiet → record inside { stage = s } ≡ record t { stage = s; did = did.Quiet }
+came_ok s inside t same quiet = ap (λ (v : PurgeValue). record v { stage = s }) same ∙ ap (λ (d : Did). record t { stage = s; did = d }) quiet
+
+pub came_err : (d : Did) (inside t : PurgeValue) → inside ≡ t → t.stage ≡ stage.First → record inside { did = d } ≡ record t { stage = stage.First; did = d }
+came_err d inside t same first = ap (λ (v : PurgeValue). record v { did = d }) same ∙ ap (λ (s : PurgeStage). record t { stage = s; did = d }) first
+
+pub stage_is : (s : PurgeStage) (inside t : PurgeValue) → inside ≡ t → inside.stage ≡ s → t.did ≡ did.Quiet → at_stage s inside ≡ t
+stage_is s inside t same at quiet =
+    ap (λ (k : PurgeStage). at_stage k inside) (sym at) ∙ (ap (λ (d : Did). record inside { did = d }) (sym (ap (λ (v : PurgeValue). v.did) same ∙ quiet)) ∙ same)
+
+pub ready_at : {D : Type 0} → (s : PurgeStage) (inside t : PurgeValue) (store : StoreValue D) (history : Option History) → at_stage s inside ≡ t → (s ≡ stage.First → ⊥) → IsReadyToPurge t store history → HasPurged s store history × HasLowCounts (at_stage s inside) store
+ready_at s inside t store history same differs h =
+    (subst (λ (v : PurgeValue). HasPurged v.stage store history) (sym same) h.0, subst (λ (v : PurgeValue). HasLowCounts v store) (sym same) (h.1 (λ e. differs (ap (λ (v : PurgeValue). v.stage) same ∙ e))))
+
+step_did : {D : Type 0} → (t next : PurgeValue) (d : Did) (answer : Progress) (old new : StoreValue D) (before later : Option History) (began faults : Faults) → IsPurgeStep (record t { did = d }) next answer old new before later began faults → IsPurgeStep t next answer old new before later began faults
+step_did t next d answer old new before later began faults h = record {
+  ready = h.ready;
+  does = (h.does.0, λ around. steps_did h.does.0 around t next d old new before later began faults (ended_by answer) (h.does.1 around));
+  stopped = h.stopped;
+  claims = h.claims;
+  leaves = h.leaves;
+  ended = h.ended;
+  grows = h.grows;
+  mail = h.mail;
+  reads = h.reads;
+  changes = h.changes;
+  unfailed = h.unfailed;
+  fell = h.fell;
+}
+
+pub step_of : {D : Type 0} → (inside t next : PurgeValue) (d : Did) (answer : Progress) (old new : StoreValue D) (before later : Option History) (began faults : Faults) → inside ≡ t → IsPurgeStep (record inside { did = d }) next answer old new before later began faults → IsPurgeStep t next answer old new before later began faults
+step_of inside t next d answer old new before later began faults same h = subst (λ (v : PurgeValue). IsPurgeStep v next answer old new before later began faults) same (step_did inside next d answer old new before later began faults h)
+
+pub left_of : {D : Type 0} → (inside t next : PurgeValue) (d : Did) (old new : StoreValue D) → inside ≡ t → LeavesLess (record inside { did = d }) next old new → LeavesLess t next old new
+left_of inside t next d old new same h = subst (λ (v : PurgeValue). LeavesLess v next old new) same h
+
+-- it is ready for what comes then
+pub ready_of : {D : Type 0} → (t next : PurgeValue) (answer : Progress) (old new : StoreValue D) (before later : Option History) (began faults : Faults) → IsPurgeStep t next answer old new before later began faults → (answer ≡ progress.More → LeavesLess t next old new) → answer ≡ progress.More → new.stopped ≡ false → IsReadyToPurge next new later
+ready_of t next answer old new before later began faults h left more runs = (h.ready more runs, λ begun. (left more).0)
+
+-- a part of a step, of the task as it was
+pub part_of : {D : Type 0} → (result : Result PurgeStage Refusal) (at : PurgeStage) (inside t next : PurgeValue) (answer : Progress) (old new : StoreValue D) (before later : Option History) (began faults : Faults) → inside ≡ t → next ≡ came_to result inside → answer ≡ answer_of result → IsPurgeStep (at_stage at inside) (came_to result (at_stage at inside)) (answer_of result) old new before later began faults
+    → IsPurgeStep (at_stage at t) next answer old new before later began faults
+part_of result at inside t next answer old new before later began faults same is told h =
+    subst (λ (v : PurgeValue). IsPurgeStep (at_stage at v) next answer old new before later began faults) same
+    (subst (λ (n : PurgeValue). IsPurgeStep (at_stage at inside) n answer old new before later began faults) (sym is)
+    (subst (λ (a : Progress). IsPurgeStep (at_stage at inside) (came_to result inside) a old new before later began faults) (sym told)
+    (subst (λ (n : PurgeValue). IsPurgeStep (at_stage at inside) n (answer_of result) old new before later began faults) (came_same result at inside) h)))
+
+pub ready_did : {D : Type 0} → (inside t : PurgeValue) (d : Did) (store : StoreValue D) (history : Option History) → inside ≡ t → IsReadyToPurge t store history → IsReadyToPurge (record inside { did = d }) store history
+ready_did inside t d store history same h = by_value (subst (λ (v : PurgeValue). IsReadyToPurge v store history) (sym same) h)
+  where
+    by_value : IsReadyToPurge inside store history → IsReadyToPurge (record inside { did = d }) store history
+    by_value k = (k.0, λ begun. let low = k.1 begun in record { dropped = low.dropped; files = low.files; instances = low.instances })
