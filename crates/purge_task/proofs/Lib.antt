@@ -38,8 +38,12 @@ pub mod RunLemmas
 pub mod SameSeenLemmas
 pub mod StageLemmas
 pub mod StoppedLemmas
+pub mod SwitchCallLemmas
+pub mod SwitchClaimLemmas
+pub mod SwitchFileLemmas
 pub mod SwitchFitLemmas
 pub mod SwitchReadyLemmas
+pub mod SwitchRowLemmas
 pub mod SwitchSeenLemmas
 pub mod SwitchStepLemmas
 pub mod SwitchedLemmas

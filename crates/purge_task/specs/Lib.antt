@@ -5,5 +5,6 @@ pub mod Found
 pub mod Keeping
 pub mod Reserved
 pub mod Stages
+pub mod SwitchEvent
 pub mod Switched
 pub mod Taken

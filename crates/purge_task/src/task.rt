@@ -337,7 +337,7 @@ fn remove_bare<D: Disk>(store: &mut Store<D>, work: Work) -> Result<PurgeStage, 
 }
 
 /// The stage behind a file: the next one's, or that of instances.
-fn goes_on(work: Work) -> PurgeStage
+pub fn goes_on(work: Work) -> PurgeStage
     ensures { IsNextStage work result }
 {
     if work.present().is_some() {
