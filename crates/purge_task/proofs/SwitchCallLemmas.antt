@@ -52,6 +52,7 @@ use Rattle.purge_task.specs.Claims.{claims_of_sources, claims_of_switched, claim
 use Rattle.purge_task.specs.Clause.{IsPurgeStep, PurgeSteps, around_purging, seen_by_purge}
 use Rattle.purge_task.specs.Keeping.{AreSourcesApart, HasPurged, HasSwitchRoom, IsBeginningFirst, IsCopyingFirst, IsRemovingFirst, IsTargetToMake, IsToBegin, PurgeValue}
 use Rattle.purge_task.specs.Found.{messages_in}
+use Rattle.purge_task.specs.Left.{IsFurther}
 use Rattle.purge_task.specs.Reserved.{HasListRoom}
 use Rattle.purge_task.specs.Stages.{CopiesBehind, GoesOnBehind, HaveCopied, IsAtPurge, IsAtPurgeStage, IsNextStage, IsPurging, told_taken, went_on}
 use Rattle.purge_task.specs.SwitchEvent.{IsBehindSwitch, IsCopiedFirst, IsToSwitch, IsUnwantedFirst}
@@ -64,6 +65,7 @@ use Rattle.purge_task.specs.declared.work.Work.{Work}
 use Rattle.purge_task.proofs.BareCallLemmas.{IsEmptiedFile, emptied_file}
 use Rattle.purge_task.proofs.EventLemmas.{fall}
 use Rattle.purge_task.proofs.FailLemmas.{fail_steps}
+use Rattle.purge_task.proofs.FurtherLemmas.{further_switch_on, further_switch_removing}
 use Rattle.purge_task.proofs.PartLemmas.{next_copies, next_goes_on, next_is}
 use Rattle.purge_task.proofs.ReadyLemmas.{ready_copied, ready_unwanted}
 use Rattle.purge_task.proofs.RemovalCallLemmas.{next_claims}
@@ -487,6 +489,18 @@ few_dropped work source left switched m old new before kept same is one s =
     let few : length old.map.records ≤ 4294967295 = subst (λ (n : MapMeaning). length n.records ≤ 4294967295) same (let a = kept.records.few in let b = kept.fits in omega (arith, a, b)) in
     let counted = s.counted in
     omega (arith, most, all, few, counted)
+
+-- it leaves fewer events
+at_either : (at : PurgeStage) (work : Work) (m : MapMeaning) → IsToSwitch at work m → (at ≡ stage.Begin work) ⊎ (at ≡ stage.Copying work)
+at_either (stage.Begin begun) work m to = inl (ap (λ (w : Work). stage.Begin w) to.0)
+at_either (stage.Copying copied) work m to = inr (ap (λ (w : Work). stage.Copying w) to.0)
+at_either stage.First work m to = absurd to
+at_either (stage.Removing removed) work m to = absurd to
+at_either stage.Instances work m to = absurd to
+
+pub further_switch : (at : PurgeStage) (work later : Work) (m : MapMeaning) (source spent : Source) (left : List Source) (next : PurgeStage) (b : Bool) → IsToSwitch at work m → sources_left work ≡ source ∷ left → sources_left later ≡ spent ∷ left → IsBehindSwitch b later next → IsFurther 1 at next
+further_switch at work later m source spent left next true to was is behind = subst (λ (s : PurgeStage). IsFurther 1 at s) (sym behind) (further_switch_removing at work later source spent left was is (at_either at work m to))
+further_switch at work later m source spent left next false to was is behind = further_switch_on at work later source spent left next was is behind (at_either at work m to)
 
 none_targeted : (source : Source) (left : List Source) (thing : Thing) → source.target ≡ None → claims_of_target (source ∷ left) thing ≡ 0
 none_targeted source left (Due uid) is = refl

@@ -3,6 +3,7 @@ pub mod Clause
 pub mod Copied
 pub mod Found
 pub mod Keeping
+pub mod Left
 pub mod Reserved
 pub mod Stages
 pub mod SwitchEvent

@@ -4,7 +4,7 @@ use Rattle.mdbox_base.specs.declared.replies.Refusal.{Refusal}
 use Rattle.purge_task.specs.Clause.{IsPurgeStep}
 use Rattle.purge_task.specs.SwitchEvent.{answer_of_switch, came_by_switch}
 use Rattle.purge_task.specs.declared.work.Work.{Work}
-use Rattle.purge_task.proofs.SwitchCallLemmas.{few_dropped, left_within, made_switch, ready_one, switch_failed, switch_says, switched_one, tells_either}
+use Rattle.purge_task.proofs.SwitchCallLemmas.{few_dropped, further_switch, left_within, made_switch, ready_one, switch_failed, switch_says, switched_one, tells_either}
 use Rattle.purge_task.proofs.switch_event.switch_file.Goals as goal
 
 pub switch-switched-requires-clause-ready : goal.switch-switched-requires-clause-ready
@@ -55,3 +55,10 @@ returns-clause-few g c =
     let at = c.requires.ready in
     let one = switched_one at.0 c.args.work c.args.store.now (g.D.Disk.history c.args.store.now.disk) at.1 at.2 in
     few_dropped c.args.work one.0 one.1 c.in_ok-switched.switched c.map.result.now.meaning c.args.store.now c.switch-switched.new.store (g.D.Disk.history c.args.store.now.disk) c.known_facts.ensures c.map.ensures c.facts.ensures.store one.2 (c.in_ok-switched.ensures.switched one.0 one.1 one.2.left_are)
+
+pub returns-clause-further : goal.returns-clause-further
+returns-clause-further g c at h to =
+    let ready = c.requires.ready in
+    let one = switched_one ready.0 c.args.work c.args.store.now (g.D.Disk.history c.args.store.now.disk) ready.1 ready.2 in
+    let spent = c.in_ok-switched.ensures.work one.0 one.1 one.2.left_are in
+    further_switch at c.args.work c.switch-switched.new.work c.args.store.now.map one.0 spent.0 one.1 _ c.in_ok-switched.switched.is_unpinned to one.2.left_are spent.1 c.next_stage.ensures
