@@ -35,11 +35,13 @@ pub fn switch_file<D: Disk>(store: &mut Store<D>, work: Work) -> Result<Switched
     store.facts();
     store.map().known_facts();
     let mut work = work;
-    let switched = switch(store, &mut work)?;
-    Ok(SwitchedFile {
-        next: next_stage(work, switched.is_unpinned),
-        dropped: switched.dropped,
-    })
+    match switch(store, &mut work) {
+        Ok(switched) => Ok(SwitchedFile {
+            next: next_stage(work, switched.is_unpinned),
+            dropped: switched.dropped,
+        }),
+        Err(_) => Err(Refusal::Stopped),
+    }
 }
 
 /// The stage behind the switch of the present file: its removal, where it has no pin.

@@ -58,7 +58,7 @@ pub fn switch<D: Disk>(store: &mut Store<D>, work: &mut Work) -> Result<Switched
     ensures mailboxes { store.new.map.boxes ≡ store.old.map.boxes }
     ensures refused { IfErr result (λ why. (why ≡ refusal.Stopped) × (store.new.stopped ≡ true)) }
     ensures err { OnErr result (store.new ≡ record store.old { disk = store.new.disk; map_log = store.new.map_log; files = store.new.files; stopped = true }) }
-    ensures err_files { OnErr result ((source : SourceValue) (left : List SourceValue) → sources_left work.old ≡ source ∷ left → (store.new.files ≡ store.old.files) ⊎ (store.new.files ≡ record store.old.files { files = target_synced source.target store.old.files.files })) }
+    ensures stopped_files { store.new.stopped ≡ true → (source : SourceValue) (left : List SourceValue) → sources_left work.old ≡ source ∷ left → (store.new.files ≡ store.old.files) ⊎ (store.new.files ≡ record store.old.files { files = target_synced source.target store.old.files.files }) }
 
     // The lists of the file are spent. What is left behind it is as it was.
     ensures work { (source : SourceValue) (left : List SourceValue) → sources_left work.old ≡ source ∷ left → (spent : SourceValue) × (sources_left work.new ≡ spent ∷ left) × (spent.file ≡ source.file) × (spent.target ≡ source.target) }

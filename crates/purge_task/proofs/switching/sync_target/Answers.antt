@@ -16,7 +16,7 @@ pub returns-in-Ok-clause-firm : goal.returns-in-Ok-clause-firm
 returns-in-Ok-clause-firm g c = firm_synced c.in-Some.target.0 c.args.store.now c.end_place.new.self _ _ (ap (λ (v : StoreValue _). v.instances) c.in-Ok.ensures.ok) (ap (λ (v : StoreValue _). v.map) c.in-Ok.ensures.ok) c.in-Ok.ensures.others
 
 pub returns-in_default-clause-kept : goal.returns-in_default-clause-kept
-returns-in_default-clause-kept g c = begins_kept (g.D.Disk.history c.args.store.now.disk)
+returns-in_default-clause-kept g c = rw c.in_default.is (begins_kept (g.D.Disk.history c.args.store.now.disk))
 
 pub returns-in-Ok-clause-kept : goal.returns-in-Ok-clause-kept
-returns-in-Ok-clause-kept g c = kept_synced c.in-Some.target _ _ c.in-Ok.ensures.others
+returns-in-Ok-clause-kept g c = rw c.in-Some.is (kept_synced c.in-Some.target _ _ c.in-Ok.ensures.others)
