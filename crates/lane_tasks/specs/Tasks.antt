@@ -186,8 +186,8 @@ abbrev pub IsTakenWithin : ℕ → TakenFile → Type 0
 IsTakenWithin most t = (t.file ≤ most) × ((t.target ≡ 0) ⊎ (most < t.target))
 
 -- an event that stores no record, and neither dooms nor removes a file of a greater number
-abbrev pub EndsWithin : ℕ → RunEvent → Type 0
-EndsWithin most event = (is_storing event.part ≡ false) × All (λ file. file ≤ most) event.doomed × All (λ file. file ≤ most) event.removed
+abbrev pub DoomsWithin : ℕ → RunEvent → Type 0
+DoomsWithin most event = (is_storing event.part ≡ false) × All (λ file. file ≤ most) event.doomed × All (λ file. file ≤ most) event.removed
 
 -- The files that these events of a purge took and the targets that they drew are apart: targets have greater numbers than all that it took,
 -- each its own, and none is doomed or removed.
@@ -195,7 +195,7 @@ pub record TookApart (own : List RunEvent) : Type 0 where
   pub most : ℕ
   pub files : All (IsTakenWithin most) (flat_map (λ e. e.files) own)
   pub targets : AllPairs (λ a b. (a.target ≡ 0) ⊎ (a.target ≢ b.target)) (flat_map (λ e. e.files) own)
-  pub ended : All (EndsWithin most) own
+  pub ended : All (DoomsWithin most) own
 
 -- The files that it took: a delivery's stage tells of the one that it has, and a purge's of those that it empties and of their targets, which
 -- are apart; no other kind of task takes any.
