@@ -47,8 +47,10 @@ use Rattle.mail_save.specs.SaveStages.{AreTakenSoFar}
 use Rattle.mail_save.specs.Task.{IsReadyToDeliver, SaveValue}
 use Rattle.mail_save.specs.declared.task.SaveStage.{SaveStage}
 use Rattle.mail_save.specs.declared.task.SaveStage.TheVariants as save_stage
+use Rattle.purge_task.specs.Claims.{purge_claims}
 use Rattle.lane_tasks.specs.Tasks.{IsReadyTask, NamesFound, StandsTask, claims_at}
 use Rattle.lane_tasks.specs.Uses.{UsesInstance, finds_instance, pins_instance}
+use Rattle.lane_tasks.proofs.RoomLemmas.{purge_holds}
 use Rattle.lane_tasks.specs.declared.task.Task.{Task}
 use Rattle.lane_tasks.specs.declared.task.Task.TheVariants as task
 use Rattle.lane_tasks.proofs.NamedLemmas.{found_by, front_found, one_more, placed_found}
@@ -232,6 +234,7 @@ delivery_holds (task.Move t) store history name time octets run place said insta
 delivery_holds (task.Expunge t) store history name time octets run place said instance s runs found = absurd (let k : request.Deliver name time octets ≡ request.Expunge t.name t.uid = s.is_of in cc k)
 delivery_holds (task.Fetch t) store history name time octets run place said instance s runs found = absurd (let k : request.Deliver name time octets ≡ request.Fetch t.name t.uid = s.is_of in cc k)
 delivery_holds (task.Resync t) store history name time octets run place said instance s runs found = absurd (let k : request.Deliver name time octets ≡ request.Resync = s.is_of in cc k)
+delivery_holds (task.Purge t) store history name time octets run place said instance s runs found = absurd (let k : request.Deliver name time octets ≡ request.Purge = s.is_of in cc k)
 
 -- ---- a fetch
 
@@ -304,6 +307,15 @@ fetch_told (fetch_stage.Reading region) store history run place said instance at
     let r = at.0 in
     pinned_told region.from (own_events place run) r.0 instance r.1 (pieces_pinned r.0 r.2) (held_same store instance region.from.instances knows ready.own.known some)
 fetch_told (fetch_stage.Unpinning from given) store history run place said instance at ready knows some = unpins_told from given (own_events place run) instance at.0 (held_same store instance from.instances knows ready.known some)
+fetch_told (fetch_stage.Removing file given) store history run place said instance at ready knows some = none_held 0 refl some
+
+last_any : (p : RunEvent → Bool) (events : List RunEvent) (event : RunEvent) → p event ≡ true → list_any p (events ++ event ∷ []) ≡ true
+last_any p [] event e = ap (λ (b : Bool). b || false) e
+last_any p (a ∷ events) event e = by_test (p a) (last_any p events event e)
+  where
+    by_test : (b : Bool) → list_any p (events ++ event ∷ []) ≡ true → (b || list_any p (events ++ event ∷ [])) ≡ true
+    by_test true rest = refl
+    by_test false rest = rest
 
 fetch_keeps : (now : FetchStage) (stopped : Bool) (history : Option History) (run : Run) (place : ℕ) (said : List Reply) (instance : InstRow) → IsAtFetch now stopped history run place said → list_any (pins_instance instance) (own_events place run) ≡ true → list_any is_unpinning (own_events place run) ≡ false
     → 1 ≤ fetch_claims now (Held instance.id)
@@ -312,6 +324,10 @@ fetch_keeps (fetch_stage.Reading region) stopped history run place said instance
     let r = at.0 in
     same_held instance region.from.instances (pinned_same region.from (own_events place run) r.0 instance r.1 (pieces_bare instance r.0 r.2) any)
 fetch_keeps (fetch_stage.Unpinning from given) stopped history run place said instance at any still = same_held instance from.instances (unpins_same from given (own_events place run) instance at.0 any)
+fetch_keeps (fetch_stage.Removing file given) stopped history run place said instance at any still =
+    let r = at.0 in
+    let here : is_unpinning r.last ≡ true = ap (λ (o : Option Refusal). is_none o && is_unpinning_part r.last.part) r.unrefused ∙ ap is_unpinning_part r.part in
+    absurd (let z : true ≡ false = sym (last_any is_unpinning r.front r.last here) ∙ (ap (list_any is_unpinning) (sym r.own_are) ∙ still) in cc z)
 
 pub fetch_holds : {D : Type 0} → (t : Task) (store : StoreValue D) (history : Option History) (name : List ℕ) (uid : Uid) (run : Run) (place : ℕ) (said : List Reply) (instance : InstRow) → StandsTask t store history (request.Fetch name uid) run place said → list_any (pins_instance instance) (own_events place run) ≡ true
     → list_any is_unpinning (own_events place run) ≡ false → 1 ≤ claims_at t (Held instance.id)
@@ -324,6 +340,7 @@ fetch_holds (task.Move t) store history name uid run place said instance s any s
 fetch_holds (task.Expunge t) store history name uid run place said instance s any still = absurd (let k : request.Fetch name uid ≡ request.Expunge t.name t.uid = s.is_of in cc k)
 fetch_holds (task.Deliver t) store history name uid run place said instance s any still = absurd s.is_of
 fetch_holds (task.Resync t) store history name uid run place said instance s any still = absurd (let k : request.Fetch name uid ≡ request.Resync = s.is_of in cc k)
+fetch_holds (task.Purge t) store history name uid run place said instance s any still = absurd (let k : request.Fetch name uid ≡ request.Purge = s.is_of in cc k)
 
 -- ---- each kind
 
@@ -347,3 +364,4 @@ held_told (task.Copy t) store history asked run place said instance s ready know
 held_told (task.Move t) store history asked run place said instance s ready knows some = none_held 0 refl some
 held_told (task.Expunge t) store history asked run place said instance s ready knows some = none_held 0 refl some
 held_told (task.Resync t) store history asked run place said instance s ready knows some = none_held 0 refl some
+held_told (task.Purge t) store history asked run place said instance s ready knows some = none_held (purge_claims t.stage (Held instance.id)) (purge_holds t.stage instance.id) some

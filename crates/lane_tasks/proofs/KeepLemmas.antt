@@ -1,6 +1,6 @@
 -- What an event of a task keeps, by its kind.
-use Rattle.std.specs.Prelude.{◌↔◌, ◌⊎◌}
-use Rattle.std.proofs.Common.{◌≡◌, ◌≤◌, ℕ, Bool, true, false, List, Option, Some, None, refl, sym, ◌∙◌, ap, subst, arith, inl, inr}
+use Rattle.std.specs.Prelude.{◌↔◌, ◌⊎◌, ◌&&◌, ◌==◌}
+use Rattle.std.proofs.Common.{◌≡◌, ◌≤◌, ℕ, zero, suc, Bool, true, false, List, Option, Some, None, refl, sym, ◌∙◌, ap, subst, arith, inl, inr}
 use Rattle.disk_model.specs.Disk.{History, Faults, Grows, IsIdle, DiskState, told_calls}
 use Rattle.disk_model.specs.declared.name.FileName.TheVariants as file
 use Rattle.disk_model.specs.FaultCounts.{NoFault, ChangeFaultCounted}
@@ -17,12 +17,23 @@ use Rattle.store_core.specs.Value.{StoreValue}
 use Rattle.task_claims.specs.Leaving.{SyncsMail}
 use Rattle.task_steps.proofs.UnmovedLemmas.{mail_still}
 use Rattle.mail_ops.specs.SparedMail.{SparesMail}
-use Rattle.mail_fetch.specs.Clause.{FetchesAlone}
+use Rattle.mail_fetch.specs.Claims.{used_by}
+use Rattle.mail_fetch.specs.Clause.{FetchesAlone, MakesOfDisk, OnlyReadsDisk, RemovesFromDisk}
+use Rattle.mail_fetch.specs.Events.{FetchesNext, GoesOnWith, fetch_refusal, with_piece}
+use Rattle.mail_fetch.specs.Parts.{pieces_left}
 use Rattle.mail_fetch.specs.Task.{FetchValue}
+use Rattle.mail_fetch.specs.declared.parts.StoredAt.{StoredAt}
+use Rattle.mail_fetch.specs.declared.task.FetchStage.{FetchStage}
+use Rattle.mail_fetch.specs.declared.task.FetchStage.TheVariants as fetch_stage
+use Rattle.mail_fetch.proofs.StageLemmas.{used_undoomed, used_runs}
+use Rattle.purge_task.specs.Keeping.{PurgeValue}
 use Rattle.mail_save.specs.Task.{EndsSave, FaultsAt, SaveValue, Saves}
 use Rattle.attach_detach.specs.declared.message.Prepared.{Prepared}
 use Rattle.list_machine.specs.Machine.{is_step}
+use Rattle.mdbox_base.specs.declared.ids.FileNo.{FileNo}
 use Rattle.mdbox_base.specs.declared.ids.Uid.{Uid}
+use Rattle.mdbox_base.specs.Streams.{Rose}
+use Rattle.storage_files.specs.Files.{pins_in}
 use Rattle.mdbox_base.specs.declared.replies.Refusal.{Refusal}
 use Rattle.mdbox_base.specs.declared.replies.Reply.{Reply}
 use Rattle.mdbox_base.specs.declared.requests.Request.{Request}
@@ -52,10 +63,10 @@ use Rattle.resync_task.specs.Clause.{CountsFaults, KeepsMessages}
 use Rattle.resync_task.specs.Correcting.{AreExact}
 use Rattle.resync_task.specs.Stages.{ResyncAt, ToList, ToRead}
 use Rattle.resync_task.specs.Task.{ResyncValue, ResyncsOn}
-use Rattle.lane_tasks.specs.Clause.{IsAtStart, StaysOfRequest, TaskKeeps, TellsStore, OnlyReads, WritesTask, progress_by}
+use Rattle.lane_tasks.specs.Clause.{DoomsNone, DoomsNothing, IsAtStart, RemovesNothing, StaysOfRequest, TaskKeeps, TellsStore, OnlyReads, WritesTask, progress_by}
 use Rattle.lane_tasks.specs.declared.task.Task.{Task}
 use Rattle.lane_tasks.specs.declared.task.Task.TheVariants as task
-use Rattle.lane_tasks.proofs.StepLemmas.{ran_before}
+use Rattle.lane_tasks.proofs.StepLemmas.{ran_before, undoomed_by, undoomed_rest}
 
 -- ---- the disk
 
@@ -74,8 +85,8 @@ syncs_idle (Some h) (Some g) idle = (λ number. inl (ap (λ (disk : DiskState). 
 abbrev Same : {D : Type 0} → (D → Option History) → (D → Faults) → Task → Task → StoreValue D → StoreValue D → Option Reply → Type 0
 Same history faults t next old new ended = TaskKeeps t next old new (history old.disk) (history new.disk) (faults old.disk) (faults new.disk) ended
 
-pub keeps_still : {D : Type 0} → (history : D → Option History) (faults : D → Faults) (t next : Task) (old new : StoreValue D) (ended : Option Reply) → StaysOfRequest t next → (new.stopped ≡ false → SyncsMail (history old.disk) (history old.disk) → WritesTask t next old (history old.disk) (history old.disk)) → TellsStore t next old new (history old.disk) (history old.disk) ended → new ≡ old → Same history faults t next old new ended
-keeps_still history faults t next old new ended kind writes tells same =
+pub keeps_still : {D : Type 0} → (history : D → Option History) (faults : D → Faults) (t next : Task) (old new : StoreValue D) (ended : Option Reply) → StaysOfRequest t next → (DoomsNone t → DoomsNone next) → (new.stopped ≡ false → SyncsMail (history old.disk) (history old.disk) → WritesTask t next old (history old.disk) (history old.disk)) → TellsStore t next old new (history old.disk) (history old.disk) ended → new ≡ old → Same history faults t next old new ended
+keeps_still history faults t next old new ended kind dooms writes tells same =
     subst (λ (d : _). TaskKeeps t next old new (history old.disk) (history d) (faults old.disk) (faults d) ended) (sym (ap (λ (s : StoreValue _). s.disk) same))
     (record {
       request = kind;
@@ -87,7 +98,8 @@ keeps_still history faults t next old new ended kind writes tells same =
       fell = λ ran stops. absurd (let k : true ≡ false = sym stops ∙ (ap (λ (s : StoreValue _). s.stopped) same ∙ ran) in cc k);
       unread = λ none. refl;
       tells = tells;
-      idle = λ reads. (idle-begins (history old.disk), refl, ap (λ (s : StoreValue _). s.stopped) same);
+      undoomed = undoomed_rest t next old new dooms (λ stopped. ap (λ (s : StoreValue _). s.stopped) same ∙ stopped) (ap (λ (s : StoreValue _). s.files) same);
+      idle = λ reads none. (idle-begins (history old.disk), refl, ap (λ (s : StoreValue _). s.stopped) same);
       still = λ stopped. (idle-begins (history old.disk), refl);
       same = λ back. idle-begins (history old.disk);
       refused = λ why begun e step. idle-begins (history old.disk);
@@ -103,10 +115,10 @@ progress_back (progress.Done given) = refl
 abbrev IsStoppedReply : Progress → Type 0
 IsStoppedReply answer = answer ≡ progress.Done (reply.Refused refusal.Stopped)
 
-pub keeps_by : {D : Type 0} → (history : D → Option History) (faults : D → Faults) (t next : Task) (old new : StoreValue D) (answer : Progress) → StaysOfRequest t next → SparesMail (new.stopped ≡ old.stopped) (history old.disk) (history new.disk) → (IsStoppedReply answer ↔ (new.stopped ≡ true)) → (old.stopped ≡ true → new ≡ old)
+pub keeps_by : {D : Type 0} → (history : D → Option History) (faults : D → Faults) (t next : Task) (old new : StoreValue D) (answer : Progress) → StaysOfRequest t next → (DoomsNone t → DoomsNone next) → new.files ≡ old.files → SparesMail (new.stopped ≡ old.stopped) (history old.disk) (history new.disk) → (IsStoppedReply answer ↔ (new.stopped ≡ true)) → (old.stopped ≡ true → new ≡ old)
     → (old.stopped ≡ false → ChangeFaultCounted (IsStoppedReply answer) (faults old.disk) (faults new.disk)) → ((IsStoppedReply answer → ⊥) → NoFault (faults old.disk) (faults new.disk)) → (OnlyReads t → new ≡ old) → ((why : Refusal) → IsAtStart t → old.stopped ≡ false → answer ≡ progress.Done (reply.Refused why) → is_step why ≡ true → new ≡ old)
     → (SyncsMail (history old.disk) (history new.disk) → WritesTask t next old (history old.disk) (history new.disk)) → TellsStore t next old new (history old.disk) (history new.disk) (ended_by answer) → Same history faults t next old new (ended_by answer)
-keeps_by history faults t next old new answer kind mail halts still fault unfailed reads refused writes tells = record {
+keeps_by history faults t next old new answer kind dooms files mail halts still fault unfailed reads refused writes tells = record {
   request = kind;
   grows = grows_kept old.map (history old.disk) (history new.disk) (mail.stays old.map);
   mail = λ m kept. mail.stays m;
@@ -116,7 +128,8 @@ keeps_by history faults t next old new answer kind mail halts still fault unfail
   fell = λ ran stops. ((fault ran).rose (halts.1 stops), (fault ran).reads);
   unread = λ none. unread old.stopped refl;
   tells = tells;
-  idle = λ r. (
+  undoomed = undoomed_rest t next old new dooms (λ was. ap (λ (s : StoreValue _). s.stopped) (still was) ∙ was) files;
+  idle = λ r none. (
     idle_same (reads r),
     subst (λ (d : _). (faults d).changes ≡ (faults old.disk).changes) (sym (disk_same (reads r))) refl,
     ap (λ (s : StoreValue _). s.stopped) (reads r),
@@ -154,24 +167,113 @@ keeps_by history faults t next old new answer kind mail halts still fault unfail
 
 -- ---- of a fetch
 
-pub keeps_fetching : {D : Type 0} → (t next : FetchValue) (name : List ℕ) (uid : ℕ) (old new : StoreValue D) (before after : Option History) (began now : Faults) (answer : Progress) → (next.name ≡ t.name) × (next.uid ≡ t.uid) → FetchesAlone name uid t.stage next.stage next.did answer old new before after began now → new.stopped ≡ old.stopped
-    → TaskKeeps (task.Fetch t) (task.Fetch next) old new before after began now (ended_by answer)
-keeps_fetching t next name uid old new before after began now answer request alone same = record {
-  request = request;
-  grows = grows_kept old.map before after (kept_idle old.map before after alone.idle);
-  mail = λ m kept. kept_idle m before after alone.idle;
-  reads = alone.fault.reads;
-  changes = (let same = alone.fault.changes in omega (arith, same));
-  unfailed = λ runs. alone.fault.changes;
-  fell = λ ran stops. absurd (let k : true ≡ false = sym stops ∙ (same ∙ ran) in cc k);
-  unread = λ none. absurd none;
-  tells = tt;
-  idle = λ reads. (alone.idle, alone.fault.changes, same);
-  still = λ stopped. (alone.idle, alone.fault.changes);
-  same = λ back. alone.idle;
-  refused = λ why begun e step. alone.idle;
-  left = λ runs. syncs_idle before after alone.idle;
+first_stopped : {D : Type 0} → (next : FetchStage) (old new : StoreValue D) → new ≡ record (used_by fetch_stage.First next old) { disk = new.disk } → new.stopped ≡ old.stopped
+first_stopped fetch_stage.First old new same = ap (λ (s : StoreValue _). s.stopped) same
+first_stopped (fetch_stage.Reading region) old new same = ap (λ (s : StoreValue _). s.stopped) same
+first_stopped (fetch_stage.Unpinning from given) old new same = ap (λ (s : StoreValue _). s.stopped) same
+first_stopped (fetch_stage.Removing file given) old new same = ap (λ (s : StoreValue _). s.stopped) same
+
+unpinned_stopped : {D : Type 0} → (from : StoredAt) (given : Reply) (next : FetchStage) (old new : StoreValue D) → new ≡ record (used_by (fetch_stage.Unpinning from given) next old) { disk = new.disk } → new.stopped ≡ old.stopped
+unpinned_stopped from given fetch_stage.First old new same = ap (λ (s : StoreValue _). s.stopped) same
+unpinned_stopped from given (fetch_stage.Reading region) old new same = ap (λ (s : StoreValue _). s.stopped) same
+unpinned_stopped from given (fetch_stage.Unpinning other reply) old new same = ap (λ (s : StoreValue _). s.stopped) same
+unpinned_stopped from given (fetch_stage.Removing file reply) old new same = ap (λ (s : StoreValue _). s.stopped) same
+
+-- what an event keeps of the disk that comes from one stage to another
+record KeepsFetching {D : Type 0} (now : FetchStage) (old new : StoreValue D) (before after : Option History) (began faults : Faults) : Type 0 where
+  grows : Grows before after
+  mail : (m : MapMeaning) → ((RemovesNothing now → ⊥) → m ≡ old.map) → MailIsKept m before after
+  reads : began.reads ≤ faults.reads
+  changes : began.changes ≤ faults.changes
+  unfailed : new.stopped ≡ false → faults.changes ≡ began.changes
+  fell : old.stopped ≡ false → new.stopped ≡ true → Rose began.changes faults.changes × (faults.reads ≡ began.reads)
+  idle : RemovesNothing now → IsIdle before after × (faults.changes ≡ began.changes) × (new.stopped ≡ old.stopped)
+  still : old.stopped ≡ true → IsIdle before after × (faults.changes ≡ began.changes)
+
+-- one that only reads
+only_reads : {D : Type 0} → (now next : FetchStage) (old new : StoreValue D) (before after : Option History) (began faults : Faults) → OnlyReadsDisk next before after began faults → (RemovesNothing now → new.stopped ≡ old.stopped) → (old.stopped ≡ false → new.stopped ≡ old.stopped) → KeepsFetching now old new before after began faults
+only_reads now next old new before after began faults o same ran_same = record {
+  grows = grows_kept old.map before after (kept_idle old.map before after o.idle);
+  mail = λ m kept. kept_idle m before after o.idle;
+  reads = o.fault.reads;
+  changes = (let k = o.fault.changes in omega (arith, k));
+  unfailed = λ runs. o.fault.changes;
+  fell = λ ran stops. absurd (let k : true ≡ false = sym stops ∙ (ran_same ran ∙ ran) in cc k);
+  idle = λ none. (o.idle, o.fault.changes, same none);
+  still = λ stopped. (o.idle, o.fault.changes);
 }
+
+removes : {D : Type 0} → (file : FileNo) (given : Reply) (old new : StoreValue D) (before after : Option History) (began faults : Faults) → old.stopped ≡ false → RemovesFromDisk file.0 old new before after began faults → KeepsFetching (fetch_stage.Removing file given) old new before after began faults
+removes file given old new before after began faults ran r = record {
+  grows = r.grows;
+  mail = λ m kept. subst (λ (n : MapMeaning). MailIsKept n before after) (sym (kept (λ none. none))) r.mail;
+  reads = (let k = r.fault.reads in omega (arith, k));
+  changes = r.fault.changes;
+  unfailed = λ runs. ap (λ (f : Faults). f.changes) (r.unfailed runs);
+  fell = λ was stops. (r.fault.rose stops, r.fault.reads);
+  idle = λ none. absurd none;
+  still = λ was. absurd (let k : true ≡ false = sym was ∙ ran in cc k);
+}
+
+fetch_kept : {D : Type 0} → (now next : FetchStage) (old new : StoreValue D) (before after : Option History) (began faults : Faults) → new ≡ record (used_by now next old) { disk = new.disk } → MakesOfDisk now next old new before after began faults → KeepsFetching now old new before after began faults
+fetch_kept fetch_stage.First next old new before after began faults same made = only_reads fetch_stage.First next old new before after began faults made (λ none. first_stopped next old new same) (λ ran. first_stopped next old new same)
+fetch_kept (fetch_stage.Reading region) next old new before after began faults same made =
+    only_reads (fetch_stage.Reading region) next old new before after began faults made (λ none. ap (λ (s : StoreValue _). s.stopped) same) (λ ran. ap (λ (s : StoreValue _). s.stopped) same)
+fetch_kept (fetch_stage.Unpinning from given) next old new before after began faults same made =
+    only_reads (fetch_stage.Unpinning from given) next old new before after began faults made (λ none. unpinned_stopped from given next old new same) (λ ran. unpinned_stopped from given next old new same)
+fetch_kept (fetch_stage.Removing file given) next old new before after began faults same made = by_run old.stopped refl
+  where
+    by_run : (b : Bool) → old.stopped ≡ b → KeepsFetching (fetch_stage.Removing file given) old new before after began faults
+    by_run true was = only_reads (fetch_stage.Removing file given) next old new before after began faults (made.0 was) (λ none. absurd none) (λ ran. absurd (let k : true ≡ false = sym was ∙ ran in cc k))
+    by_run false ran = removes file given old new before after began faults ran (made.1 ran)
+
+-- where no file is doomed, none is to be removed
+fetch_removes : {D : Type 0} → (name : List ℕ) (uid : ℕ) (now next : FetchStage) (answer : Progress) (store : StoreValue D) (history : Option History) (began faults : Faults) → FetchesNext name uid now next answer store history began faults → RemovesNothing now → (store.stopped ≡ false → DoomsNothing store) → RemovesNothing next
+fetch_removes name uid fetch_stage.First next answer store history began faults said none nothing = by_refusal (fetch_refusal name uid store) refl
+  where
+    by_refusal : (o : Option Refusal) → fetch_refusal name uid store ≡ o → RemovesNothing next
+    by_refusal (Some why) e = subst RemovesNothing (sym (said.refused why e).1) tt
+    by_refusal None e = elim (said.begun e) [ inl b ↦ subst RemovesNothing (sym b.1.2) tt | inr b ↦ subst RemovesNothing (sym b.3) tt ]
+fetch_removes name uid (fetch_stage.Reading region) next answer store history began faults said none nothing = by_run store.stopped refl
+  where
+    by_left : (piece : List ℕ) → GoesOnWith (with_piece region piece) next → (n : ℕ) → pieces_left (with_piece region piece).left ≡ n → RemovesNothing next
+    by_left piece on zero e = subst RemovesNothing (sym (on.last e).1) tt
+    by_left piece on (suc n) e = subst RemovesNothing (sym (on.more (omega (arith, e)))) tt
+
+    by_run : (b : Bool) → store.stopped ≡ b → RemovesNothing next
+    by_run true was = subst RemovesNothing (sym (said.0 was).1) tt
+    by_run false ran = elim (said.1 ran).1 [ inl p ↦ by_left p.0 p.2 (pieces_left (with_piece region p.0).left) refl | inr p ↦ subst RemovesNothing (sym p.1) tt ]
+fetch_removes name uid (fetch_stage.Unpinning from given) next answer store history began faults said none nothing = by_run store.stopped refl
+  where
+    by_run : (b : Bool) → store.stopped ≡ b → RemovesNothing next
+    by_run true was = subst RemovesNothing (sym (said.0 was).1) tt
+    by_run false ran = subst RemovesNothing (sym ((said.1 ran).other (ap (λ (b : Bool). b && (pins_in from.file.0 store.files.files == 1)) (nothing ran from.file.0))).1) tt
+fetch_removes name uid (fetch_stage.Removing file given) next answer store history began faults said none nothing = absurd none
+
+pub keeps_fetching : {D : Type 0} → (history : D → Option History) (faults : D → Faults) (t next : FetchValue) (name : List ℕ) (uid : ℕ) (old new : StoreValue D) (answer : Progress) → (next.name ≡ t.name) × (next.uid ≡ t.uid) → FetchesAlone name uid t.stage next.stage next.did answer old new (history old.disk) (history new.disk) (faults old.disk) (faults new.disk)
+    → Same history faults (task.Fetch t) (task.Fetch next) old new (ended_by answer)
+keeps_fetching history faults t next name uid old new answer request alone =
+    let k = fetch_kept t.stage next.stage old new (history old.disk) (history new.disk) (faults old.disk) (faults new.disk) alone.same alone.disk in
+    record {
+      request = request;
+      grows = k.grows;
+      mail = λ m kept. k.mail m kept;
+      reads = k.reads;
+      changes = k.changes;
+      unfailed = k.unfailed;
+      fell = k.fell;
+      unread = λ none. absurd none;
+      tells = tt;
+      undoomed = λ none nothing. (
+        fetch_removes name uid t.stage next.stage answer old (history old.disk) (faults old.disk) (faults new.disk) alone.replies none nothing,
+        λ runs file. used_undoomed t.stage next.stage old new file alone.same (nothing (used_runs t.stage next.stage old new alone.same runs) file),
+      );
+      idle = λ reads none. k.idle none;
+      still = k.still;
+      same = λ back. subst (λ (d : _). IsIdle (history old.disk) (history d)) (sym back) (idle-begins (history old.disk));
+      refused = λ why begun e step. (k.idle (subst RemovesNothing (sym begun) tt)).0;
+      left = λ runs none. syncs_idle (history old.disk) (history new.disk) (k.idle none).0;
+    }
 
 -- ---- of a delivery
 
@@ -223,7 +325,8 @@ keeps_saving history faults t next old new answer request ends saves = by_run ol
           fell = λ ran stops. let f = subst (λ (a : Progress). FaultsAt a (faults old.disk) (faults new.disk)) (s.stopped.1 stops) s.faults in (f.rose tt, f.reads);
           unread = λ none. absurd none;
           tells = tt;
-          idle = λ reads. absurd reads;
+          undoomed = undoomed_by (task.Deliver t) (task.Deliver next) old new (λ none. none) (λ runs. r) ends.doomed;
+          idle = λ reads none. absurd reads;
           still = λ was. absurd (let k : true ≡ false = sym was ∙ r in cc k);
           same = idle_disk;
           refused = λ why begun e step. idle_same (saving_refused begun.0 t.stage next.stage answer why begun.1 e s.effects);
@@ -231,7 +334,7 @@ keeps_saving history faults t next old new answer request ends saves = by_run ol
         }
 
     by_run : (b : Bool) → old.stopped ≡ b → Same history faults (task.Deliver t) (task.Deliver next) old new (ended_by answer)
-    by_run true was = keeps_still history faults (task.Deliver t) (task.Deliver next) old new (ended_by answer) request (λ runs synced. absurd (let k : false ≡ true = sym runs ∙ (ap (λ (s : StoreValue _). s.stopped) (ends.still was) ∙ was) in cc k)) tt (ends.still was)
+    by_run true was = keeps_still history faults (task.Deliver t) (task.Deliver next) old new (ended_by answer) request (λ none. none) (λ runs synced. absurd (let k : false ≡ true = sym runs ∙ (ap (λ (s : StoreValue _). s.stopped) (ends.still was) ∙ was) in cc k)) tt (ends.still was)
     by_run false r = ran r (saves r)
 
 -- ---- of a resync
@@ -253,9 +356,9 @@ resync_refused now next how old new before after began then answer why is e said
 
 pub keeps_resyncing : {D : Type 0} → (history : D → Option History) (faults : D → Faults) (t next : ResyncValue) (old new : StoreValue D) (answer : Progress)
     → (old.stopped ≡ false → ResyncsOn t.stage next.stage answer next.did old new (history old.disk) (history new.disk) (faults old.disk) (faults new.disk)) → ((corrected damaged : ℕ) → answer ≡ progress.Done (reply.Resynced corrected damaged) → AreExact new)
-    → (IsStoppedReply answer ↔ (new.stopped ≡ true)) → (old.stopped ≡ true → new ≡ old) → CountsFaults answer old new (faults old.disk) (faults new.disk) → KeepsMessages (new.stopped ≡ old.stopped) (history old.disk) (history new.disk) → Grows (history old.disk) (history new.disk)
+    → (IsStoppedReply answer ↔ (new.stopped ≡ true)) → (old.stopped ≡ true → new ≡ old) → CountsFaults answer old new (faults old.disk) (faults new.disk) → KeepsMessages (new.stopped ≡ old.stopped) (history old.disk) (history new.disk) → Grows (history old.disk) (history new.disk) → new.files ≡ old.files
     → Same history faults (task.Resync t) (task.Resync next) old new (ended_by answer)
-keeps_resyncing history faults t next old new answer on exact halts still fault mail grows = record {
+keeps_resyncing history faults t next old new answer on exact halts still fault mail grows files = record {
   request = tt;
   grows = grows;
   mail = λ m kept. mail.stays m;
@@ -265,7 +368,8 @@ keeps_resyncing history faults t next old new answer on exact halts still fault 
   fell = λ ran stops. fault.change ran (halts.1 stops);
   unread = λ none. absurd none;
   tells = λ corrected damaged e. exact corrected damaged (told_so answer (reply.Resynced corrected damaged) e);
-  idle = λ reads. absurd reads;
+  undoomed = undoomed_rest (task.Resync t) (task.Resync next) old new (λ none. none) (λ was. ap (λ (s : StoreValue _). s.stopped) (still was) ∙ was) files;
+  idle = λ reads none. absurd reads;
   still = λ stopped. (idle_same (still stopped), subst (λ (d : _). (faults d).changes ≡ (faults old.disk).changes) (sym (disk_same (still stopped))) refl);
   same = idle_disk;
   refused = λ why begun e step. idle_same (by_stop why begun (told_so answer (reply.Refused why) e) old.stopped refl);
@@ -284,6 +388,32 @@ keeps_resyncing history faults t next old new answer on exact halts still fault 
     by_stop : (why : Refusal) → t.stage ≡ ToList → answer ≡ progress.Done (reply.Refused why) → (b : Bool) → old.stopped ≡ b → new ≡ old
     by_stop why begun e true was = still was
     by_stop why begun e false ran = resync_refused t.stage next.stage next.did old new (history old.disk) (history new.disk) (faults old.disk) (faults new.disk) answer why begun e (on ran)
+
+-- ---- of a purge
+
+pub keeps_purging : {D : Type 0} → (history : D → Option History) (faults : D → Faults) (t next : PurgeValue) (old new : StoreValue D) (ended : Option Reply) → Grows (history old.disk) (history new.disk) → MailIsKept old.map (history old.disk) (history new.disk) → (faults old.disk).reads ≤ (faults new.disk).reads → (faults old.disk).changes ≤ (faults new.disk).changes
+    → (new.stopped ≡ false → (faults new.disk).changes ≡ (faults old.disk).changes) → (old.stopped ≡ false → new.stopped ≡ true → Rose (faults old.disk).changes (faults new.disk).changes × ((faults new.disk).reads ≡ (faults old.disk).reads)) → (old.stopped ≡ true → new ≡ old)
+    → Same history faults (task.Purge t) (task.Purge next) old new ended
+keeps_purging history faults t next old new ended grows mail reads changes unfailed fell still = record {
+  request = tt;
+  grows = grows;
+  mail = λ m is. subst (λ (n : MapMeaning). MailIsKept n (history old.disk) (history new.disk)) (sym is) mail;
+  reads = reads;
+  changes = changes;
+  unfailed = unfailed;
+  fell = fell;
+  unread = λ none. absurd none;
+  tells = tt;
+  undoomed = λ none. absurd none;
+  idle = λ reads. absurd reads;
+  still = λ was. (idle_disk (ap (λ (s : StoreValue _). s.disk) (still was)), ap (λ (s : StoreValue _). (faults s.disk).changes) (still was));
+  same = idle_disk;
+  refused = λ why begun. absurd begun;
+  left = λ runs. tt;
+}
+  where
+    idle_disk : new.disk ≡ old.disk → IsIdle (history old.disk) (history new.disk)
+    idle_disk same = subst (λ (d : _). IsIdle (history old.disk) (history d)) (sym same) (idle-begins (history old.disk))
 
 -- ---- a first event that is refused
 

@@ -2,6 +2,9 @@ pub mod FilesLemmas
 pub mod HoldsLemmas
 pub mod KeepLemmas
 pub mod NamedLemmas
+pub mod PurgeApartLemmas
+pub mod PurgeClaimedLemmas
+pub mod PurgeTakenLemmas
 pub mod RoomLemmas
 pub mod StandLemmas
 pub mod StepLemmas

@@ -1,6 +1,6 @@
 -- What tasks claim leaves room for their next events.
 use Rattle.std.proofs.Common.{◌≡◌, ◌+◌, ◌*◌, ℕ, false, List, [], ◌∷◌, All, length, Option, Some, None, refl, sym, ◌∙◌, ap, subst, arith}
-use Rattle.std.specs.Prelude.{◌≤◌}
+use Rattle.std.specs.Prelude.{◌≤◌, drop}
 use Rattle.std.specs.Option.{option_map_or}
 use Rattle.std.proofs.lemmas.List.Elements.{All-cons, All-nil, All-head, All-tail}
 use Rattle.std.proofs.lemmas.List.Sums.{sum_by-cons}
@@ -18,6 +18,7 @@ use Rattle.task_claims.specs.Claims.{AddsUp, Claims, Held, Pinned, Thing, total_
 use Rattle.mail_ops.specs.declared.making.MakeStage.{MakeStage}
 use Rattle.mail_ops.specs.declared.making.MakeStage.TheVariants as make_stage
 use Rattle.mail_ops.specs.Claims.{make_claims}
+use Rattle.mail_fetch.specs.Claims.{HasUseRoom}
 use Rattle.mail_fetch.specs.Clause.{ReadsSafe}
 use Rattle.mail_fetch.proofs.StableLemmas.{claims_few, claims_one_pin}
 use Rattle.mail_fetch.proofs.StepLemmas.{safe_fetched}
@@ -27,7 +28,11 @@ use Rattle.mail_save.specs.declared.task.SaveStage.{SaveStage}
 use Rattle.mail_save.specs.declared.task.SaveStage.TheVariants as save_stage
 use Rattle.mail_save.proofs.SaveReadyLemmas.{holds_are_few}
 use Rattle.mail_save.proofs.SaveRoomLemmas.{room_is}
-use Rattle.lane_tasks.specs.Clause.{CanAnswer, ClaimsFew, DoomsNothing, HasTaskRoom, IsFreeToTake, around_at, found_saving}
+use Rattle.purge_task.specs.Claims.{claims_of_sources, claims_of_switched, claims_of_target, purge_claims, sources_left}
+use Rattle.purge_task.specs.declared.task.PurgeStage.{PurgeStage}
+use Rattle.purge_task.specs.declared.task.PurgeStage.TheVariants as purge_stage
+use Rattle.purge_task.specs.declared.work.Source.{Source}
+use Rattle.lane_tasks.specs.Clause.{CanAnswer, ClaimsFew, IsFreeToTake, around_at, found_saving}
 use Rattle.lane_tasks.specs.Tasks.{IsReadyTask, claims_at}
 use Rattle.lane_tasks.specs.declared.task.Task.{Task}
 use Rattle.lane_tasks.specs.declared.task.Task.TheVariants as task
@@ -45,6 +50,39 @@ make_holds : (now : MakeStage) (id : InstId) → make_claims now (Held id) ≡ 0
 make_holds make_stage.First id = refl
 make_holds (make_stage.Naming number) id = refl
 
+sources_pin_none : (left : List Source) (file : ℕ) → claims_of_sources left (Pinned file) ≡ 0
+sources_pin_none left file = refl
+
+target_pins_none : (left : List Source) (file : ℕ) → claims_of_target left (Pinned file) ≡ 0
+target_pins_none [] file = refl
+target_pins_none (source ∷ left) file = refl
+
+switched_pins_none : (left : List Source) (file : ℕ) → claims_of_switched left (Pinned file) ≡ 0
+switched_pins_none [] file = refl
+switched_pins_none (source ∷ left) file = refl
+
+purge_pins : (now : PurgeStage) (file : ℕ) → purge_claims now (Pinned file) ≡ 0
+purge_pins purge_stage.First file = refl
+purge_pins (purge_stage.Begin work) file = sources_pin_none (sources_left work) file
+purge_pins (purge_stage.Copying work) file = let a = sources_pin_none (sources_left work) file in let b = target_pins_none (sources_left work) file in omega (arith, a, b)
+purge_pins (purge_stage.Removing work) file = let a = sources_pin_none (drop 1 (sources_left work)) file in let b = switched_pins_none (sources_left work) file in omega (arith, a, b)
+purge_pins purge_stage.Instances file = refl
+
+target_holds_none : (left : List Source) (id : InstId) → claims_of_target left (Held id) ≡ 0
+target_holds_none [] id = refl
+target_holds_none (source ∷ left) id = refl
+
+switched_holds_none : (left : List Source) (id : InstId) → claims_of_switched left (Held id) ≡ 0
+switched_holds_none [] id = refl
+switched_holds_none (source ∷ left) id = refl
+
+pub purge_holds : (now : PurgeStage) (id : InstId) → purge_claims now (Held id) ≡ 0
+purge_holds purge_stage.First id = refl
+purge_holds (purge_stage.Begin work) id = refl
+purge_holds (purge_stage.Copying work) id = let none = target_holds_none (sources_left work) id in omega (arith, none)
+purge_holds (purge_stage.Removing work) id = let none = switched_holds_none (sources_left work) id in omega (arith, none)
+purge_holds purge_stage.Instances id = refl
+
 pub task_claims_few : {D : Type 0} → (t : Task) (store : StoreValue D) (history : Option History) → IsReadyTask t store history → ClaimsFew (claims_at t)
 task_claims_few (task.Ops t) store history ready = none_few (claims_at (task.Ops t)) (λ file. refl) (λ id. refl)
 task_claims_few (task.Counts t) store history ready = none_few (claims_at (task.Counts t)) (λ file. refl) (λ id. refl)
@@ -53,6 +91,7 @@ task_claims_few (task.Copy t) store history ready = none_few (claims_at (task.Co
 task_claims_few (task.Move t) store history ready = none_few (claims_at (task.Move t)) (λ file. refl) (λ id. refl)
 task_claims_few (task.Expunge t) store history ready = none_few (claims_at (task.Expunge t)) (λ file. refl) (λ id. refl)
 task_claims_few (task.Resync t) store history ready = none_few (claims_at (task.Resync t)) (λ file. refl) (λ id. refl)
+task_claims_few (task.Purge t) store history ready = none_few (purge_claims t.stage) (purge_pins t.stage) (purge_holds t.stage)
 task_claims_few (task.Fetch t) store history ready = record { pinned = claims_one_pin t.stage; held = λ id. claims_few t.stage store id ready }
 task_claims_few (task.Deliver t) store history ready = record {
   pinned = λ file. omega arith;
@@ -81,19 +120,16 @@ few_holds : (id : InstId) (each : List Claims) → All ClaimsFew each → All (�
 few_holds id [] few = All-nil (λ (mine : Claims). mine (Held id) ≤ 65535)
 few_holds id (mine ∷ rest) few = All-cons (λ (one : Claims). one (Held id) ≤ 65535) mine rest ((All-head ClaimsFew mine rest few).held id) (few_holds id rest (All-tail ClaimsFew mine rest few))
 
-pub room_left : {D : Type 0} → (store : StoreValue D) (each : List Claims) → AddsUp store each → length each ≤ 64 → All ClaimsFew each → DoomsNothing store → HasTaskRoom store
-room_left store each adds short few undoomed = record {
-  uses = record {
-    pins = λ file.
-        let all = adds (Pinned file) in
-        let most = total_few (Pinned file) 1 each (few_pins file each few) in
-        omega (arith, all, most, short);
-    holds = λ id.
-        let all = adds (Held id) in
-        let most = total_few (Held id) 65535 each (few_holds id each few) in
-        omega (arith, all, most, short);
-  };
-  undoomed = undoomed;
+pub room_left : {D : Type 0} → (store : StoreValue D) (each : List Claims) → AddsUp store each → length each ≤ 64 → All ClaimsFew each → HasUseRoom store
+room_left store each adds short few = record {
+  pins = λ file.
+      let all = adds (Pinned file) in
+      let most = total_few (Pinned file) 1 each (few_pins file each few) in
+      omega (arith, all, most, short);
+  holds = λ id.
+      let all = adds (Held id) in
+      let most = total_few (Held id) 65535 each (few_holds id each few) in
+      omega (arith, all, most, short);
 }
 
 -- ---- the file that is found
@@ -133,6 +169,7 @@ found_free (task.Make t) asked store history around file s order none found = ab
 found_free (task.Copy t) asked store history around file s order none found = absurd (no_room file around.room none found)
 found_free (task.Move t) asked store history around file s order none found = absurd (no_room file around.room none found)
 found_free (task.Expunge t) asked store history around file s order none found = absurd (no_room file around.room none found)
+found_free (task.Purge t) asked store history around file s order none found = absurd (no_room file around.room none found)
 found_free (task.Resync t) asked store history around file s order none found = absurd (no_room file around.room none found)
 found_free (task.Fetch t) asked store history around file s order none found = absurd (no_room file around.room none found)
 
@@ -146,5 +183,6 @@ safe_answered (task.Make t) lists store history is runs safe = tt
 safe_answered (task.Copy t) lists store history is runs safe = tt
 safe_answered (task.Move t) lists store history is runs safe = tt
 safe_answered (task.Expunge t) lists store history is runs safe = tt
+safe_answered (task.Purge t) lists store history is runs safe = tt
 safe_answered (task.Resync t) lists store history is runs safe = tt
 safe_answered (task.Deliver t) lists store history is runs safe = tt

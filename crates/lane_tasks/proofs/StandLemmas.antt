@@ -3,18 +3,20 @@ use Rattle.std.proofs.Common.{◌≡◌, ℕ, true, false, List, [], Option, Non
 use Rattle.std.specs.Prelude.{◌≢◌, ◌⊎◌, ◌≤◌, All}
 use Rattle.std.specs.List.{list_any}
 use Rattle.std.proofs.lemmas.List.Elements.{All-nil}
-use Rattle.disk_model.specs.Disk.{History}
+use Rattle.disk_model.specs.Disk.{Faults, History}
 use Rattle.mdbox_base.specs.declared.replies.Reply.{Reply}
 use Rattle.mdbox_base.specs.declared.requests.Request.{Request}
 use Rattle.mdbox_base.specs.declared.requests.Request.TheVariants as request
 use Rattle.list_machine.specs.Run.{Run, RunEvent, and_then, own_events}
 use Rattle.journal.specs.Events.{last_refusal}
 use Rattle.journal.specs.Found.{gave_back, took_file}
+use Rattle.storage_files.specs.Files.{AreFilesInOrder}
+use Rattle.store_core.specs.Running.{IsStore}
 use Rattle.store_core.specs.Value.{StoreValue}
 use Rattle.task_claims.specs.Claims.{Claims, ClaimsNothing, Due, Emptied, Held, Made, Taken, Thing}
-use Rattle.task_claims.specs.Stable.{IsStable}
+use Rattle.task_claims.specs.Stable.{Beside}
 use Rattle.task_claims.proofs.RestLemmas.{none_claimed_of}
-use Rattle.task_steps.specs.Step.{GivesNew, HasNotBegun, IsKept}
+use Rattle.task_steps.specs.Step.{GivesNew, HasNotBegun}
 use Rattle.task_steps.proofs.SeenLemmas.{not_begun_stays}
 use Rattle.mail_ops.specs.Claims.{copy_claims, expunge_claims, make_claims, move_claims}
 use Rattle.mail_ops.specs.Copy.{IsAtCopy, IsReadyToCopy, copy_dues}
@@ -44,7 +46,6 @@ use Rattle.mail_fetch.specs.Claims.{IsReadyToFetch, fetch_claims}
 use Rattle.mail_fetch.specs.Stages.{IsAtFetch}
 use Rattle.mail_fetch.specs.declared.task.FetchStage.{FetchStage}
 use Rattle.mail_fetch.proofs.StableLemmas.{fetch_stable, stay_beside}
-use Rattle.mail_fetch.proofs.StepLemmas.{fetch_stays}
 use Rattle.mail_save.specs.Claims.{save_claims}
 use Rattle.mail_save.specs.SaveSeen.{HasItsParts, IsAtSave}
 use Rattle.mail_save.specs.Task.{IsReadyToDeliver, SaveValue}
@@ -54,27 +55,39 @@ use Rattle.mail_save.proofs.SaveKeptLemmas.{save_kept}
 use Rattle.mail_save.proofs.SaveReadyLemmas.{begins_ready as fresh_delivery}
 use Rattle.mail_save.proofs.SaveTakenLemmas.{taken_claimed}
 use Rattle.mail_save.proofs.StableSaveLemmas.{save_stable}
+use Rattle.purge_task.specs.Claims.{purge_claims}
+use Rattle.purge_task.specs.Keeping.{HasPurged}
+use Rattle.purge_task.specs.Stages.{IsAtPurgeStage}
+use Rattle.purge_task.specs.declared.task.PurgeStage.{PurgeStage}
+use Rattle.purge_task.proofs.BesideLemmas.{purge_stands}
+use Rattle.purge_task.proofs.StableLemmas.{purge_stable}
 use Rattle.resync_task.specs.Stages.{ResyncAt, IsAtResync}
 use Rattle.resync_task.proofs.ResyncEventLemmas.{resyncs_are_kept}
-use Rattle.lane_tasks.specs.Clause.{PassesBy}
+use Rattle.lane_tasks.specs.Clause.{PassesBy, PassesInRun}
 use Rattle.lane_tasks.specs.Tasks.{BeginsTask, IsAtDelivery, IsAtFirst, IsAtTask, IsFreshDelivery, IsMakeNumber, IsReadyTask, NamesFound, StandsTask, TookFiles, TookNoFile, claims_at}
 use Rattle.lane_tasks.specs.declared.task.Task.{Task}
 use Rattle.lane_tasks.specs.declared.task.Task.TheVariants as task
 use Rattle.lane_tasks.proofs.FilesLemmas.{none_taken, took_none_other}
-use Rattle.lane_tasks.proofs.NamedLemmas.{names_beside, names_kept}
+use Rattle.lane_tasks.proofs.PurgeApartLemmas.{apart_first, apart_other}
+use Rattle.lane_tasks.proofs.NamedLemmas.{names_beside}
+use Rattle.lane_tasks.proofs.PurgeTakenLemmas.{purge_taken}
 
 -- ---- beside events of others
 
-pub task_stable : {D : Type 0} → (t : Task) → IsStable {D = D} (claims_at t) (λ store history. IsReadyTask t store history)
-task_stable (task.Ops t) old new before after b ready = tt
-task_stable (task.Counts t) old new before after b ready = tt
-task_stable (task.Make t) old new before after b ready = (make_stable t.stage old new before after b ready.0, ready.1)
-task_stable (task.Copy t) old new before after b ready = copy_stable t.name t.uid t.stage old new before after b ready
-task_stable (task.Move t) old new before after b ready = move_stable t.name t.uid t.stage old new before after b ready
-task_stable (task.Expunge t) old new before after b ready = expunge_stable t.stage old new before after b ready
-task_stable (task.Fetch t) old new before after b ready = fetch_stable t.stage old new before after b ready
-task_stable (task.Resync t) old new before after b ready = tt
-task_stable (task.Deliver t) old new before after b ready = (ready.0, save_stable t.stage t.name t.time t.size ready.0 old new before after b ready.1)
+abbrev StaysReady : {D : Type 0} → Task → StoreValue D → StoreValue D → Option History → Option History → Type 0
+StaysReady t old new before after = Beside (claims_at t) old new before after → IsReadyTask t old before → IsReadyTask t new after
+
+pub task_stable : {D : Type 0} → (t : Task) (old new : StoreValue D) (before after : Option History) → IsStore before old → IsStore after new → AreFilesInOrder new.files → StaysReady t old new before after
+task_stable (task.Ops t) old new before after was is order b ready = tt
+task_stable (task.Counts t) old new before after was is order b ready = tt
+task_stable (task.Make t) old new before after was is order b ready = (make_stable t.stage old new before after b ready.0, ready.1)
+task_stable (task.Copy t) old new before after was is order b ready = copy_stable t.name t.uid t.stage old new before after b ready
+task_stable (task.Move t) old new before after was is order b ready = move_stable t.name t.uid t.stage old new before after b ready
+task_stable (task.Expunge t) old new before after was is order b ready = expunge_stable t.stage old new before after b ready
+task_stable (task.Fetch t) old new before after was is order b ready = fetch_stable t.stage old new before after b ready
+task_stable (task.Resync t) old new before after was is order b ready = tt
+task_stable (task.Purge t) old new before after was is order b ready = purge_stable t old new before after was is order b ready
+task_stable (task.Deliver t) old new before after was is order b ready = (ready.0, save_stable t.stage t.name t.time t.size ready.0 old new before after b ready.1)
 
 delivery_stays : {D : Type 0} → (t : SaveValue) (old new : StoreValue D) (before after : Option History) (asked : Request) (run : Run) (place : ℕ) (said : List Reply) (event : RunEvent) → PassesBy (task.Deliver t) old new before after → event.request ≢ place → GivesNew run event
     → IsAtDelivery t old before asked run place said → IsAtDelivery t new after asked (and_then run event) place said
@@ -86,18 +99,19 @@ delivery_stays t old new before after (request.Deliver name time octets) run pla
 )
 delivery_stays t old new before after asked run place said event passes other gives at = absurd at
 
-at_stays : {D : Type 0} → (t : Task) (old new : StoreValue D) (before after : Option History) (asked : Request) (run : Run) (place : ℕ) (said : List Reply) (event : RunEvent) → PassesBy t old new before after → event.request ≢ place → GivesNew run event
+at_stays : {D : Type 0} → (t : Task) (old new : StoreValue D) (before after : Option History) (faults : Faults) (asked : Request) (run : Run) (place : ℕ) (said : List Reply) (event : RunEvent) → PassesBy t old new before after → PassesInRun t new after faults run event → event.request ≢ place → GivesNew run event
     → IsAtTask t old before asked run place said → IsAtTask t new after asked (and_then run event) place said
-at_stays (task.Ops t) old new before after asked run place said event passes other gives at = stages_kept t.stage run place said event other gives at
-at_stays (task.Counts t) old new before after asked run place said event passes other gives at = not_begun_stays run place said event other gives at
-at_stays (task.Make t) old new before after asked run place said event passes other gives at = make_kept t.stage run place said event other gives at
-at_stays (task.Copy t) old new before after asked run place said event passes other gives at = copy_kept t.stage run place said event other gives at
-at_stays (task.Move t) old new before after asked run place said event passes other gives at = move_kept t.uid t.stage run place said event other gives at
-at_stays (task.Expunge t) old new before after asked run place said event passes other gives at = expunge_kept t.stage run place said event other gives at
-at_stays (task.Fetch t) old new before after asked run place said event passes other gives at =
-    stay_beside t.stage old new before after run event place said other (λ runs. (passes runs).0) (λ runs. ((passes runs).2, (passes runs).1)) at
-at_stays (task.Resync t) old new before after asked run place said event passes other gives at = resyncs_are_kept t.stage run place said event other gives at
-at_stays (task.Deliver t) old new before after asked run place said event passes other gives at = delivery_stays t old new before after asked run place said event passes other gives at
+at_stays (task.Ops t) old new before after faults asked run place said event passes in_run other gives at = stages_kept t.stage run place said event other gives at
+at_stays (task.Counts t) old new before after faults asked run place said event passes in_run other gives at = not_begun_stays run place said event other gives at
+at_stays (task.Make t) old new before after faults asked run place said event passes in_run other gives at = make_kept t.stage run place said event other gives at
+at_stays (task.Copy t) old new before after faults asked run place said event passes in_run other gives at = copy_kept t.stage run place said event other gives at
+at_stays (task.Move t) old new before after faults asked run place said event passes in_run other gives at = move_kept t.uid t.stage run place said event other gives at
+at_stays (task.Expunge t) old new before after faults asked run place said event passes in_run other gives at = expunge_kept t.stage run place said event other gives at
+at_stays (task.Fetch t) old new before after faults asked run place said event passes in_run other gives at =
+    stay_beside t.stage old new before after faults run event place said other (λ runs. (passes runs).0) (λ runs. ((passes runs).2, (passes runs).1, in_run.come runs)) in_run.spared at
+at_stays (task.Resync t) old new before after faults asked run place said event passes in_run other gives at = resyncs_are_kept t.stage run place said event other gives at
+at_stays (task.Purge t) old new before after faults asked run place said event passes in_run other gives at = purge_stands t old new before after run place said event (λ runs. ((passes runs).0, (passes runs).2)) other gives at
+at_stays (task.Deliver t) old new before after faults asked run place said event passes in_run other gives at = delivery_stays t old new before after asked run place said event passes other gives at
 
 took_stays : (t : Task) (run : Run) (place : ℕ) (event : RunEvent) → event.request ≢ place → TookFiles t run place → TookFiles t (and_then run event) place
 took_stays (task.Ops t) run place event other took = took_none_other run place event other took
@@ -108,35 +122,14 @@ took_stays (task.Move t) run place event other took = took_none_other run place 
 took_stays (task.Expunge t) run place event other took = took_none_other run place event other took
 took_stays (task.Fetch t) run place event other took = took_none_other run place event other took
 took_stays (task.Resync t) run place event other took = took_none_other run place event other took
+took_stays (task.Purge t) run place event other took = apart_other run place event other took
 took_stays (task.Deliver t) run place event other took = tt
 
-pub task_stands : {D : Type 0} → (t : Task) (old new : StoreValue D) (before after : Option History) (asked : Request) (run : Run) (place : ℕ) (said : List Reply) (event : RunEvent) → PassesBy t old new before after → event.request ≢ place → GivesNew run event
+pub task_stands : {D : Type 0} → (t : Task) (old new : StoreValue D) (before after : Option History) (faults : Faults) (asked : Request) (run : Run) (place : ℕ) (said : List Reply) (event : RunEvent) → PassesBy t old new before after → PassesInRun t new after faults run event → event.request ≢ place → GivesNew run event
     → StandsTask t old before asked run place said → StandsTask t new after asked (and_then run event) place said
-task_stands t old new before after asked run place said event passes other gives s = record {
+task_stands t old new before after faults asked run place said event passes in_run other gives s = record {
   is_of = s.is_of;
-  at = at_stays t old new before after asked run place said event passes other gives s.at;
-  took = took_stays t run place event other s.took;
-}
-
-delivery_kept : {D : Type 0} → (t : SaveValue) (store : StoreValue D) (history : Option History) (asked : Request) → IsKept (IsAtDelivery t store history asked)
-delivery_kept t store history (request.Deliver name time octets) run place said event other gives at = (save_kept t.stage run place said event other gives at.0, at.1, at.2, λ runs. names_kept t.stage store run place event other (at.3 runs))
-delivery_kept t store history asked run place said event other gives at = absurd at
-
-at_kept : {D : Type 0} → (t : Task) (store : StoreValue D) (history : Option History) (asked : Request) → IsKept (IsAtTask t store history asked)
-at_kept (task.Ops t) store history asked = stages_kept t.stage
-at_kept (task.Counts t) store history asked = not_begun_stays
-at_kept (task.Make t) store history asked = make_kept t.stage
-at_kept (task.Copy t) store history asked = copy_kept t.stage
-at_kept (task.Move t) store history asked = move_kept t.uid t.stage
-at_kept (task.Expunge t) store history asked = expunge_kept t.stage
-at_kept (task.Fetch t) store history asked = fetch_stays t.stage store.stopped history
-at_kept (task.Resync t) store history asked = resyncs_are_kept t.stage
-at_kept (task.Deliver t) store history asked = delivery_kept t store history asked
-
-pub task_kept : {D : Type 0} → (t : Task) (store : StoreValue D) (history : Option History) (asked : Request) → IsKept (StandsTask t store history asked)
-task_kept t store history asked run place said event other gives s = record {
-  is_of = s.is_of;
-  at = at_kept t store history asked run place said event other gives s.at;
+  at = at_stays t old new before after faults asked run place said event passes in_run other gives s.at;
   took = took_stays t run place event other s.took;
 }
 
@@ -178,6 +171,7 @@ begins_unclaimed asked (task.Move t) b = move_first t.stage b.at
 begins_unclaimed asked (task.Expunge t) b = expunge_first t.stage b.at
 begins_unclaimed asked (task.Fetch t) b = λ thing. ap (λ (s : FetchStage). fetch_claims s thing) b.at
 begins_unclaimed asked (task.Resync t) b = λ thing. refl
+begins_unclaimed asked (task.Purge t) b = λ thing. ap (λ (s : PurgeStage). purge_claims s thing) b.at
 begins_unclaimed asked (task.Deliver t) b = delivery_unclaimed t asked b.at
 
 fresh_ready : {D : Type 0} → (t : SaveValue) (name : List ℕ) (time : ℕ) (octets : List ℕ) (store : StoreValue D) (history : Option History) → IsFreshDelivery t (request.Deliver name time octets) → IsReadyToDeliver t.stage t.name t.time t.size octets store history
@@ -198,6 +192,7 @@ begins_ready asked (task.Move t) store history b = subst (λ (s : MoveStage). Is
 begins_ready asked (task.Expunge t) store history b = subst (λ (s : ExpungeStage). AreDueIn store (expunge_amounts s)) (sym b.at) (λ other. omega arith)
 begins_ready asked (task.Fetch t) store history b = subst (λ (s : FetchStage). IsReadyToFetch s store) (sym b.at) tt
 begins_ready asked (task.Resync t) store history b = tt
+begins_ready asked (task.Purge t) store history b = (subst (λ (s : PurgeStage). HasPurged s store history) (sym b.at) tt, λ differs. absurd (differs b.at))
 begins_ready asked (task.Deliver t) store history b = delivery_ready t asked store history b.at
 
 delivery_at : {D : Type 0} → (t : SaveValue) (store : StoreValue D) (history : Option History) (asked : Request) (run : Run) (place : ℕ) (said : List Reply) → IsFreshDelivery t asked → HasNotBegun run place said → IsAtDelivery t store history asked run place said
@@ -218,6 +213,7 @@ begins_at (task.Move t) store history asked run place said at begun = subst (λ 
 begins_at (task.Expunge t) store history asked run place said at begun = subst (λ (s : ExpungeStage). IsAtExpunge s run place said) (sym at) begun
 begins_at (task.Fetch t) store history asked run place said at begun = subst (λ (s : FetchStage). IsAtFetch s store.stopped history run place said) (sym at) begun
 begins_at (task.Resync t) store history asked run place said at begun = subst (λ (s : ResyncAt). IsAtResync s run place said) (sym at) begun
+begins_at (task.Purge t) store history asked run place said at begun = subst (λ (s : PurgeStage). IsAtPurgeStage s t store run place said) (sym at) begun
 begins_at (task.Deliver t) store history asked run place said at begun = delivery_at t store history asked run place said at begun
 
 none_took : (run : Run) (place : ℕ) → own_events place run ≡ [] → TookNoFile run place
@@ -232,6 +228,7 @@ begins_took (task.Move t) run place none = none_took run place none
 begins_took (task.Expunge t) run place none = none_took run place none
 begins_took (task.Fetch t) run place none = none_took run place none
 begins_took (task.Resync t) run place none = none_took run place none
+begins_took (task.Purge t) run place none = apart_first run place none
 begins_took (task.Deliver t) run place none = tt
 
 pub begins_standing : {D : Type 0} → (asked : Request) (t : Task) (store : StoreValue D) (history : Option History) (run : Run) (place : ℕ) (said : List Reply) → BeginsTask asked t → HasNotBegun run place said → StandsTask t store history asked run place said
@@ -260,4 +257,5 @@ task_taken (task.Move t) store history asked run place said file stood some is l
 task_taken (task.Expunge t) store history asked run place said file stood some is left = no_file_taken (claims_at (task.Expunge t)) run place file stood.took is
 task_taken (task.Fetch t) store history asked run place said file stood some is left = no_file_taken (claims_at (task.Fetch t)) run place file stood.took is
 task_taken (task.Resync t) store history asked run place said file stood some is left = no_file_taken (claims_at (task.Resync t)) run place file stood.took is
+task_taken (task.Purge t) store history asked run place said file stood some is left = purge_taken t t.stage store run place said file stood.at some is left
 task_taken (task.Deliver t) store history asked run place said file stood some is left = inl (delivery_taken t store history asked run place said file stood.at some is left)

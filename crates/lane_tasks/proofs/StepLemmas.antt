@@ -1,12 +1,14 @@
 -- The clause of a task's step, from that of its kind.
 use Rattle.std.proofs.Common.{◌≡◌, ◌<◌, ◌-◌, ℕ, Bool, true, false, List, Option, Some, None, refl, sym, ◌∙◌, ap, subst, arith}
-use Rattle.std.specs.Prelude.{if◌then◌else◌}
+use Rattle.std.specs.Prelude.{◌≤◌, ◌==◌, if◌then◌else◌, is_some}
 use Rattle.disk_model.specs.Disk.{History, Faults}
+use Rattle.mdbox_base.specs.declared.entries.Highest.{Highest}
 use Rattle.mdbox_base.specs.declared.ids.Uid.{Uid}
 use Rattle.mdbox_base.specs.declared.progress.Did.{Did}
 use Rattle.mdbox_base.specs.declared.progress.Did.TheVariants as did
 use Rattle.mdbox_base.specs.declared.progress.Progress.{Progress}
 use Rattle.mdbox_base.specs.declared.progress.Progress.TheVariants as progress
+use Rattle.mdbox_base.specs.declared.replies.Refusal.{Refusal}
 use Rattle.mdbox_base.specs.declared.replies.Refusal.TheVariants as refusal
 use Rattle.mdbox_base.specs.declared.replies.Reply.{Reply}
 use Rattle.mdbox_base.specs.declared.replies.Reply.TheVariants as reply
@@ -14,14 +16,19 @@ use Rattle.mdbox_base.specs.declared.requests.Request.{Request}
 use Rattle.mdbox_base.specs.declared.requests.Request.TheVariants as request
 use Rattle.model_lists.specs.Lists.{Lists}
 use Rattle.model_meaning.specs.MapMeaning.{MapMeaning}
-use Rattle.list_machine.specs.Run.{Run, RunEvent, and_then}
-use Rattle.journal.specs.Events.{Around, DidPart}
-use Rattle.storage_files.specs.Files.{FilesValue, is_doomed_in, pins_in}
+use Rattle.model_octets.proofs.PairLemmas.{found_holds}
+use Rattle.list_machine.specs.Run.{Run, RunEvent, and_then, drawn_of}
+use Rattle.journal.specs.Events.{Around, DidPart, IsEvent, behind_event}
+use Rattle.journal.specs.Found.{AgreesWithRun, IsFreeFile}
+use Rattle.storage_files.specs.Files.{AreFilesInOrder, FilesValue, end_in, is_doomed_in, pins_in}
+use Rattle.storage_files.specs.declared.file.MailFile.{MailFile}
+use Rattle.storage_files.proofs.UseLemmas.{found-ending}
 use Rattle.store_core.specs.Keeping.{KeepsRest}
 use Rattle.store_core.specs.MadeLogs.{without_box}
+use Rattle.store_core.specs.Running.{IsStore}
 use Rattle.store_core.specs.Value.{StoreValue}
 use Rattle.store_seen.specs.Seeing.{seen_of}
-use Rattle.task_steps.specs.Step.{DidEvent, Fell, HasComeTo, HasNotBegun, Leads, Seen, Steps, Went, ended_by}
+use Rattle.task_steps.specs.Step.{DidEvent, and_told, Fell, HasComeTo, HasNotBegun, Leads, Seen, Steps, Went, ended_by}
 use Rattle.task_claims.specs.Claims.{MovesClaims, Pinned}
 use Rattle.mail_ops.specs.Copy.{CopyValue, IsAtCopy}
 use Rattle.mail_ops.specs.Expunging.{ExpungeValue, IsAtExpunge}
@@ -34,9 +41,8 @@ use Rattle.mail_ops.specs.declared.making.MakeStage.{MakeStage}
 use Rattle.mail_ops.specs.declared.making.MakeStage.TheVariants as make_stage
 use Rattle.mail_fetch.specs.Claims.{HasFetchRoom, HasUseRoom}
 use Rattle.mail_fetch.specs.Clause.{CanFetch, FetchSteps, StepsOf}
-use Rattle.mail_fetch.specs.Events.{FetchesNext, fetch_refusal}
 use Rattle.mail_fetch.specs.Stages.{IsAtFetch}
-use Rattle.mail_fetch.specs.Task.{FetchValue, UnpinsUndoomed, seen_in}
+use Rattle.mail_fetch.specs.Task.{FetchValue, seen_in}
 use Rattle.mail_fetch.specs.declared.task.FetchStage.{FetchStage}
 use Rattle.mail_fetch.specs.declared.task.FetchStage.TheVariants as fetch_stage
 use Rattle.mail_save.specs.Claims.{save_claims}
@@ -46,21 +52,26 @@ use Rattle.mail_save.specs.SaveSeen.{HasItsParts, IsAtSave, StepsWithRoom, aroun
 use Rattle.mail_save.specs.Task.{EndsSave, IsReadyToDeliver, SaveValue}
 use Rattle.mail_save.specs.declared.task.SaveStage.{SaveStage}
 use Rattle.mail_save.proofs.SavePartLemmas.{ready_has_parts}
+use Rattle.purge_task.specs.Clause.{PurgeSteps, TellsUses, around_purging}
+use Rattle.purge_task.specs.Keeping.{PurgeValue}
+use Rattle.purge_task.specs.Stages.{IsAtPurge}
 use Rattle.resync_task.specs.Clause.{ResyncClause}
 use Rattle.resync_task.specs.Task.{ResyncValue}
-use Rattle.lane_tasks.specs.Clause.{DoomsNothing, FindsAround, SetsNoFlags, StaysOfRequest, StepsTask, around_at}
+use Rattle.lane_tasks.specs.Clause.{DoomsNone, FindsAround, LeavesUndoomed, SetsNoFlags, StaysOfRequest, StepsTask, around_at}
 use Rattle.lane_tasks.specs.Tasks.{IsAtTask, IsDeliveryOf, IsMakeNumber, IsTaskOf, TookFiles, TookNoFile, did_of, work_left}
 use Rattle.lane_tasks.specs.declared.task.Task.{Task}
 use Rattle.lane_tasks.specs.declared.task.Task.TheVariants as task
 use Rattle.lane_tasks.proofs.NamedLemmas.{names_on}
 use Rattle.lane_tasks.proofs.FilesLemmas.{TakesNone, copy_takes_none, counts_takes_none, expunge_takes_none, fetch_takes_none, flag_takes_none, list_takes_none, make_takes_none, move_takes_none, resync_takes_none, took_none_more}
+use Rattle.lane_tasks.proofs.PurgeApartLemmas.{apart_on}
+use Rattle.lane_tasks.proofs.PurgeTakenLemmas.{same}
 
 -- of a task that takes no files, and whose next value is of its request, in a store that keeps its files as they are, with what its event found
 pub steps_found : {D : Type 0} → (t next : Task) (q : Request) (old new : StoreValue D) (before after : Option History) (began now : Faults) (ended : Option Reply)
     → ((asked : Request) → IsTaskOf t asked → (asked ≡ q) × IsTaskOf next asked) → TakesNone q → new.files ≡ old.files → ((run : Run) (place : ℕ) → TookFiles t run place → TookNoFile run place) → ((run : Run) (place : ℕ) → TookNoFile run place → TookFiles next run place)
     → ((asked : Request) (around behind : Around) (pins : ℕ → ℕ) → (found : Around) × FindsAround t asked old before around ended found × Steps (IsAtTask t old before q) (IsAtTask next new after q) found behind q (seen_of pins old before began) (seen_of pins new after now) (did_of next) ended)
     → StepsTask t next old new before after began now ended
-steps_found t next q old new before after began now ended is none files took_is took_so steps asked around behind run lane place said lists come shown room reads stood =
+steps_found t next q old new before after began now ended is none files took_is took_so steps asked around behind run lane place said lists come shown room tells reads stood =
     let same = (is asked stood.is_of).0 in
     let by = steps asked around behind (λ file. pins_in file old.files.files) in
     let found = by.0 in
@@ -179,11 +190,17 @@ lists_same (request.List name) old new is same none = same tt
 lists_same (request.Flag name uid flags) old new is same none = absurd none
 lists_same other old new is same none = absurd is
 
-pub doomed_as : {D : Type 0} → (old new : StoreValue D) → ((file : ℕ) → is_doomed_in file new.files.files ≡ is_doomed_in file old.files.files) → DoomsNothing old → DoomsNothing new
-doomed_as old new same none file = same file ∙ none file
+-- a store that runs ran before
+pub ran_before : (old new : Bool) → (old ≡ true → new ≡ true) → new ≡ false → old ≡ false
+ran_before true new still runs = sym (still refl) ∙ runs
+ran_before false new still runs = refl
 
-pub doomed_rest : {D : Type 0} → (old new : StoreValue D) → new.files ≡ old.files → DoomsNothing old → DoomsNothing new
-doomed_rest old new same none file = ap (λ (f : FilesValue). is_doomed_in file f.files) same ∙ none file
+-- of a store that dooms what it doomed
+pub undoomed_by : {D : Type 0} → (t next : Task) (old new : StoreValue D) → (DoomsNone t → DoomsNone next) → (new.stopped ≡ false → old.stopped ≡ false) → (new.stopped ≡ false → (file : ℕ) → is_doomed_in file new.files.files ≡ is_doomed_in file old.files.files) → LeavesUndoomed t next old new
+undoomed_by t next old new stays ran same none nothing = (stays none, λ runs file. same runs file ∙ nothing (ran runs) file)
+
+pub undoomed_rest : {D : Type 0} → (t next : Task) (old new : StoreValue D) → (DoomsNone t → DoomsNone next) → (old.stopped ≡ true → new.stopped ≡ true) → new.files ≡ old.files → LeavesUndoomed t next old new
+undoomed_rest t next old new stays halted files = undoomed_by t next old new stays (ran_before old.stopped new.stopped halted) (λ runs file. ap (λ (f : FilesValue). is_doomed_in file f.files) files)
 
 -- ---- a make
 
@@ -213,33 +230,21 @@ make_fewer name t u old new before after answer said more fewer =
 
 -- ---- a fetch
 
--- the reply of a store that is stopped
-pub fetch_halts : {D : Type 0} → (name : List ℕ) (uid : ℕ) (now next : FetchStage) (answer : Progress) (store : StoreValue D) (history : Option History) (began faults : Faults) → FetchesNext name uid now next answer store history began faults → store.stopped ≡ true → answer ≡ progress.Done (reply.Refused refusal.Stopped)
-fetch_halts name uid fetch_stage.First next answer store history began faults said stopped =
-    (said.refused refusal.Stopped (ap (λ (b : Bool). if b then Some refusal.Stopped else fetch_refusal name uid (record store { stopped = false })) stopped)).0
-fetch_halts name uid (fetch_stage.Reading region) next answer store history began faults said stopped = (said.0 stopped).0
-fetch_halts name uid (fetch_stage.Unpinning from given) next answer store history began faults said stopped = (said.0 stopped).0
-
 pub use_room : {D : Type 0} → (now : FetchStage) (store : StoreValue D) → HasUseRoom store → HasFetchRoom now store
 use_room fetch_stage.First store room = room
 use_room (fetch_stage.Reading region) store room = tt
 use_room (fetch_stage.Unpinning from given) store room = tt
-
-pub unpins_undoomed : {D : Type 0} → (now : FetchStage) (store : StoreValue D) → DoomsNothing store → UnpinsUndoomed now store
-unpins_undoomed fetch_stage.First store none = tt
-unpins_undoomed (fetch_stage.Reading region) store none = tt
-unpins_undoomed (fetch_stage.Unpinning from given) store none = none from.file.0
+use_room (fetch_stage.Removing file given) store room = tt
 
 fetch_request : (t u : FetchValue) → (u.name ≡ t.name) × (u.uid ≡ t.uid) → request.Fetch t.name t.uid ≡ request.Fetch u.name u.uid
 fetch_request t u e = let n = e.0 in let i = e.1 in cc (n, i)
 
-pub fetch_does : {D : Type 0} → (t u : FetchValue) (old new : StoreValue D) (before after : Option History) (began now : Faults) (ended : Option Reply) → (u.name ≡ t.name) × (u.uid ≡ t.uid) → (old.stopped ≡ false → UnpinsUndoomed t.stage old)
-    → ((around behind : Around) → (old.stopped ≡ false → UnpinsUndoomed t.stage old) → FetchSteps around behind t.name t.uid t.stage u.stage old new before after began now u.did ended)
-    → StepsTask (task.Fetch t) (task.Fetch u) old new before after began now ended
-fetch_does t u old new before after began now ended same undoomed steps asked around behind run lane place said lists come shown room reads stood =
+pub fetch_does : {D : Type 0} → (t u : FetchValue) (old new : StoreValue D) (before after : Option History) (began now : Faults) (ended : Option Reply) → (u.name ≡ t.name) × (u.uid ≡ t.uid)
+    → ((around behind : Around) → FetchSteps around behind t.name t.uid t.stage u.stage old new before after began now u.did ended) → StepsTask (task.Fetch t) (task.Fetch u) old new before after began now ended
+fetch_does t u old new before after began now ended same steps asked around behind run lane place said lists come shown room tells reads stood =
     let is : asked ≡ request.Fetch t.name t.uid = stood.is_of in
     let does : StepsOf (λ ls. CanFetch t.stage t.name t.uid ls old.map before) (IsAtFetch t.stage old.stopped before) (IsAtFetch u.stage new.stopped after) around behind asked (seen_in old before began) (seen_in new after now) u.did ended =
-    subst (λ (k : Request). StepsOf (λ ls. CanFetch t.stage t.name t.uid ls old.map before) (IsAtFetch t.stage old.stopped before) (IsAtFetch u.stage new.stopped after) around behind k (seen_in old before began) (seen_in new after now) u.did ended) (sym is) (steps around behind undoomed) in
+    subst (λ (k : Request). StepsOf (λ ls. CanFetch t.stage t.name t.uid ls old.map before) (IsAtFetch t.stage old.stopped before) (IsAtFetch u.stage new.stopped after) around behind k (seen_in old before began) (seen_in new after now) u.did ended) (sym is) (steps around behind) in
     let d = does run lane place said lists come shown reads stood.at in (
       around,
       refl,
@@ -310,10 +315,6 @@ pub still_runs : (stopped : Bool) (ended : Option Reply) → (stopped ≡ true �
 still_runs true ended halts none = absurd (let k : None ≡ Some (reply.Refused refusal.Stopped) = sym none ∙ halts refl in cc k)
 still_runs false ended halts none = refl
 
-pub ran_before : (old new : Bool) → (old ≡ true → new ≡ true) → new ≡ false → old ≡ false
-ran_before true new still runs = sym (still refl) ∙ runs
-ran_before false new still runs = refl
-
 deliver_request : (t : SaveValue) (name : List ℕ) (time : ℕ) (octets : List ℕ) → (name ≡ t.name) × (time ≡ t.time) → request.Deliver t.name t.time octets ≡ request.Deliver name time octets
 deliver_request t name time octets e = let n = e.0 in let i = e.1 in cc (n, i)
 
@@ -329,7 +330,7 @@ pub deliver_does : {D : Type 0} → (t u : SaveValue) (old new : StoreValue D) (
     → StepsWithRoom (IsAtSave t.stage) (IsAtSave u.stage) (around_saving octets t.stage old) behind (request.Deliver t.name t.time octets) (seen_of pins old before began) (seen_of pins new after now) u.did (ended_by result))
     → StepsTask (task.Deliver t) (task.Deliver u) old new before after began now (ended_by result)
 unfolding event_with
-deliver_does t u old new before after began now result same claims ready effects steps (request.Deliver name time octets) around behind run lane place said lists come shown room reads stood =
+deliver_does t u old new before after began now result same claims ready effects steps (request.Deliver name time octets) around behind run lane place said lists come shown room tells reads stood =
     let does : StepsWithRoom (IsAtSave t.stage) (IsAtSave u.stage) (around_saving octets t.stage old) behind (request.Deliver name time octets) (seen_in old before began) (seen_of (λ file. pins_in file old.files.files) new after now) u.did (ended_by result) =
     subst (λ (k : Request). StepsWithRoom (IsAtSave t.stage) (IsAtSave u.stage) (around_saving octets t.stage old) behind k (seen_in old before began) (seen_of (λ file. pins_in file old.files.files) new after now) u.did (ended_by result)) (deliver_request t name time octets stood.is_of)
     (steps octets (λ file. pins_in file old.files.files) behind stood.at.1 (λ runs. (stood.at.2 runs).ready)) in
@@ -353,7 +354,58 @@ deliver_does t u old new before after began now result same claims ready effects
             took = tt;
           },
     )
-deliver_does t u old new before after began now result same claims ready effects steps asked around behind run lane place said lists come shown room reads stood = absurd stood.is_of
+deliver_does t u old new before after began now result same claims ready effects steps asked around behind run lane place said lists come shown room tells reads stood = absurd stood.is_of
+
+-- ---- a purge
+
+-- a file that may be taken is one that the store knows, and has drawn
+known_drawn : {D : Type 0} → (run : Run) (store : StoreValue D) (history : Option History) (faults : Faults) → HasComeTo run (seen_in store history faults) → store.stopped ≡ false → IsStore history store → AreFilesInOrder store.files → (file : ℕ) → IsFreeFile run file → file ≤ (drawn_of run).file
+known_drawn run store history faults come runs is order file free = by_end (end_in file store.files.files) refl ((come.keeps runs).files file free.unsealed free.known)
+  where
+    highest : store.files.highest ≡ (drawn_of run).file
+    highest = is.files.highest ∙ ap (λ (h : Highest). h.file) (sym come.come.drawn_is)
+
+    by_end : (o : Option ℕ) → end_in file store.files.files ≡ o → is_some o ≡ true → file ≤ (drawn_of run).file
+    by_end None e known = absurd (let z : false ≡ true = known in cc z)
+    by_end (Some end) e known =
+        let found = found-ending file store.files.files end e in
+        let low = found_holds (λ (f : MailFile). f.file.0 == file) store.files.files found.0 (λ (f : MailFile). f.file.0 ≤ store.files.highest) found.1 order.below in
+        let within = low.0 in
+        let at = same found.0.file.0 file low.1 in
+        omega (arith, within, at, highest)
+
+-- one that goes on isn't refused
+purge_unrefused : (around behind : Around) (run : Run) (lists : Lists) (event : RunEvent) → IsEvent around behind run lists request.Purge event → event.reply ≡ None → event.refused ≡ None
+purge_unrefused around behind run lists event is none = by_refused event.refused refl
+  where
+    by_refused : (o : Option Refusal) → event.refused ≡ o → event.refused ≡ None
+    by_refused None e = e
+    by_refused (Some why) e = absurd (is.ends.1 (ap (behind_event behind (and_then run event) request.Purge event) e) none)
+
+pub purge_does : {D : Type 0} → (t u : PurgeValue) (old new : StoreValue D) (before after : Option History) (began now : Faults) (ended : Option Reply) → IsStore before old → AreFilesInOrder old.files → (files : List ℕ) × ((around : Around) → PurgeSteps files around t u old new before after began now ended)
+    → StepsTask (task.Purge t) (task.Purge u) old new before after began now ended
+purge_does t u old new before after began now ended is order does asked around behind run lane place said lists come shown room tells reads stood =
+    let steps : PurgeSteps does.0 behind t u old new before after began now ended = does.1 behind in
+    let stepped : Steps (λ run place said. IsAtPurge t old run place said × (old.stopped ≡ false → TellsUses run old)) (IsAtPurge u new) (around_purging does.0 old) behind asked (seen_in old before began) (seen_in new after now) u.did ended =
+    subst (λ (k : Request). Steps (λ run place said. IsAtPurge t old run place said × (old.stopped ≡ false → TellsUses run old)) (IsAtPurge u new) (around_purging does.0 old) behind k (seen_in old before began) (seen_in new after now) u.did ended) (sym stood.is_of) steps in
+    let d = stepped run lane place said lists come shown (stood.at, tells) in (
+      around_purging does.0 old,
+      (does.0, refl),
+      d.0,
+      λ more.
+          let runs = still_runs new.stopped ended d.0.ends.halts.1 more in
+          let ran = ran_before old.stopped new.stopped (λ stopped. ap (λ (s : Seen). s.stopped) (d.0.ends.still stopped) ∙ stopped) runs in
+          let event : IsEvent (around_purging does.0 old) behind run lists request.Purge d.0.makes.event = subst (λ (k : Request). IsEvent (around_purging does.0 old) behind run lists k d.0.makes.event) stood.is_of d.0.makes.is_event in
+          let agrees : AgreesWithRun (around_purging does.0 old) run request.Purge d.0.makes.event d.0.makes.event.part =
+          subst (λ (k : Request). AgreesWithRun (around_purging does.0 old) run k d.0.makes.event d.0.makes.event.part) stood.is_of d.0.found in
+          record {
+            is_of = stood.is_of;
+            at = d.1 more;
+            took = apart_on (around_purging does.0 old) behind run lists d.0.makes.event place d.0.makes.request_is event (purge_unrefused (around_purging does.0 old) behind run lists d.0.makes.event event (d.0.makes.ended_is ∙ more)) agrees (known_drawn run old before began come ran is order) stood.took;
+          },
+    )
+
+-- ---- all kinds
 
 -- it stays of its requests
 deliver_stays_of : (t u : SaveValue) (asked : Request) → (u.name ≡ t.name) × (u.time ≡ t.time) × (u.size ≡ t.size) → IsDeliveryOf t asked → IsDeliveryOf u asked
@@ -371,6 +423,7 @@ request_stays (task.Expunge t) (task.Expunge next) asked same is = is ∙ ap (λ
 request_stays (task.Fetch t) (task.Fetch next) asked same is = is ∙ ap (λ (n : List ℕ). request.Fetch n t.uid) (sym same.0) ∙ ap (λ (u : Uid). request.Fetch next.name u) (sym same.1)
 request_stays (task.Deliver t) (task.Deliver next) asked same is = deliver_stays_of t next asked same is
 request_stays (task.Resync t) (task.Resync next) asked same is = is
+request_stays (task.Purge t) (task.Purge next) asked same is = is
 request_stays t next asked same is = absurd same
 
 -- one that goes on ran in a store that runs

@@ -28,6 +28,7 @@ use Rattle.mail_save.specs.Task.{SaveValue}
 use Rattle.mail_save.specs.declared.task.SaveStage.{SaveStage}
 use Rattle.mail_save.specs.declared.task.SaveStage.TheVariants as save_stage
 use Rattle.lane_tasks.specs.Tasks.{StandsTask, claims_at}
+use Rattle.lane_tasks.proofs.PurgeClaimedLemmas.{purge_claimed}
 use Rattle.lane_tasks.specs.declared.task.Task.{Task}
 use Rattle.lane_tasks.specs.declared.task.Task.TheVariants as task
 
@@ -165,15 +166,17 @@ fetch_takes : (now : FetchStage) (file : ℕ) → (fetch_claims now (Taken file)
 fetch_takes fetch_stage.First file = (refl, refl)
 fetch_takes (fetch_stage.Reading region) file = (refl, refl)
 fetch_takes (fetch_stage.Unpinning from given) file = (refl, refl)
+fetch_takes (fetch_stage.Removing gone given) file = (refl, refl)
 
-pub claimed_taken : {D : Type 0} → (t : Task) (store : StoreValue D) (history : Option History) (asked : Request) (run : Run) (place : ℕ) (said : List Reply) (file : ℕ) → StandsTask t store history asked run place said → (1 ≤ claims_at t (Taken file)) ⊎ (1 ≤ claims_at t (Emptied file))
+pub claimed_taken : {D : Type 0} → (t : Task) (store : StoreValue D) (history : Option History) (asked : Request) (run : Run) (place : ℕ) (said : List Reply) (file : ℕ) → StandsTask t store history asked run place said → 1 ≤ file → (1 ≤ claims_at t (Taken file)) ⊎ (1 ≤ claims_at t (Emptied file))
     → (list_any (took_file file) (own_events place run) ≡ true) × (gave_back file (own_events place run) ≡ false)
-claimed_taken (task.Deliver t) store history asked run place said file s some = delivery_taken t store history asked run place said file s some
-claimed_taken (task.Ops t) store history asked run place said file s some = unclaimed 0 0 refl refl some
-claimed_taken (task.Counts t) store history asked run place said file s some = unclaimed 0 0 refl refl some
-claimed_taken (task.Make t) store history asked run place said file s some = let none = make_takes t.stage file in unclaimed _ _ none.0 none.1 some
-claimed_taken (task.Copy t) store history asked run place said file s some = unclaimed 0 0 refl refl some
-claimed_taken (task.Move t) store history asked run place said file s some = unclaimed 0 0 refl refl some
-claimed_taken (task.Expunge t) store history asked run place said file s some = unclaimed 0 0 refl refl some
-claimed_taken (task.Fetch t) store history asked run place said file s some = let none = fetch_takes t.stage file in unclaimed _ _ none.0 none.1 some
-claimed_taken (task.Resync t) store history asked run place said file s some = unclaimed 0 0 refl refl some
+claimed_taken (task.Deliver t) store history asked run place said file s low some = delivery_taken t store history asked run place said file s some
+claimed_taken (task.Ops t) store history asked run place said file s low some = unclaimed 0 0 refl refl some
+claimed_taken (task.Counts t) store history asked run place said file s low some = unclaimed 0 0 refl refl some
+claimed_taken (task.Make t) store history asked run place said file s low some = let none = make_takes t.stage file in unclaimed _ _ none.0 none.1 some
+claimed_taken (task.Copy t) store history asked run place said file s low some = unclaimed 0 0 refl refl some
+claimed_taken (task.Move t) store history asked run place said file s low some = unclaimed 0 0 refl refl some
+claimed_taken (task.Expunge t) store history asked run place said file s low some = unclaimed 0 0 refl refl some
+claimed_taken (task.Fetch t) store history asked run place said file s low some = let none = fetch_takes t.stage file in unclaimed _ _ none.0 none.1 some
+claimed_taken (task.Resync t) store history asked run place said file s low some = unclaimed 0 0 refl refl some
+claimed_taken (task.Purge t) store history asked run place said file s low some = purge_claimed t t.stage store run place said file s.at s.took low some

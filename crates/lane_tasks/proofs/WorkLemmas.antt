@@ -16,6 +16,7 @@ use Rattle.mail_ops.specs.declared.making.MakeStage.TheVariants as make_stage
 use Rattle.mail_save.specs.Task.{save_events_left}
 use Rattle.mail_save.specs.declared.task.SaveStage.{SaveStage}
 use Rattle.mail_save.specs.declared.task.SaveStage.TheVariants as save_stage
+use Rattle.purge_task.proofs.StableLemmas.{left_stays}
 use Rattle.lane_tasks.specs.Tasks.{IsMakeNumber, IsReadyTask, work_left}
 use Rattle.lane_tasks.specs.declared.task.Task.{Task}
 use Rattle.lane_tasks.specs.declared.task.Task.TheVariants as task
@@ -75,3 +76,4 @@ work_stays (task.Move t) mine old new before after ready leaves = omega arith
 work_stays (task.Expunge t) mine old new before after ready leaves = omega arith
 work_stays (task.Fetch t) mine old new before after ready leaves = omega arith
 work_stays (task.Resync t) mine old new before after ready leaves = omega arith
+work_stays (task.Purge t) mine old new before after ready leaves = left_stays t.stage mine old new before after leaves

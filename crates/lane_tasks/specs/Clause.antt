@@ -15,7 +15,7 @@ use Rattle.model_kept.specs.Kept.{MailIsKept}
 use Rattle.model_lists.specs.Lists.{Lists}
 use Rattle.model_meaning.specs.MapMeaning.{MapMeaning}
 use Rattle.list_machine.specs.Machine.{is_step}
-use Rattle.list_machine.specs.Run.{Run, and_then}
+use Rattle.list_machine.specs.Run.{Run, RunEvent, and_then}
 use Rattle.journal.specs.Events.{Around}
 use Rattle.store_core.specs.Value.{StoreValue}
 use Rattle.storage_files.specs.Files.{is_doomed_in, is_emptied_in, is_taken_in}
@@ -23,9 +23,10 @@ use Rattle.task_claims.specs.Claims.{Claims, Held, Pinned}
 use Rattle.task_claims.specs.Leaving.{SyncsMail}
 use Rattle.task_claims.specs.Stable.{Beside}
 use Rattle.task_steps.specs.Step.{ShowsSeen, HasComeTo, FindsRoom, DidEvent, and_told}
-use Rattle.mail_fetch.specs.Claims.{HasUseRoom}
 use Rattle.mail_fetch.specs.Clause.{CanFetch}
+use Rattle.mail_fetch.specs.Stages.{SparesFile}
 use Rattle.mail_fetch.specs.Task.{seen_in}
+use Rattle.mail_fetch.specs.declared.task.FetchStage.{FetchStage}
 use Rattle.mail_fetch.specs.declared.task.FetchStage.TheVariants as fetch_stage
 use Rattle.mail_ops.specs.Copy.{CopyAnswers}
 use Rattle.mail_ops.specs.Expunging.{ExpungeAnswers}
@@ -40,6 +41,7 @@ use Rattle.mail_save.specs.MailFiles.{WritesMail}
 use Rattle.mail_save.specs.SaveSeen.{around_saving}
 use Rattle.mail_save.specs.Task.{SaveValue}
 use Rattle.mail_save.specs.declared.task.SaveStage.TheVariants as save_stage
+use Rattle.purge_task.specs.Clause.{TellsUses, around_purging}
 use Rattle.resync_task.specs.Clause.{FindsResync}
 use Rattle.resync_task.specs.Correcting.{AreExact}
 use Rattle.resync_task.specs.Stages.{ToList}
@@ -48,16 +50,6 @@ use Rattle.lane_tasks.specs.declared.task.Task.{Task}
 use Rattle.lane_tasks.specs.declared.task.Task.TheVariants as task
 
 -- ---- what it needs beside being ready
-
--- No purge has doomed a storage file. As yet no kind of task dooms one, so that none has to remove it.
-abbrev pub DoomsNothing : {D : Type 0} → StoreValue D → Type 0
-DoomsNothing store = (file : ℕ) → is_doomed_in file store.files.files ≡ false
-
--- What a store has for the next event of any task: each storage file can be pinned once more, and each instance held as often as a
--- message may have attachments; and no file is doomed.
-pub record HasTaskRoom {D : Type 0} (store : StoreValue D) : Type 0 where
-  pub uses : HasUseRoom store
-  pub undoomed : DoomsNothing store
 
 -- A task claims no more of a thing than leaves room for the tasks of all lanes: one pin of a file, and 65,535 holds of an instance.
 pub record ClaimsFew (mine : Claims) : Type 0 where
@@ -74,9 +66,11 @@ abbrev pub around_at : {D : Type 0} → Task → Request → StoreValue D → Ar
 around_at (task.Deliver t) asked store around = found_saving t asked store around
 around_at other asked store around = around
 
--- What an event that ended its request so found: of a resync what its files have, as far as the disk tells; of every other task this.
+-- What an event that ended its request so found: of a resync what its files have, as far as the disk tells; of a purge some files, since
+-- which ones it takes only octets tell; of every other task this.
 abbrev pub FindsAround : {D : Type 0} → Task → Request → StoreValue D → Option History → Around → Option Reply → Around → Type 0
 FindsAround (task.Resync t) asked store history around ended found = FindsResync t.stage ended store history found
+FindsAround (task.Purge t) asked store history around ended found = (files : List ℕ) × (found ≡ around_purging files store)
 FindsAround other asked store history around ended found = found ≡ around_at other asked store around
 
 -- a storage file that no task has taken, to add to it or to empty it
@@ -84,6 +78,12 @@ pub record IsFreeToTake {D : Type 0} (file : ℕ) (store : StoreValue D) : Type 
   pub some : 1 ≤ file
   pub untaken : is_taken_in file store.files.files ≡ false
   pub unemptied : is_emptied_in file store.files.files ≡ false
+
+-- A store doesn't say who has taken its files, or who holds its instances. So a purge does as its clause says only of a run whose
+-- requests use just what is used in the store.
+abbrev pub TellsRun : {D : Type 0} → Task → Run → StoreValue D → Type 0
+TellsRun (task.Purge t) run store = TellsUses run store
+TellsRun other run store = Unit {0}
 
 -- A task that answers by what the files of messages read needs them to store these for the lists: so a fetch does before its first
 -- event, of the one message.
@@ -94,12 +94,12 @@ CanAnswer other lists store history = Unit {0}
 -- ---- the clause
 
 -- Of every run that has come to the store, of any lists that it shows, and where the task stands, unless the store runs and a request
--- has taken the file that it finds; of lists of which the files store what it answers by. It is `Steps`, with the
--- store and what its disk tells, of what the event found.
+-- has taken the file that it finds; of a run that tells who uses what the task goes by, and of lists of which the files store what it
+-- answers by. It is `Steps`, with the store and what its disk tells, of what the event found.
 abbrev pub StepsTask : {D : Type 0} → Task → Task → StoreValue D → StoreValue D → Option History → Option History → Faults → Faults → Option Reply → Type 0
 StepsTask task next old new before after began now ended =
     (asked : Request) (around behind : Around) (run : Run) (lane place : ℕ) (said : List Reply) (lists : Lists) → HasComeTo run (seen_in old before began) → ShowsSeen (seen_in old before began) lists
-    → (old.stopped ≡ false → FindsRoom (around_at task asked old around) run) → (old.stopped ≡ false → CanAnswer task lists old before) → StandsTask task old before asked run place said
+    → (old.stopped ≡ false → FindsRoom (around_at task asked old around) run) → (old.stopped ≡ false → TellsRun task run old) → (old.stopped ≡ false → CanAnswer task lists old before) → StandsTask task old before asked run place said
     → (found : Around) × FindsAround task asked old before around ended found
     × (d : DidEvent found behind run lane place said asked lists (seen_in old before began) (seen_in new after now) (did_of next) ended)
     × (ended ≡ None → StandsTask next new after asked (and_then run d.makes.event) place (and_told said d.makes.answer))
@@ -108,6 +108,16 @@ StepsTask task next old new before after began now ended =
 -- only its own task's claims and left to the others what is theirs.
 abbrev pub PassesBy : {D : Type 0} → Task → StoreValue D → StoreValue D → Option History → Option History → Type 0
 PassesBy task old new before after = new.stopped ≡ false → (old.stopped ≡ false) × IsReadyTask task old before × Beside (claims_at task) old new before after
+
+-- The event neither pins nor removes the file that a fetch removes next.
+abbrev pub SparesTask : Task → RunEvent → Type 0
+SparesTask (task.Fetch t) event = SparesFile t.stage event
+SparesTask other event = Unit {0}
+
+-- The run has come to the store with that event; or the store is stopped then, and the event spares what this task removes next.
+pub record PassesInRun {D : Type 0} (task : Task) (store : StoreValue D) (history : Option History) (faults : Faults) (run : Run) (event : RunEvent) : Type 0 where
+  pub come : store.stopped ≡ false → HasComeTo (and_then run event) (seen_in store history faults)
+  pub spared : store.stopped ≡ true → SparesTask task event
 
 -- ---- what it keeps, of which run it may be
 
@@ -122,11 +132,31 @@ OnlyReads (task.Counts t) = Unit {0}
 OnlyReads (task.Fetch t) = Unit {0}
 OnlyReads other = ⊥
 
+-- No storage file is doomed. Only a purge dooms one.
+abbrev pub DoomsNothing : {D : Type 0} → StoreValue D → Type 0
+DoomsNothing store = (file : ℕ) → is_doomed_in file store.files.files ≡ false
+
+-- a fetch that isn't about to remove a file
+abbrev pub RemovesNothing : FetchStage → Type 0
+RemovesNothing (fetch_stage.Removing file given) = ⊥
+RemovesNothing now = Unit {0}
+
+-- A task that neither dooms storage files nor is about to remove one: no purge, nor a fetch that gave back the last pin of a doomed file.
+abbrev pub DoomsNone : Task → Type 0
+DoomsNone (task.Purge t) = ⊥
+DoomsNone (task.Fetch t) = RemovesNothing t.stage
+DoomsNone other = Unit {0}
+
+-- Of a store in which no file is doomed, such a task dooms none, and it stays one.
+abbrev pub LeavesUndoomed : {D : Type 0} → Task → Task → StoreValue D → StoreValue D → Type 0
+LeavesUndoomed t next old new = DoomsNone t → (old.stopped ≡ false → DoomsNothing old) → DoomsNone next × (new.stopped ≡ false → DoomsNothing new)
+
 -- A task that reads no octets of storage files or instances.
 abbrev pub ReadsNoOctets : Task → Type 0
 ReadsNoOctets (task.Fetch t) = ⊥
 ReadsNoOctets (task.Deliver t) = ⊥
 ReadsNoOctets (task.Resync t) = ⊥
+ReadsNoOctets (task.Purge t) = ⊥
 ReadsNoOctets other = Unit {0}
 
 -- how an event ended: with a reply, or its request goes on
@@ -146,17 +176,22 @@ TellsStore (task.Expunge t) (task.Expunge next) old new before after ended = old
 TellsStore (task.Resync t) next old new before after ended = (corrected damaged : ℕ) → ended ≡ Some (reply.Resynced corrected damaged) → AreExact new
 TellsStore t next old new before after ended = Unit {0}
 
--- For which maps storage files and instances stay: of a delivery for that of its store, of every other task for each.
+-- For which maps storage files and instances stay: of a delivery, a purge and a removal for that of its store, of every other event for each.
 abbrev pub IsKeptFor : {D : Type 0} → Task → StoreValue D → MapMeaning → Type 0
 IsKeptFor (task.Deliver t) store m = m ≡ store.map
+IsKeptFor (task.Purge t) store m = m ≡ store.map
+IsKeptFor (task.Fetch t) store m = (RemovesNothing t.stage → ⊥) → m ≡ store.map
 IsKeptFor other store m = Unit {0}
 
--- What an event made of storage files and instances: of a delivery what its stage says; else each is as it was, or its name was synced.
+-- What an event made of storage files and instances: of a delivery what its stage says, of a purge and a removal nothing; else each is as it
+-- was, or its name was synced.
 abbrev pub WritesTask : {D : Type 0} → Task → Task → StoreValue D → Option History → Option History → Type 0
 WritesTask (task.Deliver t) (task.Deliver next) old before after = WritesMail t.stage next.stage t.name t.time old before after
+WritesTask (task.Purge t) next old before after = Unit {0}
+WritesTask (task.Fetch t) next old before after = RemovesNothing t.stage → SyncsMail before after
 WritesTask t next old before after = SyncsMail before after
 
--- its next event is its first: a task of one event is always so
+-- Its next event is its first: a task of one event is always so. Of a purge nothing is said.
 abbrev pub IsAtStart : Task → Type 0
 IsAtStart (task.Make t) = t.stage ≡ make_stage.First
 IsAtStart (task.Copy t) = t.stage ≡ copy_stage.First
@@ -165,6 +200,7 @@ IsAtStart (task.Expunge t) = t.stage ≡ expunge_stage.First
 IsAtStart (task.Fetch t) = t.stage ≡ fetch_stage.First
 IsAtStart (task.Deliver t) = (prepared : Prepared) × (t.stage ≡ save_stage.First prepared)
 IsAtStart (task.Resync t) = t.stage ≡ ToList
+IsAtStart (task.Purge t) = ⊥
 IsAtStart other = Unit {0}
 
 -- It is of the same kind and of the same request, as far as the task tells it: of a delivery its message's size.
@@ -178,13 +214,15 @@ StaysOfRequest (task.Expunge t) (task.Expunge next) = (next.name ≡ t.name) × 
 StaysOfRequest (task.Fetch t) (task.Fetch next) = (next.name ≡ t.name) × (next.uid ≡ t.uid)
 StaysOfRequest (task.Deliver t) (task.Deliver next) = (next.name ≡ t.name) × (next.time ≡ t.time) × (next.size ≡ t.size)
 StaysOfRequest (task.Resync t) (task.Resync next) = Unit {0}
+StaysOfRequest (task.Purge t) (task.Purge next) = Unit {0}
 StaysOfRequest t next = ⊥
 
 -- Whatever the disk is and fails: time goes on, and at each moment storage files and instances have what the map needs. No count of
 -- faults falls; unless the store is stopped then no change failed, and an event that stops it is one in which a change failed and no
--- read. A task that reads no octets counts no failed read. One that reads at the most changes nothing, nor does a first event that is
--- refused, but for want of memory or by a failed call, nor any event of a store that was stopped, nor one that leaves the store's disk as
--- it was. It is answered by what the store has (`TellsStore`). It stays the task of its request.
+-- read. A task that reads no octets counts no failed read. One that reads at the most changes nothing, unless it is a fetch that removes a
+-- file which a purge has doomed. A first event changes nothing that is refused, but for want of memory or by a failed call, nor does any event
+-- of a store that was stopped, nor one that leaves the store's disk as it was. It is answered by what the store has (`TellsStore`). It stays the
+-- task of its request.
 pub record TaskKeeps {D : Type 0} (t next : Task) (old new : StoreValue D) (before after : Option History) (began now : Faults) (ended : Option Reply) : Type 0 where
   pub request : StaysOfRequest t next
   pub grows : Grows before after
@@ -195,7 +233,8 @@ pub record TaskKeeps {D : Type 0} (t next : Task) (old new : StoreValue D) (befo
   pub fell : old.stopped ≡ false → new.stopped ≡ true → Rose began.changes now.changes × (now.reads ≡ began.reads)
   pub unread : ReadsNoOctets t → now.reads ≡ began.reads
   pub tells : TellsStore t next old new before after ended
-  pub idle : OnlyReads t → IsIdle before after × (now.changes ≡ began.changes) × (new.stopped ≡ old.stopped)
+  pub undoomed : LeavesUndoomed t next old new
+  pub idle : OnlyReads t → DoomsNone t → IsIdle before after × (now.changes ≡ began.changes) × (new.stopped ≡ old.stopped)
   pub still : old.stopped ≡ true → IsIdle before after × (now.changes ≡ began.changes)
   pub same : new.disk ≡ old.disk → IsIdle before after
   pub refused : (why : Refusal) → IsAtStart t → ended ≡ Some (reply.Refused why) → is_step why ≡ true → IsIdle before after

@@ -1,5 +1,5 @@
 -- A task of any kind: its request, where it stands, what it claims, and what it needs of the store.
-use Rattle.std.specs.Prelude.{◌≡◌, ◌≤◌, ◌*◌, ◌+◌, ◌-◌, ℕ, false, List, [], All, length, Option, None}
+use Rattle.std.specs.Prelude.{◌≡◌, ◌≢◌, ◌≤◌, ◌<◌, ◌⊎◌, ◌*◌, ◌+◌, ◌-◌, ℕ, false, List, [], All, AllPairs, flat_map, length, Option, None}
 use Rattle.attach_detach.specs.Prepared.{IsPrepared}
 use Rattle.attach_detach.specs.declared.message.Prepared.{Prepared}
 use Rattle.disk_model.specs.Disk.{History}
@@ -8,7 +8,8 @@ use Rattle.mdbox_base.specs.declared.progress.Did.TheVariants as did
 use Rattle.mdbox_base.specs.declared.replies.Reply.{Reply}
 use Rattle.mdbox_base.specs.declared.requests.Request.{Request}
 use Rattle.mdbox_base.specs.declared.requests.Request.TheVariants as request
-use Rattle.list_machine.specs.Run.{Run, own_events}
+use Rattle.list_machine.specs.Run.{Run, RunEvent, TakenFile, own_events}
+use Rattle.journal.specs.Found.{is_storing}
 use Rattle.journal.specs.Events.{instances_found}
 use Rattle.model_meaning.specs.MapFits.{HasRecord}
 use Rattle.store_core.specs.Value.{StoreValue}
@@ -35,6 +36,11 @@ use Rattle.mail_save.specs.SaveSeen.{HasItsParts, IsAtSave}
 use Rattle.mail_save.specs.Task.{IsReadyToDeliver, SaveValue, save_events_left}
 use Rattle.mail_save.specs.declared.task.SaveStage.{SaveStage}
 use Rattle.mail_save.specs.declared.task.SaveStage.TheVariants as save_stage
+use Rattle.purge_task.specs.Claims.{purge_claims}
+use Rattle.purge_task.specs.Keeping.{IsReadyToPurge}
+use Rattle.purge_task.specs.Left.{purge_left}
+use Rattle.purge_task.specs.Stages.{IsAtPurge}
+use Rattle.purge_task.specs.declared.task.PurgeStage.TheVariants as purge_stage
 use Rattle.resync_task.specs.Stages.{IsAtResync, ToList}
 use Rattle.resync_task.specs.Task.{resync_left}
 use Rattle.lane_tasks.specs.declared.task.Task.{Task}
@@ -42,10 +48,9 @@ use Rattle.lane_tasks.specs.declared.task.Task.TheVariants as task
 
 -- ---- its request
 
--- the requests that have a task as they are: a delivery's message is prepared first, and a purge has none yet
+-- the requests that have a task as they are: a delivery's message is prepared first
 abbrev pub HasTask : Request → Type 0
 HasTask (request.Deliver name time octets) = ⊥
-HasTask request.Purge = ⊥
 HasTask other = Unit {0}
 
 -- A delivery's request is of its mailbox and time. Of the message the task keeps no octets, so these may be any.
@@ -64,6 +69,7 @@ IsTaskOf (task.Expunge t) asked = asked ≡ request.Expunge t.name t.uid
 IsTaskOf (task.Fetch t) asked = asked ≡ request.Fetch t.name t.uid
 IsTaskOf (task.Deliver t) asked = IsDeliveryOf t asked
 IsTaskOf (task.Resync t) asked = asked ≡ request.Resync
+IsTaskOf (task.Purge t) asked = asked ≡ request.Purge
 
 -- what its last event did: nothing before the first
 abbrev pub did_of : Task → Did
@@ -76,6 +82,7 @@ did_of (task.Expunge t) = t.did
 did_of (task.Fetch t) = t.did
 did_of (task.Deliver t) = t.did
 did_of (task.Resync t) = t.did
+did_of (task.Purge t) = t.did
 
 -- a delivery that has begun nothing has the request's message, prepared
 abbrev pub IsFreshDelivery : SaveValue → Request → Type 0
@@ -91,6 +98,7 @@ IsAtFirst (task.Expunge t) asked = t.stage ≡ expunge_stage.First
 IsAtFirst (task.Fetch t) asked = t.stage ≡ fetch_stage.First
 IsAtFirst (task.Deliver t) asked = IsFreshDelivery t asked
 IsAtFirst (task.Resync t) asked = t.stage ≡ ToList
+IsAtFirst (task.Purge t) asked = t.stage ≡ purge_stage.First
 IsAtFirst other asked = Unit {0}
 
 -- A request has this task as it begins.
@@ -108,6 +116,7 @@ claims_at (task.Move t) = move_claims t.stage
 claims_at (task.Expunge t) = expunge_claims t.stage
 claims_at (task.Fetch t) = fetch_claims t.stage
 claims_at (task.Deliver t) = save_claims t.stage
+claims_at (task.Purge t) = purge_claims t.stage
 claims_at other = no_claims
 
 -- the number of the log that a make has made is in range
@@ -123,10 +132,11 @@ IsReadyTask (task.Move t) store history = IsReadyToMove t.name t.uid t.stage sto
 IsReadyTask (task.Expunge t) store history = AreDueIn store (expunge_amounts t.stage)
 IsReadyTask (task.Fetch t) store history = IsReadyToFetch t.stage store
 IsReadyTask (task.Deliver t) store history = (octets : List ℕ) × IsReadyToDeliver t.stage t.name t.time t.size octets store history
+IsReadyTask (task.Purge t) store history = IsReadyToPurge t store history
 IsReadyTask other store history = Unit {0}
 
 -- How many events are still to come at the most, also beside other tasks: a make may have to begin anew for each mailbox that others
--- make, as long as there are numbers.
+-- make, and a purge to remove each instance that others place, as long as there are numbers.
 abbrev pub work_left : {D : Type 0} → Task → StoreValue D → ℕ
 work_left (task.Make t) store = make_left t.stage store + 2 * (4294967295 - store.map.highest.mailbox)
 work_left (task.Copy t) store = copy_left t.stage
@@ -135,6 +145,7 @@ work_left (task.Expunge t) store = expunge_left t.stage
 work_left (task.Fetch t) store = events_left t.stage
 work_left (task.Deliver t) store = save_events_left t.stage store.instances
 work_left (task.Resync t) store = resync_left t.stage
+work_left (task.Purge t) store = purge_left t.stage store
 work_left other store = 1
 
 -- ---- where it stands
@@ -164,14 +175,33 @@ IsAtTask (task.Expunge t) store history asked run place said = IsAtExpunge t.sta
 IsAtTask (task.Fetch t) store history asked run place said = IsAtFetch t.stage store.stopped history run place said
 IsAtTask (task.Deliver t) store history asked run place said = IsAtDelivery t store history asked run place said
 IsAtTask (task.Resync t) store history asked run place said = IsAtResync t.stage run place said
+IsAtTask (task.Purge t) store history asked run place said = IsAtPurge t store run place said
 
 -- none of a request's events that wasn't refused took a storage file
 abbrev pub TookNoFile : Run → ℕ → Type 0
 TookNoFile run place = All (λ event. event.refused ≡ None → event.files ≡ []) (own_events place run)
 
--- The files that it took: a delivery's stage tells of the one that it has, and no other kind of task takes any.
+-- what a purge took: a file of a number up to this one, and a target of a greater number, or none
+abbrev pub IsTakenWithin : ℕ → TakenFile → Type 0
+IsTakenWithin most t = (t.file ≤ most) × ((t.target ≡ 0) ⊎ (most < t.target))
+
+-- an event that stores no record, and neither dooms nor removes a file of a greater number
+abbrev pub DoomsWithin : ℕ → RunEvent → Type 0
+DoomsWithin most event = (is_storing event.part ≡ false) × All (λ file. file ≤ most) event.doomed × All (λ file. file ≤ most) event.removed
+
+-- The files that these events of a purge took and the targets that they drew are apart: targets have greater numbers than all that it took,
+-- each its own, and none is doomed or removed.
+pub record TookApart (own : List RunEvent) : Type 0 where
+  pub most : ℕ
+  pub files : All (IsTakenWithin most) (flat_map (λ e. e.files) own)
+  pub targets : AllPairs (λ a b. (a.target ≡ 0) ⊎ (a.target ≢ b.target)) (flat_map (λ e. e.files) own)
+  pub ended : All (DoomsWithin most) own
+
+-- The files that it took: a delivery's stage tells of the one that it has, and a purge's of those that it empties and of their targets, which
+-- are apart; no other kind of task takes any.
 abbrev pub TookFiles : Task → Run → ℕ → Type 0
 TookFiles (task.Deliver t) run place = Unit {0}
+TookFiles (task.Purge t) run place = TookApart (own_events place run)
 TookFiles other run place = TookNoFile run place
 
 -- A task stands so in a run that has come to this store: it is of the request at this place, is at its stage, and took these files.

@@ -1,11 +1,12 @@
 // Tasks beside each other.
 ghost use Rattle.std.specs.Prelude.{◌≡◌, ◌≢◌, ◌≤◌, ◌⊎◌, ℕ, List, All, length, Option, Some, None, true, false};
 ghost use Rattle.std.specs.List.{list_any};
-ghost use Rattle.disk_model.specs.Disk.{History};
+ghost use Rattle.disk_model.specs.Disk.{Faults, History};
 ghost use Rattle.mdbox_base.specs.declared.replies.Reply.{Reply};
 ghost use Rattle.mdbox_base.specs.declared.requests.Request.{Request};
 ghost use Rattle.list_machine.specs.Run.{Run, RunEvent, and_then, own_events};
 ghost use Rattle.model_lists.specs.Lists.{Lists};
+ghost use Rattle.mail_fetch.specs.Claims.{HasUseRoom};
 ghost use Rattle.mail_fetch.specs.Clause.{ReadsSafe};
 ghost use Rattle.journal.specs.Events.{Around};
 ghost use Rattle.journal.specs.Found.{gave_back, took_file};
@@ -14,25 +15,23 @@ ghost use Rattle.store_core.specs.Running.{IsStore};
 ghost use Rattle.store_core.specs.Value.{StoreValue};
 ghost use Rattle.task_claims.specs.Claims.{AddsUp, Claims, ClaimsNothing, Emptied, Taken};
 ghost use Rattle.task_claims.specs.Leaving.{LeavesOthers};
-ghost use Rattle.task_claims.specs.Stable.{IsStable};
-ghost use Rattle.task_steps.specs.Step.{GivesNew, HasNotBegun, IsKept};
-ghost use Rattle.lane_tasks.specs.Clause.{CanAnswer, ClaimsFew, DoomsNothing, HasTaskRoom, IsFreeToTake, PassesBy, StaysOfRequest, around_at};
+ghost use Rattle.task_claims.specs.Stable.{Beside};
+ghost use Rattle.task_steps.specs.Step.{GivesNew, HasNotBegun};
+ghost use Rattle.lane_tasks.specs.Clause.{CanAnswer, ClaimsFew, IsFreeToTake, PassesBy, PassesInRun, StaysOfRequest, around_at};
 ghost use Rattle.lane_tasks.specs.Tasks.{BeginsTask, IsReadyTask, IsTaskOf, StandsTask, claims_at, work_left};
 ghost use Rattle.lane_tasks.specs.declared.task.Task.{Task};
 
 use disk_model::Disk;
 
-/// A task that is ready for its next event stays so beside every event of every other task.
+/// A task that is ready for its next event stays so beside every event of every other task, from one open store to the next.
 pub fn tasks_are_stable<D: Disk>()
-    ensures { (task : Task) → IsStable (claims_at task) (λ (store : StoreValue D) (history : Option History). IsReadyTask task store history) }
+    ensures { (task : Task) (old new : StoreValue D) (before after : Option History) → IsStore before old → IsStore after new → AreFilesInOrder new.files → Beside (claims_at task) old new before after → IsReadyTask task old before → IsReadyTask task new after }
 {}
 
-/// Where a task stands is kept beside every event of another request, also by one that stops the store; and where nothing of the store
-/// has changed, by the event alone.
+/// Where a task stands is kept beside every event of another request, also by one that stops the store.
 pub fn tasks_stand<D: Disk>()
-    ensures stands { (task : Task) (old new : StoreValue D) (before after : Option History) (asked : Request) (run : Run) (place : ℕ) (said : List Reply) (event : RunEvent) → PassesBy task old new before after → event.request ≢ place → GivesNew run event
+    ensures { (task : Task) (old new : StoreValue D) (before after : Option History) (faults : Faults) (asked : Request) (run : Run) (place : ℕ) (said : List Reply) (event : RunEvent) → PassesBy task old new before after → PassesInRun task new after faults run event → event.request ≢ place → GivesNew run event
         → StandsTask task old before asked run place said → StandsTask task new after asked (and_then run event) place said }
-    ensures kept { (task : Task) (store : StoreValue D) (history : Option History) (asked : Request) → IsKept (StandsTask task store history asked) }
 {}
 
 /// A request that hasn't begun stands where its task begins, which claims nothing and is ready.
@@ -56,7 +55,7 @@ pub fn tasks_claim_few<D: Disk>()
 
 /// What the tasks of 64 lanes claim, few of each thing, leaves room for the next event of any of them.
 pub fn tasks_have_room<D: Disk>()
-    ensures { (store : StoreValue D) (each : List Claims) → AddsUp store each → length each ≤ 64 → All ClaimsFew each → DoomsNothing store → HasTaskRoom store }
+    ensures { (store : StoreValue D) (each : List Claims) → AddsUp store each → length each ≤ 64 → All ClaimsFew each → HasUseRoom store }
 {}
 
 /// The storage file that an event of a task finds to add to it is one that no task has taken.

@@ -9,7 +9,8 @@ ghost use Rattle.mdbox_base.specs.declared.requests.Request.TheVariants as reque
 ghost use Rattle.task_claims.specs.Claims.{ClaimsNothing, MovesClaims};
 ghost use Rattle.task_claims.specs.Leaving.{LeavesOthers};
 ghost use Rattle.task_steps.specs.Step.{ended_by};
-ghost use Rattle.lane_tasks.specs.Clause.{DoomsNothing, HasTaskRoom, TaskKeeps, StepsTask};
+ghost use Rattle.mail_fetch.specs.Claims.{HasUseRoom};
+ghost use Rattle.lane_tasks.specs.Clause.{TaskKeeps, StepsTask};
 ghost use Rattle.lane_tasks.specs.Tasks.{BeginsTask, HasTask, IsReadyTask, claims_at, did_of, work_left};
 
 use attach_detach::Prepared;
@@ -18,6 +19,7 @@ use mail_fetch::FetchTask;
 use mail_ops::{CopyTask, CountsTask, ExpungeTask, MakeTask, MoveTask, OpsTask};
 use mail_save::SaveTask;
 use mdbox_base::{Did, Name, Progress, Request};
+use purge_task::PurgeTask;
 use resync_task::ResyncTask;
 use store_core::Store;
 
@@ -42,6 +44,8 @@ pub enum Task {
     Deliver(SaveTask),
     /// Of a resync.
     Resync(ResyncTask),
+    /// Of a purge.
+    Purge(PurgeTask),
 }
 
 impl Task {
@@ -53,6 +57,7 @@ impl Task {
         match request {
             Request::Counts => Task::Counts(CountsTask::of()),
             Request::Resync => Task::Resync(ResyncTask::of()),
+            Request::Purge => Task::Purge(PurgeTask::of()),
             Request::Make { name } => Task::Make(MakeTask::of(name)),
             Request::Copy { name, uid, target } => Task::Copy(CopyTask::of(name, uid, target)),
             Request::Move { name, uid, target } => Task::Move(MoveTask::of(name, uid, target)),
@@ -88,6 +93,7 @@ impl Task {
             Task::Fetch(task) => task.did(),
             Task::Deliver(task) => task.did(),
             Task::Resync(task) => task.did(),
+            Task::Purge(task) => task.did(),
         }
     }
 
@@ -95,7 +101,7 @@ impl Task {
     pub fn step<D: Disk>(&mut self, store: &mut Store<D>) -> Progress
         // Unless the store is stopped, it is ready for its event, and has room for it; and if it goes on, it is ready for the next.
         requires ready { store.old.stopped ≡ false → IsReadyTask self.old store.old (D.history store.old.disk) }
-        requires room { store.old.stopped ≡ false → HasTaskRoom store.old }
+        requires room { store.old.stopped ≡ false → HasUseRoom store.old }
         ensures ready { result ≡ progress.More → store.new.stopped ≡ false → IsReadyTask self.new store.new (D.history store.new.disk) }
 
         // Of every run that has come to the store: which event it was, what it answered, and which crash images it leaves.
@@ -107,10 +113,9 @@ impl Task {
         ensures leaves { store.new.stopped ≡ false → LeavesOthers (claims_at self.old) store.old store.new (D.history store.old.disk) (D.history store.new.disk) }
         ensures ended { (given : Reply) → result ≡ progress.Done given → store.new.stopped ≡ false → ClaimsNothing (claims_at self.new) }
 
-        // It replies so if the store is stopped then, and a store that is stopped stays so. No file is doomed.
+        // It replies so if the store is stopped then, and a store that is stopped stays so.
         ensures stopped { store.new.stopped ≡ true → result ≡ progress.Done (reply.Refused refusal.Stopped) }
         ensures halted { store.old.stopped ≡ true → store.new.stopped ≡ true }
-        ensures undoomed { store.new.stopped ≡ false → DoomsNothing store.old → DoomsNothing store.new }
 
         // What it keeps of the store and its disk, whatever run it is of.
         ensures keeps { TaskKeeps self.old self.new store.old store.new (D.history store.old.disk) (D.history store.new.disk) (D.faults store.old.disk) (D.faults store.new.disk) (ended_by result) }
@@ -118,6 +123,7 @@ impl Task {
         // So it ends.
         ensures left { result ≡ progress.More → work_left self.new store.new < work_left self.old store.old }
     {
+        store.facts();
         match self {
             Task::Ops(task) => task.step(store),
             Task::Counts(task) => task.step(store),
@@ -128,6 +134,7 @@ impl Task {
             Task::Fetch(task) => task.step(store),
             Task::Deliver(task) => task.step(store),
             Task::Resync(task) => task.step(store),
+            Task::Purge(task) => task.step(store),
         }
     }
 }

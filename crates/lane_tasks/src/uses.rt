@@ -19,9 +19,9 @@ ghost use Rattle.lane_tasks.specs.declared.task.Task.{Task};
 
 use disk_model::Disk;
 
-/// A storage file that a task claims to have taken is one that events of its request took, and haven't given back.
+/// A storage file that a task claims to have taken is one that events of its request took, and haven't given back. Files are numbered from 1.
 pub fn tasks_claim_taken<D: Disk>()
-    ensures { (task : Task) (store : StoreValue D) (history : Option History) (asked : Request) (run : Run) (place : ℕ) (said : List Reply) (file : ℕ) → StandsTask task store history asked run place said → (1 ≤ claims_at task (Taken file)) ⊎ (1 ≤ claims_at task (Emptied file))
+    ensures { (task : Task) (store : StoreValue D) (history : Option History) (asked : Request) (run : Run) (place : ℕ) (said : List Reply) (file : ℕ) → StandsTask task store history asked run place said → 1 ≤ file → (1 ≤ claims_at task (Taken file)) ⊎ (1 ≤ claims_at task (Emptied file))
         → (list_any (took_file file) (own_events place run) ≡ true) × (gave_back file (own_events place run) ≡ false) }
 {}
 

@@ -158,7 +158,6 @@ all_begin {D} start script run rows store history faults at come none runs shows
   lanes = lanes;
   few = few;
   waiting = λ k row there. (fresh k row there).behind;
-  undoomed = λ still. at.undoomed;
   fetched = settled;
   undamaged = none_undamaged script run at.empty;
   quiet = λ still unread. refl;

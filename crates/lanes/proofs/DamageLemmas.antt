@@ -83,6 +83,9 @@ fetch_undamaged : (at : FetchStage) (stopped : Bool) (history : Option History) 
 fetch_undamaged stage.First stopped history run place said at = subst (λ (es : List RunEvent). All IsUndamaged es) (sym at.0) (All-nil IsUndamaged)
 fetch_undamaged (stage.Reading region) stopped history run place said at = read_but _ _ (own_events place run) at.0
 fetch_undamaged (stage.Unpinning from given) stopped history run place said at = unpins_undamaged from given at.1.0 (own_events place run) at.0 at.1.2
+fetch_undamaged (stage.Removing file given) stopped history run place said at =
+    let r = at.0 in
+    subst (λ (es : List RunEvent). All IsUndamaged es) (sym r.own_are) (all_and_one IsUndamaged r.front r.last (unpins_undamaged r.from given at.2.0 r.front r.unpinned at.2.2) (unrefused r.last r.unrefused))
 
 pub stands_undamaged : {D : Type 0} → (t : Task) (store : StoreValue D) (history : Option History) (name : List ℕ) (uid : Uid) (run : Run) (place : ℕ) (said : List Reply) → StandsTask t store history (request.Fetch name uid) run place said → All IsUndamaged (own_events place run)
 stands_undamaged (task.Ops t) store history name uid run place said s = begun t.stage s.at
@@ -96,6 +99,7 @@ stands_undamaged (task.Move t) store history name uid run place said s = absurd 
 stands_undamaged (task.Expunge t) store history name uid run place said s = absurd (let z : request.Fetch name uid ≡ request.Expunge t.name t.uid = s.is_of in cc z)
 stands_undamaged (task.Fetch t) store history name uid run place said s = fetch_undamaged t.stage store.stopped history run place said s.at
 stands_undamaged (task.Deliver t) store history name uid run place said s = absurd s.is_of
+stands_undamaged (task.Purge t) store history name uid run place said s = absurd (let z : request.Fetch name uid ≡ request.Purge = s.is_of in cc z)
 stands_undamaged (task.Resync t) store history name uid run place said s = absurd (let z : request.Fetch name uid ≡ request.Resync = s.is_of in cc z)
 
 -- ---- an event

@@ -24,7 +24,8 @@ use Rattle.serving.specs.Serving.{HaveLanes, IsServing}
 use Rattle.serving.specs.Taken.{IsInUse}
 use Rattle.serving.proofs.TakenLemmas.{taken_in_use}
 use Rattle.mail_fetch.specs.Clause.{ReadsSafe}
-use Rattle.lane_tasks.specs.Clause.{CanAnswer, IsFreeToTake, around_at}
+use Rattle.purge_task.specs.Clause.{TellsUses}
+use Rattle.lane_tasks.specs.Clause.{CanAnswer, IsFreeToTake, TellsRun, around_at}
 use Rattle.lane_tasks.specs.Tasks.{IsTaskOf, claims_at}
 use Rattle.lane_tasks.specs.declared.task.Task.{Task}
 use Rattle.lane_tasks.specs.declared.task.Task.TheVariants as task
@@ -69,3 +70,10 @@ settled_reads lists (Some h) settled = record { store = settled.store; entries =
 pub can_answer : {D : Type 0} → (t : Task) (asked : Request) (lists : Lists) (store : StoreValue D) (history : Option History) → IsStore history store → store.stopped ≡ false → IsTaskOf t asked → ((name : List ℕ) (uid : Uid) → asked ≡ request.Fetch name uid → IsSettledFor lists history) → CanAnswer t lists store history
 can_answer (task.Fetch t) asked lists store history opened runs is settled = safe_answered (task.Fetch t) lists store history opened runs (settled_reads lists history (settled t.name t.uid is))
 can_answer t asked lists store history opened runs is settled = tt
+
+-- ---- who uses files and instances
+
+-- Only a purge goes by that.
+pub tells_run : {D : Type 0} → (t : Task) (run : Run) (store : StoreValue D) → TellsUses run store → TellsRun t run store
+tells_run (task.Purge t) run store tells = tells
+tells_run t run store tells = tt

@@ -1,5 +1,6 @@
 -- A script that lanes of tasks serve goes on with an event of any lane.
 use Rattle.std.proofs.Common.{◌≡◌, ◌<◌, ◌≤◌, ◌+◌, ℕ, zero, suc, Bool, true, false, List, [], ◌∷◌, map, slice_set, All, Option, Some, None, refl, sym, ◌∙◌, ap, subst, arith, inl, inr}
+use Rattle.std.specs.Option.{IfSome}
 use Rattle.std.specs.Prelude.{◌≢◌, ◌⊎◌, ◌++◌, is_some, length, slice_get, option_map}
 use Rattle.std.proofs.lemmas.Option.{slice_get-map}
 use Rattle.std.proofs.lemmas.List.{length-set}
@@ -34,7 +35,7 @@ use Rattle.task_claims.specs.Leaving.{LeavesOthers}
 use Rattle.task_steps.specs.Serves.{BreaksBy, IsTurn}
 use Rattle.task_steps.specs.Step.{DidEvent, FaultsGrow, FindsRoom, IsFault, Seen, Went, and_told, ended_by}
 use Rattle.mail_fetch.specs.Task.{seen_in}
-use Rattle.lane_tasks.specs.Clause.{CanAnswer, FindsAround, PassesBy, around_at}
+use Rattle.lane_tasks.specs.Clause.{CanAnswer, FindsAround, PassesBy, SparesTask, TellsRun, around_at}
 use Rattle.lane_tasks.specs.Tasks.{BeginsTask, IsReadyTask, StandsTask, claims_at, did_of}
 use Rattle.lane_tasks.specs.declared.task.Task.{Task}
 use Rattle.lane_tasks.proofs.StandLemmas.{begins_ready, begins_standing, begins_unclaimed, task_stable, task_stands}
@@ -44,7 +45,9 @@ use Rattle.lanes.specs.Rows.{LaneRow, RowGoesOn, lane_value, lanes_of, next_in_t
 use Rattle.lanes.specs.declared.lane.LaneEvent.{LaneEvent}
 use Rattle.lanes.specs.declared.lane.Queued.{Queued}
 use Rattle.lanes.proofs.DamageLemmas.{stands_undamaged, undamaged_on}
-use Rattle.lanes.proofs.FindingLemmas.{can_answer, finds_room, uses_taken}
+use Rattle.lanes.proofs.FindingLemmas.{can_answer, finds_room, tells_run, uses_taken}
+use Rattle.lanes.proofs.SparedLemmas.{HasComeBeside, all_last, last_push, passes_in_run, refused_stopped, serves_as, spares_all, stands_then}
+use Rattle.lanes.proofs.TellsUsesLemmas.{tells_uses}
 
 -- ---- rows
 
@@ -116,10 +119,10 @@ ran_before old new still runs = by_test old.stopped refl
     by_test true is = absurd (let e : new.stopped ≡ old.stopped = ap (λ (s : Seen). s.stopped) (still is) in let z : true ≡ false = sym is ∙ (sym e ∙ runs) in cc z)
     by_test false is = is
 
-others_stand : {D : Type 0} → (rows : List LaneRow) (k : ℕ) (row : LaneRow) (first : Queued) (next : Task) (old new : StoreValue D) (before after : Option History) → slice_get rows k ≡ Some row → row.current ≡ Some first → (new.stopped ≡ false → old.stopped ≡ false)
+others_stand : {D : Type 0} → (rows : List LaneRow) (k : ℕ) (row : LaneRow) (first : Queued) (next : Task) (old new : StoreValue D) (before after : Option History) (faults : Faults) → slice_get rows k ≡ Some row → row.current ≡ Some first → (new.stopped ≡ false → old.stopped ≡ false)
     → (new.stopped ≡ false → MovesClaims (claims_at first.task) (claims_at next) old new) → (new.stopped ≡ false → LeavesOthers (claims_at first.task) old new before after) → (old.stopped ≡ false → LanesAccount claims_at IsReadyTask old before (lanes_of rows))
-    → OthersStandOn (stands_in old before) (stands_in new after) (lanes_of rows) k
-others_stand rows k row first next old new before after there was ran moves leaves accounts j other apart is t asked has run place said event differ gives stood = task_stands t old new before after asked run place said event passes differ gives stood
+    → OthersStandOn (stands_in old before) (stands_then new after faults) (lanes_of rows) k
+others_stand rows k row first next old new before after faults there was ran moves leaves accounts j other apart is t asked has run place said event differ gives stood = λ comes. task_stands t old new before after faults asked run place said event passes (passes_in_run t new after faults run event comes) differ gives stood
   where
     mine : claims_at first.task ≡ lane_claims claims_at (lane_value row)
     mine = sym (claims_are row first was)
@@ -217,16 +220,33 @@ pub accounts_row : {D : Type 0} → (rows : List LaneRow) (k : ℕ) (row now : L
     → LanesAccount claims_at IsReadyTask new after (lanes_of (slice_set rows k (after_event (ended_by event.ended) (record g.queued { task = g.next }) row.waiting)))
 accounts_row {D} rows k row now event old new before after first second there are runs g all =
     subst (λ (vs : List (LaneValue Task)). LanesAccount claims_at IsReadyTask new after vs) (sym (rows_set rows k then))
-    (accounted_on claims_at IsReadyTask task_stable (lanes_of rows) k (lane_value row) (lane_value then) old new before after (value_at rows k row there)
-    (subst (λ (c : Claims). MovesClaims c (lane_claims claims_at (lane_value then)) old new) mine
-    (moves_row (ended_by event.ended) g.queued g.next row.waiting old new are (λ some. let d = done_by event.ended some in g.goes.unclaimed d.0 d.1 runs) (g.goes.claims runs)))
-    (subst (λ (c : Claims). LeavesOthers c old new before after) mine (g.goes.leaves runs)) (ready_row (ended_by event.ended) g.queued g.next row.waiting new after are (λ more. g.goes.ready (more_by event.ended more) runs)) all)
+    (record {
+      adds_up = (accounted_on claims_at (λ t store history. Unit {0}) (λ t old new before after beside ready. tt) (lanes_of rows) k (lane_value row) (lane_value then) old new before after (value_at rows k row there) moves leaves (λ t has. tt)
+      (record { adds_up = all.adds_up; ready = λ j other is t has. tt })).adds_up;
+      ready = λ j other is. by_lane j other is (nat_cases k j);
+    })
   where
     then : LaneRow
     then = after_event (ended_by event.ended) (record g.queued { task = g.next }) row.waiting
 
     mine : claims_at g.queued.task ≡ lane_claims claims_at (lane_value row)
     mine = sym (claims_are row g.queued g.was)
+
+    moves : MovesClaims (lane_claims claims_at (lane_value row)) (lane_claims claims_at (lane_value then)) old new
+    moves = subst (λ (c : Claims). MovesClaims c (lane_claims claims_at (lane_value then)) old new) mine
+        (moves_row (ended_by event.ended) g.queued g.next row.waiting old new are (λ some. let d = done_by event.ended some in g.goes.unclaimed d.0 d.1 runs) (g.goes.claims runs))
+
+    leaves : LeavesOthers (lane_claims claims_at (lane_value row)) old new before after
+    leaves = subst (λ (c : Claims). LeavesOthers c old new before after) mine (g.goes.leaves runs)
+
+    by_lane : (j : ℕ) (other : LaneValue Task) → slice_get (slice_set (lanes_of rows) k (lane_value then)) j ≡ Some other → (k ≡ j) ⊎ (k ≢ j) → IsReadyLane IsReadyTask other new after
+    by_lane j other is (inl e) =
+        subst (λ (v : LaneValue Task). IsReadyLane IsReadyTask v new after) (one_some (lane_value then) other (sym (get_set_same (lanes_of rows) k (lane_value then) (lane_value row) (value_at rows k row there)) ∙ (ap (λ (n : ℕ). slice_get (slice_set (lanes_of rows) k (lane_value then)) n) e ∙ is)))
+        (ready_row (ended_by event.ended) g.queued g.next row.waiting new after are (λ more. g.goes.ready (more_by event.ended more) runs))
+    by_lane j other is (inr apart) =
+        let was = sym (get_set_other (lanes_of rows) k j (lane_value then) apart) ∙ is in
+        λ t has. task_stable t old new before after g.goes.store g.goes.store_then g.goes.ordered_then
+            (task_beside claims_at other t old new before after has (lane_beside claims_at (lanes_of rows) k j (lane_value row) other (lane_claims claims_at (lane_value then)) old new before after all.adds_up (value_at rows k row there) was apart moves leaves)) (all.ready j other was t has)
 
 -- ---- an event
 
@@ -251,10 +271,6 @@ unread_event event = event.refused ≢ Some refusal.ReadFault
 all_front : {X : Type 0} → (P : X → Type 0) (xs : List X) (x : X) → All P (xs ++ x ∷ []) → All P xs
 all_front P [] x all = All-nil P
 all_front P (a ∷ xs) x all = All-cons P a xs (All-head P a (xs ++ x ∷ []) all) (all_front P xs x (All-tail P a (xs ++ x ∷ []) all))
-
-all_last : {X : Type 0} → (P : X → Type 0) (xs : List X) (x : X) → All P (xs ++ x ∷ []) → P x
-all_last P [] x all = All-head P x [] all
-all_last P (a ∷ xs) x all = all_last P xs x (All-tail P a (xs ++ x ∷ []) all)
 
 -- a store in which an append fails ran before
 broken_ran : (half : Half) (request : Request) (run : Run) (lists left : Lists) (event : RunEvent) (answer : Option Reply) (old new : Seen) (how : Did) → how ≡ did.Broken half → Went how request run lists left event answer old new → old.stopped ≡ false
@@ -301,7 +317,6 @@ going_on {D} start script run journal broken replies began rows k row now event 
         lanes = subst (λ (n : ℕ). All (λ (asked : ℕ × Request). (0 < asked.0) × (asked.0 ≤ n)) script) (sym (as_many rows k then)) s.lanes;
         waiting = all_waiting script rows k row then there (waiting_behind script (k + 1) (ended_by event.ended) (record g.queued { task = g.next }) row.waiting are) s.waiting;
         accounts = λ runs. accounts_row rows k row now event old new before after first second there (begin_some script (k + 1) row.waiting are) runs g (s.accounts (ran runs));
-        undoomed = λ runs. g.goes.undoomed runs (s.undoomed (ran runs));
         fetched = s.fetched;
         undamaged = undamaged_on found nothing_around script run replies (k + 1) g.queued.place turn.0 (left_by start journal) d.0.makes.event (ended_by event.ended) (and_told (said_by journal g.queued.place) d.0.makes.answer) turn.1.asked turn.1.unanswered d.0.makes.request_is
             d.0.makes.ended_is d.0.makes.is_event d.0.ends.replied (λ more name uid fetch. stands_undamaged g.next new after name uid then_run g.queued.place (and_told (said_by journal g.queued.place) d.0.makes.answer)
@@ -325,10 +340,13 @@ going_on {D} start script run journal broken replies began rows k row now event 
     answers : old.stopped ≡ false → CanAnswer g.queued.task (left_by start journal) old before
     answers runs = can_answer g.queued.task turn.0 (left_by start journal) old before g.goes.store runs turn.2.is_of (λ name uid is. s.serving.serves.settled runs (s.fetched g.queued.place (k + 1) name uid (turn.1.asked ∙ ap (λ (q : Request). Some (k + 1, q)) is)))
 
+    tells : old.stopped ≡ false → TellsRun g.queued.task run old
+    tells runs = tells_run g.queued.task run old (tells_uses start script run journal broken replies began (seen_in old before first) (lanes_of rows) old before s.serving s.lanes (s.accounts runs) runs runs)
+
     did : (found : Around) × FindsAround g.queued.task turn.0 old before nothing_around (ended_by event.ended) found
         × (d : DidEvent found nothing_around run (k + 1) g.queued.place (said_by journal g.queued.place) turn.0 (left_by start journal) (seen_in old before first) (seen_in new after second) (did_of g.next) (ended_by event.ended))
         × (ended_by event.ended ≡ None → StandsTask g.next new after turn.0 (and_then run d.makes.event) g.queued.place (and_told (said_by journal g.queued.place) d.makes.answer))
-    did = g.goes.steps turn.0 nothing_around nothing_around run (k + 1) g.queued.place (said_by journal g.queued.place) (left_by start journal) s.serving.serves.come s.serving.serves.shown finds answers turn.2
+    did = g.goes.steps turn.0 nothing_around nothing_around run (k + 1) g.queued.place (said_by journal g.queued.place) (left_by start journal) s.serving.serves.come s.serving.serves.shown finds tells answers turn.2
 
     found : Around
     found = did.0
@@ -350,7 +368,24 @@ going_on {D} start script run journal broken replies began rows k row now event 
         → All (λ event. event.refused ≢ Some refusal.ReadFault) (run.events ++ d.0.makes.event ∷ []) → NoFault began.faults second
     quiet_then ran unfailed unfaulted runs unread = unfailed (all_last unread_event run.events d.0.makes.event unread) (unfaulted runs) ∙ s.quiet (ran runs) (all_front unread_event run.events d.0.makes.event unread)
 
+    served : (failed : Broken) × IsServing (stands_then new after second) start script then_run then_journal failed (replies_behind (ended_by event.ended) g.queued.place replies) began (seen_in new after second) (slice_set (lanes_of rows) k (lane_behind (ended_by event.ended) g.next (lane_value row)))
+        × BreaksBy (did_of g.next) run d.0.makes.event (told_calls before) broken failed
+    served = lane_goes_on (stands_in old before) (stands_then new after second) start script run journal broken replies began (seen_in old before first) (seen_in new after second) (lanes_of rows) k g.queued.place (map (λ (q : Queued). q.place) row.waiting) (lane_value row) turn.0 g.next found nothing_around (did_of g.next) (ended_by event.ended)
+        s.serving (others_stand rows k row g.queued g.next old new before after second there g.was ran g.goes.claims g.goes.leaves s.accounts) (value_at rows k row there) (queue_is row g.queued g.was) turn.1.asked d.0 g.goes.image (λ runs. (g.goes.leaves runs).firm.stays) (λ more comes. d.1 more)
+
+    beside : (t : Task) → HasComeBeside t new after second then_run
+    beside t = record {
+      come = λ runs. d.0.come;
+      spared = λ stopped.
+          let refused = refused_stopped (did_of g.next) turn.0 run (left_by start journal) d.0.left d.0.makes.event d.0.makes.answer (seen_in old before first) (seen_in new after second) d.0.went s.serving.serves.stopped_by served.1.stays_stopped stopped in
+          subst (λ (o : Option RunEvent). IfSome o (SparesTask t)) (sym (last_push run.events d.0.makes.event)) (spares_all t d.0.makes.event (d.0.makes.is_event.undone refused.0 refused.1).0);
+    }
+
     goes : (failed : Broken) × IsServing (stands_in new after) start script then_run then_journal failed (replies_behind (ended_by event.ended) g.queued.place replies) began (seen_in new after second) (slice_set (lanes_of rows) k (lane_behind (ended_by event.ended) g.next (lane_value row)))
         × BreaksBy (did_of g.next) run d.0.makes.event (told_calls before) broken failed
-    goes = lane_goes_on (stands_in old before) (stands_in new after) start script run journal broken replies began (seen_in old before first) (seen_in new after second) (lanes_of rows) k g.queued.place (map (λ (q : Queued). q.place) row.waiting) (lane_value row) turn.0 g.next found nothing_around (did_of g.next) (ended_by event.ended)
-        s.serving (others_stand rows k row g.queued g.next old new before after there g.was ran g.goes.claims g.goes.leaves s.accounts) (value_at rows k row there) (queue_is row g.queued g.was) turn.1.asked d.0 g.goes.image (λ runs. (g.goes.leaves runs).firm.stays) d.1
+    goes = (
+      served.0,
+      serves_as (stands_then new after second) (stands_in new after) start script then_run then_journal served.0 (replies_behind (ended_by event.ended) g.queued.place replies) began (seen_in new after second) (slice_set (lanes_of rows) k (lane_behind (ended_by event.ended) g.next (lane_value row)))
+          (λ t asked place said stands. stands (beside t)) served.1,
+      served.2,
+    )

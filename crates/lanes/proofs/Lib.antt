@@ -10,6 +10,7 @@ pub mod PartsLemmas
 pub mod RoomLemmas
 pub mod RoundLemmas
 pub mod SoundLemmas
+pub mod SparedLemmas
 pub mod TellsUsesLemmas
 pub mod TraceLemmas
 pub mod UnpinnedLemmas

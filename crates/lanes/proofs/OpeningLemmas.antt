@@ -22,7 +22,6 @@ use Rattle.task_claims.proofs.OpenedLemmas.{none_claimed}
 use Rattle.serving.specs.Accounts.{IsReadyLane, lane_claims}
 use Rattle.serving.specs.Lanes.{LaneValue}
 use Rattle.serving.proofs.LaneLemmas.{one_some}
-use Rattle.lane_tasks.specs.Clause.{DoomsNothing}
 use Rattle.lane_tasks.specs.Tasks.{IsReadyTask, claims_at}
 use Rattle.lane_tasks.specs.declared.task.Task.{Task}
 use Rattle.lane_tasks.proofs.StandLemmas.{begins_ready, begins_unclaimed}
@@ -32,16 +31,6 @@ use Rattle.lanes.specs.Worlds.{AreCounted, AreFreshParts, ArePartsOf, BeginsSome
 use Rattle.lanes.proofs.PartsLemmas.{no_reply, replicated}
 use Rattle.lanes.specs.declared.lane.Queued.{Queued}
 use Rattle.lanes.proofs.BeginLemmas.{none_in_all, row_of}
-
--- ---- storage files
-
-dooms_none : (number : ℕ) (files : List MailFile) → All IsUnusedFile files → is_doomed_in number files ≡ false
-dooms_none number [] unused = refl
-dooms_none number (f ∷ files) unused = by_test (f.file.0 == number) (All-head IsUnusedFile f files unused) (dooms_none number files (All-tail IsUnusedFile f files unused))
-  where
-    by_test : (b : Bool) → IsUnusedFile f → is_doomed_in number files ≡ false → option_map_or (λ (x : MailFile). x.doomed) (cond b (Some f) (file_in number files)) false ≡ false
-    by_test true free rest = free.free.undoomed
-    by_test false free rest = rest
 
 -- ---- lanes
 
@@ -84,7 +73,6 @@ fresh_sound store rows replies replied journal broken moment turns turn_room his
     adds_up = λ thing. none_claimed store none thing ∙ none_in_all claims_at (lanes_of rows) thing (λ k value there. let r = row_of lane_value rows k value there in subst (λ (v : LaneValue Task). ClaimsNothing (lane_claims claims_at v)) r.2 (row_unclaimed r.0 (fresh.begin k r.0 r.1)));
     ready = λ k value there. let r = row_of lane_value rows k value there in subst (λ (v : LaneValue Task). IsReadyLane IsReadyTask v store history) r.2 (lane_ready r.0 store history (fresh.begin k r.0 r.1));
   };
-  undoomed = λ runs file. dooms_none file store.files.files none.files;
   places = fresh.places;
   once = λ place given there.
       let gave : given ≡ no_reply = replicated (length replies) place no_reply given (ap (λ (rs : List (Option Reply)). slice_get rs place) (sym unreplied) ∙ there) in

@@ -7,7 +7,8 @@ use Rattle.serving.specs.Accounts.{IsReadyLane, lane_claims}
 use Rattle.serving.specs.Lanes.{LaneValue}
 use Rattle.store_core.specs.Value.{StoreValue}
 use Rattle.task_claims.specs.Claims.{Claims}
-use Rattle.lane_tasks.specs.Clause.{ClaimsFew, HasTaskRoom}
+use Rattle.mail_fetch.specs.Claims.{HasUseRoom}
+use Rattle.lane_tasks.specs.Clause.{ClaimsFew}
 use Rattle.lane_tasks.specs.Tasks.{IsReadyTask, claims_at}
 use Rattle.lane_tasks.specs.declared.task.Task.{Task}
 use Rattle.lane_tasks.proofs.RoomLemmas.{room_left, task_claims_few}
@@ -34,6 +35,6 @@ as_many : (rows : List LaneRow) → length (map (lane_claims claims_at) (lanes_o
 as_many [] = refl
 as_many (a ∷ rows) = let h = as_many rows in omega (arith, h)
 
-pub has_room : {D : Type 0} → (world : WorldValue D) (history : Option History) → IsSoundWorld history world → world.store.stopped ≡ false → HasTaskRoom world.store
+pub has_room : {D : Type 0} → (world : WorldValue D) (history : Option History) → IsSoundWorld history world → world.store.stopped ≡ false → HasUseRoom world.store
 has_room world history s runs =
-    room_left world.store (map (lane_claims claims_at) (lanes_of world.rows)) (s.accounts runs).adds_up (let n = as_many world.rows in let f = s.few in omega (arith, n, f)) (all_few (lanes_of world.rows) world.store history (s.accounts runs).ready) (s.undoomed runs)
+    room_left world.store (map (lane_claims claims_at) (lanes_of world.rows)) (s.accounts runs).adds_up (let n = as_many world.rows in let f = s.few in omega (arith, n, f)) (all_few (lanes_of world.rows) world.store history (s.accounts runs).ready)

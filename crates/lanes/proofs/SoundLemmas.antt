@@ -74,7 +74,6 @@ sound_on {D} k old new before after first second w s = record {
   waiting = λ j row there. each_set (λ r. All BeginsSome r.waiting) old.rows k w.row w.now w.there (subst (λ (r : LaneRow). All BeginsSome r.waiting) (sym w.goes.now_is) (waiting_after (ended_by w.event.ended) next w.row.waiting begins)) s.waiting j row (ap (λ (rs : List LaneRow). slice_get rs j) (sym w.rows_are) ∙ there);
   accounts = λ runs. subst (λ (rows : List LaneRow). LanesAccount claims_at IsReadyTask new.store after (lanes_of rows)) (ap (slice_set old.rows k) (sym w.goes.now_is) ∙ sym w.rows_are)
       (accounts_row old.rows k w.row w.now w.event old.store new.store before after first second w.there begins runs w.goes (s.accounts (ran runs)));
-  undoomed = λ runs. w.goes.goes.undoomed runs (s.undoomed (ran runs));
   places = λ j row there. subst (λ (n : ℕ). All (λ place. place < n) (queue_in row)) (sym as_many)
       (each_set (λ r. All (λ place. place < length old.replies) (queue_in r)) old.rows k w.row w.now w.there
       (subst (λ (r : LaneRow). All (λ place. place < length old.replies) (queue_in r)) (sym w.goes.now_is) (queue_after (λ place. place < length old.replies) (ended_by w.event.ended) next w.goes.queued.place w.row.waiting refl

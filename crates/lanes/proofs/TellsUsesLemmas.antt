@@ -270,9 +270,9 @@ one_true : (b : Bool) → b ≡ true → 1 ≤ one_if b
 one_true true e = omega arith
 one_true false e = absurd (let k : false ≡ true = e in cc k)
 
-taken_told : {D : Type 0} → (store : StoreValue D) (history : Option History) (script : Requests) (run : Run) (journal : List JournalStep) (lanes : List (LaneValue Task)) (place file : ℕ) (at : TaskStands store history script run journal lanes place) → (1 ≤ claims_at at.task (Taken file)) ⊎ (1 ≤ claims_at at.task (Emptied file)) → is_taken run file ≡ true
-taken_told store history script run journal lanes place file at claims =
-    let has = claimed_taken at.task store history at.asked run place (said_by journal place) file at.stands claims in
+taken_told : {D : Type 0} → (store : StoreValue D) (history : Option History) (script : Requests) (run : Run) (journal : List JournalStep) (lanes : List (LaneValue Task)) (place file : ℕ) (at : TaskStands store history script run journal lanes place) → 1 ≤ file → (1 ≤ claims_at at.task (Taken file)) ⊎ (1 ≤ claims_at at.task (Emptied file)) → is_taken run file ≡ true
+taken_told store history script run journal lanes place file at low claims =
+    let has = claimed_taken at.task store history at.asked run place (said_by journal place) file at.stands low claims in
     any_own (took_file file) (λ e. took_file file e && (is_none (reply_of e.request run) && not (gave_back file (own_events e.request run)))) place run.events
     (λ e same took. both_true (took_file file e) _ took
     (both_true (is_none (reply_of e.request run)) _ (ap (λ (p : ℕ). is_none (reply_of p run)) same ∙ ap (λ (o : Option Reply). is_none o) at.unanswered) (not_true (gave_back file (own_events e.request run)) (ap (λ (p : ℕ). gave_back file (own_events p run)) same ∙ has.1))))
@@ -296,7 +296,7 @@ still_pinned run instance n event there pinned still (inr unpinned) = let k : fa
 pub tells_uses : {D : Type 0} → (start : Lists) (script : Requests) (run : Run) (journal : List JournalStep) (broken : Broken) (replies : List (Option Reply)) (began now : Seen) (lanes : List (LaneValue Task)) (store : StoreValue D) (history : Option History)
     → IsServing (stands_in store history) start script run journal broken replies began now lanes → HaveLanes script lanes → LanesAccount claims_at IsReadyTask store history lanes → now.stopped ≡ false → store.stopped ≡ false → TellsUses run store
 tells_uses {D} start script run journal broken replies began now lanes store history s have accounts running runs = record {
-  taken = λ file some. agree (is_taken run file) (is_taken_in file store.files.files || is_emptied_in file store.files.files) (λ is. in_use file (uses_taken start script run journal broken replies began now store history lanes s have accounts.adds_up file some is)) (used file);
+  taken = λ file some. agree (is_taken run file) (is_taken_in file store.files.files || is_emptied_in file store.files.files) (λ is. in_use file (uses_taken start script run journal broken replies began now store history lanes s have accounts.adds_up file some is)) (used file some);
   used = λ instance is. by_use instance (or_true (is_held run instance) (is_pinned_instance run instance) is);
   held = λ instance knows some.
       let c = task_of_claim start script run journal broken replies began now lanes store history (Held instance.id) s accounts.adds_up some in
@@ -307,16 +307,16 @@ tells_uses {D} start script run journal broken replies began now lanes store his
     in_use file (inl taken) = first_true (is_taken_in file store.files.files) (is_emptied_in file store.files.files) taken
     in_use file (inr emptied) = second_true (is_taken_in file store.files.files) (is_emptied_in file store.files.files) emptied
 
-    by_file : (file : ℕ) → (is_taken_in file store.files.files ≡ true) ⊎ (is_emptied_in file store.files.files ≡ true) → is_taken run file ≡ true
-    by_file file (inl taken) =
+    by_file : (file : ℕ) → 1 ≤ file → (is_taken_in file store.files.files ≡ true) ⊎ (is_emptied_in file store.files.files ≡ true) → is_taken run file ≡ true
+    by_file file low (inl taken) =
         let c = task_of_claim start script run journal broken replies began now lanes store history (Taken file) s accounts.adds_up (one_true (is_taken_in file store.files.files) taken) in
-        taken_told store history script run journal lanes c.place file c.at (inl c.claims)
-    by_file file (inr emptied) =
+        taken_told store history script run journal lanes c.place file c.at low (inl c.claims)
+    by_file file low (inr emptied) =
         let c = task_of_claim start script run journal broken replies began now lanes store history (Emptied file) s accounts.adds_up (one_true (is_emptied_in file store.files.files) emptied) in
-        taken_told store history script run journal lanes c.place file c.at (inr c.claims)
+        taken_told store history script run journal lanes c.place file c.at low (inr c.claims)
 
-    used : (file : ℕ) → (is_taken_in file store.files.files || is_emptied_in file store.files.files) ≡ true → is_taken run file ≡ true
-    used file is = by_file file (or_true (is_taken_in file store.files.files) (is_emptied_in file store.files.files) is)
+    used : (file : ℕ) → 1 ≤ file → (is_taken_in file store.files.files || is_emptied_in file store.files.files) ≡ true → is_taken run file ≡ true
+    used file low is = by_file file low (or_true (is_taken_in file store.files.files) (is_emptied_in file store.files.files) is)
 
     -- what a task claims is held
     claimed : (place : ℕ) (instance : InstRow) (at : TaskStands store history script run journal lanes place) → 1 ≤ claims_at at.task (Held instance.id) → 1 ≤ holders_in instance.id store.instances.known

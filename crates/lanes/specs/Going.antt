@@ -25,7 +25,6 @@ use Rattle.store_core.specs.Value.{StoreValue}
 use Rattle.task_steps.specs.Serves.{BreaksBy}
 use Rattle.task_steps.specs.Step.{FaultsGrow, IsFault, Seen, ended_by}
 use Rattle.mail_fetch.specs.Task.{seen_in}
-use Rattle.lane_tasks.specs.Clause.{DoomsNothing}
 use Rattle.lane_tasks.specs.Tasks.{BeginsTask, IsReadyTask, StandsTask, claims_at}
 use Rattle.lane_tasks.specs.declared.task.Task.{Task}
 use Rattle.lanes.specs.Rows.{LaneRow, lanes_of, queue_in}
@@ -58,16 +57,14 @@ pub record AreUndamaged (script : Requests) (run : Run) (replies : List (Option 
 
 -- A script is being served by lanes, of which there are 64 at most, from these lists and from a store as it was seen then, by the
 -- events of this run: with this journal, these broken steps and these replies so far, each lane's request in turn stands where its task
--- does, those behind it begin; and unless the store is stopped, the lanes account for it, no storage file is doomed, and no call of the
--- disk has failed but for those that read faults tell. A script with a fetch is served so from a settled disk alone, and no message that
--- it reads is damaged.
+-- does, those behind it begin; and unless the store is stopped, the lanes account for it, and no call of the disk has failed but for those
+-- that read faults tell. A script with a fetch is served so from a settled disk alone, and no message that it reads is damaged.
 pub record IsGoing {D : Type 0} (start : Lists) (script : Requests) (run : Run) (journal : List JournalStep) (broken : Broken) (replies : List (Option Reply)) (began : Seen) (store : StoreValue D) (history : Option History) (faults : Faults) (rows : List LaneRow) : Type 0 where
   pub serving : IsServing (stands_in store history) start script run journal broken replies began (seen_in store history faults) (lanes_of rows)
   pub lanes : HaveLanes script (lanes_of rows)
   pub few : length rows ≤ 64
   pub waiting : (k : ℕ) (row : LaneRow) → slice_get rows k ≡ Some row → AreWaiting script (k + 1) row.waiting
   pub accounts : store.stopped ≡ false → LanesAccount claims_at IsReadyTask store history (lanes_of rows)
-  pub undoomed : store.stopped ≡ false → DoomsNothing store
   pub quiet : store.stopped ≡ false → All (λ event. event.refused ≢ Some refusal.ReadFault) run.events → NoFault began.faults faults
   pub fetched : (place lane : ℕ) (name : List ℕ) (uid : Uid) → slice_get script place ≡ Some (lane, request.Fetch name uid) → IsSettledFor start began.history
   pub undamaged : AreUndamaged script run replies

@@ -13,7 +13,7 @@ use Rattle.store_core.specs.Value.{StoreValue}
 use Rattle.task_claims.specs.Claims.{ClaimsNothing, MovesClaims}
 use Rattle.task_claims.specs.Leaving.{LeavesOthers}
 use Rattle.task_steps.specs.Step.{ended_by}
-use Rattle.lane_tasks.specs.Clause.{DoomsNothing, TaskKeeps, StepsTask}
+use Rattle.lane_tasks.specs.Clause.{TaskKeeps, StepsTask}
 use Rattle.lane_tasks.specs.Tasks.{IsReadyTask, claims_at, did_of, work_left}
 use Rattle.lane_tasks.specs.declared.task.Task.{Task}
 use Rattle.lanes.specs.declared.lane.LaneEvent.{LaneEvent}
@@ -48,7 +48,7 @@ after_event None queued waiting = record { current = Some queued; waiting = wait
 after_event (Some given) queued waiting = next_in_turn waiting
 
 -- An event of a request's task is one by the clause of a task's step: what it found, what it did and claims, what it keeps of the store
--- and its disk, and whether it goes on. The last three are of every open store and its disk.
+-- and its disk, and whether it goes on. The last five are of every open store and its disk.
 pub record TaskGoesOn {D : Type 0} (queued : Queued) (next : Task) (event : LaneEvent) (old new : StoreValue D) (before after : Option History) (first second : Faults) : Type 0 where
   pub place_is : event.place ≡ queued.place
   pub did_is : event.did ≡ did_of next
@@ -60,10 +60,11 @@ pub record TaskGoesOn {D : Type 0} (queued : Queued) (next : Task) (event : Lane
   pub left : event.ended ≡ progress.More → work_left next new < work_left queued.task old
   pub stopped : new.stopped ≡ true → event.ended ≡ progress.Done (reply.Refused refusal.Stopped)
   pub halted : old.stopped ≡ true → new.stopped ≡ true
-  pub undoomed : new.stopped ≡ false → DoomsNothing old → DoomsNothing new
   pub keeps : TaskKeeps queued.task next old new before after first second (ended_by event.ended)
   pub store : IsStore before old
   pub ordered : AreFilesInOrder old.files
+  pub store_then : IsStore after new
+  pub ordered_then : AreFilesInOrder new.files
   pub image : IfTold before (λ disk. IsImage disk (λ name. reading (disk name)))
 
 -- the request, if it goes on

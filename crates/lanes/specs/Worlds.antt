@@ -20,7 +20,6 @@ use Rattle.task_steps.specs.Step.{Seen, ended_by}
 use Rattle.attach_detach.specs.Prepared.{IsPrepared}
 use Rattle.attach_detach.specs.declared.message.Prepared.{Prepared}
 use Rattle.mdbox_base.specs.declared.requests.Request.TheVariants as request
-use Rattle.lane_tasks.specs.Clause.{DoomsNothing}
 use Rattle.lane_tasks.specs.Tasks.{BeginsTask, HasTask, IsReadyTask, claims_at, work_left}
 use Rattle.lanes.specs.Going.{AddsEvent, AreFreshRows, IsGoing, WaitsWithTask}
 use Rattle.lanes.specs.Rows.{LaneRow, RowGoesOn, lanes_of, queue_in}
@@ -191,13 +190,12 @@ IsFreshWorld store parts history world = (moment : ℕ) × IsMoment history mome
 -- ---- what every world keeps
 
 -- Whatever script it is of: it has 64 lanes at the most, the requests that wait begin, and unless the store is stopped, the lanes
--- account for it and no storage file is doomed. There are 100,000 requests at the most. Each has a place among the replies, and waits in
--- one lane, once, as long as it has none; each lane has its count; and a world that was finished has no request left.
+-- account for it. There are 100,000 requests at the most. Each has a place among the replies, and waits in one lane, once, as long as it
+-- has none; each lane has its count; and a world that was finished has no request left.
 pub record IsSoundWorld {D : Type 0} (history : Option History) (world : WorldValue D) : Type 0 where
   pub few : length world.rows ≤ 64
   pub waiting : (k : ℕ) (row : LaneRow) → slice_get world.rows k ≡ Some row → All BeginsSome row.waiting
   pub accounts : world.store.stopped ≡ false → LanesAccount claims_at IsReadyTask world.store history (lanes_of world.rows)
-  pub undoomed : world.store.stopped ≡ false → DoomsNothing world.store
   pub places : (k : ℕ) (row : LaneRow) → slice_get world.rows k ≡ Some row → All (λ place. place < length world.replies) (queue_in row)
   pub once : (place : ℕ) (given : Option Reply) → slice_get world.replies place ≡ Some given → times_waiting place world.rows ≡ (if is_some given then 0 else 1)
   pub short : length world.replies ≤ 100000

@@ -1,7 +1,7 @@
 // A lane: the request in turn with its task, and those behind it.
 ghost use Rattle.std.specs.Prelude.{◌≡◌, ◌≢◌, true, false, [], Some, None, IfSome, IsNone, OnOk};
 ghost use Rattle.lane_tasks.specs.Tasks.{IsReadyTask};
-ghost use Rattle.lane_tasks.specs.Clause.{HasTaskRoom};
+ghost use Rattle.mail_fetch.specs.Claims.{HasUseRoom};
 ghost use Rattle.lane_tasks.specs.declared.task.Task.{Task as TaskValue};
 ghost use Rattle.task_steps.specs.Step.{ended_by};
 ghost use Rattle.lanes.specs.Worlds.{queued_in};
@@ -94,7 +94,7 @@ impl Lane {
     /// Does the next event of the request in turn; if that answers it, the next one is in turn. None if the lane has no request left.
     pub fn advance<D: Disk>(&mut self, store: &mut Store<D>) -> Option<LaneEvent>
         requires ready { store.old.stopped ≡ false → IsReadyRow self.old store.old (D.history store.old.disk) }
-        requires room { store.old.stopped ≡ false → HasTaskRoom store.old }
+        requires room { store.old.stopped ≡ false → HasUseRoom store.old }
         ensures some { IfSome result (λ event. RowGoesOn self.old self.new event store.old store.new (D.history store.old.disk) (D.history store.new.disk) (D.faults store.old.disk) (D.faults store.new.disk)) }
         ensures none { IsNone result → (self.old.current ≡ None) × (self.old.waiting ≡ []) × (self.new ≡ self.old) × (store.new ≡ store.old) }
     {
@@ -124,12 +124,13 @@ fn let_go<T: Drop>(_answered: T) {}
 /// Does the next event of a request's task. The request is given back if it goes on.
 fn event_of<D: Disk>(first: Queued, store: &mut Store<D>) -> (LaneEvent, Option<Queued>)
     requires ready { store.old.stopped ≡ false → IsReadyTask first.task store.old (D.history store.old.disk) }
-    requires room { store.old.stopped ≡ false → HasTaskRoom store.old }
+    requires room { store.old.stopped ≡ false → HasUseRoom store.old }
     ensures { (next : TaskValue) × TaskGoesOn first next result.0 store.old store.new (D.history store.old.disk) (D.history store.new.disk) (D.faults store.old.disk) (D.faults store.new.disk) × (result.1 ≡ goes_on_by (ended_by result.0.ended) (record first { task = next })) }
 {
     store.facts();
     let mut first = first;
     let ended = first.task.step(store);
+    store.facts();
     let event = LaneEvent {
         place: first.place,
         did: first.task.did(),

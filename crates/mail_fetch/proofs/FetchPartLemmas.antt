@@ -13,9 +13,9 @@ use Rattle.mdbox_base.specs.declared.replies.Refusal.TheVariants as refusal
 use Rattle.mdbox_base.specs.declared.replies.Reply.{Reply}
 use Rattle.mdbox_base.specs.declared.requests.Request.{Request}
 use Rattle.mdbox_base.specs.declared.requests.Request.TheVariants as request
-use Rattle.list_machine.specs.Run.{EventPart, First, ReadsPiece, Unpins, RunEvent, Run, Pin, own_events, is_unpinning, is_unpinning_part, has_unpinned, is_doomed, is_pinned}
+use Rattle.list_machine.specs.Run.{EventPart, First, ReadsPiece, Unpins, RunEvent, Run, Pin, own_events, is_unpinning, is_unpinning_part, has_unpinned}
 use Rattle.journal.specs.Journal.{refusal_in}
-use Rattle.journal.specs.Events.{Around, next_part, behind_event, behind_fetch, behind_refused, is_piece, piece_left, leaves_doomed, last_refusal}
+use Rattle.journal.specs.Events.{Around, next_part, behind_event, behind_fetch, behind_refused, is_piece, piece_left, last_refusal}
 use Rattle.mail_fetch.proofs.OwnPinLemmas.{pins_at_all, own_pins}
 use Rattle.mail_fetch.specs.Parts.{parts_to_read, pieces_left}
 use Rattle.mail_fetch.specs.Task.{one_pin}
@@ -113,7 +113,7 @@ left_by_counts from own behind place run h read is =
         omega (arith, a, here, rest)
 
 -- the request of the last of its own events
-last_request : (place : ℕ) (run : Run) (front : List RunEvent) (last : RunEvent) → own_events place run ≡ front ++ last ∷ [] → last.request ≡ place
+pub last_request : (place : ℕ) (run : Run) (front : List RunEvent) (last : RunEvent) → own_events place run ≡ front ++ last ∷ [] → last.request ≡ place
 last_request place run front last is = last_of_all (λ e. e.request ≡ place) front last (subst (λ (es : List RunEvent). All (λ e. e.request ≡ place) es) is (own_requests place run.events))
 
 -- what stands behind events that read pieces, none of which was refused
@@ -141,10 +141,10 @@ last_one pin (e ∷ f ∷ behind) part none read =
     last_of x [] h = let k = All-head (ReadPiece None) x [] h in ([], x, (refl, inr k.part, k.refused_is))
     last_of x (y ∷ ys) h = let r = last_of y ys (All-tail (ReadPiece None) x (y ∷ ys) h) in (x ∷ r.0, r.1, (ap (λ (es : List RunEvent). x ∷ es) r.2.0, r.2.1, r.2.2))
 
-less : (a b : ℕ) → a < b → nat_lt a b ≡ true
+pub less : (a b : ℕ) → a < b → nat_lt a b ≡ true
 less a b l = grind (arith, common_steps, l)
 
-not_less : (a b : ℕ) → b ≤ a → nat_lt a b ≡ false
+pub not_less : (a b : ℕ) → b ≤ a → nat_lt a b ≡ false
 not_less a b l = grind (arith, common_steps, l)
 
 -- A piece is read next, while one is left.
@@ -232,10 +232,10 @@ holds_pin from given place run (inr (why, front, last, given_is, may, h, read, r
 }
 
 -- its own events pin no other file
-pub own_files : (from : StoredAt) (given : Reply) (place : ℕ) (run : Run) → UnpinsNext from given (own_events place run) → All (λ e. All (λ p. p.file ≡ from.file.0) e.pins) (own_events place run)
-own_files from given place run h = elim h [
-  | inl (fetched, (behind, p, read, many)) ↦ pins_of_file from (own_events place run) behind p (none_pinned None behind read)
-  | inr (why, front, last, given_is, may, p, read, refused) ↦ pins_of_file from (own_events place run) (front ++ last ∷ []) p
+pub own_files : (from : StoredAt) (given : Reply) (own : List RunEvent) → UnpinsNext from given own → All (λ e. All (λ p. p.file ≡ from.file.0) e.pins) own
+own_files from given own h = elim h [
+  | inl (fetched, (behind, p, read, many)) ↦ pins_of_file from own behind p (none_pinned None behind read)
+  | inr (why, front, last, given_is, may, p, read, refused) ↦ pins_of_file from own (front ++ last ∷ []) p
       (All-append (λ (x : RunEvent). x.pins ≡ []) front (last ∷ []) (none_pinned None front read) (All-cons (λ (x : RunEvent). x.pins ≡ []) last [] refused.pinned (All-nil (λ (x : RunEvent). x.pins ≡ []))))
 ]
   where
@@ -246,19 +246,3 @@ own_files from given place run h = elim h [
         subst (All P) (sym p.own_are)
         (All-cons P p.pin behind (subst (All Q) (sym p.pins) (All-cons Q (record { file = from.file.0; pieces = pieces_left (parts_to_read from); instances = from.instances }) [] refl (All-nil Q)))
         (All-weaker (λ (e : RunEvent). e.pins ≡ []) P (λ e n. subst (All Q) (sym n) (All-nil Q)) behind none))
-
--- a file that isn't doomed isn't removed
-pub none_doomed : (request file : ℕ) (run : Run) → All (λ e. All (λ p. p.file ≡ file) e.pins) (own_events request run) → is_doomed run file ≡ false → leaves_doomed request run ≡ false
-none_doomed request file run own none = each_event (own_events request run) own
-  where
-    each_pin : (ps : List Pin) → All (λ p. p.file ≡ file) ps → list_any (λ p. is_doomed run p.file && not (is_pinned run p.file)) ps ≡ false
-    each_pin [] all = refl
-    each_pin (p ∷ ps) all =
-        ap (λ (b : Bool). (b && not (is_pinned run p.file)) || list_any (λ (x : Pin). is_doomed run x.file && not (is_pinned run x.file)) ps) (ap (is_doomed run) (All-head (λ (x : Pin). x.file ≡ file) p ps all) ∙ none)
-        ∙ each_pin ps (All-tail (λ (x : Pin). x.file ≡ file) p ps all)
-
-    each_event : (es : List RunEvent) → All (λ e. All (λ p. p.file ≡ file) e.pins) es → list_any (λ e. list_any (λ p. is_doomed run p.file && not (is_pinned run p.file)) e.pins) es ≡ false
-    each_event [] all = refl
-    each_event (e ∷ es) all =
-        ap (λ (b : Bool). b || list_any (λ (x : RunEvent). list_any (λ (p : Pin). is_doomed run p.file && not (is_pinned run p.file)) x.pins) es) (each_pin e.pins (All-head (λ (x : RunEvent). All (λ p. p.file ≡ file) x.pins) e es all))
-        ∙ each_event es (All-tail (λ (x : RunEvent). All (λ p. p.file ≡ file) x.pins) e es all)

@@ -33,7 +33,7 @@ pub left_on : (region read : RegionValue) (piece : List ℕ) → HasPieceLeft (s
 left_on region read piece left same some =
     (some_left (pieces_left read.left) some, subst (λ (r : RegionValue). All HasSomeOctets r.left) (sym same) (octets_after region.left left.1))
 
-pub fewer_on : (region read : RegionValue) (piece : List ℕ) → HasPieceLeft (stage.Reading region) → read ≡ with_piece region piece → pieces_left read.left + 1 < pieces_left region.left + 1
+pub fewer_on : (region read : RegionValue) (piece : List ℕ) → HasPieceLeft (stage.Reading region) → read ≡ with_piece region piece → pieces_left read.left + 2 < pieces_left region.left + 2
 fewer_on region read piece left same =
     let one = pieces_after region.left left.1 left.0 in
     let now = ap (λ (r : RegionValue). pieces_left r.left) same in

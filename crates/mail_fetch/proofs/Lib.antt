@@ -7,12 +7,16 @@ pub mod FirstEventLemmas
 pub mod HoldLemmas
 pub mod InstanceLemmas
 pub mod LastPieceLemmas
+pub mod LastPinLemmas
 pub mod MessageLemmas
 pub mod OwnPinLemmas
 pub mod PartLemmas
 pub mod PieceLemmas
 pub mod ReadyLemmas
 pub mod RecordLemmas
+pub mod RemovalCallLemmas
+pub mod RemovalLemmas
+pub mod RemovalSeenLemmas
 pub mod StableLemmas
 pub mod StageLemmas
 pub mod StepLemmas

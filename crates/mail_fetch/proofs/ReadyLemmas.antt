@@ -79,6 +79,7 @@ at_disk (stage.Reading region) store disk ready = record {
   own = own_at region.from store disk ready.own;
 }
 at_disk (stage.Unpinning from given) store disk ready = own_at from store disk ready
+at_disk (stage.Removing file given) store disk ready = record { doomed = ready.doomed; unpinned = ready.unpinned; elsewhere = ready.elsewhere }
 
 pub ready_on : {D : Type 0} → (region : RegionValue) (next : FetchStage) (old new : StoreValue D) (history : Option History) (began faults : Faults) → new ≡ record old { disk = new.disk } → IsPieceRead region next history began faults → IsReadyToRead region old → IsReadyToFetch next new
 ready_on region next old new history began faults same read ready =

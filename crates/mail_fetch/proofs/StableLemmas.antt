@@ -1,13 +1,13 @@
 -- A fetch stays ready beside every event of every other task.
-use Rattle.std.proofs.Common.{◌≡◌, ◌≢◌, ◌≤◌, ◌+◌, ◌==◌, ℕ, Bool, true, false, List, [], ◌∷◌, ◌++◌, length, map, get_or, Option, Some, None, refl, sym, ◌∙◌, ap, subst, arith, All}
-use Rattle.std.specs.Prelude.{if◌then◌else◌}
+use Rattle.std.proofs.Common.{◌≡◌, ◌≢◌, ◌≤◌, ◌+◌, ◌==◌, ◌&&◌, ℕ, Bool, true, false, not, cond, List, [], ◌∷◌, ◌++◌, length, map, get_or, Option, Some, None, refl, sym, ◌∙◌, ap, subst, arith, All}
+use Rattle.std.specs.Prelude.{filter, nat_lt, if◌then◌else◌}
 use Rattle.std.specs.Str.{bytes_eq}
-use Rattle.std.proofs.lemmas.Bool.{cond-true, eq-eqb, ne_eqb}
+use Rattle.std.proofs.lemmas.Bool.{cond-true, eq-eqb, eqb-true, ne_eqb}
 use Rattle.std.proofs.lemmas.List.{length-append}
 use Rattle.std.proofs.lemmas.List.Elements.{All-cons, All-nil, All-head, All-tail}
 use Rattle.std.proofs.lemmas.List.Sums.{sum_by-cons}
 use Rattle.std.proofs.lemmas.Slice.Eq.{bytes_eq-Decides}
-use Rattle.disk_model.specs.Disk.{Files, History}
+use Rattle.disk_model.specs.Disk.{Faults, Files, History}
 use Rattle.disk_model.specs.declared.name.FileName.TheVariants.{Mail}
 use Rattle.mdbox_base.specs.declared.entries.InstRow.{InstRow}
 use Rattle.mdbox_base.specs.declared.ids.FileNo.{FileNo}
@@ -15,24 +15,30 @@ use Rattle.mdbox_base.specs.declared.ids.InstId.{InstId}
 use Rattle.mdbox_base.specs.declared.replies.Reply.{Reply}
 use Rattle.model_meaning.specs.MapMeaning.{MapRecord}
 use Rattle.model_store.specs.Settled.{files_of}
-use Rattle.list_machine.specs.Run.{Run, RunEvent, and_then}
+use Rattle.list_machine.specs.Run.{Run, RunEvent, and_then, is_pinned, own_events}
+use Rattle.journal.specs.Events.{leaves_doomed}
 use Rattle.journal.proofs.OwnEventLemmas.{own_other}
 use Rattle.sis_store.specs.OnDisk.{instance_file}
+use Rattle.storage_files.specs.Files.{is_doomed_in, pins_in}
 use Rattle.storage_files.specs.OnDisk.{piece_read}
 use Rattle.store_core.specs.Keeping.{holds_of}
+use Rattle.store_core.specs.Removing.{AreElsewhere}
 use Rattle.store_core.specs.StoreInstances.{IsKnownRow}
 use Rattle.store_core.specs.Value.{StoreValue}
 use Rattle.store_core.proofs.MailChangeLemmas.{part_behind}
-use Rattle.task_claims.specs.Claims.{Held, Pinned}
-use Rattle.task_claims.specs.Leaving.{HasRegionOctets, LeavesInstance}
+use Rattle.task_claims.specs.Claims.{Held, Pinned, Removing, one_if}
+use Rattle.task_claims.specs.Leaving.{HasRegionOctets, LeavesInstance, but_count}
 use Rattle.task_claims.specs.Stable.{Beside, IsStable}
-use Rattle.task_claims.proofs.LeftLemmas.{claim_left, instance_left, pinned_left}
+use Rattle.task_claims.proofs.LeftLemmas.{claim_left, instance_left, pinned_left, removing_left}
 use Rattle.task_claims.proofs.StoredLemmas.{KeepsRow, stores_on}
+use Rattle.task_steps.specs.Step.{HasComeTo}
+use Rattle.task_steps.proofs.SeenLemmas.{pinned_as}
 use Rattle.mail_fetch.specs.Claims.{HasClaimed, IsClaimedPart, IsClaimedTo, IsReadyToFetch, IsReadyToRead, ReadsStored, claims_of_pinned, fetch_claims}
 use Rattle.mail_fetch.specs.Parts.{KnowsSource, instance_part, part_read, parts_read, parts_to_read, pieces_left, region_part, source_file}
 use Rattle.mail_fetch.specs.Region.{RegionValue}
-use Rattle.mail_fetch.specs.Stages.{HasReadAllBut, IsAtFetch, IsFrontOfStored, Reading, UnpinsNext}
-use Rattle.mail_fetch.specs.Task.{one_pin}
+use Rattle.mail_fetch.specs.Removal.{CanRemove, claims_of_removal}
+use Rattle.mail_fetch.specs.Stages.{HasReadAllBut, IsAtFetch, IsFrontOfStored, Reading, RemovesNext, SparesFile, UnpinsNext}
+use Rattle.mail_fetch.specs.Task.{one_pin, seen_in}
 use Rattle.mail_fetch.specs.declared.parts.Part.{Part}
 use Rattle.mail_fetch.specs.declared.parts.Source.{Source}
 use Rattle.mail_fetch.specs.declared.parts.Source.TheVariants as source
@@ -40,6 +46,7 @@ use Rattle.mail_fetch.specs.declared.parts.StoredAt.{StoredAt}
 use Rattle.mail_fetch.specs.declared.task.FetchStage.{FetchStage}
 use Rattle.mail_fetch.specs.declared.task.FetchStage.TheVariants as stage
 use Rattle.mail_fetch.proofs.HoldLemmas.{holds_few}
+use Rattle.mail_fetch.proofs.LastPinLemmas.{PinsFile, leaves_is, leaves_still, removes_pins}
 use Rattle.mail_fetch.proofs.PartLemmas.{reads_of_parts}
 
 -- ---- its own claims
@@ -99,9 +106,46 @@ still_known old new before after (source.Instance row) left = left.known
 parts_left : {D : Type 0} → (region : RegionValue) (old new : StoreValue D) (before after : Option History) → Beside (fetch_claims (stage.Reading region)) old new before after → IsReadyToRead region old → All (λ part. LeavesSource old new before after part.source) region.left
 parts_left region old new before after b ready = λ i d lt. let part = get_or region.left i d in source_left region old new before after part.source (part.offset + part.size) b (ready.parts i d lt) (ready.left i d lt)
 
+-- Of a file that it is to remove.
+own_removal : (file : ℕ) → 1 ≤ claims_of_removal file (Removing file)
+own_removal file = let e : claims_of_removal file (Removing file) ≡ 1 = ap one_if (eq-eqb file file refl) in omega (arith, e)
+
+none_within : (file : ℕ) (rows : List MapRecord) → AreElsewhere file rows → filter (λ row. row.file == file) (map but_count rows) ≡ []
+none_within file [] h = refl
+none_within file (row ∷ rows) h =
+    ap (λ (b : Bool). cond b (but_count row ∷ filter (λ (r : MapRecord). r.file == file) (map but_count rows)) (filter (λ (r : MapRecord). r.file == file) (map but_count rows))) (ne_eqb row.file file (All-head (λ (r : MapRecord). r.file ≢ file) row rows h))
+    ∙ none_within file rows (All-tail (λ (r : MapRecord). r.file ≢ file) row rows h)
+
+elsewhere_by : (file : ℕ) (rows : List MapRecord) → filter (λ row. row.file == file) (map but_count rows) ≡ [] → AreElsewhere file rows
+elsewhere_by file [] e = All-nil (λ (r : MapRecord). r.file ≢ file)
+elsewhere_by file (row ∷ rows) e = by_test (row.file == file) refl (elsewhere_by file rows)
+  where
+    by_test : (b : Bool) → (row.file == file) ≡ b → (filter (λ (r : MapRecord). r.file == file) (map but_count rows) ≡ [] → AreElsewhere file rows) → AreElsewhere file (row ∷ rows)
+    by_test true t rest =
+        absurd (let k : but_count row ∷ filter (λ (r : MapRecord). r.file == file) (map but_count rows) ≡ [] =
+        sym (ap (λ (b : Bool). cond b (but_count row ∷ filter (λ (r : MapRecord). r.file == file) (map but_count rows)) (filter (λ (r : MapRecord). r.file == file) (map but_count rows))) t) ∙ e in cc k)
+    by_test false t rest =
+        All-cons (λ (r : MapRecord). r.file ≢ file) row rows (λ same. let k : true ≡ false = sym (eq-eqb row.file file same) ∙ t in cc k)
+        (rest (sym (ap (λ (b : Bool). cond b (but_count row ∷ filter (λ (r : MapRecord). r.file == file) (map but_count rows)) (filter (λ (r : MapRecord). r.file == file) (map but_count rows))) t) ∙ e))
+
+both_are : (a b : Bool) → (a && b) ≡ true → (a ≡ true) × (b ≡ true)
+both_are true b e = (refl, e)
+both_are false b e = absurd (let k : false ≡ true = e in cc k)
+
+removable_left : {D : Type 0} → (file : ℕ) (old new : StoreValue D) (before after : Option History) → Beside (claims_of_removal file) old new before after → CanRemove file old → CanRemove file new
+removable_left file old new before after b can =
+    let left = removing_left (claims_of_removal file) old new before after file b (own_removal file) in
+    let is = both_are (is_doomed_in file new.files.files) (pins_in file new.files.files == 0) left.1 in
+    record {
+      doomed = is.0;
+      unpinned = eqb-true (pins_in file new.files.files) 0 is.1;
+      elsewhere = elsewhere_by file new.map.records (left.0.records ∙ none_within file old.map.records can.elsewhere);
+    }
+
 pub fetch_stable : {D : Type 0} → (now : FetchStage) → IsStable {D = D} (fetch_claims now) (λ store history. IsReadyToFetch now store)
 fetch_stable stage.First old new before after b ready = tt
 fetch_stable (stage.Unpinning from given) old new before after b ready = own_left from old new before after b ready
+fetch_stable (stage.Removing file given) old new before after b ready = removable_left file.0 old new before after b ready
 fetch_stable (stage.Reading region) old new before after b ready = record {
   parts = ready.parts;
   left = λ i d lt. still_known old new before after (get_or region.left i d).source (parts_left region old new before after b ready i d lt);
@@ -208,6 +252,7 @@ reads_stay region octets old new (Some was) (Some is) b ready f =
 pub stored_stable : {D : Type 0} → (now : FetchStage) (octets : List ℕ) → IsStable {D = D} (fetch_claims now) (λ store history. IsReadyToFetch now store × ReadsStored now octets history)
 stored_stable stage.First octets old new before after b ready = (tt, tt)
 stored_stable (stage.Unpinning from given) octets old new before after b ready = (fetch_stable (stage.Unpinning from given) old new before after b ready.0, tt)
+stored_stable (stage.Removing file given) octets old new before after b ready = (fetch_stable (stage.Removing file given) old new before after b ready.0, tt)
 stored_stable (stage.Reading region) octets old new before after b ready = (fetch_stable (stage.Reading region) old new before after b ready.0, reads_stay region octets old new before after b ready.0 ready.1)
 
 -- ---- how much it claims
@@ -215,6 +260,7 @@ stored_stable (stage.Reading region) octets old new before after b ready = (fetc
 pub claims_few : {D : Type 0} → (now : FetchStage) (store : StoreValue D) (id : InstId) → IsReadyToFetch now store → fetch_claims now (Held id) ≤ 65535
 claims_few stage.First store id ready = omega arith
 claims_few (stage.Reading region) store id ready = let few = holds_few region.from.instances id in let most = ready.own.few in omega (arith, few, most)
+claims_few (stage.Removing file given) store id ready = omega arith
 claims_few (stage.Unpinning from given) store id ready = let few = holds_few from.instances id in let most = ready.few in omega (arith, few, most)
 
 one_at_most : (b : Bool) → (if b then 1 else 0) ≤ 1
@@ -224,16 +270,31 @@ one_at_most false = omega arith
 pub claims_one_pin : (now : FetchStage) (file : ℕ) → fetch_claims now (Pinned file) ≤ 1
 claims_one_pin stage.First file = omega arith
 claims_one_pin (stage.Reading region) file = one_at_most (region.from.file.0 == file)
+claims_one_pin (stage.Removing removed given) file = omega arith
 claims_one_pin (stage.Unpinning from given) file = one_at_most (from.file.0 == file)
 
 -- ---- where it stands
 
-pub stay_beside : {D : Type 0} → (now : FetchStage) (old new : StoreValue D) (before later : Option History) (run : Run) (event : RunEvent) (place : ℕ) (said : List Reply) → event.request ≢ place → (new.stopped ≡ false → old.stopped ≡ false) → (new.stopped ≡ false → Beside (fetch_claims now) old new before later × IsReadyToFetch now old)
+pub stay_beside : {D : Type 0} → (now : FetchStage) (old new : StoreValue D) (before later : Option History) (faults : Faults) (run : Run) (event : RunEvent) (place : ℕ) (said : List Reply) → event.request ≢ place → (new.stopped ≡ false → old.stopped ≡ false)
+    → (new.stopped ≡ false → Beside (fetch_claims now) old new before later × IsReadyToFetch now old × HasComeTo (and_then run event) (seen_in new later faults)) → (new.stopped ≡ true → SparesFile now event)
     → IsAtFetch now old.stopped before run place said → IsAtFetch now new.stopped later (and_then run event) place said
-stay_beside stage.First old new before later run event place said other ran beside stood = (own_other place run event (ne_eqb event.request place other) ∙ stood.0, stood.1)
-stay_beside (stage.Reading region) old new before later run event place said other ran beside stood = (
+stay_beside stage.First old new before later faults run event place said other ran beside spares stood = (own_other place run event (ne_eqb event.request place other) ∙ stood.0, stood.1)
+stay_beside (stage.Reading region) old new before later faults run event place said other ran beside spares stood = (
   subst (HasReadAllBut region.from (pieces_left region.left)) (sym (own_other place run event (ne_eqb event.request place other))) stood.0,
   (stood.1.0, stood.1.1, λ runs. let b = beside runs in reads_stay region stood.1.0 old new before later b.0 b.1 (stood.1.2 (ran runs))),
 )
-stay_beside (stage.Unpinning from given) old new before later run event place said other ran beside stood =
+stay_beside (stage.Unpinning from given) old new before later faults run event place said other ran beside spares stood =
     (subst (UnpinsNext from given) (sym (own_other place run event (ne_eqb event.request place other))) stood.0, stood.1)
+stay_beside (stage.Removing file given) old new before later faults run event place said other ran beside spares stood =
+    (subst (RemovesNext file.0 given) (sym (own_other place run event (ne_eqb event.request place other))) stood.0, by_stop new.stopped refl, stood.2)
+  where
+    still_own : PinsFile file.0 (own_events place (and_then run event))
+    still_own = subst (PinsFile file.0) (sym (own_other place run event (ne_eqb event.request place other))) (removes_pins file.0 given (own_events place run) stood.0)
+
+    by_stop : (b : Bool) → new.stopped ≡ b → leaves_doomed place (and_then run event) ≡ true
+    by_stop true stopped = let s = spares stopped in leaves_still run event place file.0 (removes_pins file.0 given (own_events place run) stood.0) other s.0 s.1 stood.1
+    by_stop false runs =
+        let b = beside runs in
+        let can = removable_left file.0 old new before later b.0 b.1 in
+        leaves_is place (and_then run event) file.0 still_own
+        ∙ (ap (λ (d : Bool). d && not (is_pinned (and_then run event) file.0)) ((b.2.keeps runs).doomed file.0 ∙ can.doomed) ∙ ap (λ (d : Bool). not d) (pinned_as (and_then run event) (seen_in new later faults) file.0 b.2 runs ∙ ap (λ (n : ℕ). nat_lt 0 n) can.unpinned))

@@ -1,6 +1,6 @@
 -- The clause of a fetch's step, event by event.
-use Rattle.std.proofs.Common.{◌≡◌, ◌≤◌, ◌<◌, ◌+◌, ◌-◌, ℕ, Bool, true, false, cond, List, [], ◌∷◌, ◌++◌, length, Option, Some, None, refl, sym, ◌∙◌, ap, subst, arith, inl, inr, length-append}
-use Rattle.std.specs.Prelude.{All, ◌⊎◌, ◌≢◌, is_some, if◌then◌else◌}
+use Rattle.std.proofs.Common.{◌≡◌, ◌≤◌, ◌<◌, ◌+◌, ◌-◌, ◌&&◌, ℕ, Bool, true, false, not, cond, List, [], ◌∷◌, ◌++◌, length, Option, Some, None, refl, sym, ◌∙◌, ap, subst, arith, inl, inr, length-append}
+use Rattle.std.specs.Prelude.{All, ◌⊎◌, ◌≢◌, is_some, nat_lt, sum_by, if◌then◌else◌}
 use Rattle.std.specs.List.{list_any}
 use Rattle.std.specs.Option.{IfSome, option_map, option_map_or, option_or}
 use Rattle.std.proofs.lemmas.List.Elements.{All-nil, All-push}
@@ -33,7 +33,7 @@ use Rattle.model_store.specs.Safe.{IsThereWhole}
 use Rattle.model_store.specs.Settled.{files_of}
 use Rattle.model_store.specs.Stands.{AreMailboxes, StoresMessage}
 use Rattle.model_store.proofs.StandsLemmas.{map_same}
-use Rattle.list_machine.specs.Run.{First, ReadsPiece, Unpins, RemovesFile, Pin, RunEvent, Run, and_then, own_events, is_unpinning, has_unpinned}
+use Rattle.list_machine.specs.Run.{First, ReadsPiece, Unpins, RemovesFile, Pin, RunEvent, Run, and_then, own_events, is_pinned, is_unpinning, has_unpinned}
 use Rattle.list_machine.specs.Machine.{PartAnswers, is_step}
 use Rattle.journal.specs.Journal.{refusal_in, IsReplyOf}
 use Rattle.journal.specs.Events.{Around, MayMeet, behind_event, piece_left, leaves_doomed, last_refusal, pieces_to_read}
@@ -43,8 +43,8 @@ use Rattle.storage_files.specs.Files.{end_in, is_doomed_in, pins_in}
 use Rattle.store_core.specs.Running.{IsStore}
 use Rattle.store_core.specs.Value.{StoreValue, indexes_of, list_named}
 use Rattle.task_claims.specs.Claims.{AreIn}
-use Rattle.task_steps.specs.Step.{DidEvent, Seen, ShowsSeen, HasComeTo, IsKept, and_told, ended_by}
-use Rattle.task_steps.proofs.SeenLemmas.{pins_still, doomed_still, not_begun_stays}
+use Rattle.task_steps.specs.Step.{DidEvent, Seen, ShowsSeen, HasComeTo, and_told, ended_by, pins_of}
+use Rattle.task_steps.proofs.SeenLemmas.{doomed_still, pinned_is, pins_still}
 use Rattle.task_steps.proofs.OneEventLemmas.{when_stopped, memory_is, some_given, never_more}
 use Rattle.mail_fetch.specs.Claims.{claims_of_pinned, held_for, used_by, with_claims, without_claims}
 use Rattle.mail_fetch.specs.Clause.{CanFetch, FetchSteps, ReadsSafe}
@@ -52,17 +52,20 @@ use Rattle.mail_fetch.specs.Events.{fetch_refusal, IsAbsent, IsBegun, IsStoredBy
 use Rattle.mail_fetch.specs.Failed.{HasFailedRead}
 use Rattle.mail_fetch.specs.Parts.{left_after, parts_to_read, pieces_left}
 use Rattle.mail_fetch.specs.Region.{stored_at, RegionValue, unread, IsReplyFor}
-use Rattle.mail_fetch.specs.Stages.{ReadPiece, HasPinned, HasReadAllBut, IsPieceRefusal, StoresListed, UnpinsNext, IsFrontOfStored, Reading, IsTrueReply, IsAtFetch}
+use Rattle.mail_fetch.specs.Removal.{is_last_pin}
+use Rattle.mail_fetch.specs.Stages.{ReadPiece, HasPinned, HasReadAllBut, IsPieceRefusal, RemovesNext, SparesFile, StoresListed, UnpinsNext, IsFrontOfStored, Reading, IsTrueReply, IsAtFetch}
 use Rattle.mail_fetch.specs.Task.{HasPieceLeft, fetch_did, pins_kept_in, refusing_did, one_pin, seen_in}
 use Rattle.mail_fetch.specs.declared.parts.StoredAt.{StoredAt}
 use Rattle.mail_fetch.specs.declared.task.FetchStage.{FetchStage}
 use Rattle.mail_fetch.specs.declared.task.FetchStage.TheVariants as stage
 use Rattle.mail_fetch.proofs.InstanceLemmas.{pieces_told}
-use Rattle.mail_fetch.proofs.OwnPinLemmas.{pins_begin, pins_end}
+use Rattle.mail_fetch.proofs.LastPinLemmas.{PinsFile, last_is, leaves_is, leaves_still, next_removes, pins_file, pins_file_more, removes_pins}
+use Rattle.mail_fetch.proofs.OwnPinLemmas.{pins_at_all, pins_begin, pins_end}
 use Rattle.mail_fetch.proofs.PartLemmas.{pieces_after}
-use Rattle.mail_fetch.proofs.FetchPartLemmas.{last_with, next_reads, next_unpins, unpins_by, holds_pin, own_files, none_doomed}
+use Rattle.mail_fetch.proofs.FetchPartLemmas.{last_with, next_reads, next_unpins, unpins_by, holds_pin}
 use Rattle.mail_fetch.proofs.HoldLemmas.{rows_held, rows_let_go}
-use Rattle.mail_fetch.proofs.UseLemmas.{one_end, own_pinned, pins_fewer, pins_more, use_seen}
+use Rattle.mail_fetch.proofs.UseLemmas.{one_end, own_one, own_pinned, pins_fewer, pins_more, use_seen}
+use Rattle.mail_fetch.proofs.RemovalLemmas.{did_halted, not_stopped, true_reply_of}
 use Rattle.mail_fetch.proofs.FetchEventLemmas.{behind_reading, DidSo, stands_so, did_refuse, did_nothing, pin_event, did_pin, fetch_event, IsLateRefusal, piece_is_late, unpin_is_late, did_late}
 use Rattle.mail_fetch.proofs.RecordLemmas.{IsShown, shown_by, no_mailbox, no_message, is_fetched, by_guid, listed_stored}
 use Rattle.mail_fetch.proofs.StoredRegionLemmas.{front_more, true_reply}
@@ -125,6 +128,10 @@ stopped_steps around after name uid (stage.Unpinning from given) store history f
           (λ runs. absurd (fall store.stopped stopped runs))).so,
       λ e. absurd (never_more _ e),
     )
+stopped_steps around after name uid (stage.Removing file given) store history faults left stopped = λ run lane place said lists come shows safe stood. (
+  did_halted around after run lane place said name uid lists (seen_in store history faults) come shows stopped (next_removes around name uid run place file.0 given stood.0 stood.1),
+  λ e. absurd (never_more _ e),
+)
 
 -- ---- the first event
 
@@ -470,55 +477,96 @@ read_steps around after name uid region store new history then_history faults th
 
 -- ---- the last event
 
-ends_here : (b : Bool) → b ≡ false → (if b then Some RemovesFile else None) ≡ None
-ends_here b e = ap (λ (t : Bool). if t then Some RemovesFile else None) e
+none_or : (r : Option Refusal) → option_or None r ≡ r
+none_or r = refl
 
-true_reply_of : (name : List ℕ) (uid : Uid) (octets : List ℕ) (given : Reply) (said : List Reply) → said ≡ reply.Fetched octets ∷ [] → IsTrueReply octets given → IsReplyOf (request.Fetch name uid) said given
-true_reply_of name uid octets given said e (inl is) = subst (λ (r : Reply). IsReplyOf (request.Fetch name uid) said r) (sym is) e
-true_reply_of name uid octets given said e (inr is) = subst (λ (r : Reply). IsReplyOf (request.Fetch name uid) said r) (sym is) tt
+no_more : (b : Bool) → b ≡ true → (if b then Some RemovesFile else None) ≡ None → ⊥
+no_more b e f = let k : Some RemovesFile ≡ None = sym (ap (λ (t : Bool). if t then Some RemovesFile else None) e) ∙ f in cc k
 
-not_stopped : (octets : List ℕ) (given : Reply) → IsTrueReply octets given → Some given ≡ Some (reply.Refused refusal.Stopped) → ⊥
-not_stopped octets given (inl is) e = let k : reply.Fetched octets ≡ reply.Refused refusal.Stopped = sym is ∙ (let w : given ≡ reply.Refused refusal.Stopped = cc e in w) in cc k
-not_stopped octets given (inr is) e = let k : reply.Refused refusal.ReadFault ≡ reply.Refused refusal.Stopped = sym is ∙ (let w : given ≡ reply.Refused refusal.Stopped = cc e in w) in let w : refusal.ReadFault ≡ refusal.Stopped = cc k in cc w
+-- the pins that the run has once it has unpinned are the store's
+pins_then : {D : Type 0} → (run : Run) (place : ℕ) (event : RunEvent) (from : StoredAt) (given : Reply) (store : StoreValue D) (history : Option History) (faults : Faults) (file : ℕ) → event.request ≡ place → is_unpinning event ≡ true → HasComeTo run (seen_in store history faults) → store.stopped ≡ false → AreIn store (claims_of_pinned from)
+    → UnpinsNext from given (own_events place run) → pins_of (and_then run event) file ≡ pins_kept_in (without_claims from store) file
+pins_then run place event from given store history faults file same unpins come runs claimed stood =
+    let pin = holds_pin from given place run stood in
+    let a = pins_end run event file (one_pin from.file.0 file) unpins (ap (λ (r : ℕ). has_unpinned r run) same ∙ pin.none) (ap (λ (r : ℕ). sum_by (pins_at_all file) (own_events r run)) same ∙ pin.one file) in
+    let b = (come.keeps runs).pins file in
+    let c = pins_fewer from.file.0 file store.files.files (own_pinned from store claimed) in
+    omega (arith, a, b, c)
 
-pub unpin_steps : {D : Type 0} → (around after : Around) (name : List ℕ) (uid : Uid) (from : StoredAt) (given : Reply) (store : StoreValue D) (history : Option History) (faults : Faults) → store.stopped ≡ false → is_doomed_in from.file.0 store.files.files ≡ false → AreIn store (claims_of_pinned from)
+-- Once it has unpinned, the file is to be removed if and only if it was doomed, and this was its last pin.
+leaves_then : {D : Type 0} → (run : Run) (place : ℕ) (event : RunEvent) (from : StoredAt) (given : Reply) (store : StoreValue D) (history : Option History) (faults : Faults) → event.request ≡ place → is_unpinning event ≡ true → event.pins ≡ [] → event.doomed ≡ [] → event.removed ≡ []
+    → HasComeTo run (seen_in store history faults) → store.stopped ≡ false → AreIn store (claims_of_pinned from) → UnpinsNext from given (own_events place run) → leaves_doomed place (and_then run event) ≡ is_last_pin from.file.0 store
+leaves_then run place event from given store history faults same unpins none doomed removed come runs claimed stood =
+    let own : PinsFile from.file.0 (own_events place (and_then run event)) =
+    subst (PinsFile from.file.0) (sym (own_more place run event (eq-eqb event.request place same))) (pins_file_more from.file.0 (own_events place run) event none (pins_file from given (own_events place run) stood)) in
+    leaves_is place (and_then run event) from.file.0 own
+    ∙ (ap (λ (d : Bool). d && not (is_pinned (and_then run event) from.file.0)) (doomed_still run event from.file.0 doomed removed ∙ (come.keeps runs).doomed from.file.0)
+    ∙ (ap (λ (p : Bool). is_doomed_in from.file.0 store.files.files && not p) (pinned_is (and_then run event) from.file.0 ∙ ap (λ (n : ℕ). nat_lt 0 n) (pins_then run place event from given store history faults from.file.0 same unpins come runs claimed stood))
+    ∙ last_is (is_doomed_in from.file.0 store.files.files) (pins_in from.file.0 store.files.files) (pins_kept_in (without_claims from store) from.file.0)
+    (let c = pins_fewer from.file.0 from.file.0 store.files.files (own_pinned from store claimed) in let one = own_one from.file.0 in omega (arith, c, one))))
+
+-- the store as it is seen then
+unpinned_seen : {D : Type 0} → (from : StoredAt) (store : StoreValue D) (history : Option History) (faults : Faults) → seen_in (without_claims from store) history faults ≡ behind_reading (seen_in store history faults) history faults (pins_kept_in (without_claims from store)) (found_let_go from.instances store.instances.known)
+unpinned_seen from store history faults = use_seen from (pins_in from.file.0 store.files.files - 1) (found_let_go from.instances store.instances.known) store history faults (λ id. rows_let_go from.instances id store.instances.known)
+
+-- It replies: the file isn't to be removed.
+pub unpin_steps : {D : Type 0} → (around after : Around) (name : List ℕ) (uid : Uid) (from : StoredAt) (given : Reply) (store : StoreValue D) (history : Option History) (faults : Faults) → store.stopped ≡ false → is_last_pin from.file.0 store ≡ false → AreIn store (claims_of_pinned from)
     → FetchSteps around after name uid (stage.Unpinning from given) stage.First store (without_claims from store) history history faults faults did.Quiet (Some given)
-unpin_steps around after name uid from given store history faults runs undoomed claimed = λ run lane place said lists come shows safe stood.
+unpin_steps around after name uid from given store history faults runs kept claimed = λ run lane place said lists come shows safe stood.
     let seen : Seen = seen_in store history faults in
     let pins : ℕ → ℕ = pins_kept_in (without_claims from store) in
-    let new_is : seen_in (without_claims from store) history faults ≡ behind_reading seen history faults pins (found_let_go from.instances store.instances.known) =
-    use_seen from (pins_in from.file.0 store.files.files - 1) (found_let_go from.instances store.instances.known) store history faults (λ id. rows_let_go from.instances id store.instances.known) in
     let event = fetch_event Unpins lane place None (Some given) (told_calls history) in
-    let pin = holds_pin from given place run stood.0 in
-    let own_still : All (λ e. All (λ p. p.file ≡ from.file.0) e.pins) (own_events place (and_then run event)) =
-    subst (All (λ e. All (λ p. p.file ≡ from.file.0) e.pins)) (sym (own_more place run event (eq-eqb place place refl))) (All-push (λ (e : RunEvent). All (λ (p : Pin). p.file ≡ from.file.0) e.pins) (own_events place run) event (own_files from given place run stood.0) (All-nil (λ (p : Pin). p.file ≡ from.file.0))) in
-    subst (λ (s : Seen). (d : DidEvent around after run lane place said (request.Fetch name uid) lists seen s did.Quiet (Some given)) × (Some given ≡ None → IsAtFetch stage.First s.stopped s.history (and_then run d.makes.event) place (and_told said d.makes.answer))) (sym new_is) (
+    subst (λ (s : Seen). (d : DidEvent around after run lane place said (request.Fetch name uid) lists seen s did.Quiet (Some given)) × (Some given ≡ None → IsAtFetch stage.First s.stopped s.history (and_then run d.makes.event) place (and_told said d.makes.answer))) (sym (unpinned_seen from store history faults)) (
       (did_late around after run lane place said name uid lists seen history faults pins (found_let_go from.instances store.instances.known) Unpins None (Some given) (unpin_is_late name uid) come shows (idle-begins history) (record { reads = omega arith; changes = refl }) (λ differs. refl) (next_unpins around name uid run place from given stood.0) tt tt
-          (record { 0 = λ h. ends_here (leaves_doomed place (and_then run event)) (none_doomed place from.file.0 (and_then run event) own_still (doomed_still run event from.file.0 refl refl ∙ ((come.keeps runs).doomed from.file.0 ∙ undoomed))); 1 = λ e f. some_given given f })
+          (record { 0 = λ h. ap (λ (t : Bool). if t then Some RemovesFile else None) (leaves_then run place event from given store history faults refl refl refl refl refl come runs claimed stood.0 ∙ kept); 1 = λ e f. some_given given f })
           (last_with (own_events place run) event ∙ (none_or (last_refusal (own_events place run)) ∙ unpins_by from given (own_events place run) stood.0))
           (λ r e. subst (λ (x : Reply). IsReplyOf (request.Fetch name uid) said x) (let k : given ≡ r = cc e in k) (true_reply_of name uid stood.1.0 given said stood.1.1 stood.1.2))
-          (record { 0 = λ e. absurd (not_stopped stood.1.0 given stood.1.2 e); 1 = λ e. absurd (fall store.stopped e runs) }) (λ e. absurd (fall store.stopped e runs)) (λ e. absurd (let k : None ≡ Some refusal.ReadFault = e in cc k))
-          (λ ran file.
-          let a = pins_end run event file (one_pin from.file.0 file) refl pin.none (pin.one file) in
-          let b = (come.keeps ran).pins file in
-          let c = pins_fewer from.file.0 file store.files.files (own_pinned from store claimed) in
-          omega (arith, a, b, c))).so,
+          (record { 0 = λ e. absurd (not_stopped stood.1.0 given stood.1.2 (let k : given ≡ reply.Refused refusal.Stopped = cc e in k)); 1 = λ e. absurd (fall store.stopped e runs) }) (λ e. absurd (fall store.stopped e runs)) (λ e. absurd (let k : None ≡ Some refusal.ReadFault = e in cc k))
+          (λ ran file. pins_then run place event from given store history faults file refl refl come runs claimed stood.0)).so,
       λ e. absurd (never_more _ e),
     )
-  where
-    none_or : (r : Option Refusal) → option_or None r ≡ r
-    none_or r = refl
+
+-- It goes on: the file is to be removed.
+pub last_pin_steps : {D : Type 0} → (around after : Around) (name : List ℕ) (uid : Uid) (from : StoredAt) (given : Reply) (store : StoreValue D) (history : Option History) (faults : Faults) → store.stopped ≡ false → is_last_pin from.file.0 store ≡ true → AreIn store (claims_of_pinned from)
+    → FetchSteps around after name uid (stage.Unpinning from given) (stage.Removing from.file given) store (without_claims from store) history history faults faults did.Quiet None
+last_pin_steps around after name uid from given store history faults runs last claimed = λ run lane place said lists come shows safe stood.
+    let seen : Seen = seen_in store history faults in
+    let pins : ℕ → ℕ = pins_kept_in (without_claims from store) in
+    let new : Seen = behind_reading seen history faults pins (found_let_go from.instances store.instances.known) in
+    let event = fetch_event Unpins lane place None None (told_calls history) in
+    let leaves : leaves_doomed place (and_then run event) ≡ true = leaves_then run place event from given store history faults refl refl refl refl refl come runs claimed stood.0 ∙ last in
+    subst (λ (s : Seen). (d : DidEvent around after run lane place said (request.Fetch name uid) lists seen s did.Quiet None) × (◌≡◌ {A = Option Reply} None None → IsAtFetch (stage.Removing from.file given) s.stopped s.history (and_then run d.makes.event) place (and_told said d.makes.answer))) (sym (unpinned_seen from store history faults))
+    (stands_so around after run lane place said (request.Fetch name uid) lists seen new did.Quiet None event None (IsAtFetch (stage.Removing from.file given) new.stopped new.history)
+    (did_late around after run lane place said name uid lists seen history faults pins (found_let_go from.instances store.instances.known) Unpins None None (unpin_is_late name uid) come shows (idle-begins history) (record { reads = omega arith; changes = refl }) (λ differs. refl) (next_unpins around name uid run place from given stood.0) tt tt
+    (record { 0 = λ h. absurd (h refl); 1 = λ e. absurd (no_more (leaves_doomed place (and_then run event)) leaves e) }) tt
+    (λ r e. absurd (no_reply r e))
+    (record { 0 = λ e. absurd (no_reply (reply.Refused refusal.Stopped) e); 1 = λ e. absurd (fall store.stopped e runs) }) (λ e. absurd (fall store.stopped e runs)) (λ e. absurd (let k : None ≡ Some refusal.ReadFault = e in cc k))
+    (λ ran file. pins_then run place event from given store history faults file refl refl come runs claimed stood.0))
+    (λ goes_on. (
+      record {
+        from = from;
+        file_is = refl;
+        front = own_events place run;
+        unpinned = stood.0;
+        last = event;
+        own_are = own_more place run event (eq-eqb place place refl);
+        part = refl;
+        none_pinned = refl;
+        unrefused = refl;
+      },
+      leaves,
+      stood.1,
+    )))
 
 -- ---- the stages stay
 
-pub fetch_stays : (now : FetchStage) (stopped : Bool) (history : Option History) → IsKept (IsAtFetch now stopped history)
-fetch_stays stage.First stopped history = not_begun_stays
-fetch_stays (stage.Reading region) stopped history = λ run place said event other gives stood.
-    let same = own_other place run event (ne_eqb event.request place other) in
-    (subst (HasReadAllBut region.from (pieces_left region.left)) (sym same) stood.0, stood.1)
-fetch_stays (stage.Unpinning from given) stopped history = λ run place said event other gives stood.
-    let same = own_other place run event (ne_eqb event.request place other) in
-    (subst (UnpinsNext from given) (sym same) stood.0, stood.1)
+pub fetch_stays : (now : FetchStage) (stopped : Bool) (history : Option History) (run : Run) (place : ℕ) (said : List Reply) (event : RunEvent) → event.request ≢ place → SparesFile now event → IsAtFetch now stopped history run place said → IsAtFetch now stopped history (and_then run event) place said
+fetch_stays stage.First stopped history run place said event other spares stood = (own_other place run event (ne_eqb event.request place other) ∙ stood.0, stood.1)
+fetch_stays (stage.Reading region) stopped history run place said event other spares stood =
+    (subst (HasReadAllBut region.from (pieces_left region.left)) (sym (own_other place run event (ne_eqb event.request place other))) stood.0, stood.1)
+fetch_stays (stage.Unpinning from given) stopped history run place said event other spares stood = (subst (UnpinsNext from given) (sym (own_other place run event (ne_eqb event.request place other))) stood.0, stood.1)
+fetch_stays (stage.Removing file given) stopped history run place said event other spares stood =
+    (subst (RemovesNext file.0 given) (sym (own_other place run event (ne_eqb event.request place other))) stood.0, leaves_still run event place file.0 (removes_pins file.0 given (own_events place run) stood.0) other spares.0 spares.1 stood.1, stood.2)
 
 -- ---- files that are safe
 
@@ -528,3 +576,4 @@ safe_fetched stage.First name uid store history lists is runs safe = λ message 
     reading_as (HaveMessages store.map lists) (StoresListed store.map message) history (λ files there. listed_stored files store.map store.map.boxes lists name uid.0 message (store_is_sound history store is) there.boxes there.instances listed) (boxes_safe history store lists is runs safe)
 safe_fetched (stage.Reading region) name uid store history lists is runs safe = tt
 safe_fetched (stage.Unpinning from given) name uid store history lists is runs safe = tt
+safe_fetched (stage.Removing file given) name uid store history lists is runs safe = tt

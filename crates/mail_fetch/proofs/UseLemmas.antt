@@ -7,7 +7,7 @@ use Rattle.std.proofs.Common.{◌≡◌, ◌≢◌, ◌≤◌, ◌+◌, ◌-◌,
 use Rattle.std.proofs.Math.Path.{fun_ext}
 use Rattle.std.proofs.lemmas.Bool.{cases_eq, cond-true, cond-false, eq-eqb, eqb-true, ne_eqb}
 use Rattle.std.proofs.lemmas.List.{append-nil}
-use Rattle.std.proofs.lemmas.List.Elements.{All-head, All-tail}
+use Rattle.std.proofs.lemmas.List.Elements.{All-head, All-tail, All-weaker}
 use Rattle.disk_model.specs.Disk.{Faults, History, reading}
 use Rattle.disk_model.specs.declared.name.FileName.TheVariants as file
 use Rattle.disk_model.proofs.BetweenLemmas.{between-begins}
@@ -24,14 +24,16 @@ use Rattle.storage_files.proofs.FileListLemmas.{file-here, file-other}
 use Rattle.store_core.specs.Files.{LiesBelowEnd}
 use Rattle.store_core.specs.Keeping.{KeepsInstances, MovesHolds, holds_of}
 use Rattle.store_core.specs.Knows.{knows_file, knows_instance, may_have_given}
+use Rattle.store_core.specs.Removing.{AreElsewhere}
 use Rattle.store_core.specs.Value.{StoreValue}
 use Rattle.store_seen.specs.Seeing.{may_be_barred, may_be_used}
-use Rattle.task_claims.specs.Claims.{AreIn, Claims, Due, Emptied, Held, Made, MovesClaims, Pinned, PlacingPieces, Removing, Taken, no_claims, one_if}
+use Rattle.task_claims.specs.Claims.{AreIn, Claims, Due, Emptied, Held, Made, MovesClaims, Pinned, PlacingPieces, Removing, Taken, Thing, no_claims, one_if}
 use Rattle.task_claims.specs.Leaving.{LeavesOthers, OnlyGrows, LeavesFile, IsSameOrSynced}
 use Rattle.task_claims.proofs.CountedLemmas.{unraised_same}
 use Rattle.task_claims.proofs.RestLemmas.{instance_kept, record_kept}
 use Rattle.task_steps.specs.Step.{Seen}
-use Rattle.mail_fetch.specs.Claims.{claims_of_pinned, held_for, with_claims, with_use, without_claims}
+use Rattle.mail_fetch.specs.Claims.{claims_of_pinned, claims_unpinned, held_for, with_claims, with_use, without_claims}
+use Rattle.mail_fetch.specs.Removal.{CanRemove, is_last_pin}
 use Rattle.mail_fetch.specs.Task.{one_pin, pins_kept_in, seen_in}
 use Rattle.mail_fetch.specs.declared.parts.StoredAt.{StoredAt}
 use Rattle.mail_fetch.proofs.ClaimLemmas.{idle_syncs}
@@ -71,7 +73,7 @@ pins_other : (n m pins : ℕ) (files : List MailFile) → m ≢ n → pins_in m 
 unfolding pins_of_file
 pins_other n m pins files apart = ap pins_of_file (file-other n m (with_pins pins) files (λ f. refl) apart)
 
-own_one : (n : ℕ) → one_pin n n ≡ 1
+pub own_one : (n : ℕ) → one_pin n n ≡ 1
 own_one n = cond-true (n == n) 1 0 (eq-eqb n n refl)
 
 none_of_other : (n m : ℕ) → m ≢ n → one_pin n m ≡ 0
@@ -126,9 +128,6 @@ removing_same n m pins files undoomed = elim (cases_eq m n) [
 
 -- ---- claims
 
-plain : (a b : ℕ) → a ≡ b → a + 0 ≡ b + 0
-plain a b e = ap (λ (n : ℕ). n + 0) e
-
 -- One pin more, and one hold more for each row.
 pub use_begins : {D : Type 0} → (from : StoredAt) (known : List KnownInstance) (store : StoreValue D) → is_some (file_in from.file.0 store.files.files) ≡ true → is_doomed_in from.file.0 store.files.files ≡ false → ((id : InstId) → holders_in id known + 0 ≡ holders_in id store.instances.known + holds_of from.instances id)
     → MovesClaims no_claims (claims_of_pinned from) store (with_use from (pins_in from.file.0 store.files.files + 1) known store)
@@ -144,20 +143,106 @@ use_begins from known store there undoomed held (Removing file) = ap (λ (b : Bo
 use_begins from known store there undoomed held (Held id) = held id
 use_begins from known store there undoomed held (Made number) = refl
 
--- One pin less, and one hold less for each row.
-pub use_ends : {D : Type 0} → (from : StoredAt) (known : List KnownInstance) (store : StoreValue D) → 1 ≤ pins_in from.file.0 store.files.files → is_doomed_in from.file.0 store.files.files ≡ false → ((id : InstId) → holders_in id known + holds_of from.instances id ≡ holders_in id store.instances.known + 0)
-    → MovesClaims (claims_of_pinned from) no_claims store (with_use from (pins_in from.file.0 store.files.files - 1) known store)
-use_ends from known store pinned undoomed held (Due uid) = refl
-use_ends from known store pinned undoomed held (Pinned file) = let less = pins_fewer from.file.0 file store.files.files pinned in omega (arith, less)
-use_ends from known store pinned undoomed held (Taken file) =
-    ap (λ (b : Bool). one_if b + 0) (but_pins (λ (o : Option MailFile). option_map_or (λ f. f.taken) o false) from.file.0 file (pins_in from.file.0 store.files.files - 1) store.files.files (λ f. refl))
-use_ends from known store pinned undoomed held (Emptied file) =
-    ap (λ (b : Bool). one_if b + 0) (but_pins (λ (o : Option MailFile). option_map_or (λ f. f.emptied) o false) from.file.0 file (pins_in from.file.0 store.files.files - 1) store.files.files (λ f. refl))
-use_ends from known store pinned undoomed held (PlacingPieces file) =
-    ap (λ (b : Bool). one_if b + 0) (but_pins (λ (o : Option MailFile). is_some (option_and_then (λ f. f.begun) o)) from.file.0 file (pins_in from.file.0 store.files.files - 1) store.files.files (λ f. refl))
-use_ends from known store pinned undoomed held (Removing file) = ap (λ (b : Bool). one_if b + 0) (removing_same from.file.0 file (pins_in from.file.0 store.files.files - 1) store.files.files undoomed)
-use_ends from known store pinned undoomed held (Held id) = held id
-use_ends from known store pinned undoomed held (Made number) = refl
+-- anything but the removal of a file
+IsOther : Thing → Type 0
+IsOther (Removing file) = ⊥
+IsOther thing = Unit {0}
+
+-- behind an event that unpins no other thing is claimed
+only_removal : (n : ℕ) (last : Bool) (thing : Thing) → IsOther thing → claims_unpinned n last thing ≡ 0
+unfolding IsOther
+only_removal n false thing other = refl
+only_removal n true (Due uid) other = refl
+only_removal n true (Pinned file) other = refl
+only_removal n true (Taken file) other = refl
+only_removal n true (Emptied file) other = refl
+only_removal n true (PlacingPieces file) other = refl
+only_removal n true (Removing file) other = absurd other
+only_removal n true (Held id) other = refl
+only_removal n true (Made number) other = refl
+
+-- which files are to be removed once one has lost a pin: that one more, if it was its last
+removed_more : (n m : ℕ) (files : List MailFile) (last : Bool) → 1 ≤ pins_in n files → (is_doomed_in n files && (pins_in n files == 1)) ≡ last
+    → one_if (is_doomed_in m (changed_in n (with_pins (pins_in n files - 1)) files) && (pins_in m (changed_in n (with_pins (pins_in n files - 1)) files) == 0)) ≡ one_if (is_doomed_in m files && (pins_in m files == 0)) + claims_unpinned n last (Removing m)
+removed_more n m files last pinned is = elim (cases_eq m n) [
+  | inl same ↦
+      subst (λ (k : ℕ). one_if (is_doomed_in k (changed_in n (with_pins (pins_in n files - 1)) files) && (pins_in k (changed_in n (with_pins (pins_in n files - 1)) files) == 0)) ≡ one_if (is_doomed_in k files && (pins_in k files == 0)) + claims_unpinned n last (Removing k)) (sym same)
+      (ap (λ (b : Bool). one_if (b && (pins_in n (changed_in n (with_pins (pins_in n files - 1)) files) == 0))) (doomed_still n n (pins_in n files - 1) files)
+      ∙ (ap (λ (k : ℕ). one_if (is_doomed_in n files && (k == 0))) (pins_here n (pins_in n files - 1) files (pinned_there n files pinned))
+      ∙ (by_pins (is_doomed_in n files) (pins_in n files) last pinned is
+      ∙ (let z : one_if (is_doomed_in n files && (pins_in n files == 0)) ≡ 0 = none_yet (is_doomed_in n files) (pins_in n files) pinned in let own = own_removal last in omega (arith, z, own)))))
+  | inr apart ↦
+      let still : one_if (is_doomed_in m (changed_in n (with_pins (pins_in n files - 1)) files) && (pins_in m (changed_in n (with_pins (pins_in n files - 1)) files) == 0)) ≡ one_if (is_doomed_in m files && (pins_in m files == 0)) =
+      ap (λ (b : Bool). one_if (b && (pins_in m (changed_in n (with_pins (pins_in n files - 1)) files) == 0))) (doomed_still n m (pins_in n files - 1) files)
+      ∙ ap (λ (k : ℕ). one_if (is_doomed_in m files && (k == 0))) (pins_other n m (pins_in n files - 1) files apart) in
+      let none = other_removal last apart in
+      omega (arith, still, none)
+]
+  where
+    own_removal : (b : Bool) → claims_unpinned n b (Removing n) ≡ one_if b
+    own_removal true = ap one_if (eq-eqb n n refl)
+    own_removal false = refl
+
+    other_removal : (b : Bool) → m ≢ n → claims_unpinned n b (Removing m) ≡ 0
+    other_removal true apart = ap one_if (ne_eqb n m (λ e. apart (sym e)))
+    other_removal false apart = refl
+
+    none_yet : (d : Bool) (k : ℕ) → 1 ≤ k → one_if (d && (k == 0)) ≡ 0
+    none_yet true k l = ap one_if (ne_eqb k 0 (λ e. omega (arith, l, e)))
+    none_yet false k l = refl
+
+    by_pins : (d : Bool) (k : ℕ) (b : Bool) → 1 ≤ k → (d && (k == 1)) ≡ b → one_if (d && ((k - 1) == 0)) ≡ one_if b
+    by_pins false k b l e = ap one_if e
+    by_pins true k b l e = elim (cases_eq k 1) [
+      | inl one ↦ ap one_if (eq-eqb (k - 1) 0 (omega (arith, one)) ∙ sym (eq-eqb k 1 one) ∙ e)
+      | inr more ↦ ap one_if (ne_eqb (k - 1) 0 (λ z. more (omega (arith, l, z))) ∙ sym (ne_eqb k 1 more) ∙ e)
+    ]
+
+-- One pin less, and one hold less for each row. If it was the last pin of a doomed file, that is to be removed.
+pub use_ends : {D : Type 0} → (from : StoredAt) (known : List KnownInstance) (store : StoreValue D) (last : Bool) → 1 ≤ pins_in from.file.0 store.files.files → is_last_pin from.file.0 store ≡ last → ((id : InstId) → holders_in id known + holds_of from.instances id ≡ holders_in id store.instances.known + 0)
+    → MovesClaims (claims_of_pinned from) (claims_unpinned from.file.0 last) store (with_use from (pins_in from.file.0 store.files.files - 1) known store)
+unfolding IsOther
+use_ends from known store last pinned is held (Due uid) = let none = only_removal from.file.0 last (Due uid) tt in omega (arith, none)
+use_ends from known store last pinned is held (Pinned file) = let none = only_removal from.file.0 last (Pinned file) tt in let less = pins_fewer from.file.0 file store.files.files pinned in omega (arith, less, none)
+use_ends from known store last pinned is held (Taken file) =
+    let none = only_removal from.file.0 last (Taken file) tt in
+    let same = but_pins (λ (o : Option MailFile). one_if (option_map_or (λ f. f.taken) o false)) from.file.0 file (pins_in from.file.0 store.files.files - 1) store.files.files (λ f. refl) in
+    omega (arith, same, none)
+use_ends from known store last pinned is held (Emptied file) =
+    let none = only_removal from.file.0 last (Emptied file) tt in
+    let same = but_pins (λ (o : Option MailFile). one_if (option_map_or (λ f. f.emptied) o false)) from.file.0 file (pins_in from.file.0 store.files.files - 1) store.files.files (λ f. refl) in
+    omega (arith, same, none)
+use_ends from known store last pinned is held (PlacingPieces file) =
+    let none = only_removal from.file.0 last (PlacingPieces file) tt in
+    let same = but_pins (λ (o : Option MailFile). one_if (is_some (option_and_then (λ f. f.begun) o))) from.file.0 file (pins_in from.file.0 store.files.files - 1) store.files.files (λ f. refl) in
+    omega (arith, same, none)
+use_ends from known store last pinned is held (Removing file) = let more = removed_more from.file.0 file store.files.files last pinned is in omega (arith, more)
+use_ends from known store last pinned is held (Held id) = let none = only_removal from.file.0 last (Held id) tt in let moved = held id in omega (arith, moved, none)
+use_ends from known store last pinned is held (Made number) = let none = only_removal from.file.0 last (Made number) tt in omega (arith, none)
+
+-- ---- a file that is to be removed
+
+-- in a doomed file no record has its region
+doomed_elsewhere : (n : ℕ) (store : List ℕ) (files : List MailFile) (rows : List MapRecord) → is_doomed_in n files ≡ true → All (LiesBelowEnd store files) rows → AreElsewhere n rows
+doomed_elsewhere n store files rows doomed below =
+    All-weaker (LiesBelowEnd store files) (λ (row : MapRecord). row.file ≢ n) (λ row l same. let k : true ≡ false = sym doomed ∙ (ap (λ (i : ℕ). is_doomed_in i files) (sym same) ∙ l.undoomed) in cc k) rows below
+
+last_doomed : (d : Bool) (k : ℕ) → (d && (k == 1)) ≡ true → (d ≡ true) × (k ≡ 1)
+last_doomed true k e = (refl, eqb-true k 1 e)
+last_doomed false k e = absurd (let z : false ≡ true = e in cc z)
+
+-- Once a doomed file has lost its last pin, it can be removed.
+pub unpinned_removable : {D : Type 0} → (from : StoredAt) (known : List KnownInstance) (store : StoreValue D) → All (LiesBelowEnd store.map.store store.files.files) store.map.records → is_last_pin from.file.0 store ≡ true → CanRemove from.file.0 (with_use from (pins_in from.file.0 store.files.files - 1) known store)
+unpinned_removable from known store below last =
+    let is = last_doomed (is_doomed_in from.file.0 store.files.files) (pins_in from.file.0 store.files.files) last in
+    let one = is.1 in
+    let some : 1 ≤ pins_in from.file.0 store.files.files = omega (arith, one) in
+    let here = pins_here from.file.0 (pins_in from.file.0 store.files.files - 1) store.files.files (pinned_there from.file.0 store.files.files some) in
+    record {
+      doomed = doomed_still from.file.0 from.file.0 (pins_in from.file.0 store.files.files - 1) store.files.files ∙ is.0;
+      unpinned = omega (arith, here, one);
+      elsewhere = doomed_elsewhere from.file.0 store.map.store store.files.files store.map.records is.0 below;
+    }
 
 -- ---- what is left to others
 
@@ -292,13 +377,19 @@ given_same from rows old held new same held_is new_is =
     new_is ∙ ap (λ (s : StoreValue _). with_files s (changed_in from.file.0 (with_pins (pins_in from.file.0 s.files.files - 1)) s.files.files)) held_is
     ∙ ap (λ (rs : List InstRow). with_use from (pins_in from.file.0 old.files.files - 1) (found_let_go rs old.instances.known) old) same
 
-pub given_moves : {D : Type 0} → (from : StoredAt) (rows : List InstRow) (old held new : StoreValue D) → rows ≡ from.instances → held ≡ with_known old (found_let_go rows old.instances.known) → new ≡ without_claims from old → AreIn old (claims_of_pinned from) → is_doomed_in from.file.0 old.files.files ≡ false
-    → MovesHolds (holds_of rows) (λ id. 0) old held → MovesClaims (claims_of_pinned from) no_claims old new
-given_moves from rows old held new same held_is new_is claimed undoomed moves =
-    subst (λ (s : StoreValue _). MovesClaims (claims_of_pinned from) no_claims old s) (sym new_is)
-    (use_ends from (found_let_go from.instances old.instances.known) old (own_pinned from old claimed) undoomed
+pub given_last : {D : Type 0} → (file : ℕ) (rows : List InstRow) (old held : StoreValue D) (last : Bool) → held ≡ with_known old (found_let_go rows old.instances.known) → last ≡ (is_doomed_in file held.files.files && (pins_in file held.files.files == 1)) → last ≡ is_last_pin file old
+given_last file rows old held last held_is is = is ∙ ap (λ (s : StoreValue _). is_last_pin file s) held_is
+
+pub given_moves : {D : Type 0} → (from : StoredAt) (rows : List InstRow) (old held new : StoreValue D) (last : Bool) → rows ≡ from.instances → held ≡ with_known old (found_let_go rows old.instances.known) → new ≡ without_claims from old → AreIn old (claims_of_pinned from) → is_last_pin from.file.0 old ≡ last
+    → MovesHolds (holds_of rows) (λ id. 0) old held → MovesClaims (claims_of_pinned from) (claims_unpinned from.file.0 last) old new
+given_moves from rows old held new last same held_is new_is claimed is moves =
+    subst (λ (s : StoreValue _). MovesClaims (claims_of_pinned from) (claims_unpinned from.file.0 last) old s) (sym new_is)
+    (use_ends from (found_let_go from.instances old.instances.known) old last (own_pinned from old claimed) is
     (subst (λ (rs : List InstRow). (id : InstId) → holders_in id (found_let_go rs old.instances.known) + holds_of rs id ≡ holders_in id old.instances.known + 0) same
     (subst (λ (s : StoreValue _). (id : InstId) → holders_in id s.instances.known + holds_of rows id ≡ holders_in id old.instances.known + 0) held_is moves)))
+
+pub given_removable : {D : Type 0} → (from : StoredAt) (old new : StoreValue D) → All (LiesBelowEnd old.map.store old.files.files) old.map.records → new ≡ without_claims from old → is_last_pin from.file.0 old ≡ true → CanRemove from.file.0 new
+given_removable from old new below new_is last = subst (λ (s : StoreValue _). CanRemove from.file.0 s) (sym new_is) (unpinned_removable from (found_let_go from.instances old.instances.known) old below last)
 
 pub given_leaves : {D : Type 0} → (H : D → Option History) (mine : Claims) (from : StoredAt) (rows : List InstRow) (old held new : StoreValue D) → rows ≡ from.instances → held ≡ with_known old (found_let_go rows old.instances.known) → KeepsInstances old held (H old.disk) (H held.disk) → new ≡ without_claims from old
     → LeavesOthers mine old new (H old.disk) (H new.disk)

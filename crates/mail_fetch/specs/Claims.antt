@@ -1,5 +1,5 @@
 -- What a fetch claims between its events, and what it needs for the next.
-use Rattle.std.specs.Prelude.{◌≡◌, ◌≤◌, ◌<◌, ◌+◌, ◌-◌, ℕ, List, [], ◌∷◌, length, All, Option}
+use Rattle.std.specs.Prelude.{◌≡◌, ◌≤◌, ◌<◌, ◌+◌, ◌-◌, ℕ, Bool, true, false, List, [], ◌∷◌, length, All, Option}
 use Rattle.disk_model.specs.Disk.{History}
 use Rattle.mdbox_base.specs.declared.entries.InstRow.{InstRow}
 use Rattle.mdbox_base.specs.declared.ids.InstId.{InstId}
@@ -13,6 +13,7 @@ use Rattle.store_core.specs.Value.{StoreValue}
 use Rattle.task_claims.specs.Claims.{AreIn, Claims, Held, Pinned, no_claims}
 use Rattle.mail_fetch.specs.Parts.{KnowsSource}
 use Rattle.mail_fetch.specs.Region.{RegionValue}
+use Rattle.mail_fetch.specs.Removal.{CanRemove, claims_of_removal, with_file_gone}
 use Rattle.mail_fetch.specs.Stages.{IsFrontOfStored, Reading}
 use Rattle.mail_fetch.specs.Task.{one_pin}
 use Rattle.mail_fetch.specs.declared.parts.Part.{Part}
@@ -30,11 +31,17 @@ claims_of_pinned from (Pinned file) = one_pin from.file.0 file
 claims_of_pinned from (Held id) = holds_of from.instances id
 claims_of_pinned from thing = 0
 
--- behind its first event and before its last
+-- what is left of them once both are given back: the removal of the file, if it is to be removed now
+abbrev pub claims_unpinned : ℕ → Bool → Claims
+claims_unpinned file true = claims_of_removal file
+claims_unpinned file false = no_claims
+
+-- after its first event and before it unpins, and then, if it removes the file
 abbrev pub fetch_claims : FetchStage → Claims
 fetch_claims stage.First = no_claims
 fetch_claims (stage.Reading region) = claims_of_pinned region.from
 fetch_claims (stage.Unpinning from given) = claims_of_pinned from
+fetch_claims (stage.Removing file given) = claims_of_removal file.0
 
 -- ---- what it makes of the store
 
@@ -57,10 +64,14 @@ with_claims from store = with_use from (pins_in from.file.0 store.files.files + 
 abbrev pub without_claims : {D : Type 0} → StoredAt → StoreValue D → StoreValue D
 without_claims from store = with_use from (pins_in from.file.0 store.files.files - 1) (found_let_go from.instances store.instances.known) store
 
--- the store after an event that came from one stage to another, but for its disk
+-- The store after an event that came from one stage to another, but for its disk. A removal that leaves the task where it was failed, and
+-- stopped the store.
 abbrev pub used_by : {D : Type 0} → FetchStage → FetchStage → StoreValue D → StoreValue D
 used_by stage.First (stage.Reading region) store = with_claims region.from store
 used_by (stage.Unpinning from given) stage.First store = without_claims from store
+used_by (stage.Unpinning from given) (stage.Removing file reply) store = without_claims from store
+used_by (stage.Removing file given) stage.First store = with_file_gone file.0 store
+used_by (stage.Removing file given) (stage.Removing other reply) store = record store { stopped = true }
 used_by now next store = store
 
 -- ---- what it needs
@@ -89,6 +100,7 @@ abbrev pub IsReadyToFetch : {D : Type 0} → FetchStage → StoreValue D → Typ
 IsReadyToFetch stage.First store = Unit {0}
 IsReadyToFetch (stage.Reading region) store = IsReadyToRead region store
 IsReadyToFetch (stage.Unpinning from given) store = HasClaimed from store
+IsReadyToFetch (stage.Removing file given) store = CanRemove file.0 store
 
 -- For its first event each storage file can be pinned once more, and each instance held 65,535 times more.
 pub record HasUseRoom {D : Type 0} (store : StoreValue D) : Type 0 where

@@ -3,6 +3,7 @@ use Rattle.std.specs.Prelude.{◌≡◌, ◌<◌, ◌≤◌, ◌⊎◌, ◌++◌
 use Rattle.std.specs.Option.{option_map_or}
 use Rattle.disk_model.specs.Disk.{DiskState, History, Faults, IfTold}
 use Rattle.mdbox_base.specs.Streams.{Rose}
+use Rattle.mdbox_base.specs.declared.ids.FileNo.{FileNo}
 use Rattle.mdbox_base.specs.declared.progress.Progress.{Progress}
 use Rattle.mdbox_base.specs.declared.progress.Progress.TheVariants as progress
 use Rattle.mdbox_base.specs.declared.replies.Refusal.{Refusal}
@@ -16,6 +17,8 @@ use Rattle.storage_files.specs.Files.{end_in}
 use Rattle.store_core.specs.Value.{StoreValue, list_named}
 use Rattle.mail_fetch.specs.Parts.{first_read, left_after, pieces_left}
 use Rattle.mail_fetch.specs.Region.{stored_at, RegionValue, unread, IsReplyFor}
+use Rattle.mail_fetch.specs.Removal.{is_last_pin}
+use Rattle.mail_fetch.specs.declared.parts.StoredAt.{StoredAt}
 use Rattle.mail_fetch.specs.declared.task.FetchStage.{FetchStage}
 use Rattle.mail_fetch.specs.declared.task.FetchStage.TheVariants as stage
 
@@ -68,16 +71,30 @@ IsPieceRead region next history old new =
     ((piece : List ℕ) × IfTold history (λ disk. piece ≡ next_piece region disk) × GoesOnWith (with_piece region piece) next)
     ⊎ (Rose old.reads new.reads × (next ≡ stage.Unpinning region.from (reply.Refused refusal.ReadFault)))
 
+-- ---- what comes after them
+
+-- The pin is given back. If it was the last one of a doomed file, the request goes on, and the file is removed next; else the reply is given.
+pub record IsUnpinned {D : Type 0} (from : StoredAt) (given : Reply) (next : FetchStage) (answer : Progress) (store : StoreValue D) : Type 0 where
+  pub last : is_last_pin from.file.0 store ≡ true → (answer ≡ progress.More) × (next ≡ stage.Removing from.file given)
+  pub other : is_last_pin from.file.0 store ≡ false → (answer ≡ progress.Done given) × (next ≡ stage.First)
+
+-- The file is removed, and the reply given. Or a change of the disk failed: the store is stopped, and the task stays where it was.
+abbrev pub IsFileRemoved : FileNo → Reply → FetchStage → Progress → Faults → Faults → Type 0
+IsFileRemoved file given next answer old new =
+    ((answer ≡ progress.Done given) × (next ≡ stage.First)) ⊎ (Rose old.changes new.changes × (answer ≡ progress.Done (reply.Refused refusal.Stopped)) × (next ≡ stage.Removing file given))
+
 -- ---- each event
 
--- A store that is stopped replies so to each event, and the task stays where it is. Else the first event pins, those behind it
--- read a piece each, and the last one unpins and gives the reply.
+-- A store that is stopped replies so to each event, and the task stays where it is. Else the first event pins, those after it
+-- read a piece each, another one unpins, and one more removes the file if it is to be removed; the last one gives the reply.
 abbrev pub FetchesNext : {D : Type 0} → List ℕ → ℕ → FetchStage → FetchStage → Progress → StoreValue D → Option History → Faults → Faults → Type 0
 FetchesNext name uid stage.First next answer store history old new = IsBegun name uid store next answer
 FetchesNext name uid (stage.Reading region) next answer store history old new =
     (store.stopped ≡ true → (answer ≡ progress.Done (reply.Refused refusal.Stopped)) × (next ≡ stage.Reading region)) × (store.stopped ≡ false → (answer ≡ progress.More) × IsPieceRead region next history old new)
 FetchesNext name uid (stage.Unpinning from given) next answer store history old new =
-    (store.stopped ≡ true → (answer ≡ progress.Done (reply.Refused refusal.Stopped)) × (next ≡ stage.Unpinning from given)) × (store.stopped ≡ false → (answer ≡ progress.Done given) × (next ≡ stage.First))
+    (store.stopped ≡ true → (answer ≡ progress.Done (reply.Refused refusal.Stopped)) × (next ≡ stage.Unpinning from given)) × (store.stopped ≡ false → IsUnpinned from given next answer store)
+FetchesNext name uid (stage.Removing file given) next answer store history old new =
+    (store.stopped ≡ true → (answer ≡ progress.Done (reply.Refused refusal.Stopped)) × (next ≡ stage.Removing file given)) × (store.stopped ≡ false → IsFileRemoved file given next answer old new)
 
 -- no change of the disk was counted as failed, and no failed read is forgotten
 pub record NoChangeFault (old new : Faults) : Type 0 where

@@ -4,6 +4,7 @@ pub mod Events
 pub mod Failed
 pub mod Parts
 pub mod Region
+pub mod Removal
 pub mod Room
 pub mod Stages
 pub mod Task

@@ -1,5 +1,6 @@
 -- Where a fetch stands in a run.
-use Rattle.std.specs.Prelude.{◌≡◌, ◌+◌, ◌⊎◌, ℕ, Bool, false, List, [], ◌∷◌, ◌++◌, length, Option, Some, None, All}
+use Rattle.std.specs.Prelude.{◌≡◌, ◌==◌, ◌+◌, ◌⊎◌, ℕ, Bool, true, false, List, [], ◌∷◌, ◌++◌, length, Option, Some, None, All}
+use Rattle.std.specs.List.{list_any}
 use Rattle.disk_model.specs.Disk.{Files, History}
 use Rattle.mdbox_base.specs.declared.replies.Refusal.{Refusal}
 use Rattle.mdbox_base.specs.declared.replies.Refusal.TheVariants as refusal
@@ -11,7 +12,8 @@ use Rattle.model_meaning.specs.MapMeaning.{MapMeaning, MapRecord, record_of}
 use Rattle.model_store.specs.Safe.{IsThereWhole}
 use Rattle.model_store.specs.Settled.{files_of}
 use Rattle.model_store.specs.Stands.{StoresMessage}
-use Rattle.list_machine.specs.Run.{First, ReadsPiece, RunEvent, Run, own_events}
+use Rattle.list_machine.specs.Run.{First, ReadsPiece, Unpins, RunEvent, Run, is_one_of, own_events}
+use Rattle.journal.specs.Events.{leaves_doomed}
 use Rattle.journal.specs.Journal.{refusal_in}
 use Rattle.task_steps.specs.Step.{HasNotBegun}
 use Rattle.mail_fetch.specs.Parts.{parts_to_read, parts_read, pieces_left}
@@ -53,6 +55,23 @@ UnpinsNext from given own =
     ((refusal_in given ≡ None) × HasReadAllBut from 0 own)
     ⊎ ((why : Refusal) × (front : List RunEvent) × (last : RunEvent) × (refusal_in given ≡ Some why) × IsPieceRefusal why × HasPinned from own (front ++ last ∷ []) × All (ReadPiece None) front × ReadPiece (Some why) last)
 
+-- It has unpinned this file, and removes it next. By this it will reply.
+pub record RemovesNext (file : ℕ) (given : Reply) (own : List RunEvent) : Type 0 where
+  pub from : StoredAt
+  pub file_is : from.file.0 ≡ file
+  pub front : List RunEvent
+  pub unpinned : UnpinsNext from given front
+  pub last : RunEvent
+  pub own_are : own ≡ front ++ last ∷ []
+  pub part : last.part ≡ Unpins
+  pub none_pinned : last.pins ≡ []
+  pub unrefused : last.refused ≡ None
+
+-- An event neither pins nor removes the file that a task removes next. So it is still doomed then, and without a pin.
+abbrev pub SparesFile : FetchStage → RunEvent → Type 0
+SparesFile (stage.Removing file given) event = (list_any (λ p. p.file == file.0) event.pins ≡ false) × (is_one_of event.removed file.0 ≡ false)
+SparesFile now event = Unit {0}
+
 -- ---- what the disk reads
 
 -- The files store a listed message: its record's region has its octets, and none of the record's instances is missing.
@@ -85,10 +104,12 @@ IsTrueReply octets given = (given ≡ reply.Fetched octets) ⊎ (given ≡ reply
 
 -- Where the task stands, by whether the store is stopped and by what its disk tells: what is true of the run, for the place of its
 -- request, and of the answers of its steps. The first event has answered the octets of the message as it was listed then, and the disk
--- still stores them, unless the store is stopped.
+-- still stores them, unless the store is stopped. A file that it removes next is doomed and has no pin.
 abbrev pub IsAtFetch : FetchStage → Bool → Option History → Run → ℕ → List Reply → Type 0
 IsAtFetch stage.First stopped history run place said = HasNotBegun run place said
 IsAtFetch (stage.Reading region) stopped history run place said =
     HasReadAllBut region.from (pieces_left region.left) (own_events place run) × ((octets : List ℕ) × (said ≡ reply.Fetched octets ∷ []) × (stopped ≡ false → Reading (IsFrontOfStored region octets) history))
 IsAtFetch (stage.Unpinning from given) stopped history run place said =
     UnpinsNext from given (own_events place run) × ((octets : List ℕ) × (said ≡ reply.Fetched octets ∷ []) × IsTrueReply octets given)
+IsAtFetch (stage.Removing file given) stopped history run place said =
+    RemovesNext file.0 given (own_events place run) × (leaves_doomed place run ≡ true) × ((octets : List ℕ) × (said ≡ reply.Fetched octets ∷ []) × IsTrueReply octets given)

@@ -1,6 +1,6 @@
 // Laws of fetches.
-ghost use Rattle.std.specs.Prelude.{◌≡◌, ◌≢◌, ◌≤◌, ℕ, Bool, false, List, All, Option, length};
-ghost use Rattle.disk_model.specs.Disk.{Files, History};
+ghost use Rattle.std.specs.Prelude.{◌≡◌, ◌≢◌, ◌≤◌, ℕ, Bool, true, false, List, All, Option, length};
+ghost use Rattle.disk_model.specs.Disk.{Faults, Files, History};
 ghost use Rattle.model_meaning.specs.BoxMeaning.{LogRow};
 ghost use Rattle.model_meaning.specs.MapMeaning.{MapRecord};
 ghost use Rattle.model_store.specs.Safe.{IsThereWhole};
@@ -14,19 +14,22 @@ ghost use Rattle.store_core.specs.Value.{StoreValue};
 ghost use Rattle.mdbox_base.specs.declared.ids.InstId.{InstId};
 ghost use Rattle.task_claims.specs.Claims.{Held, Pinned};
 ghost use Rattle.task_claims.specs.Stable.{Beside, IsStable};
-ghost use Rattle.task_steps.specs.Step.{IsKept};
+ghost use Rattle.task_steps.specs.Step.{HasComeTo};
 ghost use Rattle.mail_fetch.specs.Claims.{IsReadyToFetch, ReadsStored, fetch_claims};
 ghost use Rattle.mail_fetch.specs.Clause.{CanFetch, ReadsSafe};
 ghost use Rattle.mail_fetch.specs.Parts.{parts_to_read, parts_read};
 ghost use Rattle.mail_fetch.specs.Region.{stored_at, HoldsWhole};
-ghost use Rattle.mail_fetch.specs.Stages.{IsAtFetch};
+ghost use Rattle.mail_fetch.specs.Stages.{IsAtFetch, SparesFile};
+ghost use Rattle.mail_fetch.specs.Task.{seen_in};
 ghost use Rattle.mail_fetch.specs.declared.task.FetchStage.{FetchStage};
 
 use disk_model::Disk;
 
-/// The stages of a fetch are kept by every event of another request.
+/// The stages of a fetch are kept by every event of another request; that of a fetch which removes its file next, by one that neither
+/// pins nor removes the file.
 pub fn fetch_stages_are_kept()
-    ensures { (stage : FetchStage) (stopped : Bool) (history : Option History) → IsKept (IsAtFetch stage stopped history) }
+    ensures { (stage : FetchStage) (stopped : Bool) (history : Option History) (run : Run) (place : ℕ) (said : List Reply) (event : RunEvent) → event.request ≢ place → SparesFile stage event
+        → IsAtFetch stage stopped history run place said → IsAtFetch stage stopped history (and_then run event) place said }
 {}
 
 /// Where files store a message of the size that its mailbox tells, and have its instances with their sizes, what they have at the
@@ -53,9 +56,11 @@ pub fn fetches_claim_few<D>()
     ensures pinned { (now : FetchStage) (file : ℕ) → fetch_claims now (Pinned file) ≤ 1 }
 {}
 
-/// Beside an event of another request, that is of any other task, a fetch that is ready stands where it stood. Nothing is asked of the
-/// task that stopped the store, or found it stopped.
+/// Beside an event of another request, that is of any other task, a fetch that is ready stands where it stood, in each run that has come
+/// to the store. Of the task that stopped the store, or found it stopped, no more is asked than that its event neither pinned nor removed
+/// the file which the fetch removes next.
 pub fn fetches_stay_beside<D>()
-    ensures { (now : FetchStage) (old new : StoreValue D) (before later : Option History) (run : Run) (event : RunEvent) (place : ℕ) (said : List Reply) → event.request ≢ place → (new.stopped ≡ false → old.stopped ≡ false) → (new.stopped ≡ false → Beside (fetch_claims now) old new before later × IsReadyToFetch now old)
+    ensures { (now : FetchStage) (old new : StoreValue D) (before later : Option History) (faults : Faults) (run : Run) (event : RunEvent) (place : ℕ) (said : List Reply) → event.request ≢ place → (new.stopped ≡ false → old.stopped ≡ false)
+        → (new.stopped ≡ false → Beside (fetch_claims now) old new before later × IsReadyToFetch now old × HasComeTo (and_then run event) (seen_in new later faults)) → (new.stopped ≡ true → SparesFile now event)
         → IsAtFetch now old.stopped before run place said → IsAtFetch now new.stopped later (and_then run event) place said }
 {}

@@ -10,13 +10,13 @@ ghost use Rattle.storage_files.specs.Files.{end_in};
 ghost use Rattle.task_claims.specs.Claims.{ClaimsNothing, MovesClaims, no_claims};
 ghost use Rattle.task_claims.specs.Leaving.{LeavesOthers};
 ghost use Rattle.task_steps.specs.Step.{ended_by};
-ghost use Rattle.mail_fetch.specs.Claims.{HasFetchRoom, HasUseRoom, IsReadyToFetch, fetch_claims, used_by};
+ghost use Rattle.mail_fetch.specs.Claims.{HasClaimed, HasFetchRoom, HasUseRoom, IsReadyToFetch, claims_of_pinned, fetch_claims, used_by, without_claims};
 ghost use Rattle.mail_fetch.specs.Clause.{FetchSteps, FetchesAlone};
 ghost use Rattle.mail_fetch.specs.Failed.{HasFailedRead};
-ghost use Rattle.mail_fetch.specs.Events.{IsBegun, IsPieceRead, NoChangeFault};
+ghost use Rattle.mail_fetch.specs.Events.{IsBegun, IsPieceRead, IsUnpinned, NoChangeFault};
 ghost use Rattle.mail_fetch.specs.Parts.{KnowsSource};
 ghost use Rattle.mail_fetch.specs.Region.{RegionValue};
-ghost use Rattle.mail_fetch.specs.Task.{HasPieceLeft, UnpinsUndoomed, events_left, fetch_did};
+ghost use Rattle.mail_fetch.specs.Task.{HasPieceLeft, events_left, fetch_did};
 ghost use Rattle.mail_fetch.specs.declared.task.FetchStage.TheVariants as stage;
 
 use crate::claim::{claim, give_back};
@@ -24,7 +24,7 @@ use crate::first::find_message;
 use crate::parts::StoredAt;
 use crate::region::Region;
 use disk_model::Disk;
-use mdbox_base::{Did, Half, Name, Progress, Refusal, Reply, Uid};
+use mdbox_base::{Did, FileNo, Half, Name, Progress, Refusal, Reply, Uid};
 use std::marker::Model;
 use std::mem;
 use store_core::Store;
@@ -36,8 +36,10 @@ pub enum FetchStage {
     First,
     /// One that reads a piece of the region, or of an instance.
     Reading(Region),
-    /// The last, which unpins and gives this reply.
+    /// One that unpins. It gives this reply, unless the file is doomed and this was its last pin.
     Unpinning { from: StoredAt, reply: Reply },
+    /// The one after it then, which removes the file and gives this reply.
+    Removing { file: FileNo, reply: Reply },
 }
 
 /// The task of a fetch: its events, one at a step.
@@ -80,17 +82,18 @@ impl FetchTask {
     }
 
     /// Does the next event: the first one finds the message, takes the memory for it, pins its storage file and holds its instances;
-    /// each one behind it reads a piece, and the last one gives back the pin and the holds, and the reply. A task that has given its
-    /// reply begins anew; one that was stopped stays where it was.
+    /// each one after it reads a piece, and another one gives back the pin and the holds. That is the last, and gives the reply, unless
+    /// a purge has doomed the file and no pin of it is left: then one more removes the file, and gives the reply. A task that has given
+    /// its reply begins anew; one that was stopped stays where it was.
     pub fn step<D: Disk>(&mut self, store: &mut Store<D>) -> Progress
         requires ready { store.old.stopped ≡ false → IsReadyToFetch self.old.stage store.old }
         requires room { store.old.stopped ≡ false → HasFetchRoom self.old.stage store.old }
         // Of every run that has come to the store, and of lists for which its files are safe: which event it was, what it
-        // answered, and what a crash may leave. Unless the store is stopped, no purge has doomed the file that is unpinned.
-        ensures does { (around after : Around) → (store.old.stopped ≡ false → UnpinsUndoomed self.old.stage store.old) → FetchSteps around after self.old.name self.old.uid self.old.stage self.new.stage store.old store.new (D.history store.old.disk) (D.history store.new.disk) (D.faults store.old.disk) (D.faults store.new.disk) self.new.did (ended_by result) }
+        // answered, and what a crash may leave.
+        ensures does { (around after : Around) → FetchSteps around after self.old.name self.old.uid self.old.stage self.new.stage store.old store.new (D.history store.old.disk) (D.history store.new.disk) (D.faults store.old.disk) (D.faults store.new.disk) self.new.did (ended_by result) }
 
         // It moves only its own claims, and leaves to other tasks what is theirs. One that was replied claims nothing.
-        ensures claims { store.new.stopped ≡ false → UnpinsUndoomed self.old.stage store.old → MovesClaims (fetch_claims self.old.stage) (fetch_claims self.new.stage) store.old store.new }
+        ensures claims { store.new.stopped ≡ false → MovesClaims (fetch_claims self.old.stage) (fetch_claims self.new.stage) store.old store.new }
         ensures leaves { store.new.stopped ≡ false → LeavesOthers (fetch_claims self.old.stage) store.old store.new (D.history store.old.disk) (D.history store.new.disk) }
         ensures ended { (given : Reply) → result ≡ progress.Done given → store.new.stopped ≡ false → ClaimsNothing (fetch_claims self.new.stage) }
 
@@ -119,10 +122,22 @@ impl FetchTask {
                 Progress::More
             }
             FetchStage::Unpinning { from, reply } => {
-                give_back(store, &from);
+                let (next, answer) = unpin(store, from, reply);
+                self.stage = next;
                 self.did = Did::Quiet;
-                Progress::Done(reply)
+                answer
             }
+            FetchStage::Removing { file, reply } => match store.remove_file(file) {
+                Ok(()) => {
+                    self.did = Did::Quiet;
+                    Progress::Done(reply)
+                }
+                Err(_stopped) => {
+                    self.stage = FetchStage::Removing { file, reply };
+                    self.did = Did::Failed;
+                    Progress::Done(Reply::Refused(Refusal::Stopped))
+                }
+            },
         }
     }
 }
@@ -189,5 +204,22 @@ fn read_piece<D: Disk>(store: &mut Store<D>, region: Region) -> FetchStage
             from: region.into_from(),
             reply: Reply::Refused(Refusal::ReadFault),
         },
+    }
+}
+
+/// Gives back the pin and the holds. The request goes on if the file is to be removed now; else the reply is given.
+fn unpin<D: Disk>(store: &mut Store<D>, from: StoredAt, reply: Reply) -> (FetchStage, Progress)
+    requires claimed { HasClaimed from store.old }
+    ensures unpinned { IsUnpinned from reply result.0 result.1 store.old }
+    ensures same { store.new ≡ without_claims from store.old }
+    ensures claims { MovesClaims (claims_of_pinned from) (fetch_claims result.0) store.old store.new }
+    ensures leaves { LeavesOthers (claims_of_pinned from) store.old store.new (D.history store.old.disk) (D.history store.new.disk) }
+    ensures ready { IsReadyToFetch result.0 store.new }
+{
+    if give_back(store, &from) {
+        let file = from.file;
+        (FetchStage::Removing { file, reply }, Progress::More)
+    } else {
+        (FetchStage::First, Progress::Done(reply))
     }
 }

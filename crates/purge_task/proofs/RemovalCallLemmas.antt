@@ -110,7 +110,7 @@ gone_amount source left disk store d none (Removing n) = elim (cases_eq n source
       omega (arith, e, own)
 ]
 
-no_source : (thing : Thing) → claims_of_sources [] thing ≡ 0
+pub no_source : (thing : Thing) → claims_of_sources [] thing ≡ 0
 no_source (Due uid) = refl
 no_source (Held id) = refl
 no_source (Made n) = refl

@@ -22,7 +22,7 @@ use Rattle.purge_task.specs.declared.work.Work.{Work}
 use Rattle.purge_task.proofs.ListingLemmas.{mapped_at}
 
 -- what holds of each file that was found holds of each source
-zip_all : (P : FoundFile → Type 0) (Q : Source → Type 0) → ((f : FoundFile) (s : Source) → IsNewSource f s → P f → Q s) → (fs : List FoundFile) (ss : List Source) → AllZip IsNewSource fs ss → All P fs → All Q ss
+pub zip_all : (P : FoundFile → Type 0) (Q : Source → Type 0) → ((f : FoundFile) (s : Source) → IsNewSource f s → P f → Q s) → (fs : List FoundFile) (ss : List Source) → AllZip IsNewSource fs ss → All P fs → All Q ss
 zip_all P Q step [] [] z a = All-nil Q
 zip_all P Q step [] (s ∷ ss) z a = elim z [ ]
 zip_all P Q step (f ∷ fs) [] z a = elim z [ ]
@@ -38,7 +38,7 @@ zip_pairs (f ∷ fs) (s ∷ ss) z p =
     (zip_all (λ g. f.file.0 < g.file.0) (λ t. s.file.0 < t.file.0) (λ g t n lt. (let e = ap (λ x. x.0) n.file in omega (arith, lt, e, first))) fs ss z.1 (pairs_head (λ a b. a.file.0 < b.file.0) f fs p))
     (zip_pairs fs ss z.1 (pairs_tail (λ a b. a.file.0 < b.file.0) f fs p))
 
-zip_count : (fs : List FoundFile) (ss : List Source) → AllZip IsNewSource fs ss → count_by (λ s. s.is_wanted) ss ≡ count_by (λ f. f.is_wanted) fs
+pub zip_count : (fs : List FoundFile) (ss : List Source) → AllZip IsNewSource fs ss → count_by (λ s. s.is_wanted) ss ≡ count_by (λ f. f.is_wanted) fs
 zip_count [] [] z = refl
 zip_count [] (s ∷ ss) z = elim z [ ]
 zip_count (f ∷ fs) [] z = elim z [ ]
@@ -49,10 +49,10 @@ zip_count (f ∷ fs) (s ∷ ss) z =
     let rest = zip_count fs ss z.1 in
     omega (arith, a, b, one, rest)
 
-of_numbers : (P : ℕ → Type 0) (fs : List FoundFile) → All P (found_numbers fs) → All (λ f. P f.file.0) fs
+pub of_numbers : (P : ℕ → Type 0) (fs : List FoundFile) → All P (found_numbers fs) → All (λ f. P f.file.0) fs
 of_numbers P fs a = λ k d lt. subst P (mapped_at (λ (f : FoundFile). f.file.0) fs k d lt) (a k 0 (let e = length-map fs (λ f. f.file.0) in omega (arith, e, lt)))
 
-rising_files : (fs : List FoundFile) → AllPairs (λ a b. a < b) (found_numbers fs) → AllPairs (λ a b. a.file.0 < b.file.0) fs
+pub rising_files : (fs : List FoundFile) → AllPairs (λ a b. a < b) (found_numbers fs) → AllPairs (λ a b. a.file.0 < b.file.0) fs
 rising_files fs p = λ i j d lt l.
     let long = length-map fs (λ f. f.file.0) in
     let up = p i j 0 lt (omega (arith, long, l)) in

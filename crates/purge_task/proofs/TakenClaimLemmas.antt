@@ -47,7 +47,7 @@ emptying_keeps amount n m files same = elim (cases_eq m n) [
     mapped None = refl
     mapped (Some f) = same f
 
-nothing_there : (n : ℕ) (files : List MailFile) → All (λ f. f.file.0 ≢ n) files → file_in n files ≡ None
+pub nothing_there : (n : ℕ) (files : List MailFile) → All (λ f. f.file.0 ≢ n) files → file_in n files ≡ None
 nothing_there n [] none = refl
 nothing_there n (y ∷ ys) none = rw (unequal y.file.0 n (All-head (λ f. f.file.0 ≢ n) y ys none)) (nothing_there n ys (All-tail (λ f. f.file.0 ≢ n) y ys none))
 
@@ -90,14 +90,14 @@ emptied_one n m files f known free = elim (cases_eq n m) [
 abbrev Fresh : {D : Type 0} → StoreValue D → Type 0
 Fresh v = All (λ f. f.file.0 ≤ v.files.highest) v.files.files
 
-fresh_none : (n : ℕ) (most : ℕ) (files : List MailFile) → All (λ f. f.file.0 ≤ most) files → All (λ f. f.file.0 ≢ most + 1) files
+pub fresh_none : (n : ℕ) (most : ℕ) (files : List MailFile) → All (λ f. f.file.0 ≤ most) files → All (λ f. f.file.0 ≢ most + 1) files
 fresh_none n most files low = All-weaker (λ f. f.file.0 ≤ most) (λ f. f.file.0 ≢ most + 1) (λ f le e. omega (arith, le, e)) files low
 
 -- by how much one source moves an amount
 claim_one : Source → Claims
 claim_one s thing = claims_of_sources (s ∷ []) thing
 
-claims_cons : (s : Source) (rest : List Source) (thing : Thing) → claims_of_sources (s ∷ rest) thing ≡ claims_of_sources (s ∷ []) thing + claims_of_sources rest thing
+pub claims_cons : (s : Source) (rest : List Source) (thing : Thing) → claims_of_sources (s ∷ rest) thing ≡ claims_of_sources (s ∷ []) thing + claims_of_sources rest thing
 claims_cons s rest (Due uid) = refl
 claims_cons s rest (Pinned file) = refl
 claims_cons s rest (Taken file) =

@@ -148,12 +148,12 @@ drawn_file (s ∷ rest) v e = drawn_file rest (source_taken v s) (drawn_step v s
 
 -- ---- each is another
 
-file_same : (n : ℕ) (s : Source) (b : Bool) → (cond b (record s { target = Some (record { 0 = n + 1 }) }) s).file ≡ s.file
+pub file_same : (n : ℕ) (s : Source) (b : Bool) → (cond b (record s { target = Some (record { 0 = n + 1 }) }) s).file ≡ s.file
 file_same n s true = refl
 file_same n s false = refl
 
 -- what holds of the numbers of files holds of them with their targets
-given_files : (P : ℕ → Type 0) (n : ℕ) (sources : List Source) → All (λ s. P s.file.0) sources → All (λ s. P s.file.0) (targets_given n sources)
+pub given_files : (P : ℕ → Type 0) (n : ℕ) (sources : List Source) → All (λ s. P s.file.0) sources → All (λ s. P s.file.0) (targets_given n sources)
 given_files P n [] a = All-nil _
 given_files P n (s ∷ rest) a =
     All-cons (λ o. P o.file.0) (with_target n s) (targets_given (cond s.is_wanted (n + 1) n) rest) (subst (λ (f : FileNo). P f.0) (sym (file_same n s s.is_wanted)) (All-head (λ o. P o.file.0) s rest a)) (given_files P (cond s.is_wanted (n + 1) n) rest (All-tail (λ o. P o.file.0) s rest a))

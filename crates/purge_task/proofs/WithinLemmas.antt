@@ -17,7 +17,7 @@ behind_first y ys x c = Contains-append_right (y ∷ []) ys x c
 first_of : {X : Type 0} → (x : X) (xs : List X) → Contains (x ∷ xs) x
 first_of x xs = All-head (λ (y : _). Contains (x ∷ xs) y) x xs (All-contains_itself (x ∷ xs))
 
-mapped_of : {X Y : Type 0} → (f : X → Y) (xs : List X) (x : X) → Contains xs x → Contains (map f xs) (f x)
+pub mapped_of : {X Y : Type 0} → (f : X → Y) (xs : List X) (x : X) → Contains xs x → Contains (map f xs) (f x)
 mapped_of f [] x c = absurd (none_contained x c)
 mapped_of f (y ∷ ys) x c = by_case (among y ys x c) (mapped_of f ys x)
   where
@@ -25,7 +25,7 @@ mapped_of f (y ∷ ys) x c = by_case (among y ys x c) (mapped_of f ys x)
     by_case (inl same) rest = subst (λ (z : _). Contains (map f (y ∷ ys)) (f z)) same (first_of (f y) (map f ys))
     by_case (inr later) rest = behind_first (f y) (map f ys) (f x) (rest later)
 
-of_mapped : {X Y : Type 0} → (f : X → Y) (xs : List X) (y : Y) → Contains (map f xs) y → (x : X) × Contains xs x × (f x ≡ y)
+pub of_mapped : {X Y : Type 0} → (f : X → Y) (xs : List X) (y : Y) → Contains (map f xs) y → (x : X) × Contains xs x × (f x ≡ y)
 of_mapped f [] y c = absurd (none_contained y c)
 of_mapped f (x ∷ xs) y c = by_case (among (f x) (map f xs) y c) (of_mapped f xs y)
   where
@@ -33,7 +33,7 @@ of_mapped f (x ∷ xs) y c = by_case (among (f x) (map f xs) y c) (of_mapped f x
     by_case (inl same) rest = (x, first_of x xs, same)
     by_case (inr later) rest = let r = rest later in (r.0, behind_first x xs r.0 r.1, r.2)
 
-of_kept : {X : Type 0} → (p : X → Bool) (xs : List X) (x : X) → Contains (filter p xs) x → Contains xs x
+pub of_kept : {X : Type 0} → (p : X → Bool) (xs : List X) (x : X) → Contains (filter p xs) x → Contains xs x
 of_kept p [] x c = absurd (none_contained x c)
 of_kept p (y ∷ ys) x c = by_test (p y) refl (of_kept p ys x)
   where

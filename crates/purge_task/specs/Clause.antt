@@ -110,3 +110,7 @@ did_of_refusal why = did.Step half.Whole
 abbrev pub came_to : Result PurgeStage Refusal → PurgeValue → PurgeValue
 came_to (Ok next) t = record t { stage = next; did = did.Quiet }
 came_to (Err why) t = record t { stage = stage.First; did = did_of_refusal why }
+
+-- the task with nothing counted
+abbrev pub uncounted : PurgeValue → PurgeValue
+uncounted t = record t { dropped = 0; files = 0; instances = 0 }

@@ -17,6 +17,7 @@ use Rattle.store_core.specs.Removing.{AreElsewhere}
 use Rattle.store_core.specs.Value.{StoreValue}
 use Rattle.purge_task.specs.Claims.{sources_left}
 use Rattle.purge_task.specs.Found.{messages_in}
+use Rattle.purge_task.specs.Left.{purge_files, purge_left}
 use Rattle.purge_task.specs.Reserved.{HasListRoom}
 use Rattle.purge_task.specs.declared.task.PurgeStage.{PurgeStage}
 use Rattle.purge_task.specs.declared.task.PurgeStage.TheVariants as stage
@@ -33,14 +34,6 @@ pub record PurgeValue : Type 0 where
   pub dropped : ℕ
   pub files : ℕ
   pub instances : ℕ
-
--- How many events are still to come at the most: of each file that is left those of its records and four more, one for each known
--- instance, and the reply.
-abbrev pub file_events : {D : Type 0} → StoreValue D → Source → ℕ
-file_events store source = messages_in store.map source.file.0 + 4
-
-abbrev pub instance_events : {D : Type 0} → StoreValue D → ℕ
-instance_events store = length store.instances.known + 2
 
 -- ---- the memory that was taken
 
@@ -159,9 +152,23 @@ HasPurged other store history = Unit {0}
 
 -- ---- its numbers
 
--- The numbers that it counts fit: so many files it has emptied, each with at most 4,294,967,295 records; and it removes no more instances
--- than are known, and than are still placed.
-pub record HasCountRoom {D : Type 0} (t : PurgeValue) (store : StoreValue D) : Type 0 where
+-- The numbers that it counts fit: so many files it has emptied and is to empty, each with at most 4,294,967,295 records; and it removes no more
+-- instances than were known as it began, and were placed since.
+pub record HasLowCounts {D : Type 0} (t : PurgeValue) (store : StoreValue D) : Type 0 where
   pub dropped : t.dropped ≤ t.files * 4294967295
-  pub files : t.files ≤ 4294967294
+  pub files : t.files + purge_files t.stage ≤ 4294967295
   pub instances : t.instances + length store.instances.known ≤ 9223372036854775808 + store.instances.highest
+
+-- It counts from its first event on.
+abbrev pub HasCountRoom : {D : Type 0} → PurgeValue → StoreValue D → Type 0
+HasCountRoom t store = t.stage ≢ stage.First → HasLowCounts t store
+
+-- ---- all of it
+
+-- It is ready for its next event.
+abbrev pub IsReadyToPurge : {D : Type 0} → PurgeValue → StoreValue D → Option History → Type 0
+IsReadyToPurge t store history = HasPurged t.stage store history × HasCountRoom t store
+
+-- Behind an event that goes on, what it counts fits still, and fewer events are left.
+abbrev pub LeavesLess : {D : Type 0} → PurgeValue → PurgeValue → StoreValue D → StoreValue D → Type 0
+LeavesLess t next old new = HasLowCounts next new × (purge_left next.stage new < purge_left t.stage old)

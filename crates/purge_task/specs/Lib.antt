@@ -3,7 +3,9 @@ pub mod Clause
 pub mod Copied
 pub mod Found
 pub mod Keeping
+pub mod Left
 pub mod Reserved
 pub mod Stages
+pub mod SwitchEvent
 pub mod Switched
 pub mod Taken

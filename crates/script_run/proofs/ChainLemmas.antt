@@ -18,7 +18,7 @@ use Rattle.serving.proofs.LaneLemmas.{get_set_other, get_set_same, nat_cases, on
 use Rattle.store_core.specs.Value.{StoreValue}
 use Rattle.task_claims.specs.Leaving.{IsSameOrSynced, SyncsMail}
 use Rattle.task_steps.specs.Step.{ended_by}
-use Rattle.lane_tasks.specs.Clause.{StaysOfRequest, TaskKeeps, OnlyReads, ReadsNoOctets, SetsNoFlags, WritesTask}
+use Rattle.lane_tasks.specs.Clause.{DoomsNone, DoomsNothing, StaysOfRequest, TaskKeeps, OnlyReads, ReadsNoOctets, SetsNoFlags, WritesTask}
 use Rattle.lane_tasks.specs.declared.task.Task.{Task}
 use Rattle.lane_tasks.specs.declared.task.Task.TheVariants as task
 use Rattle.lane_tasks.proofs.StepLemmas.{ran_before}
@@ -129,6 +129,18 @@ counted_first world history faults runs = record {
   replied = λ stopped. absurd (let k : true ≡ false = sym stopped ∙ runs in cc k);
 }
 
+-- ---- tasks that neither doom storage files nor remove them
+
+pub record HasDoomedNone {D : Type 0} (world : WorldValue D) : Type 0 where
+  pub tasks : AllTasks DoomsNone world.rows
+  pub files : world.store.stopped ≡ false → DoomsNothing world.store
+
+pub undoomed_on : {D : Type 0} → StaysOver {D = D} (λ world history faults. HasDoomedNone world)
+undoomed_on lane old mid before between first counted e is =
+    let own = (in_turn DoomsNone lane old mid before between first counted e is.tasks).0 in
+    let left = e.works.goes.goes.keeps.undoomed own is.files in
+    record { tasks = tasks_after DoomsNone lane old mid before between first counted e (λ more. left.0) is.tasks; files = left.1 }
+
 -- ---- tasks that read at the most
 
 reads_next : (t next : Task) → OnlyReads t → StaysOfRequest t next → OnlyReads next
@@ -141,12 +153,14 @@ reads_next (task.Move t) next reads kind = absurd reads
 reads_next (task.Expunge t) next reads kind = absurd reads
 reads_next (task.Deliver t) next reads kind = absurd reads
 reads_next (task.Resync t) next reads kind = absurd reads
+reads_next (task.Purge t) next reads kind = absurd reads
 reads_next (task.Ops t) next reads kind = absurd kind
 reads_next (task.Counts t) next reads kind = absurd kind
 reads_next (task.Fetch t) next reads kind = absurd kind
 
 pub record HasOnlyRead {D : Type 0} (origin : Option History) (world : WorldValue D) (history : Option History) (faults : Faults) : Type 0 where
   pub tasks : AllTasks OnlyReads world.rows
+  pub undoomed : HasDoomedNone world
   pub idle : IsIdle origin history
   pub running : world.store.stopped ≡ false
 
@@ -154,10 +168,12 @@ pub reads_on : {D : Type 0} → (origin : Option History) → StaysOver {D = D} 
 reads_on origin lane old mid before between first counted e is =
     let k = e.works.goes.goes.keeps in
     let own = (in_turn OnlyReads lane old mid before between first counted e is.tasks).0 in
+    let none = (in_turn DoomsNone lane old mid before between first counted e is.undoomed.tasks).0 in
     record {
       tasks = tasks_after OnlyReads lane old mid before between first counted e (λ more. reads_next e.works.goes.queued.task e.works.goes.next own k.request) is.tasks;
-      idle = idle-then origin before between is.idle (k.idle own).0;
-      running = (k.idle own).2 ∙ is.running;
+      undoomed = undoomed_on lane old mid before between first counted e is.undoomed;
+      idle = idle-then origin before between is.idle (k.idle own none).0;
+      running = (k.idle own none).2 ∙ is.running;
     }
 
 -- ---- tasks that read no octets
@@ -166,9 +182,11 @@ unread_next : (t next : Task) → ReadsNoOctets t → StaysOfRequest t next → 
 unread_next (task.Fetch t) next none kind = absurd none
 unread_next (task.Deliver t) next none kind = absurd none
 unread_next (task.Resync t) next none kind = absurd none
+unread_next (task.Purge t) next none kind = absurd none
 unread_next t (task.Fetch next) none kind = absurd kind
 unread_next t (task.Deliver next) none kind = absurd kind
 unread_next t (task.Resync next) none kind = absurd kind
+unread_next t (task.Purge next) none kind = absurd kind
 unread_next t next none kind = tt
 
 pub record HasReadNoOctets {D : Type 0} (start : Faults) (world : WorldValue D) (history : Option History) (faults : Faults) : Type 0 where
@@ -181,15 +199,19 @@ unread_on start lane old mid before between first counted e is =
     let own = (in_turn ReadsNoOctets lane old mid before between first counted e is.tasks).0 in
     record { tasks = tasks_after ReadsNoOctets lane old mid before between first counted e (λ more. unread_next e.works.goes.queued.task e.works.goes.next own k.request) is.tasks; unread = k.unread own ∙ is.unread }
 
--- ---- tasks that deliver nothing
+-- ---- tasks that write nothing to storage files
 
-abbrev pub NoDelivery : Task → Type 0
-NoDelivery (task.Deliver t) = ⊥
-NoDelivery other = Unit {0}
+-- neither of a delivery nor of a purge
+abbrev pub WritesNoMail : Task → Type 0
+WritesNoMail (task.Deliver t) = ⊥
+WritesNoMail (task.Purge t) = ⊥
+WritesNoMail other = Unit {0}
 
-none_next : (t next : Task) → NoDelivery t → StaysOfRequest t next → NoDelivery next
+none_next : (t next : Task) → WritesNoMail t → StaysOfRequest t next → WritesNoMail next
 none_next (task.Deliver t) next none kind = absurd none
+none_next (task.Purge t) next none kind = absurd none
 none_next t (task.Deliver next) none kind = absurd kind
+none_next t (task.Purge next) none kind = absurd kind
 none_next t next none kind = tt
 
 named_twice : (f : FileState) → named (named f) ≡ named f
@@ -223,26 +245,33 @@ pub syncs_first : (history : Option History) → SyncsMail history history
 syncs_first None = refl
 syncs_first (Some h) = (λ number. inl refl, λ hash id. inl refl)
 
-syncs_event : {D : Type 0} → (t next : Task) (old : StoreValue D) (before between : Option History) → NoDelivery t → WritesTask t next old before between → SyncsMail before between
-syncs_event (task.Deliver t) next old before between none writes = absurd none
-syncs_event t next old before between none writes = writes
+syncs_event : {D : Type 0} → (t next : Task) (old : StoreValue D) (before between : Option History) → WritesNoMail t → DoomsNone t → WritesTask t next old before between → SyncsMail before between
+syncs_event (task.Deliver t) next old before between none dooms writes = absurd none
+syncs_event (task.Purge t) next old before between none dooms writes = absurd none
+syncs_event (task.Fetch t) next old before between none dooms writes = writes dooms
+syncs_event t next old before between none dooms writes = writes
 
-kept_event : {D : Type 0} → (t next : Task) (old new : StoreValue D) (before between : Option History) (first counted : Faults) (ended : Option Reply) (m : MapMeaning) → NoDelivery t → TaskKeeps t next old new before between first counted ended → MailIsKept m before between
-kept_event (task.Deliver t) next old new before between first counted ended m none k = absurd none
-kept_event t next old new before between first counted ended m none k = k.mail m tt
+kept_event : {D : Type 0} → (t next : Task) (old new : StoreValue D) (before between : Option History) (first counted : Faults) (ended : Option Reply) (m : MapMeaning) → WritesNoMail t → DoomsNone t → TaskKeeps t next old new before between first counted ended → MailIsKept m before between
+kept_event (task.Deliver t) next old new before between first counted ended m none dooms k = absurd none
+kept_event (task.Purge t) next old new before between first counted ended m none dooms k = absurd none
+kept_event (task.Fetch t) next old new before between first counted ended m none dooms k = k.mail m (λ removes. absurd (removes dooms))
+kept_event t next old new before between first counted ended m none dooms k = k.mail m tt
 
-pub record HasNotDelivered {D : Type 0} (origin : Option History) (world : WorldValue D) (history : Option History) (faults : Faults) : Type 0 where
-  pub tasks : AllTasks NoDelivery world.rows
+pub record HasWrittenNone {D : Type 0} (origin : Option History) (world : WorldValue D) (history : Option History) (faults : Faults) : Type 0 where
+  pub tasks : AllTasks WritesNoMail world.rows
+  pub undoomed : HasDoomedNone world
   pub synced : world.store.stopped ≡ false → SyncsMail origin history
   pub kept : (m : MapMeaning) → MailIsKept m origin history
 
-pub undelivered_on : {D : Type 0} → (origin : Option History) → StaysOver {D = D} (HasNotDelivered origin)
-undelivered_on origin lane old mid before between first counted e is =
+pub unwritten_on : {D : Type 0} → (origin : Option History) → StaysOver {D = D} (HasWrittenNone origin)
+unwritten_on origin lane old mid before between first counted e is =
     let w = e.works in
     let k = w.goes.goes.keeps in
-    let own = (in_turn NoDelivery lane old mid before between first counted e is.tasks).0 in
+    let own = (in_turn WritesNoMail lane old mid before between first counted e is.tasks).0 in
+    let dooms = (in_turn DoomsNone lane old mid before between first counted e is.undoomed.tasks).0 in
     record {
-      tasks = tasks_after NoDelivery lane old mid before between first counted e (λ more. none_next w.goes.queued.task w.goes.next own k.request) is.tasks;
-      synced = λ runs. names_then origin before between (is.synced (ran_before old.store.stopped mid.store.stopped w.goes.goes.halted runs)) (syncs_event w.goes.queued.task w.goes.next old.store before between own (k.left runs));
-      kept = λ m. kept_then m origin before between w.goes.goes.image (is.kept m) (kept_event w.goes.queued.task w.goes.next old.store mid.store before between first counted (ended_by w.event.ended) m own k);
+      tasks = tasks_after WritesNoMail lane old mid before between first counted e (λ more. none_next w.goes.queued.task w.goes.next own k.request) is.tasks;
+      undoomed = undoomed_on lane old mid before between first counted e is.undoomed;
+      synced = λ runs. names_then origin before between (is.synced (ran_before old.store.stopped mid.store.stopped w.goes.goes.halted runs)) (syncs_event w.goes.queued.task w.goes.next old.store before between own dooms (k.left runs));
+      kept = λ m. kept_then m origin before between w.goes.goes.image (is.kept m) (kept_event w.goes.queued.task w.goes.next old.store mid.store before between first counted (ended_by w.event.ended) m own dooms k);
     }

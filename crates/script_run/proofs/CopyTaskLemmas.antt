@@ -285,5 +285,6 @@ begun_copy name uid target s mid running (task.Make t) b = absurd (cc b.is_of)
 begun_copy name uid target s mid running (task.Expunge t) b = absurd (cc b.is_of)
 begun_copy name uid target s mid running (task.Move t) b = absurd (cc b.is_of)
 begun_copy name uid target s mid running (task.Fetch t) b = absurd (cc b.is_of)
+begun_copy name uid target s mid running (task.Purge t) b = absurd (cc b.is_of)
 begun_copy name uid target s mid running (task.Deliver t) b = absurd b.is_of
 begun_copy name uid target s mid running (task.Resync t) b = absurd (cc b.is_of)

@@ -24,6 +24,7 @@ use Rattle.serving.specs.Serving.{AreIdle, HaveLanes, unreplied}
 use Rattle.sis_store.specs.Instances.{AreInstances}
 use Rattle.store_core.proofs.InstanceFirmLemmas.{named_all_firm}
 use Rattle.store_core.specs.Running.{IsStore}
+use Rattle.storage_files.specs.Files.{is_doomed_in}
 use Rattle.store_core.specs.Value.{StoreValue, indexes_of, list_named}
 use Rattle.store_open.specs.Opened.{KeepsOpenedMail}
 use Rattle.store_seen.specs.Seeing.{IsAtOpening}
@@ -34,9 +35,9 @@ use Rattle.mail_fetch.specs.Task.{seen_in}
 use Rattle.lanes.specs.Going.{AreFreshRows, IsGoing}
 use Rattle.lanes.specs.Rows.{LaneRow, lane_value, lanes_of}
 use Rattle.attach_detach.specs.declared.message.Prepared.{Prepared}
-use Rattle.lanes.specs.Worlds.{AreGiven, AreOfLanes, ArePartsOf, GoesOnBy, HasItsMessage, IsFreshWorld, IsWorldOf, PartsValue, WorldValue, and_events}
+use Rattle.lanes.specs.Worlds.{AreGiven, AreOfLanes, ArePartsOf, GoesOnBy, IsFreshWorld, IsWorldOf, PartsValue, WorldValue, and_events}
 use Rattle.lanes.proofs.TraceLemmas.{as_finished, world_finished}
-use Rattle.lane_tasks.specs.Clause.{IsAtStart, OnlyReads, ReadsNoOctets}
+use Rattle.lane_tasks.specs.Clause.{DoomsNone, IsAtStart, OnlyReads, ReadsNoOctets}
 use Rattle.task_steps.proofs.UnmovedLemmas.{mail_still}
 use Rattle.lane_tasks.specs.Tasks.{BeginsTask}
 use Rattle.mail_ops.specs.Flagging.{flag_refusal}
@@ -47,17 +48,17 @@ use Rattle.script_run.specs.Done.{IsScriptDone, LeavesStore, MayBeKept, MayBeSer
 use Rattle.script_run.specs.Faults.{FaultsByReplies, HasReadFault}
 use Rattle.script_run.specs.LeftOpen.{IsServedOpen}
 use Rattle.script_run.specs.Opening.{AreSafeFor, LogsShowLists}
-use Rattle.script_run.specs.Script.{HasStopped, ServesScript, has_change, has_delivery, has_fetch, is_fetch, has_mail_read}
+use Rattle.script_run.specs.Script.{HasStopped, ServesScript, has_change, has_delivery, has_fetch, is_fetch, is_purge, has_mail_read, has_purge}
 use Rattle.script_run.proofs.EndLemmas.{all_given, script_served, serves_from, unharmed}
 use Rattle.script_run.proofs.MailStaysLemmas.{opening_keeps, run_keeps, stays_from}
 use Rattle.script_run.proofs.CopyTaskLemmas.{IsCopyTold, StandsCopy, begun_copy, keeps_copy}
-use Rattle.script_run.proofs.ChainLemmas.{HasCounted, HasNotDelivered, HasOnlyRead, NoDelivery, counted_first, counted_on, reads_on, stays_over, syncs_first, undelivered_on, HasReadNoOctets, unread_on}
-use Rattle.script_run.proofs.SinceLemmas.{ServedSince, begun_first, fresh_tasks, reads_first, served_since, undelivered_first, unread_first}
+use Rattle.script_run.proofs.ChainLemmas.{HasCounted, HasDoomedNone, HasOnlyRead, HasWrittenNone, WritesNoMail, counted_first, counted_on, reads_on, stays_over, syncs_first, unwritten_on, HasReadNoOctets, unread_on}
+use Rattle.script_run.proofs.SinceLemmas.{ServedSince, begun_first, changes_none, dooms_first, fresh_tasks, reads_first, reads_unpurged, served_since, unpurged, unread_first, unwritten_first}
 use Rattle.script_run.proofs.MakeTaskLemmas.{IsMakeTold, StandsMake, begun_make, keeps_make, making_cause, unmade_alike}
 use Rattle.script_run.proofs.MoveTaskLemmas.{IsMoveTold, StandsMove, begun_move, keeps_move}
-use Rattle.script_run.proofs.MovedLemmas.{Purges, all_at, none_moved}
+use Rattle.script_run.proofs.MovedLemmas.{all_at, none_moved}
 use Rattle.script_run.proofs.OneTaskLemmas.{IsAloneSo, IsExpungeTold, IsFlagTold, KeepsAlone, StandsExpunge, StandsFlag, alone_fresh, alone_on, begun_expunge, keeps_expunge, keeps_flag}
-use Rattle.script_run.proofs.OpenedLemmas.{none_holds, none_used}
+use Rattle.script_run.proofs.OpenedLemmas.{none_doomed, none_holds, none_used}
 use Rattle.script_run.proofs.ReadFaultLemmas.{TellsFault, faults_are_told}
 use Rattle.script_run.proofs.RunBeginsLemmas.{OpenedNow, at_opening, before_opening, beginning, first_come, opening_begins}
 use Rattle.script_run.proofs.ShownLemmas.{LogsShow, opened_logs_show, opens_again}
@@ -117,7 +118,6 @@ begins_from start script lanes parts old mid first s o world law g are shows may
       few = g.few;
       waiting = g.waiting;
       accounts = g.accounts;
-      undoomed = g.undoomed;
       quiet = g.quiet;
       fetched = λ place lane name uid at. may (fetches script place lane name uid at);
       undamaged = g.undamaged;
@@ -135,20 +135,6 @@ at_given : (given : List Reply) (one : Reply) → Contains given one → (i : �
 at_given [] one c = absurd (let k = c.1 in omega (arith, k))
 at_given (r ∷ rest) one (zero, l, c) = (0, ap (λ (x : Reply). Some (Some x)) c)
 at_given (r ∷ rest) one (suc n, l, c) = let h = at_given rest one (n, omega (arith, l), c) in (suc h.0, h.1)
-
--- a request that is given what it wants is no purge
-not_purging : (asked : Request) (one : Option Prepared) → HasItsMessage asked one → Purges asked → ⊥
-not_purging request.Purge one h p = h.0
-not_purging asked one h p = p
-
-pub none_purges : (script : Requests) (prepared : List (Option Prepared)) → AreGiven script prepared → (i : ℕ) (asked : ℕ × Request) → slice_get script i ≡ Some asked → Purges asked.1 → ⊥
-none_purges [] prepared given i asked at p = absurd (let e : None ≡ Some asked = at in cc e)
-none_purges (first ∷ script) [] given i asked at p = absurd given
-none_purges (first ∷ script) (one ∷ prepared) given zero asked at p =
-    let e : Some first ≡ Some asked = at in
-    let is : first ≡ asked = cc e in
-    not_purging asked.1 one (subst (λ (q : ℕ × Request). HasItsMessage q.1 one) is given.0) p
-none_purges (first ∷ script) (one ∷ prepared) given (suc i) asked at p = none_purges script prepared given.1 i asked at p
 
 pub settled_safe : (lists : Lists) (old : Option History) → IsSettledFor lists old → AreSafeFor lists old
 settled_safe lists None at = absurd at
@@ -169,7 +155,6 @@ LanesBegin D = (start : Lists) (script : Requests) (run : Run) (rows : List Lane
 pub record ScriptRan {D : Type 0} (script : Requests) (old mid new : Option History) (first last : Faults) (s : StoreValue D) (world ended : WorldValue D) : Type 0 where
   pub opened : OpenedNow old mid s
   pub show : LogsShow
-  pub unpurged : (i : ℕ) (asked : ℕ × Request) → slice_get script i ≡ Some asked → Purges asked.1 → ⊥
   pub fresh : AreFreshRows script world.rows
   pub store_is : world.store ≡ s
   pub runs : world.store.stopped ≡ false
@@ -240,18 +225,26 @@ faults_of_run script old mid new first last s world ended r given are start show
     }
 
 -- and storage files and instances stayed
-mail_of_run : {D : Type 0} → (script : Requests) (old mid new : Option History) (first last : Faults) (s : StoreValue D) (world ended : WorldValue D) → (r : ScriptRan script old mid new first last s world ended) → (start : Lists) → LogsShowLists s.map (indexes_of s.boxes) start → MayRead script start old → MailIsKept s.map old new
-mail_of_run script old mid new first last s world ended r start shows may =
+mail_of_run : {D : Type 0} → (script : Requests) (old mid new : Option History) (first last : Faults) (s : StoreValue D) (world ended : WorldValue D) → (r : ScriptRan script old mid new first last s world ended) → (start : Lists) → LogsShowLists s.map (indexes_of s.boxes) start → MayRead script start old → has_purge script ≡ false → MailIsKept s.map old new
+mail_of_run script old mid new first last s world ended r start shows may none =
     let w = ended_world script old mid new first last s world ended r start shows may in
     let going = w.is.going in
-    going.serving.serves.mail (none_moved going.serving.follows.around going.serving.follows.after script start _ w.more r.unpurged going.serving.follows.next)
+    going.serving.serves.mail (none_moved going.serving.follows.around going.serving.follows.after script start _ w.more (λ i asked at. unpurged script i asked.0 asked.1 none at) going.serving.follows.next)
 
--- A script without a delivery leaves them as the opening left them.
-undelivered_run : {D : Type 0} → (script : Requests) (old mid new : Option History) (first last : Faults) (s : StoreValue D) (world ended : WorldValue D) → ScriptRan script old mid new first last s world ended → has_delivery script ≡ false → HasNotDelivered mid ended new last
-undelivered_run script old mid new first last s world ended r none =
-    stays_over (HasNotDelivered mid) (undelivered_on mid) 0 r.turns (as_finished world) ended mid new first last r.chain
+-- In the store that was opened no file is doomed, and no task of a script without a purge is to remove one.
+undoomed_first : {D : Type 0} → (script : Requests) (old mid new : Option History) (first last : Faults) (s : StoreValue D) (world ended : WorldValue D) → ScriptRan script old mid new first last s world ended → ((place lane : ℕ) (asked : Request) → slice_get script place ≡ Some (lane, asked) → is_purge asked ≡ false) → HasDoomedNone (as_finished world)
+undoomed_first script old mid new first last s world ended r none = record {
+  tasks = fresh_tasks DoomsNone script world.rows (λ place lane asked t at begins. dooms_first asked t (none place lane asked at) begins) r.fresh;
+  files = λ runs file. ap (λ (v : StoreValue _). is_doomed_in file v.files.files) r.store_is ∙ none_doomed s old r.opened.files file;
+}
+
+-- A script with neither a delivery nor a purge leaves them as the opening left them.
+unwritten_run : {D : Type 0} → (script : Requests) (old mid new : Option History) (first last : Faults) (s : StoreValue D) (world ended : WorldValue D) → ScriptRan script old mid new first last s world ended → has_delivery script ≡ false → has_purge script ≡ false → HasWrittenNone mid ended new last
+unwritten_run script old mid new first last s world ended r none none_purges =
+    stays_over (HasWrittenNone mid) (unwritten_on mid) 0 r.turns (as_finished world) ended mid new first last r.chain
     (record {
-      tasks = fresh_tasks NoDelivery script world.rows (λ place lane asked t at begins. undelivered_first script place lane asked t none at begins) r.fresh;
+      tasks = fresh_tasks WritesNoMail script world.rows (λ place lane asked t at begins. unwritten_first script place lane asked t none none_purges at begins) r.fresh;
+      undoomed = undoomed_first script old mid new first last s world ended r (λ place lane asked at. unpurged script place lane asked none_purges at);
       synced = λ runs. syncs_first mid;
       kept = λ m. mail_still m mid;
     })
@@ -262,6 +255,7 @@ idle_run script old mid new first last s world ended r none =
     stays_over (HasOnlyRead mid) (reads_on mid) 0 r.turns (as_finished world) ended mid new first last r.chain
     (record {
       tasks = fresh_tasks OnlyReads script world.rows (λ place lane asked t at begins. reads_first script place lane asked t none at begins) r.fresh;
+      undoomed = undoomed_first script old mid new first last s world ended r (λ place lane asked at. reads_unpurged asked (changes_none script place lane asked none at));
       idle = idle-begins mid;
       running = r.runs;
     })
@@ -282,7 +276,7 @@ serves_run script old mid new first last s world ended r given are start shows m
     let going = subst (λ (rs : List (Option Reply)). IsGoing start script run w.more w.broke rs from ended.store new last ended.rows) are w.is.going in
     script_served start script run w.more w.broke given ended.journal from ended.began ended.store mid new last ended.rows going going.serving.stays_stopped r.later r.opened.drawn (opening_begins old mid s r.opened)
     (λ e. let i = going.serving.replied_stopped e in given_at given i.0 (reply.Refused refusal.Stopped) i.1) (subst (λ (n : ℕ). IsMoment mid n) (sym r.same_began) r.made_is, w.later) w.is.entries
-    (w.refused (fresh_tasks IsAtStart script world.rows (λ place lane asked t at begins. begun_first asked t begins) r.fresh))
+    (λ none. w.refused (fresh_tasks IsAtStart script world.rows (λ place lane asked t at begins. begun_first asked t (unpurged script place lane asked none at) begins) r.fresh))
 
 -- Some lists are shown from which the script may be served, if there are lists from which it may read.
 start_of : {D : Type 0} → (script : Requests) (old mid : Option History) (s : StoreValue D) → OpenedNow old mid s → LogsShow → MayBeServed script old → (start : Lists) × LogsShowLists s.map (indexes_of s.boxes) start × MayRead script start old
@@ -386,7 +380,7 @@ leaves_run script old mid new first last s world ended r given are = record {
   closed_well = r.opened.closed_well;
   grows = (counts_of_run script old mid new first last s world ended r).grows;
   idle = λ none. (idle_run script old mid new first last s world ended r none).idle;
-  mail = λ none unstopped. (undelivered_run script old mid new first last s world ended r none).synced (stopped_by script old mid new first last s world ended r given are unstopped);
+  mail = λ none none_purges unstopped. (unwritten_run script old mid new first last s world ended r none none_purges).synced (stopped_by script old mid new first last s world ended r given are unstopped);
 }
 
 stays_run : {D : Type 0} → (script : Requests) (old mid new : Option History) (first last : Faults) (s : StoreValue D) (world ended : WorldValue D) → ScriptRan script old mid new first last s world ended → MayBeKept script old → KeepsOpenedMail old new
@@ -394,10 +388,10 @@ stays_run script old mid new first last s world ended r may = by_test (has_deliv
   where
     by_test : (b : Bool) → has_delivery script ≡ b → KeepsOpenedMail old new
     by_test true e =
-        let start = start_of script old mid s r.opened r.show (may e) in
-        run_keeps old new s.map (indexes_of s.boxes) r.opened.opened (mail_of_run script old mid new first last s world ended r start.0 start.1 start.2)
+        let start = start_of script old mid s r.opened r.show (may.1 e) in
+        run_keeps old new s.map (indexes_of s.boxes) r.opened.opened (mail_of_run script old mid new first last s world ended r start.0 start.1 start.2 may.0)
     by_test false e =
-        let kept = (undelivered_run script old mid new first last s world ended r e).kept s.map in
+        let kept = (unwritten_run script old mid new first last s world ended r e may.0).kept s.map in
         stays_from old mid new s.map (indexes_of s.boxes) r.opened.opened r.opened.reads r.opened.stays kept
 
 done_run : {D : Type 0} → (script : Requests) (old mid new : Option History) (first last : Faults) (s : StoreValue D) (world ended : WorldValue D) → ScriptRan script old mid new first last s world ended → (given : List Reply) → ended.replies ≡ map Some given → IsScriptDone script given ended.journal old new first last
@@ -459,7 +453,6 @@ pub script_ran : {D : Type 0} → (script : Requests) (lanes : ℕ) (prepared : 
 script_ran script lanes prepared parts old mid new first last s world ended turns o show given are begun going goes keeps replied idle later begin law = record {
   opened = o;
   show = show;
-  unpurged = none_purges script prepared given;
   fresh = subst (λ (rows : List LaneRow). AreFreshRows script rows) (sym (ap (λ (w : WorldValue _). w.rows) begun.2)) are.rows;
   store_is = ap (λ (w : WorldValue _). w.store) begun.2;
   runs = ap (λ (w : WorldValue _). w.store.stopped) begun.2 ∙ o.running;

@@ -136,5 +136,6 @@ begun_move name uid target s mid running (task.Make t) b = absurd (cc b.is_of)
 begun_move name uid target s mid running (task.Expunge t) b = absurd (cc b.is_of)
 begun_move name uid target s mid running (task.Copy t) b = absurd (cc b.is_of)
 begun_move name uid target s mid running (task.Fetch t) b = absurd (cc b.is_of)
+begun_move name uid target s mid running (task.Purge t) b = absurd (cc b.is_of)
 begun_move name uid target s mid running (task.Deliver t) b = absurd b.is_of
 begun_move name uid target s mid running (task.Resync t) b = absurd (cc b.is_of)

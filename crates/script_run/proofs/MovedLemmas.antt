@@ -1,5 +1,5 @@
 -- Events of which none moves or drops records: all but those of a purge.
-use Rattle.std.specs.Prelude.{◌≡◌, ℕ, suc, Bool, false, List, [], ◌∷◌, All, slice_get, Option, Some, None}
+use Rattle.std.specs.Prelude.{◌≡◌, ℕ, suc, Bool, true, false, List, [], ◌∷◌, All, slice_get, Option, Some, None}
 use Rattle.std.specs.List.{list_any}
 use Rattle.std.proofs.Common.{refl, ◌∙◌, ap}
 use Rattle.std.proofs.lemmas.List.Elements.{All-cons, All-nil}
@@ -15,6 +15,7 @@ use Rattle.journal.specs.Events.{Around, DidCopy, DidDeliver, DidFetch, DidMake,
 use Rattle.journal.specs.Journal.{JournalStep, Requests}
 use Rattle.journal.specs.Makes.{AreNextEvents, lists_before}
 use Rattle.task_steps.specs.Serves.{NoneMoved, moves_records}
+use Rattle.script_run.specs.Script.{is_purge}
 
 abbrev entries_moved : RunEvent → Bool
 entries_moved event = list_any moves_records event.map_entries
@@ -107,11 +108,6 @@ by_fetch run lists name uid event CopiesMessage d = ap entries_moved d
 by_fetch run lists name uid event Switches d = ap entries_moved d
 by_fetch run lists name uid event RemovesInstance d = ap entries_moved d
 by_fetch run lists name uid event ReadsFile d = ap entries_moved d
-
--- of a request that is no purge
-abbrev pub Purges : Request → Type 0
-Purges request.Purge = Unit {0}
-Purges other = ⊥
 
 removed_if_there : (run : Run) (lists : Lists) (name : List ℕ) (uid : ℕ) (event : RunEvent) (found : Option ListedMessage) → RemovesIfThere run lists name uid event found → Unmoved event
 removed_if_there run lists name uid event None d = ap entries_moved d
@@ -242,7 +238,7 @@ by_resync around run lists event Switches d = ap entries_moved d
 by_resync around run lists event RemovesInstance d = ap entries_moved d
 by_resync around run lists event ReadsFile d = ap entries_moved d
 
-by_part : (around : Around) (run : Run) (lists : Lists) (asked : Request) (event : RunEvent) (part : EventPart) → (Purges asked → ⊥) → DidPart around run lists asked event part → Unmoved event
+by_part : (around : Around) (run : Run) (lists : Lists) (asked : Request) (event : RunEvent) (part : EventPart) → is_purge asked ≡ false → DidPart around run lists asked event part → Unmoved event
 by_part around run lists (request.Deliver name time octets) event part none d = by_deliver around run lists name time octets event part d
 by_part around run lists (request.List name) event part none d = by_list around run lists name event part d
 by_part around run lists (request.Fetch name uid) event part none d = by_fetch run lists name uid.0 event part d
@@ -252,11 +248,11 @@ by_part around run lists (request.Move name uid target) event part none d = by_m
 by_part around run lists (request.Expunge name uid) event part none d = by_expunge around run lists name uid event part d
 by_part around run lists (request.Make name) event part none d = by_make run name event part d
 by_part around run lists request.Counts event part none d = by_counts around run lists event part d
-by_part around run lists request.Purge event part none d = absurd (none tt)
+by_part around run lists request.Purge event part none d = absurd (let k : true ≡ false = none in cc k)
 by_part around run lists request.Resync event part none d = by_resync around run lists event part d
 
 -- an event that was refused did nothing
-unmoved_event : (around after : Around) (run : Run) (lists : Lists) (asked : Request) (event : RunEvent) → (Purges asked → ⊥) → IsEvent around after run lists asked event → Unmoved event
+unmoved_event : (around after : Around) (run : Run) (lists : Lists) (asked : Request) (event : RunEvent) → is_purge asked ≡ false → IsEvent around after run lists asked event → Unmoved event
 unmoved_event around after run lists asked event none is = by_refused event.refused refl
   where
     by_refused : (o : Option Refusal) → event.refused ≡ o → Unmoved event
@@ -268,6 +264,6 @@ all_at P [] each = All-nil P
 all_at P (x ∷ xs) each = All-cons P x xs (each 0 x refl) (all_at P xs (λ n y at. each (suc n) y at))
 
 -- No event of a script moves records that has no purge.
-pub none_moved : (around after : ℕ → Around) (script : Requests) (start : Lists) (run : Run) (journal : List JournalStep) → ((i : ℕ) (asked : ℕ × Request) → slice_get script i ≡ Some asked → Purges asked.1 → ⊥) → AreNextEvents around after script start run journal → NoneMoved run.events
+pub none_moved : (around after : ℕ → Around) (script : Requests) (start : Lists) (run : Run) (journal : List JournalStep) → ((i : ℕ) (asked : ℕ × Request) → slice_get script i ≡ Some asked → is_purge asked.1 ≡ false) → AreNextEvents around after script start run journal → NoneMoved run.events
 none_moved around after script start run journal none next = all_at Unmoved run.events
     (λ n event at. let e = next n event at in unmoved_event (around n) (after n) (before n run) (lists_before start journal n) e.asked.1 event (none event.request e.asked e.request_is) e.is_event)

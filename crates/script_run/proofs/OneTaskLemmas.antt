@@ -155,6 +155,7 @@ tells_flag (task.Move t) next name uid flags old new before after ended of tells
 tells_flag (task.Expunge t) next name uid flags old new before after ended of tells = absurd (cc of)
 tells_flag (task.Fetch t) next name uid flags old new before after ended of tells = absurd (cc of)
 tells_flag (task.Resync t) next name uid flags old new before after ended of tells = absurd (cc of)
+tells_flag (task.Purge t) next name uid flags old new before after ended of tells = absurd (cc of)
 tells_flag (task.Deliver t) next name uid flags old new before after ended of tells = absurd of
 
 pub keeps_flag : {D : Type 0} → (name : List ℕ) (uid : Uid) (flags : ℕ) (s : StoreValue D) → KeepsAlone (StandsFlag name uid flags s) (IsFlagTold name uid flags s)
@@ -254,5 +255,6 @@ begun_expunge name uid s mid running (task.Make t) b = absurd (cc b.is_of)
 begun_expunge name uid s mid running (task.Copy t) b = absurd (cc b.is_of)
 begun_expunge name uid s mid running (task.Move t) b = absurd (cc b.is_of)
 begun_expunge name uid s mid running (task.Fetch t) b = absurd (cc b.is_of)
+begun_expunge name uid s mid running (task.Purge t) b = absurd (cc b.is_of)
 begun_expunge name uid s mid running (task.Deliver t) b = absurd b.is_of
 begun_expunge name uid s mid running (task.Resync t) b = absurd (cc b.is_of)

@@ -13,7 +13,7 @@ use Rattle.model_lists.specs.Lists.{Lists}
 use Rattle.list_machine.specs.Run.{Run, RunEvent, and_then}
 use Rattle.journal.specs.Journal.{Broken, JournalStep, Requests}
 use Rattle.task_steps.specs.Step.{Seen, ended_by}
-use Rattle.lane_tasks.specs.Clause.{IsAtStart, OnlyReads, ReadsNoOctets, SetsNoFlags}
+use Rattle.lane_tasks.specs.Clause.{DoomsNone, IsAtStart, OnlyReads, ReadsNoOctets, RemovesNothing, SetsNoFlags}
 use Rattle.lane_tasks.specs.Tasks.{BeginsTask, IsTaskOf}
 use Rattle.lane_tasks.specs.declared.task.Task.{Task}
 use Rattle.lane_tasks.specs.declared.task.Task.TheVariants as task
@@ -21,8 +21,8 @@ use Rattle.lanes.specs.Going.{AreFreshRows, IsFreshRow, WaitsWithTask}
 use Rattle.lanes.specs.Rows.{LaneRow}
 use Rattle.lanes.specs.Worlds.{GoesInRounds, IsWorldOf, WorldValue, and_events, queued_in}
 use Rattle.lanes.specs.declared.lane.Queued.{Queued}
-use Rattle.script_run.specs.Script.{IsRefusedAtOnce, has_change, has_delivery, has_mail_read, is_delivery, only_reads, reads_mail}
-use Rattle.script_run.proofs.ChainLemmas.{AllTasks, NoDelivery, in_turn, tasks_after}
+use Rattle.script_run.specs.Script.{IsRefusedAtOnce, has_change, has_delivery, has_mail_read, has_purge, is_delivery, is_purge, only_reads, reads_mail}
+use Rattle.script_run.proofs.ChainLemmas.{AllTasks, WritesNoMail, in_turn, tasks_after}
 
 -- ---- the tasks with which requests begin
 
@@ -56,17 +56,32 @@ fresh_tasks Holds script rows holds are k row at = by_current row.current refl (
         subst (λ (c : Option Queued). All (λ q. Holds q.task) (queued_in (record { current = c; waiting = row.waiting }))) (sym is)
         (All-cons (λ (q : Queued). Holds q.task) queued row.waiting (one queued (f.first queued is)) (All-weaker (WaitsWithTask script (k + 1)) (λ (q : Queued). Holds q.task) one row.waiting f.behind))
 
-pub begun_first : (asked : Request) (t : Task) → BeginsTask asked t → IsAtStart t
-begun_first asked (task.Ops t) b = tt
-begun_first asked (task.Counts t) b = tt
-begun_first asked (task.Make t) b = b.at
-begun_first asked (task.Copy t) b = b.at
-begun_first asked (task.Move t) b = b.at
-begun_first asked (task.Expunge t) b = b.at
-begun_first asked (task.Fetch t) b = b.at
-begun_first asked (task.Resync t) b = b.at
-begun_first (request.Deliver name time octets) (task.Deliver t) b = (b.at.0, b.at.1)
-begun_first asked (task.Deliver t) b = absurd b.at
+pub begun_first : (asked : Request) (t : Task) → is_purge asked ≡ false → BeginsTask asked t → IsAtStart t
+begun_first asked (task.Ops t) none b = tt
+begun_first asked (task.Counts t) none b = tt
+begun_first asked (task.Make t) none b = b.at
+begun_first asked (task.Copy t) none b = b.at
+begun_first asked (task.Move t) none b = b.at
+begun_first asked (task.Expunge t) none b = b.at
+begun_first asked (task.Fetch t) none b = b.at
+begun_first asked (task.Resync t) none b = b.at
+begun_first asked (task.Purge t) none b = absurd (let k : true ≡ false = sym (ap is_purge b.is_of) ∙ none in cc k)
+begun_first (request.Deliver name time octets) (task.Deliver t) none b = (b.at.0, b.at.1)
+begun_first asked (task.Deliver t) none b = absurd b.at
+
+pub unpurged : (script : Requests) (place lane : ℕ) (asked : Request) → has_purge script ≡ false → slice_get script place ≡ Some (lane, asked) → is_purge asked ≡ false
+unpurged script place lane asked none at = any_false (λ (q : ℕ × Request). is_purge q.1) script place (lane, asked) none at
+
+-- the task of a request that is no purge dooms nothing as it begins
+pub dooms_first : (asked : Request) (t : Task) → is_purge asked ≡ false → BeginsTask asked t → DoomsNone t
+dooms_first asked (task.Fetch t) none b = subst RemovesNothing (sym b.at) tt
+dooms_first asked (task.Purge t) none b = absurd (let k : true ≡ false = sym (ap is_purge b.is_of) ∙ none in cc k)
+dooms_first asked t none b = tt
+
+-- a request that reads at the most is no purge
+pub reads_unpurged : (asked : Request) → only_reads asked ≡ true → is_purge asked ≡ false
+reads_unpurged request.Purge reads = absurd (let k : false ≡ true = reads in cc k)
+reads_unpurged asked reads = refl
 
 sets_none : (asked : Request) → only_reads asked ≡ true → SetsNoFlags asked
 sets_none (request.Flag name uid flags) reads = absurd (let k : false ≡ true = reads in cc k)
@@ -85,24 +100,30 @@ reads_task asked (task.Move t) reads of = absurd (reads_as asked (request.Move t
 reads_task asked (task.Expunge t) reads of = absurd (reads_as asked (request.Expunge t.name t.uid) refl of reads)
 reads_task asked (task.Fetch t) reads of = tt
 reads_task asked (task.Resync t) reads of = absurd (reads_as asked request.Resync refl of reads)
+reads_task asked (task.Purge t) reads of = absurd (reads_as asked request.Purge refl of reads)
 reads_task (request.Deliver name time octets) (task.Deliver t) reads of = absurd (let k : false ≡ true = reads in cc k)
 reads_task asked (task.Deliver t) reads of = absurd of
 
+pub changes_none : (script : Requests) (place lane : ℕ) (asked : Request) → has_change script ≡ false → slice_get script place ≡ Some (lane, asked) → only_reads asked ≡ true
+changes_none script place lane asked none at = yes_by (only_reads asked) (any_false (λ (q : ℕ × Request). not (only_reads q.1)) script place (lane, asked) none at)
+
 pub reads_first : (script : Requests) (place lane : ℕ) (asked : Request) (t : Task) → has_change script ≡ false → slice_get script place ≡ Some (lane, asked) → BeginsTask asked t → OnlyReads t
-reads_first script place lane asked t none at begins = reads_task asked t (yes_by (only_reads asked) (any_false (λ (q : ℕ × Request). not (only_reads q.1)) script place (lane, asked) none at)) begins.is_of
+reads_first script place lane asked t none at begins = reads_task asked t (changes_none script place lane asked none at) begins.is_of
 
-no_delivery : (asked : Request) (t : Task) → is_delivery asked ≡ false → IsTaskOf t asked → NoDelivery t
-no_delivery (request.Deliver name time octets) (task.Deliver t) none of = absurd (let k : true ≡ false = none in cc k)
-no_delivery asked (task.Deliver t) none of = absurd of
-no_delivery asked t none of = tt
+writes_none : (asked : Request) (t : Task) → is_delivery asked ≡ false → is_purge asked ≡ false → IsTaskOf t asked → WritesNoMail t
+writes_none (request.Deliver name time octets) (task.Deliver t) none unpurged of = absurd (let k : true ≡ false = none in cc k)
+writes_none asked (task.Deliver t) none unpurged of = absurd of
+writes_none asked (task.Purge t) none unpurged of = absurd (let k : true ≡ false = sym (ap is_purge of) ∙ unpurged in cc k)
+writes_none asked t none unpurged of = tt
 
-pub undelivered_first : (script : Requests) (place lane : ℕ) (asked : Request) (t : Task) → has_delivery script ≡ false → slice_get script place ≡ Some (lane, asked) → BeginsTask asked t → NoDelivery t
-undelivered_first script place lane asked t none at begins = no_delivery asked t (any_false (λ (q : ℕ × Request). is_delivery q.1) script place (lane, asked) none at) begins.is_of
+pub unwritten_first : (script : Requests) (place lane : ℕ) (asked : Request) (t : Task) → has_delivery script ≡ false → has_purge script ≡ false → slice_get script place ≡ Some (lane, asked) → BeginsTask asked t → WritesNoMail t
+unwritten_first script place lane asked t none none_purges at begins = writes_none asked t (any_false (λ (q : ℕ × Request). is_delivery q.1) script place (lane, asked) none at) (unpurged script place lane asked none_purges at) begins.is_of
 
 -- a request that reads no octets begins with a task that reads none
 no_octets : (asked : Request) (t : Task) → reads_mail asked ≡ false → IsTaskOf t asked → ReadsNoOctets t
 no_octets asked (task.Fetch t) none of = absurd (let k : true ≡ false = sym (ap reads_mail of) ∙ none in cc k)
 no_octets asked (task.Resync t) none of = absurd (let k : true ≡ false = sym (ap reads_mail of) ∙ none in cc k)
+no_octets asked (task.Purge t) none of = absurd (let k : true ≡ false = sym (ap reads_mail of) ∙ none in cc k)
 no_octets (request.Deliver name time octets) (task.Deliver t) none of = absurd (let k : true ≡ false = none in cc k)
 no_octets asked (task.Deliver t) none of = absurd of
 no_octets asked t none of = tt

@@ -15,23 +15,23 @@ use Rattle.store_sweep.specs.Swept.{IsSwept}
 use Rattle.task_claims.specs.Leaving.{SyncsMail}
 use Rattle.script_run.specs.Faults.{CountsStay, FaultsByReplies}
 use Rattle.script_run.specs.Opening.{AreSafeFor, BeginsAs, LogsShowLists}
-use Rattle.script_run.specs.Script.{HasStopped, ServesScript, has_change, has_delivery, has_fetch}
+use Rattle.script_run.specs.Script.{HasStopped, ServesScript, has_change, has_delivery, has_fetch, has_purge}
 
 -- If the script reads a message, the disk was settled for these lists.
 abbrev pub MayRead : Requests → Lists → Option History → Type 0
 MayRead script lists old = has_fetch script ≡ true → IsSettledFor lists old
 
 -- There are lists from which it may be served; and it may be said of it that storage files and instances stay: a script that delivers
--- messages and fetches others has to find a settled disk.
+-- messages and fetches others has to find a settled disk, and one that purges doesn't leave them where they were.
 abbrev pub MayBeServed : Requests → Option History → Type 0
 MayBeServed script old = (lists : Lists) × MayRead script lists old
 
 abbrev pub MayBeKept : Requests → Option History → Type 0
-MayBeKept script old = has_delivery script ≡ true → MayBeServed script old
+MayBeKept script old = (has_purge script ≡ false) × (has_delivery script ≡ true → MayBeServed script old)
 
 -- The opening swept the disk, and carried over all that the store reads; a store that was closed well it left as it was. A script that
--- only lists, counts and fetches changes nothing since; and one without a delivery leaves storage files and instances as the opening
--- left them, but that names may be synced, unless a change of the disk failed.
+-- only lists, counts and fetches changes nothing since; and one with neither a delivery nor a purge leaves storage files and instances as
+-- the opening left them, but that names may be synced, unless a change of the disk failed.
 pub record LeavesStore (script : Requests) (m : MapMeaning) (given : List Reply) (old new : Option History) : Type 0 where
   pub generation : ℕ
   pub opened : Option History
@@ -40,7 +40,7 @@ pub record LeavesStore (script : Requests) (m : MapMeaning) (given : List Reply)
   pub closed_well : IdleIf IsClosedWell old opened
   pub grows : Grows opened new
   pub idle : has_change script ≡ false → IsIdle opened new
-  pub mail : has_delivery script ≡ false → (HasStopped given → ⊥) → SyncsMail opened new
+  pub mail : has_delivery script ≡ false → has_purge script ≡ false → (HasStopped given → ⊥) → SyncsMail opened new
 
 -- The store was opened, and each request of the script has its reply. The script was served from any lists that the logs show with
 -- which the store opened, if it reads a message only from those for which the disk was settled, by a run that begins with the map that

@@ -39,13 +39,38 @@ IsMadeBefore opened made run = IsMoment opened made × All (λ event. told_calls
 abbrev pub IsRefusedAtOnce : RunEvent → Type 0
 IsRefusedAtOnce event = (why : Refusal) × (event.reply ≡ Some (reply.Refused why)) × (is_step why ≡ true)
 
+-- a request that may change the store: any but a listing, a count and a fetch; a delivery; and a purge
+abbrev pub only_reads : Request → Bool
+only_reads (request.List name) = true
+only_reads (request.Fetch name uid) = true
+only_reads request.Counts = true
+only_reads other = false
+
+abbrev pub is_delivery : Request → Bool
+is_delivery (request.Deliver name time octets) = true
+is_delivery other = false
+
+abbrev pub is_purge : Request → Bool
+is_purge request.Purge = true
+is_purge other = false
+
+abbrev pub has_change : Requests → Bool
+has_change script = list_any (λ asked. not (only_reads asked.1)) script
+
+abbrev pub has_delivery : Requests → Bool
+has_delivery script = list_any (λ asked. is_delivery asked.1) script
+
+abbrev pub has_purge : Requests → Bool
+has_purge script = list_any (λ asked. is_purge asked.1) script
+
 -- From these lists a script was served legally, by a run that begins with the map log of the files, and each request has its reply.
 -- The run has come to where the disk is now: unless a change of it failed, to what its map log means,
 -- and its logs show what the journal leaves; and to its number of calls, so that by now every step is acknowledged. Of a disk that was
 -- settled for the lists each crash image since is safe for lists that the journal reaches; at the moment of each event it was settled for
 -- what the steps up to it left; and it is settled for the lists that the journal leaves, unless a change of it failed. The entries are
 -- those of the journal's steps, in order, of a world that was made after so many calls, which is the number of its calls as the store was
--- open. Where each event answered its request with a refusal, but for want of memory or by a failed call, nothing has changed since then.
+-- open. Where each event answered its request with a refusal, but for want of memory or by a failed call, and none was a purge, nothing has
+-- changed since then.
 pub record ServesScript (script : Requests) (lists : Lists) (given : List Reply) (entries : List JournalEntry) (began now : Faults) (old opened new : Option History) : Type 0 where
   pub run : Run
   pub journal : List JournalStep
@@ -62,7 +87,7 @@ pub record ServesScript (script : Requests) (lists : Lists) (given : List Reply)
   pub settled : (HasStopped given → ⊥) → IsSettledFor lists old → IsSettledFor (left_by lists journal) new
   pub made_is : IsMadeBefore opened made run
   pub entries_are : AreEntriesAt new made (moment_of run) journal entries
-  pub refused : All IsRefusedAtOnce run.events → IsIdle opened new
+  pub refused : has_purge script ≡ false → All IsRefusedAtOnce run.events → IsIdle opened new
 
 -- the request reads a message, and a request of the script does
 abbrev pub is_fetch : Request → Bool
@@ -71,23 +96,6 @@ is_fetch other = false
 
 abbrev pub has_fetch : Requests → Bool
 has_fetch script = list_any (λ asked. is_fetch asked.1) script
-
--- a request that may change the store: any but a listing, a count and a fetch; and a delivery
-abbrev pub only_reads : Request → Bool
-only_reads (request.List name) = true
-only_reads (request.Fetch name uid) = true
-only_reads request.Counts = true
-only_reads other = false
-
-abbrev pub is_delivery : Request → Bool
-is_delivery (request.Deliver name time octets) = true
-is_delivery other = false
-
-abbrev pub has_change : Requests → Bool
-has_change script = list_any (λ asked. not (only_reads asked.1)) script
-
-abbrev pub has_delivery : Requests → Bool
-has_delivery script = list_any (λ asked. is_delivery asked.1) script
 
 -- a request that reads octets of storage files or instances
 abbrev pub reads_mail : Request → Bool

@@ -18,10 +18,11 @@ returns g c = (
     left = c.step-ended.ensures.left;
     stopped = c.step-ended.ensures.stopped;
     halted = c.step-ended.ensures.halted;
-    undoomed = c.step-ended.ensures.undoomed;
     keeps = c.step-ended.ensures.keeps;
     store = c.facts.ensures.store;
     ordered = c.facts.ensures.files;
+    store_then = c.facts-2.ensures.store;
+    ordered_then = c.facts-2.ensures.files;
     image = g.met.D.Disk.reads_image c.args.store.now.disk;
   },
   c.if_more-goes_on.ensures,

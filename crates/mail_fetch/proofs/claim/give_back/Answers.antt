@@ -1,4 +1,4 @@
-use Rattle.std.proofs.Common.{◌≤◌, List, sym, subst}
+use Rattle.std.proofs.Common.{◌≤◌, List, sym, ◌∙◌, subst}
 use Rattle.mdbox_base.specs.declared.entries.InstRow.{InstRow}
 use Rattle.mdbox_base.specs.declared.ids.InstId.{InstId}
 use Rattle.sis_store.specs.Instances.{holders_in}
@@ -6,7 +6,7 @@ use Rattle.store_core.specs.Keeping.{holds_of}
 use Rattle.store_core.specs.Value.{StoreValue}
 use Rattle.storage_files.specs.Files.{pins_in}
 use Rattle.task_claims.specs.Claims.{Held}
-use Rattle.mail_fetch.proofs.UseLemmas.{given_leaves, given_moves, given_same, own_pinned}
+use Rattle.mail_fetch.proofs.UseLemmas.{given_last, given_leaves, given_moves, given_removable, given_same, own_pinned}
 use Rattle.mail_fetch.proofs.claim.give_back.Goals as goal
 
 pub let_go_all-requires : goal.let_go_all-requires
@@ -18,9 +18,15 @@ unpin-requires g c = record { pinned = subst (λ (s : StoreValue _). 1 ≤ pins_
 pub returns-clause-same : goal.returns-clause-same
 returns-clause-same g c = given_same c.args.from.now c.as_slice.result.now c.args.store.now c.let_go_all.new.store c.unpin.new.self c.as_slice.ensures c.let_go_all.ensures.same c.unpin.ensures.same
 
+pub returns-clause-last : goal.returns-clause-last
+returns-clause-last g c = given_last c.args.from.now.file.0 c.as_slice.result.now c.args.store.now c.let_go_all.new.store c.unpin.result c.let_go_all.ensures.same c.unpin.ensures.last
+
 pub returns-clause-claims : goal.returns-clause-claims
-returns-clause-claims g c = λ undoomed.
-    given_moves c.args.from.now c.as_slice.result.now c.args.store.now c.let_go_all.new.store c.unpin.new.self c.as_slice.ensures c.let_go_all.ensures.same (returns-clause-same g c) c.requires undoomed c.let_go_all.ensures.moves
+returns-clause-claims g c =
+    given_moves c.args.from.now c.as_slice.result.now c.args.store.now c.let_go_all.new.store c.unpin.new.self c.unpin.result c.as_slice.ensures c.let_go_all.ensures.same (returns-clause-same g c) c.requires (sym (returns-clause-last g c)) c.let_go_all.ensures.moves
+
+pub returns-clause-removable : goal.returns-clause-removable
+returns-clause-removable g c = λ last. given_removable c.args.from.now c.args.store.now c.unpin.new.self c.facts.ensures.store.files.below (returns-clause-same g c) (sym (returns-clause-last g c) ∙ last)
 
 pub returns-clause-leaves : goal.returns-clause-leaves
 returns-clause-leaves g c = λ mine. given_leaves g.D.Disk.history mine c.args.from.now c.as_slice.result.now c.args.store.now c.let_go_all.new.store c.unpin.new.self c.as_slice.ensures c.let_go_all.ensures.same c.let_go_all.ensures.keeps (returns-clause-same g c)

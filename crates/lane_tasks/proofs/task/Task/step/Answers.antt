@@ -16,10 +16,10 @@ use Rattle.mail_ops.specs.Copy.{CopyAnswers}
 use Rattle.mail_ops.specs.Expunging.{ExpungeAnswers}
 use Rattle.mail_ops.specs.Making.{MakeAnswers}
 use Rattle.mail_ops.specs.Moving.{MoveAnswers}
-use Rattle.mail_fetch.proofs.StageLemmas.{used_doomed, used_only, used_runs}
+use Rattle.mail_fetch.proofs.StageLemmas.{halted_reply, used_halted}
 use Rattle.mail_save.proofs.SaveReadyLemmas.{left_with_room}
-use Rattle.lane_tasks.proofs.KeepLemmas.{copy_refused, expunge_refused, keeps_by, keeps_fetching, keeps_resyncing, keeps_saving, keeps_still, make_refused, move_refused, ops_refused, progress_back}
-use Rattle.lane_tasks.proofs.StepLemmas.{copy_does, counts_does, deliver_does, deliver_ran, doomed_as, doomed_rest, expunge_does, fetch_does, fetch_halts, logs_files, make_does, make_fewer, lists_same, make_numbered, move_does, ops_asked, ops_does, ops_halted, ops_still, ran_before, ready_as, resync_does, rest_files, stays_stopped, unpins_undoomed, use_room}
+use Rattle.lane_tasks.proofs.KeepLemmas.{copy_refused, expunge_refused, keeps_by, keeps_fetching, keeps_purging, keeps_resyncing, keeps_saving, keeps_still, make_refused, move_refused, ops_refused, progress_back}
+use Rattle.lane_tasks.proofs.StepLemmas.{copy_does, counts_does, deliver_does, deliver_ran, expunge_does, fetch_does, logs_files, make_does, make_fewer, lists_same, make_numbered, move_does, ops_asked, ops_does, ops_halted, ops_still, purge_does, ran_before, ready_as, resync_does, rest_files, stays_stopped, use_room}
 use Rattle.lane_tasks.proofs.task.Task.step.Goals as goal
 
 pub returns-in-Ops-clause-does : goal.returns-in-Ops-clause-does
@@ -88,20 +88,16 @@ returns-in-Make-clause-left g c = λ more.
 -- ---- a fetch
 
 pub step-requires-in-Fetch-clause-room : goal.step-requires-in-Fetch-clause-room
-step-requires-in-Fetch-clause-room g c = λ runs. use_room c.in-Fetch.task.stage c.args.store.now (c.requires.room runs).uses
+step-requires-in-Fetch-clause-room g c = λ runs. use_room c.in-Fetch.task.stage c.args.store.now (c.requires.room runs)
 
 pub returns-in-Fetch-clause-does : goal.returns-in-Fetch-clause-does
 returns-in-Fetch-clause-does g c =
     subst (λ (t : Task). StepsTask t (task.Fetch c.step-in-Fetch.new.self) c.args.store.now c.step-in-Fetch.new.store (g.D.Disk.history c.args.store.now.disk) (g.D.Disk.history c.step-in-Fetch.new.store.disk) (g.D.Disk.faults c.args.store.now.disk) (g.D.Disk.faults c.step-in-Fetch.new.store.disk) (ended_by c.step-in-Fetch.result)) (sym c.in-Fetch.is)
-    (fetch_does c.in-Fetch.task c.step-in-Fetch.new.self c.args.store.now c.step-in-Fetch.new.store (g.D.Disk.history c.args.store.now.disk) (g.D.Disk.history c.step-in-Fetch.new.store.disk) (g.D.Disk.faults c.args.store.now.disk) (g.D.Disk.faults c.step-in-Fetch.new.store.disk) (ended_by c.step-in-Fetch.result) c.step-in-Fetch.ensures.request
-    (λ runs. unpins_undoomed c.in-Fetch.task.stage c.args.store.now (c.requires.room runs).undoomed) c.step-in-Fetch.ensures.does)
+    (fetch_does c.in-Fetch.task c.step-in-Fetch.new.self c.args.store.now c.step-in-Fetch.new.store (g.D.Disk.history c.args.store.now.disk) (g.D.Disk.history c.step-in-Fetch.new.store.disk) (g.D.Disk.faults c.args.store.now.disk) (g.D.Disk.faults c.step-in-Fetch.new.store.disk) (ended_by c.step-in-Fetch.result) c.step-in-Fetch.ensures.request c.step-in-Fetch.ensures.does)
 
--- a store that runs after an event of a fetch ran before it
 pub returns-in-Fetch-clause-claims : goal.returns-in-Fetch-clause-claims
 returns-in-Fetch-clause-claims g c = λ runs.
-    let ran = used_runs c.in-Fetch.task.stage c.step-in-Fetch.new.self.stage c.args.store.now c.step-in-Fetch.new.store c.step-in-Fetch.ensures.alone.same runs in
-    subst (λ (t : Task). MovesClaims (claims_at t) (claims_at (task.Fetch c.step-in-Fetch.new.self)) c.args.store.now c.step-in-Fetch.new.store) (sym c.in-Fetch.is)
-    (c.step-in-Fetch.ensures.claims runs (unpins_undoomed c.in-Fetch.task.stage c.args.store.now (c.requires.room ran).undoomed))
+    subst (λ (t : Task). MovesClaims (claims_at t) (claims_at (task.Fetch c.step-in-Fetch.new.self)) c.args.store.now c.step-in-Fetch.new.store) (sym c.in-Fetch.is) (c.step-in-Fetch.ensures.claims runs)
 
 pub returns-in-Fetch-clause-leaves : goal.returns-in-Fetch-clause-leaves
 returns-in-Fetch-clause-leaves g c = λ runs.
@@ -110,7 +106,7 @@ returns-in-Fetch-clause-leaves g c = λ runs.
 pub returns-in-Fetch-clause-ready : goal.returns-in-Fetch-clause-ready
 returns-in-Fetch-clause-ready g c = λ more runs. c.step-in-Fetch.ensures.alone.ready runs
 
--- ---- a store that is stopped, and files that are doomed
+-- ---- a store that is stopped
 
 pub returns-in-Ops-clause-halted : goal.returns-in-Ops-clause-halted
 returns-in-Ops-clause-halted g c = let r = c.step.ensures.replies in ops_halted c.in-Ops.task.request c.args.store.now c.step.new.store (ops_asked c.in-Ops.task.request c.args.store.now c.step.new.store r.0 r.2) c.step.ensures.same
@@ -128,31 +124,10 @@ pub returns-in-Expunge-clause-halted : goal.returns-in-Expunge-clause-halted
 returns-in-Expunge-clause-halted g c = stays_stopped c.args.store.now c.step-in-Expunge.new.store (λ stopped. (c.step-in-Expunge.ensures.still stopped).0)
 
 pub returns-in-Fetch-clause-halted : goal.returns-in-Fetch-clause-halted
-returns-in-Fetch-clause-halted g c = λ stopped. ap (λ (s : StoreValue _). s.stopped) (used_only c.in-Fetch.task.stage c.step-in-Fetch.new.self.stage c.args.store.now c.step-in-Fetch.new.store c.step-in-Fetch.ensures.alone.same) ∙ stopped
+returns-in-Fetch-clause-halted g c = used_halted c.in-Fetch.task.stage c.step-in-Fetch.new.self.stage c.args.store.now c.step-in-Fetch.new.store c.step-in-Fetch.ensures.alone.same
 
 pub returns-in-Fetch-clause-stopped : goal.returns-in-Fetch-clause-stopped
-returns-in-Fetch-clause-stopped g c = λ stopped.
-    let alone = c.step-in-Fetch.ensures.alone in
-    let was = sym (ap (λ (s : StoreValue _). s.stopped) (used_only c.in-Fetch.task.stage c.step-in-Fetch.new.self.stage c.args.store.now c.step-in-Fetch.new.store alone.same)) ∙ stopped in
-    fetch_halts c.in-Fetch.task.name c.in-Fetch.task.uid.0 c.in-Fetch.task.stage c.step-in-Fetch.new.self.stage c.step-in-Fetch.result c.args.store.now _ _ _ alone.replies was
-
-pub returns-in-Ops-clause-undoomed : goal.returns-in-Ops-clause-undoomed
-returns-in-Ops-clause-undoomed g c = λ runs. doomed_rest c.args.store.now c.step.new.store (rest_files c.args.store.now c.step.new.store c.step.ensures.rest)
-
-pub returns-in-Copy-clause-undoomed : goal.returns-in-Copy-clause-undoomed
-returns-in-Copy-clause-undoomed g c = λ runs. doomed_rest c.args.store.now c.step-in-Copy.new.store (rest_files c.args.store.now c.step-in-Copy.new.store c.step-in-Copy.ensures.rest)
-
-pub returns-in-Move-clause-undoomed : goal.returns-in-Move-clause-undoomed
-returns-in-Move-clause-undoomed g c = λ runs. doomed_rest c.args.store.now c.step-in-Move.new.store (rest_files c.args.store.now c.step-in-Move.new.store c.step-in-Move.ensures.rest)
-
-pub returns-in-Expunge-clause-undoomed : goal.returns-in-Expunge-clause-undoomed
-returns-in-Expunge-clause-undoomed g c = λ runs. doomed_rest c.args.store.now c.step-in-Expunge.new.store (rest_files c.args.store.now c.step-in-Expunge.new.store c.step-in-Expunge.ensures.rest)
-
-pub returns-in-Make-clause-undoomed : goal.returns-in-Make-clause-undoomed
-returns-in-Make-clause-undoomed g c = λ runs. doomed_rest c.args.store.now c.step-in-Make.new.store (logs_files c.args.store.now c.step-in-Make.new.store c.step-in-Make.ensures.rest)
-
-pub returns-in-Fetch-clause-undoomed : goal.returns-in-Fetch-clause-undoomed
-returns-in-Fetch-clause-undoomed g c = λ runs. doomed_as c.args.store.now c.step-in-Fetch.new.store (λ file. used_doomed c.in-Fetch.task.stage c.step-in-Fetch.new.self.stage c.args.store.now c.step-in-Fetch.new.store file c.step-in-Fetch.ensures.alone.same)
+returns-in-Fetch-clause-stopped g c = halted_reply c.in-Fetch.task.name c.in-Fetch.task.uid.0 c.in-Fetch.task.stage c.step-in-Fetch.new.self.stage c.step-in-Fetch.new.self.did c.step-in-Fetch.result c.args.store.now c.step-in-Fetch.new.store _ _ _ _ c.step-in-Fetch.ensures.alone
 
 -- ---- a delivery
 
@@ -161,7 +136,7 @@ step-requires-in-Deliver g c = record {
   left = λ runs.
       let t = c.in-Deliver.task in
       let ready = subst (λ (k : Task). IsReadyTask k c.args.store.now (g.D.Disk.history c.args.store.now.disk)) c.in-Deliver.is (c.requires.ready runs) in
-      left_with_room t.stage t.name t.time t.size ready.0 c.args.store.now (g.D.Disk.history c.args.store.now.disk) ready.1 (c.requires.room runs).uses.holds;
+      left_with_room t.stage t.name t.time t.size ready.0 c.args.store.now (g.D.Disk.history c.args.store.now.disk) ready.1 (c.requires.room runs).holds;
 }
 
 pub returns-in-Deliver-clause-ready : goal.returns-in-Deliver-clause-ready
@@ -194,9 +169,6 @@ returns-in-Deliver-clause-stopped g c = c.step-in-Deliver.ensures.ended.stopped.
 pub returns-in-Deliver-clause-halted : goal.returns-in-Deliver-clause-halted
 returns-in-Deliver-clause-halted g c = stays_stopped c.args.store.now c.step-in-Deliver.new.store c.step-in-Deliver.ensures.ended.still
 
-pub returns-in-Deliver-clause-undoomed : goal.returns-in-Deliver-clause-undoomed
-returns-in-Deliver-clause-undoomed g c = λ runs. doomed_as c.args.store.now c.step-in-Deliver.new.store (c.step-in-Deliver.ensures.ended.doomed runs)
-
 pub returns-in-Deliver-clause-left : goal.returns-in-Deliver-clause-left
 returns-in-Deliver-clause-left g c = λ more.
     subst (λ (t : Task). work_left (task.Deliver c.step-in-Deliver.new.self) c.step-in-Deliver.new.store < work_left t c.args.store.now) (sym c.in-Deliver.is) (c.step-in-Deliver.ensures.left more)
@@ -211,14 +183,14 @@ returns-in-Ops-clause-keeps g c =
     let t = c.in-Ops.task in
     let asks = ops_asked t.request old new s.replies.0 s.replies.2 in
     subst (λ (k : Task). TaskKeeps k (task.Ops c.step.new.self) old new (g.D.Disk.history old.disk) (g.D.Disk.history new.disk) (g.D.Disk.faults old.disk) (g.D.Disk.faults new.disk) (ended_by c.step.result)) (sym c.in-Ops.is)
-    (keeps_by g.D.Disk.history g.D.Disk.faults (task.Ops t) (task.Ops c.step.new.self) old new c.step.result s.request s.mail s.stopped (ops_still t.request old new asks s.same) s.fault s.unfailed (lists_same t.request old new asks s.same)
+    (keeps_by g.D.Disk.history g.D.Disk.faults (task.Ops t) (task.Ops c.step.new.self) old new c.step.result s.request (λ none. none) (rest_files old new s.rest) s.mail s.stopped (ops_still t.request old new asks s.same) s.fault s.unfailed (lists_same t.request old new asks s.same)
     (λ why begun ran e step. ops_refused t.request old new s.replies.0 c.step.result why s.replies.1 e step s.replies.2 s.same) (λ synced. synced) (s.replies.0, ap ended_by s.replies.1, s.replies.2))
 
 pub returns-in-Counts-clause-keeps : goal.returns-in-Counts-clause-keeps
 returns-in-Counts-clause-keeps g c =
     let old = c.args.store.now in
     subst (λ (k : Task). TaskKeeps k (task.Counts c.step-in-Counts.new.self) old old (g.D.Disk.history old.disk) (g.D.Disk.history old.disk) (g.D.Disk.faults old.disk) (g.D.Disk.faults old.disk) (ended_by c.step-in-Counts.result)) (sym c.in-Counts.is)
-    (keeps_still g.D.Disk.history g.D.Disk.faults (task.Counts c.in-Counts.task) (task.Counts c.step-in-Counts.new.self) old old (ended_by c.step-in-Counts.result) tt (λ runs synced. synced) tt refl)
+    (keeps_still g.D.Disk.history g.D.Disk.faults (task.Counts c.in-Counts.task) (task.Counts c.step-in-Counts.new.self) old old (ended_by c.step-in-Counts.result) tt (λ none. none) (λ runs synced. synced) tt refl)
 
 pub returns-in-Make-clause-keeps : goal.returns-in-Make-clause-keeps
 returns-in-Make-clause-keeps g c =
@@ -227,7 +199,7 @@ returns-in-Make-clause-keeps g c =
     let new = c.step-in-Make.new.store in
     let t = c.in-Make.task in
     subst (λ (k : Task). TaskKeeps k (task.Make c.step-in-Make.new.self) old new (g.D.Disk.history old.disk) (g.D.Disk.history new.disk) (g.D.Disk.faults old.disk) (g.D.Disk.faults new.disk) (ended_by c.step-in-Make.result)) (sym c.in-Make.is)
-    (keeps_by g.D.Disk.history g.D.Disk.faults (task.Make c.in-Make.task) (task.Make c.step-in-Make.new.self) old new c.step-in-Make.result s.request s.mail s.stopped (λ stopped. (s.still stopped).0) s.fault s.unfailed (λ reads. absurd reads)
+    (keeps_by g.D.Disk.history g.D.Disk.faults (task.Make c.in-Make.task) (task.Make c.step-in-Make.new.self) old new c.step-in-Make.result s.request (λ none. none) (logs_files old new s.rest) s.mail s.stopped (λ stopped. (s.still stopped).0) s.fault s.unfailed (λ reads. absurd reads)
     (λ why begun ran e step. make_refused c.in-Make.task.name c.in-Make.task.stage c.step-in-Make.new.self.stage old new (g.D.Disk.history old.disk) (g.D.Disk.history new.disk) c.step-in-Make.result why begun e step (s.replies ran)) (λ synced. synced) (λ ran. subst (λ (a : Progress). MakeAnswers t.name t.stage old new (g.D.Disk.history old.disk) (g.D.Disk.history new.disk) c.step-in-Make.new.self.stage a) (sym (progress_back c.step-in-Make.result)) (s.replies ran)))
 
 pub returns-in-Copy-clause-keeps : goal.returns-in-Copy-clause-keeps
@@ -237,7 +209,7 @@ returns-in-Copy-clause-keeps g c =
     let new = c.step-in-Copy.new.store in
     let t = c.in-Copy.task in
     subst (λ (k : Task). TaskKeeps k (task.Copy c.step-in-Copy.new.self) old new (g.D.Disk.history old.disk) (g.D.Disk.history new.disk) (g.D.Disk.faults old.disk) (g.D.Disk.faults new.disk) (ended_by c.step-in-Copy.result)) (sym c.in-Copy.is)
-    (keeps_by g.D.Disk.history g.D.Disk.faults (task.Copy c.in-Copy.task) (task.Copy c.step-in-Copy.new.self) old new c.step-in-Copy.result s.request s.mail s.stopped (λ stopped. (s.still stopped).0) s.fault s.unfailed (λ reads. absurd reads)
+    (keeps_by g.D.Disk.history g.D.Disk.faults (task.Copy c.in-Copy.task) (task.Copy c.step-in-Copy.new.self) old new c.step-in-Copy.result s.request (λ none. none) (rest_files old new s.rest) s.mail s.stopped (λ stopped. (s.still stopped).0) s.fault s.unfailed (λ reads. absurd reads)
     (λ why begun ran e step. copy_refused c.in-Copy.task.name c.in-Copy.task.uid c.in-Copy.task.target c.in-Copy.task.stage c.step-in-Copy.new.self.stage old new c.step-in-Copy.result why begun e step (s.replies ran)) (λ synced. synced) (λ ran. subst (λ (a : Progress). CopyAnswers t.name t.uid t.target t.stage old new c.step-in-Copy.new.self.stage a) (sym (progress_back c.step-in-Copy.result)) (s.replies ran)))
 
 pub returns-in-Move-clause-keeps : goal.returns-in-Move-clause-keeps
@@ -247,7 +219,7 @@ returns-in-Move-clause-keeps g c =
     let new = c.step-in-Move.new.store in
     let t = c.in-Move.task in
     subst (λ (k : Task). TaskKeeps k (task.Move c.step-in-Move.new.self) old new (g.D.Disk.history old.disk) (g.D.Disk.history new.disk) (g.D.Disk.faults old.disk) (g.D.Disk.faults new.disk) (ended_by c.step-in-Move.result)) (sym c.in-Move.is)
-    (keeps_by g.D.Disk.history g.D.Disk.faults (task.Move c.in-Move.task) (task.Move c.step-in-Move.new.self) old new c.step-in-Move.result s.request s.mail s.stopped (λ stopped. (s.still stopped).0) s.fault s.unfailed (λ reads. absurd reads)
+    (keeps_by g.D.Disk.history g.D.Disk.faults (task.Move c.in-Move.task) (task.Move c.step-in-Move.new.self) old new c.step-in-Move.result s.request (λ none. none) (rest_files old new s.rest) s.mail s.stopped (λ stopped. (s.still stopped).0) s.fault s.unfailed (λ reads. absurd reads)
     (λ why begun ran e step. move_refused c.in-Move.task.name c.in-Move.task.uid c.in-Move.task.target c.in-Move.task.stage c.step-in-Move.new.self.stage old new c.step-in-Move.result why begun e step (s.replies ran)) (λ synced. synced) (λ ran. subst (λ (a : Progress). MoveAnswers t.name t.uid t.target t.stage old new c.step-in-Move.new.self.stage a) (sym (progress_back c.step-in-Move.result)) (s.replies ran)))
 
 pub returns-in-Expunge-clause-keeps : goal.returns-in-Expunge-clause-keeps
@@ -257,7 +229,7 @@ returns-in-Expunge-clause-keeps g c =
     let new = c.step-in-Expunge.new.store in
     let t = c.in-Expunge.task in
     subst (λ (k : Task). TaskKeeps k (task.Expunge c.step-in-Expunge.new.self) old new (g.D.Disk.history old.disk) (g.D.Disk.history new.disk) (g.D.Disk.faults old.disk) (g.D.Disk.faults new.disk) (ended_by c.step-in-Expunge.result)) (sym c.in-Expunge.is)
-    (keeps_by g.D.Disk.history g.D.Disk.faults (task.Expunge c.in-Expunge.task) (task.Expunge c.step-in-Expunge.new.self) old new c.step-in-Expunge.result s.request s.mail s.stopped (λ stopped. (s.still stopped).0) s.fault s.unfailed (λ reads. absurd reads)
+    (keeps_by g.D.Disk.history g.D.Disk.faults (task.Expunge c.in-Expunge.task) (task.Expunge c.step-in-Expunge.new.self) old new c.step-in-Expunge.result s.request (λ none. none) (rest_files old new s.rest) s.mail s.stopped (λ stopped. (s.still stopped).0) s.fault s.unfailed (λ reads. absurd reads)
     (λ why begun ran e step. expunge_refused c.in-Expunge.task.name c.in-Expunge.task.uid c.in-Expunge.task.stage c.step-in-Expunge.new.self.stage old new c.step-in-Expunge.result why begun e step (s.replies ran)) (λ synced. synced) (λ ran. subst (λ (a : Progress). ExpungeAnswers t.name t.uid t.stage old new c.step-in-Expunge.new.self.stage a) (sym (progress_back c.step-in-Expunge.result)) (s.replies ran)))
 
 pub returns-in-Fetch-clause-keeps : goal.returns-in-Fetch-clause-keeps
@@ -266,8 +238,7 @@ returns-in-Fetch-clause-keeps g c =
     let new = c.step-in-Fetch.new.store in
     let t = c.in-Fetch.task in
     subst (λ (k : Task). TaskKeeps k (task.Fetch c.step-in-Fetch.new.self) old new (g.D.Disk.history old.disk) (g.D.Disk.history new.disk) (g.D.Disk.faults old.disk) (g.D.Disk.faults new.disk) (ended_by c.step-in-Fetch.result)) (sym c.in-Fetch.is)
-    (keeps_fetching t c.step-in-Fetch.new.self t.name t.uid.0 old new (g.D.Disk.history old.disk) (g.D.Disk.history new.disk) (g.D.Disk.faults old.disk) (g.D.Disk.faults new.disk) c.step-in-Fetch.result c.step-in-Fetch.ensures.request c.step-in-Fetch.ensures.alone
-    (ap (λ (s : StoreValue _). s.stopped) (used_only t.stage c.step-in-Fetch.new.self.stage old new c.step-in-Fetch.ensures.alone.same)))
+    (keeps_fetching g.D.Disk.history g.D.Disk.faults t c.step-in-Fetch.new.self t.name t.uid.0 old new c.step-in-Fetch.result c.step-in-Fetch.ensures.request c.step-in-Fetch.ensures.alone)
 
 pub returns-in-Deliver-clause-keeps : goal.returns-in-Deliver-clause-keeps
 returns-in-Deliver-clause-keeps g c =
@@ -286,13 +257,40 @@ returns-in-Resync-clause-does g c =
 pub returns-in-Resync-clause-halted : goal.returns-in-Resync-clause-halted
 returns-in-Resync-clause-halted g c = stays_stopped c.args.store.now c.step-in-Resync.new.store (λ stopped. (c.step-in-Resync.ensures.still stopped).0)
 
-pub returns-in-Resync-clause-undoomed : goal.returns-in-Resync-clause-undoomed
-returns-in-Resync-clause-undoomed g c = λ runs. doomed_rest c.args.store.now c.step-in-Resync.new.store (rest_files c.args.store.now c.step-in-Resync.new.store c.step-in-Resync.ensures.rest)
-
 pub returns-in-Resync-clause-keeps : goal.returns-in-Resync-clause-keeps
 returns-in-Resync-clause-keeps g c =
     let s = c.step-in-Resync.ensures in
     let old = c.args.store.now in
     let new = c.step-in-Resync.new.store in
     subst (λ (k : Task). TaskKeeps k (task.Resync c.step-in-Resync.new.self) old new (g.D.Disk.history old.disk) (g.D.Disk.history new.disk) (g.D.Disk.faults old.disk) (g.D.Disk.faults new.disk) (ended_by c.step-in-Resync.result)) (sym c.in-Resync.is)
-    (keeps_resyncing g.D.Disk.history g.D.Disk.faults c.in-Resync.task c.step-in-Resync.new.self old new c.step-in-Resync.result s.on s.exact s.stopped (λ stopped. (s.still stopped).0) s.fault s.mail s.grows)
+    (keeps_resyncing g.D.Disk.history g.D.Disk.faults c.in-Resync.task c.step-in-Resync.new.self old new c.step-in-Resync.result s.on s.exact s.stopped (λ stopped. (s.still stopped).0) s.fault s.mail s.grows (rest_files old new s.rest))
+
+-- ---- a purge
+
+pub returns-in-Purge-clause-does : goal.returns-in-Purge-clause-does
+returns-in-Purge-clause-does g c =
+    subst (λ (t : Task). StepsTask t (task.Purge c.step-in-Purge.new.self) c.args.store.now c.step-in-Purge.new.store (g.D.Disk.history c.args.store.now.disk) (g.D.Disk.history c.step-in-Purge.new.store.disk) (g.D.Disk.faults c.args.store.now.disk) (g.D.Disk.faults c.step-in-Purge.new.store.disk) (ended_by c.step-in-Purge.result)) (sym c.in-Purge.is)
+    (purge_does c.in-Purge.task c.step-in-Purge.new.self c.args.store.now c.step-in-Purge.new.store (g.D.Disk.history c.args.store.now.disk) (g.D.Disk.history c.step-in-Purge.new.store.disk) (g.D.Disk.faults c.args.store.now.disk) (g.D.Disk.faults c.step-in-Purge.new.store.disk) (ended_by c.step-in-Purge.result) c.facts.ensures.store c.facts.ensures.files c.step-in-Purge.ensures.does)
+
+pub returns-in-Purge-clause-claims : goal.returns-in-Purge-clause-claims
+returns-in-Purge-clause-claims g c = λ runs.
+    subst (λ (t : Task). MovesClaims (claims_at t) (claims_at (task.Purge c.step-in-Purge.new.self)) c.args.store.now c.step-in-Purge.new.store) (sym c.in-Purge.is) (c.step-in-Purge.ensures.claims runs)
+
+pub returns-in-Purge-clause-leaves : goal.returns-in-Purge-clause-leaves
+returns-in-Purge-clause-leaves g c = λ runs.
+    subst (λ (t : Task). LeavesOthers (claims_at t) c.args.store.now c.step-in-Purge.new.store (g.D.Disk.history c.args.store.now.disk) (g.D.Disk.history c.step-in-Purge.new.store.disk)) (sym c.in-Purge.is) (c.step-in-Purge.ensures.leaves runs)
+
+pub returns-in-Purge-clause-halted : goal.returns-in-Purge-clause-halted
+returns-in-Purge-clause-halted g c = stays_stopped c.args.store.now c.step-in-Purge.new.store (λ stopped. (c.step-in-Purge.ensures.still stopped).0)
+
+pub returns-in-Purge-clause-left : goal.returns-in-Purge-clause-left
+returns-in-Purge-clause-left g c = λ more.
+    subst (λ (t : Task). work_left (task.Purge c.step-in-Purge.new.self) c.step-in-Purge.new.store < work_left t c.args.store.now) (sym c.in-Purge.is) (c.step-in-Purge.ensures.left more)
+
+pub returns-in-Purge-clause-keeps : goal.returns-in-Purge-clause-keeps
+returns-in-Purge-clause-keeps g c =
+    let s = c.step-in-Purge.ensures in
+    let old = c.args.store.now in
+    let new = c.step-in-Purge.new.store in
+    subst (λ (k : Task). TaskKeeps k (task.Purge c.step-in-Purge.new.self) old new (g.D.Disk.history old.disk) (g.D.Disk.history new.disk) (g.D.Disk.faults old.disk) (g.D.Disk.faults new.disk) (ended_by c.step-in-Purge.result)) (sym c.in-Purge.is)
+    (keeps_purging g.D.Disk.history g.D.Disk.faults c.in-Purge.task c.step-in-Purge.new.self old new (ended_by c.step-in-Purge.result) s.grows s.mail s.reads s.changes s.unfailed s.fell (λ stopped. (s.still stopped).0))
