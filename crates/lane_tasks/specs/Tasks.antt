@@ -151,16 +151,16 @@ work_left other store = 1
 -- ---- where it stands
 
 -- The record that a delivery has stored names the instances that its events found, until it is added or its count is lowered.
-abbrev pub NamesFound : {D : Type 0} → SaveStage → StoreValue D → Run → ℕ → Type 0
-NamesFound (save_stage.Adding added room) store run place = HasRecord store.map added.map_uid.0 (λ row. row.instances ≡ instances_found place run)
-NamesFound (save_stage.GivingBack uid why room) store run place = HasRecord store.map uid.0 (λ row. row.instances ≡ instances_found place run)
-NamesFound now store run place = Unit {0}
+abbrev pub HasNamedFound : {D : Type 0} → SaveStage → StoreValue D → Run → ℕ → Type 0
+HasNamedFound (save_stage.Adding added room) store run place = HasRecord store.map added.map_uid.0 (λ row. row.instances ≡ instances_found place run)
+HasNamedFound (save_stage.GivingBack uid why room) store run place = HasRecord store.map uid.0 (λ row. row.instances ≡ instances_found place run)
+HasNamedFound now store run place = Unit {0}
 
 -- A delivery is at its stage, knows how many attachments the request's message has, and, unless the store is stopped, is ready for
 -- its next event with it, and what it has stored names what it found.
 abbrev pub IsAtDelivery : {D : Type 0} → SaveValue → StoreValue D → Option History → Request → Run → ℕ → List Reply → Type 0
 IsAtDelivery t store history (request.Deliver name time octets) run place said =
-    IsAtSave t.stage run place said × HasItsParts t.stage octets × (store.stopped ≡ false → IsReadyToDeliver t.stage t.name t.time t.size octets store history) × (store.stopped ≡ false → NamesFound t.stage store run place)
+    IsAtSave t.stage run place said × HasItsParts t.stage octets × (store.stopped ≡ false → IsReadyToDeliver t.stage t.name t.time t.size octets store history) × (store.stopped ≡ false → HasNamedFound t.stage store run place)
 IsAtDelivery t store history other run place said = ⊥
 
 -- Of a store, of what its disk tells, and of the request: at which stage the task is, of a run, of its place in the script, and of the
