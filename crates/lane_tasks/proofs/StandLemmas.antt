@@ -91,13 +91,12 @@ task_stable (task.Deliver t) old new before after was is order b ready = (ready.
 
 delivery_stays : {D : Type 0} → (t : SaveValue) (old new : StoreValue D) (before after : Option History) (asked : Request) (run : Run) (place : ℕ) (said : List Reply) (event : RunEvent) → PassesBy (task.Deliver t) old new before after → event.request ≢ place → GivesNew run event
     → IsAtDelivery t old before asked run place said → IsAtDelivery t new after asked (and_then run event) place said
-delivery_stays t old new before after (request.Deliver name time octets) run place said event passes other gives at =
-    (
-      save_kept t.stage run place said event other gives at.0,
-      at.1,
-      λ runs. save_stable t.stage t.name t.time t.size octets old new before after (passes runs).2 (at.2 (passes runs).0),
-      λ runs. names_beside t.stage old new before after run place event (passes runs).2 other (at.3 (passes runs).0),
-    )
+delivery_stays t old new before after (request.Deliver name time octets) run place said event passes other gives at = (
+  save_kept t.stage run place said event other gives at.0,
+  at.1,
+  λ runs. save_stable t.stage t.name t.time t.size octets old new before after (passes runs).2 (at.2 (passes runs).0),
+  λ runs. names_beside t.stage old new before after run place event (passes runs).2 other (at.3 (passes runs).0),
+)
 delivery_stays t old new before after asked run place said event passes other gives at = absurd at
 
 at_stays : {D : Type 0} → (t : Task) (old new : StoreValue D) (before after : Option History) (faults : Faults) (asked : Request) (run : Run) (place : ℕ) (said : List Reply) (event : RunEvent) → PassesBy t old new before after → PassesInRun t new after faults run event → event.request ≢ place → GivesNew run event

@@ -7,12 +7,11 @@ use Rattle.std.proofs.lemmas.List.Sums.{sum_by-cons}
 use Rattle.std.proofs.lemmas.Option.{slice_get_within}
 use Rattle.disk_model.specs.Disk.{History}
 use Rattle.mdbox_base.specs.declared.entries.InstRow.{InstRow}
-use Rattle.mdbox_base.specs.declared.ids.Uid.{Uid}
 use Rattle.mdbox_base.specs.declared.replies.Reply.{Reply}
 use Rattle.mdbox_base.specs.declared.requests.Request.{Request}
 use Rattle.mdbox_base.specs.declared.requests.Request.TheVariants as request
 use Rattle.model_lists.specs.Lists.{Lists}
-use Rattle.list_machine.specs.Run.{Run, RunEvent, before, has_unpinned, is_unpinning, own_events, reply_of}
+use Rattle.list_machine.specs.Run.{Run, RunEvent, before, has_unpinned, own_events, reply_of}
 use Rattle.journal.specs.Events.{IsNextEvent}
 use Rattle.journal.specs.Found.{gave_back, is_held, is_pinned_instance, is_taken, took_file}
 use Rattle.journal.specs.Journal.{Broken, HasReply, JournalStep, Requests}
@@ -20,10 +19,8 @@ use Rattle.journal.specs.Makes.{lists_before}
 use Rattle.map_index.specs.Shown.{is_instance_named}
 use Rattle.sis_store.specs.Instances.{holders_in}
 use Rattle.storage_files.specs.Files.{is_emptied_in, is_taken_in}
-use Rattle.store_core.specs.Knows.{knows_instance}
 use Rattle.store_core.specs.Value.{StoreValue}
 use Rattle.task_claims.specs.Claims.{AddsUp, Claims, Emptied, Held, Taken, Thing, amount_in, one_if, total_claims}
-use Rattle.task_steps.specs.Serves.{IsTurn}
 use Rattle.task_steps.specs.Step.{Seen}
 use Rattle.serving.specs.Accounts.{LanesAccount, lane_claims}
 use Rattle.serving.specs.Lanes.{AreBehind, IsInTurn, LaneStands, LaneValue, said_by}
@@ -278,7 +275,7 @@ taken_told store history script run journal lanes place file at low claims =
     let has = claimed_taken at.task store history at.asked run place (said_by journal place) file at.stands low claims in
     any_own (took_file file) (λ e. took_file file e && (is_none (reply_of e.request run) && not (gave_back file (own_events e.request run)))) place run.events
     (λ e same took. both_true (took_file file e) _ took
-        (both_true (is_none (reply_of e.request run)) _ (ap (λ (p : ℕ). is_none (reply_of p run)) same ∙ ap (λ (o : Option Reply). is_none o) at.unanswered) (not_true (gave_back file (own_events e.request run)) (ap (λ (p : ℕ). gave_back file (own_events p run)) same ∙ has.1))))
+    (both_true (is_none (reply_of e.request run)) _ (ap (λ (p : ℕ). is_none (reply_of p run)) same ∙ ap (λ (o : Option Reply). is_none o) at.unanswered) (not_true (gave_back file (own_events e.request run)) (ap (λ (p : ℕ). gave_back file (own_events p run)) same ∙ has.1))))
     has.0
 
 uses_told : {D : Type 0} → (store : StoreValue D) (history : Option History) (script : Requests) (run : Run) (journal : List JournalStep) (lanes : List (LaneValue Task)) (place : ℕ) (instance : InstRow) → TaskStands store history script run journal lanes place → UsesInstance instance (own_events place run)

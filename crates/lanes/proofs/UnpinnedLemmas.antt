@@ -1,12 +1,11 @@
 -- A fetch of a legal run that is answered has unpinned what it pinned, unless a stopped store refused it.
-use Rattle.std.proofs.Common.{◌≡◌, ◌≤◌, ◌<◌, ◌==◌, ◌&&◌, ◌||◌, ℕ, zero, suc, Bool, true, false, List, [], ◌∷◌, ◌++◌, length, take, All, Option, Some, None, refl, sym, ◌∙◌, ap, subst, arith, inl, inr}
+use Rattle.std.proofs.Common.{◌≡◌, ◌≤◌, ◌&&◌, ◌||◌, ℕ, zero, suc, Bool, true, false, List, [], ◌∷◌, ◌++◌, length, take, Option, Some, None, refl, sym, ◌∙◌, ap, subst, arith, inl, inr}
 use Rattle.std.specs.Prelude.{◌≢◌, ◌⊎◌, is_none, slice_get, if◌then◌else◌}
 use Rattle.std.specs.List.{list_any}
 use Rattle.std.specs.Option.{IfSome, option_or}
 use Rattle.std.proofs.lemmas.Bool.{eq-eqb, ne_eqb}
 use Rattle.std.proofs.lemmas.List.{take_all}
 use Rattle.std.proofs.lemmas.List.Folds.{list_any-append}
-use Rattle.std.proofs.lemmas.Option.{slice_get_within}
 use Rattle.mdbox_base.specs.declared.entries.InstRow.{InstRow}
 use Rattle.mdbox_base.specs.declared.ids.FileNo.{FileNo}
 use Rattle.mdbox_base.specs.declared.ids.Uid.{Uid}
@@ -18,7 +17,7 @@ use Rattle.mdbox_base.specs.declared.requests.Request.TheVariants as request
 use Rattle.model_lists.specs.Lists.{Lists}
 use Rattle.list_machine.specs.Machine.{checks_of, first_refusal, is_step, part_checks}
 use Rattle.list_machine.specs.Run.{EventPart, First, ReadsPiece, RemovesFile, Run, RunEvent, Unpins, and_then, before, is_unpinning, is_unpinning_part, first_in, own_events, reply_of}
-use Rattle.journal.specs.Events.{Around, IsEvent, IsNextEvent, MayMeet, behind_event, behind_fetch, behind_piece, has_memory, leaves_doomed, next_part, piece_left, reads_octets}
+use Rattle.journal.specs.Events.{Around, IsEvent, IsNextEvent, MayMeet, behind_event, behind_fetch, behind_piece, has_memory, leaves_doomed, next_part, piece_left}
 use Rattle.journal.specs.Journal.{JournalStep, Requests}
 use Rattle.journal.specs.Makes.{AreNextEvents, lists_before}
 use Rattle.journal.proofs.OwnEventLemmas.{own_more, own_other}
