@@ -20,9 +20,10 @@ pub read_piece-requires-clause-known : goal.read_piece-requires-clause-known
 read_piece-requires-clause-known g c =
     (subst (λ (s : FetchStage). IsReadyToFetch s c.args.store.now) (stage_seen _ c.args.self.now (stage.Reading c.in-Reading.region) c.self.view_is (sym c.replace.ensures.value ∙ c.in-Reading.is)) (c.requires.ready (sym c.stopped.ensures ∙ c.if-stopped.false))).left
 
-pub unpin-next-requires-clause-claimed : goal.unpin-next-requires-clause-claimed
-unpin-next-requires-clause-claimed g c =
-    subst (λ (s : FetchStage). IsReadyToFetch s c.args.store.now) (stage_seen _ c.args.self.now (stage.Unpinning c.in-Unpinning.from c.in-Unpinning.reply) c.self.view_is (sym c.replace.ensures.value ∙ c.in-Unpinning.is)) (c.requires.ready (sym c.stopped.ensures ∙ c.if-stopped.false))
+pub unpin-next-requires : goal.unpin-next-requires
+unpin-next-requires g c = record {
+  claimed = subst (λ (s : FetchStage). IsReadyToFetch s c.args.store.now) (stage_seen _ c.args.self.now (stage.Unpinning c.in-Unpinning.from c.in-Unpinning.reply) c.self.view_is (sym c.replace.ensures.value ∙ c.in-Unpinning.is)) (c.requires.ready (sym c.stopped.ensures ∙ c.if-stopped.false));
+}
 
 pub remove_file-requires-clause-there : goal.remove_file-requires-clause-there
 remove_file-requires-clause-there g c =
