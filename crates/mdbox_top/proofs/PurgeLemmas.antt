@@ -47,7 +47,7 @@ full_either None b f g why e = g why e
 full_either (Some x) b f g why e = f why e
 
 full_targets : {X : Type 0} → (run : Run) (lists : Lists) (octets : X → ℕ) (files : List X) → Full (first_refusal run lists (map (λ t. TargetFits (octets t)) files))
-full_targets run lists octets [] why e = absurd (let k : None ≡ Some why = e in cc k)
+full_targets run lists octets [] = λ why e. absurd (let k : None ≡ Some why = e in cc k)
 full_targets run lists octets (x ∷ files) = full_either (refusal_at run lists (TargetFits (octets x))) (first_refusal run lists (map (λ t. TargetFits (octets t)) files)) (full_where (nat_lt 4294967294 (octets x))) (full_targets run lists octets files)
 
 full_checks : (run : Run) (event : RunEvent) (lists : Lists) (part : EventPart) → Full (first_refusal run lists (part_checks run event request.Purge part))
@@ -56,7 +56,7 @@ full_checks run event lists First =
     let targets = with_targets m event.files in
     full_either (refusal_at run lists (NextFiles (length targets))) (first_refusal run lists (map (λ t. TargetFits (target_length m t.file)) targets)) (full_where (nat_lt 4294967294 ((drawn_of run).file + length targets)))
     (full_targets run lists (λ (t : TakenFile). target_length m t.file) targets)
-full_checks run event lists part why e = absurd (let k : None ≡ Some why = e in cc k)
+full_checks run event lists part = λ why e. absurd (let k : None ≡ Some why = e in cc k)
 
 refused_kind : (why : Refusal) → why ≡ refusal.StoreFull 4294967294 → MayReplyPurge (reply.Refused why)
 refused_kind why e = subst (λ (w : Refusal). MayReplyPurge (reply.Refused w)) (sym e) refl
