@@ -577,3 +577,10 @@ most_fits history found store is has =
     let most = greatest_fits (λ (f : FoundFile). f.messages) 4294967295 found.files.items (All-weaker (IsFoundFile store.map) (λ f. f.messages ≤ 4294967295) (λ f k. let e = k.messages in let l = count_by-le-length (λ (r : MapRecord). r.file == f.file.0) store.map.records in omega (arith, e, l, few)) found.files.items has.files.each) in
     let e = has.most in
     omega (arith, most, e)
+
+-- as many instances are known
+pub known_taken : {D : Type 0} → (sources : List Source) (disk : D) (spare room n : ℕ) (old new : StoreValue D) → new ≡ take_all sources (with_room disk spare room old) → length old.instances.known ≤ n → length new.instances.known ≤ n
+known_taken sources disk spare room n old new is few =
+    let a = ap (λ (s : StoreValue _). length s.instances.known) is in
+    let b = ap (λ (s : StoreValue _). length s.instances.known) (rest_all sources (with_room disk spare room old)) in
+    omega (arith, a, b, few)
