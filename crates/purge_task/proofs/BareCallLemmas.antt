@@ -83,7 +83,7 @@ emptied_ends n files d = by_end d.f.end refl (d.used.emptied d.emptied).0
 pub untaken_in : (n : ℕ) (files : List MailFile) → IsEmptiedFile n files → is_taken_in n files ≡ false
 untaken_in n files d = ap (λ (o : Option MailFile). option_map_or (λ f. f.taken) o false) d.found ∙ (d.used.emptied d.emptied).1
 
-undoomed_in : (n : ℕ) (files : List MailFile) → IsEmptiedFile n files → is_doomed_in n files ≡ false
+pub undoomed_in : (n : ℕ) (files : List MailFile) → IsEmptiedFile n files → is_doomed_in n files ≡ false
 undoomed_in n files d = ap (λ (o : Option MailFile). option_map_or (λ f. f.doomed) o false) d.found ∙ d.undoomed
 
 pub unplaced_in : (n : ℕ) (files : List MailFile) → IsEmptiedFile n files → place_begun_in n files ≡ None

@@ -47,8 +47,12 @@ pub mod StableLemmas
 pub mod StageLemmas
 pub mod StepLemmas
 pub mod StoppedLemmas
+pub mod SwitchCallLemmas
+pub mod SwitchClaimLemmas
+pub mod SwitchFileLemmas
 pub mod SwitchFitLemmas
 pub mod SwitchReadyLemmas
+pub mod SwitchRowLemmas
 pub mod SwitchSeenLemmas
 pub mod SwitchStepLemmas
 pub mod SwitchedLemmas

@@ -6,6 +6,7 @@ pub use copy_event::copy_next;
 pub use copying::{copy_message, next_wanted};
 pub use finding::{Found, FoundFile, TARGET_HEADER};
 pub use laws::{purge_stages_are_kept, purges_are_stable, purges_leave_work, purges_stand};
+pub use switch_event::{SwitchedFile, switch_file};
 pub use switching::{Switched, switch};
 pub use taking::{make_target, reserve, take_files};
 pub use task::{PurgeStage, PurgeTask, did_refused, remove_source};

@@ -6,7 +6,8 @@ ghost use Rattle.purge_task.specs.Left.{IsFurther};
 ghost use Rattle.purge_task.specs.SwitchEvent.{IsBehindSwitch, IsToSwitch, answer_of_switch, came_by_switch};
 ghost use Rattle.purge_task.specs.declared.task.PurgeStage.{PurgeStage as StageValue};
 
-use crate::task::PurgeStage;
+use crate::switching::switch;
+use crate::task::{PurgeStage, goes_on};
 use crate::work::Work;
 use disk_model::Disk;
 use mdbox_base::Refusal;
@@ -31,5 +32,27 @@ pub fn switch_file<D: Disk>(store: &mut Store<D>, work: Work) -> Result<Switched
     // A map has no more records than there are map uids.
     ensures few { IfOk result (λ switched. switched.dropped ≤ 4294967295) }
 {
-    unreachable!()
+    store.facts();
+    store.map().known_facts();
+    let mut work = work;
+    match switch(store, &mut work) {
+        Ok(switched) => Ok(SwitchedFile {
+            next: next_stage(work, switched.is_unpinned),
+            dropped: switched.dropped,
+        }),
+        Err(_) => Err(Refusal::Stopped),
+    }
+}
+
+/// The stage behind the switch of the present file: its removal, where it has no pin.
+fn next_stage(work: Work, is_unpinned: bool) -> PurgeStage
+    requires { work.next < length work.sources.items }
+    ensures { IsBehindSwitch is_unpinned work result }
+{
+    let mut work = work;
+    if is_unpinned {
+        return PurgeStage::Removing(work);
+    }
+    work.go_on();
+    goes_on(work)
 }
