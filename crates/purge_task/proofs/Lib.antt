@@ -11,6 +11,7 @@ pub mod CopyLemmas
 pub mod CopyRoomLemmas
 pub mod CopyStepLemmas
 pub mod CopyingLemmas
+pub mod DropLemmas
 pub mod EventLemmas
 pub mod FailLemmas
 pub mod FewInstanceLemmas

@@ -1,6 +1,7 @@
 pub mod Claims
 pub mod Clause
 pub mod Copied
+pub mod Dropped
 pub mod Found
 pub mod Keeping
 pub mod Left
