@@ -4,8 +4,8 @@ use Rattle.purge_task.specs.declared.task.PurgeStage.TheVariants as stage
 use Rattle.purge_task.proofs.GoneCallLemmas.{last_says, stage_as}
 use Rattle.purge_task.proofs.task.PurgeTask.remove_instance.Goals as goal
 
-pub returns-in-None : goal.returns-in-None
-returns-in-None g c =
+pub returns-in-None-clause-step : goal.returns-in-None-clause-step
+returns-in-None-clause-step g c =
     let at = ap (λ (t : PurgeValue). t.stage) c.self.view_is ∙ c.requires.first in
     stage_as stage.Instances _ c.args.self.now _ _ c.args.store.now c.args.store.now _ _ _ _ c.self.view_is
     (last_says _ _ c.args.store.now (g.D.Disk.history c.args.store.now.disk) (g.D.Disk.faults c.args.store.now.disk) refl at refl c.requires.running c.facts.ensures.instances (sym c.next_useless.ensures ∙ c.in-None.is))
