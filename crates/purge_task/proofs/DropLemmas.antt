@@ -1,6 +1,6 @@
 -- What a purge makes of the map, event by event.
 use Rattle.std.proofs.Common.{◌≡◌, ◌≢◌, ◌≤◌, ◌<◌, ◌+◌, ◌==◌, ◌||◌, ◌⊎◌, ℕ, Bool, true, false, not, cond, List, [], ◌∷◌, length, map, Option, Some, None, refl, sym, ◌∙◌, ap, subst, arith, get_or, inl, inr, All}
-use Rattle.std.specs.Prelude.{AllPairs, Contains, count_by, filter, if◌then◌else◌}
+use Rattle.std.specs.Prelude.{AllPairs, Contains, Err, IfOk, Ok, OnErr, Result, count_by, filter, if◌then◌else◌}
 use Rattle.std.specs.List.Sorted.{IsStrictlyIncreasing}
 use Rattle.std.proofs.lemmas.Bool.{eqb-true, ne_eqb}
 use Rattle.std.proofs.lemmas.List.Elements.{All-contains, All-contains_itself, All-head, All-tail, Contains-append_right}
@@ -13,6 +13,8 @@ use Rattle.mdbox_base.specs.declared.entries.MapEntry.TheVariants as map_entry
 use Rattle.mdbox_base.specs.declared.entries.MapPlace.{MapPlace}
 use Rattle.mdbox_base.specs.declared.ids.FileNo.{FileNo}
 use Rattle.mdbox_base.specs.declared.ids.MapUid.{MapUid}
+use Rattle.mdbox_base.specs.declared.progress.Progress.{Progress}
+use Rattle.mdbox_base.specs.declared.replies.Refusal.{Refusal}
 use Rattle.model_meaning.specs.MapFits.{HasRecord, MapFits}
 use Rattle.model_meaning.specs.MapMeaning.{MapMeaning, MapRecord, has_map_uid, is_sealed, moved_record, place_given, record_at}
 use Rattle.model_meaning.specs.Sound.{IsSoundMap}
@@ -21,14 +23,24 @@ use Rattle.model_meaning.proofs.MapPlaceLemmas.{equal_yes}
 use Rattle.model_octets.proofs.PairLemmas.{pairs_head, pairs_tail}
 use Rattle.model_octets.proofs.SearchLemmas.{found_one}
 use Rattle.model_store.proofs.OpeningSafeLemmas.{at_uid}
+use Rattle.storage_files.specs.declared.file.MailFile.{MailFile}
 use Rattle.storage_files.specs.Files.{AreFilesInOrder, is_emptied_in}
 use Rattle.store_core.specs.Running.{IsStore}
 use Rattle.store_core.specs.Value.{StoreValue}
 use Rattle.store_core.proofs.BoxAppendLemmas.{store_sound}
-use Rattle.purge_task.specs.Dropped.{DropsUnwanted}
+use Rattle.purge_task.specs.Clause.{answer_of, came_to}
+use Rattle.purge_task.specs.Dropped.{DropsUnwanted, TellsCounts}
+use Rattle.purge_task.specs.Keeping.{PurgeValue}
+use Rattle.purge_task.specs.Stages.{IsNextStage, went_on}
+use Rattle.purge_task.specs.SwitchEvent.{IsBehindSwitch, answer_of_switch, came_by_switch}
 use Rattle.purge_task.specs.Switched.{AreSwitchLists, IsSwitched, target_named}
+use Rattle.purge_task.specs.Taken.{source_taken, take_all, taken_to_empty, target_drawn}
+use Rattle.purge_task.specs.declared.switch_event.SwitchedFile.{SwitchedFile}
 use Rattle.purge_task.specs.declared.switching.Switched.{Switched}
+use Rattle.purge_task.specs.declared.task.PurgeStage.{PurgeStage}
+use Rattle.purge_task.specs.declared.task.PurgeStage.TheVariants as stage
 use Rattle.purge_task.specs.declared.work.Source.{Source}
+use Rattle.purge_task.specs.declared.work.Work.{Work}
 use Rattle.purge_task.proofs.BareCallLemmas.{IsEmptiedFile, emptied_file}
 use Rattle.purge_task.proofs.CopyLemmas.{kept_of}
 use Rattle.purge_task.proofs.EventLemmas.{fall}
@@ -219,3 +231,61 @@ pub switch_drops : {D : Type 0} → (source : Source) (switched : Switched) (old
 switch_drops source switched old new before is order emptied s =
     subst (λ (n : ℕ). DropsUnwanted old.map new.map n) (sym s.counted)
     (subst (λ (m : MapMeaning). DropsUnwanted old.map m (length s.dropped)) (sym s.map_is) (drops_switched source.file (target_named source.target s.moved) s.moved s.dropped old.map (store_sound before old is) s.fits (emptied_unsealed source.file.0 old before is order emptied)))
+
+-- ---- the parts of a step
+
+-- files that are taken leave the map as it is
+map_one : {D : Type 0} → (store : StoreValue D) (source : Source) → (source_taken store source).map ≡ store.map
+map_one store source = by_flag source.is_wanted
+  where
+    by_flag : (b : Bool) → (if b then target_drawn (taken_to_empty source.file.0 store) else taken_to_empty source.file.0 store).map ≡ store.map
+    by_flag true = refl
+    by_flag false = refl
+
+pub map_taken : {D : Type 0} → (sources : List Source) (store : StoreValue D) → (take_all sources store).map ≡ store.map
+map_taken [] store = refl
+map_taken (source ∷ rest) store = map_taken rest (source_taken store source) ∙ map_one store source
+
+-- and so do those that are given back
+pub map_given : {D : Type 0} → (old new : StoreValue D) (files : List MailFile) → (old.stopped ≡ true → new ≡ old) → (old.stopped ≡ false → new ≡ record old { files = record old.files { files = files } }) → new.map ≡ old.map
+map_given old new files stopped runs = by_flag old.stopped refl
+  where
+    by_flag : (b : Bool) → old.stopped ≡ b → new.map ≡ old.map
+    by_flag true e = ap (λ (s : StoreValue _). s.map) (stopped e)
+    by_flag false e = ap (λ (s : StoreValue _). s.map) (runs e)
+
+pub same_drops : (before after : ℕ) (old new : MapMeaning) → after ≡ before → new ≡ old → (dropped : ℕ) × (after ≡ before + dropped) × DropsUnwanted old new dropped
+same_drops before after old new counted same = (0, omega (arith, counted), drops_none old new same)
+
+came_dropped : (result : Result PurgeStage Refusal) (u : PurgeValue) → (came_to result u).dropped ≡ u.dropped
+came_dropped (Ok next) u = refl
+came_dropped (Err why) u = refl
+
+pub part_counts : (result : Result PurgeStage Refusal) (u next : PurgeValue) → next ≡ came_to result u → next.dropped ≡ u.dropped
+part_counts result u next is = ap (λ (v : PurgeValue). v.dropped) is ∙ came_dropped result u
+
+pub part_drops : (result : Result PurgeStage Refusal) (u next : PurgeValue) (before : ℕ) (old new : MapMeaning) → next ≡ came_to result u → u.dropped ≡ before → new ≡ old → (dropped : ℕ) × (next.dropped ≡ before + dropped) × DropsUnwanted old new dropped
+part_drops result u next before old new is counted same = same_drops before next.dropped old new (part_counts result u next is ∙ counted) same
+
+pub switch_counts : (result : Result SwitchedFile Refusal) (u next : PurgeValue) (before : ℕ) (old new : MapMeaning) (stopped : Bool) → next ≡ came_by_switch result u → u.dropped ≡ before → IfOk result (λ switched. DropsUnwanted old new switched.dropped) → OnErr result (stopped ≡ true) → stopped ≡ false
+    → (dropped : ℕ) × (next.dropped ≡ before + dropped) × DropsUnwanted old new dropped
+switch_counts (Ok switched) u next before old new stopped is counted drops err runs = (switched.dropped, ap (λ (v : PurgeValue). v.dropped) is ∙ ap (λ (n : ℕ). n + switched.dropped) counted, drops)
+switch_counts (Err why) u next before old new stopped is counted drops err runs = absurd (fall stopped err runs)
+
+-- ---- what it replies
+
+pub next_begun : (work : Work) (next : PurgeStage) → IsNextStage work next → next ≢ stage.First
+next_begun work next (inl last) e = let k : stage.Instances ≡ stage.First = sym last.1 ∙ e in cc k
+next_begun work next (inr more) e = let k : stage.Begin work ≡ stage.First = sym more.1 ∙ e in cc k
+
+pub switch_begun : (is_unpinned : Bool) (work : Work) (next : PurgeStage) → IsBehindSwitch is_unpinned work next → next ≢ stage.First
+switch_begun true work next behind e = let k : stage.Removing work ≡ stage.First = sym behind ∙ e in cc k
+switch_begun false work next behind e = next_begun (went_on work) next behind e
+
+pub part_tells : (result : Result PurgeStage Refusal) (t u next : PurgeValue) (answer : Progress) → next ≡ came_to result u → answer ≡ answer_of result → IfOk result (λ at. at ≢ stage.First) → TellsCounts t next answer
+part_tells (Ok at) t u next answer is told begun = subst (λ (a : Progress). TellsCounts t next a) (sym told) (λ e. begun (sym (ap (λ (v : PurgeValue). v.stage) is) ∙ e))
+part_tells (Err why) t u next answer is told begun = subst (λ (a : Progress). TellsCounts t next a) (sym told) tt
+
+pub switch_tells : (result : Result SwitchedFile Refusal) (t u next : PurgeValue) (answer : Progress) → next ≡ came_by_switch result u → answer ≡ answer_of_switch result → IfOk result (λ switched. switched.next ≢ stage.First) → TellsCounts t next answer
+switch_tells (Ok switched) t u next answer is told begun = subst (λ (a : Progress). TellsCounts t next a) (sym told) (λ e. begun (sym (ap (λ (v : PurgeValue). v.stage) is) ∙ e))
+switch_tells (Err why) t u next answer is told begun = subst (λ (a : Progress). TellsCounts t next a) (sym told) tt
