@@ -78,9 +78,9 @@ drops_both old mid new some more h k = record {
 }
   where
     further : (row now : MapRecord) → Contains mid.records now → apart_from_place now ≡ apart_from_place row → is_sealed old row.file ≡ false → ((last : MapRecord) × Contains new.records last × (apart_from_place last ≡ apart_from_place row)) ⊎ ((row.count ≡ 0) × (is_sealed old row.file ≡ false))
-    further row now c same open = elim (k.went now c) [
+    further row now c same unsealed = elim (k.went now c) [
       | inl last ↦ inl (last.0, last.1, last.2 ∙ same)
-      | inr gone ↦ inr (sym (count_as now row same) ∙ gone.0, open)
+      | inr gone ↦ inr (sym (count_as now row same) ∙ gone.0, unsealed)
     ]
 
     by_seal : (row : MapRecord) → Contains old.records row → (b : Bool) → is_sealed old row.file ≡ b → ((last : MapRecord) × Contains new.records last × (apart_from_place last ≡ apart_from_place row)) ⊎ ((row.count ≡ 0) × (is_sealed old row.file ≡ false))
@@ -197,12 +197,12 @@ dropped_many m f us sound rising here =
         (h.0, (found_one (λ (o : MapRecord). o.uid == u.0) m.records h.0 h.1).0, sym number, any_has (λ (v : MapUid). v.0 == h.0.uid) us u c (equal_yes u.0 h.0.uid number))
 
 drops_switched : (f : FileNo) (t : ℕ) (ms : List MapPlace) (us : List MapUid) (m : MapMeaning) → IsSoundMap m → MapFits m (map_entry.P f t ms us) → is_sealed m f.0 ≡ false → DropsUnwanted m (map_switched f t ms us m) (length us)
-drops_switched f t ms us m sound fits open = record {
+drops_switched f t ms us m sound fits unsealed = record {
   boxes = boxes_by_purged f t ms us m.boxes;
   seals = refl;
   stay = λ row c. (let a = of_mapped changed left row (subst (λ (rs : List MapRecord). Contains rs row) (rows_are f t ms us m) c) in (a.0, of_kept stays m.records a.0 a.1, ap apart_from_place (sym a.2) ∙ same_apart a.0 t (place_given a.0.uid ms)));
   went = λ row c. by_test row c (has_map_uid row.uid us) refl;
-  places = λ row c e. (let a = All-contains (λ (r : MapRecord). r.file ≢ f.0 → IsLeftAlone ms us r) m.records row (alone f t ms us m sound fits) c (λ is. fall (is_sealed m f.0) (sym (ap (is_sealed m) is) ∙ e) open) in subst (λ (r : MapRecord). Contains (map_switched f t ms us m).records r) (ap (λ (o : Option MapPlace). moved_record row t o) a.1) (there row c a.0));
+  places = λ row c e. (let a = All-contains (λ (r : MapRecord). r.file ≢ f.0 → IsLeftAlone ms us r) m.records row (alone f t ms us m sound fits) c (λ is. fall (is_sealed m f.0) (sym (ap (is_sealed m) is) ∙ e) unsealed) in subst (λ (r : MapRecord). Contains (map_switched f t ms us m).records r) (ap (λ (o : Option MapPlace). moved_record row t o) a.1) (there row c a.0));
   dropped_are = (let a = left_or_gone (has_one_of us) m.records in let b = length-map left changed in let c = ap (λ (rs : List MapRecord). length rs) (rows_are f t ms us m) in let d = dropped_many m f us sound fits.dropped_rising fits.dropped_here in omega (arith, a, b, c, d));
 }
   where
@@ -224,7 +224,7 @@ drops_switched f t ms us m sound fits open = record {
         let u = listed_one us row.uid e in
         let h = All-contains (λ (v : MapUid). HasRecord m v.0 (λ r. (r.file ≡ f.0) × (r.count ≡ 0))) us u.0 fits.dropped_here u.1 in
         let same : h.0 ≡ row = (let k : Some h.0 ≡ Some row = sym (subst (λ (n : ℕ). record_at m n ≡ Some h.0) u.2 h.1) ∙ at_uid m row sound c in cc k) in
-        inr (subst (λ (r : MapRecord). r.count ≡ 0) same h.2.1, ap (is_sealed m) (subst (λ (r : MapRecord). r.file ≡ f.0) same h.2.0) ∙ open)
+        inr (subst (λ (r : MapRecord). r.count ≡ 0) same h.2.1, ap (is_sealed m) (subst (λ (r : MapRecord). r.file ≡ f.0) same h.2.0) ∙ unsealed)
 
 -- The switch drops as many records as it answers.
 pub switch_drops : {D : Type 0} → (source : Source) (switched : Switched) (old new : StoreValue D) (before : Option History) → IsStore before old → AreFilesInOrder old.files → is_emptied_in source.file.0 old.files.files ≡ true → IsSwitched source switched old new → DropsUnwanted old.map new.map switched.dropped

@@ -321,6 +321,6 @@ switch_left result t u next answer old new before later began faults is told of 
     subst (λ (n : PurgeValue). LeavesLess t n old new) (ap (came_by_switch result) (sym of) ∙ (switched_same result t.stage u ∙ sym is)) (switched_low result t old new before later began faults h few further low (sym told ∙ more))
 
 -- what is said of each stage, of this one
-pub further_at : {D : Type 0} → {store : StoreValue D} {history : Option History} {work : Work} → (result : Result SwitchedFile Refusal) (t : PurgeValue) → IfOk result (λ s. (at : PurgeStage) → HasPurged at store history → IsToSwitch at work store.map → IsFurther 1 at s.next) → HasPurged t.stage store history → IsToSwitch t.stage work store.map → IfOk result (λ s. IsFurther 1 t.stage s.next)
-further_at (Ok switched) t each ready to = each t.stage ready to
-further_at (Err why) t each ready to = tt
+pub further_at : {D : Type 0} → (store : StoreValue D) (history : Option History) (work : Work) (result : Result SwitchedFile Refusal) (t : PurgeValue) → IfOk result (λ s. (at : PurgeStage) → HasPurged at store history → IsToSwitch at work store.map → IsFurther 1 at s.next) → HasPurged t.stage store history → IsToSwitch t.stage work store.map → IfOk result (λ s. IsFurther 1 t.stage s.next)
+further_at store history work (Ok switched) t each ready to = each t.stage ready to
+further_at store history work (Err why) t each ready to = tt

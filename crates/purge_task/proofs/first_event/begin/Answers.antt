@@ -1,5 +1,7 @@
-use Rattle.std.proofs.Common.{◌≡◌, ◌∙◌, ℕ, List, drop, refl, sym, ap, subst, arith}
+use Rattle.std.proofs.Common.{◌≡◌, ◌∙◌, ℕ, List, drop, length, refl, sym, ap, subst, arith}
 use Rattle.std.specs.Prelude.{Err, Result}
+use Rattle.std.specs.Vec.{with_items}
+use Rattle.std.proofs.lemmas.List.{with_items_is}
 use Rattle.std.proofs.lemmas.Result.{err_from_is_err_and}
 use Rattle.disk_model.specs.Disk.{IsIdle}
 use Rattle.disk_model.specs.FaultCounts.{NoFault}
@@ -14,6 +16,7 @@ use Rattle.purge_task.proofs.DropLemmas.{map_taken, next_begun}
 use Rattle.purge_task.proofs.FirstCallLemmas.{few_taken, find_refused_says, known_taken, memory_says, most_fits, store_ready, store_taken, taken_says}
 use Rattle.purge_task.proofs.FurtherLemmas.{further_first}
 use Rattle.purge_task.proofs.TakeableLemmas.{can_take_all}
+use Rattle.purge_task.proofs.TakenLemmas.{given_long}
 use Rattle.purge_task.proofs.first_event.begin.Goals as goal
 
 pub returns-then-not-has_few_instances-clause-step :
@@ -50,7 +53,7 @@ returns-clause-step g c t at =
     let store = store_taken c.in-Ok.work.sources.items c.args.store.now c.of.new.store c.reserve.new.store c.take_files.new.store c.in_ok-found.ensures.same c.reserve.ensures.same (subst (λ (ss : List Source). c.take_files.new.store ≡ take_all ss c.reserve.new.store) c.deref_mut.ensures.value c.take_files.ensures.store) in
     let room = ap (λ (s : StoreValue _). s.map_log.room) c.in_ok-found.ensures.same in
     let more = c.reserve.ensures.no_less.1 in
-    taken_says g.D.Disk.history g.D.Disk.faults t _ c.in_ok-found.found c.in-Ok.work _ c.reserve.new.store.files.spare c.reserve.new.store.map_log.room c.args.store.now c.take_files.new.store at c.goes_on.ensures refl refl refl refl c.requires
+    taken_says g.D.Disk.history g.D.Disk.faults t _ c.in_ok-found.found c.in-Ok.work (record c.in-Ok.work { sources = with_items c.in-Ok.work.sources c.take_files.new.sources }) c.reserve.new.store.files.spare c.reserve.new.store.map_log.room c.args.store.now c.take_files.new.store at c.goes_on.ensures refl refl refl refl c.requires
     (record {
       store = c.facts.ensures.store;
       order = c.facts.ensures.files;
@@ -60,7 +63,7 @@ returns-clause-step g c t at =
       log = c.in-Ok.ensures.room;
       more = omega (arith, room, more);
       is = store.0;
-      left = ap (λ (n : ℕ). drop n c.take_files.new.sources) c.in-Ok.ensures.work.next ∙ (c.take_files.ensures.sources ∙ (ap (λ (ss : List Source). targets_given c.reserve.new.store.files.highest ss) c.deref_mut.ensures.value ∙ ap (λ (n : ℕ). targets_given n c.in-Ok.work.sources.items) (ap (λ (s : StoreValue _). s.files.highest) (store_ready c.args.store.now c.of.new.store c.reserve.new.store c.in_ok-found.ensures.same c.reserve.ensures.same).0)));
+      left = ap (λ (n : ℕ). drop n (with_items c.in-Ok.work.sources c.take_files.new.sources).items) c.in-Ok.ensures.work.next ∙ (with_items_is c.in-Ok.work.sources c.take_files.new.sources (ap (λ (ss : List Source). length ss) c.take_files.ensures.sources ∙ (given_long c.reserve.new.store.files.highest c.deref_mut.result.now ∙ c.deref_mut.ensures.len)) ∙ (c.take_files.ensures.sources ∙ (ap (λ (ss : List Source). targets_given c.reserve.new.store.files.highest ss) c.deref_mut.ensures.value ∙ ap (λ (n : ℕ). targets_given n c.in-Ok.work.sources.items) (ap (λ (s : StoreValue _). s.files.highest) (store_ready c.args.store.now c.of.new.store c.reserve.new.store c.in_ok-found.ensures.same c.reserve.ensures.same).0))));
       from = c.in-Ok.ensures.work.from;
       text = refl;
       block = refl;
@@ -73,7 +76,7 @@ returns-clause-further g c =
     let store = store_taken c.in-Ok.work.sources.items c.args.store.now c.of.new.store c.reserve.new.store c.take_files.new.store c.in_ok-found.ensures.same c.reserve.ensures.same (subst (λ (ss : List Source). c.take_files.new.store ≡ take_all ss c.reserve.new.store) c.deref_mut.ensures.value c.take_files.ensures.store) in
     let room = ap (λ (s : StoreValue _). s.map_log.room) c.in_ok-found.ensures.same in
     let more = c.reserve.ensures.no_less.1 in
-    further_first _ c.goes_on.result c.goes_on.ensures (few_taken (g.D.Disk.history c.args.store.now.disk) c.in_ok-found.found c.in-Ok.work _ c.take_files.new.store.disk c.reserve.new.store.files.spare c.reserve.new.store.map_log.room c.args.store.now c.take_files.new.store
+    further_first (record c.in-Ok.work { sources = with_items c.in-Ok.work.sources c.take_files.new.sources }) c.goes_on.result c.goes_on.ensures (few_taken (g.D.Disk.history c.args.store.now.disk) c.in_ok-found.found c.in-Ok.work (record c.in-Ok.work { sources = with_items c.in-Ok.work.sources c.take_files.new.sources }) c.take_files.new.store.disk c.reserve.new.store.files.spare c.reserve.new.store.map_log.room c.args.store.now c.take_files.new.store
     (record {
       store = c.facts.ensures.store;
       order = c.facts.ensures.files;
@@ -83,7 +86,7 @@ returns-clause-further g c =
       log = c.in-Ok.ensures.room;
       more = omega (arith, room, more);
       is = store.0;
-      left = ap (λ (n : ℕ). drop n c.take_files.new.sources) c.in-Ok.ensures.work.next ∙ (c.take_files.ensures.sources ∙ (ap (λ (ss : List Source). targets_given c.reserve.new.store.files.highest ss) c.deref_mut.ensures.value ∙ ap (λ (n : ℕ). targets_given n c.in-Ok.work.sources.items) (ap (λ (s : StoreValue _). s.files.highest) (store_ready c.args.store.now c.of.new.store c.reserve.new.store c.in_ok-found.ensures.same c.reserve.ensures.same).0)));
+      left = ap (λ (n : ℕ). drop n (with_items c.in-Ok.work.sources c.take_files.new.sources).items) c.in-Ok.ensures.work.next ∙ (with_items_is c.in-Ok.work.sources c.take_files.new.sources (ap (λ (ss : List Source). length ss) c.take_files.ensures.sources ∙ (given_long c.reserve.new.store.files.highest c.deref_mut.result.now ∙ c.deref_mut.ensures.len)) ∙ (c.take_files.ensures.sources ∙ (ap (λ (ss : List Source). targets_given c.reserve.new.store.files.highest ss) c.deref_mut.ensures.value ∙ ap (λ (n : ℕ). targets_given n c.in-Ok.work.sources.items) (ap (λ (s : StoreValue _). s.files.highest) (store_ready c.args.store.now c.of.new.store c.reserve.new.store c.in_ok-found.ensures.same c.reserve.ensures.same).0))));
       from = c.in-Ok.ensures.work.from;
       text = refl;
       block = refl;

@@ -1,4 +1,6 @@
-use Rattle.std.proofs.Common.{◌≡◌, ◌+◌, drop, refl, sym, ◌∙◌, ap, subst, arith}
+use Rattle.std.proofs.Common.{◌≡◌, ◌+◌, ◌==◌, true, drop, refl, sym, ◌∙◌, ap, subst, arith}
+use Rattle.std.specs.List.{list_any}
+use Rattle.model_meaning.specs.MapMeaning.{MapMeaning}
 use Rattle.purge_task.specs.Clause.{IsPurgeStep, at_stage}
 use Rattle.purge_task.specs.Keeping.{LeavesLess, PurgeValue}
 use Rattle.purge_task.specs.SwitchEvent.{answer_of_switch, came_by_switch}
@@ -19,25 +21,25 @@ returns-in-Some-target-clause-left g c more =
 pub switch_file-switched-requires-clause-ready : goal.switch_file-switched-requires-clause-ready
 switch_file-switched-requires-clause-ready g c =
     let s = c.in-Some.ensures.some in
-    (stage.Begin c.args.work, c.requires.ready, (unwanted_first c.args.work s.0 (drop (c.args.work.next + 1) c.args.work.sources.items) c.in-Some.source.file c.in-Some.source.target c.args.store.now.map s.1 s.2.0 s.2.1 ? ?))
+    (stage.Begin c.args.work, c.requires.ready, (unwanted_first c.args.work s.0 (drop (c.args.work.next + 1) c.args.work.sources.items) c.in-Some.source.file c.in-Some.source.target c.args.store.now.map s.1 s.2.0 s.2.1 c.in_default-target.is (subst (λ (m : MapMeaning). list_any (λ row. row.file == c.in-Some.source.file.0) m.records ≡ true) c.map.ensures (sym c.has_message.ensures ∙ c.if-has_message.true))))
 
 pub returns-then-has_message-clause-step : goal.returns-then-has_message-clause-step
 returns-then-has_message-clause-step g c =
     let s = c.in-Some.ensures.some in
-    switch_part c.switch_file-switched.result (at_stage (stage.Begin c.args.work) c.args.self.now) c.args.self.now c.come_by_switch.new.self c.come_by_switch.result c.args.store.now c.switch_file-switched.new.store (g.D.Disk.history c.args.store.now.disk) (g.D.Disk.history c.switch_file-switched.new.store.disk) (g.D.Disk.faults c.args.store.now.disk) (g.D.Disk.faults c.switch_file-switched.new.store.disk) c.come_by_switch.ensures.task c.come_by_switch.ensures.answer refl (c.switch_file-switched.ensures.steps (at_stage (stage.Begin c.args.work) c.args.self.now) c.requires.ready (unwanted_first c.args.work s.0 (drop (c.args.work.next + 1) c.args.work.sources.items) c.in-Some.source.file c.in-Some.source.target c.args.store.now.map s.1 s.2.0 s.2.1 ? ?))
+    switch_part c.switch_file-switched.result (at_stage (stage.Begin c.args.work) c.args.self.now) c.args.self.now c.come_by_switch.new.self c.come_by_switch.result c.args.store.now c.switch_file-switched.new.store (g.D.Disk.history c.args.store.now.disk) (g.D.Disk.history c.switch_file-switched.new.store.disk) (g.D.Disk.faults c.args.store.now.disk) (g.D.Disk.faults c.switch_file-switched.new.store.disk) c.come_by_switch.ensures.task c.come_by_switch.ensures.answer refl (c.switch_file-switched.ensures.steps (at_stage (stage.Begin c.args.work) c.args.self.now) c.requires.ready (unwanted_first c.args.work s.0 (drop (c.args.work.next + 1) c.args.work.sources.items) c.in-Some.source.file c.in-Some.source.target c.args.store.now.map s.1 s.2.0 s.2.1 c.in_default-target.is (subst (λ (m : MapMeaning). list_any (λ row. row.file == c.in-Some.source.file.0) m.records ≡ true) c.map.ensures (sym c.has_message.ensures ∙ c.if-has_message.true))))
 
 pub returns-then-has_message-clause-left : goal.returns-then-has_message-clause-left
 returns-then-has_message-clause-left g c more =
     let s = c.in-Some.ensures.some in
-    switch_left c.switch_file-switched.result (at_stage (stage.Begin c.args.work) c.args.self.now) c.args.self.now c.come_by_switch.new.self c.come_by_switch.result c.args.store.now c.switch_file-switched.new.store (g.D.Disk.history c.args.store.now.disk) (g.D.Disk.history c.switch_file-switched.new.store.disk) (g.D.Disk.faults c.args.store.now.disk) (g.D.Disk.faults c.switch_file-switched.new.store.disk) c.come_by_switch.ensures.task c.come_by_switch.ensures.answer refl (c.switch_file-switched.ensures.steps (at_stage (stage.Begin c.args.work) c.args.self.now) c.requires.ready (unwanted_first c.args.work s.0 (drop (c.args.work.next + 1) c.args.work.sources.items) c.in-Some.source.file c.in-Some.source.target c.args.store.now.map s.1 s.2.0 s.2.1 ? ?)) c.switch_file-switched.ensures.few (further_at c.switch_file-switched.result (at_stage (stage.Begin c.args.work) c.args.self.now) c.switch_file-switched.ensures.further c.requires.ready (unwanted_first c.args.work s.0 (drop (c.args.work.next + 1) c.args.work.sources.items) c.in-Some.source.file c.in-Some.source.target c.args.store.now.map s.1 s.2.0 s.2.1 ? ?)) c.requires.low more
+    switch_left c.switch_file-switched.result (at_stage (stage.Begin c.args.work) c.args.self.now) c.args.self.now c.come_by_switch.new.self c.come_by_switch.result c.args.store.now c.switch_file-switched.new.store (g.D.Disk.history c.args.store.now.disk) (g.D.Disk.history c.switch_file-switched.new.store.disk) (g.D.Disk.faults c.args.store.now.disk) (g.D.Disk.faults c.switch_file-switched.new.store.disk) c.come_by_switch.ensures.task c.come_by_switch.ensures.answer refl (c.switch_file-switched.ensures.steps (at_stage (stage.Begin c.args.work) c.args.self.now) c.requires.ready (unwanted_first c.args.work s.0 (drop (c.args.work.next + 1) c.args.work.sources.items) c.in-Some.source.file c.in-Some.source.target c.args.store.now.map s.1 s.2.0 s.2.1 c.in_default-target.is (subst (λ (m : MapMeaning). list_any (λ row. row.file == c.in-Some.source.file.0) m.records ≡ true) c.map.ensures (sym c.has_message.ensures ∙ c.if-has_message.true)))) c.switch_file-switched.ensures.few (further_at c.args.store.now (g.D.Disk.history c.args.store.now.disk) c.args.work c.switch_file-switched.result (at_stage (stage.Begin c.args.work) c.args.self.now) c.switch_file-switched.ensures.further c.requires.ready (unwanted_first c.args.work s.0 (drop (c.args.work.next + 1) c.args.work.sources.items) c.in-Some.source.file c.in-Some.source.target c.args.store.now.map s.1 s.2.0 s.2.1 c.in_default-target.is (subst (λ (m : MapMeaning). list_any (λ row. row.file == c.in-Some.source.file.0) m.records ≡ true) c.map.ensures (sym c.has_message.ensures ∙ c.if-has_message.true)))) c.requires.low more
 
 pub returns-else-has_message-clause-step : goal.returns-else-has_message-clause-step
 returns-else-has_message-clause-step g c =
-    part_says c.remove_bare-next.result (at_stage (stage.Begin c.args.work) c.args.self.now) (record (at_stage (stage.Begin c.args.work) c.args.self.now) { files = c.args.self.now.files + 1 }) _ c.come_to.new.self c.come_to.result c.args.store.now c.remove_bare-next.new.store (g.D.Disk.history c.args.store.now.disk) (g.D.Disk.history c.remove_bare-next.new.store.disk) (g.D.Disk.faults c.args.store.now.disk) (g.D.Disk.faults c.remove_bare-next.new.store.disk) c.come_to.ensures.task c.come_to.ensures.answer (sym (ap (λ (v : PurgeValue). v.dropped) c.self.view_is)) (sym (ap (λ (v : PurgeValue). v.files + 1) c.self.view_is)) (sym (ap (λ (v : PurgeValue). v.instances) c.self.view_is)) (c.remove_bare-next.ensures.step (at_stage (stage.Begin c.args.work) c.args.self.now) refl)
+    part_says c.remove_bare-next.result (at_stage (stage.Begin c.args.work) c.args.self.now) (record (at_stage (stage.Begin c.args.work) c.args.self.now) { files = c.args.self.now.files + 1 }) _ c.come_to-else-has_message.new.self c.come_to-else-has_message.result c.args.store.now c.remove_bare-next.new.store (g.D.Disk.history c.args.store.now.disk) (g.D.Disk.history c.remove_bare-next.new.store.disk) (g.D.Disk.faults c.args.store.now.disk) (g.D.Disk.faults c.remove_bare-next.new.store.disk) c.come_to-else-has_message.ensures.task c.come_to-else-has_message.ensures.answer (sym (ap (λ (v : PurgeValue). v.dropped) c.self.view_is)) (sym (ap (λ (v : PurgeValue). v.files + 1) c.self.view_is)) (sym (ap (λ (v : PurgeValue). v.instances) c.self.view_is)) (c.remove_bare-next.ensures.step (at_stage (stage.Begin c.args.work) c.args.self.now) refl)
 
 pub returns-else-has_message-clause-left : goal.returns-else-has_message-clause-left
 returns-else-has_message-clause-left g c more =
-    part_left c.remove_bare-next.result (at_stage (stage.Begin c.args.work) c.args.self.now) (record (at_stage (stage.Begin c.args.work) c.args.self.now) { files = c.args.self.now.files + 1 }) _ c.come_to.new.self c.come_to.result c.args.store.now c.remove_bare-next.new.store c.come_to.ensures.task c.come_to.ensures.answer (sym (ap (λ (v : PurgeValue). v.dropped) c.self.view_is)) (sym (ap (λ (v : PurgeValue). v.files + 1) c.self.view_is)) (sym (ap (λ (v : PurgeValue). v.instances) c.self.view_is))
+    part_left c.remove_bare-next.result (at_stage (stage.Begin c.args.work) c.args.self.now) (record (at_stage (stage.Begin c.args.work) c.args.self.now) { files = c.args.self.now.files + 1 }) _ c.come_to-else-has_message.new.self c.come_to-else-has_message.result c.args.store.now c.remove_bare-next.new.store c.come_to-else-has_message.ensures.task c.come_to-else-has_message.ensures.answer (sym (ap (λ (v : PurgeValue). v.dropped) c.self.view_is)) (sym (ap (λ (v : PurgeValue). v.files + 1) c.self.view_is)) (sym (ap (λ (v : PurgeValue). v.instances) c.self.view_is))
     (part_low 1 c.remove_bare-next.result (at_stage (stage.Begin c.args.work) c.args.self.now) (record (at_stage (stage.Begin c.args.work) c.args.self.now) { files = c.args.self.now.files + 1 }) c.args.store.now c.remove_bare-next.new.store (g.D.Disk.history c.args.store.now.disk) (g.D.Disk.history c.remove_bare-next.new.store.disk) (g.D.Disk.faults c.args.store.now.disk) (g.D.Disk.faults c.remove_bare-next.new.store.disk) (c.remove_bare-next.ensures.step (at_stage (stage.Begin c.args.work) c.args.self.now) refl) c.remove_bare-next.ensures.further refl refl refl c.requires.low (omega arith)) more
 
 pub returns-in-Some-target-clause-drops : goal.returns-in-Some-target-clause-drops

@@ -1,7 +1,9 @@
 use Rattle.std.proofs.Common.{◌≡◌, ◌+◌, drop, refl, sym, ◌∙◌, ap, subst, arith}
+use Rattle.model_meaning.specs.MapMeaning.{MapMeaning}
 use Rattle.model_meaning.specs.Sound.{IsSoundMap}
 use Rattle.store_core.proofs.BoxAppendLemmas.{store_sound}
 use Rattle.purge_task.specs.Clause.{IsPurgeStep, at_stage}
+use Rattle.purge_task.specs.Copied.{AreUnwantedFrom}
 use Rattle.purge_task.specs.Keeping.{LeavesLess, PurgeValue}
 use Rattle.purge_task.specs.SwitchEvent.{answer_of_switch, came_by_switch}
 use Rattle.purge_task.specs.declared.task.PurgeStage.TheVariants as stage
@@ -24,17 +26,17 @@ returns-in-Some-next_wanted-clause-left g c more =
 pub switch_file-switched-requires-clause-ready : goal.switch_file-switched-requires-clause-ready
 switch_file-switched-requires-clause-ready g c =
     let s = c.in-Some.ensures.some in
-    (stage.Copying c.args.work, c.requires.ready, (copied_first c.args.work s.0 (drop (c.args.work.next + 1) c.args.work.sources.items) c.in-Some.source.file c.args.store.now.map s.1 s.2.0 ?))
+    (stage.Copying c.args.work, c.requires.ready, (copied_first c.args.work s.0 (drop (c.args.work.next + 1) c.args.work.sources.items) c.in-Some.source.file c.args.store.now.map s.1 s.2.0 (subst (λ (m : MapMeaning). AreUnwantedFrom m c.in-Some.source.file.0 c.args.work.from) c.map.ensures c.in-None.ensures.none)))
 
 pub returns-in-None-clause-step : goal.returns-in-None-clause-step
 returns-in-None-clause-step g c =
     let s = c.in-Some.ensures.some in
-    switch_part c.switch_file-switched.result (at_stage (stage.Copying c.args.work) c.args.self.now) c.args.self.now c.come_by_switch.new.self c.come_by_switch.result c.args.store.now c.switch_file-switched.new.store (g.D.Disk.history c.args.store.now.disk) (g.D.Disk.history c.switch_file-switched.new.store.disk) (g.D.Disk.faults c.args.store.now.disk) (g.D.Disk.faults c.switch_file-switched.new.store.disk) c.come_by_switch.ensures.task c.come_by_switch.ensures.answer refl (c.switch_file-switched.ensures.steps (at_stage (stage.Copying c.args.work) c.args.self.now) c.requires.ready (copied_first c.args.work s.0 (drop (c.args.work.next + 1) c.args.work.sources.items) c.in-Some.source.file c.args.store.now.map s.1 s.2.0 ?))
+    switch_part c.switch_file-switched.result (at_stage (stage.Copying c.args.work) c.args.self.now) c.args.self.now c.come_by_switch.new.self c.come_by_switch.result c.args.store.now c.switch_file-switched.new.store (g.D.Disk.history c.args.store.now.disk) (g.D.Disk.history c.switch_file-switched.new.store.disk) (g.D.Disk.faults c.args.store.now.disk) (g.D.Disk.faults c.switch_file-switched.new.store.disk) c.come_by_switch.ensures.task c.come_by_switch.ensures.answer refl (c.switch_file-switched.ensures.steps (at_stage (stage.Copying c.args.work) c.args.self.now) c.requires.ready (copied_first c.args.work s.0 (drop (c.args.work.next + 1) c.args.work.sources.items) c.in-Some.source.file c.args.store.now.map s.1 s.2.0 (subst (λ (m : MapMeaning). AreUnwantedFrom m c.in-Some.source.file.0 c.args.work.from) c.map.ensures c.in-None.ensures.none)))
 
 pub returns-in-None-clause-left : goal.returns-in-None-clause-left
 returns-in-None-clause-left g c more =
     let s = c.in-Some.ensures.some in
-    switch_left c.switch_file-switched.result (at_stage (stage.Copying c.args.work) c.args.self.now) c.args.self.now c.come_by_switch.new.self c.come_by_switch.result c.args.store.now c.switch_file-switched.new.store (g.D.Disk.history c.args.store.now.disk) (g.D.Disk.history c.switch_file-switched.new.store.disk) (g.D.Disk.faults c.args.store.now.disk) (g.D.Disk.faults c.switch_file-switched.new.store.disk) c.come_by_switch.ensures.task c.come_by_switch.ensures.answer refl (c.switch_file-switched.ensures.steps (at_stage (stage.Copying c.args.work) c.args.self.now) c.requires.ready (copied_first c.args.work s.0 (drop (c.args.work.next + 1) c.args.work.sources.items) c.in-Some.source.file c.args.store.now.map s.1 s.2.0 ?)) c.switch_file-switched.ensures.few (further_at c.switch_file-switched.result (at_stage (stage.Copying c.args.work) c.args.self.now) c.switch_file-switched.ensures.further c.requires.ready (copied_first c.args.work s.0 (drop (c.args.work.next + 1) c.args.work.sources.items) c.in-Some.source.file c.args.store.now.map s.1 s.2.0 ?)) c.requires.low more
+    switch_left c.switch_file-switched.result (at_stage (stage.Copying c.args.work) c.args.self.now) c.args.self.now c.come_by_switch.new.self c.come_by_switch.result c.args.store.now c.switch_file-switched.new.store (g.D.Disk.history c.args.store.now.disk) (g.D.Disk.history c.switch_file-switched.new.store.disk) (g.D.Disk.faults c.args.store.now.disk) (g.D.Disk.faults c.switch_file-switched.new.store.disk) c.come_by_switch.ensures.task c.come_by_switch.ensures.answer refl (c.switch_file-switched.ensures.steps (at_stage (stage.Copying c.args.work) c.args.self.now) c.requires.ready (copied_first c.args.work s.0 (drop (c.args.work.next + 1) c.args.work.sources.items) c.in-Some.source.file c.args.store.now.map s.1 s.2.0 (subst (λ (m : MapMeaning). AreUnwantedFrom m c.in-Some.source.file.0 c.args.work.from) c.map.ensures c.in-None.ensures.none))) c.switch_file-switched.ensures.few (further_at c.args.store.now (g.D.Disk.history c.args.store.now.disk) c.args.work c.switch_file-switched.result (at_stage (stage.Copying c.args.work) c.args.self.now) c.switch_file-switched.ensures.further c.requires.ready (copied_first c.args.work s.0 (drop (c.args.work.next + 1) c.args.work.sources.items) c.in-Some.source.file c.args.store.now.map s.1 s.2.0 (subst (λ (m : MapMeaning). AreUnwantedFrom m c.in-Some.source.file.0 c.args.work.from) c.map.ensures c.in-None.ensures.none))) c.requires.low more
 
 pub returns-in-Some-next_wanted-clause-drops : goal.returns-in-Some-next_wanted-clause-drops
 returns-in-Some-next_wanted-clause-drops g c runs = part_drops c.copy_next-next.result _ c.come_to.new.self c.args.self.now.dropped c.args.store.now.map c.copy_next-next.new.store.map c.come_to.ensures.task (ap (λ (v : PurgeValue). v.dropped) c.self.view_is) c.copy_next-next.ensures.map
