@@ -128,10 +128,11 @@ impl PurgeTask {
         ensures ended { (given : ReplyValue) → result ≡ progress.Done given → store.new.stopped ≡ false → ClaimsNothing (purge_claims self.new.stage) }
 
         // At each moment storage files and instances have what the map needs. Unless the store is stopped then, no change of the disk
-        // failed; an event that stops it is one in which a change failed, and no read.
+        // failed; an event that stops it is one in which a change failed, and no read. A read failed only if that is replied.
         ensures grows { Grows (D.history store.old.disk) (D.history store.new.disk) }
         ensures mail { MailIsKept store.old.map (D.history store.old.disk) (D.history store.new.disk) }
         ensures reads { (D.faults store.old.disk).reads ≤ (D.faults store.new.disk).reads }
+        ensures calm { (result ≡ progress.Done (reply.Refused refusal.ReadFault) → ⊥) → (D.faults store.new.disk).reads ≡ (D.faults store.old.disk).reads }
         ensures changes { (D.faults store.old.disk).changes ≤ (D.faults store.new.disk).changes }
         ensures unfailed { store.new.stopped ≡ false → (D.faults store.new.disk).changes ≡ (D.faults store.old.disk).changes }
         ensures fell { store.old.stopped ≡ false → store.new.stopped ≡ true → Rose (D.faults store.old.disk).changes (D.faults store.new.disk).changes × ((D.faults store.new.disk).reads ≡ (D.faults store.old.disk).reads) }

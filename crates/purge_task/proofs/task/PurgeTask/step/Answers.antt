@@ -94,3 +94,6 @@ returns-clause-drops g c = subst (λ (v : PurgeValue). DropsCounted v c.run.new.
 
 pub returns-clause-counts : goal.returns-clause-counts
 returns-clause-counts g c = subst (λ (v : PurgeValue). TellsCounts v c.run.new.self c.run.result) c.self.view_is c.run.ensures.counts
+
+pub returns-clause-calm : goal.returns-clause-calm
+returns-clause-calm g c = (step_of (record { stage = c.self.inside.stage; did = c.self.inside.did; dropped = c.self.inside.done.dropped; files = c.self.inside.done.files; instances = c.self.inside.done.instances }) c.args.self.now c.run.new.self did.Quiet c.run.result c.args.store.now c.run.new.store (g.D.Disk.history c.args.store.now.disk) (g.D.Disk.history c.run.new.store.disk) (g.D.Disk.faults c.args.store.now.disk) (g.D.Disk.faults c.run.new.store.disk) c.self.view_is c.run.ensures.step).calm
