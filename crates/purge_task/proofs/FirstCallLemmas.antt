@@ -157,9 +157,9 @@ first_claims s thing e = ap (λ (x : PurgeStage). purge_claims x thing) e
 
 -- Refused, with nothing taken: this is what it did.
 pub refused_says : {D : Type 0} → (H : D → Option History) (F : D → Faults) (t next : PurgeValue) (why : Refusal) (fs : List ℕ) (spare room : ℕ) (old new : StoreValue D) → t.stage ≡ stage.First → next.stage ≡ stage.First → why ≢ refusal.Stopped → old.stopped ≡ false → new ≡ with_room new.disk spare room old → old.map_log.room ≤ room → IsIdle (H old.disk) (H new.disk)
-    → (F old.disk).reads ≤ (F new.disk).reads → (F new.disk).changes ≡ (F old.disk).changes → ((around : Around) → PurgeSteps fs around t next old (with_room new.disk spare room old) (H old.disk) (H new.disk) (F old.disk) (F new.disk) (Some (reply.Refused why)))
+    → (F old.disk).reads ≤ (F new.disk).reads → (F new.disk).changes ≡ (F old.disk).changes → ((why ≡ refusal.ReadFault → ⊥) → (F new.disk).reads ≡ (F old.disk).reads) → ((around : Around) → PurgeSteps fs around t next old (with_room new.disk spare room old) (H old.disk) (H new.disk) (F old.disk) (F new.disk) (Some (reply.Refused why)))
     → IsPurgeStep t next (progress.Done (reply.Refused why)) old new (H old.disk) (H new.disk) (F old.disk) (F new.disk)
-refused_says {D = D} H F t next why fs spare room old new at to other runs is more idle reads changes steps = record {
+refused_says {D = D} H F t next why fs spare room old new at to other runs is more idle reads changes unread steps = record {
   ready = λ e. absurd (let k : progress.Done (reply.Refused why) ≡ progress.More = e in cc k);
   does = (fs, λ around. subst (λ (s : StoreValue D). PurgeSteps fs around t next old s (H old.disk) (H new.disk) (F old.disk) (F new.disk) (Some (reply.Refused why))) (sym is) (steps around));
   stopped = record { 0 = λ e. absurd (other (let k : why ≡ refusal.Stopped = cc e in k)); 1 = λ e. absurd (fall new.stopped e ran) };
@@ -170,6 +170,7 @@ refused_says {D = D} H F t next why fs spare room old new at to other runs is mo
   mail = kept_idle old.map (H old.disk) (H new.disk) idle;
   reads = reads;
   changes = omega (arith, changes);
+  calm = λ told. unread (λ e. told (ap (λ (w : Refusal). progress.Done (reply.Refused w)) e));
   unfailed = λ r. changes;
   fell = λ e. absurd (fall new.stopped e ran);
 }
@@ -304,6 +305,7 @@ taken_says {D = D} H F t next found work now spare room old new at to how droppe
   mail = kept_idle old.map (H old.disk) (H new.disk) idle;
   reads = let e = ap (λ (f : Faults). f.reads) quiet in omega (arith, e);
   changes = let e = ap (λ (f : Faults). f.changes) quiet in omega (arith, e);
+  calm = λ told. ap (λ (f : Faults). f.reads) quiet;
   unfailed = λ r. ap (λ (f : Faults). f.changes) quiet;
   fell = λ e. absurd (fall new.stopped e ran);
 }
@@ -432,7 +434,7 @@ begins_first around t store run place said at stood = let begins : HasNotBegun r
 pub memory_says : {D : Type 0} → (H : D → Option History) (F : D → Faults) (t next : PurgeValue) (spare room : ℕ) (old new : StoreValue D) → t.stage ≡ stage.First → next.stage ≡ stage.First → next.did ≡ did.Quiet → old.stopped ≡ false → new ≡ with_room new.disk spare room old → old.map_log.room ≤ room → IsIdle (H old.disk) (H new.disk) → NoFault (F old.disk) (F new.disk)
     → IsPurgeStep t next (progress.Done (reply.Refused refusal.NoMemory)) old new (H old.disk) (H new.disk) (F old.disk) (F new.disk)
 memory_says H F t next spare room old new at to how runs is more idle quiet =
-    refused_says H F t next refusal.NoMemory [] spare room old new at to (λ e. let k : refusal.NoMemory ≡ refusal.Stopped = e in cc k) runs is more idle (let e = ap (λ (f : Faults). f.reads) quiet in omega (arith, e)) (ap (λ (f : Faults). f.changes) quiet)
+    refused_says H F t next refusal.NoMemory [] spare room old new at to (λ e. let k : refusal.NoMemory ≡ refusal.Stopped = e in cc k) runs is more idle (let e = ap (λ (f : Faults). f.reads) quiet in omega (arith, e)) (ap (λ (f : Faults). f.changes) quiet) (λ unread. ap (λ (f : Faults). f.reads) quiet)
     (λ around. room_steps [] around t next new.disk spare room old (H old.disk) (H new.disk) (F old.disk) (F new.disk) (reply.Refused refusal.NoMemory) runs
     (memory_steps around t next new.disk (record old.files { spare = spare }) old (H old.disk) (H new.disk) (F old.disk) (F new.disk) at how runs (tells_same old.files.files) (idle_settles old.map (H old.disk) (H new.disk) (F old.disk) (F new.disk) idle quiet)))
 
@@ -440,7 +442,7 @@ memory_says H F t next spare room old new at to how runs is more idle quiet =
 pub unread_says : {D : Type 0} → (H : D → Option History) (F : D → Faults) (t next : PurgeValue) (old new : StoreValue D) → t.stage ≡ stage.First → next.stage ≡ stage.First → next.did ≡ did.Quiet → old.stopped ≡ false → new ≡ record old { disk = new.disk } → IsIdle (H old.disk) (H new.disk) → Rose (F old.disk).reads (F new.disk).reads → (F old.disk).reads ≤ (F new.disk).reads → (F new.disk).changes ≡ (F old.disk).changes
     → IsPurgeStep t next (progress.Done (reply.Refused refusal.ReadFault)) old new (H old.disk) (H new.disk) (F old.disk) (F new.disk)
 unread_says H F t next old new at to how runs is idle rose reads changes =
-    refused_says H F t next refusal.ReadFault [] old.files.spare old.map_log.room old new at to (λ e. let k : refusal.ReadFault ≡ refusal.Stopped = e in cc k) runs is (stays old.map_log.room) idle reads changes
+    refused_says H F t next refusal.ReadFault [] old.files.spare old.map_log.room old new at to (λ e. let k : refusal.ReadFault ≡ refusal.Stopped = e in cc k) runs is (stays old.map_log.room) idle reads changes (λ unread. absurd (unread refl))
     (λ around. room_steps [] around t next new.disk old.files.spare old.map_log.room old (H old.disk) (H new.disk) (F old.disk) (F new.disk) (reply.Refused refusal.ReadFault) runs
     (unread_steps around t next new.disk old.files old (H old.disk) (H new.disk) (F old.disk) (F new.disk) First refl how runs (λ run place said come stood. begins_first (around_purging [] old) t old run place said at stood) (tells_same old.files.files)
     (record { moments = λ lists settled. idle_leaves lists (H old.disk) (H new.disk) idle settled; rests = λ lists settled. idle_settled lists (H old.disk) (H new.disk) idle settled; grows = idle_grows (H old.disk) (H new.disk) idle; mail = kept_idle old.map (H old.disk) (H new.disk) idle; reads = reads; changes = omega (arith, changes); rose = rose })))
@@ -498,7 +500,7 @@ lacks_told m drawn fs each (inr long) = inr (found_told long.0, contains_told m 
 pub full_says : {D : Type 0} → (H : D → Option History) (F : D → Faults) (t next : PurgeValue) (fs : List FoundFile) (old new : StoreValue D) → t.stage ≡ stage.First → next.stage ≡ stage.First → next.did ≡ did.Step half.Whole → old.stopped ≡ false → IsStore (H old.disk) old → AreUncleanFound old (H old.disk) fs → LacksTargets old.map old.files.highest fs
     → new ≡ record old { disk = new.disk } → IsIdle (H old.disk) (H new.disk) → NoFault (F old.disk) (F new.disk) → IsPurgeStep t next (progress.Done (reply.Refused (refusal.StoreFull 4294967294))) old new (H old.disk) (H new.disk) (F old.disk) (F new.disk)
 full_says {D = D} H F t next fs old new at to how runs store found lacks is idle quiet =
-    refused_says H F t next (refusal.StoreFull 4294967294) (map (λ t. t.file) (map found_told fs)) old.files.spare old.map_log.room old new at to (λ e. let k : refusal.StoreFull 4294967294 ≡ refusal.Stopped = e in cc k) runs is (stays old.map_log.room) idle (let e = ap (λ (f : Faults). f.reads) quiet in omega (arith, e)) (ap (λ (f : Faults). f.changes) quiet)
+    refused_says H F t next (refusal.StoreFull 4294967294) (map (λ t. t.file) (map found_told fs)) old.files.spare old.map_log.room old new at to (λ e. let k : refusal.StoreFull 4294967294 ≡ refusal.Stopped = e in cc k) runs is (stays old.map_log.room) idle (let e = ap (λ (f : Faults). f.reads) quiet in omega (arith, e)) (ap (λ (f : Faults). f.changes) quiet) (λ unread. ap (λ (f : Faults). f.reads) quiet)
     (λ around. room_steps (map (λ t. t.file) (map found_told fs)) around t next new.disk old.files.spare old.map_log.room old (H old.disk) (H new.disk) (F old.disk) (F new.disk) (reply.Refused (refusal.StoreFull 4294967294)) runs
     (full_steps around t next (map found_told fs) new.disk old.files old (H old.disk) (H new.disk) (F old.disk) (F new.disk) at how runs (tells_same old.files.files) store.files (store_sound (H old.disk) old store)
     (subst (λ (ns : List ℕ). AllPairs (λ a b. a < b) ns) (sym (told_numbers fs)) (AllPairs-from_increasing (found_numbers fs) found.finds.known.rising)) (subst (AreAllBut (IsFullToEnd old) old.files.files) (sym (told_numbers fs)) found.finds.known)

@@ -273,6 +273,7 @@ step_did t next d answer old new before later began faults h = record {
   mail = h.mail;
   reads = h.reads;
   changes = h.changes;
+  calm = h.calm;
   unfailed = h.unfailed;
   fell = h.fell;
 }

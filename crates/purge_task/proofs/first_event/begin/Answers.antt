@@ -12,6 +12,7 @@ use Rattle.purge_task.specs.Clause.{IsPurgeStep, answer_of, came_to, uncounted}
 use Rattle.purge_task.specs.Taken.{CanTakeAll, take_all, targets_given}
 use Rattle.purge_task.specs.declared.task.PurgeStage.{PurgeStage}
 use Rattle.purge_task.specs.declared.work.Source.{Source}
+use Rattle.purge_task.proofs.DropLemmas.{map_taken, next_begun}
 use Rattle.purge_task.proofs.FirstCallLemmas.{few_taken, find_refused_says, known_taken, memory_says, most_fits, store_ready, store_taken, taken_says}
 use Rattle.purge_task.proofs.FurtherLemmas.{further_first}
 use Rattle.purge_task.proofs.TakeableLemmas.{can_take_all}
@@ -95,3 +96,18 @@ pub returns-clause-few : goal.returns-clause-few
 returns-clause-few g c =
     let store = store_taken c.in-Ok.work.sources.items c.args.store.now c.of.new.store c.reserve.new.store c.take_files.new.store c.in_ok-found.ensures.same c.reserve.ensures.same (subst (λ (ss : List Source). c.take_files.new.store ≡ take_all ss c.reserve.new.store) c.deref_mut.ensures.value c.take_files.ensures.store) in
     known_taken c.in-Ok.work.sources.items c.take_files.new.store.disk c.reserve.new.store.files.spare c.reserve.new.store.map_log.room 9223372036854775808 c.args.store.now c.take_files.new.store store.0 (c.if-not-has_few_instances.ensures refl)
+
+pub returns-then-not-has_few_instances-clause-map : goal.returns-then-not-has_few_instances-clause-map
+returns-then-not-has_few_instances-clause-map g c = refl
+
+pub returns-in_err-found-clause-map : goal.returns-in_err-found-clause-map
+returns-in_err-found-clause-map g c = ap (λ (s : StoreValue _). s.map) c.in_err-found.ensures.same
+
+pub returns-in-Err-clause-map : goal.returns-in-Err-clause-map
+returns-in-Err-clause-map g c = ap (λ (s : StoreValue _). s.map) c.reserve.ensures.same ∙ ap (λ (s : StoreValue _). s.map) c.in_ok-found.ensures.same
+
+pub returns-clause-map : goal.returns-clause-map
+returns-clause-map g c = ap (λ (s : StoreValue _). s.map) c.take_files.ensures.store ∙ (map_taken _ c.reserve.new.store ∙ (ap (λ (s : StoreValue _). s.map) c.reserve.ensures.same ∙ ap (λ (s : StoreValue _). s.map) c.in_ok-found.ensures.same))
+
+pub returns-clause-begun : goal.returns-clause-begun
+returns-clause-begun g c = next_begun _ c.goes_on.result c.goes_on.ensures

@@ -3,6 +3,7 @@ use Rattle.mdbox_base.specs.declared.progress.Did.TheVariants as did
 use Rattle.purge_task.specs.Clause.{IsPurgeStep, at_stage, uncounted}
 use Rattle.purge_task.specs.Keeping.{LeavesLess, PurgeValue}
 use Rattle.purge_task.specs.declared.task.PurgeStage.TheVariants as stage
+use Rattle.purge_task.proofs.DropLemmas.{part_counts, part_tells}
 use Rattle.purge_task.proofs.StepLemmas.{first_part_low, part_left, part_says}
 use Rattle.purge_task.proofs.task.PurgeTask.begin.Goals as goal
 
@@ -20,3 +21,9 @@ come_to-requires-clause-first g c = ap (λ (v : PurgeValue). v.stage) c.self.vie
 
 pub come_to-requires-clause-quiet : goal.come_to-requires-clause-quiet
 come_to-requires-clause-quiet g c = ap (λ (v : PurgeValue). v.did) c.self.view_is ∙ c.requires.quiet
+
+pub returns-clause-drops : goal.returns-clause-drops
+returns-clause-drops g c runs = (c.begin-next.ensures.map, part_counts c.begin-next.result _ c.come_to.new.self c.come_to.ensures.task)
+
+pub returns-clause-counts : goal.returns-clause-counts
+returns-clause-counts g c = part_tells c.begin-next.result c.args.self.now _ c.come_to.new.self c.come_to.result c.come_to.ensures.task c.come_to.ensures.answer c.begin-next.ensures.begun

@@ -9,6 +9,8 @@ use Rattle.std.specs.Prelude.{IsSome}
 use Rattle.purge_task.specs.Clause.{IsPurgeStep, at_stage}
 use Rattle.purge_task.specs.Keeping.{PurgeValue}
 use Rattle.purge_task.specs.declared.task.PurgeStage.TheVariants as stage
+use Rattle.store_core.specs.Value.{StoreValue}
+use Rattle.purge_task.proofs.DropLemmas.{same_drops}
 use Rattle.purge_task.proofs.GoneCallLemmas.{failed_says, gone_says, stage_as, useless_one}
 use Rattle.purge_task.proofs.StepLemmas.{gone_low}
 use Rattle.purge_task.proofs.task.PurgeTask.remove_useless.Goals as goal
@@ -45,3 +47,15 @@ returns-in-Ok-clause-left g c more =
     let one = useless_one c.args.store.now c.args.id c.facts.ensures.ids c.requires.useless in
     gone_low (at_stage stage.Instances c.args.self.now) _ c.args.id c.args.store.now c.remove_instance.new.self refl refl (ap (λ (v : PurgeValue). v.dropped) c.self.view_is) (ap (λ (v : PurgeValue). v.files) c.self.view_is) (ap (λ (v : PurgeValue). v.instances + 1) c.self.view_is)
     (subst (λ (i : InstId). IsSome (instance_in i c.args.store.now.instances.known)) one.id_is (subst (λ o. IsSome o) (sym one.known) refl)) c.in-Ok.ensures.ok c.requires.low
+
+pub returns-in-Ok-clause-drops : goal.returns-in-Ok-clause-drops
+returns-in-Ok-clause-drops g c runs = same_drops c.args.self.now.dropped _ c.args.store.now.map c.remove_instance.new.self.map (ap (λ (v : PurgeValue). v.dropped) c.self.view_is) (ap (λ (s : StoreValue _). s.map) c.in-Ok.ensures.ok)
+
+pub returns-in-Err-clause-drops : goal.returns-in-Err-clause-drops
+returns-in-Err-clause-drops g c runs = same_drops c.args.self.now.dropped _ c.args.store.now.map c.remove_instance.new.self.map (ap (λ (v : PurgeValue). v.dropped) c.self.view_is) (ap (λ (s : StoreValue _). s.map) c.in-Err.ensures.err)
+
+pub returns-in-Ok-clause-counts : goal.returns-in-Ok-clause-counts
+returns-in-Ok-clause-counts g c = λ e. cc e
+
+pub returns-in-Err-clause-counts : goal.returns-in-Err-clause-counts
+returns-in-Err-clause-counts g c = tt

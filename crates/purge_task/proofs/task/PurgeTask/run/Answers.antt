@@ -1,5 +1,6 @@
 use Rattle.std.proofs.Common.{◌≡◌, refl, sym, ◌∙◌, ap, subst}
 use Rattle.purge_task.specs.Clause.{IsPurgeStep}
+use Rattle.purge_task.specs.Dropped.{DropsCounted, TellsCounts}
 use Rattle.purge_task.specs.Keeping.{LeavesLess, PurgeValue}
 use Rattle.purge_task.specs.declared.task.PurgeStage.{PurgeStage}
 use Rattle.purge_task.specs.declared.task.PurgeStage.TheVariants as stage
@@ -71,3 +72,33 @@ returns-in-Instances-clause-step g c = subst (λ (v : PurgeValue). IsPurgeStep v
 
 pub returns-in-Instances-clause-left : goal.returns-in-Instances-clause-left
 returns-in-Instances-clause-left g c more = subst (λ (v : PurgeValue). LeavesLess v c.remove_instance.new.self c.args.store.now c.remove_instance.new.store) (stage_is stage.Instances (record { stage = c.self.inside.stage; did = c.self.inside.did; dropped = c.self.inside.done.dropped; files = c.self.inside.done.files; instances = c.self.inside.done.instances }) c.args.self.now c.self.view_is (sym c.replace.ensures.value ∙ c.in-Instances.is) c.requires.quiet) (c.remove_instance.ensures.left more)
+
+pub returns-in-First-clause-drops : goal.returns-in-First-clause-drops
+returns-in-First-clause-drops g c = subst (λ (v : PurgeValue). DropsCounted v c.begin.new.self c.args.store.now c.begin.new.store) (stage_is stage.First (record { stage = c.self.inside.stage; did = c.self.inside.did; dropped = c.self.inside.done.dropped; files = c.self.inside.done.files; instances = c.self.inside.done.instances }) c.args.self.now c.self.view_is (sym c.replace.ensures.value ∙ c.in-First.is) c.requires.quiet) c.begin.ensures.drops
+
+pub returns-in-First-clause-counts : goal.returns-in-First-clause-counts
+returns-in-First-clause-counts g c = subst (λ (v : PurgeValue). TellsCounts v c.begin.new.self c.begin.result) c.self.view_is c.begin.ensures.counts
+
+pub returns-in-Begin-clause-drops : goal.returns-in-Begin-clause-drops
+returns-in-Begin-clause-drops g c = subst (λ (v : PurgeValue). DropsCounted v c.begin_file.new.self c.args.store.now c.begin_file.new.store) (stage_is (stage.Begin c.in-Begin.work) (record { stage = c.self.inside.stage; did = c.self.inside.did; dropped = c.self.inside.done.dropped; files = c.self.inside.done.files; instances = c.self.inside.done.instances }) c.args.self.now c.self.view_is (sym c.replace.ensures.value ∙ c.in-Begin.is) c.requires.quiet) c.begin_file.ensures.drops
+
+pub returns-in-Begin-clause-counts : goal.returns-in-Begin-clause-counts
+returns-in-Begin-clause-counts g c = subst (λ (v : PurgeValue). TellsCounts v c.begin_file.new.self c.begin_file.result) c.self.view_is c.begin_file.ensures.counts
+
+pub returns-in-Copying-clause-drops : goal.returns-in-Copying-clause-drops
+returns-in-Copying-clause-drops g c = subst (λ (v : PurgeValue). DropsCounted v c.copy_or_switch.new.self c.args.store.now c.copy_or_switch.new.store) (stage_is (stage.Copying c.in-Copying.work) (record { stage = c.self.inside.stage; did = c.self.inside.did; dropped = c.self.inside.done.dropped; files = c.self.inside.done.files; instances = c.self.inside.done.instances }) c.args.self.now c.self.view_is (sym c.replace.ensures.value ∙ c.in-Copying.is) c.requires.quiet) c.copy_or_switch.ensures.drops
+
+pub returns-in-Copying-clause-counts : goal.returns-in-Copying-clause-counts
+returns-in-Copying-clause-counts g c = subst (λ (v : PurgeValue). TellsCounts v c.copy_or_switch.new.self c.copy_or_switch.result) c.self.view_is c.copy_or_switch.ensures.counts
+
+pub returns-in-Removing-clause-drops : goal.returns-in-Removing-clause-drops
+returns-in-Removing-clause-drops g c = subst (λ (v : PurgeValue). DropsCounted v c.remove_switched.new.self c.args.store.now c.remove_switched.new.store) (stage_is (stage.Removing c.in-Removing.work) (record { stage = c.self.inside.stage; did = c.self.inside.did; dropped = c.self.inside.done.dropped; files = c.self.inside.done.files; instances = c.self.inside.done.instances }) c.args.self.now c.self.view_is (sym c.replace.ensures.value ∙ c.in-Removing.is) c.requires.quiet) c.remove_switched.ensures.drops
+
+pub returns-in-Removing-clause-counts : goal.returns-in-Removing-clause-counts
+returns-in-Removing-clause-counts g c = subst (λ (v : PurgeValue). TellsCounts v c.remove_switched.new.self c.remove_switched.result) c.self.view_is c.remove_switched.ensures.counts
+
+pub returns-in-Instances-clause-drops : goal.returns-in-Instances-clause-drops
+returns-in-Instances-clause-drops g c = subst (λ (v : PurgeValue). DropsCounted v c.remove_instance.new.self c.args.store.now c.remove_instance.new.store) (stage_is stage.Instances (record { stage = c.self.inside.stage; did = c.self.inside.did; dropped = c.self.inside.done.dropped; files = c.self.inside.done.files; instances = c.self.inside.done.instances }) c.args.self.now c.self.view_is (sym c.replace.ensures.value ∙ c.in-Instances.is) c.requires.quiet) c.remove_instance.ensures.drops
+
+pub returns-in-Instances-clause-counts : goal.returns-in-Instances-clause-counts
+returns-in-Instances-clause-counts g c = subst (λ (v : PurgeValue). TellsCounts v c.remove_instance.new.self c.remove_instance.result) c.self.view_is c.remove_instance.ensures.counts

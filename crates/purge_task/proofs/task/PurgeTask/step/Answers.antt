@@ -1,7 +1,8 @@
-use Rattle.std.proofs.Common.{List, [], refl, sym, ◌∙◌, ap, arith}
+use Rattle.std.proofs.Common.{List, [], refl, sym, ◌∙◌, ap, subst, arith}
 use Rattle.mdbox_base.specs.declared.progress.Did.TheVariants as did
 use Rattle.task_steps.proofs.UnmovedLemmas.{mail_still}
 use Rattle.purge_task.specs.Keeping.{PurgeValue}
+use Rattle.purge_task.specs.Dropped.{DropsCounted, TellsCounts}
 use Rattle.purge_task.proofs.EventLemmas.{fall}
 use Rattle.purge_task.proofs.StepLemmas.{left_of, ready_did, ready_of, step_of}
 use Rattle.purge_task.proofs.StoppedLemmas.{stopped_steps}
@@ -81,3 +82,18 @@ returns-clause-unfailed g c = (step_of (record { stage = c.self.inside.stage; di
 
 pub returns-clause-fell : goal.returns-clause-fell
 returns-clause-fell g c runs = (step_of (record { stage = c.self.inside.stage; did = c.self.inside.did; dropped = c.self.inside.done.dropped; files = c.self.inside.done.files; instances = c.self.inside.done.instances }) c.args.self.now c.run.new.self did.Quiet c.run.result c.args.store.now c.run.new.store (g.D.Disk.history c.args.store.now.disk) (g.D.Disk.history c.run.new.store.disk) (g.D.Disk.faults c.args.store.now.disk) (g.D.Disk.faults c.run.new.store.disk) c.self.view_is c.run.ensures.step).fell
+
+pub returns-then-stopped-clause-drops : goal.returns-then-stopped-clause-drops
+returns-then-stopped-clause-drops g c runs = absurd (fall _ (sym c.stopped.ensures ∙ c.if-stopped.true) runs)
+
+pub returns-then-stopped-clause-counts : goal.returns-then-stopped-clause-counts
+returns-then-stopped-clause-counts g c = tt
+
+pub returns-clause-drops : goal.returns-clause-drops
+returns-clause-drops g c = subst (λ (v : PurgeValue). DropsCounted v c.run.new.self c.args.store.now c.run.new.store) c.self.view_is c.run.ensures.drops
+
+pub returns-clause-counts : goal.returns-clause-counts
+returns-clause-counts g c = subst (λ (v : PurgeValue). TellsCounts v c.run.new.self c.run.result) c.self.view_is c.run.ensures.counts
+
+pub returns-clause-calm : goal.returns-clause-calm
+returns-clause-calm g c = (step_of (record { stage = c.self.inside.stage; did = c.self.inside.did; dropped = c.self.inside.done.dropped; files = c.self.inside.done.files; instances = c.self.inside.done.instances }) c.args.self.now c.run.new.self did.Quiet c.run.result c.args.store.now c.run.new.store (g.D.Disk.history c.args.store.now.disk) (g.D.Disk.history c.run.new.store.disk) (g.D.Disk.faults c.args.store.now.disk) (g.D.Disk.faults c.run.new.store.disk) c.self.view_is c.run.ensures.step).calm
