@@ -107,7 +107,7 @@ pub returns-in-Err-clause-map : goal.returns-in-Err-clause-map
 returns-in-Err-clause-map g c = ap (λ (s : StoreValue _). s.map) c.reserve.ensures.same ∙ ap (λ (s : StoreValue _). s.map) c.in_ok-found.ensures.same
 
 pub returns-clause-map : goal.returns-clause-map
-returns-clause-map g c = ap (λ (s : StoreValue _). s.map) c.take_files.ensures.store ∙ (map_taken _ c.reserve.new.store ∙ (ap (λ (s : StoreValue _). s.map) c.reserve.ensures.same ∙ ap (λ (s : StoreValue _). s.map) c.in_ok-found.ensures.same))
+returns-clause-map g c = ap (λ (s : StoreValue _). s.map) (subst (λ (ss : List Source). c.take_files.new.store ≡ take_all ss c.reserve.new.store) c.deref_mut.ensures.value c.take_files.ensures.store) ∙ (map_taken c.in-Ok.work.sources.items c.reserve.new.store ∙ (ap (λ (s : StoreValue _). s.map) c.reserve.ensures.same ∙ ap (λ (s : StoreValue _). s.map) c.in_ok-found.ensures.same))
 
 pub returns-clause-begun : goal.returns-clause-begun
 returns-clause-begun g c = next_begun _ c.goes_on.result c.goes_on.ensures

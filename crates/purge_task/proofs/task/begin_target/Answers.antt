@@ -1,4 +1,4 @@
-use Rattle.std.proofs.Common.{refl}
+use Rattle.std.proofs.Common.{refl, ap}
 use Rattle.store_core.specs.Value.{StoreValue}
 use Rattle.purge_task.proofs.FurtherLemmas.{target_further}
 use Rattle.purge_task.proofs.GoneCallLemmas.{failed_says}

@@ -43,19 +43,19 @@ returns-else-has_message-clause-left g c more =
     (part_low 1 c.remove_bare-next.result (at_stage (stage.Begin c.args.work) c.args.self.now) (record (at_stage (stage.Begin c.args.work) c.args.self.now) { files = c.args.self.now.files + 1 }) c.args.store.now c.remove_bare-next.new.store (g.D.Disk.history c.args.store.now.disk) (g.D.Disk.history c.remove_bare-next.new.store.disk) (g.D.Disk.faults c.args.store.now.disk) (g.D.Disk.faults c.remove_bare-next.new.store.disk) (c.remove_bare-next.ensures.step (at_stage (stage.Begin c.args.work) c.args.self.now) refl) c.remove_bare-next.ensures.further refl refl refl c.requires.low (omega arith)) more
 
 pub returns-in-Some-target-clause-drops : goal.returns-in-Some-target-clause-drops
-returns-in-Some-target-clause-drops g c runs = part_drops c.begin_target-next.result _ c.come_to.new.self c.args.self.now.dropped c.args.store.now.map c.begin_target-next.new.store.map c.come_to.ensures.task (ap (λ (v : PurgeValue). v.dropped) c.self.view_is) c.begin_target-next.ensures.map
+returns-in-Some-target-clause-drops g c runs = part_drops c.begin_target-next.result _ c.come_to.new.self c.args.self.now.dropped c.args.store.now.map c.begin_target-next.new.store.map c.come_to.ensures.task refl c.begin_target-next.ensures.map
 
 pub returns-in-Some-target-clause-counts : goal.returns-in-Some-target-clause-counts
 returns-in-Some-target-clause-counts g c = part_tells c.begin_target-next.result c.args.self.now _ c.come_to.new.self c.come_to.result c.come_to.ensures.task c.come_to.ensures.answer c.begin_target-next.ensures.begun
 
 pub returns-then-has_message-clause-drops : goal.returns-then-has_message-clause-drops
-returns-then-has_message-clause-drops g c runs = switch_counts c.switch_file-switched.result _ c.come_by_switch.new.self c.args.self.now.dropped c.args.store.now.map c.switch_file-switched.new.store.map c.switch_file-switched.new.store.stopped c.come_by_switch.ensures.task (ap (λ (v : PurgeValue). v.dropped) c.self.view_is) c.switch_file-switched.ensures.dropped c.switch_file-switched.ensures.stopped runs
+returns-then-has_message-clause-drops g c runs = switch_counts c.switch_file-switched.result _ c.come_by_switch.new.self c.args.self.now.dropped c.args.store.now.map c.switch_file-switched.new.store.map c.switch_file-switched.new.store.stopped c.come_by_switch.ensures.task refl c.switch_file-switched.ensures.dropped c.switch_file-switched.ensures.stopped runs
 
 pub returns-then-has_message-clause-counts : goal.returns-then-has_message-clause-counts
 returns-then-has_message-clause-counts g c = switch_tells c.switch_file-switched.result c.args.self.now _ c.come_by_switch.new.self c.come_by_switch.result c.come_by_switch.ensures.task c.come_by_switch.ensures.answer c.switch_file-switched.ensures.begun
 
 pub returns-else-has_message-clause-drops : goal.returns-else-has_message-clause-drops
-returns-else-has_message-clause-drops g c runs = part_drops c.remove_bare-next.result _ c.come_to.new.self c.args.self.now.dropped c.args.store.now.map c.remove_bare-next.new.store.map c.come_to.ensures.task (ap (λ (v : PurgeValue). v.dropped) c.self.view_is) c.remove_bare-next.ensures.map
+returns-else-has_message-clause-drops g c runs = part_drops c.remove_bare-next.result _ c.come_to-else-has_message.new.self c.args.self.now.dropped c.args.store.now.map c.remove_bare-next.new.store.map c.come_to-else-has_message.ensures.task (ap (λ (v : PurgeValue). v.dropped) c.self.view_is) c.remove_bare-next.ensures.map
 
 pub returns-else-has_message-clause-counts : goal.returns-else-has_message-clause-counts
-returns-else-has_message-clause-counts g c = part_tells c.remove_bare-next.result c.args.self.now _ c.come_to.new.self c.come_to.result c.come_to.ensures.task c.come_to.ensures.answer c.remove_bare-next.ensures.begun
+returns-else-has_message-clause-counts g c = part_tells c.remove_bare-next.result c.args.self.now _ c.come_to-else-has_message.new.self c.come_to-else-has_message.result c.come_to-else-has_message.ensures.task c.come_to-else-has_message.ensures.answer c.remove_bare-next.ensures.begun

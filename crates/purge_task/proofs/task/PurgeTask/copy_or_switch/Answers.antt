@@ -39,13 +39,13 @@ returns-in-None-clause-left g c more =
     switch_left c.switch_file-switched.result (at_stage (stage.Copying c.args.work) c.args.self.now) c.args.self.now c.come_by_switch.new.self c.come_by_switch.result c.args.store.now c.switch_file-switched.new.store (g.D.Disk.history c.args.store.now.disk) (g.D.Disk.history c.switch_file-switched.new.store.disk) (g.D.Disk.faults c.args.store.now.disk) (g.D.Disk.faults c.switch_file-switched.new.store.disk) c.come_by_switch.ensures.task c.come_by_switch.ensures.answer refl (c.switch_file-switched.ensures.steps (at_stage (stage.Copying c.args.work) c.args.self.now) c.requires.ready (copied_first c.args.work s.0 (drop (c.args.work.next + 1) c.args.work.sources.items) c.in-Some.source.file c.args.store.now.map s.1 s.2.0 (subst (λ (m : MapMeaning). AreUnwantedFrom m c.in-Some.source.file.0 c.args.work.from) c.map.ensures c.in-None.ensures.none))) c.switch_file-switched.ensures.few (further_at c.args.store.now (g.D.Disk.history c.args.store.now.disk) c.args.work c.switch_file-switched.result (at_stage (stage.Copying c.args.work) c.args.self.now) c.switch_file-switched.ensures.further c.requires.ready (copied_first c.args.work s.0 (drop (c.args.work.next + 1) c.args.work.sources.items) c.in-Some.source.file c.args.store.now.map s.1 s.2.0 (subst (λ (m : MapMeaning). AreUnwantedFrom m c.in-Some.source.file.0 c.args.work.from) c.map.ensures c.in-None.ensures.none))) c.requires.low more
 
 pub returns-in-Some-next_wanted-clause-drops : goal.returns-in-Some-next_wanted-clause-drops
-returns-in-Some-next_wanted-clause-drops g c runs = part_drops c.copy_next-next.result _ c.come_to.new.self c.args.self.now.dropped c.args.store.now.map c.copy_next-next.new.store.map c.come_to.ensures.task (ap (λ (v : PurgeValue). v.dropped) c.self.view_is) c.copy_next-next.ensures.map
+returns-in-Some-next_wanted-clause-drops g c runs = part_drops c.copy_next-next.result _ c.come_to.new.self c.args.self.now.dropped c.args.store.now.map c.copy_next-next.new.store.map c.come_to.ensures.task refl c.copy_next-next.ensures.map
 
 pub returns-in-Some-next_wanted-clause-counts : goal.returns-in-Some-next_wanted-clause-counts
 returns-in-Some-next_wanted-clause-counts g c = part_tells c.copy_next-next.result c.args.self.now _ c.come_to.new.self c.come_to.result c.come_to.ensures.task c.come_to.ensures.answer c.copy_next-next.ensures.begun
 
 pub returns-in-None-clause-drops : goal.returns-in-None-clause-drops
-returns-in-None-clause-drops g c runs = switch_counts c.switch_file-switched.result _ c.come_by_switch.new.self c.args.self.now.dropped c.args.store.now.map c.switch_file-switched.new.store.map c.switch_file-switched.new.store.stopped c.come_by_switch.ensures.task (ap (λ (v : PurgeValue). v.dropped) c.self.view_is) c.switch_file-switched.ensures.dropped c.switch_file-switched.ensures.stopped runs
+returns-in-None-clause-drops g c runs = switch_counts c.switch_file-switched.result _ c.come_by_switch.new.self c.args.self.now.dropped c.args.store.now.map c.switch_file-switched.new.store.map c.switch_file-switched.new.store.stopped c.come_by_switch.ensures.task refl c.switch_file-switched.ensures.dropped c.switch_file-switched.ensures.stopped runs
 
 pub returns-in-None-clause-counts : goal.returns-in-None-clause-counts
 returns-in-None-clause-counts g c = switch_tells c.switch_file-switched.result c.args.self.now _ c.come_by_switch.new.self c.come_by_switch.result c.come_by_switch.ensures.task c.come_by_switch.ensures.answer c.switch_file-switched.ensures.begun

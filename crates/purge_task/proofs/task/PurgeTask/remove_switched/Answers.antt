@@ -17,7 +17,7 @@ returns-clause-left g c more =
     (part_low 0 c.remove_source-next.result (at_stage (stage.Removing c.args.work) c.args.self.now) (at_stage (stage.Removing c.args.work) c.args.self.now) c.args.store.now c.remove_source-next.new.store (g.D.Disk.history c.args.store.now.disk) (g.D.Disk.history c.remove_source-next.new.store.disk) (g.D.Disk.faults c.args.store.now.disk) (g.D.Disk.faults c.remove_source-next.new.store.disk) (c.remove_source-next.ensures.step (at_stage (stage.Removing c.args.work) c.args.self.now) refl) c.remove_source-next.ensures.further (omega arith) refl refl c.requires.low (omega arith)) more
 
 pub returns-clause-drops : goal.returns-clause-drops
-returns-clause-drops g c runs = part_drops c.remove_source-next.result _ c.come_to.new.self c.args.self.now.dropped c.args.store.now.map c.remove_source-next.new.store.map c.come_to.ensures.task (ap (λ (v : PurgeValue). v.dropped) c.self.view_is) c.remove_source-next.ensures.map
+returns-clause-drops g c runs = part_drops c.remove_source-next.result _ c.come_to.new.self c.args.self.now.dropped c.args.store.now.map c.remove_source-next.new.store.map c.come_to.ensures.task refl c.remove_source-next.ensures.map
 
 pub returns-clause-counts : goal.returns-clause-counts
 returns-clause-counts g c = part_tells c.remove_source-next.result c.args.self.now _ c.come_to.new.self c.come_to.result c.come_to.ensures.task c.come_to.ensures.answer c.remove_source-next.ensures.begun
