@@ -48,7 +48,7 @@ use Rattle.mail_save.specs.Task.{IsReadyToDeliver, SaveValue}
 use Rattle.mail_save.specs.declared.task.SaveStage.{SaveStage}
 use Rattle.mail_save.specs.declared.task.SaveStage.TheVariants as save_stage
 use Rattle.purge_task.specs.Claims.{purge_claims}
-use Rattle.lane_tasks.specs.Tasks.{IsReadyTask, NamesFound, StandsTask, claims_at}
+use Rattle.lane_tasks.specs.Tasks.{IsReadyTask, HasNamedFound, StandsTask, claims_at}
 use Rattle.lane_tasks.specs.Uses.{UsesInstance, finds_instance, pins_instance}
 use Rattle.lane_tasks.proofs.RoomLemmas.{purge_holds}
 use Rattle.lane_tasks.specs.declared.task.Task.{Task}
@@ -205,7 +205,7 @@ named_of m uid place run row instance there names found =
 held_by_rows : (instance : InstRow) (rows : List InstRow) (own : List RunEvent) → flat_map found_by own ≡ rows → list_any (finds_instance instance) own ≡ true → 1 ≤ holds_of rows instance.id
 held_by_rows instance rows own is found = same_held instance rows (sym (rows_found instance rows own is) ∙ found)
 
-stage_holds : {D : Type 0} → (now : SaveStage) (store : StoreValue D) (run : Run) (place : ℕ) (said : List Reply) (instance : InstRow) → IsAtSave now run place said → NamesFound now store run place → list_any (finds_instance instance) (own_events place run) ≡ true
+stage_holds : {D : Type 0} → (now : SaveStage) (store : StoreValue D) (run : Run) (place : ℕ) (said : List Reply) (instance : InstRow) → IsAtSave now run place said → HasNamedFound now store run place → list_any (finds_instance instance) (own_events place run) ≡ true
     → (1 ≤ save_claims now (Held instance.id)) ⊎ (is_instance_named store.map instance.id.0 ≡ true)
 stage_holds (save_stage.First prepared) store run place said instance at named found = no_true (sym (ap (list_any (finds_instance instance)) at.0) ∙ found)
 stage_holds (save_stage.Attaching parts attaching) store run place said instance at named found = inl (held_by_rows instance attaching.found (own_events place run) (front_found attaching.found (own_events place run) at.0) found)

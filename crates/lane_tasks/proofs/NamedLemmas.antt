@@ -27,7 +27,7 @@ use Rattle.mail_save.specs.SaveSeen.{IsAtSave}
 use Rattle.mail_save.specs.SaveStages.{AreAttachedSoFar, ArePlacedSoFar, AreRefusedSoFar, AreStoredSoFar}
 use Rattle.mail_save.specs.declared.task.SaveStage.{SaveStage}
 use Rattle.mail_save.specs.declared.task.SaveStage.TheVariants as save_stage
-use Rattle.lane_tasks.specs.Tasks.{NamesFound}
+use Rattle.lane_tasks.specs.Tasks.{HasNamedFound}
 
 -- ---- what its events found
 
@@ -82,7 +82,7 @@ refused_last uid place why run event at undone s =
 own_one : (n : ℕ) → 1 ≤ one_if (n == n)
 own_one n = let e : one_if (n == n) ≡ 1 = ap one_if (eq-eqb n n refl) in omega (arith, e)
 
-pub names_beside : {D : Type 0} → (now : SaveStage) (old new : StoreValue D) (before after : Option History) (run : Run) (place : ℕ) (event : RunEvent) → Beside (save_claims now) old new before after → event.request ≢ place → NamesFound now old run place → NamesFound now new (and_then run event) place
+pub names_beside : {D : Type 0} → (now : SaveStage) (old new : StoreValue D) (before after : Option History) (run : Run) (place : ℕ) (event : RunEvent) → Beside (save_claims now) old new before after → event.request ≢ place → HasNamedFound now old run place → HasNamedFound now new (and_then run event) place
 names_beside (save_stage.Adding added room) old new before after run place event b other named =
     let k = record_left (save_claims (save_stage.Adding added room)) old new before after added.map_uid.0 named.0 b (own_one added.map_uid.0) named.1 in
     (k.now, k.there, ap (λ (row : MapRecord). row.instances) k.is_same ∙ (named.2 ∙ sym (found_other place run event other)))
@@ -96,20 +96,10 @@ names_beside (save_stage.Placing parts file) old new before after run place even
 names_beside (save_stage.Storing at rows room) old new before after run place event b other named = tt
 names_beside save_stage.Ended old new before after run place event b other named = tt
 
-pub names_kept : {D : Type 0} → (now : SaveStage) (store : StoreValue D) (run : Run) (place : ℕ) (event : RunEvent) → event.request ≢ place → NamesFound now store run place → NamesFound now store (and_then run event) place
-names_kept (save_stage.Adding added room) store run place event other named = (named.0, named.1, named.2 ∙ sym (found_other place run event other))
-names_kept (save_stage.GivingBack uid why room) store run place event other named = (named.0, named.1, named.2 ∙ sym (found_other place run event other))
-names_kept (save_stage.First prepared) store run place event other named = tt
-names_kept (save_stage.Attaching parts attaching) store run place event other named = tt
-names_kept (save_stage.Taking parts) store run place event other named = tt
-names_kept (save_stage.Placing parts file) store run place event other named = tt
-names_kept (save_stage.Storing at rows room) store run place event other named = tt
-names_kept save_stage.Ended store run place event other named = tt
-
 -- ---- an event of its own
 
 pub names_on : {D : Type 0} → (now next : SaveStage) (name : List ℕ) (time size : ℕ) (answer : Progress) (old new : StoreValue D) (run : Run) (place : ℕ) (said told : List Reply) (event : RunEvent) → event.request ≡ place → ((cause : Refusal) → event.refused ≡ Some cause → DidNothing event)
-    → IsAtSave now run place said → IsAtSave next (and_then run event) place told → SaveEffects now next name time size answer old new → NamesFound now old run place → NamesFound next new (and_then run event) place
+    → IsAtSave now run place said → IsAtSave next (and_then run event) place told → SaveEffects now next name time size answer old new → HasNamedFound now old run place → HasNamedFound next new (and_then run event) place
 names_on (save_stage.Storing place_at rows room) (save_stage.Adding added left) name time size progress.More old new run place said told event at undone stood stands effects named =
     let found : instances_found place (and_then run event) ≡ rows = found_more place run event at (stored_last added.guid.0 added.map_uid.0 place run event at stands.0) ∙ placed_found rows place_at.file.0 place_at.guid.0 (own_events place run) stood.0 in
     let there : record_at new.map added.map_uid.0 ≡ Some (saved_row rows added.map_uid place_at) = ap (λ (s : StoreValue _). record_at s.map added.map_uid.0) effects.2 ∙ effects.1.there in

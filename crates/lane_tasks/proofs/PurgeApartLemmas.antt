@@ -17,7 +17,7 @@ use Rattle.list_machine.specs.Run.{Compares, CopiesMessage, EventPart, First, Gi
 use Rattle.journal.specs.Events.{Around, DidPurge, IsEvent, TellsFiles, behind_event, behind_purge, copies_left, doomed_last, file_to_remove, is_done, next_part, next_taken, purge_copies, purge_goes_on, targets_of, was_pinned}
 use Rattle.journal.specs.Found.{AgreesWithRun, FindsFiles, IsFreeFile, PurgeFinds, has_looked, is_storing}
 use Rattle.journal.proofs.OwnEventLemmas.{own_more, own_other}
-use Rattle.lane_tasks.specs.Tasks.{EndsWithin, IsTakenWithin, TookApart}
+use Rattle.lane_tasks.specs.Tasks.{DoomsWithin, IsTakenWithin, TookApart}
 
 -- ---- beside events of others, and before the first
 
@@ -25,7 +25,7 @@ pub apart_other : (run : Run) (place : ℕ) (event : RunEvent) → event.request
 apart_other run place event other took = subst TookApart (sym (own_other place run event (ne_eqb event.request place other))) took
 
 none_apart : TookApart []
-none_apart = record { most = 0; files = All-nil (IsTakenWithin 0); targets = pairs_nil (λ (a b : TakenFile). (a.target ≡ 0) ⊎ (a.target ≢ b.target)); ended = All-nil (EndsWithin 0) }
+none_apart = record { most = 0; files = All-nil (IsTakenWithin 0); targets = pairs_nil (λ (a b : TakenFile). (a.target ≡ 0) ⊎ (a.target ≢ b.target)); ended = All-nil (DoomsWithin 0) }
 
 pub apart_first : (run : Run) (place : ℕ) → own_events place run ≡ [] → TookApart (own_events place run)
 apart_first run place none = subst TookApart (sym none) none_apart
@@ -38,12 +38,12 @@ all_files own = flat_map (λ (e : RunEvent). e.files) own
 none_more : (own : List RunEvent) (event : RunEvent) → event.files ≡ [] → all_files (own ++ event ∷ []) ≡ all_files own
 none_more own event none = flat_map-append (λ (e : RunEvent). e.files) own (event ∷ []) ∙ (ap (λ (files : List TakenFile). all_files own ++ (files ++ [])) none ∙ append-nil (all_files own))
 
-apart_more : (own : List RunEvent) (event : RunEvent) (took : TookApart own) → event.files ≡ [] → EndsWithin took.most event → TookApart (own ++ event ∷ [])
+apart_more : (own : List RunEvent) (event : RunEvent) (took : TookApart own) → event.files ≡ [] → DoomsWithin took.most event → TookApart (own ++ event ∷ [])
 apart_more own event took none ends = record {
   most = took.most;
   files = subst (λ (files : List TakenFile). All (IsTakenWithin took.most) files) (sym (none_more own event none)) took.files;
   targets = subst (λ (files : List TakenFile). AllPairs (λ a b. (a.target ≡ 0) ⊎ (a.target ≢ b.target)) files) (sym (none_more own event none)) took.targets;
-  ended = All-push (EndsWithin took.most) own event took.ended ends;
+  ended = All-push (DoomsWithin took.most) own event took.ended ends;
 }
 
 within_none : (most : ℕ) (files : List ℕ) → files ≡ [] → All (λ file. file ≤ most) files
@@ -99,7 +99,7 @@ apart_begun event m most told within part doomed removed =
       most = most;
       files = subst (λ (files : List TakenFile). All (IsTakenWithin most) files) (sym same) (both_hold (λ t. t.file ≤ most) (λ t. (t.target ≡ 0) ⊎ (most < t.target)) event.files within rise.0);
       targets = subst (λ (files : List TakenFile). AllPairs (λ a b. (a.target ≡ 0) ⊎ (a.target ≢ b.target)) files) (sym same) rise.1;
-      ended = All-cons (EndsWithin most) event [] (part, within_none most event.doomed doomed, within_none most event.removed removed) (All-nil (EndsWithin most));
+      ended = All-cons (DoomsWithin most) event [] (part, within_none most event.doomed doomed, within_none most event.removed removed) (All-nil (DoomsWithin most));
     }
 
 -- ---- which part is next
@@ -156,10 +156,10 @@ first_within run most file (f ∷ files) all e = by_test (was_pinned run f) e (�
     by_test true e rest = rest e
     by_test false e rest = let k : f ≡ file = cc e in subst (λ (n : ℕ). n ≤ most) k (All-head (λ (file : ℕ). file ≤ most) f files all)
 
-doomed_within : (most : ℕ) (own : List RunEvent) → All (EndsWithin most) own → All (λ file. file ≤ most) (doomed_last own)
+doomed_within : (most : ℕ) (own : List RunEvent) → All (DoomsWithin most) own → All (λ file. file ≤ most) (doomed_last own)
 doomed_within most [] all = All-nil (λ (file : ℕ). file ≤ most)
-doomed_within most (event ∷ []) all = (All-head (EndsWithin most) event [] all).1
-doomed_within most (event ∷ next ∷ rest) all = doomed_within most (next ∷ rest) (All-tail (EndsWithin most) event (next ∷ rest) all)
+doomed_within most (event ∷ []) all = (All-head (DoomsWithin most) event [] all).1
+doomed_within most (event ∷ next ∷ rest) all = doomed_within most (next ∷ rest) (All-tail (DoomsWithin most) event (next ∷ rest) all)
 
 taken_within : (own : List RunEvent) (took : TookApart own) (taken : TakenFile) → next_taken own ≡ Some taken → taken.file ≤ took.most
 taken_within own took taken next = (found_among (λ t. not (is_done own t)) (all_files own) taken (IsTakenWithin took.most) next took.files).0

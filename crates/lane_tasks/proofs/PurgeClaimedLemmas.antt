@@ -23,7 +23,7 @@ use Rattle.purge_task.specs.Stages.{HaveTaken, IsAtPurgeStage, IsAtSwitched, tol
 use Rattle.purge_task.specs.declared.task.PurgeStage.{PurgeStage}
 use Rattle.purge_task.specs.declared.task.PurgeStage.TheVariants as stage
 use Rattle.purge_task.specs.declared.work.Source.{Source}
-use Rattle.lane_tasks.specs.Tasks.{EndsWithin, IsTakenWithin, TookApart}
+use Rattle.lane_tasks.specs.Tasks.{DoomsWithin, IsTakenWithin, TookApart}
 use Rattle.lane_tasks.proofs.PurgeTakenLemmas.{and_both, counted, is_gone, is_of, is_target_done, or_both, same}
 
 -- ---- tests
@@ -136,12 +136,12 @@ event_took file (x ∷ own) unrefused is =
 
 -- ---- it wasn't given back
 
-unended : (most : ℕ) (file : ℕ) (own : List RunEvent) → All (EndsWithin most) own → list_any (is_gone file) own ≡ false → list_any (λ (e : RunEvent). is_storing e.part || is_gone file e) own ≡ false
+unended : (most : ℕ) (file : ℕ) (own : List RunEvent) → All (DoomsWithin most) own → list_any (is_gone file) own ≡ false → list_any (λ (e : RunEvent). is_storing e.part || is_gone file e) own ≡ false
 unended most file [] all none = refl
 unended most file (x ∷ own) all none =
-    let here = All-head (EndsWithin most) x own all in
+    let here = All-head (DoomsWithin most) x own all in
     let parts = or_none (is_gone file x) (list_any (is_gone file) own) none in
-    either_none (is_storing x.part || is_gone file x) (list_any (λ (e : RunEvent). is_storing e.part || is_gone file e) own) (either_none (is_storing x.part) (is_gone file x) here.0 parts.0) (unended most file own (All-tail (EndsWithin most) x own all) parts.1)
+    either_none (is_storing x.part || is_gone file x) (list_any (λ (e : RunEvent). is_storing e.part || is_gone file e) own) (either_none (is_storing x.part) (is_gone file x) here.0 parts.0) (unended most file own (All-tail (DoomsWithin most) x own all) parts.1)
 
 none_above : (most file : ℕ) (files : List ℕ) → most < file → All (λ n. n ≤ most) files → is_one_of files file ≡ false
 none_above most file [] above all = refl
@@ -149,11 +149,11 @@ none_above most file (f ∷ files) above all =
     let here = All-head (λ (n : ℕ). n ≤ most) f files all in
     either_none (f == file) (is_one_of files file) (differs f file (λ e. absurd (omega (arith, e, here, above)))) (none_above most file files above (All-tail (λ (n : ℕ). n ≤ most) f files all))
 
-none_gone_above : (most file : ℕ) (own : List RunEvent) → most < file → All (EndsWithin most) own → list_any (is_gone file) own ≡ false
+none_gone_above : (most file : ℕ) (own : List RunEvent) → most < file → All (DoomsWithin most) own → list_any (is_gone file) own ≡ false
 none_gone_above most file [] above all = refl
 none_gone_above most file (x ∷ own) above all =
-    let here = All-head (EndsWithin most) x own all in
-    either_none (is_gone file x) (list_any (is_gone file) own) (either_none (is_one_of x.doomed file) (is_one_of x.removed file) (none_above most file x.doomed above here.1) (none_above most file x.removed above here.2)) (none_gone_above most file own above (All-tail (EndsWithin most) x own all))
+    let here = All-head (DoomsWithin most) x own all in
+    either_none (is_gone file x) (list_any (is_gone file) own) (either_none (is_one_of x.doomed file) (is_one_of x.removed file) (none_above most file x.doomed above here.1) (none_above most file x.removed above here.2)) (none_gone_above most file own above (All-tail (DoomsWithin most) x own all))
 
 each_told : (P : TakenFile → Type 0) (left : List Source) → All P (map told_taken left) → All (λ x. P (told_taken x)) left
 each_told P [] all = All-nil (λ (x : Source). P (told_taken x))

@@ -64,7 +64,7 @@ use Rattle.purge_task.proofs.StableLemmas.{purge_stable}
 use Rattle.resync_task.specs.Stages.{ResyncAt, IsAtResync}
 use Rattle.resync_task.proofs.ResyncEventLemmas.{resyncs_are_kept}
 use Rattle.lane_tasks.specs.Clause.{PassesBy, PassesInRun}
-use Rattle.lane_tasks.specs.Tasks.{BeginsTask, IsAtDelivery, IsAtFirst, IsAtTask, IsFreshDelivery, IsMakeNumber, IsReadyTask, NamesFound, StandsTask, TookFiles, TookNoFile, claims_at}
+use Rattle.lane_tasks.specs.Tasks.{BeginsTask, IsAtDelivery, IsAtFirst, IsAtTask, IsFreshDelivery, IsMakeNumber, IsReadyTask, HasNamedFound, StandsTask, TookFiles, TookNoFile, claims_at}
 use Rattle.lane_tasks.specs.declared.task.Task.{Task}
 use Rattle.lane_tasks.specs.declared.task.Task.TheVariants as task
 use Rattle.lane_tasks.proofs.FilesLemmas.{none_taken, took_none_other}
@@ -91,13 +91,12 @@ task_stable (task.Deliver t) old new before after was is order b ready = (ready.
 
 delivery_stays : {D : Type 0} → (t : SaveValue) (old new : StoreValue D) (before after : Option History) (asked : Request) (run : Run) (place : ℕ) (said : List Reply) (event : RunEvent) → PassesBy (task.Deliver t) old new before after → event.request ≢ place → GivesNew run event
     → IsAtDelivery t old before asked run place said → IsAtDelivery t new after asked (and_then run event) place said
-delivery_stays t old new before after (request.Deliver name time octets) run place said event passes other gives at =
-    (
-      save_kept t.stage run place said event other gives at.0,
-      at.1,
-      λ runs. save_stable t.stage t.name t.time t.size octets old new before after (passes runs).2 (at.2 (passes runs).0),
-      λ runs. names_beside t.stage old new before after run place event (passes runs).2 other (at.3 (passes runs).0),
-    )
+delivery_stays t old new before after (request.Deliver name time octets) run place said event passes other gives at = (
+  save_kept t.stage run place said event other gives at.0,
+  at.1,
+  λ runs. save_stable t.stage t.name t.time t.size octets old new before after (passes runs).2 (at.2 (passes runs).0),
+  λ runs. names_beside t.stage old new before after run place event (passes runs).2 other (at.3 (passes runs).0),
+)
 delivery_stays t old new before after asked run place said event passes other gives at = absurd at
 
 at_stays : {D : Type 0} → (t : Task) (old new : StoreValue D) (before after : Option History) (faults : Faults) (asked : Request) (run : Run) (place : ℕ) (said : List Reply) (event : RunEvent) → PassesBy t old new before after → PassesInRun t new after faults run event → event.request ≢ place → GivesNew run event
@@ -198,7 +197,7 @@ begins_ready asked (task.Deliver t) store history b = delivery_ready t asked sto
 
 delivery_at : {D : Type 0} → (t : SaveValue) (store : StoreValue D) (history : Option History) (asked : Request) (run : Run) (place : ℕ) (said : List Reply) → IsFreshDelivery t asked → HasNotBegun run place said → IsAtDelivery t store history asked run place said
 delivery_at t store history (request.Deliver name time octets) run place said at begun =
-    (subst (λ (s : SaveStage). IsAtSave s run place said) (sym at.1) begun, subst (λ (s : SaveStage). HasItsParts s octets) (sym at.1) tt, λ runs. fresh_ready t name time octets store history at, λ runs. subst (λ (s : SaveStage). NamesFound s store run place) (sym at.1) tt)
+    (subst (λ (s : SaveStage). IsAtSave s run place said) (sym at.1) begun, subst (λ (s : SaveStage). HasItsParts s octets) (sym at.1) tt, λ runs. fresh_ready t name time octets store history at, λ runs. subst (λ (s : SaveStage). HasNamedFound s store run place) (sym at.1) tt)
 delivery_at t store history asked run place said at begun = absurd at
 
 begins_at : {D : Type 0} → (t : Task) (store : StoreValue D) (history : Option History) (asked : Request) (run : Run) (place : ℕ) (said : List Reply) → IsAtFirst t asked → HasNotBegun run place said → IsAtTask t store history asked run place said

@@ -125,7 +125,7 @@ took_it file taken event t same =
 has_it : (rows : List InstRow) (file taken : ℕ) (own front later : List RunEvent) (event : RunEvent) → own ≡ front ++ event ∷ later → AreAttachedSoFar rows front → TookFile taken event → AllByRecursion Keeps later → taken ≡ file → HasIt file own
 has_it rows file taken own front later event is attached took keep same = (
   ap (list_any (took_file file)) is
-  ∙ (list_any-append (took_file file) front (event ∷ later) ∙ second_true (list_any (took_file file) front) _ (first_true (took_file file event) (list_any (took_file file) later) (took_it file taken event took same))),
+      ∙ (list_any-append (took_file file) front (event ∷ later) ∙ second_true (list_any (took_file file) front) _ (first_true (took_file file event) (list_any (took_file file) later) (took_it file taken event took same))),
   ap (gave_back file) is ∙ not_given file (front ++ event ∷ later) (keeping_both front (event ∷ later) (front_keeps rows front attached) (took_keeps taken event took, keep)),
 )
 

@@ -151,16 +151,16 @@ work_left other store = 1
 -- ---- where it stands
 
 -- The record that a delivery has stored names the instances that its events found, until it is added or its count is lowered.
-abbrev pub NamesFound : {D : Type 0} → SaveStage → StoreValue D → Run → ℕ → Type 0
-NamesFound (save_stage.Adding added room) store run place = HasRecord store.map added.map_uid.0 (λ row. row.instances ≡ instances_found place run)
-NamesFound (save_stage.GivingBack uid why room) store run place = HasRecord store.map uid.0 (λ row. row.instances ≡ instances_found place run)
-NamesFound now store run place = Unit {0}
+abbrev pub HasNamedFound : {D : Type 0} → SaveStage → StoreValue D → Run → ℕ → Type 0
+HasNamedFound (save_stage.Adding added room) store run place = HasRecord store.map added.map_uid.0 (λ row. row.instances ≡ instances_found place run)
+HasNamedFound (save_stage.GivingBack uid why room) store run place = HasRecord store.map uid.0 (λ row. row.instances ≡ instances_found place run)
+HasNamedFound now store run place = Unit {0}
 
 -- A delivery is at its stage, knows how many attachments the request's message has, and, unless the store is stopped, is ready for
 -- its next event with it, and what it has stored names what it found.
 abbrev pub IsAtDelivery : {D : Type 0} → SaveValue → StoreValue D → Option History → Request → Run → ℕ → List Reply → Type 0
 IsAtDelivery t store history (request.Deliver name time octets) run place said =
-    IsAtSave t.stage run place said × HasItsParts t.stage octets × (store.stopped ≡ false → IsReadyToDeliver t.stage t.name t.time t.size octets store history) × (store.stopped ≡ false → NamesFound t.stage store run place)
+    IsAtSave t.stage run place said × HasItsParts t.stage octets × (store.stopped ≡ false → IsReadyToDeliver t.stage t.name t.time t.size octets store history) × (store.stopped ≡ false → HasNamedFound t.stage store run place)
 IsAtDelivery t store history other run place said = ⊥
 
 -- Of a store, of what its disk tells, and of the request: at which stage the task is, of a run, of its place in the script, and of the
@@ -186,8 +186,8 @@ abbrev pub IsTakenWithin : ℕ → TakenFile → Type 0
 IsTakenWithin most t = (t.file ≤ most) × ((t.target ≡ 0) ⊎ (most < t.target))
 
 -- an event that stores no record, and neither dooms nor removes a file of a greater number
-abbrev pub EndsWithin : ℕ → RunEvent → Type 0
-EndsWithin most event = (is_storing event.part ≡ false) × All (λ file. file ≤ most) event.doomed × All (λ file. file ≤ most) event.removed
+abbrev pub DoomsWithin : ℕ → RunEvent → Type 0
+DoomsWithin most event = (is_storing event.part ≡ false) × All (λ file. file ≤ most) event.doomed × All (λ file. file ≤ most) event.removed
 
 -- The files that these events of a purge took and the targets that they drew are apart: targets have greater numbers than all that it took,
 -- each its own, and none is doomed or removed.
@@ -195,7 +195,7 @@ pub record TookApart (own : List RunEvent) : Type 0 where
   pub most : ℕ
   pub files : All (IsTakenWithin most) (flat_map (λ e. e.files) own)
   pub targets : AllPairs (λ a b. (a.target ≡ 0) ⊎ (a.target ≢ b.target)) (flat_map (λ e. e.files) own)
-  pub ended : All (EndsWithin most) own
+  pub ended : All (DoomsWithin most) own
 
 -- The files that it took: a delivery's stage tells of the one that it has, and a purge's of those that it empties and of their targets, which
 -- are apart; no other kind of task takes any.

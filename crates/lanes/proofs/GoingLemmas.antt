@@ -222,7 +222,7 @@ accounts_row {D} rows k row now event old new before after first second there ar
     subst (λ (vs : List (LaneValue Task)). LanesAccount claims_at IsReadyTask new after vs) (sym (rows_set rows k then))
     (record {
       adds_up = (accounted_on claims_at (λ t store history. Unit {0}) (λ t old new before after beside ready. tt) (lanes_of rows) k (lane_value row) (lane_value then) old new before after (value_at rows k row there) moves leaves (λ t has. tt)
-      (record { adds_up = all.adds_up; ready = λ j other is t has. tt })).adds_up;
+          (record { adds_up = all.adds_up; ready = λ j other is t has. tt })).adds_up;
       ready = λ j other is. by_lane j other is (nat_cases k j);
     })
   where
@@ -246,7 +246,7 @@ accounts_row {D} rows k row now event old new before after first second there ar
     by_lane j other is (inr apart) =
         let was = sym (get_set_other (lanes_of rows) k j (lane_value then) apart) ∙ is in
         λ t has. task_stable t old new before after g.goes.store g.goes.store_then g.goes.ordered_then
-            (task_beside claims_at other t old new before after has (lane_beside claims_at (lanes_of rows) k j (lane_value row) other (lane_claims claims_at (lane_value then)) old new before after all.adds_up (value_at rows k row there) was apart moves leaves)) (all.ready j other was t has)
+        (task_beside claims_at other t old new before after has (lane_beside claims_at (lanes_of rows) k j (lane_value row) other (lane_claims claims_at (lane_value then)) old new before after all.adds_up (value_at rows k row there) was apart moves leaves)) (all.ready j other was t has)
 
 -- ---- an event
 

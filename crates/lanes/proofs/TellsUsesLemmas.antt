@@ -7,12 +7,11 @@ use Rattle.std.proofs.lemmas.List.Sums.{sum_by-cons}
 use Rattle.std.proofs.lemmas.Option.{slice_get_within}
 use Rattle.disk_model.specs.Disk.{History}
 use Rattle.mdbox_base.specs.declared.entries.InstRow.{InstRow}
-use Rattle.mdbox_base.specs.declared.ids.Uid.{Uid}
 use Rattle.mdbox_base.specs.declared.replies.Reply.{Reply}
 use Rattle.mdbox_base.specs.declared.requests.Request.{Request}
 use Rattle.mdbox_base.specs.declared.requests.Request.TheVariants as request
 use Rattle.model_lists.specs.Lists.{Lists}
-use Rattle.list_machine.specs.Run.{Run, RunEvent, before, has_unpinned, is_unpinning, own_events, reply_of}
+use Rattle.list_machine.specs.Run.{Run, RunEvent, before, has_unpinned, own_events, reply_of}
 use Rattle.journal.specs.Events.{IsNextEvent}
 use Rattle.journal.specs.Found.{gave_back, is_held, is_pinned_instance, is_taken, took_file}
 use Rattle.journal.specs.Journal.{Broken, HasReply, JournalStep, Requests}
@@ -20,10 +19,8 @@ use Rattle.journal.specs.Makes.{lists_before}
 use Rattle.map_index.specs.Shown.{is_instance_named}
 use Rattle.sis_store.specs.Instances.{holders_in}
 use Rattle.storage_files.specs.Files.{is_emptied_in, is_taken_in}
-use Rattle.store_core.specs.Knows.{knows_instance}
 use Rattle.store_core.specs.Value.{StoreValue}
 use Rattle.task_claims.specs.Claims.{AddsUp, Claims, Emptied, Held, Taken, Thing, amount_in, one_if, total_claims}
-use Rattle.task_steps.specs.Serves.{IsTurn}
 use Rattle.task_steps.specs.Step.{Seen}
 use Rattle.serving.specs.Accounts.{LanesAccount, lane_claims}
 use Rattle.serving.specs.Lanes.{AreBehind, IsInTurn, LaneStands, LaneValue, said_by}
@@ -278,7 +275,7 @@ taken_told store history script run journal lanes place file at low claims =
     let has = claimed_taken at.task store history at.asked run place (said_by journal place) file at.stands low claims in
     any_own (took_file file) (λ e. took_file file e && (is_none (reply_of e.request run) && not (gave_back file (own_events e.request run)))) place run.events
     (λ e same took. both_true (took_file file e) _ took
-        (both_true (is_none (reply_of e.request run)) _ (ap (λ (p : ℕ). is_none (reply_of p run)) same ∙ ap (λ (o : Option Reply). is_none o) at.unanswered) (not_true (gave_back file (own_events e.request run)) (ap (λ (p : ℕ). gave_back file (own_events p run)) same ∙ has.1))))
+    (both_true (is_none (reply_of e.request run)) _ (ap (λ (p : ℕ). is_none (reply_of p run)) same ∙ ap (λ (o : Option Reply). is_none o) at.unanswered) (not_true (gave_back file (own_events e.request run)) (ap (λ (p : ℕ). gave_back file (own_events p run)) same ∙ has.1))))
     has.0
 
 uses_told : {D : Type 0} → (store : StoreValue D) (history : Option History) (script : Requests) (run : Run) (journal : List JournalStep) (lanes : List (LaneValue Task)) (place : ℕ) (instance : InstRow) → TaskStands store history script run journal lanes place → UsesInstance instance (own_events place run)
@@ -291,6 +288,10 @@ uses_told store history script run journal lanes place instance at (inr pinned) 
     second_true (is_held run instance) (is_pinned_instance run instance)
     (any_own (pins_instance instance) (λ e. pins_instance instance e && not (has_unpinned e.request run)) place run.events
     (λ e same is. both_true (pins_instance instance e) _ is (not_true (has_unpinned e.request run) (ap (λ (p : ℕ). has_unpinned p run) same ∙ pinned.1))) pinned.0)
+
+still_pinned : (run : Run) (instance : InstRow) (n : ℕ) (event : RunEvent) → slice_get run.events n ≡ Some event → pins_instance instance event ≡ true → has_unpinned event.request run ≡ false → HoldsNothing (own_events event.request run) → ⊥
+still_pinned run instance n event there pinned still (inl bare) = let k : false ≡ true = sym (bare instance) ∙ own_any (pins_instance instance) run.events n event.request event there refl pinned in cc k
+still_pinned run instance n event there pinned still (inr unpinned) = let k : false ≡ true = sym still ∙ unpinned in cc k
 
 pub tells_uses : {D : Type 0} → (start : Lists) (script : Requests) (run : Run) (journal : List JournalStep) (broken : Broken) (replies : List (Option Reply)) (began now : Seen) (lanes : List (LaneValue Task)) (store : StoreValue D) (history : Option History)
     → IsServing (stands_in store history) start script run journal broken replies began now lanes → HaveLanes script lanes → LanesAccount claims_at IsReadyTask store history lanes → now.stopped ≡ false → store.stopped ≡ false → TellsUses run store
@@ -352,11 +353,7 @@ tells_uses {D} start script run journal broken replies began now lanes store his
         let next = s.follows.next n event there in
         let q = pins_in_fetch next.asked.1 event instance (event_uses _ _ _ _ next.asked.1 event next.is_event) pinned in
         let asked : slice_get script event.request ≡ Some (next.asked.0, request.Fetch q.0 q.1) = next.request_is ∙ ap (λ (a : Request). Some (next.asked.0, a)) q.2 in
-        absurd (none_left instance n event there pinned still (answered_holds_nothing s.follows.around s.follows.after script start run journal event.request next.asked.0 q.0 q.1 given s.follows.next (s.serves.unrefused running) asked answered))
-      where
-        none_left : (instance : InstRow) (n : ℕ) (event : RunEvent) → slice_get run.events n ≡ Some event → pins_instance instance event ≡ true → has_unpinned event.request run ≡ false → HoldsNothing (own_events event.request run) → ⊥
-        none_left instance n event there pinned still (inl bare) = let k : false ≡ true = sym (bare instance) ∙ own_any (pins_instance instance) run.events n event.request event there refl pinned in cc k
-        none_left instance n event there pinned still (inr unpinned) = let k : false ≡ true = sym still ∙ unpinned in cc k
+        absurd (still_pinned run instance n event there pinned still (answered_holds_nothing s.follows.around s.follows.after script start run journal event.request next.asked.0 q.0 q.1 given s.follows.next (s.serves.unrefused running) asked answered))
 
     by_use : (instance : InstRow) → (is_held run instance ≡ true) ⊎ (is_pinned_instance run instance ≡ true) → (1 ≤ holders_in instance.id store.instances.known) ⊎ (is_instance_named store.map instance.id.0 ≡ true)
     by_use instance (inl is) =

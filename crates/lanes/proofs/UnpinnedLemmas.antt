@@ -1,13 +1,13 @@
 -- A fetch of a legal run that is answered has unpinned what it pinned, unless a stopped store refused it.
-use Rattle.std.proofs.Common.{◌≡◌, ◌≤◌, ◌<◌, ◌==◌, ◌&&◌, ◌||◌, ℕ, zero, suc, Bool, true, false, List, [], ◌∷◌, ◌++◌, length, take, All, Option, Some, None, refl, sym, ◌∙◌, ap, subst, arith, inl, inr}
+use Rattle.std.proofs.Common.{◌≡◌, ◌≤◌, ◌&&◌, ◌||◌, ℕ, zero, suc, Bool, true, false, List, [], ◌∷◌, ◌++◌, length, take, Option, Some, None, refl, sym, ◌∙◌, ap, subst, arith, inl, inr}
 use Rattle.std.specs.Prelude.{◌≢◌, ◌⊎◌, is_none, slice_get, if◌then◌else◌}
 use Rattle.std.specs.List.{list_any}
 use Rattle.std.specs.Option.{IfSome, option_or}
-use Rattle.std.proofs.lemmas.Bool.{cases_eq, eq-eqb, ne_eqb}
+use Rattle.std.proofs.lemmas.Bool.{eq-eqb, ne_eqb}
 use Rattle.std.proofs.lemmas.List.{take_all}
 use Rattle.std.proofs.lemmas.List.Folds.{list_any-append}
-use Rattle.std.proofs.lemmas.Option.{slice_get_within}
 use Rattle.mdbox_base.specs.declared.entries.InstRow.{InstRow}
+use Rattle.mdbox_base.specs.declared.ids.FileNo.{FileNo}
 use Rattle.mdbox_base.specs.declared.ids.Uid.{Uid}
 use Rattle.mdbox_base.specs.declared.replies.Refusal.{Refusal}
 use Rattle.mdbox_base.specs.declared.replies.Refusal.TheVariants as refusal
@@ -17,7 +17,7 @@ use Rattle.mdbox_base.specs.declared.requests.Request.TheVariants as request
 use Rattle.model_lists.specs.Lists.{Lists}
 use Rattle.list_machine.specs.Machine.{checks_of, first_refusal, is_step, part_checks}
 use Rattle.list_machine.specs.Run.{EventPart, First, ReadsPiece, RemovesFile, Run, RunEvent, Unpins, and_then, before, is_unpinning, is_unpinning_part, first_in, own_events, reply_of}
-use Rattle.journal.specs.Events.{Around, IsEvent, IsNextEvent, MayMeet, behind_event, behind_fetch, behind_piece, has_memory, leaves_doomed, next_part, piece_left, reads_octets}
+use Rattle.journal.specs.Events.{Around, IsEvent, IsNextEvent, MayMeet, behind_event, behind_fetch, behind_piece, has_memory, leaves_doomed, next_part, piece_left}
 use Rattle.journal.specs.Journal.{JournalStep, Requests}
 use Rattle.journal.specs.Makes.{AreNextEvents, lists_before}
 use Rattle.journal.proofs.OwnEventLemmas.{own_more, own_other}
@@ -96,8 +96,8 @@ HoldsNothing own = ((instance : InstRow) → list_any (pins_instance instance) o
 
 -- a refusal that a fetch goes on behind, and one that it doesn't meet there
 not_met : {X : Type 0} → (around after : Around) (run : Run) (lists : Lists) (name : List ℕ) (uid : Uid) (event : RunEvent) (why : Refusal) → IsEvent around after run lists (request.Fetch name uid) event → event.refused ≡ Some why → why ≢ refusal.Stopped → has_memory event.part (request.Fetch name uid) ≡ true
-    → checks_of run (request.Fetch name uid) event ≡ [] → ((why ≡ refusal.ReadFault) → ⊥) → ((file : _) (offset : ℕ) → why ≡ refusal.Damaged file offset → ⊥) → X
-not_met around after run lists name uid event why e is running memory none unread undamaged = by_why why refl
+    → checks_of run (request.Fetch name uid) event ≡ [] → ((why ≡ refusal.ReadFault) → ⊥) → ((file : FileNo) (offset : ℕ) → why ≡ refusal.Damaged file offset → ⊥) → X
+not_met {X = X} around after run lists name uid event why e is running memory none unread undamaged = by_why why refl
   where
     stepless : is_step why ≡ true → X
     stepless step = absurd (let k : Some why ≡ None = sym (e.refused why is step) ∙ ap (first_refusal run lists) none in cc k)

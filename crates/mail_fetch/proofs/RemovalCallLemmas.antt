@@ -226,10 +226,10 @@ ungrown file store none (inl pinned) = let l : claims_of_removal file (Pinned fi
 ungrown file store none (inr there) = let z = there.2 in let own = own_claim file in omega (arith, own, z)
 
 -- The file is removed, and the reply given.
-pub removing_says : {D : Type 0} → (H : D → Option History) (F : D → Faults) (name : List ℕ) (uid : Uid) (file : FileNo) (given : Reply) (old new : StoreValue D) → old.stopped ≡ false → CanRemove file.0 old → AreFilesInOrder old.files → old.files.highest ≡ old.drawn.file
-    → ((lists : Lists) → IsSettledFor lists (H old.disk) → Leaves lists lists (H old.disk) (H new.disk)) → MailIsKept old.map (H old.disk) (H new.disk) → ((lists : Lists) → IsSettledFor lists (H old.disk) → IsSettledFor lists (H new.disk)) → IfTold (H new.disk) (λ now. reading (now (file.Mail file.0)) ≡ None)
-    → SameButFor (file.Mail file.0) (H old.disk) (H new.disk) → new ≡ without file.0 new.disk old → Grows (H old.disk) (H new.disk) → (Failed : Type 0) → ChangeFaultCounted Failed (F old.disk) (F new.disk) → NoFault (F old.disk) (F new.disk)
-    → StepSays H F name uid (stage.Removing file given) stage.First old new did.Quiet (progress.Done given)
+pub removing_says : {D : Type 0} → (H : D → Option History) (F : D → Faults) (name : List ℕ) (uid : Uid) (n : FileNo) (given : Reply) (old new : StoreValue D) → old.stopped ≡ false → CanRemove n.0 old → AreFilesInOrder old.files → old.files.highest ≡ old.drawn.file
+    → ((lists : Lists) → IsSettledFor lists (H old.disk) → Leaves lists lists (H old.disk) (H new.disk)) → MailIsKept old.map (H old.disk) (H new.disk) → ((lists : Lists) → IsSettledFor lists (H old.disk) → IsSettledFor lists (H new.disk)) → IfTold (H new.disk) (λ now. reading (now (file.Mail n.0)) ≡ None)
+    → SameButFor (file.Mail n.0) (H old.disk) (H new.disk) → new ≡ without n.0 new.disk old → Grows (H old.disk) (H new.disk) → (Failed : Type 0) → ChangeFaultCounted Failed (F old.disk) (F new.disk) → NoFault (F old.disk) (F new.disk)
+    → StepSays H F name uid (stage.Removing n given) stage.First old new did.Quiet (progress.Done given)
 removing_says {D = D} H F name uid n given old new runs can order drawn moments mail rests gone others is grows Failed fault quiet = record {
   does = λ around after. subst (λ (s : StoreValue D). FetchSteps around after name uid (stage.Removing n given) stage.First old s (H old.disk) (H new.disk) (F old.disk) (F new.disk) did.Quiet (Some given)) (sym is)
       (removing_steps around after name uid n given new.disk old (H old.disk) (H new.disk) (F old.disk) (F new.disk) runs can below (record { moments = moments; rests = rests; grows = grows; mail = mail; quiet = quiet }));

@@ -234,8 +234,7 @@ pub removing_steps : {D : Type 0} → (around after : Around) (name : List ℕ) 
 removing_steps around after name uid file given disk old before later began faults ran can drawn leaves = λ run lane place said lists come shows safe stood.
     let event : RunEvent = removal_event lane place file.0 given (told_calls later) in
     let pins = removes_pins file.0 given (own_events place run) stood.0 in
-    let goes = both_true (is_doomed run file.0) (is_pinned run file.0) (sym (leaves_is place run file.0 pins) ∙ stood.1) in
-    (
+    let goes = both_true (is_doomed run file.0) (is_pinned run file.0) (sym (leaves_is place run file.0 pins) ∙ stood.1) in (
       did_removal around after run lane place said name uid lists (seen_in old before began) (seen_in (without file.0 disk old) later faults) file.0 given
           (removal_comes run lane place file.0 given disk old before later began faults come ran can.unpinned drawn leaves.grows) shows ran ran
           (next_removes around name uid run place file.0 given stood.0 stood.1) (file.0, some_pins file.0 (own_events place run) pins, goes.0, goes.1, refl) (removes_by file.0 given (own_events place run) stood.0)
@@ -250,8 +249,7 @@ stopped_at disk store = record store { disk = disk; stopped = true }
 pub fail_steps : {D : Type 0} → (around after : Around) (name : List ℕ) (uid : Uid) (file : FileNo) (given : Reply) (disk : D) (old : StoreValue D) (before later : Option History) (began faults : Faults) → old.stopped ≡ false → LeavesFailed old.map before later began faults
     → FetchSteps around after name uid (stage.Removing file given) (stage.Removing file given) old (stopped_at disk old) before later began faults did.Failed (Some (reply.Refused refusal.Stopped))
 fail_steps around after name uid file given disk old before later began faults ran leaves = λ run lane place said lists come shows safe stood.
-    let event : RunEvent = halt_event lane place (told_calls later) in
-    (
+    let event : RunEvent = halt_event lane place (told_calls later) in (
       did_fail around after run lane place said name uid lists (seen_in old before began) (seen_in (stopped_at disk old) later faults)
           (comes_to_on run event (seen_in old before began) (seen_in (stopped_at disk old) later faults) come (comes_on run event old.map old.drawn (told_calls before) come.come leaves.grows refl refl) (λ uid. refl) (halt_leaves lane place (told_calls later)) (tells_stopped disk old before later began faults))
           shows ran refl (next_removes around name uid run place file.0 given stood.0 stood.1) (λ s. leaves.moments lists s.0) leaves.grows leaves.mail leaves.reads leaves.changes leaves.rose,

@@ -79,8 +79,8 @@ pub record IsUnpinned {D : Type 0} (from : StoredAt) (given : Reply) (next : Fet
   pub other : is_last_pin from.file.0 store ≡ false → (answer ≡ progress.Done given) × (next ≡ stage.First)
 
 -- The file is removed, and the reply given. Or a change of the disk failed: the store is stopped, and the task stays where it was.
-abbrev pub IsRemoved : FileNo → Reply → FetchStage → Progress → Faults → Faults → Type 0
-IsRemoved file given next answer old new =
+abbrev pub IsFileRemoved : FileNo → Reply → FetchStage → Progress → Faults → Faults → Type 0
+IsFileRemoved file given next answer old new =
     ((answer ≡ progress.Done given) × (next ≡ stage.First)) ⊎ (Rose old.changes new.changes × (answer ≡ progress.Done (reply.Refused refusal.Stopped)) × (next ≡ stage.Removing file given))
 
 -- ---- each event
@@ -94,7 +94,7 @@ FetchesNext name uid (stage.Reading region) next answer store history old new =
 FetchesNext name uid (stage.Unpinning from given) next answer store history old new =
     (store.stopped ≡ true → (answer ≡ progress.Done (reply.Refused refusal.Stopped)) × (next ≡ stage.Unpinning from given)) × (store.stopped ≡ false → IsUnpinned from given next answer store)
 FetchesNext name uid (stage.Removing file given) next answer store history old new =
-    (store.stopped ≡ true → (answer ≡ progress.Done (reply.Refused refusal.Stopped)) × (next ≡ stage.Removing file given)) × (store.stopped ≡ false → IsRemoved file given next answer old new)
+    (store.stopped ≡ true → (answer ≡ progress.Done (reply.Refused refusal.Stopped)) × (next ≡ stage.Removing file given)) × (store.stopped ≡ false → IsFileRemoved file given next answer old new)
 
 -- no change of the disk was counted as failed, and no failed read is forgotten
 pub record NoChangeFault (old new : Faults) : Type 0 where

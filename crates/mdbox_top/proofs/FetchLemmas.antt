@@ -1,5 +1,5 @@
 -- What the events of a fetch alone say together.
-use Rattle.std.specs.Prelude.{length, zero, suc, ◌≡◌, ◌⊎◌, ◌≤◌, ◌<◌, ◌+◌, ◌==◌, ℕ, Bool, true, false, cond, not, is_some, if◌then◌else◌, List, [], ◌∷◌, ◌++◌, map, filter, flat_map, count_by, slice_get, Option, Some, None}
+use Rattle.std.specs.Prelude.{length, zero, suc, ◌≡◌, ◌⊎◌, ◌≤◌, ◌<◌, ◌+◌, ◌==◌, ◌&&◌, ℕ, Bool, true, false, cond, not, is_some, if◌then◌else◌, List, [], ◌∷◌, ◌++◌, map, filter, flat_map, count_by, slice_get, Option, Some, None}
 use Rattle.std.proofs.Common.{refl, sym, ◌∙◌, ap, subst, inl, inr, append_assoc, append-nil, arith}
 use Rattle.std.specs.Option.{option_map}
 use Rattle.std.proofs.lemmas.Bool.{cases_lt}
@@ -36,19 +36,20 @@ use Rattle.list_machine.specs.Run.{EventPart, First, RunEvent, Run, before, own_
 use Rattle.journal.specs.Events.{Around, is_fault, is_faulted}
 use Rattle.journal.specs.Journal.{JournalStep, AreSteps, refusal_in, is_read_fault, steps_of}
 use Rattle.journal.specs.Makes.{StepOf}
-use Rattle.storage_files.specs.Files.{end_in, is_doomed_in}
+use Rattle.storage_files.specs.Files.{end_in, is_doomed_in, pins_in}
 use Rattle.storage_files.specs.OnDisk.{piece_read}
 use Rattle.store_core.specs.Running.{IsStore}
 use Rattle.store_core.specs.Value.{StoreValue, list_named}
 use Rattle.task_steps.specs.Step.{Seen, StaysFirm, ended_by}
 use Rattle.mail_fetch.specs.Claims.{HasFetchRoom, used_by}
-use Rattle.mail_fetch.specs.Clause.{FetchSteps, FetchesAlone, ReadsSafe}
+use Rattle.mail_fetch.specs.Clause.{FetchSteps, FetchesAlone, MakesOfDisk, OnlyReadsDisk, ReadsSafe}
 use Rattle.mail_fetch.specs.Events.{fetch_refusal, IsAbsent, IsStoredBy, IsBegun, next_piece, with_piece, IsPieceRead, FetchesNext, NoChangeFault}
 use Rattle.mail_fetch.specs.Failed.{HasFailedRead}
 use Rattle.mail_fetch.specs.Parts.{instance_part, left_after, parts_to_read, parts_read, pieces_left}
 use Rattle.mail_fetch.specs.Region.{stored_at, RegionValue, unread, HoldsWhole, IsReplyFor, damage_at}
 use Rattle.mail_fetch.specs.Stages.{IsAtFetch, IsTrueReply, UnpinsNext}
-use Rattle.mail_fetch.specs.Task.{FetchValue, UnpinsUndoomed, seen_in}
+use Rattle.mail_fetch.specs.Removal.{is_last_pin}
+use Rattle.mail_fetch.specs.Task.{FetchValue, seen_in}
 use Rattle.mail_fetch.specs.declared.parts.StoredAt.{StoredAt}
 use Rattle.mail_fetch.specs.declared.task.FetchStage.{FetchStage}
 use Rattle.mail_fetch.specs.declared.task.FetchStage.TheVariants as stage
@@ -176,10 +177,17 @@ one_done a b e = cc e
 abbrev pub at_use : {D : Type 0} → StoreValue D → StoreValue D → StoreValue D
 at_use first now = record first { disk = now.disk; files = now.files; instances = now.instances }
 
+-- How an event of a fetch alone answers: no file is doomed, so that none is to be removed.
+abbrev pub AloneNext : {D : Type 0} → List ℕ → ℕ → FetchStage → FetchStage → Progress → StoreValue D → Option History → Faults → Faults → Type 0
+AloneNext name uid (stage.Unpinning from given) next answer store history old new =
+    (store.stopped ≡ true → (answer ≡ progress.Done (reply.Refused refusal.Stopped)) × (next ≡ stage.Unpinning from given)) × (store.stopped ≡ false → (answer ≡ progress.Done given) × (next ≡ stage.First))
+AloneNext name uid (stage.Removing file given) next answer store history old new = ⊥
+AloneNext name uid now next answer store history old new = FetchesNext name uid now next answer store history old new
+
 -- What an event of the fetch says, of a store that differs from the first in its disk, its storage files and its instances alone.
 pub record FetchEvent {D : Type 0} (history : D → Option History) (faults : D → Faults) (name : List ℕ) (uid : Uid) (first d e : StoreValue D) (now next : FetchStage) (how : Did) (answer : Progress) : Type 0 where
   pub does : (around after : Around) → FetchSteps around after name uid now next (at_use first d) (at_use first e) (history d.disk) (history e.disk) (faults d.disk) (faults e.disk) how (ended_by answer)
-  pub replies : FetchesNext name uid.0 now next answer (at_use first d) (history d.disk) (faults d.disk) (faults e.disk)
+  pub replies : AloneNext name uid.0 now next answer (at_use first d) (history d.disk) (faults d.disk) (faults e.disk)
   pub reads : IfTold (history d.disk) ReadsImage
   pub firm : (at_use first e).stopped ≡ false → StaysFirm (seen_in (at_use first d) (history d.disk) (faults d.disk)) (seen_in (at_use first e) (history e.disk) (faults e.disk))
   pub idle : IsIdle (history d.disk) (history e.disk)
@@ -188,13 +196,14 @@ pub record FetchEvent {D : Type 0} (history : D → Option History) (faults : D 
 
 -- ---- what is known at each stage
 
--- What was read so far, or what will be replied, of the record that the logs name.
+-- What was read so far, or what will be replied, of the record that the logs name. No file is removed.
 abbrev pub StageKnows : {D : Type 0} → List ℕ → ℕ → StoreValue D → Option History → FetchStage → Type 0
 StageKnows name uid store history stage.First = Unit {0}
 StageKnows name uid store history (stage.Reading region) =
     (row : LogRow) × (entry : MapRecord) × (fetch_refusal name uid store ≡ None) × IsStoredBy name uid store row entry × (region.from ≡ stored_at row entry) × IfTold history (HasRead entry region)
 StageKnows name uid store history (stage.Unpinning from given) =
     (row : LogRow) × (entry : MapRecord) × (fetch_refusal name uid store ≡ None) × IsStoredBy name uid store row entry × (from ≡ stored_at row entry) × IsFetchAnswer row entry history given
+StageKnows name uid store history (stage.Removing file given) = ⊥
 
 stored_first : {D : Type 0} → (name : List ℕ) (uid : ℕ) (first d : StoreValue D) (row : LogRow) (entry : MapRecord) → IsStoredBy name uid (at_use first d) row entry → IsStoredBy name uid first row entry
 stored_first name uid first d row entry k = record { mailbox = k.mailbox; named = k.named; listed = k.listed; stored = k.stored; same = k.same }
@@ -236,10 +245,11 @@ piece_knows name uid first old new f g region next idle (row, entry, none, store
 
 -- behind any event that goes on
 knows_on : {D : Type 0} → (history : D → Option History) (faults : D → Faults) (name : List ℕ) (uid : Uid) (first : StoreValue D) (d e : StoreValue D) (now next : FetchStage) → first.stopped ≡ false → IsIdle (history d.disk) (history e.disk) → StageKnows name uid.0 first (history d.disk) now
-    → FetchesNext name uid.0 now next progress.More (at_use first d) (history d.disk) (faults d.disk) (faults e.disk) → StageKnows name uid.0 first (history e.disk) next
+    → AloneNext name uid.0 now next progress.More (at_use first d) (history d.disk) (faults d.disk) (faults e.disk) → StageKnows name uid.0 first (history e.disk) next
 knows_on history faults name uid first d e stage.First next running idle k r = begun_knows name uid.0 first d (history e.disk) next (fetch_refusal name uid.0 first) refl r
 knows_on history faults name uid first d e (stage.Reading region) next running idle k r = piece_knows name uid.0 first (history d.disk) (history e.disk) (faults d.disk) (faults e.disk) region next idle k (r.1 running).1
 knows_on history faults name uid first d e (stage.Unpinning from given) next running idle k r = absurd (more_done given (r.1 running).0)
+knows_on history faults name uid first d e (stage.Removing file given) next running idle k r = absurd r
 
 -- ---- the counts of faults
 
@@ -254,12 +264,13 @@ rose_from : (began mid later : Faults) → NoFault began mid → Rose mid.reads 
 rose_from began mid later same rose = subst (λ (f : Faults). Rose f.reads later.reads) same rose
 
 -- at an event that goes on no read had failed before, and one failed if it will be replied
-quiet_before : {D : Type 0} → (name : List ℕ) (uid : ℕ) (now next : FetchStage) (store : StoreValue D) (old : Option History) (f g : Faults) → store.stopped ≡ false → FetchesNext name uid now next progress.More store old f g → HasFailedRead now → ⊥
+quiet_before : {D : Type 0} → (name : List ℕ) (uid : ℕ) (now next : FetchStage) (store : StoreValue D) (old : Option History) (f g : Faults) → store.stopped ≡ false → AloneNext name uid now next progress.More store old f g → HasFailedRead now → ⊥
 quiet_before name uid stage.First next store old f g running r h = h
 quiet_before name uid (stage.Reading region) next store old f g running r h = h
 quiet_before name uid (stage.Unpinning from given) next store old f g running r h = more_done given (r.1 running).0
+quiet_before name uid (stage.Removing file given) next store old f g running r h = r
 
-fails_now : {D : Type 0} → (name : List ℕ) (uid : ℕ) (now next : FetchStage) (store : StoreValue D) (old : Option History) (f g : Faults) → store.stopped ≡ false → FetchesNext name uid now next progress.More store old f g → HasFailedRead next → Rose f.reads g.reads
+fails_now : {D : Type 0} → (name : List ℕ) (uid : ℕ) (now next : FetchStage) (store : StoreValue D) (old : Option History) (f g : Faults) → store.stopped ≡ false → AloneNext name uid now next progress.More store old f g → HasFailedRead next → Rose f.reads g.reads
 fails_now name uid stage.First next store old f g running b h = by_cause (fetch_refusal name uid store) refl
   where
     by_cause : (cause : Option Refusal) → fetch_refusal name uid store ≡ cause → Rose f.reads g.reads
@@ -279,8 +290,9 @@ fails_now name uid (stage.Reading region) next store old f g running r h = by_re
         by_size (inr last) =
             let l = goes.last (let none_left : pieces_left (left_after region.left) ≡ 0 = omega (arith, last) in none_left) in absurd ((region_calm region.from (region.octets ++ piece) l.0 l.2).0 (failed_is region.from l.0 (subst HasFailedRead l.1 h)))
 fails_now name uid (stage.Unpinning from given) next store old f g running r h = absurd (more_done given (r.1 running).0)
+fails_now name uid (stage.Removing file given) next store old f g running r h = absurd r
 
-faults_on : {D : Type 0} → (name : List ℕ) (uid : ℕ) (now next : FetchStage) (store : StoreValue D) (old : Option History) (began f g : Faults) → store.stopped ≡ false → FaultsSoFar now began f → FetchesNext name uid now next progress.More store old f g → NoChangeFault f g
+faults_on : {D : Type 0} → (name : List ℕ) (uid : ℕ) (now next : FetchStage) (store : StoreValue D) (old : Option History) (began f g : Faults) → store.stopped ≡ false → FaultsSoFar now began f → AloneNext name uid now next progress.More store old f g → NoChangeFault f g
     → ((HasFailedRead next → ⊥) → NoFault f g) → FaultsSoFar next began g
 faults_on name uid now next store old began f g running so r fault unfailed =
     let before : NoFault began f = so.unfailed (quiet_before name uid now next store old f g running r) in
@@ -346,7 +358,7 @@ fetching_on history faults name uid first d e now next how running so event k = 
 -- ---- the end
 
 abbrev DoneNow : {D : Type 0} → List ℕ → ℕ → FetchStage → FetchStage → Reply → StoreValue D → Option History → Faults → Faults → Type 0
-DoneNow name uid now next given store old f g = FetchesNext name uid now next (progress.Done given) store old f g
+DoneNow name uid now next given store old f g = AloneNext name uid now next (progress.Done given) store old f g
 
 -- what the first event replies, if it ends the request
 pub record FirstGiven {D : Type 0} (name : List ℕ) (uid : ℕ) (next : FetchStage) (given : Reply) (store : StoreValue D) : Type 0 where
@@ -395,6 +407,7 @@ pub refused_ends : {D : Type 0} → (history : D → Option History) (faults : D
 refused_ends history faults name uid first d e stage.First next given running so r why cause = (first_given name uid.0 next given (at_use first d) r).refused why cause
 refused_ends history faults name uid first d e (stage.Reading region) next given running so r why cause = absurd (more_done given (sym (r.1 running).0))
 refused_ends history faults name uid first d e (stage.Unpinning from other) next given running so r why cause = absurd (let k : None ≡ Some why = sym so.knows.2 ∙ cause in cc k)
+refused_ends history faults name uid first d e (stage.Removing file other) next given running so r why cause = absurd r
 
 -- the only request of the script
 one_asked : (q x : ℕ × Request) (n : ℕ) → slice_get (q ∷ []) n ≡ Some x → ((n == 0) ≡ true) × (x ≡ q)
@@ -472,6 +485,7 @@ taken_ends history faults name uid first d e stage.First next given running so i
     by_other (inl memory) = inl memory
     by_other (inr (why, absent, is)) = inr (absent_ends history faults name uid first d e given why running so idle k absent is)
 taken_ends history faults name uid first d e (stage.Reading region) next given running so idle k r none = absurd (more_done given (sym (r.1 running).0))
+taken_ends history faults name uid first d e (stage.Removing file other) next given running so idle is r none = absurd r
 taken_ends history faults name uid first d e (stage.Unpinning from other) next given running so idle is r none =
     let same : other ≡ given = sym (one_done given other (r.1 running).0) in
     let k = so.knows in
@@ -506,6 +520,7 @@ faults_end history faults name uid first d e stage.First next given running so r
       unfailed = λ unread unstopped. still ∙ so.counted.unfailed (λ h. h);
     }
 faults_end history faults name uid first d e (stage.Reading region) next given running so r fault unfailed = absurd (more_done given (sym (r.1 running).0))
+faults_end history faults name uid first d e (stage.Removing file other) next given running so r fault unfailed = absurd r
 faults_end history faults name uid first d e (stage.Unpinning from other) next given running so r fault unfailed =
     let done = r.1 running in
     let same : given ≡ other = one_done given other done.0 in
@@ -534,6 +549,7 @@ fault_seen : {D : Type 0} → (name : List ℕ) (uid : ℕ) (now next : FetchSta
     → is_read_fault (Some given) ≡ true → 1 ≤ count_by is_faulted run.events
 fault_seen name uid stage.First next given store old f g seen run said running r at fault = absurd ((first_calm name uid next given store running r).0 (read_is given fault))
 fault_seen name uid (stage.Reading region) next given store old f g seen run said running r at fault = absurd (more_done given (sym (r.1 running).0))
+fault_seen name uid (stage.Removing file other) next given store old f g seen run said running r at fault = absurd r
 fault_seen name uid (stage.Unpinning from other) next given store old f g seen run said running r at fault = unpin_faulted from other run at.0 (sym (one_done given other (r.1 running).0) ∙ read_is given fault)
 
 -- it was served
@@ -553,10 +569,34 @@ served_ends history faults name uid first d e now next how given running so even
 -- ---- from what a step says
 
 -- no file is doomed, so not that which is unpinned
-pub unpins_undoomed : {D : Type 0} → (now : FetchStage) (s : StoreValue D) → ((file : ℕ) → is_doomed_in file s.files.files ≡ false) → UnpinsUndoomed now s
-unpins_undoomed (stage.Unpinning from given) s none = none from.file.0
-unpins_undoomed stage.First s none = tt
-unpins_undoomed (stage.Reading region) s none = tt
+alone_next : {D : Type 0} → (name : List ℕ) (uid : ℕ) (now next : FetchStage) (answer : Progress) (s : StoreValue D) (first : StoreValue D) (told history : Option History) (f g : Faults) → ((file : ℕ) → is_doomed_in file s.files.files ≡ false) → StageKnows name uid first told now → FetchesNext name uid now next answer s history f g → AloneNext name uid now next answer s history f g
+alone_next name uid stage.First next answer s first told history f g none k r = r
+alone_next name uid (stage.Reading region) next answer s first told history f g none k r = r
+alone_next name uid (stage.Unpinning from given) next answer s first told history f g none k r = (r.0, λ runs. (r.1 runs).other (ap (λ (b : Bool). b && (pins_in from.file.0 s.files.files == 1)) (none from.file.0)))
+alone_next name uid (stage.Removing file given) next answer s first told history f g none k r = absurd k
+
+-- an event of a fetch alone reads at the most
+alone_reads : {D : Type 0} → (name : List ℕ) (uid : ℕ) (now next : FetchStage) (s t first : StoreValue D) (told before later : Option History) (began faults : Faults) → StageKnows name uid first told now → MakesOfDisk now next s t before later began faults → OnlyReadsDisk next before later began faults
+alone_reads name uid stage.First next s t first told before later began faults k made = made
+alone_reads name uid (stage.Reading region) next s t first told before later began faults k made = made
+alone_reads name uid (stage.Unpinning from given) next s t first told before later began faults k made = made
+alone_reads name uid (stage.Removing file given) next s t first told before later began faults k made = absurd k
+
+-- so it doesn't stop the store
+alone_runs : {D : Type 0} → (name : List ℕ) (uid : ℕ) (now next : FetchStage) (s t first : StoreValue D) (told : Option History) → StageKnows name uid first told now → t ≡ record (used_by now next s) { disk = t.disk } → t.stopped ≡ s.stopped
+alone_runs {D = D} name uid now next s t first told k e = ap (λ (v : StoreValue D). v.stopped) e ∙ by_stages now next k
+  where
+    by_stages : (a b : FetchStage) → StageKnows name uid first told a → (used_by a b s).stopped ≡ s.stopped
+    by_stages stage.First stage.First k = refl
+    by_stages stage.First (stage.Reading region) k = refl
+    by_stages stage.First (stage.Unpinning from given) k = refl
+    by_stages stage.First (stage.Removing file given) k = refl
+    by_stages (stage.Reading region) b k = refl
+    by_stages (stage.Unpinning from given) stage.First k = refl
+    by_stages (stage.Unpinning from given) (stage.Reading region) k = refl
+    by_stages (stage.Unpinning from given) (stage.Unpinning other reply) k = refl
+    by_stages (stage.Unpinning from given) (stage.Removing file reply) k = refl
+    by_stages (stage.Removing file given) b k = absurd k
 
 -- What a step of the task says, of the store as it was and as it is.
 pub record StepSaid {D : Type 0} (history : D → Option History) (faults : D → Faults) (s t : StoreValue D) (task next : FetchValue) (answer : Progress) : Type 0 where
@@ -565,8 +605,10 @@ pub record StepSaid {D : Type 0} (history : D → Option History) (faults : D �
   pub does : (around after : Around) → FetchSteps around after task.name task.uid task.stage next.stage s t (history s.disk) (history t.disk) (faults s.disk) (faults t.disk) next.did (ended_by answer)
   pub alone : FetchesAlone task.name task.uid.0 task.stage next.stage next.did answer s t (history s.disk) (history t.disk) (faults s.disk) (faults t.disk)
 
-pub still_first : {D : Type 0} → (first s t : StoreValue D) (now next : FetchStage) → s ≡ at_use first s → t ≡ record (used_by now next s) { disk = t.disk } → t ≡ at_use first t
-still_first {D = D} first s t now next a b = used_only now next s t b ∙ ap (λ (v : StoreValue D). record v { disk = t.disk; files = t.files; instances = t.instances }) a
+pub still_first : {D : Type 0} → (name : List ℕ) (uid : ℕ) (first s t : StoreValue D) (now next : FetchStage) (told : Option History) → StageKnows name uid first told now → s ≡ at_use first s → t ≡ record (used_by now next s) { disk = t.disk } → t ≡ at_use first t
+still_first {D = D} name uid first s t now next told k a b =
+    used_only now next s t b
+    ∙ (ap (λ (h : Bool). record s { disk = t.disk; files = t.files; instances = t.instances; stopped = h }) (alone_runs name uid now next s t first told k b) ∙ ap (λ (v : StoreValue D). record v { disk = t.disk; files = t.files; instances = t.instances }) a)
 
 -- it runs still, and its map is the same
 pub runs_on : {D : Type 0} → (first s : StoreValue D) → s ≡ at_use first s → first.stopped ≡ false → s.stopped ≡ false
@@ -575,26 +617,29 @@ runs_on first s same runs = ap (λ (v : StoreValue _). v.stopped) same ∙ runs
 pub same_map : {D : Type 0} → (now next : FetchStage) (s t : StoreValue D) → t ≡ record (used_by now next s) { disk = t.disk } → s.map ≡ t.map
 same_map now next s t e = sym (ap (λ (v : StoreValue _). v.map) (used_only now next s t e))
 
-pub event_of : {D : Type 0} → (history : D → Option History) (faults : D → Faults) (name : List ℕ) (uid : Uid) (first s t : StoreValue D) (task next : FetchValue) (answer : Progress) → task.name ≡ name → task.uid ≡ uid → s ≡ at_use first s → StepSaid history faults s t task next answer
+pub event_of : {D : Type 0} → (history : D → Option History) (faults : D → Faults) (name : List ℕ) (uid : Uid) (first s t : StoreValue D) (task next : FetchValue) (answer : Progress) → task.name ≡ name → task.uid ≡ uid → s ≡ at_use first s → ((file : ℕ) → is_doomed_in file s.files.files ≡ false) → StageKnows name uid.0 first (history s.disk) task.stage → StepSaid history faults s t task next answer
     → FetchEvent history faults name uid first s t task.stage next.stage next.did answer
-event_of {D = D} history faults name uid first s t task next answer names uids same step = record {
+event_of {D = D} history faults name uid first s t task next answer names uids same none knows step = record {
   does = λ around after.
       subst (λ (n : List ℕ). FetchSteps around after n uid task.stage next.stage (at_use first s) (at_use first t) (history s.disk) (history t.disk) (faults s.disk) (faults t.disk) next.did (ended_by answer)) names
       (subst (λ (u : Uid). FetchSteps around after task.name u task.stage next.stage (at_use first s) (at_use first t) (history s.disk) (history t.disk) (faults s.disk) (faults t.disk) next.did (ended_by answer)) uids
-      (subst (λ (v : StoreValue D). FetchSteps around after task.name task.uid task.stage next.stage (at_use first s) v (history s.disk) (history t.disk) (faults s.disk) (faults t.disk) next.did (ended_by answer)) (still_first first s t task.stage next.stage same step.alone.same)
+      (subst (λ (v : StoreValue D). FetchSteps around after task.name task.uid task.stage next.stage (at_use first s) v (history s.disk) (history t.disk) (faults s.disk) (faults t.disk) next.did (ended_by answer)) (still_first name uid.0 first s t task.stage next.stage (history s.disk) knows same step.alone.same)
       (subst (λ (v : StoreValue D). FetchSteps around after task.name task.uid task.stage next.stage v t (history s.disk) (history t.disk) (faults s.disk) (faults t.disk) next.did (ended_by answer)) same (step.does around after))));
-  replies =
-      subst (λ (n : List ℕ). FetchesNext n uid.0 task.stage next.stage answer (at_use first s) (history s.disk) (faults s.disk) (faults t.disk)) names
+  replies = alone_next name uid.0 task.stage next.stage answer (at_use first s) first (history s.disk) (history s.disk) (faults s.disk) (faults t.disk) (subst (λ (v : StoreValue D). (file : ℕ) → is_doomed_in file v.files.files ≡ false) same none) knows
+      (subst (λ (n : List ℕ). FetchesNext n uid.0 task.stage next.stage answer (at_use first s) (history s.disk) (faults s.disk) (faults t.disk)) names
       (subst (λ (u : Uid). FetchesNext task.name u.0 task.stage next.stage answer (at_use first s) (history s.disk) (faults s.disk) (faults t.disk)) uids
-      (subst (λ (v : StoreValue D). FetchesNext task.name task.uid.0 task.stage next.stage answer v (history s.disk) (faults s.disk) (faults t.disk)) same step.alone.replies));
+      (subst (λ (v : StoreValue D). FetchesNext task.name task.uid.0 task.stage next.stage answer v (history s.disk) (faults s.disk) (faults t.disk)) same step.alone.replies)));
   reads = step.reads;
   firm =
-      subst (λ (v : StoreValue D). v.stopped ≡ false → StaysFirm (seen_in (at_use first s) (history s.disk) (faults s.disk)) (seen_in v (history t.disk) (faults t.disk))) (still_first first s t task.stage next.stage same step.alone.same)
+      subst (λ (v : StoreValue D). v.stopped ≡ false → StaysFirm (seen_in (at_use first s) (history s.disk) (faults s.disk)) (seen_in v (history t.disk) (faults t.disk))) (still_first name uid.0 first s t task.stage next.stage (history s.disk) knows same step.alone.same)
       (subst (λ (v : StoreValue D). t.stopped ≡ false → StaysFirm (seen_in v (history s.disk) (faults s.disk)) (seen_in t (history t.disk) (faults t.disk))) same step.firm);
-  idle = step.alone.idle;
-  fault = step.alone.fault;
-  unfailed = step.alone.unfailed;
+  idle = only.idle;
+  fault = only.fault;
+  unfailed = only.unfailed;
 }
+  where
+    only : OnlyReadsDisk next.stage (history s.disk) (history t.disk) (faults s.disk) (faults t.disk)
+    only = alone_reads name uid.0 task.stage next.stage s t first (history s.disk) (history s.disk) (history t.disk) (faults s.disk) (faults t.disk) knows step.alone.disk
 
 -- behind an event that goes on it isn't the first that is next
 pub room_on : {D : Type 0} → (name : List ℕ) (uid : ℕ) (now next : FetchStage) (s t : StoreValue D) (old : Option History) (f g : Faults) → s.stopped ≡ false → FetchesNext name uid now next progress.More s old f g → HasFetchRoom next t
@@ -615,7 +660,15 @@ room_on name uid (stage.Reading region) next s t old f g running r = by_read (r.
         by_size : (0 < pieces_left (left_after region.left)) ⊎ (pieces_left (left_after region.left) ≤ 0) → HasFetchRoom next t
         by_size (inl more) = subst (λ (n : FetchStage). HasFetchRoom n t) (sym (goes.more more)) tt
         by_size (inr last) = subst (λ (n : FetchStage). HasFetchRoom n t) (sym (goes.last (omega (arith, last))).1) tt
-room_on name uid (stage.Unpinning from given) next s t old f g running r = absurd (more_done given (r.1 running).0)
+room_on name uid (stage.Unpinning from given) next s t old f g running r = by_pin (is_last_pin from.file.0 s) refl
+  where
+    by_pin : (b : Bool) → is_last_pin from.file.0 s ≡ b → HasFetchRoom next t
+    by_pin true last = subst (λ (n : FetchStage). HasFetchRoom n t) (sym ((r.1 running).last last).1) tt
+    by_pin false other = absurd (more_done given ((r.1 running).other other).0)
+room_on name uid (stage.Removing file given) next s t old f g running r = elim (r.1 running) [
+  | inl gone ↦ absurd (more_done given gone.0)
+  | inr failed ↦ absurd (more_done (reply.Refused refusal.Stopped) failed.1)
+]
 
 -- What the events say together once one has answered the request.
 pub record SaidAtEnd {D : Type 0} (history : D → Option History) (faults : D → Faults) (name : List ℕ) (uid : Uid) (first e : StoreValue D) (given : Reply) : Type 0 where

@@ -83,10 +83,10 @@ emptied_ends n files d = by_end d.f.end refl (d.used.emptied d.emptied).0
 pub untaken_in : (n : ℕ) (files : List MailFile) → IsEmptiedFile n files → is_taken_in n files ≡ false
 untaken_in n files d = ap (λ (o : Option MailFile). option_map_or (λ f. f.taken) o false) d.found ∙ (d.used.emptied d.emptied).1
 
-undoomed_in : (n : ℕ) (files : List MailFile) → IsEmptiedFile n files → is_doomed_in n files ≡ false
+pub undoomed_in : (n : ℕ) (files : List MailFile) → IsEmptiedFile n files → is_doomed_in n files ≡ false
 undoomed_in n files d = ap (λ (o : Option MailFile). option_map_or (λ f. f.doomed) o false) d.found ∙ d.undoomed
 
-unplaced_in : (n : ℕ) (files : List MailFile) → IsEmptiedFile n files → place_begun_in n files ≡ None
+pub unplaced_in : (n : ℕ) (files : List MailFile) → IsEmptiedFile n files → place_begun_in n files ≡ None
 unplaced_in n files d = ap (λ (o : Option MailFile). option_and_then (λ f. f.begun) o) d.found ∙ by_begun d.f.begun refl
   where
     by_begun : (o : Option ℕ) → d.f.begun ≡ o → o ≡ None

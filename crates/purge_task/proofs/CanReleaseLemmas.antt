@@ -33,7 +33,7 @@ pub record AreClear (a b : Source) : Type 0 where
   pub target : IfSome b.target (λ u. u.0 ≢ a.file.0)
   pub targets : IfSome a.target (λ t. IfSome b.target (λ u. u.0 ≢ t.0))
 
-released_other : (n m : ℕ) (files : List MailFile) → m ≢ n → file_in m (released_in n files) ≡ file_in m files
+pub released_other : (n m : ℕ) (files : List MailFile) → m ≢ n → file_in m (released_in n files) ≡ file_in m files
 released_other n m files apart = by_flag (is_some (end_in n files))
   where
     by_flag : (b : Bool) → file_in m (if b then changed_in n given_back files else without_file n files) ≡ file_in m files
@@ -44,7 +44,7 @@ target_other : (target : Option FileNo) (m : ℕ) (files : List MailFile) → If
 target_other None m files apart = refl
 target_other (Some t) m files apart = released_other t.0 m files apart
 
-source_other : (source : Source) (m : ℕ) (files : List MailFile) → m ≢ source.file.0 → IfSome source.target (λ t. m ≢ t.0) → file_in m (source_released files source) ≡ file_in m files
+pub source_other : (source : Source) (m : ℕ) (files : List MailFile) → m ≢ source.file.0 → IfSome source.target (λ t. m ≢ t.0) → file_in m (source_released files source) ≡ file_in m files
 source_other source m files apart target = target_other source.target m (released_in source.file.0 files) target ∙ released_other source.file.0 m files apart
 
 or_true : (a b : Bool) → b ≡ true → (a || b) ≡ true

@@ -153,6 +153,20 @@ some_number n l = grind (arith, common_steps, l)
 has_some : (xs : List MapRecord) (x : MapRecord) → Contains xs x → 1 ≤ length xs
 has_some xs x c = let l = c.1 in omega (arith, l)
 
+-- it is the message that is next by its own events, too
+pub next_copy : {D : Type 0} → (t : PurgeValue) (work : Work) (source : Source) (left : List Source) (row : MapRow) (end : ℕ) (old : StoreValue D) (before : Option History) (began : Faults) → t.stage ≡ stage.Copying work → sources_left work ≡ source ∷ left → IsSoundMap old.map → AreCopiedUpTo source.file.0 work.from end source.copied.items old.map
+    → IsNextWanted old.map source.file.0 work.from row → old.stopped ≡ false → (run : Run) (number : ℕ) (said : List Reply) → HasComeTo run (seen_by_purge old before began) → IsAtPurge t old run number said → next_part (around_purging [] old) run request.Purge (own_events number run) ≡ Some CopiesMessage
+next_copy t work source left row end old before began at is sound copied wanted ran = λ run number said come stood.
+    let around : Around = around_purging [] old in
+    let stands = subst (λ (x : PurgeStage). IsAtPurgeStage x t old run number said) at stood in
+    let h = subst (λ (l : List Source). IsPurging t stands.0 l (λ doomed part. CopiesBehind part) old run number said) is stands.1 in
+    let own : List RunEvent = own_events number run in
+    let taken : next_taken own ≡ Some (told_taken source) = next_is stands.0 source left own h.taken in
+    let least : IsCopiedNext (filter (is_left old.map own source.file.0) old.map.records) wanted.r = next_is_left old.map own source work.from end row sound (All-head (HaveCopied old.map own) source left (h.copied ran)) copied wanted in
+    let left_are : copies_left own run (next_taken own) ≡ filter (is_left old.map own source.file.0) old.map.records = ap (λ (o : Option TakenFile). copies_left own run o) taken ∙ ap (λ (m : MapMeaning). filter (is_left m own source.file.0) m.records) come.come.map_is in
+    next_copies around run number h.last
+    ∙ ap (λ (b : Bool). if b then Some CopiesMessage else Some Switches) (ap (λ (rs : List MapRecord). nat_lt 0 (length rs)) left_are ∙ some_number (length (filter (is_left old.map own source.file.0) old.map.records)) (has_some (filter (is_left old.map own source.file.0) old.map.records) wanted.r least.0))
+
 pub copy_steps : {D : Type 0} → (after : Around) (t next : PurgeValue) (work now : Work) (source noted : Source) (left : List Source) (row : MapRow) (place : MapPlace) (end target : ℕ) (disk : D) (files : FilesValue) (old : StoreValue D) (before later : Option History) (began faults : Faults) → t.stage ≡ stage.Copying work
     → sources_left work ≡ source ∷ left → next.stage ≡ stage.Copying now → sources_left now ≡ noted ∷ left → IsSourceWith place source noted → AreSourcesApart (source ∷ left) → IsSoundMap old.map → AreCopiedUpTo source.file.0 work.from end source.copied.items old.map → (wanted : IsNextWanted old.map source.file.0 work.from row) → place.uid.0 ≡ wanted.r.uid
     → next.did ≡ did.Quiet → next.dropped ≡ t.dropped → next.files ≡ t.files → next.instances ≡ t.instances → old.stopped ≡ false → IsGrownOf target old.files.files files.files → LeavesSettled old.map before later began faults → PurgeSteps [] after t next old (with_state disk files false old) before later began faults None
@@ -167,8 +181,7 @@ copy_steps after t next work now source noted left row place end target disk fil
     let taken : next_taken own ≡ Some (told_taken source) = next_is stands.0 source left own h.taken in
     let least : IsCopiedNext (filter (is_left old.map own source.file.0) old.map.records) r = next_is_left old.map own source work.from end row sound (All-head (HaveCopied old.map own) source left (h.copied ran)) copied wanted in
     let left_are : copies_left own run (next_taken own) ≡ filter (is_left old.map own source.file.0) old.map.records = ap (λ (o : Option TakenFile). copies_left own run o) taken ∙ ap (λ (m : MapMeaning). filter (is_left m own source.file.0) m.records) come.come.map_is in
-    let next_one : next_part around run request.Purge own ≡ Some CopiesMessage = next_copies around run number h.last
-    ∙ ap (λ (b : Bool). if b then Some CopiesMessage else Some Switches) (ap (λ (rs : List MapRecord). nat_lt 0 (length rs)) left_are ∙ some_number (length (filter (is_left old.map own source.file.0) old.map.records)) (has_some (filter (is_left old.map own source.file.0) old.map.records) r least.0)) in
+    let next_one : next_part around run request.Purge own ≡ Some CopiesMessage = next_copy t work source left row end old before began at is sound copied wanted ran run number said come stood.0 in
     let so = did_part around after run lane number said lists (seen_by_purge old before began) (seen_by_purge new later faults) (copy_event 0 0 r.uid 0)
     (record {
       next = next_one;

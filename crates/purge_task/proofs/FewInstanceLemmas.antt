@@ -3,6 +3,7 @@ use Rattle.std.proofs.Common.{◌≡◌, ◌≢◌, ◌≤◌, ◌<◌, ◌+◌,
 use Rattle.std.specs.Prelude.{AllPairs, Contains, find, nat_le}
 use Rattle.std.specs.Option.{option_map}
 use Rattle.std.specs.Ordering.{is_lt, ordering_reverse}
+use Rattle.std.specs.declared.cmp.Ordering.{Ordering}
 use Rattle.std.specs.declared.cmp.Ordering.TheVariants.{Less}
 use Rattle.std.proofs.lemmas.Bool.{cases_eq, cases_lt}
 use Rattle.std.proofs.lemmas.Bool.Decides.{nat_tests}
@@ -10,7 +11,7 @@ use Rattle.mdbox_base.specs.declared.ids.InstId.{InstId}
 use Rattle.model_octets.proofs.SearchLemmas.{found_none, found_one}
 use Rattle.sis_store.specs.declared.instance.KnownInstance.{KnownInstance}
 use Rattle.sis_store.specs.Instances.{IsIdBefore, instance_past, is_id_past}
-use Rattle.sis_store.proofs.IdLemmas.{by_octets, less_lt, lt_less, lt_not, not_before_itself, turned}
+use Rattle.sis_store.proofs.IdLemmas.{by_octets, less_lt, lt_less, not_before_itself, turned}
 
 -- Past this one are just those from this place on.
 abbrev pub ArePassed : Option InstId → ℕ → List KnownInstance → Type 0
@@ -30,6 +31,9 @@ le_true a b l = grind (arith, nat_tests, l)
 
 le_false : (a b : ℕ) → b < a → nat_le a b ≡ false
 le_false a b l = grind (arith, nat_tests, l)
+
+not_less : (o : Ordering) → o ≡ ordering_reverse Less → is_lt o ≡ false
+not_less o e = ap is_lt e
 
 true_le : (a b : ℕ) → nat_le a b ≡ true → a ≤ b
 true_le a b e = grind (arith, nat_tests, e)
@@ -67,7 +71,7 @@ one_passed last count known id rise passed is = λ k d lt.
     elim (cases_lt k count) [
       | inl before ↦
           let l = rise k count d before n.lt in
-          lt_not (by_octets id.0 (get_or known k d).row.id.0) (ordering_reverse Less) (turned (get_or known k d).row.id.0 id.0 Less (subst (λ (i : InstId). by_octets (get_or known k d).row.id.0 i.0 ≡ Less) here l)) refl ∙ sym (le_false (count + 1) k (omega (arith, before)))
+          not_less (by_octets id.0 (get_or known k d).row.id.0) (turned (get_or known k d).row.id.0 id.0 Less (subst (λ (i : InstId). by_octets (get_or known k d).row.id.0 i.0 ≡ Less) here l)) ∙ sym (le_false (count + 1) k (omega (arith, before)))
       | inr after ↦ elim (cases_eq k count) [
           | inl same ↦ itself (is_lt (by_octets id.0 (get_or known k d).row.id.0)) (λ less. not_before_itself id.0 (get_or known k d).row.id.0 (sym (ap (λ (i : InstId). i.0) (subst (λ (j : ℕ). (get_or known j d).row.id ≡ id) (sym same) here))) (is_less (by_octets id.0 (get_or known k d).row.id.0) less)) ∙ sym (le_false (count + 1) k (omega (arith, same)))
           | inr apart ↦
@@ -85,7 +89,7 @@ one_passed last count known id rise passed is = λ k d lt.
     itself true h = absurd (h refl)
     itself false h = refl
 
-    is_less : (o : _) → is_lt o ≡ true → o ≡ Less
+    is_less : (o : Ordering) → is_lt o ≡ true → o ≡ Less
     is_less o e = less_lt o e
 
 -- where none is past it, all were counted

@@ -1,14 +1,15 @@
 -- What a purge says at its first event.
-use Rattle.std.proofs.Common.{◌≡◌, ◌≢◌, ◌≤◌, ◌<◌, ◌+◌, ◌*◌, ◌==◌, ◌&&◌, ◌⊎◌, ℕ, Bool, true, false, cond, List, [], ◌∷◌, ◌++◌, length, map, drop, get_or, Option, Some, None, refl, sym, ◌∙◌, ap, subst, arith, All, inl, inr}
-use Rattle.std.specs.Prelude.{◌↔◌, AllPairs, Contains, count_by, filter, is_some, sum_by, if◌then◌else◌}
+use Rattle.std.proofs.Common.{◌≡◌, ◌≢◌, ◌≤◌, ◌<◌, ◌+◌, ◌*◌, ◌==◌, ◌&&◌, ◌||◌, ◌⊎◌, ℕ, Bool, true, false, cond, List, [], ◌∷◌, ◌++◌, length, map, drop, get_or, Option, Some, None, refl, sym, ◌∙◌, ap, subst, arith, All, inl, inr}
+use Rattle.std.specs.Prelude.{◌↔◌, AllPairs, Contains, Err, IsErrOf, Result, count_by, filter, is_some, sum_by, if◌then◌else◌}
 use Rattle.std.specs.List.{AllZip, list_any}
 use Rattle.std.specs.Option.{option_and_then, option_map, option_map_or}
 use Rattle.std.proofs.lemmas.List.{append-nil, length-map}
 use Rattle.std.proofs.lemmas.Bool.{eqb-true}
 use Rattle.std.proofs.lemmas.List.Elements.{All-cons, All-contains, All-head, All-nil, All-tail, All-weaker}
 use Rattle.std.proofs.lemmas.List.Kept.{AllPairs-from_increasing}
+use Rattle.std.proofs.lemmas.List.Sums.{count_by-le-length, sum_by-cons}
 use Rattle.disk_model.specs.Disk.{DiskState, Faults, Grows, History, IsIdle, reading}
-use Rattle.disk_model.specs.FaultCounts.{NoFault}
+use Rattle.disk_model.specs.FaultCounts.{NoFault, ReadFaultCounted}
 use Rattle.disk_model.specs.declared.name.FileName.TheVariants as file
 use Rattle.disk_model.proofs.BetweenLemmas.{between-map}
 use Rattle.gate_log.specs.State.{LogState}
@@ -16,16 +17,20 @@ use Rattle.mdbox_base.specs.Streams.{Rose}
 use Rattle.mdbox_base.specs.declared.entries.Highest.{Highest}
 use Rattle.mdbox_base.specs.declared.progress.Did.TheVariants as did
 use Rattle.mdbox_base.specs.declared.progress.Progress.{Progress}
+use Rattle.mdbox_base.specs.declared.requests.Request.TheVariants as request
+use Rattle.mdbox_base.specs.declared.script.Half.TheVariants as half
 use Rattle.mdbox_base.specs.declared.progress.Progress.TheVariants as progress
 use Rattle.mdbox_base.specs.declared.replies.Refusal.{Refusal}
 use Rattle.mdbox_base.specs.declared.replies.Refusal.TheVariants as refusal
 use Rattle.mdbox_base.specs.declared.replies.Reply.{Reply}
 use Rattle.mdbox_base.specs.declared.replies.Reply.TheVariants as reply
-use Rattle.journal.specs.Events.{Around, targets_of}
-use Rattle.list_machine.specs.Run.{target_length, with_targets}
+use Rattle.journal.specs.Events.{Around, next_part, targets_of}
+use Rattle.list_machine.specs.Run.{First, Run, TakenFile, is_copied_from, own_events, target_length, with_targets}
 use Rattle.model_kept.proofs.KeptLemmas.{kept_idle}
 use Rattle.model_meaning.specs.MapMeaning.{MapMeaning, MapRecord}
-use Rattle.model_meaning.specs.Sound.{IsSoundMap}
+use Rattle.model_meaning.specs.Sound.{IsSoundMap, IsSoundRecord}
+use Rattle.model_meaning.proofs.MapSoundLemmas.{greatest_fits}
+use Rattle.model_octets.proofs.PairLemmas.{all_map, pairs_head, pairs_map, pairs_tail}
 use Rattle.model_octets.proofs.SearchLemmas.{found_one}
 use Rattle.storage_files.specs.declared.file.MailFile.{MailFile}
 use Rattle.storage_files.specs.Files.{AreFilesInOrder, FilesValue, end_in, file_in, is_doomed_in, is_emptied_in, is_taken_in, pins_in, to_empty, with_pins}
@@ -40,11 +45,13 @@ use Rattle.task_claims.specs.Leaving.{IsSameOrSynced, LeavesOthers, OthersTook, 
 use Rattle.task_claims.proofs.CountedLemmas.{unraised_same}
 use Rattle.task_claims.proofs.RestLemmas.{instance_kept, none_placed, record_kept}
 use Rattle.purge_task.specs.Claims.{claims_of_sources, purge_claims, sources_left}
-use Rattle.purge_task.specs.Clause.{IsPurgeStep, PurgeSteps}
-use Rattle.purge_task.specs.Found.{AreAllBut, HasFound, IsFullToEnd, found_numbers, targets_in}
+use Rattle.task_steps.specs.Step.{DidEvent, HasNotBegun}
+use Rattle.task_steps.proofs.OneEventLemmas.{never_more, next_first}
+use Rattle.purge_task.specs.Clause.{IsPurgeStep, PurgeSteps, around_purging, came_to, seen_by_purge, uncounted}
+use Rattle.purge_task.specs.Found.{AreAllBut, AreUncleanFound, HasFound, IsFindRefusal, IsFoundFile, IsFullToEnd, LacksTargets, found_numbers, targets_in}
 use Rattle.purge_task.specs.Keeping.{AreSourcesApart, HasPurged, IsBeginningFirst, IsToBegin, PurgeValue}
 use Rattle.purge_task.specs.Reserved.{IsNewSource, IsNewWork}
-use Rattle.purge_task.specs.Stages.{IsNextStage}
+use Rattle.purge_task.specs.Stages.{IsAtPurge, IsAtPurgeStage, IsNextStage}
 use Rattle.purge_task.specs.Taken.{CanTake, CanTakeAll, take_all, targets_given}
 use Rattle.purge_task.specs.declared.finding.Found.{Found}
 use Rattle.purge_task.specs.declared.finding.FoundFile.{FoundFile}
@@ -53,16 +60,20 @@ use Rattle.purge_task.specs.declared.task.PurgeStage.TheVariants as stage
 use Rattle.purge_task.specs.declared.work.Source.{Source}
 use Rattle.purge_task.specs.declared.work.Work.{Work}
 use Rattle.purge_task.proofs.EventLemmas.{fall}
-use Rattle.purge_task.proofs.FailLemmas.{memory_steps}
+use Rattle.purge_task.proofs.CopyLemmas.{kept_of}
+use Rattle.purge_task.proofs.FailLemmas.{memory_steps, unread_steps}
 use Rattle.purge_task.proofs.FirstLemmas.{IsBegunOf, with_begun}
 use Rattle.purge_task.proofs.FirstStepLemmas.{HasBegun, first_steps, taken_all}
+use Rattle.purge_task.proofs.FullLemmas.{full_steps}
 use Rattle.purge_task.proofs.ReadingLemmas.{idle_grows, idle_leaves, idle_settled}
 use Rattle.purge_task.proofs.RemovalCallLemmas.{no_source}
 use Rattle.purge_task.proofs.RemovalLemmas.{LeavesSettled}
 use Rattle.purge_task.proofs.SameSeenLemmas.{TellsNoLess, tells_same, with_state}
 use Rattle.purge_task.proofs.TakeableLemmas.{can_take_all, files_drawn, untargeted, zip_count}
 use Rattle.purge_task.proofs.TakenClaimLemmas.{takes_moves}
+use Rattle.purge_task.proofs.TakenLemmas.{given_long}
 use Rattle.purge_task.proofs.TakenStateLemmas.{IsDrawnFor, TargetIsDrawn, are_apart, drawn_all, drawn_file, emptied_all, given_files, kept_all, rest_all}
+use Rattle.purge_task.proofs.WithinLemmas.{mapped_of}
 use Rattle.purge_task.proofs.TakenStoreLemmas.{FitsFound, FitsGiven, IsTakenWith, all_given, begins_with, begun_all, found_fit, highest_all, numbers_told, short_told, targets_told, wanted_told}
 
 -- ---- what it leaves
@@ -312,6 +323,9 @@ taken_says {D = D} H F t next found work now spare room old new at to how droppe
     can : CanTakeAll v sources
     can = can_take_all old v (H old.disk) found work x.found_is x.work_is refl refl x.spares
 
+    order_v : AreFilesInOrder v.files
+    order_v = record { rising = x.order.rising; below = x.order.below; last = x.order.last; used = x.order.used }
+
     none : All (λ s. s.target ≡ None) sources
     none = untargeted found work x.work_is
 
@@ -391,9 +405,6 @@ taken_says {D = D} H F t next found work now spare room old new at to how droppe
         (λ s h. begins_with now found.most old.files.highest new s rows high_now (x.text ∙ x.work_is.text) (let l = x.log in let e = ap (λ (g : LogState). g.room) log_is in omega (arith, l, e)) h)
         (targets_given old.files.highest sources) (with_all old.files.highest found.most now sources v new x.is refl can order_v none (subst (λ (m : MapMeaning). All (FitsFound m found.most) sources) (sym map_is) fit)))
 
-    order_v : AreFilesInOrder v.files
-    order_v = record { rising = x.order.rising; below = x.order.below; last = x.order.last; used = x.order.used }
-
     ready : IsNextStage now next.stage → HasPurged next.stage new (H new.disk)
     ready (inl e) = subst (λ (s : PurgeStage). HasPurged s new (H new.disk)) (sym e.1) tt
     ready (inr e) = subst (λ (s : PurgeStage). HasPurged s new (H new.disk)) (sym e.1)
@@ -402,3 +413,167 @@ taken_says {D = D} H F t next found work now spare room old new at to how droppe
         beginning : (l : List Source) → l ≢ [] → All (IsToBegin now new) l → IsBeginningFirst l now new
         beginning [] empty h = absurd (empty refl)
         beginning (s ∷ l) empty h = (x.from, h)
+
+-- ---- how a refusal is told
+
+-- the same of a store with more room in its map log
+room_steps : {D : Type 0} → (fs : List ℕ) (around : Around) (t next : PurgeValue) (disk : D) (spare room : ℕ) (old : StoreValue D) (before later : Option History) (began faults : Faults) (given : Reply) → old.stopped ≡ false
+    → PurgeSteps fs around t next old (with_state disk (record old.files { spare = spare }) false old) before later began faults (Some given) → PurgeSteps fs around t next old (with_room disk spare room old) before later began faults (Some given)
+room_steps {D = D} fs around t next disk spare room old before later began faults given runs h = λ run lane place said lists come shows stood. (
+  subst (λ (b : Bool). DidEvent (around_purging fs old) around run lane place said request.Purge lists (seen_by_purge old before began) (seen_by_purge (record (with_room disk spare room old) { stopped = b }) later faults) next.did (Some given)) (sym runs) (h run lane place said lists come shows stood).0,
+  λ e. absurd (never_more _ e),
+)
+
+-- a purge at its beginning takes its first event
+begins_first : {D : Type 0} → (around : Around) (t : PurgeValue) (store : StoreValue D) (run : Run) (place : ℕ) (said : List Reply) → t.stage ≡ stage.First → IsAtPurge t store run place said → next_part around run request.Purge (own_events place run) ≡ Some First
+begins_first around t store run place said at stood = let begins : HasNotBegun run place said = subst (λ (s : PurgeStage). IsAtPurgeStage s t store run place said) at stood in next_first around run request.Purge (own_events place run) begins.0
+
+-- refused for lack of memory
+pub memory_says : {D : Type 0} → (H : D → Option History) (F : D → Faults) (t next : PurgeValue) (spare room : ℕ) (old new : StoreValue D) → t.stage ≡ stage.First → next.stage ≡ stage.First → next.did ≡ did.Quiet → old.stopped ≡ false → new ≡ with_room new.disk spare room old → old.map_log.room ≤ room → IsIdle (H old.disk) (H new.disk) → NoFault (F old.disk) (F new.disk)
+    → IsPurgeStep t next (progress.Done (reply.Refused refusal.NoMemory)) old new (H old.disk) (H new.disk) (F old.disk) (F new.disk)
+memory_says H F t next spare room old new at to how runs is more idle quiet =
+    refused_says H F t next refusal.NoMemory [] spare room old new at to (λ e. let k : refusal.NoMemory ≡ refusal.Stopped = e in cc k) runs is more idle (let e = ap (λ (f : Faults). f.reads) quiet in omega (arith, e)) (ap (λ (f : Faults). f.changes) quiet)
+    (λ around. room_steps [] around t next new.disk spare room old (H old.disk) (H new.disk) (F old.disk) (F new.disk) (reply.Refused refusal.NoMemory) runs
+        (memory_steps around t next new.disk (record old.files { spare = spare }) old (H old.disk) (H new.disk) (F old.disk) (F new.disk) at how runs (tells_same old.files.files) (idle_settles old.map (H old.disk) (H new.disk) (F old.disk) (F new.disk) idle quiet)))
+
+-- refused by a fault of a read
+pub unread_says : {D : Type 0} → (H : D → Option History) (F : D → Faults) (t next : PurgeValue) (old new : StoreValue D) → t.stage ≡ stage.First → next.stage ≡ stage.First → next.did ≡ did.Quiet → old.stopped ≡ false → new ≡ record old { disk = new.disk } → IsIdle (H old.disk) (H new.disk) → Rose (F old.disk).reads (F new.disk).reads → (F old.disk).reads ≤ (F new.disk).reads → (F new.disk).changes ≡ (F old.disk).changes
+    → IsPurgeStep t next (progress.Done (reply.Refused refusal.ReadFault)) old new (H old.disk) (H new.disk) (F old.disk) (F new.disk)
+unread_says H F t next old new at to how runs is idle rose reads changes =
+    refused_says H F t next refusal.ReadFault [] old.files.spare old.map_log.room old new at to (λ e. let k : refusal.ReadFault ≡ refusal.Stopped = e in cc k) runs is (stays old.map_log.room) idle reads changes
+    (λ around. room_steps [] around t next new.disk old.files.spare old.map_log.room old (H old.disk) (H new.disk) (F old.disk) (F new.disk) (reply.Refused refusal.ReadFault) runs
+        (unread_steps around t next new.disk old.files old (H old.disk) (H new.disk) (F old.disk) (F new.disk) First refl how runs (λ run place said come stood. begins_first (around_purging [] old) t old run place said at stood) (tells_same old.files.files)
+        (record { moments = λ lists settled. idle_leaves lists (H old.disk) (H new.disk) idle settled; rests = λ lists settled. idle_settled lists (H old.disk) (H new.disk) idle settled; grows = idle_grows (H old.disk) (H new.disk) idle; mail = kept_idle old.map (H old.disk) (H new.disk) idle; reads = reads; changes = omega (arith, changes); rose = rose })))
+
+-- ---- refused for lack of numbers
+
+-- a file as it would have been taken
+abbrev found_told : FoundFile → TakenFile
+found_told f = record { file = f.file.0; target = 0 }
+
+told_numbers : (fs : List FoundFile) → map (λ t. t.file) (map found_told fs) ≡ found_numbers fs
+told_numbers [] = refl
+told_numbers (f ∷ fs) = ap (λ (ns : List ℕ). f.file.0 ∷ ns) (told_numbers fs)
+
+wanted_found : (m : MapMeaning) (fs : List FoundFile) → All (IsFoundFile m) fs → targets_in fs ≡ length (with_targets m (map found_told fs))
+wanted_found m [] h = refl
+wanted_found m (f ∷ fs) h = sum_by-cons (λ (x : FoundFile). if x.is_wanted then 1 else 0) f fs ∙ one f.is_wanted (sym (All-head (IsFoundFile m) f fs h).wanted) (wanted_found m fs (All-tail (IsFoundFile m) f fs h))
+  where
+    one : (b : Bool) → list_any (is_copied_from f.file.0) m.records ≡ b → targets_in fs ≡ length (with_targets m (map found_told fs)) → (if b then 1 else 0) + targets_in fs ≡ length (with_targets m (map found_told (f ∷ fs)))
+    one true e rest =
+        let k : length (with_targets m (map found_told (f ∷ fs))) ≡ length (found_told f ∷ with_targets m (map found_told fs)) = ap (λ (c : Bool). length (if c then found_told f ∷ with_targets m (map found_told fs) else with_targets m (map found_told fs))) e in
+        omega (arith, k, rest)
+    one false e rest =
+        let k : length (with_targets m (map found_told (f ∷ fs))) ≡ length (with_targets m (map found_told fs)) = ap (λ (c : Bool). length (if c then found_told f ∷ with_targets m (map found_told fs) else with_targets m (map found_told fs))) e in
+        omega (arith, k, rest)
+
+-- a file of which nothing is wanted has a short target
+none_long : (m : MapMeaning) (file : ℕ) → list_any (is_copied_from file) m.records ≡ false → target_length m file ≤ 9
+none_long m file e = let z = each m.records e in omega (arith, z)
+  where
+    or_false : (a b : Bool) → (a || b) ≡ false → (a ≡ false) × (b ≡ false)
+    or_false true b k = absurd (cc k)
+    or_false false b k = (refl, k)
+
+    each : (rows : List MapRecord) → list_any (is_copied_from file) rows ≡ false → sum_by (λ row. if is_copied_from file row then row.size else 0) rows ≡ 0
+    each [] k = refl
+    each (row ∷ rows) k =
+        let b = or_false (is_copied_from file row) (list_any (is_copied_from file) rows) k in
+        let s = sum_by-cons (λ (r : MapRecord). if is_copied_from file r then r.size else 0) row rows in
+        let z : (if is_copied_from file row then row.size else 0) ≡ 0 = ap (λ (c : Bool). if c then row.size else 0) b.0 in
+        let rest = each rows b.1 in
+        omega (arith, s, z, rest)
+
+contains_told : (m : MapMeaning) (fs : List FoundFile) (f : FoundFile) → Contains fs f → list_any (is_copied_from f.file.0) m.records ≡ true → Contains (with_targets m (map found_told fs)) (found_told f)
+contains_told m fs f there some = kept_of (λ (t : TakenFile). list_any (is_copied_from t.file) m.records) (map found_told fs) (found_told f) (mapped_of found_told fs f there) some
+
+lacks_told : (m : MapMeaning) (drawn : ℕ) (fs : List FoundFile) → All (IsFoundFile m) fs → LacksTargets m drawn fs → (4294967294 < drawn + length (with_targets m (map found_told fs))) ⊎ ((t : TakenFile) × Contains (with_targets m (map found_told fs)) t × (4294967294 < target_length m t.file))
+lacks_told m drawn fs each (inl many) = inl (let e = wanted_found m fs each in omega (arith, e, many))
+lacks_told m drawn fs each (inr long) = inr (found_told long.0, contains_told m fs long.0 long.1 (by_flag (list_any (is_copied_from long.0.file.0) m.records) refl), long.2)
+  where
+    by_flag : (b : Bool) → list_any (is_copied_from long.0.file.0) m.records ≡ b → b ≡ true
+    by_flag true e = refl
+    by_flag false e = absurd (let l = none_long m long.0.file.0 e in let k = long.2 in omega (arith, l, k))
+
+pub full_says : {D : Type 0} → (H : D → Option History) (F : D → Faults) (t next : PurgeValue) (fs : List FoundFile) (old new : StoreValue D) → t.stage ≡ stage.First → next.stage ≡ stage.First → next.did ≡ did.Step half.Whole → old.stopped ≡ false → IsStore (H old.disk) old → AreUncleanFound old (H old.disk) fs → LacksTargets old.map old.files.highest fs
+    → new ≡ record old { disk = new.disk } → IsIdle (H old.disk) (H new.disk) → NoFault (F old.disk) (F new.disk) → IsPurgeStep t next (progress.Done (reply.Refused (refusal.StoreFull 4294967294))) old new (H old.disk) (H new.disk) (F old.disk) (F new.disk)
+full_says {D = D} H F t next fs old new at to how runs store found lacks is idle quiet =
+    refused_says H F t next (refusal.StoreFull 4294967294) (map (λ t. t.file) (map found_told fs)) old.files.spare old.map_log.room old new at to (λ e. let k : refusal.StoreFull 4294967294 ≡ refusal.Stopped = e in cc k) runs is (stays old.map_log.room) idle (let e = ap (λ (f : Faults). f.reads) quiet in omega (arith, e)) (ap (λ (f : Faults). f.changes) quiet)
+    (λ around. room_steps (map (λ t. t.file) (map found_told fs)) around t next new.disk old.files.spare old.map_log.room old (H old.disk) (H new.disk) (F old.disk) (F new.disk) (reply.Refused (refusal.StoreFull 4294967294)) runs
+        (full_steps around t next (map found_told fs) new.disk old.files old (H old.disk) (H new.disk) (F old.disk) (F new.disk) at how runs (tells_same old.files.files) store.files (store_sound (H old.disk) old store)
+        (subst (λ (ns : List ℕ). AllPairs (λ a b. a < b) ns) (sym (told_numbers fs)) (AllPairs-from_increasing (found_numbers fs) found.finds.known.rising)) (subst (AreAllBut (IsFullToEnd old) old.files.files) (sym (told_numbers fs)) found.finds.known)
+        (subst (λ (n : ℕ). (4294967294 < n + length (with_targets old.map (map found_told fs))) ⊎ ((t : TakenFile) × Contains (with_targets old.map (map found_told fs)) t × (4294967294 < target_length old.map t.file))) store.files.highest (lacks_told old.map old.files.highest fs found.each lacks))
+        (idle_settles old.map (H old.disk) (H new.disk) (F old.disk) (F new.disk) idle quiet)))
+
+-- The refusals of looking for files, by their cause.
+no_fault : (why : Refusal) → (why ≡ refusal.ReadFault → ⊥) → IsErrOf {T = Found} (Err why) refusal.ReadFault → ⊥
+no_fault why apart e = apart (let w : ◌≡◌ {A = Result Found Refusal} (Err why) (Err refusal.ReadFault) = e in let k : why ≡ refusal.ReadFault = cc w in k)
+
+pub find_refused_says : {D : Type 0} → (H : D → Option History) (F : D → Faults) (t : PurgeValue) (why : Refusal) (old new : StoreValue D) → t.stage ≡ stage.First → old.stopped ≡ false → IsStore (H old.disk) old → IsFindRefusal old (H old.disk) why → new ≡ record old { disk = new.disk } → IsIdle (H old.disk) (H new.disk)
+    → ReadFaultCounted (IsErrOf {T = Found} (Err why) refusal.ReadFault) (F old.disk) (F new.disk) → ((IsErrOf {T = Found} (Err why) refusal.ReadFault → ⊥) → NoFault (F old.disk) (F new.disk)) → IsPurgeStep t (came_to (Err why) (uncounted t)) (progress.Done (reply.Refused why)) old new (H old.disk) (H new.disk) (F old.disk) (F new.disk)
+find_refused_says {D = D} H F t refusal.NoMemory old new at runs store cause same idle fault quiet =
+    memory_says H F t (came_to (Err refusal.NoMemory) (uncounted t)) old.files.spare old.map_log.room old new at refl refl runs same (stays old.map_log.room) idle (quiet (no_fault refusal.NoMemory (λ e. let k : refusal.NoMemory ≡ refusal.ReadFault = e in cc k)))
+find_refused_says {D = D} H F t refusal.ReadFault old new at runs store cause same idle fault quiet =
+    unread_says H F t (came_to (Err refusal.ReadFault) (uncounted t)) old new at refl refl runs same idle (fault.rose refl) fault.reads fault.changes
+find_refused_says {D = D} H F t (refusal.StoreFull most) old new at runs store cause same idle fault quiet =
+    subst (λ (n : ℕ). IsPurgeStep t (came_to (Err (refusal.StoreFull n)) (uncounted t)) (progress.Done (reply.Refused (refusal.StoreFull n))) old new (H old.disk) (H new.disk) (F old.disk) (F new.disk)) (sym cause.0)
+    (full_says H F t (came_to (Err (refusal.StoreFull 4294967294)) (uncounted t)) cause.1.0 old new at refl refl runs store cause.1.1 cause.1.2 same idle (quiet (no_fault (refusal.StoreFull most) (λ e. let k : refusal.StoreFull most ≡ refusal.ReadFault = e in cc k))))
+find_refused_says {D = D} H F t why old new at runs store cause same idle fault quiet = absurd cause
+
+-- ---- how many files it takes
+
+rising_few : (ns : List ℕ) (low high : ℕ) → low ≤ high → AllPairs (λ a b. a < b) ns → All (λ n. low < n) ns → All (λ n. n ≤ high) ns → low + length ns ≤ high
+rising_few [] low high le rising above below = omega (arith, le)
+rising_few (n ∷ ns) low high le rising above below =
+    let l = All-head (λ k. low < k) n ns above in
+    let h = All-head (λ k. k ≤ high) n ns below in
+    let rest = rising_few ns n high h (pairs_tail (λ (a b : ℕ). a < b) n ns rising) (pairs_head (λ (a b : ℕ). a < b) n ns rising) (All-tail (λ k. k ≤ high) n ns below) in
+    omega (arith, l, rest)
+
+pub few_taken : {D : Type 0} → (history : Option History) (found : Found) (work now : Work) (disk : D) (spare room : ℕ) (old new : StoreValue D) → IsTakenFirst history found work now disk spare room old new → length (sources_left now) ≤ 4294967294
+few_taken history found work now disk spare room old new x =
+    let can : CanTakeAll (with_room disk spare room old) work.sources.items = can_take_all old (with_room disk spare room old) history found work x.found_is x.work_is refl refl x.spares in
+    let above : All (λ s. 0 < s.file.0) work.sources.items = λ i d lt. (let c = can.files i d lt in let one = x.store.files.numbered (get_or work.sources.items i d).file.0 c.f c.known in omega (arith, one)) in
+    let below : All (λ s. s.file.0 ≤ old.files.highest) work.sources.items = files_drawn (with_room disk spare room old) work.sources.items x.order.below can in
+    let few = rising_few (map (λ (s : Source). s.file.0) work.sources.items) 0 4294967294 (omega arith) (pairs_map (λ (a b : Source). a.file.0 < b.file.0) (λ (a b : ℕ). a < b) (λ (s : Source). s.file.0) (λ a b l. l) work.sources.items can.rising)
+        (all_map (λ (s : Source). 0 < s.file.0) (λ (n : ℕ). 0 < n) (λ (s : Source). s.file.0) (λ s l. l) work.sources.items above)
+        (all_map (λ (s : Source). s.file.0 ≤ old.files.highest) (λ (n : ℕ). n ≤ 4294967294) (λ (s : Source). s.file.0) (λ s l. let last = x.order.last in omega (arith, l, last)) work.sources.items below) in
+    let long = length-map work.sources.items (λ (s : Source). s.file.0) in
+    let given = given_long old.files.highest work.sources.items in
+    let left : length (sources_left now) ≡ length (targets_given old.files.highest work.sources.items) = ap (λ (ss : List Source). length ss) x.left in
+    omega (arith, few, long, given, left)
+
+-- ---- one call after another
+
+disk_taken : {D : Type 0} → (sources : List Source) (v new : StoreValue D) → new ≡ take_all sources v → new.disk ≡ v.disk
+disk_taken sources v new is = ap (λ (s : StoreValue _). s.disk) is ∙ ap (λ (s : StoreValue _). s.disk) (rest_all sources v)
+
+pub store_taken : {D : Type 0} → (sources : List Source) (old looked ready new : StoreValue D) → looked ≡ record old { disk = looked.disk } → ready ≡ record looked { files = record looked.files { spare = ready.files.spare }; map_log = record looked.map_log { room = ready.map_log.room } } → new ≡ take_all sources ready
+    → (new ≡ take_all sources (with_room new.disk ready.files.spare ready.map_log.room old)) × (new.disk ≡ looked.disk)
+store_taken sources old looked ready new same more is =
+    let disk : new.disk ≡ looked.disk = disk_taken sources ready new is ∙ ap (λ (s : StoreValue _). s.disk) more in
+    let room : ready ≡ with_room looked.disk ready.files.spare ready.map_log.room old = more ∙ ap (λ (s : StoreValue _). record s { files = record s.files { spare = ready.files.spare }; map_log = record s.map_log { room = ready.map_log.room } }) same in
+    (is ∙ (ap (take_all sources) room ∙ ap (λ (d : _). take_all sources (with_room d ready.files.spare ready.map_log.room old)) (sym disk)), disk)
+
+pub store_ready : {D : Type 0} → (old looked ready : StoreValue D) → looked ≡ record old { disk = looked.disk } → ready ≡ record looked { files = record looked.files { spare = ready.files.spare }; map_log = record looked.map_log { room = ready.map_log.room } } → (ready ≡ with_room ready.disk ready.files.spare ready.map_log.room old) × (ready.disk ≡ looked.disk)
+store_ready old looked ready same more =
+    let disk : ready.disk ≡ looked.disk = ap (λ (s : StoreValue _). s.disk) more in
+    let room : ready ≡ with_room looked.disk ready.files.spare ready.map_log.room old = more ∙ ap (λ (s : StoreValue _). record s { files = record s.files { spare = ready.files.spare }; map_log = record s.map_log { room = ready.map_log.room } }) same in
+    (room ∙ ap (λ (d : _). with_room d ready.files.spare ready.map_log.room old) (sym disk), disk)
+
+-- ---- how many messages one of them has at the most
+
+few_records : (m : MapMeaning) → IsSoundMap m → length m.records ≤ 4294967294
+few_records m sound =
+    let few = rising_few (map (λ (r : MapRecord). r.uid) m.records) 0 4294967294 (omega arith) (pairs_map (λ (a b : MapRecord). a.uid < b.uid) (λ (a b : ℕ). a < b) (λ (r : MapRecord). r.uid) (λ a b l. l) m.records sound.rising)
+        (all_map (IsSoundRecord m.highest.map) (λ (n : ℕ). 0 < n) (λ (r : MapRecord). r.uid) (λ r s. let l = s.uid.low in omega (arith, l)) m.records sound.records)
+        (all_map (IsSoundRecord m.highest.map) (λ (n : ℕ). n ≤ 4294967294) (λ (r : MapRecord). r.uid) (λ r s. s.uid.high) m.records sound.records) in
+    let long = length-map m.records (λ (r : MapRecord). r.uid) in
+    omega (arith, few, long)
+
+pub most_fits : {D : Type 0} → (history : Option History) (found : Found) (store : StoreValue D) → IsStore history store → HasFound store history found → found.most ≤ 4294967295
+most_fits history found store is has =
+    let few = few_records store.map (store_sound history store is) in
+    let most = greatest_fits (λ (f : FoundFile). f.messages) 4294967295 found.files.items (All-weaker (IsFoundFile store.map) (λ f. f.messages ≤ 4294967295) (λ f k. let e = k.messages in let l = count_by-le-length (λ (r : MapRecord). r.file == f.file.0) store.map.records in omega (arith, e, l, few)) found.files.items has.files.each) in
+    let e = has.most in
+    omega (arith, most, e)

@@ -44,7 +44,7 @@ use Rattle.purge_task.proofs.FirstLemmas.{IsBegunOf, first_allowed, first_comes,
 use Rattle.purge_task.proofs.PartLemmas.{goes_on_some}
 use Rattle.purge_task.proofs.RemovalLemmas.{LeavesSettled}
 
-abbrev taken_all : List Source → List TakenFile
+abbrev pub taken_all : List Source → List TakenFile
 taken_all sources = map told_taken sources
 
 -- ---- where it leads

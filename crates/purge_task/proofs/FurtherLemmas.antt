@@ -1,12 +1,16 @@
 -- Each event of a file leaves fewer events, and counts the file where it dooms or removes it.
-use Rattle.std.proofs.Common.{◌≡◌, ◌≢◌, ◌≤◌, ◌<◌, ◌+◌, ◌-◌, ◌*◌, ℕ, List, [], ◌∷◌, drop, length, refl, sym, ◌∙◌, ap, subst, arith, inl, inr}
+use Rattle.std.proofs.Common.{◌≡◌, ◌≢◌, ◌≤◌, ◌<◌, ◌+◌, ◌-◌, ◌*◌, ℕ, List, [], ◌∷◌, drop, length, Option, refl, sym, ◌∙◌, ap, subst, arith, inl, inr}
 use Rattle.std.specs.Prelude.{◌⊎◌, Contains}
 use Rattle.std.proofs.lemmas.List.Elements.{All-contains}
+use Rattle.disk_model.specs.Disk.{History}
+use Rattle.mdbox_base.specs.declared.ids.FileNo.{FileNo}
 use Rattle.map_rows.specs.declared.rows.MapRow.{MapRow}
 use Rattle.model_meaning.specs.MapMeaning.{MapMeaning, MapRecord}
 use Rattle.model_meaning.specs.Sound.{IsSoundMap, IsSoundRecord}
+use Rattle.store_core.specs.Value.{StoreValue}
 use Rattle.purge_task.specs.Claims.{sources_left}
 use Rattle.purge_task.specs.Copied.{IsNextWanted, NotesCopy}
+use Rattle.purge_task.specs.Keeping.{HasPurged, IsBeginningFirst, IsTargetFirst}
 use Rattle.purge_task.specs.Left.{IsFurther, events_before_instances, events_of_files, purge_files}
 use Rattle.purge_task.specs.Stages.{IsNextStage, went_on}
 use Rattle.purge_task.specs.declared.task.PurgeStage.{PurgeStage}
@@ -103,3 +107,10 @@ further_first work next to few =
     let files = c.0 in
     let events = c.1 in
     record { events = omega (arith, events, few); files = omega (arith, files, few) }
+
+pub target_further : {D : Type 0} → (work : Work) (target : FileNo) (store : StoreValue D) (history : Option History) → HasPurged (stage.Begin work) store history → IsTargetFirst (sources_left work) target → IsFurther 0 (stage.Begin work) (stage.Copying work)
+target_further work target store history h = by_left (sources_left work) refl h.2
+  where
+    by_left : (l : List Source) → sources_left work ≡ l → IsBeginningFirst l work store → IsTargetFirst l target → IsFurther 0 (stage.Begin work) (stage.Copying work)
+    by_left [] are begins none = absurd none
+    by_left (source ∷ left) are begins is = further_target work source left are begins.0

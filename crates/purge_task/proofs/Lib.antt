@@ -6,8 +6,11 @@ pub mod CleanLemmas
 pub mod ContentsLemmas
 pub mod CopiedMoreLemmas
 pub mod CopiedOctetsLemmas
+pub mod CopyCallLemmas
 pub mod CopyLemmas
+pub mod CopyRoomLemmas
 pub mod CopyStepLemmas
+pub mod CopyingLemmas
 pub mod DropLemmas
 pub mod EventLemmas
 pub mod FailLemmas
@@ -21,6 +24,7 @@ pub mod FirstStepLemmas
 pub mod FreeInstanceLemmas
 pub mod FullLemmas
 pub mod FurtherLemmas
+pub mod GivenBackLemmas
 pub mod GoneCallLemmas
 pub mod GoneLemmas
 pub mod HeaderLemmas
@@ -42,9 +46,14 @@ pub mod RunLemmas
 pub mod SameSeenLemmas
 pub mod StableLemmas
 pub mod StageLemmas
+pub mod StepLemmas
 pub mod StoppedLemmas
+pub mod SwitchCallLemmas
+pub mod SwitchClaimLemmas
+pub mod SwitchFileLemmas
 pub mod SwitchFitLemmas
 pub mod SwitchReadyLemmas
+pub mod SwitchRowLemmas
 pub mod SwitchSeenLemmas
 pub mod SwitchStepLemmas
 pub mod SwitchedLemmas
@@ -57,6 +66,7 @@ pub mod TargetCallLemmas
 pub mod TargetLeavingLemmas
 pub mod TargetLemmas
 pub mod TargetSeenLemmas
+pub mod UnreadCallLemmas
 pub mod WalkLemmas
 pub mod WithinCountLemmas
 pub mod WithinLemmas

@@ -146,7 +146,7 @@ ends_then old now new n a b first second =
     second ∙ ap (with_end n b new.disk new.stopped) first
     ∙ ap (λ (fs : List MailFile). record old { disk = new.disk; files = record old.files { files = fs }; stopped = new.stopped }) (ending_twice n a b old.files.files)
 
-file_as : (o : Option MailFile) (a : ℕ) → option_and_then (λ f. f.end) o ≡ Some a → (f : MailFile) × (o ≡ Some f)
+pub file_as : (o : Option MailFile) (a : ℕ) → option_and_then (λ f. f.end) o ≡ Some a → (f : MailFile) × (o ≡ Some f)
 file_as None a e = absurd (let w : None ≡ Some a = e in cc w)
 file_as (Some f) a e = (f, refl)
 

@@ -123,7 +123,7 @@ copied_still a b target offset row same c = record {
 moved_copies : (P : MapPlace → Type 0) (m : MapMeaning) (number : ℕ) (copied moved : List MapPlace) (dropped : List MapUid) → AreSwitchLists m number copied moved dropped → All P copied → All P moved
 moved_copies P m number copied moved dropped listed all = λ k d lt. All-contains P copied (get_or moved k d) all (listed.moved_copied k d lt).0
 
-copies_as : {D : Type 0} → (old mid : StoreValue D) (h k : Option History) (target : Option FileNo) (number : ℕ) (copied : List MapPlace) (dropped : List MapUid) (source : Source) (moved ps : List MapPlace) → moved ≡ ps → ReadsMail h k → AreSwitchLists old.map number copied moved dropped → copied ≡ source.copied.items → IsTargetWritten target source old h
+pub copies_as : {D : Type 0} → (old mid : StoreValue D) (h k : Option History) (target : Option FileNo) (number : ℕ) (copied : List MapPlace) (dropped : List MapUid) (source : Source) (moved ps : List MapPlace) → moved ≡ ps → ReadsMail h k → AreSwitchLists old.map number copied moved dropped → copied ≡ source.copied.items → IsTargetWritten target source old h
     → IfTold k (λ now. AreCopied (files_of now) old.map (target_named target ps) ps)
 copies_as old mid h k target number copied dropped source moved [] is reads listed same written = told_none k (target_named target [])
   where

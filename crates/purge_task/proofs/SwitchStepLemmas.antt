@@ -35,6 +35,7 @@ use Rattle.task_steps.proofs.SeenLemmas.{first_doomed, never_used, pinned_as}
 use Rattle.purge_task.specs.Claims.{sources_left}
 use Rattle.purge_task.specs.Clause.{PurgeSteps, around_purging, seen_by_purge}
 use Rattle.purge_task.specs.Keeping.{AreSourcesApart, PurgeValue}
+use Rattle.purge_task.specs.SwitchEvent.{IsBehindSwitch}
 use Rattle.purge_task.specs.Stages.{CopiesBehind, GoesOnBehind, HaveCopied, HaveTaken, IsAtPurge, IsAtPurgeStage, IsAtSwitched, IsLastOf, IsNextStage, IsPurging, RemovesBehind, told_taken, went_on}
 use Rattle.purge_task.specs.declared.task.PurgeStage.{PurgeStage}
 use Rattle.purge_task.specs.declared.task.PurgeStage.TheVariants as stage
@@ -134,11 +135,6 @@ pub record HasSwitched {D : Type 0} (source : Source) (target : ℕ) (moved : Li
   pub unused : may_be_used old source.file.0 ≡ false
   pub drawn : source.file.0 ≤ old.drawn.file
   pub within : All (λ s. records_within s.file.0 new.map ≡ records_within s.file.0 old.map) left
-
--- where it goes on to, by whether the file had a pin
-abbrev pub IsBehindSwitch : Bool → Work → PurgeStage → Type 0
-IsBehindSwitch true work next = next ≡ stage.Removing work
-IsBehindSwitch false work next = IsNextStage (went_on work) next
 
 never_some : {X : Type 0} → (x : X) → Some x ≡ None → ⊥
 never_some x e = cc e

@@ -20,7 +20,7 @@ use Rattle.store_core.specs.Keeping.{KeepsFirm, KeepsMail}
 use Rattle.store_core.specs.Value.{StoreValue}
 use Rattle.store_core.proofs.InstanceKeepingLemmas.{firm_both}
 use Rattle.store_core.proofs.KnownInstanceLemmas.{firm_same}
-use Rattle.purge_task.specs.Switched.{IsSwitchEntry, IsPlacingIn, IsSwitched, IsTargetWritten, KeepsTarget, ReadsMail, dropped_count, mid_of, files_switched, target_released, target_synced}
+use Rattle.purge_task.specs.Switched.{IsSwitchEntry, IsPlacingIn, IsSwitched, IsTargetWritten, KeepsButTarget, KeepsTarget, ReadsMail, dropped_count, mid_of, files_switched, target_released, target_synced}
 use Rattle.purge_task.specs.declared.switching.Switched.{Switched}
 use Rattle.purge_task.specs.declared.work.Source.{Source}
 use Rattle.purge_task.proofs.SwitchReadyLemmas.{synced_or}
@@ -53,6 +53,12 @@ read_same t a b synced others = (
 
 pub reads_synced : (t : ℕ) (h k : Option History) → Between (Synced t) h k → SameButFor (file.Mail t) h k → ReadsMail h k
 reads_synced t h k synced others = between-both (Synced t) (OthersSame t) ReadSame h k (read_same t) synced others
+
+pub kept_synced : (t : FileNo) (h k : Option History) → SameButFor (file.Mail t.0) h k → KeepsButTarget (Some t) h k
+kept_synced t h k others = between-map (OthersSame t.0) _ h k (λ a b r number apart. r (file.Mail number) (mail_apart number t.0 (λ e. apart (sym e)))) others
+
+pub begins_kept : (h : Option History) → KeepsButTarget None h h
+begins_kept h = between-begins _ h (λ disk number apart. refl)
 
 pub reads_begin : (h : Option History) → ReadsMail h h
 reads_begin h = between-begins ReadSame h (λ disk. ((λ n. refl), λ hash id. refl))
@@ -131,6 +137,9 @@ spared_still uid row target new last h k l stored third spared = record {
 
 pub reads_kept : (h k l : Option History) → ReadsMail h k → KeepsMail k l → ReadsMail h l
 reads_kept h k l first second = between-then ReadSame _ ReadSame h k l (λ a b c r s. ((λ n. ap reading (s.0 n) ∙ r.0 n), λ hash id. s.1 hash id ∙ r.1 hash id)) first second
+
+pub still_kept : (target : Option FileNo) (h k l : Option History) → KeepsButTarget target h k → KeepsMail k l → KeepsButTarget target h l
+still_kept target h k l first second = between-then _ _ _ h k l (λ a b c r s number apart. s.0 number ∙ r number apart) first second
 
 pub firm_still : {D : Type 0} → (target : Option FileNo) (old mid new last : StoreValue D) (h k l : Option History) → KeepsFirm old mid h k → KeepsFirm mid new k l → last ≡ record new { files = record new.files { files = target_released target new.files.files } } → KeepsFirm old last h l
 firm_still target old mid new last h k l first second third = firm_both old new last h l l (firm_both old mid new h k l first second) (firm_begins new last l (ap (λ (v : StoreValue _). v.instances) third) (ap (λ (v : StoreValue _). v.map) third))

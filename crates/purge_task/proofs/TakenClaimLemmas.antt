@@ -97,7 +97,7 @@ fresh_none n most files low = All-weaker (λ f. f.file.0 ≤ most) (λ f. f.file
 claim_one : Source → Claims
 claim_one s thing = claims_of_sources (s ∷ []) thing
 
-claims_cons : (s : Source) (rest : List Source) (thing : Thing) → claims_of_sources (s ∷ rest) thing ≡ claims_of_sources (s ∷ []) thing + claims_of_sources rest thing
+pub claims_cons : (s : Source) (rest : List Source) (thing : Thing) → claims_of_sources (s ∷ rest) thing ≡ claims_of_sources (s ∷ []) thing + claims_of_sources rest thing
 claims_cons s rest (Due uid) = refl
 claims_cons s rest (Pinned file) = refl
 claims_cons s rest (Taken file) =

@@ -80,7 +80,7 @@ given_push drawn (x ∷ xs) s =
     let sum : cond x.is_wanted (drawn + 1) drawn + count_by (λ o. o.is_wanted) xs ≡ drawn + count_by (λ o. o.is_wanted) (x ∷ xs) = omega (arith, count, next) in
     ap (λ (ys : List Source). with_target drawn x ∷ ys) (given_push (cond x.is_wanted (drawn + 1) drawn) xs s ∙ ap (λ (n : ℕ). targets_given (cond x.is_wanted (drawn + 1) drawn) xs ++ with_target n s ∷ []) sum)
 
-given_long : (drawn : ℕ) (xs : List Source) → length (targets_given drawn xs) ≡ length xs
+pub given_long : (drawn : ℕ) (xs : List Source) → length (targets_given drawn xs) ≡ length xs
 given_long drawn [] = refl
 given_long drawn (x ∷ xs) = let e = given_long (cond x.is_wanted (drawn + 1) drawn) xs in omega (arith, e)
 

@@ -1,5 +1,5 @@
 -- What a purge has behind its first event: the sources with their targets, ready to begin, in a store of which nothing else has changed.
-use Rattle.std.proofs.Common.{◌≡◌, ◌≢◌, ◌≤◌, ◌<◌, ◌+◌, ◌*◌, ◌==◌, ◌&&◌, ◌⊎◌, ℕ, Bool, true, false, cond, List, [], ◌∷◌, ◌++◌, length, map, get_or, fold, Option, Some, None, refl, sym, ◌∙◌, ap, subst, arith, All, inl, inr}
+use Rattle.std.proofs.Common.{◌≡◌, ◌≢◌, ◌≤◌, ◌<◌, ◌+◌, ◌*◌, ◌==◌, ◌&&◌, ◌||◌, ◌⊎◌, ℕ, Bool, true, false, cond, List, [], ◌∷◌, ◌++◌, length, map, get_or, fold, Option, Some, None, refl, sym, ◌∙◌, ap, subst, arith, All, inl, inr}
 use Rattle.std.specs.Prelude.{AllPairs, Contains, IfSome, count_by, filter, is_some, max, nat_le, nat_lt, sum_by, if◌then◌else◌, vec_capacity}
 use Rattle.std.specs.List.{AllZip, list_any}
 use Rattle.std.specs.Option.{option_and_then, option_map, option_map_or}
@@ -159,7 +159,7 @@ found_fit m fs ss z each short = zip_all (IsCounted m most) (FitsFound m most) f
 none_wanted : (m : MapMeaning) (file : ℕ) → list_any (is_copied_from file) m.records ≡ false → IsUnwanted m file
 none_wanted m file e = each m.records e
   where
-    or_false : (a b : Bool) → cond a true b ≡ false → (a ≡ false) × (b ≡ false)
+    or_false : (a b : Bool) → (a || b) ≡ false → (a ≡ false) × (b ≡ false)
     or_false true b k = absurd (cc k)
     or_false false b k = (refl, k)
 
@@ -210,7 +210,7 @@ targets_told m most n (s ∷ rest) h =
 
 wanted_step : (m : MapMeaning) (n : ℕ) (s : Source) (b : Bool) (rest : List TakenFile) (count : ℕ) → list_any (is_copied_from s.file.0) m.records ≡ b → count ≡ length (with_targets m rest) → cond b 1 0 + count ≡ length (with_targets m (told_taken (cond b (record s { target = Some (record { 0 = n + 1 }) }) s) ∷ rest))
 wanted_step m n s true rest count e same =
-    let k : length (with_targets m (told_taken (record s { target = Some (record { 0 = n + 1 }) }) ∷ rest)) ≡ length (with_targets m rest) + 1 = ap (λ (c : Bool). length (if c then told_taken (record s { target = Some (record { 0 = n + 1 }) }) ∷ with_targets m rest else with_targets m rest)) e in
+    let k : length (with_targets m (told_taken (record s { target = Some (record { 0 = n + 1 }) }) ∷ rest)) ≡ length (told_taken (record s { target = Some (record { 0 = n + 1 }) }) ∷ with_targets m rest) = ap (λ (c : Bool). length (if c then told_taken (record s { target = Some (record { 0 = n + 1 }) }) ∷ with_targets m rest else with_targets m rest)) e in
     omega (arith, k, same)
 wanted_step m n s false rest count e same =
     let k : length (with_targets m (told_taken s ∷ rest)) ≡ length (with_targets m rest) = ap (λ (c : Bool). length (if c then told_taken s ∷ with_targets m rest else with_targets m rest)) e in

@@ -114,7 +114,7 @@ unmade_unpinned t files u = ap (λ (o : Option MailFile). option_map_or (λ f. f
     by_pins zero is = refl
     by_pins (suc p) is = absurd (never_there u.f u.absent (u.used.pinned (omega (arith, is))))
 
-unmade_unplaced : (t : ℕ) (files : List MailFile) → IsUnmadeFile t files → place_begun_in t files ≡ None
+pub unmade_unplaced : (t : ℕ) (files : List MailFile) → IsUnmadeFile t files → place_begun_in t files ≡ None
 unmade_unplaced t files u = ap (λ (o : Option MailFile). option_and_then (λ f. f.begun) o) u.found ∙ by_begun u.f.begun refl
   where
     by_begun : (o : Option ℕ) → u.f.begun ≡ o → o ≡ None

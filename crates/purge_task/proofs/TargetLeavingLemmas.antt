@@ -75,17 +75,18 @@ file_stays number n disk files old before after apart known synced = record {
 stays : (n : ℕ) → n ≤ n
 stays n = omega arith
 
-file_still : {D : Type 0} → (number n : ℕ) (disk : D) (files : FilesValue) (old : StoreValue D) (before after : Option History) → number ≢ n → file_in number files.files ≡ file_in number old.files.files → Between (SyncsOthers n) before after → OnlyGrows number old (with_files disk files old) before after
-file_still number n disk files old before after apart known synced = record {
-  there = λ end is. (end, ap (λ (o : Option MailFile). option_and_then (λ f. f.end) o) known ∙ is, stays end);
+file_still : {D : Type 0} → (number n : ℕ) (disk : D) (files : FilesValue) (old : StoreValue D) (before after : Option History) → number ≢ n → end_in number files.files ≡ end_in number old.files.files → Between (SyncsOthers n) before after → OnlyGrows number old (with_files disk files old) before after
+file_still number n disk files old before after apart ends synced = record {
+  there = λ end is. (end, ends ∙ is, stays end);
   reads = between-map (SyncsOthers n) (λ a b. (octets : List ℕ) → reading (a (file.Mail number)) ≡ Some octets → (more : List ℕ) × (reading (b (file.Mail number)) ≡ Some (octets ++ more))) before after
       (λ a b s octets is. ([], synced_reads (a (file.Mail number)) (b (file.Mail number)) (s (file.Mail number) (mails_apart number n apart)) ∙ (is ∙ ap Some (sym (append-nil octets))))) synced;
 }
 
--- A file in which no record lies, and which no other task has taken. If it may only grow, it only grows.
-pub one_file_leaves : {D : Type 0} → (mine : Claims) (n : ℕ) (disk : D) (files : FilesValue) (old : StoreValue D) (before after : Option History) → AreElsewhere n old.map.records → (OthersTook mine old n → ⊥) → (MayOnlyGrow mine old n → OnlyGrows n old (with_files disk files old) before after)
-    → ((m : ℕ) → m ≢ n → file_in m files.files ≡ file_in m old.files.files) → Between (SyncsOthers n) before after → LeavesOthers mine old (with_files disk files old) before after
-one_file_leaves mine n disk files old before after elsewhere untaken grows known synced =
+-- A file changes in which no record lies, and which no other task has taken. If it may only grow, it only grows. Each other file ends where it
+-- did, and one that other tasks have taken is as it was.
+pub files_leave : {D : Type 0} → (mine : Claims) (n : ℕ) (disk : D) (files : FilesValue) (old : StoreValue D) (before after : Option History) → AreElsewhere n old.map.records → (OthersTook mine old n → ⊥) → (MayOnlyGrow mine old n → OnlyGrows n old (with_files disk files old) before after)
+    → ((m : ℕ) → m ≢ n → OthersTook mine old m → file_in m files.files ≡ file_in m old.files.files) → ((m : ℕ) → m ≢ n → end_in m files.files ≡ end_in m old.files.files) → Between (SyncsOthers n) before after → LeavesOthers mine old (with_files disk files old) before after
+files_leave mine n disk files old before after elsewhere untaken grows known ends synced =
     let new : StoreValue _ = with_files disk files old in
     let firm : KeepsFirm old new before after = firm_same old new before after refl refl (between-map (SyncsOthers n) SyncsInstances before after (λ a b s hash id. s (file.Inst hash id) (inst_apart n hash id)) synced) in
     let keeps : KeepsInstances old new before after = kept_same old new before after refl (between-map (SyncsOthers n) ReadsInstances before after (λ a b s hash id. synced_reads (a (file.Inst hash id)) (b (file.Inst hash id)) (s (file.Inst hash id) (inst_apart n hash id))) synced) firm in
@@ -94,11 +95,11 @@ one_file_leaves mine n disk files old before after elsewhere untaken grows known
       unlisted = λ uid row none found listed. (listed, refl);
       files = λ number took. elim (cases_eq number n) [
         | inl is ↦ absurd (untaken (subst (λ (i : ℕ). OthersTook mine old i) is took))
-        | inr apart ↦ file_stays number n disk files old before after apart (known number apart) synced
+        | inr apart ↦ file_stays number n disk files old before after apart (known number apart took) synced
       ];
       grow = λ number may. elim (cases_eq number n) [
         | inl is ↦ subst (λ (i : ℕ). OnlyGrows i old new before after) (sym is) (grows (subst (λ (i : ℕ). MayOnlyGrow mine old i) is may))
-        | inr apart ↦ file_still number n disk files old before after apart (known number apart) synced
+        | inr apart ↦ file_still number n disk files old before after apart (ends number apart) synced
       ];
       instances = λ row known more. instance_kept row old new before after keeps known;
       unraised = unraised_same old.map old.map refl;
@@ -111,3 +112,9 @@ one_file_leaves mine n disk files old before after elsewhere untaken grows known
       room = stays old.map_log.room;
       told = between-map (SyncsOthers n) (λ a b. Unit {0}) before after (λ a b s. tt) synced;
     }
+
+-- No other file changes.
+pub one_file_leaves : {D : Type 0} → (mine : Claims) (n : ℕ) (disk : D) (files : FilesValue) (old : StoreValue D) (before after : Option History) → AreElsewhere n old.map.records → (OthersTook mine old n → ⊥) → (MayOnlyGrow mine old n → OnlyGrows n old (with_files disk files old) before after)
+    → ((m : ℕ) → m ≢ n → file_in m files.files ≡ file_in m old.files.files) → Between (SyncsOthers n) before after → LeavesOthers mine old (with_files disk files old) before after
+one_file_leaves mine n disk files old before after elsewhere untaken grows known synced =
+    files_leave mine n disk files old before after elsewhere untaken grows (λ m apart took. known m apart) (λ m apart. ap (λ (o : Option MailFile). option_and_then (λ f. f.end) o) (known m apart)) synced

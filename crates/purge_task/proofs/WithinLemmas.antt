@@ -17,7 +17,7 @@ behind_first y ys x c = Contains-append_right (y ∷ []) ys x c
 first_of : {X : Type 0} → (x : X) (xs : List X) → Contains (x ∷ xs) x
 first_of x xs = All-head (λ (y : _). Contains (x ∷ xs) y) x xs (All-contains_itself (x ∷ xs))
 
-mapped_of : {X Y : Type 0} → (f : X → Y) (xs : List X) (x : X) → Contains xs x → Contains (map f xs) (f x)
+pub mapped_of : {X Y : Type 0} → (f : X → Y) (xs : List X) (x : X) → Contains xs x → Contains (map f xs) (f x)
 mapped_of f [] x c = absurd (none_contained x c)
 mapped_of f (y ∷ ys) x c = by_case (among y ys x c) (mapped_of f ys x)
   where

@@ -28,6 +28,11 @@ pub record IsNextWanted (m : MapMeaning) (file from : ℕ) (row : MapRow) : Type
   pub wanted : 1 ≤ r.count
   pub first : All (λ other. other.file ≡ file → from ≤ other.offset → 1 ≤ other.count → r.offset ≤ other.offset) m.records
 
+-- the message is the next wanted one of the present file
+abbrev pub IsNextWantedFirst : List Source → ℕ → MapMeaning → MapRow → Type 0
+IsNextWantedFirst [] from m row = ⊥
+IsNextWantedFirst (source ∷ left) from m row = IsNextWanted m source.file.0 from row
+
 -- there is none
 abbrev pub AreUnwantedFrom : MapMeaning → ℕ → ℕ → Type 0
 AreUnwantedFrom m file from = All (λ row. row.file ≡ file → from ≤ row.offset → row.count ≡ 0) m.records

@@ -17,7 +17,7 @@ use Rattle.store_core.specs.Removing.{AreElsewhere}
 use Rattle.store_core.specs.Value.{StoreValue}
 use Rattle.purge_task.specs.Claims.{sources_left}
 use Rattle.purge_task.specs.Found.{messages_in}
-use Rattle.purge_task.specs.Left.{purge_files}
+use Rattle.purge_task.specs.Left.{purge_files, purge_left}
 use Rattle.purge_task.specs.Reserved.{HasListRoom}
 use Rattle.purge_task.specs.declared.task.PurgeStage.{PurgeStage}
 use Rattle.purge_task.specs.declared.task.PurgeStage.TheVariants as stage
@@ -168,3 +168,7 @@ HasCountRoom t store = t.stage ≢ stage.First → HasLowCounts t store
 -- It is ready for its next event.
 abbrev pub IsReadyToPurge : {D : Type 0} → PurgeValue → StoreValue D → Option History → Type 0
 IsReadyToPurge t store history = HasPurged t.stage store history × HasCountRoom t store
+
+-- Behind an event that goes on, what it counts fits still, and fewer events are left.
+abbrev pub LeavesLess : {D : Type 0} → PurgeValue → PurgeValue → StoreValue D → StoreValue D → Type 0
+LeavesLess t next old new = HasLowCounts next new × (purge_left next.stage new < purge_left t.stage old)

@@ -7,5 +7,6 @@ pub mod Keeping
 pub mod Left
 pub mod Reserved
 pub mod Stages
+pub mod SwitchEvent
 pub mod Switched
 pub mod Taken

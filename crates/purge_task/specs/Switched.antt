@@ -1,7 +1,7 @@
 -- What the switch of a storage file asks, and what it leaves.
 use Rattle.std.specs.Prelude.{◌≡◌, ◌≢◌, ◌≤◌, ◌+◌, ◌*◌, ◌==◌, ℕ, true, List, [], ◌∷◌, length, map, All, AllPairs, Contains, Bool, false, nat_lt, vec_capacity, Option, Some, None}
 use Rattle.std.specs.List.{list_any}
-use Rattle.std.specs.Option.{option_map_or}
+use Rattle.std.specs.Option.{IfSome, option_map_or}
 use Rattle.std.specs.List.Sorted.{IsStrictlyIncreasing}
 use Rattle.disk_model.specs.Disk.{History, Between, IfTold, Keeps, MayLeave, reading}
 use Rattle.disk_model.specs.declared.name.FileName.TheVariants as file
@@ -196,3 +196,7 @@ pub record IsSwitched {D : Type 0} (source : Source) (switched : Switched) (old 
 -- each storage file and each instance reads as it did
 abbrev pub ReadsMail : Option History → Option History → Type 0
 ReadsMail = Between (λ a b. ((number : ℕ) → reading (b (file.Mail number)) ≡ reading (a (file.Mail number))) × ((hash id : List ℕ) → b (file.Inst hash id) ≡ a (file.Inst hash id)))
+
+-- each storage file but the target is as it was
+abbrev pub KeepsButTarget : Option FileNo → Option History → Option History → Type 0
+KeepsButTarget target = Between (λ a b. (number : ℕ) → IfSome target (λ t. t.0 ≢ number) → b (file.Mail number) ≡ a (file.Mail number))

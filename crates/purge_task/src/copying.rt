@@ -1,5 +1,6 @@
 // A message that is copied to a target.
-ghost use Rattle.std.specs.Prelude.{◌≡◌, ◌≢◌, ◌≤◌, ◌+◌, ◌⊎◌, ℕ, List, true, false, length, Some, IfSome, IfNone, IfErr, IsErr, OnOk};
+ghost use Rattle.std.specs.Prelude.{◌≡◌, ◌≢◌, ◌≤◌, ◌+◌, ◌==◌, ◌⊎◌, ℕ, List, true, false, length, Some, IfSome, IfNone, IfErr, IsErr, OnOk};
+ghost use Rattle.std.specs.List.{list_any};
 ghost use Rattle.disk_model.specs.Disk.{Between, Grows, IfTold, IsIdle, SameButFor, reading};
 ghost use Rattle.disk_model.specs.FaultCounts.{NoFault, ReadFaultCounted};
 ghost use Rattle.disk_model.specs.declared.name.FileName.TheVariants.{Mail};
@@ -21,6 +22,13 @@ use map_index::MapIndex;
 use map_rows::MapRow;
 use mdbox_base::{FileNo, Refusal};
 use store_core::Store;
+
+/// Whether a message lies in a file.
+pub fn has_message(map: &MapIndex, file: FileNo) -> bool
+    ensures { result ≡ list_any (λ row. row.file == file.0) map.now.meaning.records }
+{
+    map.in_file(file, 0).is_some()
+}
 
 /// The wanted message of a file with the least offset from this one on. None if and only if there is none.
 pub fn next_wanted(map: &MapIndex, file: FileNo, from: u32) -> Option<MapRow>

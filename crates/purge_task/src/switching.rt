@@ -1,5 +1,5 @@
 // The switch of a storage file: from then on the map names copies in place of its regions.
-ghost use Rattle.std.specs.Prelude.{◌≡◌, ◌≢◌, ◌≤◌, ◌<◌, ◌+◌, ◌*◌, ◌∷◌, ◌++◌, [], ℕ, List, true, false, length, AllPairs, vec_len, vec_capacity, ◌==◌, Some, IfSome, IfOk, IfErr, IsErr, OnOk, OnErr};
+ghost use Rattle.std.specs.Prelude.{◌≡◌, ◌≢◌, ◌≤◌, ◌<◌, ◌+◌, ◌*◌, ◌∷◌, ◌++◌, ◌⊎◌, [], ℕ, List, true, false, length, AllPairs, vec_len, vec_capacity, ◌==◌, Some, IfSome, IfOk, IfErr, IsErr, OnOk, OnErr};
 ghost use Rattle.disk_model.specs.Disk.{Grows};
 ghost use Rattle.disk_model.specs.FaultCounts.{NoFault, ChangeFaultCounted};
 ghost use Rattle.mdbox_base.specs.declared.replies.Refusal.TheVariants as refusal;
@@ -14,7 +14,7 @@ ghost use Rattle.storage_files.specs.Files.{changed_in, is_taken_in, made_doomed
 ghost use Rattle.store_core.specs.Keeping.{KeepsFirm, KeepsMail};
 ghost use Rattle.purge_task.specs.Claims.{sources_left};
 ghost use Rattle.purge_task.specs.Found.{messages_in};
-ghost use Rattle.purge_task.specs.Switched.{AreDropped, AreMoved, AreUnwanted, IsSwitchEntry, IsFirst, IsListable, IsSourceListed, IsPlacingIn, IsReadyAppend, IsReadyToSwitch, IsSwitched, KeepsTarget, ReadsMail, SpendsFirst, dropped_count, is_wanted_at, switch_entry, target_released, target_synced};
+ghost use Rattle.purge_task.specs.Switched.{AreDropped, AreMoved, AreUnwanted, IsSwitchEntry, IsFirst, IsListable, IsSourceListed, IsPlacingIn, IsReadyAppend, IsReadyToSwitch, IsSwitched, KeepsButTarget, KeepsTarget, ReadsMail, SpendsFirst, dropped_count, is_wanted_at, switch_entry, target_released, target_synced};
 ghost use Rattle.purge_task.specs.declared.work.Source.{Source as SourceValue};
 
 use crate::work::{Source, Work};
@@ -52,11 +52,13 @@ pub fn switch<D: Disk>(store: &mut Store<D>, work: &mut Work) -> Result<Switched
     ensures stored { OnOk result (KeepsStored (D.history store.old.disk) (D.history store.new.disk)) }
     ensures spared { OnOk result ((uid : ℕ) (row : MapRecord) → record_at store.old.map uid ≡ Some row → 1 ≤ row.count → IsSpared uid row store.new (D.history store.old.disk) (D.history store.new.disk)) }
     ensures others { OnOk result (ReadsMail (D.history store.old.disk) (D.history store.new.disk)) }
+    ensures kept { OnOk result ((source : SourceValue) (left : List SourceValue) → sources_left work.old ≡ source ∷ left → KeepsButTarget source.target (D.history store.old.disk) (D.history store.new.disk)) }
     ensures firm { OnOk result (KeepsFirm store.old store.new (D.history store.old.disk) (D.history store.new.disk)) }
     ensures room { store.old.map_log.room ≤ store.new.map_log.room }
     ensures mailboxes { store.new.map.boxes ≡ store.old.map.boxes }
     ensures refused { IfErr result (λ why. (why ≡ refusal.Stopped) × (store.new.stopped ≡ true)) }
     ensures err { OnErr result (store.new ≡ record store.old { disk = store.new.disk; map_log = store.new.map_log; files = store.new.files; stopped = true }) }
+    ensures stopped_files { store.new.stopped ≡ true → (source : SourceValue) (left : List SourceValue) → sources_left work.old ≡ source ∷ left → (store.new.files ≡ store.old.files) ⊎ (store.new.files ≡ record store.old.files { files = target_synced source.target store.old.files.files }) }
 
     // The lists of the file are spent. What is left behind it is as it was.
     ensures work { (source : SourceValue) (left : List SourceValue) → sources_left work.old ≡ source ∷ left → (spent : SourceValue) × (sources_left work.new ≡ spent ∷ left) × (spent.file ≡ source.file) × (spent.target ≡ source.target) }
@@ -91,6 +93,7 @@ fn sync_target<D: Disk>(store: &mut Store<D>, target: Option<FileNo>) -> Result<
     ensures mail_stays { MailIsKept store.old.map (D.history store.old.disk) (D.history store.new.disk) }
     ensures settled { OnOk result ((lists : Lists) → IsSettledFor lists (D.history store.old.disk) → IsSettledFor lists (D.history store.new.disk)) }
     ensures reads { OnOk result (ReadsMail (D.history store.old.disk) (D.history store.new.disk)) }
+    ensures kept { OnOk result (KeepsButTarget target (D.history store.old.disk) (D.history store.new.disk)) }
     ensures held { OnOk result (KeepsTarget target (D.history store.old.disk) (D.history store.new.disk)) }
     ensures stored { OnOk result (KeepsStored (D.history store.old.disk) (D.history store.new.disk)) }
     ensures firm { OnOk result (KeepsFirm store.old store.new (D.history store.old.disk) (D.history store.new.disk)) }

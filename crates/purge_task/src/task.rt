@@ -1,5 +1,5 @@
 // The task of a purge.
-ghost use Rattle.std.specs.Prelude.{◌≡◌, ◌≤◌, ◌<◌, ◌+◌, ◌↔◌, ℕ, List, length, true, false, Some, None};
+ghost use Rattle.std.specs.Prelude.{◌≡◌, ◌≤◌, ◌<◌, ◌+◌, ◌↔◌, ℕ, List, length, true, false, Some, None, IfOk};
 ghost use Rattle.disk_model.specs.Disk.{Grows};
 ghost use Rattle.journal.specs.Events.{Around};
 ghost use Rattle.mdbox_base.specs.Streams.{Rose};
@@ -16,14 +16,17 @@ ghost use Rattle.task_claims.specs.Claims.{ClaimsNothing, MovesClaims};
 ghost use Rattle.task_claims.specs.Leaving.{LeavesOthers};
 ghost use Rattle.purge_task.specs.Claims.{purge_claims, sources_left};
 ghost use Rattle.purge_task.specs.Clause.{IsPurgeStep, PurgeSteps, answer_of, at_stage, came_to, did_of_refusal};
-ghost use Rattle.purge_task.specs.Keeping.{HasCountRoom, HasPurged, IsBareFirst, IsTargetFirst, PurgeValue};
+ghost use Rattle.purge_task.specs.Keeping.{HasLowCounts, HasPurged, IsBareFirst, IsReadyToPurge, IsTargetFirst, LeavesLess, PurgeValue};
+ghost use Rattle.purge_task.specs.Left.{IsFurther, purge_left};
+ghost use Rattle.purge_task.specs.SwitchEvent.{answer_of_switch, came_by_switch};
 ghost use Rattle.purge_task.specs.Stages.{IsNextStage};
 ghost use Rattle.purge_task.specs.declared.task.PurgeStage.TheVariants as stage;
 
-use crate::copying::{copy_message, next_wanted};
-use crate::finding::Found;
-use crate::switching::switch;
-use crate::taking::{give_back, make_target, reserve, take_files};
+use crate::copy_event::copy_next;
+use crate::copying::{has_message, next_wanted};
+use crate::first_event::begin;
+use crate::switch_event::{SwitchedFile, switch_file};
+use crate::taking::make_target;
 use crate::work::Work;
 use disk_model::Disk;
 use mdbox_base::{Did, FileNo, Half, InstId, Progress, Refusal, Reply};
@@ -98,11 +101,11 @@ impl PurgeTask {
 
     /// Does the next event. A task that has given its reply begins anew; one that was stopped stays where it was.
     pub fn step<D: Disk>(&mut self, store: &mut Store<D>) -> Progress
-        // Unless the store is stopped, what it has taken, made and copied so far is so in the store, and on a disk that is modelled;
-        // and so it is afterwards, if it goes on.
-        requires ready { store.old.stopped ≡ false → HasPurged self.old.stage store.old (D.history store.old.disk) }
-        requires fits { store.old.stopped ≡ false → HasCountRoom self.old store.old }
-        ensures ready { result ≡ progress.More → store.new.stopped ≡ false → HasPurged self.new.stage store.new (D.history store.new.disk) }
+        // Unless the store is stopped, what it has taken, made and copied so far is so in the store, and on a disk that is modelled,
+        // and what it counts fits; and so it is afterwards, if it goes on. Then fewer events are left.
+        requires { store.old.stopped ≡ false → IsReadyToPurge self.old store.old (D.history store.old.disk) }
+        ensures ready { result ≡ progress.More → store.new.stopped ≡ false → IsReadyToPurge self.new store.new (D.history store.new.disk) }
+        ensures left { result ≡ progress.More → purge_left self.new.stage store.new < purge_left self.old.stage store.old }
 
         // Of every run that has come to the store, and whose requests use what is used in it: which event it was, of the files that the
         // first one finds, what it answered, and which crash images it leaves.
@@ -131,13 +134,33 @@ impl PurgeTask {
         if store.stopped() {
             return Progress::Done(Reply::Refused(Refusal::Stopped));
         }
-        let next = match mem::replace(&mut self.stage, PurgeStage::First) {
+        self.run(store)
+    }
+
+    /// Does the next event of a store that runs.
+    fn run<D: Disk>(&mut self, store: &mut Store<D>) -> Progress
+        requires running { store.old.stopped ≡ false }
+        requires ready { IsReadyToPurge self.old store.old (D.history store.old.disk) }
+        requires quiet { self.old.did ≡ did.Quiet }
+        ensures step { IsPurgeStep self.old self.new result store.old store.new (D.history store.old.disk) (D.history store.new.disk) (D.faults store.old.disk) (D.faults store.new.disk) }
+        ensures left { result ≡ progress.More → LeavesLess self.old self.new store.old store.new }
+    {
+        match mem::replace(&mut self.stage, PurgeStage::First) {
             PurgeStage::First => self.begin(store),
             PurgeStage::Begin(work) => self.begin_file(store, work),
             PurgeStage::Copying(work) => self.copy_or_switch(store, work),
-            PurgeStage::Removing(work) => remove_source(store, work),
-            PurgeStage::Instances => return self.remove_instance(store),
-        };
+            PurgeStage::Removing(work) => self.remove_switched(store, work),
+            PurgeStage::Instances => self.remove_instance(store),
+        }
+    }
+
+    /// Goes on to this stage, or replies why the purge is refused.
+    fn come_to(&mut self, next: Result<PurgeStage, Refusal>) -> Progress
+        requires first { self.old.stage ≡ stage.First }
+        requires quiet { self.old.did ≡ did.Quiet }
+        ensures task { self.new ≡ came_to next self.old }
+        ensures answer { result ≡ answer_of next }
+    {
         match next {
             Ok(stage) => {
                 self.stage = stage;
@@ -151,77 +174,120 @@ impl PurgeTask {
     }
 
     /// The first event: finds the files, takes the memory, and then takes the files.
-    fn begin<D: Disk>(&mut self, store: &mut Store<D>) -> Result<PurgeStage, Refusal> {
+    fn begin<D: Disk>(&mut self, store: &mut Store<D>) -> Progress
+        requires running { store.old.stopped ≡ false }
+        requires first { self.old.stage ≡ stage.First }
+        requires quiet { self.old.did ≡ did.Quiet }
+        ensures step { IsPurgeStep (at_stage stage.First self.old) self.new result store.old store.new (D.history store.old.disk) (D.history store.new.disk) (D.faults store.old.disk) (D.faults store.new.disk) }
+        ensures left { result ≡ progress.More → LeavesLess (at_stage stage.First self.old) self.new store.old store.new }
+    {
         self.done = PurgeTask::NOTHING;
-        let found = Found::of(store)?;
-        let mut work = reserve(store, &found).map_err(|_| Refusal::NoMemory)?;
-        take_files(store, &mut work.sources);
-        Ok(goes_on(work))
+        let next = begin(store);
+        self.come_to(next)
     }
 
-    /// The first event of a file.
-    fn begin_file<D: Disk>(
-        &mut self,
-        store: &mut Store<D>,
-        work: Work,
-    ) -> Result<PurgeStage, Refusal> {
+    /// The first event of a file: makes its target; or switches it, where nothing of it is wanted; or removes it, where no message
+    /// lies in it.
+    fn begin_file<D: Disk>(&mut self, store: &mut Store<D>, work: Work) -> Progress
+        requires running { store.old.stopped ≡ false }
+        requires ready { HasPurged (stage.Begin work) store.old (D.history store.old.disk) }
+        requires low { HasLowCounts (at_stage (stage.Begin work) self.old) store.old }
+        requires first { self.old.stage ≡ stage.First }
+        requires quiet { self.old.did ≡ did.Quiet }
+        ensures step { IsPurgeStep (at_stage (stage.Begin work) self.old) self.new result store.old store.new (D.history store.old.disk) (D.history store.new.disk) (D.faults store.old.disk) (D.faults store.new.disk) }
+        ensures left { result ≡ progress.More → LeavesLess (at_stage (stage.Begin work) self.old) self.new store.old store.new }
+    {
         let Some(source) = work.present() else {
             unreachable!()
         };
         if let Some(target) = source.target {
-            return begin_target(store, work, target);
+            let next = begin_target(store, work, target);
+            return self.come_to(next);
         }
-        if store.map().in_file(source.file, 0).is_some() {
-            self.switch(store, work)
+        if has_message(store.map(), source.file) {
+            let switched = switch_file(store, work);
+            self.come_by_switch(switched)
         } else {
             self.done.files += 1;
-            remove_bare(store, work)
+            let next = remove_bare(store, work);
+            self.come_to(next)
         }
     }
 
-    /// Copies the next message, or switches the file. A message that can't be read ends the purge, and all that it has taken is
-    /// given back.
-    fn copy_or_switch<D: Disk>(
-        &mut self,
-        store: &mut Store<D>,
-        work: Work,
-    ) -> Result<PurgeStage, Refusal> {
-        let mut work = work;
+    /// Copies the next message, or switches the file.
+    fn copy_or_switch<D: Disk>(&mut self, store: &mut Store<D>, work: Work) -> Progress
+        requires running { store.old.stopped ≡ false }
+        requires ready { HasPurged (stage.Copying work) store.old (D.history store.old.disk) }
+        requires low { HasLowCounts (at_stage (stage.Copying work) self.old) store.old }
+        requires first { self.old.stage ≡ stage.First }
+        requires quiet { self.old.did ≡ did.Quiet }
+        ensures step { IsPurgeStep (at_stage (stage.Copying work) self.old) self.new result store.old store.new (D.history store.old.disk) (D.history store.new.disk) (D.faults store.old.disk) (D.faults store.new.disk) }
+        ensures left { result ≡ progress.More → LeavesLess (at_stage (stage.Copying work) self.old) self.new store.old store.new }
+    {
         let Some(source) = work.present() else {
             unreachable!()
         };
-        let wanted = next_wanted(store.map(), source.file, work.from);
-        match (source.target, wanted) {
-            (Some(target), Some(row)) => match copy_message(store, &mut work, target, row) {
-                Ok(()) => Ok(PurgeStage::Copying(work)),
-                Err(why) => {
-                    give_back(store, work.left());
-                    Err(why)
-                }
-            },
-            _ => self.switch(store, work),
+        let Some(target) = source.target else {
+            unreachable!()
+        };
+        store.facts();
+        match next_wanted(store.map(), source.file, work.from) {
+            Some(row) => {
+                let next = copy_next(store, work, target, row);
+                self.come_to(next)
+            }
+            None => {
+                let switched = switch_file(store, work);
+                self.come_by_switch(switched)
+            }
         }
     }
 
-    fn switch<D: Disk>(&mut self, store: &mut Store<D>, work: Work) -> Result<PurgeStage, Refusal> {
-        let mut work = work;
-        let switched = switch(store, &mut work)?;
-        self.done.dropped += switched.dropped;
-        self.done.files += 1;
-        if switched.is_unpinned {
-            return Ok(PurgeStage::Removing(work));
+    /// Counts a file that was switched and what was dropped of it, and goes on.
+    fn come_by_switch(&mut self, switched: Result<SwitchedFile, Refusal>) -> Progress
+        requires first { self.old.stage ≡ stage.First }
+        requires quiet { self.old.did ≡ did.Quiet }
+        requires dropped { IfOk switched (λ s. self.old.dropped + s.dropped < 18446744073709551616) }
+        requires files { self.old.files < 18446744073709551615 }
+        ensures task { self.new ≡ came_by_switch switched self.old }
+        ensures answer { result ≡ answer_of_switch switched }
+    {
+        match switched {
+            Ok(switched) => {
+                self.done.dropped += switched.dropped;
+                self.done.files += 1;
+                self.stage = switched.next;
+                Progress::More
+            }
+            Err(why) => {
+                self.did = did_refused(&why);
+                Progress::Done(Reply::Refused(why))
+            }
         }
-        work.go_on();
-        Ok(goes_on(work))
+    }
+
+    /// Removes the present file, which was switched.
+    fn remove_switched<D: Disk>(&mut self, store: &mut Store<D>, work: Work) -> Progress
+        requires running { store.old.stopped ≡ false }
+        requires ready { HasPurged (stage.Removing work) store.old (D.history store.old.disk) }
+        requires low { HasLowCounts (at_stage (stage.Removing work) self.old) store.old }
+        requires first { self.old.stage ≡ stage.First }
+        requires quiet { self.old.did ≡ did.Quiet }
+        ensures step { IsPurgeStep (at_stage (stage.Removing work) self.old) self.new result store.old store.new (D.history store.old.disk) (D.history store.new.disk) (D.faults store.old.disk) (D.faults store.new.disk) }
+        ensures left { result ≡ progress.More → LeavesLess (at_stage (stage.Removing work) self.old) self.new store.old store.new }
+    {
+        let next = remove_source(store, work);
+        self.come_to(next)
     }
 
     /// Removes the next instance that nobody needs, or gives the reply.
     pub fn remove_instance<D: Disk>(&mut self, store: &mut Store<D>) -> Progress
         requires running { store.old.stopped ≡ false }
-        requires fits { self.old.instances < 18446744073709551615 }
+        requires low { HasLowCounts (at_stage stage.Instances self.old) store.old }
         requires first { self.old.stage ≡ stage.First }
         requires quiet { self.old.did ≡ did.Quiet }
-        ensures { IsPurgeStep (at_stage stage.Instances self.old) self.new result store.old store.new (D.history store.old.disk) (D.history store.new.disk) (D.faults store.old.disk) (D.faults store.new.disk) }
+        ensures step { IsPurgeStep (at_stage stage.Instances self.old) self.new result store.old store.new (D.history store.old.disk) (D.history store.new.disk) (D.faults store.old.disk) (D.faults store.new.disk) }
+        ensures left { result ≡ progress.More → LeavesLess (at_stage stage.Instances self.old) self.new store.old store.new }
     {
         store.facts();
         match store.next_useless(None) {
@@ -240,11 +306,12 @@ impl PurgeTask {
     /// Removes this instance, which is the next one that nobody needs.
     fn remove_useless<D: Disk>(&mut self, store: &mut Store<D>, id: InstId) -> Progress
         requires running { store.old.stopped ≡ false }
-        requires fits { self.old.instances < 18446744073709551615 }
+        requires low { HasLowCounts (at_stage stage.Instances self.old) store.old }
         requires first { self.old.stage ≡ stage.First }
         requires quiet { self.old.did ≡ did.Quiet }
         requires useless { useless_past None store.old.map store.old.instances.known ≡ Some id }
-        ensures { IsPurgeStep (at_stage stage.Instances self.old) self.new result store.old store.new (D.history store.old.disk) (D.history store.new.disk) (D.faults store.old.disk) (D.faults store.new.disk) }
+        ensures step { IsPurgeStep (at_stage stage.Instances self.old) self.new result store.old store.new (D.history store.old.disk) (D.history store.new.disk) (D.faults store.old.disk) (D.faults store.new.disk) }
+        ensures left { result ≡ progress.More → LeavesLess (at_stage stage.Instances self.old) self.new store.old store.new }
     {
         store.facts();
         known_id(id);
@@ -281,7 +348,8 @@ fn known_octets(octets: &[u8])
 pub fn remove_source<D: Disk>(store: &mut Store<D>, work: Work) -> Result<PurgeStage, Refusal>
     requires running { store.old.stopped ≡ false }
     requires ready { HasPurged (stage.Removing work) store.old (D.history store.old.disk) }
-    ensures { (t : PurgeValue) → t.stage ≡ stage.Removing work → IsPurgeStep t (came_to result t) (answer_of result) store.old store.new (D.history store.old.disk) (D.history store.new.disk) (D.faults store.old.disk) (D.faults store.new.disk) }
+    ensures step { (t : PurgeValue) → t.stage ≡ stage.Removing work → IsPurgeStep t (came_to result t) (answer_of result) store.old store.new (D.history store.old.disk) (D.history store.new.disk) (D.faults store.old.disk) (D.faults store.new.disk) }
+    ensures further { IfOk result (IsFurther 0 (stage.Removing work)) }
 {
     store.facts();
     let mut work = work;
@@ -306,7 +374,8 @@ fn begin_target<D: Disk>(
     requires running { store.old.stopped ≡ false }
     requires ready { HasPurged (stage.Begin work) store.old (D.history store.old.disk) }
     requires target { IsTargetFirst (sources_left work) target }
-    ensures { (t : PurgeValue) → t.stage ≡ stage.Begin work → IsPurgeStep t (came_to result t) (answer_of result) store.old store.new (D.history store.old.disk) (D.history store.new.disk) (D.faults store.old.disk) (D.faults store.new.disk) }
+    ensures step { (t : PurgeValue) → t.stage ≡ stage.Begin work → IsPurgeStep t (came_to result t) (answer_of result) store.old store.new (D.history store.old.disk) (D.history store.new.disk) (D.faults store.old.disk) (D.faults store.new.disk) }
+    ensures further { IfOk result (IsFurther 0 (stage.Begin work)) }
 {
     store.facts();
     match make_target(store, target) {
@@ -320,7 +389,8 @@ fn remove_bare<D: Disk>(store: &mut Store<D>, work: Work) -> Result<PurgeStage, 
     requires running { store.old.stopped ≡ false }
     requires ready { HasPurged (stage.Begin work) store.old (D.history store.old.disk) }
     requires bare { IsBareFirst (sources_left work) store.old.map }
-    ensures { (t : PurgeValue) → t.stage ≡ stage.Begin work → IsPurgeStep t (came_to result (record t { files = t.files + 1 })) (answer_of result) store.old store.new (D.history store.old.disk) (D.history store.new.disk) (D.faults store.old.disk) (D.faults store.new.disk) }
+    ensures step { (t : PurgeValue) → t.stage ≡ stage.Begin work → IsPurgeStep t (came_to result (record t { files = t.files + 1 })) (answer_of result) store.old store.new (D.history store.old.disk) (D.history store.new.disk) (D.faults store.old.disk) (D.faults store.new.disk) }
+    ensures further { IfOk result (IsFurther 1 (stage.Begin work)) }
 {
     store.facts();
     let mut work = work;

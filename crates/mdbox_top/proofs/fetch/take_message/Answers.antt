@@ -1,8 +1,8 @@
 use Rattle.std.proofs.Common.{refl, sym, ◌∙◌, ap, subst}
 use Rattle.mail_fetch.specs.Claims.{HasFetchRoom, IsReadyToFetch}
 use Rattle.mail_fetch.specs.Events.{FetchesNext}
-use Rattle.mail_fetch.proofs.StageLemmas.{used_doomed}
-use Rattle.mdbox_top.proofs.FetchLemmas.{IsFetching, FetchEvent, event_of, fetching_begins, fetching_on, room_on, runs_on, said_at_end, still_first, unpins_undoomed}
+use Rattle.mail_fetch.proofs.StageLemmas.{used_undoomed}
+use Rattle.mdbox_top.proofs.FetchLemmas.{IsFetching, FetchEvent, event_of, fetching_begins, fetching_on, room_on, runs_on, said_at_end, still_first}
 use Rattle.store_core.specs.Running.{IsStore}
 use Rattle.mdbox_top.proofs.fetch.take_message.Goals as goal
 
@@ -27,14 +27,14 @@ loop-reply-preserved g c =
     let now = c.loop-reply.invariant in
     let step = c.step.ensures in
     let runs = runs_on c.args.store.now c.loop-reply.store now.same c.requires.running in
-    let event = event_of g.D.Disk.history g.D.Disk.faults c.args.name c.args.uid c.args.store.now c.loop-reply.store c.step.new.store c.loop-reply.task c.step.new.self c.step.result now.name_is now.uid_is now.same
-    (record { reads = g.met.D.Disk.reads_image c.loop-reply.store.disk; does = λ around after. step.does around after (λ runs. unpins_undoomed c.loop-reply.task.stage c.loop-reply.store now.undoomed); firm = λ runs. (step.leaves runs).firm.stays; alone = step.alone }) in
-    let same = still_first c.args.store.now c.loop-reply.store c.step.new.store c.loop-reply.task.stage c.step.new.self.stage now.same step.alone.same in
+    let event = event_of g.D.Disk.history g.D.Disk.faults c.args.name c.args.uid c.args.store.now c.loop-reply.store c.step.new.store c.loop-reply.task c.step.new.self c.step.result now.name_is now.uid_is now.same now.undoomed now.so_far.knows
+    (record { reads = g.met.D.Disk.reads_image c.loop-reply.store.disk; does = step.does; firm = λ runs. (step.leaves runs).firm.stays; alone = step.alone }) in
+    let same = still_first c.args.name c.args.uid.0 c.args.store.now c.loop-reply.store c.step.new.store c.loop-reply.task.stage c.step.new.self.stage (g.D.Disk.history c.loop-reply.store.disk) now.so_far.knows now.same step.alone.same in
     record {
       name_is = step.request.0 ∙ now.name_is;
       uid_is = step.request.1 ∙ now.uid_is;
       same = same;
-      undoomed = λ file. used_doomed c.loop-reply.task.stage c.step.new.self.stage c.loop-reply.store c.step.new.store file step.alone.same ∙ now.undoomed file;
+      undoomed = λ file. used_undoomed c.loop-reply.task.stage c.step.new.self.stage c.loop-reply.store c.step.new.store file step.alone.same (now.undoomed file);
       ready = step.alone.ready (runs_on c.args.store.now c.step.new.store same c.requires.running);
       room = room_on c.loop-reply.task.name c.loop-reply.task.uid.0 c.loop-reply.task.stage c.step.new.self.stage c.loop-reply.store c.step.new.store (g.D.Disk.history c.loop-reply.store.disk) (g.D.Disk.faults c.loop-reply.store.disk) (g.D.Disk.faults c.step.new.store.disk) runs
           (subst (λ a. FetchesNext c.loop-reply.task.name c.loop-reply.task.uid.0 c.loop-reply.task.stage c.step.new.self.stage a c.loop-reply.store (g.D.Disk.history c.loop-reply.store.disk) (g.D.Disk.faults c.loop-reply.store.disk) (g.D.Disk.faults c.step.new.store.disk)) c.in_default.is step.alone.replies);
@@ -47,9 +47,9 @@ pub returns-in-Done-clause-refused : goal.returns-in-Done-clause-refused
 returns-in-Done-clause-refused g c =
     let now = c.loop-reply.invariant in
     let step = c.step.ensures in
-    let same = still_first c.args.store.now c.loop-reply.store c.step.new.store c.loop-reply.task.stage c.step.new.self.stage now.same step.alone.same in
-    let event = event_of g.D.Disk.history g.D.Disk.faults c.args.name c.args.uid c.args.store.now c.loop-reply.store c.step.new.store c.loop-reply.task c.step.new.self c.step.result now.name_is now.uid_is now.same
-    (record { reads = g.met.D.Disk.reads_image c.loop-reply.store.disk; does = λ around after. step.does around after (λ runs. unpins_undoomed c.loop-reply.task.stage c.loop-reply.store now.undoomed); firm = λ runs. (step.leaves runs).firm.stays; alone = step.alone }) in
+    let same = still_first c.args.name c.args.uid.0 c.args.store.now c.loop-reply.store c.step.new.store c.loop-reply.task.stage c.step.new.self.stage (g.D.Disk.history c.loop-reply.store.disk) now.so_far.knows now.same step.alone.same in
+    let event = event_of g.D.Disk.history g.D.Disk.faults c.args.name c.args.uid c.args.store.now c.loop-reply.store c.step.new.store c.loop-reply.task c.step.new.self c.step.result now.name_is now.uid_is now.same now.undoomed now.so_far.knows
+    (record { reads = g.met.D.Disk.reads_image c.loop-reply.store.disk; does = step.does; firm = λ runs. (step.leaves runs).firm.stays; alone = step.alone }) in
     let said = said_at_end g.D.Disk.history g.D.Disk.faults c.args.name c.args.uid c.args.store.now c.loop-reply.store c.step.new.store c.loop-reply.task.stage c.step.new.self.stage c.step.new.self.did c.step.result c.in-Done.reply c.in-Done.is c.requires.running now.so_far event
     (subst (λ v. IsStore (g.D.Disk.history c.loop-reply.store.disk) v) now.same c.facts.ensures.store) (subst (λ v. IsStore (g.D.Disk.history c.step.new.store.disk) v) same c.facts-in-Done.ensures.store) in
     said.refused
@@ -58,9 +58,9 @@ pub returns-in-Done-clause-found : goal.returns-in-Done-clause-found
 returns-in-Done-clause-found g c =
     let now = c.loop-reply.invariant in
     let step = c.step.ensures in
-    let same = still_first c.args.store.now c.loop-reply.store c.step.new.store c.loop-reply.task.stage c.step.new.self.stage now.same step.alone.same in
-    let event = event_of g.D.Disk.history g.D.Disk.faults c.args.name c.args.uid c.args.store.now c.loop-reply.store c.step.new.store c.loop-reply.task c.step.new.self c.step.result now.name_is now.uid_is now.same
-    (record { reads = g.met.D.Disk.reads_image c.loop-reply.store.disk; does = λ around after. step.does around after (λ runs. unpins_undoomed c.loop-reply.task.stage c.loop-reply.store now.undoomed); firm = λ runs. (step.leaves runs).firm.stays; alone = step.alone }) in
+    let same = still_first c.args.name c.args.uid.0 c.args.store.now c.loop-reply.store c.step.new.store c.loop-reply.task.stage c.step.new.self.stage (g.D.Disk.history c.loop-reply.store.disk) now.so_far.knows now.same step.alone.same in
+    let event = event_of g.D.Disk.history g.D.Disk.faults c.args.name c.args.uid c.args.store.now c.loop-reply.store c.step.new.store c.loop-reply.task c.step.new.self c.step.result now.name_is now.uid_is now.same now.undoomed now.so_far.knows
+    (record { reads = g.met.D.Disk.reads_image c.loop-reply.store.disk; does = step.does; firm = λ runs. (step.leaves runs).firm.stays; alone = step.alone }) in
     let said = said_at_end g.D.Disk.history g.D.Disk.faults c.args.name c.args.uid c.args.store.now c.loop-reply.store c.step.new.store c.loop-reply.task.stage c.step.new.self.stage c.step.new.self.did c.step.result c.in-Done.reply c.in-Done.is c.requires.running now.so_far event
     (subst (λ v. IsStore (g.D.Disk.history c.loop-reply.store.disk) v) now.same c.facts.ensures.store) (subst (λ v. IsStore (g.D.Disk.history c.step.new.store.disk) v) same c.facts-in-Done.ensures.store) in
     said.found
@@ -69,9 +69,9 @@ pub returns-in-Done-clause-served : goal.returns-in-Done-clause-served
 returns-in-Done-clause-served g c =
     let now = c.loop-reply.invariant in
     let step = c.step.ensures in
-    let same = still_first c.args.store.now c.loop-reply.store c.step.new.store c.loop-reply.task.stage c.step.new.self.stage now.same step.alone.same in
-    let event = event_of g.D.Disk.history g.D.Disk.faults c.args.name c.args.uid c.args.store.now c.loop-reply.store c.step.new.store c.loop-reply.task c.step.new.self c.step.result now.name_is now.uid_is now.same
-    (record { reads = g.met.D.Disk.reads_image c.loop-reply.store.disk; does = λ around after. step.does around after (λ runs. unpins_undoomed c.loop-reply.task.stage c.loop-reply.store now.undoomed); firm = λ runs. (step.leaves runs).firm.stays; alone = step.alone }) in
+    let same = still_first c.args.name c.args.uid.0 c.args.store.now c.loop-reply.store c.step.new.store c.loop-reply.task.stage c.step.new.self.stage (g.D.Disk.history c.loop-reply.store.disk) now.so_far.knows now.same step.alone.same in
+    let event = event_of g.D.Disk.history g.D.Disk.faults c.args.name c.args.uid c.args.store.now c.loop-reply.store c.step.new.store c.loop-reply.task c.step.new.self c.step.result now.name_is now.uid_is now.same now.undoomed now.so_far.knows
+    (record { reads = g.met.D.Disk.reads_image c.loop-reply.store.disk; does = step.does; firm = λ runs. (step.leaves runs).firm.stays; alone = step.alone }) in
     let said = said_at_end g.D.Disk.history g.D.Disk.faults c.args.name c.args.uid c.args.store.now c.loop-reply.store c.step.new.store c.loop-reply.task.stage c.step.new.self.stage c.step.new.self.did c.step.result c.in-Done.reply c.in-Done.is c.requires.running now.so_far event
     (subst (λ v. IsStore (g.D.Disk.history c.loop-reply.store.disk) v) now.same c.facts.ensures.store) (subst (λ v. IsStore (g.D.Disk.history c.step.new.store.disk) v) same c.facts-in-Done.ensures.store) in
     said.served
@@ -80,9 +80,9 @@ pub returns-in-Done-clause-idle : goal.returns-in-Done-clause-idle
 returns-in-Done-clause-idle g c =
     let now = c.loop-reply.invariant in
     let step = c.step.ensures in
-    let same = still_first c.args.store.now c.loop-reply.store c.step.new.store c.loop-reply.task.stage c.step.new.self.stage now.same step.alone.same in
-    let event = event_of g.D.Disk.history g.D.Disk.faults c.args.name c.args.uid c.args.store.now c.loop-reply.store c.step.new.store c.loop-reply.task c.step.new.self c.step.result now.name_is now.uid_is now.same
-    (record { reads = g.met.D.Disk.reads_image c.loop-reply.store.disk; does = λ around after. step.does around after (λ runs. unpins_undoomed c.loop-reply.task.stage c.loop-reply.store now.undoomed); firm = λ runs. (step.leaves runs).firm.stays; alone = step.alone }) in
+    let same = still_first c.args.name c.args.uid.0 c.args.store.now c.loop-reply.store c.step.new.store c.loop-reply.task.stage c.step.new.self.stage (g.D.Disk.history c.loop-reply.store.disk) now.so_far.knows now.same step.alone.same in
+    let event = event_of g.D.Disk.history g.D.Disk.faults c.args.name c.args.uid c.args.store.now c.loop-reply.store c.step.new.store c.loop-reply.task c.step.new.self c.step.result now.name_is now.uid_is now.same now.undoomed now.so_far.knows
+    (record { reads = g.met.D.Disk.reads_image c.loop-reply.store.disk; does = step.does; firm = λ runs. (step.leaves runs).firm.stays; alone = step.alone }) in
     let said = said_at_end g.D.Disk.history g.D.Disk.faults c.args.name c.args.uid c.args.store.now c.loop-reply.store c.step.new.store c.loop-reply.task.stage c.step.new.self.stage c.step.new.self.did c.step.result c.in-Done.reply c.in-Done.is c.requires.running now.so_far event
     (subst (λ v. IsStore (g.D.Disk.history c.loop-reply.store.disk) v) now.same c.facts.ensures.store) (subst (λ v. IsStore (g.D.Disk.history c.step.new.store.disk) v) same c.facts-in-Done.ensures.store) in
     said.idle
@@ -91,15 +91,15 @@ pub returns-in-Done-clause-faults : goal.returns-in-Done-clause-faults
 returns-in-Done-clause-faults g c =
     let now = c.loop-reply.invariant in
     let step = c.step.ensures in
-    let same = still_first c.args.store.now c.loop-reply.store c.step.new.store c.loop-reply.task.stage c.step.new.self.stage now.same step.alone.same in
-    let event = event_of g.D.Disk.history g.D.Disk.faults c.args.name c.args.uid c.args.store.now c.loop-reply.store c.step.new.store c.loop-reply.task c.step.new.self c.step.result now.name_is now.uid_is now.same
-    (record { reads = g.met.D.Disk.reads_image c.loop-reply.store.disk; does = λ around after. step.does around after (λ runs. unpins_undoomed c.loop-reply.task.stage c.loop-reply.store now.undoomed); firm = λ runs. (step.leaves runs).firm.stays; alone = step.alone }) in
+    let same = still_first c.args.name c.args.uid.0 c.args.store.now c.loop-reply.store c.step.new.store c.loop-reply.task.stage c.step.new.self.stage (g.D.Disk.history c.loop-reply.store.disk) now.so_far.knows now.same step.alone.same in
+    let event = event_of g.D.Disk.history g.D.Disk.faults c.args.name c.args.uid c.args.store.now c.loop-reply.store c.step.new.store c.loop-reply.task c.step.new.self c.step.result now.name_is now.uid_is now.same now.undoomed now.so_far.knows
+    (record { reads = g.met.D.Disk.reads_image c.loop-reply.store.disk; does = step.does; firm = λ runs. (step.leaves runs).firm.stays; alone = step.alone }) in
     let said = said_at_end g.D.Disk.history g.D.Disk.faults c.args.name c.args.uid c.args.store.now c.loop-reply.store c.step.new.store c.loop-reply.task.stage c.step.new.self.stage c.step.new.self.did c.step.result c.in-Done.reply c.in-Done.is c.requires.running now.so_far event
     (subst (λ v. IsStore (g.D.Disk.history c.loop-reply.store.disk) v) now.same c.facts.ensures.store) (subst (λ v. IsStore (g.D.Disk.history c.step.new.store.disk) v) same c.facts-in-Done.ensures.store) in
     said.faults_are
 
 pub returns-in-Done-clause-same : goal.returns-in-Done-clause-same
-returns-in-Done-clause-same g c = still_first c.args.store.now c.loop-reply.store c.step.new.store c.loop-reply.task.stage c.step.new.self.stage c.loop-reply.invariant.same c.step.ensures.alone.same
+returns-in-Done-clause-same g c = still_first c.args.name c.args.uid.0 c.args.store.now c.loop-reply.store c.step.new.store c.loop-reply.task.stage c.step.new.self.stage (g.D.Disk.history c.loop-reply.store.disk) c.loop-reply.invariant.so_far.knows c.loop-reply.invariant.same c.step.ensures.alone.same
 
 pub loop-reply-smaller : goal.loop-reply-smaller
 loop-reply-smaller g c = c.step.ensures.left c.in_default.is

@@ -1,39 +1,69 @@
-use Rattle.std.proofs.Common.{rules, ◌≡◌, ◌≤◌, length, false, IsTrue, IfOk, OnOk, ℕ, ◌+◌, ◌-◌, ◌*◌, ◌<◌, ◌/◌, ◌%◌, Bool, true, nat_eq, nat_lt, List, [], ◌∷◌, ◌++◌, slice_index_or, slice_set, bit_and, bit_or, Fits, w8, w32, w64, Bor, MutBor}
-use Rattle.purge_task.specs.Clause.{IsPurgeStep, answer_of, came_to, uncounted}
-use Rattle.purge_task.specs.Keeping.{PurgeValue}
-use Rattle.purge_task.specs.Left.{IsFurther}
-use Rattle.purge_task.specs.declared.task.PurgeStage.TheVariants as stage
+use Rattle.std.proofs.Common.{◌≡◌, List, refl, sym, ap, subst, arith}
+use Rattle.std.proofs.lemmas.Result.{err_from_is_err_and}
+use Rattle.disk_model.specs.Disk.{IsIdle}
+use Rattle.disk_model.specs.FaultCounts.{NoFault}
+use Rattle.disk_model.proofs.IdleLemmas.{idle-begins}
+use Rattle.store_core.specs.Value.{StoreValue}
+use Rattle.purge_task.specs.Taken.{CanTakeAll, take_all}
+use Rattle.purge_task.specs.declared.work.Source.{Source}
+use Rattle.purge_task.proofs.FirstCallLemmas.{few_taken, find_refused_says, memory_says, most_fits, store_ready, store_taken, taken_says}
+use Rattle.purge_task.proofs.FurtherLemmas.{further_first}
+use Rattle.purge_task.proofs.TakeableLemmas.{can_take_all}
 use Rattle.purge_task.proofs.first_event.begin.Goals as goal
 
--- src/first_event.rt:28:9
 pub returns-then-not-has_few_instances-clause-step :
     goal.returns-then-not-has_few_instances-clause-step
-returns-then-not-has_few_instances-clause-step g c = ?
+returns-then-not-has_few_instances-clause-step g c t at =
+    memory_says g.D.Disk.history g.D.Disk.faults t _ c.args.store.now.files.spare c.args.store.now.map_log.room c.args.store.now c.args.store.now at refl refl c.requires refl (omega arith) (idle-begins (g.D.Disk.history c.args.store.now.disk)) refl
 
--- src/first_event.rt:30:17
 pub returns-in_err-found-clause-step : goal.returns-in_err-found-clause-step
-returns-in_err-found-clause-step g c = ?
+returns-in_err-found-clause-step g c t at =
+    let p = err_from_is_err_and c.from_residual.result c.from_residual.ensures.1 in
+    rw (p.1, p.2) (find_refused_says g.D.Disk.history g.D.Disk.faults t c.in_err-found.field-0.0 c.args.store.now c.of.new.store at c.requires c.facts.ensures.store c.in_err-found.ensures.refused c.in_err-found.ensures.same c.in_err-found.ensures.idle c.in_err-found.ensures.fault c.in_err-found.ensures.unfailed)
 
--- src/first_event.rt:31:26
 pub reserve-requires : goal.reserve-requires
-reserve-requires g c = ?
+reserve-requires g c = most_fits (g.D.Disk.history c.args.store.now.disk) c.in_ok-found.found c.args.store.now c.facts.ensures.store c.in_ok-found.ensures.found
 
--- src/first_event.rt:33:19
 pub returns-in-Err-clause-step : goal.returns-in-Err-clause-step
-returns-in-Err-clause-step g c = ?
+returns-in-Err-clause-step g c t at =
+    let ready = store_ready c.args.store.now c.of.new.store c.reserve.new.store c.in_ok-found.ensures.same c.reserve.ensures.same in
+    let room = ap (λ (s : StoreValue _). s.map_log.room) c.in_ok-found.ensures.same in
+    let more = c.reserve.ensures.no_less.1 in
+    memory_says g.D.Disk.history g.D.Disk.faults t _ c.reserve.new.store.files.spare c.reserve.new.store.map_log.room c.args.store.now c.reserve.new.store at refl refl c.requires ready.0 (omega (arith, room, more))
+    (subst (λ d. IsIdle (g.D.Disk.history c.args.store.now.disk) (g.D.Disk.history d)) (sym ready.1) c.in_ok-found.ensures.idle)
+    (subst (λ d. NoFault (g.D.Disk.faults c.args.store.now.disk) (g.D.Disk.faults d)) (sym ready.1) (c.in_ok-found.ensures.unfailed (λ e. cc e)))
 
--- src/first_event.rt:35:5
 pub take_files-requires : goal.take_files-requires
-take_files-requires g c = ?
+take_files-requires g c =
+    let ready = store_ready c.args.store.now c.of.new.store c.reserve.new.store c.in_ok-found.ensures.same c.reserve.ensures.same in
+    subst (λ (ss : List Source). CanTakeAll c.reserve.new.store ss) (sym c.deref_mut.ensures.value)
+    (can_take_all c.args.store.now c.reserve.new.store (g.D.Disk.history c.args.store.now.disk) c.in_ok-found.found c.in-Ok.work c.in_ok-found.ensures.found c.in-Ok.ensures.work (ap (λ (s : StoreValue _). s.files.files) ready.0) (ap (λ (s : StoreValue _). s.files.highest) ready.0) c.in-Ok.ensures.spare)
 
--- src/first_event.rt:19:1
 pub returns-clause-step : goal.returns-clause-step
-returns-clause-step g c = ?
+returns-clause-step g c t at =
+    let store = store_taken c.in-Ok.work.sources.items c.args.store.now c.of.new.store c.reserve.new.store c.take_files.new.store c.in_ok-found.ensures.same c.reserve.ensures.same (subst (λ (ss : List Source). c.take_files.new.store ≡ take_all ss c.reserve.new.store) c.deref_mut.ensures.value c.take_files.ensures.store) in
+    let room = ap (λ (s : StoreValue _). s.map_log.room) c.in_ok-found.ensures.same in
+    let more = c.reserve.ensures.no_less.1 in
+    taken_says g.D.Disk.history g.D.Disk.faults t _ c.in_ok-found.found c.in-Ok.work _ c.reserve.new.store.files.spare c.reserve.new.store.map_log.room c.args.store.now c.take_files.new.store at c.goes_on.ensures refl refl refl refl c.requires
+    (record {
+      store = c.facts.ensures.store;
+      order = c.facts.ensures.files;
+      found_is = c.in_ok-found.ensures.found;
+      work_is = c.in-Ok.ensures.work;
+      spares = c.in-Ok.ensures.spare;
+      log = c.in-Ok.ensures.room;
+      more = omega (arith, room, more);
+      is = store.0;
+      left = ?;
+      from = ?;
+      text = ?;
+      block = ?;
+    })
+    (subst (λ d. IsIdle (g.D.Disk.history c.args.store.now.disk) (g.D.Disk.history d)) (sym store.1) c.in_ok-found.ensures.idle)
+    (subst (λ d. NoFault (g.D.Disk.faults c.args.store.now.disk) (g.D.Disk.faults d)) (sym store.1) (c.in_ok-found.ensures.unfailed (λ e. cc e)))
 
--- src/first_event.rt:19:1
 pub returns-clause-further : goal.returns-clause-further
 returns-clause-further g c = ?
 
--- src/first_event.rt:19:1
 pub returns-clause-few : goal.returns-clause-few
 returns-clause-few g c = ?

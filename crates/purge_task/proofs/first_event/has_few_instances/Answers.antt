@@ -9,10 +9,22 @@ pub overflow_add-count : goal.overflow_add-count
 overflow_add-count g c = let l = c.loop-id.invariant.few in omega (arith, l)
 
 pub loop-id-smaller : goal.loop-id-smaller
-loop-id-smaller g c = ?
+loop-id-smaller g c =
+    let few = c.loop-id.invariant.few in
+    let apart = c.if-count.false in
+    omega (arith, few, apart)
 
 pub loop-id-preserved : goal.loop-id-preserved
-loop-id-preserved g c = ?
+loop-id-preserved g c =
+    let few = c.loop-id.invariant.few in
+    let apart = c.if-count.false in
+    record {
+      few = omega (arith, few, apart);
+      passed = one_passed c.loop-id.last c.loop-id.count c.args.store.now.instances.known c.in-Some.id c.facts.ensures.ids.rising c.loop-id.invariant.passed (sym c.next_instance.ensures ∙ c.in-Some.is);
+    }
 
 pub returns : goal.returns
-returns g c = ?
+returns g c yes =
+    let few = c.loop-id.invariant.few in
+    let all = all_passed c.loop-id.last c.loop-id.count c.args.store.now.instances.known c.loop-id.invariant.passed (sym c.next_instance.ensures ∙ c.in_default.is) in
+    omega (arith, few, all)

@@ -1,4 +1,4 @@
-use Rattle.std.proofs.Common.{◌≡◌, ◌∙◌, ◌==◌, Option, length, sym, subst, ap, arith}
+use Rattle.std.proofs.Common.{◌≡◌, ◌∙◌, ◌==◌, inl, inr, Option, length, sym, subst, ap, arith}
 use Rattle.mdbox_base.specs.declared.ids.FileNo.{FileNo}
 use Rattle.model_kept.proofs.KeptLemmas.{kept_then}
 use Rattle.model_kept.specs.Kept.{MailIsKept}
@@ -11,13 +11,14 @@ use Rattle.store_core.specs.Keeping.{KeepsFirm}
 use Rattle.store_core.specs.Value.{StoreValue}
 use Rattle.store_core.proofs.BoxAppendLemmas.{store_sound}
 use Rattle.purge_task.specs.Claims.{sources_left}
-use Rattle.purge_task.specs.Switched.{IsSwitched, IsTargetWritten, target_released}
+use Rattle.purge_task.specs.Switched.{IsSwitched, IsTargetWritten, KeepsButTarget, target_released, target_synced}
 use Rattle.purge_task.specs.declared.work.Source.{Source}
 use Rattle.purge_task.specs.declared.work.Work.{Work}
+use Rattle.purge_task.proofs.EventLemmas.{fall}
 use Rattle.purge_task.proofs.ReadingLemmas.{leaves_then}
 use Rattle.purge_task.proofs.RegionLemmas.{keeps_then}
 use Rattle.purge_task.proofs.SwitchReadyLemmas.{heads, listable_of, prepared, spent_is}
-use Rattle.purge_task.proofs.SwitchedLemmas.{firm_still, is_switched, spared_still, taken_still}
+use Rattle.purge_task.proofs.SwitchedLemmas.{firm_still, is_switched, spared_still, still_kept, taken_still}
 use Rattle.purge_task.proofs.switching.switch.Goals as goal
 
 pub make_entry-entry-requires-clause-sound : goal.make_entry-entry-requires-clause-sound
@@ -92,3 +93,25 @@ returns-clause-firm g c =
 
 pub returns-clause-work : goal.returns-clause-work
 returns-clause-work g c = λ source left e. spent_is _ _ source left e c.make_entry-entry.ensures.spent
+
+pub returns-clause-kept : goal.returns-clause-kept
+returns-clause-kept g c = λ source left e.
+    let ready = c.requires.ready in
+    let pres = c.in-Some.ensures.some in
+    let same = pres.2.1 ∙ ap (λ (s : Source). s.target) (heads (sources_left c.args.work.now) pres.0 source _ left pres.1 e) in
+    subst (λ (d : _). KeepsButTarget source.target (g.D.Disk.history c.args.store.now.disk) (g.D.Disk.history d)) (sym (ap (λ (v : StoreValue _). v.disk) c.release_target.ensures))
+    (subst (λ (t : Option FileNo). KeepsButTarget t (g.D.Disk.history c.args.store.now.disk) (g.D.Disk.history c.append.new.store.disk)) same (still_kept c.in-Some.present.target _ _ _ c.in_ok-sync_target.ensures.kept c.in_ok-is_unpinned.ensures.others))
+
+pub returns-in_err-sync_target-clause-stopped_files : goal.returns-in_err-sync_target-clause-stopped_files
+returns-in_err-sync_target-clause-stopped_files g c = λ stopped source left e. inl (ap (λ (v : StoreValue _). v.files) c.in_err-sync_target.ensures.refused.1)
+
+pub returns-in_err-is_unpinned-clause-stopped_files : goal.returns-in_err-is_unpinned-clause-stopped_files
+returns-in_err-is_unpinned-clause-stopped_files g c = λ stopped source left e.
+    let pres = c.in-Some.ensures.some in
+    let same = pres.2.1 ∙ ap (λ (s : Source). s.target) (heads (sources_left c.args.work.now) pres.0 source _ left pres.1 e) in
+    let mid = ap (λ (v : StoreValue _). v.files) c.in_ok-sync_target.ensures.ok in
+    inr (ap (λ (v : StoreValue _). v.files) c.in_err-is_unpinned.ensures.refused.1 ∙ subst (λ (t : Option FileNo). c.sync_target.new.store.files ≡ record c.args.store.now.files { files = target_synced t c.args.store.now.files.files }) same mid)
+
+pub returns-clause-stopped_files : goal.returns-clause-stopped_files
+returns-clause-stopped_files g c = λ stopped source left e.
+    absurd (fall c.release_target.new.store.stopped stopped (ap (λ (v : StoreValue _). v.stopped) c.release_target.ensures ∙ ap (λ (v : StoreValue _). v.stopped) c.in_ok-is_unpinned.ensures.ok ∙ ap (λ (v : StoreValue _). v.stopped) c.in_ok-sync_target.ensures.ok ∙ c.requires.running))

@@ -1,4 +1,5 @@
 use Rattle.std.proofs.Common.{refl}
+use Rattle.purge_task.proofs.FurtherLemmas.{target_further}
 use Rattle.purge_task.proofs.GoneCallLemmas.{failed_says}
 use Rattle.purge_task.proofs.TargetCallLemmas.{made_says, target_one}
 use Rattle.purge_task.proofs.task.begin_target.Goals as goal
@@ -9,11 +10,14 @@ make_target-requires-clause-taken g c = (target_one c.args.work c.args.target c.
 pub make_target-requires-clause-absent : goal.make_target-requires-clause-absent
 make_target-requires-clause-absent g c = (target_one c.args.work c.args.target c.args.store.now (g.D.Disk.history c.args.store.now.disk) c.requires.ready c.requires.target).make.unmade
 
-pub returns-in-Ok : goal.returns-in-Ok
-returns-in-Ok g c t at =
+pub returns-in-Ok-clause-step : goal.returns-in-Ok-clause-step
+returns-in-Ok-clause-step g c t at =
     made_says g.D.Disk.history g.D.Disk.faults t _ c.args.work c.args.target c.args.store.now c.make_target.new.store at refl refl refl refl refl c.requires.running c.requires.ready (target_one c.args.work c.args.target c.args.store.now (g.D.Disk.history c.args.store.now.disk) c.requires.ready c.requires.target)
     c.facts.ensures.files.used c.in-Ok.ensures.any_moment c.in-Ok.ensures.mail_stays c.in-Ok.ensures.settled c.in-Ok.ensures.others c.in-Ok.ensures.made c.in-Ok.ensures.ok c.in-Ok.ensures.grows c.in-Ok.ensures.unfailed
 
-pub returns-in-Err : goal.returns-in-Err
-returns-in-Err g c t at =
+pub returns-in-Ok-clause-further : goal.returns-in-Ok-clause-further
+returns-in-Ok-clause-further g c = target_further c.args.work c.args.target c.args.store.now (g.D.Disk.history c.args.store.now.disk) c.requires.ready c.requires.target
+
+pub returns-in-Err-clause-step : goal.returns-in-Err-clause-step
+returns-in-Err-clause-step g c t at =
     failed_says g.D.Disk.history g.D.Disk.faults t _ c.args.store.now c.make_target.new.store refl c.requires.running c.in-Err.ensures.any_moment c.in-Err.ensures.mail_stays c.in-Err.ensures.refused.1 c.in-Err.ensures.grows _ refl c.in-Err.ensures.fault

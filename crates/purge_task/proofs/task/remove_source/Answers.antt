@@ -6,6 +6,7 @@ use Rattle.mdbox_base.specs.declared.ids.FileNo.{FileNo}
 use Rattle.storage_files.specs.Files.{is_doomed_in}
 use Rattle.purge_task.specs.Stages.{IsNextStage}
 use Rattle.purge_task.specs.declared.work.Work.{Work}
+use Rattle.purge_task.proofs.FurtherLemmas.{further_removed}
 use Rattle.purge_task.proofs.GoneCallLemmas.{failed_says}
 use Rattle.purge_task.proofs.RemovalCallLemmas.{doomed_ends, removed_as, removing_one, removing_says}
 use Rattle.purge_task.proofs.task.remove_source.Goals as goal
@@ -16,14 +17,19 @@ remove_file-requires-clause-there g c =
     let one = removing_one c.args.work s.0 (drop (c.args.work.next + 1) c.args.work.sources.items) c.args.store.now (g.D.Disk.history c.args.store.now.disk) s.1 c.requires.ready in
     doomed_ends c.in-Some.source.file.0 c.args.store.now.files.files c.facts.ensures.files.used (ap (λ (f : FileNo). is_doomed_in f.0 c.args.store.now.files.files) s.2.0 ∙ one.doomed)
 
-pub returns-in-Ok : goal.returns-in-Ok
-returns-in-Ok g c t at =
+pub returns-in-Ok-clause-step : goal.returns-in-Ok-clause-step
+returns-in-Ok-clause-step g c t at =
     let s = c.in-Some.ensures.some in
     let one = removing_one c.args.work s.0 (drop (c.args.work.next + 1) c.args.work.sources.items) c.args.store.now (g.D.Disk.history c.args.store.now.disk) s.1 c.requires.ready in
     removing_says g.D.Disk.history g.D.Disk.faults t _ c.args.work s.0 (drop (c.args.work.next + 1) c.args.work.sources.items) c.args.store.now c.remove_file.new.self at
     (subst (λ (w : Work). IsNextStage w c.goes_on.result) c.go_on.ensures c.goes_on.ensures) refl refl refl refl c.requires.running one c.facts.ensures.files c.facts.ensures.store.files.highest c.in-Ok.ensures.any_moment c.in-Ok.ensures.mail_stays c.in-Ok.ensures.settled
     (subst (λ (f : FileNo). SameButFor (file.Mail f.0) (g.D.Disk.history c.args.store.now.disk) (g.D.Disk.history c.remove_file.new.self.disk)) s.2.0 c.in-Ok.ensures.others) (removed_as c.in-Some.source.file s.0.file c.args.store.now c.remove_file.new.self s.2.0 c.in-Ok.ensures.ok) c.in-Ok.ensures.grows c.in-Ok.ensures.unfailed
 
-pub returns-in-Err : goal.returns-in-Err
-returns-in-Err g c t at =
+pub returns-in-Ok-clause-further : goal.returns-in-Ok-clause-further
+returns-in-Ok-clause-further g c =
+    let s = c.in-Some.ensures.some in
+    further_removed c.args.work s.0 (drop (c.args.work.next + 1) c.args.work.sources.items) c.goes_on.result s.1 (subst (λ (w : Work). IsNextStage w c.goes_on.result) c.go_on.ensures c.goes_on.ensures)
+
+pub returns-in-Err-clause-step : goal.returns-in-Err-clause-step
+returns-in-Err-clause-step g c t at =
     failed_says g.D.Disk.history g.D.Disk.faults t _ c.args.store.now c.remove_file.new.self refl c.requires.running c.in-Err.ensures.any_moment c.in-Err.ensures.mail_stays c.in-Err.ensures.err c.in-Err.ensures.grows _ refl c.in-Err.ensures.fault
