@@ -254,6 +254,7 @@ copied_says {D = D} H F t next work now source left target row old new at to how
   mail = mail;
   reads = let e = ap (λ (f : Faults). f.reads) quiet in omega (arith, e);
   changes = let e = ap (λ (f : Faults). f.changes) quiet in omega (arith, e);
+  calm = λ told. ap (λ (f : Faults). f.reads) quiet;
   unfailed = λ r. ap (λ (f : Faults). f.changes) quiet;
   fell = λ e. absurd (fall new.stopped e on);
 }

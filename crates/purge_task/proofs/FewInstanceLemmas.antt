@@ -73,11 +73,11 @@ one_passed last count known id rise passed is = λ k d lt.
           let l = rise k count d before n.lt in
           not_less (by_octets id.0 (get_or known k d).row.id.0) (turned (get_or known k d).row.id.0 id.0 Less (subst (λ (i : InstId). by_octets (get_or known k d).row.id.0 i.0 ≡ Less) here l)) ∙ sym (le_false (count + 1) k (omega (arith, before)))
       | inr after ↦ elim (cases_eq k count) [
-          | inl same ↦ itself (is_lt (by_octets id.0 (get_or known k d).row.id.0)) (λ less. not_before_itself id.0 (get_or known k d).row.id.0 (sym (ap (λ (i : InstId). i.0) (subst (λ (j : ℕ). (get_or known j d).row.id ≡ id) (sym same) here))) (is_less (by_octets id.0 (get_or known k d).row.id.0) less)) ∙ sym (le_false (count + 1) k (omega (arith, same)))
-          | inr apart ↦
-              let l = rise count k d (omega (arith, after, apart)) lt in
-              lt_less (by_octets id.0 (get_or known k d).row.id.0) (subst (λ (i : InstId). by_octets i.0 (get_or known k d).row.id.0 ≡ Less) here l) ∙ sym (le_true (count + 1) k (omega (arith, after, apart)))
-        ]
+        | inl same ↦ itself (is_lt (by_octets id.0 (get_or known k d).row.id.0)) (λ less. not_before_itself id.0 (get_or known k d).row.id.0 (sym (ap (λ (i : InstId). i.0) (subst (λ (j : ℕ). (get_or known j d).row.id ≡ id) (sym same) here))) (is_less (by_octets id.0 (get_or known k d).row.id.0) less)) ∙ sym (le_false (count + 1) k (omega (arith, same)))
+        | inr apart ↦
+            let l = rise count k d (omega (arith, after, apart)) lt in
+            lt_less (by_octets id.0 (get_or known k d).row.id.0) (subst (λ (i : InstId). by_octets i.0 (get_or known k d).row.id.0 ≡ Less) here l) ∙ sym (le_true (count + 1) k (omega (arith, after, apart)))
+      ]
     ]
   where
     same_at : (xs : List KnownInstance) (i : ℕ) (d e : KnownInstance) → i < length xs → get_or xs i d ≡ get_or xs i e
@@ -100,7 +100,7 @@ all_passed last count (y ∷ ys) passed is = elim (cases_lt count (length (y ∷
       let none = found_none (is_past last) (y ∷ ys) (none_of (find (is_past last) (y ∷ ys)) is) count y lt in
       let some = passed count y lt ∙ le_true count count (omega arith) in
       let k : true ≡ false = sym some ∙ none in cc k
-    )
+      )
   | inr ge ↦ ge
 ]
   where

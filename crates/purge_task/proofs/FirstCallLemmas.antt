@@ -157,9 +157,9 @@ first_claims s thing e = ap (λ (x : PurgeStage). purge_claims x thing) e
 
 -- Refused, with nothing taken: this is what it did.
 pub refused_says : {D : Type 0} → (H : D → Option History) (F : D → Faults) (t next : PurgeValue) (why : Refusal) (fs : List ℕ) (spare room : ℕ) (old new : StoreValue D) → t.stage ≡ stage.First → next.stage ≡ stage.First → why ≢ refusal.Stopped → old.stopped ≡ false → new ≡ with_room new.disk spare room old → old.map_log.room ≤ room → IsIdle (H old.disk) (H new.disk)
-    → (F old.disk).reads ≤ (F new.disk).reads → (F new.disk).changes ≡ (F old.disk).changes → ((around : Around) → PurgeSteps fs around t next old (with_room new.disk spare room old) (H old.disk) (H new.disk) (F old.disk) (F new.disk) (Some (reply.Refused why)))
+    → (F old.disk).reads ≤ (F new.disk).reads → (F new.disk).changes ≡ (F old.disk).changes → ((why ≡ refusal.ReadFault → ⊥) → (F new.disk).reads ≡ (F old.disk).reads) → ((around : Around) → PurgeSteps fs around t next old (with_room new.disk spare room old) (H old.disk) (H new.disk) (F old.disk) (F new.disk) (Some (reply.Refused why)))
     → IsPurgeStep t next (progress.Done (reply.Refused why)) old new (H old.disk) (H new.disk) (F old.disk) (F new.disk)
-refused_says {D = D} H F t next why fs spare room old new at to other runs is more idle reads changes steps = record {
+refused_says {D = D} H F t next why fs spare room old new at to other runs is more idle reads changes unread steps = record {
   ready = λ e. absurd (let k : progress.Done (reply.Refused why) ≡ progress.More = e in cc k);
   does = (fs, λ around. subst (λ (s : StoreValue D). PurgeSteps fs around t next old s (H old.disk) (H new.disk) (F old.disk) (F new.disk) (Some (reply.Refused why))) (sym is) (steps around));
   stopped = record { 0 = λ e. absurd (other (let k : why ≡ refusal.Stopped = cc e in k)); 1 = λ e. absurd (fall new.stopped e ran) };
@@ -170,6 +170,7 @@ refused_says {D = D} H F t next why fs spare room old new at to other runs is mo
   mail = kept_idle old.map (H old.disk) (H new.disk) idle;
   reads = reads;
   changes = omega (arith, changes);
+  calm = λ told. unread (λ e. told (ap (λ (w : Refusal). progress.Done (reply.Refused w)) e));
   unfailed = λ r. changes;
   fell = λ e. absurd (fall new.stopped e ran);
 }
@@ -304,6 +305,7 @@ taken_says {D = D} H F t next found work now spare room old new at to how droppe
   mail = kept_idle old.map (H old.disk) (H new.disk) idle;
   reads = let e = ap (λ (f : Faults). f.reads) quiet in omega (arith, e);
   changes = let e = ap (λ (f : Faults). f.changes) quiet in omega (arith, e);
+  calm = λ told. ap (λ (f : Faults). f.reads) quiet;
   unfailed = λ r. ap (λ (f : Faults). f.changes) quiet;
   fell = λ e. absurd (fall new.stopped e ran);
 }
@@ -432,18 +434,18 @@ begins_first around t store run place said at stood = let begins : HasNotBegun r
 pub memory_says : {D : Type 0} → (H : D → Option History) (F : D → Faults) (t next : PurgeValue) (spare room : ℕ) (old new : StoreValue D) → t.stage ≡ stage.First → next.stage ≡ stage.First → next.did ≡ did.Quiet → old.stopped ≡ false → new ≡ with_room new.disk spare room old → old.map_log.room ≤ room → IsIdle (H old.disk) (H new.disk) → NoFault (F old.disk) (F new.disk)
     → IsPurgeStep t next (progress.Done (reply.Refused refusal.NoMemory)) old new (H old.disk) (H new.disk) (F old.disk) (F new.disk)
 memory_says H F t next spare room old new at to how runs is more idle quiet =
-    refused_says H F t next refusal.NoMemory [] spare room old new at to (λ e. let k : refusal.NoMemory ≡ refusal.Stopped = e in cc k) runs is more idle (let e = ap (λ (f : Faults). f.reads) quiet in omega (arith, e)) (ap (λ (f : Faults). f.changes) quiet)
+    refused_says H F t next refusal.NoMemory [] spare room old new at to (λ e. let k : refusal.NoMemory ≡ refusal.Stopped = e in cc k) runs is more idle (let e = ap (λ (f : Faults). f.reads) quiet in omega (arith, e)) (ap (λ (f : Faults). f.changes) quiet) (λ unread. ap (λ (f : Faults). f.reads) quiet)
     (λ around. room_steps [] around t next new.disk spare room old (H old.disk) (H new.disk) (F old.disk) (F new.disk) (reply.Refused refusal.NoMemory) runs
-        (memory_steps around t next new.disk (record old.files { spare = spare }) old (H old.disk) (H new.disk) (F old.disk) (F new.disk) at how runs (tells_same old.files.files) (idle_settles old.map (H old.disk) (H new.disk) (F old.disk) (F new.disk) idle quiet)))
+    (memory_steps around t next new.disk (record old.files { spare = spare }) old (H old.disk) (H new.disk) (F old.disk) (F new.disk) at how runs (tells_same old.files.files) (idle_settles old.map (H old.disk) (H new.disk) (F old.disk) (F new.disk) idle quiet)))
 
 -- refused by a fault of a read
 pub unread_says : {D : Type 0} → (H : D → Option History) (F : D → Faults) (t next : PurgeValue) (old new : StoreValue D) → t.stage ≡ stage.First → next.stage ≡ stage.First → next.did ≡ did.Quiet → old.stopped ≡ false → new ≡ record old { disk = new.disk } → IsIdle (H old.disk) (H new.disk) → Rose (F old.disk).reads (F new.disk).reads → (F old.disk).reads ≤ (F new.disk).reads → (F new.disk).changes ≡ (F old.disk).changes
     → IsPurgeStep t next (progress.Done (reply.Refused refusal.ReadFault)) old new (H old.disk) (H new.disk) (F old.disk) (F new.disk)
 unread_says H F t next old new at to how runs is idle rose reads changes =
-    refused_says H F t next refusal.ReadFault [] old.files.spare old.map_log.room old new at to (λ e. let k : refusal.ReadFault ≡ refusal.Stopped = e in cc k) runs is (stays old.map_log.room) idle reads changes
+    refused_says H F t next refusal.ReadFault [] old.files.spare old.map_log.room old new at to (λ e. let k : refusal.ReadFault ≡ refusal.Stopped = e in cc k) runs is (stays old.map_log.room) idle reads changes (λ unread. absurd (unread refl))
     (λ around. room_steps [] around t next new.disk old.files.spare old.map_log.room old (H old.disk) (H new.disk) (F old.disk) (F new.disk) (reply.Refused refusal.ReadFault) runs
-        (unread_steps around t next new.disk old.files old (H old.disk) (H new.disk) (F old.disk) (F new.disk) First refl how runs (λ run place said come stood. begins_first (around_purging [] old) t old run place said at stood) (tells_same old.files.files)
-        (record { moments = λ lists settled. idle_leaves lists (H old.disk) (H new.disk) idle settled; rests = λ lists settled. idle_settled lists (H old.disk) (H new.disk) idle settled; grows = idle_grows (H old.disk) (H new.disk) idle; mail = kept_idle old.map (H old.disk) (H new.disk) idle; reads = reads; changes = omega (arith, changes); rose = rose })))
+    (unread_steps around t next new.disk old.files old (H old.disk) (H new.disk) (F old.disk) (F new.disk) First refl how runs (λ run place said come stood. begins_first (around_purging [] old) t old run place said at stood) (tells_same old.files.files)
+    (record { moments = λ lists settled. idle_leaves lists (H old.disk) (H new.disk) idle settled; rests = λ lists settled. idle_settled lists (H old.disk) (H new.disk) idle settled; grows = idle_grows (H old.disk) (H new.disk) idle; mail = kept_idle old.map (H old.disk) (H new.disk) idle; reads = reads; changes = omega (arith, changes); rose = rose })))
 
 -- ---- refused for lack of numbers
 
@@ -498,12 +500,12 @@ lacks_told m drawn fs each (inr long) = inr (found_told long.0, contains_told m 
 pub full_says : {D : Type 0} → (H : D → Option History) (F : D → Faults) (t next : PurgeValue) (fs : List FoundFile) (old new : StoreValue D) → t.stage ≡ stage.First → next.stage ≡ stage.First → next.did ≡ did.Step half.Whole → old.stopped ≡ false → IsStore (H old.disk) old → AreUncleanFound old (H old.disk) fs → LacksTargets old.map old.files.highest fs
     → new ≡ record old { disk = new.disk } → IsIdle (H old.disk) (H new.disk) → NoFault (F old.disk) (F new.disk) → IsPurgeStep t next (progress.Done (reply.Refused (refusal.StoreFull 4294967294))) old new (H old.disk) (H new.disk) (F old.disk) (F new.disk)
 full_says {D = D} H F t next fs old new at to how runs store found lacks is idle quiet =
-    refused_says H F t next (refusal.StoreFull 4294967294) (map (λ t. t.file) (map found_told fs)) old.files.spare old.map_log.room old new at to (λ e. let k : refusal.StoreFull 4294967294 ≡ refusal.Stopped = e in cc k) runs is (stays old.map_log.room) idle (let e = ap (λ (f : Faults). f.reads) quiet in omega (arith, e)) (ap (λ (f : Faults). f.changes) quiet)
+    refused_says H F t next (refusal.StoreFull 4294967294) (map (λ t. t.file) (map found_told fs)) old.files.spare old.map_log.room old new at to (λ e. let k : refusal.StoreFull 4294967294 ≡ refusal.Stopped = e in cc k) runs is (stays old.map_log.room) idle (let e = ap (λ (f : Faults). f.reads) quiet in omega (arith, e)) (ap (λ (f : Faults). f.changes) quiet) (λ unread. ap (λ (f : Faults). f.reads) quiet)
     (λ around. room_steps (map (λ t. t.file) (map found_told fs)) around t next new.disk old.files.spare old.map_log.room old (H old.disk) (H new.disk) (F old.disk) (F new.disk) (reply.Refused (refusal.StoreFull 4294967294)) runs
-        (full_steps around t next (map found_told fs) new.disk old.files old (H old.disk) (H new.disk) (F old.disk) (F new.disk) at how runs (tells_same old.files.files) store.files (store_sound (H old.disk) old store)
-        (subst (λ (ns : List ℕ). AllPairs (λ a b. a < b) ns) (sym (told_numbers fs)) (AllPairs-from_increasing (found_numbers fs) found.finds.known.rising)) (subst (AreAllBut (IsFullToEnd old) old.files.files) (sym (told_numbers fs)) found.finds.known)
-        (subst (λ (n : ℕ). (4294967294 < n + length (with_targets old.map (map found_told fs))) ⊎ ((t : TakenFile) × Contains (with_targets old.map (map found_told fs)) t × (4294967294 < target_length old.map t.file))) store.files.highest (lacks_told old.map old.files.highest fs found.each lacks))
-        (idle_settles old.map (H old.disk) (H new.disk) (F old.disk) (F new.disk) idle quiet)))
+    (full_steps around t next (map found_told fs) new.disk old.files old (H old.disk) (H new.disk) (F old.disk) (F new.disk) at how runs (tells_same old.files.files) store.files (store_sound (H old.disk) old store)
+    (subst (λ (ns : List ℕ). AllPairs (λ a b. a < b) ns) (sym (told_numbers fs)) (AllPairs-from_increasing (found_numbers fs) found.finds.known.rising)) (subst (AreAllBut (IsFullToEnd old) old.files.files) (sym (told_numbers fs)) found.finds.known)
+    (subst (λ (n : ℕ). (4294967294 < n + length (with_targets old.map (map found_told fs))) ⊎ ((t : TakenFile) × Contains (with_targets old.map (map found_told fs)) t × (4294967294 < target_length old.map t.file))) store.files.highest (lacks_told old.map old.files.highest fs found.each lacks))
+    (idle_settles old.map (H old.disk) (H new.disk) (F old.disk) (F new.disk) idle quiet)))
 
 -- The refusals of looking for files, by their cause.
 no_fault : (why : Refusal) → (why ≡ refusal.ReadFault → ⊥) → IsErrOf {T = Found} (Err why) refusal.ReadFault → ⊥
@@ -536,8 +538,8 @@ few_taken history found work now disk spare room old new x =
     let above : All (λ s. 0 < s.file.0) work.sources.items = λ i d lt. (let c = can.files i d lt in let one = x.store.files.numbered (get_or work.sources.items i d).file.0 c.f c.known in omega (arith, one)) in
     let below : All (λ s. s.file.0 ≤ old.files.highest) work.sources.items = files_drawn (with_room disk spare room old) work.sources.items x.order.below can in
     let few = rising_few (map (λ (s : Source). s.file.0) work.sources.items) 0 4294967294 (omega arith) (pairs_map (λ (a b : Source). a.file.0 < b.file.0) (λ (a b : ℕ). a < b) (λ (s : Source). s.file.0) (λ a b l. l) work.sources.items can.rising)
-        (all_map (λ (s : Source). 0 < s.file.0) (λ (n : ℕ). 0 < n) (λ (s : Source). s.file.0) (λ s l. l) work.sources.items above)
-        (all_map (λ (s : Source). s.file.0 ≤ old.files.highest) (λ (n : ℕ). n ≤ 4294967294) (λ (s : Source). s.file.0) (λ s l. let last = x.order.last in omega (arith, l, last)) work.sources.items below) in
+    (all_map (λ (s : Source). 0 < s.file.0) (λ (n : ℕ). 0 < n) (λ (s : Source). s.file.0) (λ s l. l) work.sources.items above)
+    (all_map (λ (s : Source). s.file.0 ≤ old.files.highest) (λ (n : ℕ). n ≤ 4294967294) (λ (s : Source). s.file.0) (λ s l. let last = x.order.last in omega (arith, l, last)) work.sources.items below) in
     let long = length-map work.sources.items (λ (s : Source). s.file.0) in
     let given = given_long old.files.highest work.sources.items in
     let left : length (sources_left now) ≡ length (targets_given old.files.highest work.sources.items) = ap (λ (ss : List Source). length ss) x.left in
@@ -566,8 +568,8 @@ store_ready old looked ready same more =
 few_records : (m : MapMeaning) → IsSoundMap m → length m.records ≤ 4294967294
 few_records m sound =
     let few = rising_few (map (λ (r : MapRecord). r.uid) m.records) 0 4294967294 (omega arith) (pairs_map (λ (a b : MapRecord). a.uid < b.uid) (λ (a b : ℕ). a < b) (λ (r : MapRecord). r.uid) (λ a b l. l) m.records sound.rising)
-        (all_map (IsSoundRecord m.highest.map) (λ (n : ℕ). 0 < n) (λ (r : MapRecord). r.uid) (λ r s. let l = s.uid.low in omega (arith, l)) m.records sound.records)
-        (all_map (IsSoundRecord m.highest.map) (λ (n : ℕ). n ≤ 4294967294) (λ (r : MapRecord). r.uid) (λ r s. s.uid.high) m.records sound.records) in
+    (all_map (IsSoundRecord m.highest.map) (λ (n : ℕ). 0 < n) (λ (r : MapRecord). r.uid) (λ r s. let l = s.uid.low in omega (arith, l)) m.records sound.records)
+    (all_map (IsSoundRecord m.highest.map) (λ (n : ℕ). n ≤ 4294967294) (λ (r : MapRecord). r.uid) (λ r s. s.uid.high) m.records sound.records) in
     let long = length-map m.records (λ (r : MapRecord). r.uid) in
     omega (arith, few, long)
 
@@ -577,3 +579,10 @@ most_fits history found store is has =
     let most = greatest_fits (λ (f : FoundFile). f.messages) 4294967295 found.files.items (All-weaker (IsFoundFile store.map) (λ f. f.messages ≤ 4294967295) (λ f k. let e = k.messages in let l = count_by-le-length (λ (r : MapRecord). r.file == f.file.0) store.map.records in omega (arith, e, l, few)) found.files.items has.files.each) in
     let e = has.most in
     omega (arith, most, e)
+
+-- as many instances are known
+pub known_taken : {D : Type 0} → (sources : List Source) (disk : D) (spare room n : ℕ) (old new : StoreValue D) → new ≡ take_all sources (with_room disk spare room old) → length old.instances.known ≤ n → length new.instances.known ≤ n
+known_taken sources disk spare room n old new is few =
+    let a = ap (λ (s : StoreValue _). length s.instances.known) is in
+    let b = ap (λ (s : StoreValue _). length s.instances.known) (rest_all sources (with_room disk spare room old)) in
+    omega (arith, a, b, few)

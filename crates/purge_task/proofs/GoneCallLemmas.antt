@@ -145,6 +145,7 @@ last_says t next store history faults at to how runs known none = record {
   mail = mail_still store.map history;
   reads = omega arith;
   changes = omega arith;
+  calm = λ told. refl;
   unfailed = λ r. refl;
   fell = λ e. absurd (fall store.stopped e runs);
 }
@@ -169,6 +170,7 @@ gone_says {D = D} H F t next id old new at to how dropped files instances runs k
   mail = mail;
   reads = let e = ap (λ (f : Faults). f.reads) quiet in omega (arith, e);
   changes = let e = ap (λ (f : Faults). f.changes) quiet in omega (arith, e);
+  calm = λ told. ap (λ (f : Faults). f.reads) quiet;
   unfailed = λ r. ap (λ (f : Faults). f.changes) quiet;
   fell = λ e. absurd (fall old.stopped (ap (λ (s : StoreValue D). s.stopped) (sym now) ∙ e) runs);
 }
@@ -206,6 +208,7 @@ failed_says {D = D} H F t next old new how runs moments mail is grows Failed fai
   mail = mail;
   reads = let e = fault.reads in omega (arith, e);
   changes = fault.changes;
+  calm = λ told. fault.reads;
   unfailed = λ r. absurd (fall new.stopped (ap (λ (s : StoreValue D). s.stopped) is) r);
   fell = λ e. (fault.rose failed, fault.reads);
 }

@@ -168,12 +168,12 @@ copied_stays file from end copied m n a h =
     there : (place : MapPlace) → HasRecord m place.uid.0 (λ row. (row.file ≡ file) × (row.offset + row.size ≤ from) × (place.offset + row.size ≤ end)) → HasRecord n place.uid.0 (λ row. (row.file ≡ file) × (row.offset + row.size ≤ from) × (place.offset + row.size ≤ end))
     there place k = placed_stays file m n place.uid.0 (λ row. (row.file ≡ file) × (row.offset + row.size ≤ from) × (place.offset + row.size ≤ end)) (λ row. (row.file ≡ file) × (row.offset + row.size ≤ from) × (place.offset + row.size ≤ end)) a (λ row q. q.0)
         (λ row now e q.
-            let f = same_field row now e (λ r. r.file) (λ r. refl) in
-            let o = same_field row now e (λ r. r.offset) (λ r. refl) in
-            let s = same_field row now e (λ r. r.size) (λ r. refl) in
-            let l = q.1 in
-            let g = q.2 in
-            (f ∙ q.0, omega (arith, o, s, l), omega (arith, s, g))) k
+        let f = same_field row now e (λ r. r.file) (λ r. refl) in
+        let o = same_field row now e (λ r. r.offset) (λ r. refl) in
+        let s = same_field row now e (λ r. r.size) (λ r. refl) in
+        let l = q.1 in
+        let g = q.2 in
+        (f ∙ q.0, omega (arith, o, s, l), omega (arith, s, g))) k
 
     every : (was row : MapRecord) → but_count was ≡ but_count row → (was.count ≡ 0 → row.count ≡ 0) → (was.offset < from → 1 ≤ was.count → list_any (λ (place : MapPlace). place.uid.0 == was.uid) copied ≡ true) → row.offset < from → 1 ≤ row.count → list_any (λ (place : MapPlace). place.uid.0 == row.uid) copied ≡ true
     every was row e none q below some =

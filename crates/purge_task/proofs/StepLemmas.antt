@@ -28,7 +28,7 @@ use Rattle.store_core.specs.Removing.{AreElsewhere}
 use Rattle.store_core.specs.Value.{StoreValue}
 use Rattle.task_steps.specs.Step.{ended_by}
 use Rattle.purge_task.specs.Claims.{purge_claims, sources_left}
-use Rattle.purge_task.specs.Clause.{IsPurgeStep, PurgeSteps, answer_of, at_stage, came_to}
+use Rattle.purge_task.specs.Clause.{IsPurgeStep, PurgeSteps, answer_of, at_stage, came_to, did_of_refusal}
 use Rattle.purge_task.specs.Copied.{AreUnwantedFrom, IsNextWanted, IsNextWantedFirst}
 use Rattle.purge_task.specs.Keeping.{HasLowCounts, HasPurged, IsBareFirst, IsBeginningFirst, IsCopyingFirst, IsReadyToPurge, IsTargetFirst, LeavesLess, PurgeValue}
 use Rattle.purge_task.specs.Left.{IsFurther, events_before_instances, purge_files, purge_left}
@@ -230,7 +230,7 @@ none_there file (row ∷ rows) e = let b = either_none (row.file == file) (list_
     either_none false b k = (refl, k)
 
 pub bare_first : (work : Work) (source : Source) (left : List Source) (file : FileNo) (target : Option FileNo) (m : MapMeaning) → sources_left work ≡ source ∷ left → file ≡ source.file → target ≡ source.target → target ≡ None → list_any (λ row. row.file == file.0) m.records ≡ false → IsBareFirst (sources_left work) m
-bare_first work source left file target m is same with none no = subst (λ (l : List Source). IsBareFirst l m) (sym is) (sym with ∙ none, none_there source.file.0 m.records (subst (λ (f : FileNo). list_any (λ row. row.file == f.0) m.records ≡ false) same no))
+bare_first work source left file target m is same with none unlisted = subst (λ (l : List Source). IsBareFirst l m) (sym is) (sym with ∙ none, none_there source.file.0 m.records (subst (λ (f : FileNo). list_any (λ row. row.file == f.0) m.records ≡ false) same unlisted))
 
 -- ---- whether a message lies in a file
 
@@ -273,6 +273,7 @@ step_did t next d answer old new before later began faults h = record {
   mail = h.mail;
   reads = h.reads;
   changes = h.changes;
+  calm = h.calm;
   unfailed = h.unfailed;
   fell = h.fell;
 }
@@ -287,17 +288,40 @@ left_of inside t next d old new same h = subst (λ (v : PurgeValue). LeavesLess 
 pub ready_of : {D : Type 0} → (t next : PurgeValue) (answer : Progress) (old new : StoreValue D) (before later : Option History) (began faults : Faults) → IsPurgeStep t next answer old new before later began faults → (answer ≡ progress.More → LeavesLess t next old new) → answer ≡ progress.More → new.stopped ≡ false → IsReadyToPurge next new later
 ready_of t next answer old new before later began faults h left more runs = (h.ready more runs, λ begun. (left more).0)
 
--- a part of a step, of the task as it was
-pub part_of : {D : Type 0} → (result : Result PurgeStage Refusal) (at : PurgeStage) (inside t next : PurgeValue) (answer : Progress) (old new : StoreValue D) (before later : Option History) (began faults : Faults) → inside ≡ t → next ≡ came_to result inside → answer ≡ answer_of result → IsPurgeStep (at_stage at inside) (came_to result (at_stage at inside)) (answer_of result) old new before later began faults
-    → IsPurgeStep (at_stage at t) next answer old new before later began faults
-part_of result at inside t next answer old new before later began faults same is told h =
-    subst (λ (v : PurgeValue). IsPurgeStep (at_stage at v) next answer old new before later began faults) same
-    (subst (λ (n : PurgeValue). IsPurgeStep (at_stage at inside) n answer old new before later began faults) (sym is)
-    (subst (λ (a : Progress). IsPurgeStep (at_stage at inside) (came_to result inside) a old new before later began faults) (sym told)
-    (subst (λ (n : PurgeValue). IsPurgeStep (at_stage at inside) n (answer_of result) old new before later began faults) (came_same result at inside) h)))
-
 pub ready_did : {D : Type 0} → (inside t : PurgeValue) (d : Did) (store : StoreValue D) (history : Option History) → inside ≡ t → IsReadyToPurge t store history → IsReadyToPurge (record inside { did = d }) store history
 ready_did inside t d store history same h = by_value (subst (λ (v : PurgeValue). IsReadyToPurge v store history) (sym same) h)
   where
     by_value : IsReadyToPurge inside store history → IsReadyToPurge (record inside { did = d }) store history
     by_value k = (k.0, λ begun. let low = k.1 begun in record { dropped = low.dropped; files = low.files; instances = low.instances })
+
+-- what it came to depends on the counts alone
+came_counts : (result : Result PurgeStage Refusal) (s u : PurgeValue) → s.dropped ≡ u.dropped → s.files ≡ u.files → s.instances ≡ u.instances → came_to result s ≡ came_to result u
+came_counts (Ok next) s u dropped files instances =
+    ap (λ (n : ℕ). record s { stage = next; did = did.Quiet; dropped = n }) dropped
+    ∙ (ap (λ (n : ℕ). record s { stage = next; did = did.Quiet; dropped = u.dropped; files = n }) files ∙ ap (λ (n : ℕ). record s { stage = next; did = did.Quiet; dropped = u.dropped; files = u.files; instances = n }) instances)
+came_counts (Err why) s u dropped files instances =
+    ap (λ (n : ℕ). record s { stage = stage.First; did = did_of_refusal why; dropped = n }) dropped
+    ∙ (ap (λ (n : ℕ). record s { stage = stage.First; did = did_of_refusal why; dropped = u.dropped; files = n }) files ∙ ap (λ (n : ℕ). record s { stage = stage.First; did = did_of_refusal why; dropped = u.dropped; files = u.files; instances = n }) instances)
+
+-- A part's answer, and the task that came to it.
+pub part_says : {D : Type 0} → (result : Result PurgeStage Refusal) (t s u next : PurgeValue) (answer : Progress) (old new : StoreValue D) (before later : Option History) (began faults : Faults) → next ≡ came_to result u → answer ≡ answer_of result → s.dropped ≡ u.dropped → s.files ≡ u.files → s.instances ≡ u.instances → IsPurgeStep t (came_to result s) (answer_of result) old new before later began faults → IsPurgeStep t next answer old new before later began faults
+part_says result t s u next answer old new before later began faults is told dropped files instances h =
+    subst (λ (n : PurgeValue). IsPurgeStep t n answer old new before later began faults) (came_counts result s u dropped files instances ∙ sym is) (subst (λ (a : Progress). IsPurgeStep t (came_to result s) a old new before later began faults) (sym told) h)
+
+pub part_left : {D : Type 0} → (result : Result PurgeStage Refusal) (t s u next : PurgeValue) (answer : Progress) (old new : StoreValue D) → next ≡ came_to result u → answer ≡ answer_of result → s.dropped ≡ u.dropped → s.files ≡ u.files → s.instances ≡ u.instances → (answer_of result ≡ progress.More → LeavesLess t (came_to result s) old new) → answer ≡ progress.More → LeavesLess t next old new
+part_left result t s u next answer old new is told dropped files instances h more = subst (λ (n : PurgeValue). LeavesLess t n old new) (came_counts result s u dropped files instances ∙ sym is) (h (sym told ∙ more))
+
+-- A switch's answer, and the task that came to it.
+pub switch_part : {D : Type 0} → (result : Result SwitchedFile Refusal) (t u next : PurgeValue) (answer : Progress) (old new : StoreValue D) (before later : Option History) (began faults : Faults) → next ≡ came_by_switch result u → answer ≡ answer_of_switch result → at_stage t.stage u ≡ t → IsPurgeStep t (came_by_switch result t) (answer_of_switch result) old new before later began faults → IsPurgeStep t next answer old new before later began faults
+switch_part result t u next answer old new before later began faults is told of h =
+    subst (λ (n : PurgeValue). IsPurgeStep t n answer old new before later began faults) (ap (came_by_switch result) (sym of) ∙ (switched_same result t.stage u ∙ sym is)) (subst (λ (a : Progress). IsPurgeStep t (came_by_switch result t) a old new before later began faults) (sym told) h)
+
+pub switch_left : {D : Type 0} → (result : Result SwitchedFile Refusal) (t u next : PurgeValue) (answer : Progress) (old new : StoreValue D) (before later : Option History) (began faults : Faults) → next ≡ came_by_switch result u → answer ≡ answer_of_switch result → at_stage t.stage u ≡ t → IsPurgeStep t (came_by_switch result t) (answer_of_switch result) old new before later began faults
+    → IfOk result (λ s. s.dropped ≤ 4294967295) → IfOk result (λ s. IsFurther 1 t.stage s.next) → HasLowCounts t old → answer ≡ progress.More → LeavesLess t next old new
+switch_left result t u next answer old new before later began faults is told of h few further low more =
+    subst (λ (n : PurgeValue). LeavesLess t n old new) (ap (came_by_switch result) (sym of) ∙ (switched_same result t.stage u ∙ sym is)) (switched_low result t old new before later began faults h few further low (sym told ∙ more))
+
+-- what is said of each stage, of this one
+pub further_at : {D : Type 0} → (store : StoreValue D) (history : Option History) (work : Work) (result : Result SwitchedFile Refusal) (t : PurgeValue) → IfOk result (λ s. (at : PurgeStage) → HasPurged at store history → IsToSwitch at work store.map → IsFurther 1 at s.next) → HasPurged t.stage store history → IsToSwitch t.stage work store.map → IfOk result (λ s. IsFurther 1 t.stage s.next)
+further_at store history work (Ok switched) t each ready to = each t.stage ready to
+further_at store history work (Err why) t each ready to = tt

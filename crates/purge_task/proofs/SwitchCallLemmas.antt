@@ -403,6 +403,7 @@ says_of {D = D} t next work later source spent left moved dropped disk log dues 
   mail = leaves.mail;
   reads = let e = ap (λ (f : Faults). f.reads) leaves.quiet in omega (arith, e);
   changes = let e = ap (λ (f : Faults). f.changes) leaves.quiet in omega (arith, e);
+  calm = λ told. ap (λ (f : Faults). f.reads) leaves.quiet;
   unfailed = λ r. ap (λ (f : Faults). f.changes) leaves.quiet;
   fell = λ e. absurd (fall old.stopped e runs);
 }
@@ -609,6 +610,7 @@ switch_failed {D = D} H F t old new runs moments mail is tells grows Failed fail
   mail = mail;
   reads = let e = fault.reads in omega (arith, e);
   changes = fault.changes;
+  calm = λ told. fault.reads;
   unfailed = λ r. absurd (fall new.stopped (ap (λ (s : StoreValue D). s.stopped) is) r);
   fell = λ e. (fault.rose failed, fault.reads);
 }

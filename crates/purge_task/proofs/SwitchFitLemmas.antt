@@ -115,7 +115,7 @@ target_fits m file target end copied moved dropped listed number other few unnam
 
 -- ---- how many there are
 
-abbrev StandsFor : List MapRecord → (MapRecord → Bool) → ℕ → Type 0
+abbrev pub StandsFor : List MapRecord → (MapRecord → Bool) → ℕ → Type 0
 StandsFor rows p u = (r : MapRecord) × Contains rows r × (r.uid ≡ u) × (p r ≡ true)
 
 count_step : (b : Bool) (n : ℕ) → n ≤ cond b 1 0 + n
@@ -134,7 +134,7 @@ first_stands x xs p u rising (r, (suc k, lt, e), is, passes) =
     inr (omega (arith, l, is))
 
 -- numbers that rise, each that of a record that passes, are no more than such records
-no_more : (p : MapRecord → Bool) (rows : List MapRecord) (us : List ℕ) → AllPairs (λ a b. a.uid < b.uid) rows → AllPairs (λ a b. a < b) us → All (StandsFor rows p) us → length us ≤ count_by p rows
+pub no_more : (p : MapRecord → Bool) (rows : List MapRecord) (us : List ℕ) → AllPairs (λ a b. a.uid < b.uid) rows → AllPairs (λ a b. a < b) us → All (StandsFor rows p) us → length us ≤ count_by p rows
 no_more p rows [] rising up stand = omega arith
 no_more p [] (u ∷ us) rising up stand = let s = All-head (StandsFor [] p) u us stand in let lt = s.1.1 in absurd (omega (arith, lt))
 no_more p (x ∷ xs) (u ∷ us) rising up stand =
@@ -180,7 +180,7 @@ split_count file (x ∷ xs) =
     let rest = split_count file xs in
     omega (arith, a, b, c, one, rest)
 
-mapped_all : {X : Type 0} → (f : X → ℕ) (P : ℕ → Type 0) (xs : List X) → All (λ x. P (f x)) xs → All P (map f xs)
+pub mapped_all : {X : Type 0} → (f : X → ℕ) (P : ℕ → Type 0) (xs : List X) → All (λ x. P (f x)) xs → All P (map f xs)
 mapped_all f P [] a = All-nil P
 mapped_all f P (x ∷ xs) a = All-cons P (f x) (map f xs) (All-head (λ y. P (f y)) x xs a) (mapped_all f P xs (All-tail (λ y. P (f y)) x xs a))
 

@@ -137,6 +137,7 @@ unread_says {D = D} t next work source left target row end disk old before later
   mail = leaves.mail;
   reads = leaves.reads;
   changes = leaves.changes;
+  calm = λ told. absurd (told refl);
   unfailed = λ r. quiet;
   fell = λ e. absurd (let k : false ≡ true = e in cc k);
 }
@@ -200,6 +201,7 @@ fallen_says t next n from end disk old before later began faults how runs ends l
   mail = leaves.mail;
   reads = leaves.reads;
   changes = leaves.changes;
+  calm = λ told. quiet;
   unfailed = λ r. absurd (let k : true ≡ false = r in cc k);
   fell = λ e. (leaves.rose, quiet);
 }

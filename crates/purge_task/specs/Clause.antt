@@ -71,7 +71,8 @@ PurgeSteps files after t next old new before later began faults ended =
     Steps (λ run place said. IsAtPurge t old run place said × (old.stopped ≡ false → TellsUses run old)) (IsAtPurge next new) (around_purging files old) after request.Purge (seen_by_purge old before began) (seen_by_purge new later faults) next.did ended
 
 -- What a step says of a store that runs, from one stage to another: that it is ready for its next event, which event it was of whichever run
--- has come to the store, and that a change of the disk failed if and only if it stopped the store and replies so. Unless it stopped the store, it moves only
+-- has come to the store, that a change of the disk failed if and only if it stopped the store and replies so, and that a read failed only
+-- if it replies so. Unless it stopped the store, it moves only
 -- its own claims, and leaves to other tasks what is theirs; one that was replied claims nothing. What the map needs of storage files and
 -- instances stays at each moment.
 pub record IsPurgeStep {D : Type 0} (t next : PurgeValue) (answer : Progress) (old new : StoreValue D) (before later : Option History) (began faults : Faults) : Type 0 where
@@ -84,6 +85,7 @@ pub record IsPurgeStep {D : Type 0} (t next : PurgeValue) (answer : Progress) (o
   pub grows : Grows before later
   pub mail : MailIsKept old.map before later
   pub reads : began.reads ≤ faults.reads
+  pub calm : (answer ≡ progress.Done (reply.Refused refusal.ReadFault) → ⊥) → faults.reads ≡ began.reads
   pub changes : began.changes ≤ faults.changes
   pub unfailed : new.stopped ≡ false → faults.changes ≡ began.changes
   pub fell : new.stopped ≡ true → Rose began.changes faults.changes × (faults.reads ≡ began.reads)

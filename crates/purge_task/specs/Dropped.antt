@@ -33,8 +33,12 @@ DropsCounted t next old new = new.stopped ≡ false → DropsFrom t.stage t.drop
 abbrev pub HasNumbers : ℕ → ℕ → ℕ → PurgeValue → Type 0
 HasNumbers dropped files instances t = (dropped ≡ t.dropped) × (files ≡ t.files) × (instances ≡ t.instances)
 
--- A reply that has numbers has those that the task has counted, before its last event and after it. A purge that goes on has begun.
+-- A reply that has numbers has these, and the task has counted so much. A purge that goes on has begun.
+abbrev pub TellsNumbers : ℕ → ℕ → ℕ → PurgeValue → Progress → Type 0
+TellsNumbers records files instances next (progress.Done (reply.Purged dropped emptied removed)) = ((dropped ≡ records) × (emptied ≡ files) × (removed ≡ instances)) × HasNumbers dropped emptied removed next
+TellsNumbers records files instances next progress.More = next.stage ≢ stage.First
+TellsNumbers records files instances next answer = Unit {0}
+
+-- They are those that the task has counted before the event.
 abbrev pub TellsCounts : PurgeValue → PurgeValue → Progress → Type 0
-TellsCounts t next (progress.Done (reply.Purged dropped files instances)) = HasNumbers dropped files instances t × HasNumbers dropped files instances next
-TellsCounts t next progress.More = next.stage ≢ stage.First
-TellsCounts t next answer = Unit {0}
+TellsCounts t next answer = TellsNumbers t.dropped t.files t.instances next answer

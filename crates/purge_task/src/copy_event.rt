@@ -1,5 +1,5 @@
 // The event of a purge that copies a message.
-ghost use Rattle.std.specs.Prelude.{◌≡◌, false, IfOk};
+ghost use Rattle.std.specs.Prelude.{◌≡◌, ◌≢◌, false, IfOk};
 ghost use Rattle.purge_task.specs.Claims.{sources_left};
 ghost use Rattle.purge_task.specs.Clause.{IsPurgeStep, answer_of, came_to};
 ghost use Rattle.purge_task.specs.Copied.{IsNextWantedFirst};
@@ -30,6 +30,8 @@ pub fn copy_next<D: Disk>(
     requires wanted { IsNextWantedFirst (sources_left work) work.from store.old.map row }
     ensures step { (t : PurgeValue) → t.stage ≡ stage.Copying work → IsPurgeStep t (came_to result t) (answer_of result) store.old store.new (D.history store.old.disk) (D.history store.new.disk) (D.faults store.old.disk) (D.faults store.new.disk) }
     ensures further { IfOk result (IsFurther 0 (stage.Copying work)) }
+    ensures begun { IfOk result (λ next. next ≢ stage.First) }
+    ensures map { store.new.map ≡ store.old.map }
 {
     store.facts();
     let mut work = work;

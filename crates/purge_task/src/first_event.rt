@@ -1,5 +1,5 @@
 // The first event of a purge.
-ghost use Rattle.std.specs.Prelude.{◌≡◌, ◌≤◌, length, false, IsTrue, IfOk, OnOk};
+ghost use Rattle.std.specs.Prelude.{◌≡◌, ◌≢◌, ◌≤◌, length, false, IsTrue, IfOk, OnOk};
 ghost use Rattle.purge_task.specs.Clause.{IsPurgeStep, answer_of, came_to, uncounted};
 ghost use Rattle.purge_task.specs.Keeping.{PurgeValue};
 ghost use Rattle.purge_task.specs.Left.{IsFurther};
@@ -21,6 +21,8 @@ pub fn begin<D: Disk>(store: &mut Store<D>) -> Result<PurgeStage, Refusal>
     ensures step { (t : PurgeValue) → t.stage ≡ stage.First → IsPurgeStep t (came_to result (uncounted t)) (answer_of result) store.old store.new (D.history store.old.disk) (D.history store.new.disk) (D.faults store.old.disk) (D.faults store.new.disk) }
     ensures further { IfOk result (IsFurther 0 stage.First) }
     ensures few { OnOk result (length store.new.instances.known ≤ 9223372036854775808) }
+    ensures begun { IfOk result (λ next. next ≢ stage.First) }
+    ensures map { store.new.map ≡ store.old.map }
 {
     store.facts();
     // No memory holds so many.

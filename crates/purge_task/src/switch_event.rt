@@ -1,9 +1,11 @@
 // The event of a purge that switches its present storage file.
-ghost use Rattle.std.specs.Prelude.{◌≡◌, ◌≤◌, ◌<◌, length, IfOk, false};
+ghost use Rattle.std.specs.Prelude.{◌≡◌, ◌≢◌, ◌≤◌, ◌<◌, length, IfOk, OnErr, false, true};
 ghost use Rattle.purge_task.specs.Clause.{IsPurgeStep};
+ghost use Rattle.purge_task.specs.Dropped.{DropsUnwanted};
 ghost use Rattle.purge_task.specs.Keeping.{HasPurged, PurgeValue};
 ghost use Rattle.purge_task.specs.Left.{IsFurther};
 ghost use Rattle.purge_task.specs.SwitchEvent.{IsBehindSwitch, IsToSwitch, answer_of_switch, came_by_switch};
+ghost use Rattle.purge_task.specs.declared.task.PurgeStage.TheVariants as stage;
 ghost use Rattle.purge_task.specs.declared.task.PurgeStage.{PurgeStage as StageValue};
 
 use crate::switching::switch;
@@ -28,6 +30,13 @@ pub fn switch_file<D: Disk>(store: &mut Store<D>, work: Work) -> Result<Switched
 
     // Fewer events are left, and one file less is to be counted.
     ensures further { IfOk result (λ switched. (at : StageValue) → HasPurged at store.old (D.history store.old.disk) → IsToSwitch at work store.old.map → IsFurther 1 at switched.next) }
+
+    // The purge goes on.
+    ensures begun { IfOk result (λ switched. switched.next ≢ stage.First) }
+
+    // It drops so many records, and only such as nobody wants.
+    ensures dropped { IfOk result (λ switched. DropsUnwanted store.old.map store.new.map switched.dropped) }
+    ensures stopped { OnErr result (store.new.stopped ≡ true) }
 
     // A map has no more records than there are map uids.
     ensures few { IfOk result (λ switched. switched.dropped ≤ 4294967295) }

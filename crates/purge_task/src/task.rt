@@ -1,5 +1,5 @@
 // The task of a purge.
-ghost use Rattle.std.specs.Prelude.{◌≡◌, ◌≤◌, ◌<◌, ◌+◌, ◌↔◌, ℕ, List, length, true, false, Some, None, IfOk};
+ghost use Rattle.std.specs.Prelude.{◌≡◌, ◌≢◌, ◌≤◌, ◌<◌, ◌+◌, ◌↔◌, ℕ, List, length, true, false, Some, None, IfOk};
 ghost use Rattle.disk_model.specs.Disk.{Grows};
 ghost use Rattle.journal.specs.Events.{Around};
 ghost use Rattle.mdbox_base.specs.Streams.{Rose};
@@ -16,6 +16,7 @@ ghost use Rattle.task_claims.specs.Claims.{ClaimsNothing, MovesClaims};
 ghost use Rattle.task_claims.specs.Leaving.{LeavesOthers};
 ghost use Rattle.purge_task.specs.Claims.{purge_claims, sources_left};
 ghost use Rattle.purge_task.specs.Clause.{IsPurgeStep, PurgeSteps, answer_of, at_stage, came_to, did_of_refusal};
+ghost use Rattle.purge_task.specs.Dropped.{DropsCounted, TellsCounts};
 ghost use Rattle.purge_task.specs.Keeping.{HasLowCounts, HasPurged, IsBareFirst, IsReadyToPurge, IsTargetFirst, LeavesLess, PurgeValue};
 ghost use Rattle.purge_task.specs.Left.{IsFurther, purge_left};
 ghost use Rattle.purge_task.specs.SwitchEvent.{answer_of_switch, came_by_switch};
@@ -107,6 +108,11 @@ impl PurgeTask {
         ensures ready { result ≡ progress.More → store.new.stopped ≡ false → IsReadyToPurge self.new store.new (D.history store.new.disk) }
         ensures left { result ≡ progress.More → purge_left self.new.stage store.new < purge_left self.old.stage store.old }
 
+        // Unless it stops the store, it drops as many records as it counts, and only such as nobody wants; and its reply tells what it
+        // has counted.
+        ensures drops { DropsCounted self.old self.new store.old store.new }
+        ensures counts { TellsCounts self.old self.new result }
+
         // Of every run that has come to the store, and whose requests use what is used in it: which event it was, of the files that the
         // first one finds, what it answered, and which crash images it leaves.
         ensures does { (files : List ℕ) × ((after : Around) → PurgeSteps files after self.old self.new store.old store.new (D.history store.old.disk) (D.history store.new.disk) (D.faults store.old.disk) (D.faults store.new.disk) (ended_by result)) }
@@ -122,10 +128,11 @@ impl PurgeTask {
         ensures ended { (given : ReplyValue) → result ≡ progress.Done given → store.new.stopped ≡ false → ClaimsNothing (purge_claims self.new.stage) }
 
         // At each moment storage files and instances have what the map needs. Unless the store is stopped then, no change of the disk
-        // failed; an event that stops it is one in which a change failed, and no read.
+        // failed; an event that stops it is one in which a change failed, and no read. A read failed only if that is replied.
         ensures grows { Grows (D.history store.old.disk) (D.history store.new.disk) }
         ensures mail { MailIsKept store.old.map (D.history store.old.disk) (D.history store.new.disk) }
         ensures reads { (D.faults store.old.disk).reads ≤ (D.faults store.new.disk).reads }
+        ensures calm { (result ≡ progress.Done (reply.Refused refusal.ReadFault) → ⊥) → (D.faults store.new.disk).reads ≡ (D.faults store.old.disk).reads }
         ensures changes { (D.faults store.old.disk).changes ≤ (D.faults store.new.disk).changes }
         ensures unfailed { store.new.stopped ≡ false → (D.faults store.new.disk).changes ≡ (D.faults store.old.disk).changes }
         ensures fell { store.old.stopped ≡ false → store.new.stopped ≡ true → Rose (D.faults store.old.disk).changes (D.faults store.new.disk).changes × ((D.faults store.new.disk).reads ≡ (D.faults store.old.disk).reads) }
@@ -144,6 +151,8 @@ impl PurgeTask {
         requires quiet { self.old.did ≡ did.Quiet }
         ensures step { IsPurgeStep self.old self.new result store.old store.new (D.history store.old.disk) (D.history store.new.disk) (D.faults store.old.disk) (D.faults store.new.disk) }
         ensures left { result ≡ progress.More → LeavesLess self.old self.new store.old store.new }
+        ensures drops { DropsCounted self.old self.new store.old store.new }
+        ensures counts { TellsCounts self.old self.new result }
     {
         match mem::replace(&mut self.stage, PurgeStage::First) {
             PurgeStage::First => self.begin(store),
@@ -180,6 +189,8 @@ impl PurgeTask {
         requires quiet { self.old.did ≡ did.Quiet }
         ensures step { IsPurgeStep (at_stage stage.First self.old) self.new result store.old store.new (D.history store.old.disk) (D.history store.new.disk) (D.faults store.old.disk) (D.faults store.new.disk) }
         ensures left { result ≡ progress.More → LeavesLess (at_stage stage.First self.old) self.new store.old store.new }
+        ensures drops { DropsCounted (at_stage stage.First self.old) self.new store.old store.new }
+        ensures counts { TellsCounts self.old self.new result }
     {
         self.done = PurgeTask::NOTHING;
         let next = begin(store);
@@ -196,6 +207,8 @@ impl PurgeTask {
         requires quiet { self.old.did ≡ did.Quiet }
         ensures step { IsPurgeStep (at_stage (stage.Begin work) self.old) self.new result store.old store.new (D.history store.old.disk) (D.history store.new.disk) (D.faults store.old.disk) (D.faults store.new.disk) }
         ensures left { result ≡ progress.More → LeavesLess (at_stage (stage.Begin work) self.old) self.new store.old store.new }
+        ensures drops { DropsCounted (at_stage (stage.Begin work) self.old) self.new store.old store.new }
+        ensures counts { TellsCounts self.old self.new result }
     {
         let Some(source) = work.present() else {
             unreachable!()
@@ -223,6 +236,8 @@ impl PurgeTask {
         requires quiet { self.old.did ≡ did.Quiet }
         ensures step { IsPurgeStep (at_stage (stage.Copying work) self.old) self.new result store.old store.new (D.history store.old.disk) (D.history store.new.disk) (D.faults store.old.disk) (D.faults store.new.disk) }
         ensures left { result ≡ progress.More → LeavesLess (at_stage (stage.Copying work) self.old) self.new store.old store.new }
+        ensures drops { DropsCounted (at_stage (stage.Copying work) self.old) self.new store.old store.new }
+        ensures counts { TellsCounts self.old self.new result }
     {
         let Some(source) = work.present() else {
             unreachable!()
@@ -275,6 +290,8 @@ impl PurgeTask {
         requires quiet { self.old.did ≡ did.Quiet }
         ensures step { IsPurgeStep (at_stage (stage.Removing work) self.old) self.new result store.old store.new (D.history store.old.disk) (D.history store.new.disk) (D.faults store.old.disk) (D.faults store.new.disk) }
         ensures left { result ≡ progress.More → LeavesLess (at_stage (stage.Removing work) self.old) self.new store.old store.new }
+        ensures drops { DropsCounted (at_stage (stage.Removing work) self.old) self.new store.old store.new }
+        ensures counts { TellsCounts self.old self.new result }
     {
         let next = remove_source(store, work);
         self.come_to(next)
@@ -288,6 +305,8 @@ impl PurgeTask {
         requires quiet { self.old.did ≡ did.Quiet }
         ensures step { IsPurgeStep (at_stage stage.Instances self.old) self.new result store.old store.new (D.history store.old.disk) (D.history store.new.disk) (D.faults store.old.disk) (D.faults store.new.disk) }
         ensures left { result ≡ progress.More → LeavesLess (at_stage stage.Instances self.old) self.new store.old store.new }
+        ensures drops { DropsCounted (at_stage stage.Instances self.old) self.new store.old store.new }
+        ensures counts { TellsCounts self.old self.new result }
     {
         store.facts();
         match store.next_useless(None) {
@@ -312,6 +331,8 @@ impl PurgeTask {
         requires useless { useless_past None store.old.map store.old.instances.known ≡ Some id }
         ensures step { IsPurgeStep (at_stage stage.Instances self.old) self.new result store.old store.new (D.history store.old.disk) (D.history store.new.disk) (D.faults store.old.disk) (D.faults store.new.disk) }
         ensures left { result ≡ progress.More → LeavesLess (at_stage stage.Instances self.old) self.new store.old store.new }
+        ensures drops { DropsCounted (at_stage stage.Instances self.old) self.new store.old store.new }
+        ensures counts { TellsCounts self.old self.new result }
     {
         store.facts();
         known_id(id);
@@ -350,6 +371,8 @@ pub fn remove_source<D: Disk>(store: &mut Store<D>, work: Work) -> Result<PurgeS
     requires ready { HasPurged (stage.Removing work) store.old (D.history store.old.disk) }
     ensures step { (t : PurgeValue) → t.stage ≡ stage.Removing work → IsPurgeStep t (came_to result t) (answer_of result) store.old store.new (D.history store.old.disk) (D.history store.new.disk) (D.faults store.old.disk) (D.faults store.new.disk) }
     ensures further { IfOk result (IsFurther 0 (stage.Removing work)) }
+    ensures begun { IfOk result (λ next. next ≢ stage.First) }
+    ensures map { store.new.map ≡ store.old.map }
 {
     store.facts();
     let mut work = work;
@@ -376,6 +399,8 @@ fn begin_target<D: Disk>(
     requires target { IsTargetFirst (sources_left work) target }
     ensures step { (t : PurgeValue) → t.stage ≡ stage.Begin work → IsPurgeStep t (came_to result t) (answer_of result) store.old store.new (D.history store.old.disk) (D.history store.new.disk) (D.faults store.old.disk) (D.faults store.new.disk) }
     ensures further { IfOk result (IsFurther 0 (stage.Begin work)) }
+    ensures begun { IfOk result (λ next. next ≢ stage.First) }
+    ensures map { store.new.map ≡ store.old.map }
 {
     store.facts();
     match make_target(store, target) {
@@ -391,6 +416,8 @@ fn remove_bare<D: Disk>(store: &mut Store<D>, work: Work) -> Result<PurgeStage, 
     requires bare { IsBareFirst (sources_left work) store.old.map }
     ensures step { (t : PurgeValue) → t.stage ≡ stage.Begin work → IsPurgeStep t (came_to result (record t { files = t.files + 1 })) (answer_of result) store.old store.new (D.history store.old.disk) (D.history store.new.disk) (D.faults store.old.disk) (D.faults store.new.disk) }
     ensures further { IfOk result (IsFurther 1 (stage.Begin work)) }
+    ensures begun { IfOk result (λ next. next ≢ stage.First) }
+    ensures map { store.new.map ≡ store.old.map }
 {
     store.facts();
     let mut work = work;

@@ -1,6 +1,8 @@
 use Rattle.std.proofs.Common.{refl, ap, ◌∙◌}
 use Rattle.store_core.proofs.BoxAppendLemmas.{store_sound}
 use Rattle.purge_task.specs.Claims.{sources_left}
+use Rattle.store_core.specs.Value.{StoreValue}
+use Rattle.purge_task.proofs.DropLemmas.{map_given}
 use Rattle.purge_task.proofs.CopyCallLemmas.{copied_says, noted_for}
 use Rattle.purge_task.proofs.CopyingLemmas.{copying_one, first_left, may_copy}
 use Rattle.purge_task.proofs.FurtherLemmas.{further_copy}
@@ -53,3 +55,15 @@ returns-in-Ok-clause-further g c =
     let one = copying_one c.args.work f.0 f.1 c.args.target c.args.row c.args.store.now (g.D.Disk.history c.args.store.now.disk) f.2 c.requires.ready c.requires.target c.requires.wanted c.facts.ensures.files.used in
     let ok = c.in-Ok.ensures.ok one.copying.end one.copying.ends in
     further_copy c.args.store.now.map c.args.work c.copy_message.new.work f.0.file.0 one.copying.end c.args.row (store_sound _ _ c.facts.ensures.store) one.wanted ok.2
+
+pub returns-in-Ok-clause-map : goal.returns-in-Ok-clause-map
+returns-in-Ok-clause-map g c =
+    let f = first_left c.args.work c.args.target c.requires.target in
+    let one = copying_one c.args.work f.0 f.1 c.args.target c.args.row c.args.store.now (g.D.Disk.history c.args.store.now.disk) f.2 c.requires.ready c.requires.target c.requires.wanted c.facts.ensures.files.used in
+    ap (λ (s : StoreValue _). s.map) (c.in-Ok.ensures.ok one.copying.end one.copying.ends).0.same
+
+pub returns-in-Err-clause-map : goal.returns-in-Err-clause-map
+returns-in-Err-clause-map g c = map_given c.copy_message.new.store c.give_back.new.store _ c.give_back.ensures.stopped c.give_back.ensures.running ∙ ap (λ (s : StoreValue _). s.map) c.in-Err.ensures.refused.0.at.same
+
+pub returns-in-Ok-clause-begun : goal.returns-in-Ok-clause-begun
+returns-in-Ok-clause-begun g c = λ e. cc e

@@ -24,7 +24,7 @@ loop-id-preserved g c =
     }
 
 pub returns : goal.returns
-returns g c yes =
+returns g c is_few =
     let few = c.loop-id.invariant.few in
     let all = all_passed c.loop-id.last c.loop-id.count c.args.store.now.instances.known c.loop-id.invariant.passed (sym c.next_instance.ensures ∙ c.in_default.is) in
     omega (arith, few, all)

@@ -1,5 +1,6 @@
 use Rattle.std.proofs.Common.{ap, length, refl}
 use Rattle.purge_task.specs.declared.work.Work.{Work}
+use Rattle.purge_task.proofs.DropLemmas.{switch_begun, switch_drops}
 use Rattle.purge_task.proofs.SwitchCallLemmas.{few_dropped, further_switch, left_within, made_switch, ready_one, switch_failed, switch_says, switched_one, tells_either}
 use Rattle.purge_task.proofs.switch_event.switch_file.Goals as goal
 
@@ -56,3 +57,12 @@ returns-in-Ok-clause-further g c at h to =
     let one = switched_one ready.0 c.args.work c.args.store.now (g.D.Disk.history c.args.store.now.disk) ready.1 ready.2 in
     let spent = c.in-Ok.ensures.work one.0 one.1 one.2.left_are in
     further_switch at c.args.work c.switch.new.work c.args.store.now.map one.0 spent.0 one.1 _ c.in-Ok.switched.is_unpinned to one.2.left_are spent.1 c.next_stage.ensures
+
+pub returns-in-Ok-clause-dropped : goal.returns-in-Ok-clause-dropped
+returns-in-Ok-clause-dropped g c =
+    let at = c.requires.ready in
+    let one = switched_one at.0 c.args.work c.args.store.now (g.D.Disk.history c.args.store.now.disk) at.1 at.2 in
+    switch_drops one.0 c.in-Ok.switched c.args.store.now c.switch.new.store (g.D.Disk.history c.args.store.now.disk) c.facts.ensures.store c.facts.ensures.files one.2.ready.emptied (c.in-Ok.ensures.switched one.0 one.1 one.2.left_are)
+
+pub returns-in-Ok-clause-begun : goal.returns-in-Ok-clause-begun
+returns-in-Ok-clause-begun g c = switch_begun c.in-Ok.switched.is_unpinned _ c.next_stage.result c.next_stage.ensures

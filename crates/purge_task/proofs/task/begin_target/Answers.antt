@@ -1,4 +1,5 @@
-use Rattle.std.proofs.Common.{refl}
+use Rattle.std.proofs.Common.{refl, ap}
+use Rattle.store_core.specs.Value.{StoreValue}
 use Rattle.purge_task.proofs.FurtherLemmas.{target_further}
 use Rattle.purge_task.proofs.GoneCallLemmas.{failed_says}
 use Rattle.purge_task.proofs.TargetCallLemmas.{made_says, target_one}
@@ -21,3 +22,12 @@ returns-in-Ok-clause-further g c = target_further c.args.work c.args.target c.ar
 pub returns-in-Err-clause-step : goal.returns-in-Err-clause-step
 returns-in-Err-clause-step g c t at =
     failed_says g.D.Disk.history g.D.Disk.faults t _ c.args.store.now c.make_target.new.store refl c.requires.running c.in-Err.ensures.any_moment c.in-Err.ensures.mail_stays c.in-Err.ensures.refused.1 c.in-Err.ensures.grows _ refl c.in-Err.ensures.fault
+
+pub returns-in-Ok-clause-map : goal.returns-in-Ok-clause-map
+returns-in-Ok-clause-map g c = ap (λ (s : StoreValue _). s.map) c.in-Ok.ensures.ok
+
+pub returns-in-Err-clause-map : goal.returns-in-Err-clause-map
+returns-in-Err-clause-map g c = ap (λ (s : StoreValue _). s.map) c.in-Err.ensures.refused.1
+
+pub returns-in-Ok-clause-begun : goal.returns-in-Ok-clause-begun
+returns-in-Ok-clause-begun g c = λ e. cc e

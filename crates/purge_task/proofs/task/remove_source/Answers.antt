@@ -6,6 +6,8 @@ use Rattle.mdbox_base.specs.declared.ids.FileNo.{FileNo}
 use Rattle.storage_files.specs.Files.{is_doomed_in}
 use Rattle.purge_task.specs.Stages.{IsNextStage}
 use Rattle.purge_task.specs.declared.work.Work.{Work}
+use Rattle.store_core.specs.Value.{StoreValue}
+use Rattle.purge_task.proofs.DropLemmas.{next_begun}
 use Rattle.purge_task.proofs.FurtherLemmas.{further_removed}
 use Rattle.purge_task.proofs.GoneCallLemmas.{failed_says}
 use Rattle.purge_task.proofs.RemovalCallLemmas.{doomed_ends, removed_as, removing_one, removing_says}
@@ -33,3 +35,12 @@ returns-in-Ok-clause-further g c =
 pub returns-in-Err-clause-step : goal.returns-in-Err-clause-step
 returns-in-Err-clause-step g c t at =
     failed_says g.D.Disk.history g.D.Disk.faults t _ c.args.store.now c.remove_file.new.self refl c.requires.running c.in-Err.ensures.any_moment c.in-Err.ensures.mail_stays c.in-Err.ensures.err c.in-Err.ensures.grows _ refl c.in-Err.ensures.fault
+
+pub returns-in-Ok-clause-map : goal.returns-in-Ok-clause-map
+returns-in-Ok-clause-map g c = ap (λ (s : StoreValue _). s.map) c.in-Ok.ensures.ok
+
+pub returns-in-Err-clause-map : goal.returns-in-Err-clause-map
+returns-in-Err-clause-map g c = ap (λ (s : StoreValue _). s.map) c.in-Err.ensures.err
+
+pub returns-in-Ok-clause-begun : goal.returns-in-Ok-clause-begun
+returns-in-Ok-clause-begun g c = next_begun _ c.goes_on.result c.goes_on.ensures
