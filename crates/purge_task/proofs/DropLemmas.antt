@@ -187,7 +187,7 @@ dropped_many : (m : MapMeaning) (f : FileNo) (us : List MapUid) → IsSoundMap m
 dropped_many m f us sound rising here =
     let most = at_most us m.records sound.rising in
     let least = no_more (has_one_of us) m.records (map (λ u. u.0) us) sound.rising (AllPairs-from_increasing (map (λ u. u.0) us) rising)
-        (mapped_all (λ (u : MapUid). u.0) (StandsFor m.records (has_one_of us)) us (λ k d lt. stands (get_or us k d) (All-contains_itself us k d lt) (here k d lt))) in
+    (mapped_all (λ (u : MapUid). u.0) (StandsFor m.records (has_one_of us)) us (λ k d lt. stands (get_or us k d) (All-contains_itself us k d lt) (here k d lt))) in
     let e = length-map us (λ (u : MapUid). u.0) in
     omega (arith, most, least, e)
   where

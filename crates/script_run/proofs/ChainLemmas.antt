@@ -219,8 +219,8 @@ calm_on start lane old mid before between first counted e is =
       tasks = tasks_after AnswersReads lane old mid before between first counted e (λ more. answers_next w.goes.queued.task w.goes.next own k.request) is.tasks;
       calm = λ untold.
           k.calm own
-              (λ told. untold w.event.place
-              (ap (λ (rs : List (Option Reply)). slice_get rs w.event.place) w.replies_are ∙ replied_now (reply.Refused refusal.ReadFault) (ended_by w.event.ended) w.event.place old.replies w.unanswered told))
+          (λ told. untold w.event.place
+          (ap (λ (rs : List (Option Reply)). slice_get rs w.event.place) w.replies_are ∙ replied_now (reply.Refused refusal.ReadFault) (ended_by w.event.ended) w.event.place old.replies w.unanswered told))
           ∙ is.calm (λ i was. untold i (replied_on i (reply.Refused refusal.ReadFault) lane old mid before between first counted e was));
     }
 
