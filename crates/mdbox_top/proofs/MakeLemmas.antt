@@ -89,8 +89,8 @@ make_files name given old new began now w = record {
   generation = w.done.leaves.generation;
   opened = w.done.leaves.opened;
   swept = w.done.leaves.swept;
-  stays = w.done.stays (λ delivers. served_from (making name) given w.entries old new began now w.done tt);
-  mail = λ running. w.done.leaves.mail refl (stopped_one given running);
+  stays = w.done.stays (refl, λ delivers. served_from (making name) given w.entries old new began now w.done tt);
+  mail = λ running. w.done.leaves.mail refl refl (stopped_one given running);
   undone = λ running undone.
       let k = refused_by (unmade_cause (meaning_named name w.done.m.boxes w.done.meanings) w.done.m) given w.told undone in
       w.unmade (subst (λ (r : Reply). IsUnmadeAlone (alone (making name)) (r ∷ [])) (sym k.1) (λ stopped. running (k.1 ∙ ap reply.Refused stopped)));

@@ -1,5 +1,5 @@
 -- How `rebuild` ends.
-use Rattle.std.specs.Prelude.{◌≡◌, ◌≢◌, ℕ, List, [], ◌∷◌, refl, Option, Some, None}
+use Rattle.std.specs.Prelude.{◌≡◌, ℕ, List, [], ◌∷◌, refl, Option, Some, None}
 use Rattle.std.proofs.Common.{inl, inr}
 use Rattle.disk_model.specs.Disk.{History, IsIdle}
 use Rattle.rebuild_files.specs.Refused.{IsNotLost}
@@ -12,7 +12,7 @@ use Rattle.request_text.specs.declared.outcome.StoreRefusal.TheVariants as store
 use Rattle.store_rebuild.specs.declared.report.RebuildReport.{RebuildReport}
 use Rattle.mdbox_top.specs.InputRun.{IsOneOf}
 use Rattle.mdbox_top.specs.OpeningOutcome.{rebuild_outcome}
-use Rattle.mdbox_top.specs.RebuildRun.{IsRebuiltBy, PrintsReport, RebuildsAndPrints, RebuildOutcome, IsLostNow, IsWholeNow}
+use Rattle.mdbox_top.specs.RebuildRun.{IsRebuiltBy, PrintsReport, RebuildOutcome, IsLostNow, IsWholeNow}
 
 -- the store was rebuilt, and its report was printed, or a prefix of it
 pub rebuilt_ends : (id : List ℕ) (report : RebuildReport) (h k : Option (List ℕ)) (old new : Option History) (o : Outcome) → IsRebuiltBy id report old new → PrintsReport report h k o → RebuildOutcome id h k old new o

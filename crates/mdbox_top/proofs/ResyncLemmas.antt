@@ -1,5 +1,5 @@
 -- A resync alone, by the script that it is.
-use Rattle.std.specs.Prelude.{◌≡◌, ◌≤◌, ◌⊎◌, ℕ, zero, suc, List, [], ◌∷◌, Contains, count_by, Option, Some}
+use Rattle.std.specs.Prelude.{◌≡◌, ℕ, zero, suc, false, List, [], ◌∷◌, count_by, Option, Some}
 use Rattle.std.proofs.Common.{refl, sym, ◌∙◌, ap, subst, inl, inr, arith}
 use Rattle.disk_model.specs.Disk.{Faults, History}
 use Rattle.mdbox_base.specs.declared.replies.Refusal.TheVariants as refusal
@@ -18,15 +18,15 @@ use Rattle.script_run.specs.Done.{MayBeServed}
 use Rattle.script_run.specs.Faults.{HasReadFault}
 use Rattle.script_run.specs.LeftOpen.{IsRequestDone}
 use Rattle.script_run.specs.One.{IsUndoneAlone, RunsAlone, alone}
-use Rattle.script_run.specs.Resynced.{IsResyncAnswer, IsResynced}
-use Rattle.script_run.specs.Script.{HasStopped, has_fetch}
+use Rattle.script_run.specs.Resynced.{IsResyncAnswer}
+use Rattle.script_run.specs.Script.{has_fetch}
 use Rattle.script_run.proofs.AloneLemmas.{may_read}
 use Rattle.script_run.proofs.SomeListsLemmas.{some_lists}
 use Rattle.script_run.proofs.ToldLemmas.{serves_one}
 use Rattle.script_run.proofs.UnchangedLemmas.{listed_safe, unchanged_since}
 use Rattle.mdbox_top.specs.Alone.{IsDoneAlone}
 use Rattle.mdbox_top.specs.InputRun.{IsOneOf}
-use Rattle.mdbox_top.specs.ResyncRun.{IsResyncReply, MayReplyResync, OpensResynced, ResyncOutcome}
+use Rattle.mdbox_top.specs.ResyncRun.{IsResyncReply, MayReplyResync, ResyncOutcome}
 use Rattle.mdbox_top.specs.Served.{FaultsByReply}
 use Rattle.mdbox_top.proofs.CountsLemmas.{opening_one, others_of, shown_one}
 use Rattle.mdbox_top.proofs.OneStepLemmas.{stopped_one}

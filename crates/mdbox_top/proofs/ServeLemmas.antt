@@ -72,7 +72,6 @@ rests_as (request.Make name) F G began now old new h r = λ none. r (λ failed. 
 rests_as request.Counts F G began now old new h r = λ none. r (λ failed. none (h failed))
 rests_as request.Resync F G began now old new h r = λ none. r (λ failed. none (h failed))
 rests_as request.Purge F G began now old new h r = λ none. r (λ failed. none (h failed))
-rests_as other F G began now old new h r = r
 
 pub served_rests : (request : Request) (text : List ℕ) (given : Reply) (h k : Option (List ℕ)) (old new : Option History) (began now : Faults) (o : Outcome) → IsDoneAlone request given old new began now → ShowsReply text given h k o → RequestRests request (MayFail request (status_of o)) began now old new
 served_rests request text given h k old new began now o done s = rests_as request (given ≡ reply.Refused refusal.Stopped) (MayFail request (status_of o)) began now old new (λ stopped. may_fail request text given h k old new o done.tells s (inr stopped)) done.rests

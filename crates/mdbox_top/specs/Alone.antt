@@ -36,7 +36,6 @@ ReplyTells (request.Make name) = IsMakeReply name
 ReplyTells request.Counts = IsCountsReply
 ReplyTells request.Resync = IsResyncReply
 ReplyTells request.Purge = IsPurgeReply
-ReplyTells other = λ old new given. ⊥
 
 -- what a crash at any moment of it may leave
 abbrev pub RequestMoments : Request → Option History → Option History → Type 0
@@ -51,7 +50,6 @@ RequestMoments (request.Make name) = MakeMoments name
 RequestMoments request.Counts = CountsMoments
 RequestMoments request.Resync = ResyncMoments
 RequestMoments request.Purge = PurgeMoments
-RequestMoments other = λ old new. ⊥
 
 -- what it leaves of the disk when it ends, by whether it failed and the counts of the disk's faults
 abbrev pub RequestRests : Request → Type 0 → Faults → Faults → Option History → Option History → Type 0
@@ -66,7 +64,6 @@ RequestRests (request.Make name) = MakeRests name
 RequestRests request.Counts = CountsRests
 RequestRests request.Resync = ResyncRests
 RequestRests request.Purge = PurgeRests
-RequestRests other = λ failed began now old new. ⊥
 
 -- The statuses with which it may end if a call of the disk failed. A listing or a count reads no file once the store is open. Any
 -- other request may reply that a read failed, or that the store is stopped, and fail in printing it, for a fault of the output or
