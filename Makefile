@@ -57,6 +57,7 @@ bench: all
 	bench/deliver
 	bench/attach
 	bench/rebuild
+	bench/purge
 	bench/hostile
 	bench/ops
 	cd crates/log_bench && rt run -- 1
