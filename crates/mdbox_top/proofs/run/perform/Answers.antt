@@ -49,3 +49,9 @@ returns-in-Exercise-clause-disk_quiet g c = rw c.in-Exercise.is (λ tells none. 
 
 pub returns-in-Batch-clause-worked : goal.returns-in-Batch-clause-worked
 returns-in-Batch-clause-worked g c = rw c.in-Batch.is c.batch.ensures.worked
+
+pub returns-in-Resync-clause-rests : goal.returns-in-Resync-clause-rests
+returns-in-Resync-clause-rests g c = rw c.in-Resync.is c.serve-in-Resync.ensures.rests
+
+pub returns-in-Purge-clause-rests : goal.returns-in-Purge-clause-rests
+returns-in-Purge-clause-rests g c = rw c.in-Purge.is c.serve-in-Purge.ensures.rests
