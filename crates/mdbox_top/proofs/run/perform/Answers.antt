@@ -22,12 +22,6 @@ returns-in-Make-clause-rests g c = rw c.in-Make.is c.serve-in-Make.ensures.rests
 pub returns-in-Copy-clause-rests : goal.returns-in-Copy-clause-rests
 returns-in-Copy-clause-rests g c = rw c.in-Copy.is c.serve-in-Copy.ensures.rests
 
-pub returns-in-Resync-clause-rests : goal.returns-in-Resync-clause-rests
-returns-in-Resync-clause-rests g c = rw c.in-Resync.is c.serve-in-Resync.ensures.rests
-
-pub returns-in-Purge-clause-rests : goal.returns-in-Purge-clause-rests
-returns-in-Purge-clause-rests g c = rw c.in-Purge.is c.serve-in-Purge.ensures.rests
-
 pub returns-in-Deliver-clause-rests : goal.returns-in-Deliver-clause-rests
 returns-in-Deliver-clause-rests g c = rw c.in-Deliver.is c.deliver.ensures.rests
 
