@@ -18,6 +18,23 @@ def run(command, path):
     return seconds, usage.ru_utime + usage.ru_stime, usage.ru_maxrss
 
 
+def peak(command):
+    """The peak memory of a command in KiB, by the last of the looks at it, a thousand a second."""
+    child = subprocess.Popen(command, stdin=subprocess.DEVNULL, stdout=subprocess.DEVNULL)
+    most = 0
+    while child.poll() is None:
+        try:
+            with open(f"/proc/{child.pid}/status", encoding="ascii") as status:
+                found = [line.split()[1] for line in status if line.startswith("VmHWM:")]
+        except OSError:
+            found = []
+        most = int(found[0]) if found else most
+        time.sleep(0.001)
+    if child.returncode != 0:
+        sys.exit(f"{command}: status {child.returncode}")
+    return most
+
+
 def least(commands, runs):
     """The least times of commands, each on its own file: by name, the elapsed seconds, and those of the processor.
     And by name the peak memory in octets."""
