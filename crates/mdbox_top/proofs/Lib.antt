@@ -21,7 +21,6 @@ pub mod PurgeLemmas
 pub mod RebuildLemmas
 pub mod ReplyFaultLemmas
 pub mod ReplyKindLemmas
-pub mod ReplyReadLemmas
 pub mod RequestLemmas
 pub mod ResyncLemmas
 pub mod RoomLemmas
@@ -31,7 +30,6 @@ pub mod SavedFormLemmas
 pub mod ServeLemmas
 pub mod ServedLemmas
 pub mod StaysLemmas
-pub mod TextReadLemmas
 pub mod UnderWayLemmas
 pub mod WorkLemmas
 pub mod WroteLemmas

@@ -17,7 +17,7 @@ use Rattle.list_machine.specs.Machine.{Does, PartAnswers}
 use Rattle.list_machine.specs.Run.{EventPart, First, Last, Run, RunEvent, before}
 use Rattle.journal.specs.Journal.{AreSteps, IsReplyOf, JournalStep, Requests, halves_of, steps_of}
 use Rattle.script_run.specs.Script.{ServesScript}
-use Rattle.mdbox_top.specs.PrintedReplies.{AreRepliesTo, IsReplyTo}
+use Rattle.printed_replies.specs.PrintedReplies.{AreRepliesTo, IsReplyTo}
 
 -- a request of one step
 abbrev IsOneStep : Request → Type 0

@@ -15,7 +15,6 @@ mod exercise;
 mod fetch;
 mod init;
 mod input_commands;
-mod known;
 mod laws;
 mod numbers;
 mod opening;

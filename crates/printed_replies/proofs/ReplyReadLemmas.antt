@@ -21,8 +21,8 @@ use Rattle.request_text.specs.BatchText.{front_text, numbered_text, place_text, 
 use Rattle.request_text.specs.ReplyText.{gone_text, guid_text, numbers_text, ok_line, refusal_text, reply_text, row_text}
 use Rattle.request_text.specs.declared.places.Places.{Places}
 use Rattle.request_text.specs.declared.places.Places.TheVariants as places
-use Rattle.mdbox_top.specs.PrintedReplies.{AreRepliesTo, AreWords, IsReplyTo, ReplyHasWords, RowHasWords}
-use Rattle.mdbox_top.proofs.TextReadLemmas.{guid_read, mark_read, number_read, numbers_read, refusal_read, rows_read, uid_same}
+use Rattle.printed_replies.specs.PrintedReplies.{AreRepliesTo, AreWords, IsReplyTo, ReplyHasWords, RowHasWords}
+use Rattle.printed_replies.proofs.TextReadLemmas.{guid_read, mark_read, number_read, numbers_read, refusal_read, rows_read, uid_same}
 
 -- of each, one by one
 each_of : {X : Type 0} → (P : X → Type 0) (xs : List X) → All P xs → AllByRecursion P xs

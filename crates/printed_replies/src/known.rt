@@ -1,7 +1,7 @@
 // What the types of replies say of them.
 ghost use Rattle.std.specs.Prelude.{◌<◌, ◌^◌, All};
 ghost use Rattle.mdbox_base.specs.Words.{IsOctets};
-ghost use Rattle.mdbox_top.specs.PrintedReplies.{RowHasWords, RefusalHasWords, ReplyHasWords};
+ghost use Rattle.printed_replies.specs.PrintedReplies.{RowHasWords, RefusalHasWords, ReplyHasWords};
 
 use mdbox_base::{ListRow, Refusal, Reply, Uid};
 

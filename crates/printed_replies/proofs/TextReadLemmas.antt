@@ -13,7 +13,7 @@ use Rattle.mdbox_base.specs.declared.replies.Refusal.TheVariants as refusal
 use Rattle.file_paths.proofs.InstLemmas.{same_digits}
 use Rattle.model_storage.proofs.ReferenceLemmas.{first, second, is_digit, decimal_digits, number_until}
 use Rattle.request_text.specs.ReplyText.{guid_text, numbers_text, row_text, refusal_text}
-use Rattle.mdbox_top.specs.PrintedReplies.{AreWords, RowHasWords, RefusalHasWords}
+use Rattle.printed_replies.specs.PrintedReplies.{AreWords, RowHasWords, RefusalHasWords}
 
 -- ---- digits up to a mark
 

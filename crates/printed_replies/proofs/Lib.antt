@@ -1,0 +1,2 @@
+pub mod ReplyReadLemmas
+mod TextReadLemmas
