@@ -15,12 +15,10 @@ pub mod MailLemmas
 pub mod MakeLemmas
 pub mod NumbersLemmas
 pub mod OneStepLemmas
-pub mod PlaceLemmas
 pub mod PrefixLemmas
 pub mod PurgeLemmas
 pub mod RebuildLemmas
 pub mod ReplyFaultLemmas
-pub mod ReplyKindLemmas
 pub mod RequestLemmas
 pub mod ResyncLemmas
 pub mod RoomLemmas

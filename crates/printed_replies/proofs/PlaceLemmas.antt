@@ -23,7 +23,7 @@ use Rattle.lanes.specs.Worlds.{AreEntriesAt, AreOfLanes}
 use Rattle.request_text.specs.BatchText.{place_from, places_by, places_told, refuses_copy, request_steps, same_half}
 use Rattle.request_text.specs.declared.places.Places.TheVariants as places
 use Rattle.script_run.specs.Script.{ServesScript}
-use Rattle.mdbox_top.specs.PrintedPlaces.{IsAmong, NumberJournal}
+use Rattle.printed_replies.specs.PrintedPlaces.{IsAmong, NumberJournal}
 
 -- ---- a place that was found
 
