@@ -43,6 +43,7 @@ pub mod QuietFirstLemmas
 pub mod QuietLemmas
 pub mod QuietOuterLemmas
 pub mod QuietRegionLemmas
+pub mod QuietStepLemmas
 pub mod QuietSwitchLemmas
 pub mod QuietTargetLemmas
 pub mod ReadingLemmas
