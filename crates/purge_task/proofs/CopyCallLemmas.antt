@@ -243,20 +243,22 @@ copied_says {D = D} H F t next work now source left target row old new at to how
         how dropped files instances runs (grown_of target.0 one.copying.end end old.files.files one.copying.ends later) (record { moments = moments; rests = rests; grows = grows; mail = mail; quiet = quiet })),
   );
   stopped = record { 0 = λ e. absurd (let k : progress.More ≡ progress.Done (reply.Refused refusal.Stopped) = e in cc k); 1 = λ e. absurd (fall new.stopped e on) };
-  claims = λ r. subst (λ (s : StoreValue D). MovesClaims (purge_claims t.stage) (purge_claims next.stage) old s) (sym is) (subst (λ (s : PurgeStage). MovesClaims (purge_claims s) (purge_claims next.stage) old after) (sym at)
-      (subst (λ (s : PurgeStage). MovesClaims (purge_claims (stage.Copying work)) (purge_claims s) old after) (sym to) (moves_copied work now source n.noted left target.0 end new.disk old one.left_are n.after (file_as place source n.noted n.with_copy) (target_as place source n.noted n.with_copy))));
-  leaves = λ r. subst (λ (s : StoreValue D). LeavesOthers (purge_claims t.stage) old s (H old.disk) (H new.disk)) (sym (is ∙ sym (runs_still target.0 end new.disk old runs))) (subst (λ (s : PurgeStage). LeavesOthers (purge_claims s) old (with_end target.0 end new.disk old.stopped old) (H old.disk) (H new.disk)) (sym at)
-      (one_file_leaves (purge_claims (stage.Copying work)) target.0 new.disk grown old (H old.disk) (H new.disk) one.copying.unnamed (target_untaken work source left target old one.left_are one.target_is used one.copying.taken)
-      (λ may. more_grows target.0 one.copying.end end old (with_end target.0 end new.disk old.stopped old) (H old.disk) (H new.disk) one.copying.ends (grown_ends target.0 one.copying.end end old.files.files one.copying.ends) later more)
-      (λ m apart. file-other target.0 m (ending_at end) old.files.files (λ f. refl) apart) (same_others target.0 (H old.disk) (H new.disk) others)));
-  ended = λ given e. absurd (let k : progress.More ≡ progress.Done given = e in cc k);
+  claims = λ r. record {
+    moves = subst (λ (s : StoreValue D). MovesClaims (purge_claims t.stage) (purge_claims next.stage) old s) (sym is) (subst (λ (s : PurgeStage). MovesClaims (purge_claims s) (purge_claims next.stage) old after) (sym at)
+        (subst (λ (s : PurgeStage). MovesClaims (purge_claims (stage.Copying work)) (purge_claims s) old after) (sym to) (moves_copied work now source n.noted left target.0 end new.disk old one.left_are n.after (file_as place source n.noted n.with_copy) (target_as place source n.noted n.with_copy))));
+    leaves = subst (λ (s : StoreValue D). LeavesOthers (purge_claims t.stage) old s (H old.disk) (H new.disk)) (sym (is ∙ sym (runs_still target.0 end new.disk old runs))) (subst (λ (s : PurgeStage). LeavesOthers (purge_claims s) old (with_end target.0 end new.disk old.stopped old) (H old.disk) (H new.disk)) (sym at)
+        (one_file_leaves (purge_claims (stage.Copying work)) target.0 new.disk grown old (H old.disk) (H new.disk) one.copying.unnamed (target_untaken work source left target old one.left_are one.target_is used one.copying.taken)
+        (λ may. more_grows target.0 one.copying.end end old (with_end target.0 end new.disk old.stopped old) (H old.disk) (H new.disk) one.copying.ends (grown_ends target.0 one.copying.end end old.files.files one.copying.ends) later more)
+        (λ m apart. file-other target.0 m (ending_at end) old.files.files (λ f. refl) apart) (same_others target.0 (H old.disk) (H new.disk) others)));
+    ended = λ given e. absurd (let k : progress.More ≡ progress.Done given = e in cc k);
+  };
   grows = grows;
   mail = mail;
   reads = let e = ap (λ (f : Faults). f.reads) quiet in omega (arith, e);
   changes = let e = ap (λ (f : Faults). f.changes) quiet in omega (arith, e);
   calm = λ told. ap (λ (f : Faults). f.reads) quiet;
   unfailed = λ r. ap (λ (f : Faults). f.changes) quiet;
-  fell = λ e. absurd (fall new.stopped e on);
+  fell = λ was e. absurd (fall new.stopped e on);
 }
   where
     end : ℕ

@@ -163,16 +163,18 @@ refused_says {D = D} H F t next why fs spare room old new at to other runs is mo
   ready = λ e. absurd (let k : progress.Done (reply.Refused why) ≡ progress.More = e in cc k);
   does = (fs, λ around. subst (λ (s : StoreValue D). PurgeSteps fs around t next old s (H old.disk) (H new.disk) (F old.disk) (F new.disk) (Some (reply.Refused why))) (sym is) (steps around));
   stopped = record { 0 = λ e. absurd (other (let k : why ≡ refusal.Stopped = cc e in k)); 1 = λ e. absurd (fall new.stopped e ran) };
-  claims = λ r thing. (let a = first_claims t.stage thing at in let b = first_claims next.stage thing to in let c = ap (λ (s : StoreValue D). amount_in thing s) is in let d = room_amounts new.disk spare room old thing in omega (arith, a, b, c, d));
-  leaves = λ r. subst (λ (s : StoreValue D). LeavesOthers (purge_claims t.stage) old s (H old.disk) (H new.disk)) (sym is) (first_leaves (purge_claims t.stage) new.disk (record old.map_log { room = room }) (record old.files { spare = spare }) old.drawn old (H old.disk) (H new.disk) idle more (λ n took. refl) (λ n. refl));
-  ended = λ given e r thing. first_claims next.stage thing to;
+  claims = λ r. record {
+    moves = λ thing. (let a = first_claims t.stage thing at in let b = first_claims next.stage thing to in let c = ap (λ (s : StoreValue D). amount_in thing s) is in let d = room_amounts new.disk spare room old thing in omega (arith, a, b, c, d));
+    leaves = subst (λ (s : StoreValue D). LeavesOthers (purge_claims t.stage) old s (H old.disk) (H new.disk)) (sym is) (first_leaves (purge_claims t.stage) new.disk (record old.map_log { room = room }) (record old.files { spare = spare }) old.drawn old (H old.disk) (H new.disk) idle more (λ n took. refl) (λ n. refl));
+    ended = λ given e thing. first_claims next.stage thing to;
+  };
   grows = idle_grows (H old.disk) (H new.disk) idle;
   mail = kept_idle old.map (H old.disk) (H new.disk) idle;
   reads = reads;
   changes = omega (arith, changes);
   calm = λ told. unread (λ e. told (ap (λ (w : Refusal). progress.Done (reply.Refused w)) e));
   unfailed = λ r. changes;
-  fell = λ e. absurd (fall new.stopped e ran);
+  fell = λ was e. absurd (fall new.stopped e ran);
 }
   where
     ran : new.stopped ≡ false
@@ -297,17 +299,19 @@ taken_says {D = D} H F t next found work now spare room old new at to how droppe
         (first_steps around t next now found.targets new.disk log new.files old (H old.disk) (H new.disk) (F old.disk) (F new.disk) at to how dropped files instances runs x.store.files sound begun (idle_settles old.map (H old.disk) (H new.disk) (F old.disk) (F new.disk) idle quiet)),
   );
   stopped = record { 0 = λ e. absurd (let k : progress.More ≡ progress.Done (reply.Refused refusal.Stopped) = e in cc k); 1 = λ e. absurd (fall new.stopped e ran) };
-  claims = λ r. moves;
-  leaves = λ r. subst (λ (s : StoreValue D). LeavesOthers (purge_claims t.stage) old s (H old.disk) (H new.disk)) (sym is)
-      (first_leaves (purge_claims t.stage) new.disk log new.files (record old.drawn { file = old.drawn.file + found.targets }) old (H old.disk) (H new.disk) idle x.more others (λ n. begun_is.ended n));
-  ended = λ given e. absurd (let k : progress.More ≡ progress.Done given = e in cc k);
+  claims = λ r. record {
+    moves = moves;
+    leaves = subst (λ (s : StoreValue D). LeavesOthers (purge_claims t.stage) old s (H old.disk) (H new.disk)) (sym is)
+        (first_leaves (purge_claims t.stage) new.disk log new.files (record old.drawn { file = old.drawn.file + found.targets }) old (H old.disk) (H new.disk) idle x.more others (λ n. begun_is.ended n));
+    ended = λ given e. absurd (let k : progress.More ≡ progress.Done given = e in cc k);
+  };
   grows = idle_grows (H old.disk) (H new.disk) idle;
   mail = kept_idle old.map (H old.disk) (H new.disk) idle;
   reads = let e = ap (λ (f : Faults). f.reads) quiet in omega (arith, e);
   changes = let e = ap (λ (f : Faults). f.changes) quiet in omega (arith, e);
   calm = λ told. ap (λ (f : Faults). f.reads) quiet;
   unfailed = λ r. ap (λ (f : Faults). f.changes) quiet;
-  fell = λ e. absurd (fall new.stopped e ran);
+  fell = λ was e. absurd (fall new.stopped e ran);
 }
   where
     log : LogState

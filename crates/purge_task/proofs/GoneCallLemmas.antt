@@ -138,16 +138,18 @@ last_says t next store history faults at to how runs known none = record {
   ready = λ e. absurd (let k : progress.Done (reply.Purged t.dropped t.files t.instances) ≡ progress.More = e in cc k);
   does = ([], λ around. last_steps around t next store history faults at how runs known (none_useless store.map store.instances.known none));
   stopped = record { 0 = λ e. absurd (let k : reply.Purged t.dropped t.files t.instances ≡ reply.Refused refusal.Stopped = cc e in cc k); 1 = λ e. absurd (fall store.stopped e runs) };
-  claims = λ r. moves_none t.stage next.stage store store (inl at) (inr to) (λ thing. refl);
-  leaves = λ r. idle_leaves (purge_claims t.stage) store history history (idle-begins history);
-  ended = λ given e r thing. no_claim next.stage thing (inr to);
+  claims = λ r. record {
+    moves = moves_none t.stage next.stage store store (inl at) (inr to) (λ thing. refl);
+    leaves = idle_leaves (purge_claims t.stage) store history history (idle-begins history);
+    ended = λ given e thing. no_claim next.stage thing (inr to);
+  };
   grows = omega arith;
   mail = mail_still store.map history;
   reads = omega arith;
   changes = omega arith;
   calm = λ told. refl;
   unfailed = λ r. refl;
-  fell = λ e. absurd (fall store.stopped e runs);
+  fell = λ was e. absurd (fall store.stopped e runs);
 }
 
 pub gone_says : {D : Type 0} → (H : D → Option History) (F : D → Faults) (t next : PurgeValue) (id : InstId) (old new : StoreValue D) → t.stage ≡ stage.Instances → next.stage ≡ stage.Instances → next.did ≡ did.Quiet → next.dropped ≡ t.dropped → next.files ≡ t.files → next.instances ≡ t.instances + 1 → old.stopped ≡ false → HasKnownInstances (H old.disk) old
@@ -162,17 +164,19 @@ gone_says {D = D} H F t next id old new at to how dropped files instances runs k
         (gone_steps around t next one.k new.disk old (H old.disk) (H new.disk) (F old.disk) (F new.disk) at to how dropped files instances runs known ids one.found drawn (record { moments = moments; rests = rests; grows = grows; mail = mail; quiet = quiet })),
   );
   stopped = record { 0 = λ e. absurd (let k : progress.More ≡ progress.Done (reply.Refused refusal.Stopped) = e in cc k); 1 = λ e. absurd (fall old.stopped (ap (λ (s : StoreValue D). s.stopped) (sym now) ∙ e) runs) };
-  claims = λ r. moves_none t.stage next.stage old new (inl at) (inl to) (λ thing. ap (λ (s : StoreValue D). amount_in thing s) now ∙ gone_amount one.k.row.id new.disk old one.unheld thing);
-  leaves = λ r. subst (λ (s : StoreValue D). LeavesOthers (purge_claims t.stage) old s (H old.disk) (H new.disk)) (sym now)
-      (gone_leaves (purge_claims t.stage) one.k new.disk old (H old.disk) (H new.disk) one.unheld (names_others old.map one.k.row.id.0 one.unnamed) (subst (λ (n : FileName). SameButFor n (H old.disk) (H new.disk)) file_is others) (subst (λ (s : StoreValue D). KeepsFirm old s (H old.disk) (H new.disk)) now firm));
-  ended = λ given e. absurd (let k : progress.More ≡ progress.Done given = e in cc k);
+  claims = λ r. record {
+    moves = moves_none t.stage next.stage old new (inl at) (inl to) (λ thing. ap (λ (s : StoreValue D). amount_in thing s) now ∙ gone_amount one.k.row.id new.disk old one.unheld thing);
+    leaves = subst (λ (s : StoreValue D). LeavesOthers (purge_claims t.stage) old s (H old.disk) (H new.disk)) (sym now)
+        (gone_leaves (purge_claims t.stage) one.k new.disk old (H old.disk) (H new.disk) one.unheld (names_others old.map one.k.row.id.0 one.unnamed) (subst (λ (n : FileName). SameButFor n (H old.disk) (H new.disk)) file_is others) (subst (λ (s : StoreValue D). KeepsFirm old s (H old.disk) (H new.disk)) now firm));
+    ended = λ given e. absurd (let k : progress.More ≡ progress.Done given = e in cc k);
+  };
   grows = grows;
   mail = mail;
   reads = let e = ap (λ (f : Faults). f.reads) quiet in omega (arith, e);
   changes = let e = ap (λ (f : Faults). f.changes) quiet in omega (arith, e);
   calm = λ told. ap (λ (f : Faults). f.reads) quiet;
   unfailed = λ r. ap (λ (f : Faults). f.changes) quiet;
-  fell = λ e. absurd (fall old.stopped (ap (λ (s : StoreValue D). s.stopped) (sym now) ∙ e) runs);
+  fell = λ was e. absurd (fall old.stopped (ap (λ (s : StoreValue D). s.stopped) (sym now) ∙ e) runs);
 }
   where
     one : IsUselessOne old id
@@ -202,15 +206,13 @@ failed_says {D = D} H F t next old new how runs moments mail is grows Failed fai
   );
   stopped = record { 0 = λ e. ap (λ (s : StoreValue D). s.stopped) is; 1 = λ e. refl };
   claims = λ r. absurd (fall new.stopped (ap (λ (s : StoreValue D). s.stopped) is) r);
-  leaves = λ r. absurd (fall new.stopped (ap (λ (s : StoreValue D). s.stopped) is) r);
-  ended = λ given e r. absurd (fall new.stopped (ap (λ (s : StoreValue D). s.stopped) is) r);
   grows = grows;
   mail = mail;
   reads = let e = fault.reads in omega (arith, e);
   changes = fault.changes;
   calm = λ told. fault.reads;
   unfailed = λ r. absurd (fall new.stopped (ap (λ (s : StoreValue D). s.stopped) is) r);
-  fell = λ e. (fault.rose failed, fault.reads);
+  fell = λ was e. (fault.rose failed, fault.reads);
 }
 
 -- of a task as its fields are seen

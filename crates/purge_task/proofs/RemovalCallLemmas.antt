@@ -216,17 +216,19 @@ removing_says {D = D} H F t next work source left old new at to how dropped file
         (removing_steps around t next work source left new.disk old (H old.disk) (H new.disk) (F old.disk) (F new.disk) at one.left_are to how dropped files instances runs one.unpinned below one.elsewhere (record { moments = moments; rests = rests; grows = grows; mail = mail; quiet = quiet })),
   );
   stopped = record { 0 = λ e. absurd (let k : progress.More ≡ progress.Done (reply.Refused refusal.Stopped) = e in cc k); 1 = λ e. absurd (fall old.stopped (ap (λ (s : StoreValue D). s.stopped) (sym is) ∙ e) runs) };
-  claims = λ r. subst (λ (s : StoreValue D). MovesClaims (purge_claims t.stage) (purge_claims next.stage) old s) (sym is) (subst (λ (s : PurgeStage). MovesClaims (purge_claims s) (purge_claims next.stage) old (without source.file.0 new.disk old)) (sym at) (moves_removal work source left next.stage new.disk old one.left_are to d one.unpinned));
-  leaves = λ r. subst (λ (s : StoreValue D). LeavesOthers (purge_claims t.stage) old s (H old.disk) (H new.disk)) (sym is) (subst (λ (s : PurgeStage). LeavesOthers (purge_claims s) old (without source.file.0 new.disk old) (H old.disk) (H new.disk)) (sym at)
-      (removal_leaves (purge_claims (stage.Removing work)) source.file.0 new.disk old (H old.disk) (H new.disk) one.elsewhere untaken ungrown others (firm_same old (without source.file.0 new.disk old) (H old.disk) (H new.disk) refl refl (syncs_placed source.file.0 (H old.disk) (H new.disk) others))));
-  ended = λ given e. absurd (let k : progress.More ≡ progress.Done given = e in cc k);
+  claims = λ r. record {
+    moves = subst (λ (s : StoreValue D). MovesClaims (purge_claims t.stage) (purge_claims next.stage) old s) (sym is) (subst (λ (s : PurgeStage). MovesClaims (purge_claims s) (purge_claims next.stage) old (without source.file.0 new.disk old)) (sym at) (moves_removal work source left next.stage new.disk old one.left_are to d one.unpinned));
+    leaves = subst (λ (s : StoreValue D). LeavesOthers (purge_claims t.stage) old s (H old.disk) (H new.disk)) (sym is) (subst (λ (s : PurgeStage). LeavesOthers (purge_claims s) old (without source.file.0 new.disk old) (H old.disk) (H new.disk)) (sym at)
+        (removal_leaves (purge_claims (stage.Removing work)) source.file.0 new.disk old (H old.disk) (H new.disk) one.elsewhere untaken ungrown others (firm_same old (without source.file.0 new.disk old) (H old.disk) (H new.disk) refl refl (syncs_placed source.file.0 (H old.disk) (H new.disk) others))));
+    ended = λ given e. absurd (let k : progress.More ≡ progress.Done given = e in cc k);
+  };
   grows = grows;
   mail = mail;
   reads = let e = ap (λ (f : Faults). f.reads) quiet in omega (arith, e);
   changes = let e = ap (λ (f : Faults). f.changes) quiet in omega (arith, e);
   calm = λ told. ap (λ (f : Faults). f.reads) quiet;
   unfailed = λ r. ap (λ (f : Faults). f.changes) quiet;
-  fell = λ e. absurd (fall old.stopped (ap (λ (s : StoreValue D). s.stopped) (sym is) ∙ e) runs);
+  fell = λ was e. absurd (fall old.stopped (ap (λ (s : StoreValue D). s.stopped) (sym is) ∙ e) runs);
 }
   where
     d : IsDoomedFile source.file.0 old.files.files

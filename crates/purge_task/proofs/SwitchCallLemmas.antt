@@ -391,21 +391,23 @@ says_of {D = D} t next work later source spent left moved dropped disk log dues 
     λ around. switch_steps around t next later source spent left Before (target_named source.target moved) moved dropped disk log dues (record old.files { files = files_switched source.file.0 source.target old.files.files }) old before after began faults stands part left_are spent_is one.apart switched to how counts runs leaves,
   );
   stopped = record { 0 = λ e. absurd (let k : progress.More ≡ progress.Done (reply.Refused refusal.Stopped) = e in cc k); 1 = λ e. absurd (fall old.stopped e runs) };
-  claims = λ r thing.
-      let a = switched_amount source left disk log (map_switched source.file (target_named source.target moved) moved dropped old.map) dues old known written made.due thing in
-      let b = claimed thing in
-      let c = behind_claims later source spent left next.stage (pins_in source.file.0 old.files.files == 0) thing left_are to in
-      let d = removal_as source spent left old (pins_in source.file.0 old.files.files == 0) thing spent_is refl in
-      omega (arith, a, b, c, d);
-  leaves = λ r. switch_leaves (purge_claims t.stage) source left moved dropped disk log dues old before after claimed is known written made;
-  ended = λ given e. absurd (let k : progress.More ≡ progress.Done given = e in cc k);
+  claims = λ r. record {
+    moves = λ thing.
+        let a = switched_amount source left disk log (map_switched source.file (target_named source.target moved) moved dropped old.map) dues old known written made.due thing in
+        let b = claimed thing in
+        let c = behind_claims later source spent left next.stage (pins_in source.file.0 old.files.files == 0) thing left_are to in
+        let d = removal_as source spent left old (pins_in source.file.0 old.files.files == 0) thing spent_is refl in
+        omega (arith, a, b, c, d);
+    leaves = switch_leaves (purge_claims t.stage) source left moved dropped disk log dues old before after claimed is known written made;
+    ended = λ given e. absurd (let k : progress.More ≡ progress.Done given = e in cc k);
+  };
   grows = leaves.grows;
   mail = leaves.mail;
   reads = let e = ap (λ (f : Faults). f.reads) leaves.quiet in omega (arith, e);
   changes = let e = ap (λ (f : Faults). f.changes) leaves.quiet in omega (arith, e);
   calm = λ told. ap (λ (f : Faults). f.reads) leaves.quiet;
   unfailed = λ r. ap (λ (f : Faults). f.changes) leaves.quiet;
-  fell = λ e. absurd (fall old.stopped e runs);
+  fell = λ was e. absurd (fall old.stopped e runs);
 }
   where
     new : StoreValue D
@@ -604,15 +606,13 @@ switch_failed {D = D} H F t old new runs moments mail is tells grows Failed fail
   );
   stopped = record { 0 = λ e. ap (λ (s : StoreValue D). s.stopped) is; 1 = λ e. refl };
   claims = λ r. absurd (fall new.stopped (ap (λ (s : StoreValue D). s.stopped) is) r);
-  leaves = λ r. absurd (fall new.stopped (ap (λ (s : StoreValue D). s.stopped) is) r);
-  ended = λ given e r. absurd (fall new.stopped (ap (λ (s : StoreValue D). s.stopped) is) r);
   grows = grows;
   mail = mail;
   reads = let e = fault.reads in omega (arith, e);
   changes = fault.changes;
   calm = λ told. fault.reads;
   unfailed = λ r. absurd (fall new.stopped (ap (λ (s : StoreValue D). s.stopped) is) r);
-  fell = λ e. (fault.rose failed, fault.reads);
+  fell = λ was e. (fault.rose failed, fault.reads);
 }
   where
     next : PurgeValue

@@ -364,18 +364,20 @@ made_says {D = D} H F t next work target old new at to how dropped files instanc
         (λ run come. never_used target.0 old (H old.disk) (F old.disk) run u come) (λ run guid come own number. never_given target.0 old (H old.disk) (F old.disk) run guid u come number) (record { moments = moments; rests = rests; grows = grows; mail = mail; quiet = quiet })),
   );
   stopped = record { 0 = λ e. absurd (let k : progress.More ≡ progress.Done (reply.Refused refusal.Stopped) = e in cc k); 1 = λ e. absurd (fall old.stopped (ap (λ (s : StoreValue D). s.stopped) (sym is) ∙ e) runs) };
-  claims = λ r. subst (λ (s : StoreValue D). MovesClaims (purge_claims t.stage) (purge_claims next.stage) old s) (sym is) (subst (λ (s : PurgeStage). MovesClaims (purge_claims s) (purge_claims next.stage) old (with_made target.0 new.disk old)) (sym at)
-      (subst (λ (s : PurgeStage). MovesClaims (purge_claims (stage.Begin work)) (purge_claims s) old (with_made target.0 new.disk old)) (sym to) (moves_made work one.source one.left target new.disk old one.left_are one.target_is u)));
-  leaves = λ r. subst (λ (s : StoreValue D). LeavesOthers (purge_claims t.stage) old s (H old.disk) (H new.disk)) (sym is) (subst (λ (s : PurgeStage). LeavesOthers (purge_claims s) old (with_made target.0 new.disk old) (H old.disk) (H new.disk)) (sym at)
-      (made_leaves work one.source one.left target new.disk old (H old.disk) (H new.disk) one.left_are one.target_is u one.make others));
-  ended = λ given e. absurd (let k : progress.More ≡ progress.Done given = e in cc k);
+  claims = λ r. record {
+    moves = subst (λ (s : StoreValue D). MovesClaims (purge_claims t.stage) (purge_claims next.stage) old s) (sym is) (subst (λ (s : PurgeStage). MovesClaims (purge_claims s) (purge_claims next.stage) old (with_made target.0 new.disk old)) (sym at)
+        (subst (λ (s : PurgeStage). MovesClaims (purge_claims (stage.Begin work)) (purge_claims s) old (with_made target.0 new.disk old)) (sym to) (moves_made work one.source one.left target new.disk old one.left_are one.target_is u)));
+    leaves = subst (λ (s : StoreValue D). LeavesOthers (purge_claims t.stage) old s (H old.disk) (H new.disk)) (sym is) (subst (λ (s : PurgeStage). LeavesOthers (purge_claims s) old (with_made target.0 new.disk old) (H old.disk) (H new.disk)) (sym at)
+        (made_leaves work one.source one.left target new.disk old (H old.disk) (H new.disk) one.left_are one.target_is u one.make others));
+    ended = λ given e. absurd (let k : progress.More ≡ progress.Done given = e in cc k);
+  };
   grows = grows;
   mail = mail;
   reads = let e = ap (λ (f : Faults). f.reads) quiet in omega (arith, e);
   changes = let e = ap (λ (f : Faults). f.changes) quiet in omega (arith, e);
   calm = λ told. ap (λ (f : Faults). f.reads) quiet;
   unfailed = λ r. ap (λ (f : Faults). f.changes) quiet;
-  fell = λ e. absurd (fall old.stopped (ap (λ (s : StoreValue D). s.stopped) (sym is) ∙ e) runs);
+  fell = λ was e. absurd (fall old.stopped (ap (λ (s : StoreValue D). s.stopped) (sym is) ∙ e) runs);
 }
   where
     u : IsUnmadeFile target.0 old.files.files

@@ -127,19 +127,21 @@ unread_says {D = D} t next work source left target row end disk old before later
         (tells_given old.files.files grown source left (tells_grown target.0 old.files.files grown (grown_of target.0 one.copying.end end old.files.files one.copying.ends longer)) g.first g.each g.clear) leaves,
   );
   stopped = record { 0 = λ e. absurd (unread_apart (let k : reply.Refused refusal.ReadFault ≡ reply.Refused refusal.Stopped = cc e in k)); 1 = λ e. absurd (let k : false ≡ true = e in cc k) };
-  claims = λ r. subst (λ (s : PurgeStage). MovesClaims (purge_claims s) (purge_claims next.stage) old after) (sym at) (subst (λ (s : PurgeStage). MovesClaims (purge_claims (stage.Copying work)) (purge_claims s) old after) (sym to) moves);
-  leaves = λ r. subst (λ (s : PurgeStage). LeavesOthers (purge_claims s) old after before later) (sym at) (subst (λ (b : Bool). LeavesOthers mine old (with_state disk given b old) before later) runs
-      (files_leave mine target.0 disk given old before later one.copying.unnamed (target_untaken work source left target old one.left_are one.target_is used one.copying.taken)
-      (λ may. more_grows target.0 one.copying.end end old (with_state disk given old.stopped old) before later one.copying.ends (ends_given target.0 (source ∷ left) grown ∙ grown_ends target.0 one.copying.end end old.files.files one.copying.ends) longer more)
-      known (λ m apart. ends_given m (source ∷ left) grown ∙ ap (λ (o : Option MailFile). option_and_then (λ f. f.end) o) (file-other target.0 m (ending_at end) old.files.files (λ f. refl) apart)) (same_others target.0 before later others)));
-  ended = λ answer e r thing. ap (λ (s : PurgeStage). purge_claims s thing) to;
+  claims = λ r. record {
+    moves = subst (λ (s : PurgeStage). MovesClaims (purge_claims s) (purge_claims next.stage) old after) (sym at) (subst (λ (s : PurgeStage). MovesClaims (purge_claims (stage.Copying work)) (purge_claims s) old after) (sym to) moves);
+    leaves = subst (λ (s : PurgeStage). LeavesOthers (purge_claims s) old after before later) (sym at) (subst (λ (b : Bool). LeavesOthers mine old (with_state disk given b old) before later) runs
+        (files_leave mine target.0 disk given old before later one.copying.unnamed (target_untaken work source left target old one.left_are one.target_is used one.copying.taken)
+        (λ may. more_grows target.0 one.copying.end end old (with_state disk given old.stopped old) before later one.copying.ends (ends_given target.0 (source ∷ left) grown ∙ grown_ends target.0 one.copying.end end old.files.files one.copying.ends) longer more)
+        known (λ m apart. ends_given m (source ∷ left) grown ∙ ap (λ (o : Option MailFile). option_and_then (λ f. f.end) o) (file-other target.0 m (ending_at end) old.files.files (λ f. refl) apart)) (same_others target.0 before later others)));
+    ended = λ answer e thing. ap (λ (s : PurgeStage). purge_claims s thing) to;
+  };
   grows = leaves.grows;
   mail = leaves.mail;
   reads = leaves.reads;
   changes = leaves.changes;
   calm = λ told. absurd (told refl);
   unfailed = λ r. quiet;
-  fell = λ e. absurd (let k : false ≡ true = e in cc k);
+  fell = λ was e. absurd (let k : false ≡ true = e in cc k);
 }
   where
     grown : List MailFile
@@ -195,15 +197,13 @@ fallen_says t next n from end disk old before later began faults how runs ends l
   );
   stopped = record { 0 = λ e. refl; 1 = λ e. refl };
   claims = λ r. absurd (let k : true ≡ false = r in cc k);
-  leaves = λ r. absurd (let k : true ≡ false = r in cc k);
-  ended = λ given e r. absurd (let k : true ≡ false = r in cc k);
   grows = leaves.grows;
   mail = leaves.mail;
   reads = leaves.reads;
   changes = leaves.changes;
   calm = λ told. quiet;
   unfailed = λ r. absurd (let k : true ≡ false = r in cc k);
-  fell = λ e. (leaves.rose, quiet);
+  fell = λ was e. (leaves.rose, quiet);
 }
 
 -- ---- the calls

@@ -12,8 +12,7 @@ use Rattle.mdbox_base.specs.declared.replies.Refusal.TheVariants as refusal
 use Rattle.mdbox_base.specs.declared.script.Half.TheVariants as half
 use Rattle.mdbox_base.specs.declared.replies.Reply.TheVariants as reply
 use Rattle.model_kept.specs.Kept.{MailIsKept}
-use Rattle.task_claims.specs.Claims.{ClaimsNothing, MovesClaims}
-use Rattle.task_claims.specs.Leaving.{LeavesOthers}
+use Rattle.task_claims.specs.Stable.{MovesOwnClaims}
 use Rattle.purge_task.specs.Claims.{purge_claims}
 use Rattle.purge_task.specs.declared.task.PurgeStage.{PurgeStage}
 use Rattle.purge_task.specs.declared.task.PurgeStage.TheVariants as stage
@@ -70,25 +69,22 @@ abbrev pub PurgeSteps : {D : Type 0} → List ℕ → Around → PurgeValue → 
 PurgeSteps files after t next old new before later began faults ended =
     Steps (λ run place said. IsAtPurge t old run place said × (old.stopped ≡ false → TellsUses run old)) (IsAtPurge next new) (around_purging files old) after request.Purge (seen_by_purge old before began) (seen_by_purge new later faults) next.did ended
 
--- What a step says of a store that runs, from one stage to another: that it is ready for its next event, which event it was of whichever run
--- has come to the store, that a change of the disk failed if and only if it stopped the store and replies so, and that a read failed only
--- if it replies so. Unless it stopped the store, it moves only
--- its own claims, and leaves to other tasks what is theirs; one that was replied claims nothing. What the map needs of storage files and
--- instances stays at each moment.
+-- What a step says, from one stage to another: that it is ready for its next event, which event it was of whichever run has come to the
+-- store, and that it replies so if and only if the store is stopped then. Unless it is, the step moves only its own claims, and leaves to
+-- other tasks what is theirs; one that was replied claims nothing. What the map needs of storage files and instances stays at each moment.
+-- A read failed only if it replies so; and of a store that ran, a change of the disk failed if and only if the step stopped it.
 pub record IsPurgeStep {D : Type 0} (t next : PurgeValue) (answer : Progress) (old new : StoreValue D) (before later : Option History) (began faults : Faults) : Type 0 where
   pub ready : answer ≡ progress.More → new.stopped ≡ false → HasPurged next.stage new later
   pub does : (files : List ℕ) × ((around : Around) → PurgeSteps files around t next old new before later began faults (ended_by answer))
   pub stopped : (answer ≡ progress.Done (reply.Refused refusal.Stopped)) ↔ (new.stopped ≡ true)
-  pub claims : new.stopped ≡ false → MovesClaims (purge_claims t.stage) (purge_claims next.stage) old new
-  pub leaves : new.stopped ≡ false → LeavesOthers (purge_claims t.stage) old new before later
-  pub ended : (given : Reply) → answer ≡ progress.Done given → new.stopped ≡ false → ClaimsNothing (purge_claims next.stage)
+  pub claims : new.stopped ≡ false → MovesOwnClaims (purge_claims t.stage) (purge_claims next.stage) answer old new before later
   pub grows : Grows before later
   pub mail : MailIsKept old.map before later
   pub reads : began.reads ≤ faults.reads
   pub calm : (answer ≡ progress.Done (reply.Refused refusal.ReadFault) → ⊥) → faults.reads ≡ began.reads
   pub changes : began.changes ≤ faults.changes
   pub unfailed : new.stopped ≡ false → faults.changes ≡ began.changes
-  pub fell : new.stopped ≡ true → Rose began.changes faults.changes × (faults.reads ≡ began.reads)
+  pub fell : old.stopped ≡ false → new.stopped ≡ true → Rose began.changes faults.changes × (faults.reads ≡ began.reads)
 
 -- the task at this stage, with nothing done by its last event
 abbrev pub at_stage : PurgeStage → PurgeValue → PurgeValue
