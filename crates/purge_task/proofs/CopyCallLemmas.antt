@@ -34,14 +34,14 @@ use Rattle.purge_task.specs.Claims.{claims_of_sources, claims_of_target, purge_c
 use Rattle.purge_task.specs.Clause.{IsPurgeStep, PurgeSteps}
 use Rattle.purge_task.specs.Copied.{IsRegionAdded, IsSourceWith, IsTargetAt, NotesCopy}
 use Rattle.purge_task.specs.Found.{messages_in}
-use Rattle.purge_task.specs.Keeping.{AreCopiedUpTo, AreSourcesApart, HasPurged, HasSwitchRoom, IsCopyingFirst, IsCopyingTo, IsSourceCopied, PurgeValue}
+use Rattle.purge_task.specs.Keeping.{AreCopiedUpTo, AreSourcesApart, HasPurged, HasSwitchRoom, HasTargetHeader, IsCopyingFirst, IsCopyingTo, IsSourceCopied, PurgeValue}
 use Rattle.purge_task.specs.declared.task.PurgeStage.{PurgeStage}
 use Rattle.purge_task.specs.declared.task.PurgeStage.TheVariants as stage
 use Rattle.purge_task.specs.declared.work.Source.{Source}
 use Rattle.purge_task.specs.declared.work.Work.{Work}
 use Rattle.purge_task.proofs.CopiedOctetsLemmas.{copied_octets}
 use Rattle.purge_task.proofs.CopyStepLemmas.{copy_steps}
-use Rattle.purge_task.proofs.CopyingLemmas.{HasMore, IsCopyingOne, each_still, grown_amount, grown_ends, grown_keeps, grown_of, later_targets, more_copied, more_grows, target_untaken}
+use Rattle.purge_task.proofs.CopyingLemmas.{HasMore, IsCopyingOne, each_still, grown_amount, grown_ends, grown_keeps, grown_of, header_before, later_targets, more_copied, more_grows, target_untaken}
 use Rattle.purge_task.proofs.EventLemmas.{fall}
 use Rattle.purge_task.proofs.RegionLemmas.{with_end}
 use Rattle.purge_task.proofs.TargetLeavingLemmas.{one_file_leaves, same_others}
@@ -206,6 +206,7 @@ copied_ready {D = D} work now source left target row disk store before after sou
       behind = subst (λ (k : ℕ). k < target.0) (sym file_same) one.copying.behind;
       copied = copies_as store.map source.file.0 n.noted.file.0 (one.wanted.r.offset + one.wanted.r.size) now.from (one.copying.end + one.wanted.r.size) end (source.copied.items ++ place ∷ []) n.noted.copied.items file_same (let f = n.from in omega (arith, f, offset, size)) (omega (arith, size)) n.with_copy.listed
           (more_copied work source left target row store before place sound one (ap (λ (x : MapRow). x.uid.0) one.wanted.shown) refl);
+      header = between-on (IsRegionAdded row target.0) (λ d. HasTargetHeader (files_of d (file.Mail target.0))) (λ d. HasTargetHeader (files_of d (file.Mail target.0))) before after (λ a b r begins. header_before _ (a (file.Mail target.0)) (b (file.Mail target.0)) r.added begins) added one.copying.header;
       octets = octets_now work source n.noted left target row store before after one n.with_copy known added others;
       stays = between-on (IsRegionAdded row target.0) (λ d. MayLeave (d (file.Mail target.0)) None → ⊥) (λ d. MayLeave (d (file.Mail target.0)) None → ⊥) before after (λ a b r none gone. none (r.added.leaves gone)) added one.copying.stays;
     }

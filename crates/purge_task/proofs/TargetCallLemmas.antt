@@ -38,7 +38,7 @@ use Rattle.task_claims.specs.Leaving.{LeavesOthers, MayOnlyGrow, OthersTook}
 use Rattle.task_steps.specs.Step.{HasComeTo, was_given, was_used}
 use Rattle.purge_task.specs.Claims.{claims_of_sources, claims_of_target, purge_claims, sources_left}
 use Rattle.purge_task.specs.Clause.{IsPurgeStep, PurgeSteps, seen_by_purge}
-use Rattle.purge_task.specs.Keeping.{PurgeValue, IsTargetFirst, AreCopiedUpTo, AreSourcesApart, HasPurged, HasSwitchRoom, IsBeginningFirst, IsCopyingFirst, IsSourceCopied, IsTargetToMake, IsToBegin, IsToMake, target_header}
+use Rattle.purge_task.specs.Keeping.{PurgeValue, IsTargetFirst, AreCopiedUpTo, AreSourcesApart, HasPurged, HasSwitchRoom, HasTargetHeader, IsBeginningFirst, IsCopyingFirst, IsSourceCopied, IsTargetToMake, IsToBegin, IsToMake, target_header}
 use Rattle.purge_task.specs.declared.task.PurgeStage.{PurgeStage}
 use Rattle.purge_task.specs.declared.task.PurgeStage.TheVariants as stage
 use Rattle.purge_task.specs.declared.work.Source.{Source}
@@ -221,8 +221,7 @@ none_copied work source store places none from short = subst (λ (ps : List MapP
   there = All-nil _;
   every = All-weaker (λ (row : MapRecord). Unit {0}) (λ (row : MapRecord). row.file ≡ source.file.0 → row.offset < work.from → 1 ≤ row.count → list_any (λ (place : MapPlace). place.uid.0 == row.uid) [] ≡ true) (λ row t here before. absurd (omega (arith, before, from))) store.map.records (λ i d lt. tt);
   once = pairs_nil (λ (a b : MapPlace). a.uid.0 ≢ b.uid.0);
-  behind = All-nil _;
-  follow = pairs_nil (λ (a b : MapPlace). HasRecord store.map a.uid.0 (λ row. a.offset + row.size ≤ b.offset));
+  row = refl;
   fits =
       let l = sum_by-le-sum_by (λ (row : MapRecord). if is_copied_from source.file.0 row && nat_le work.from row.offset then row.size else 0) (λ (row : MapRecord). if is_copied_from source.file.0 row then row.size else 0) store.map.records
       (λ row. either_less (is_copied_from source.file.0 row) (nat_le work.from row.offset) row.size) in
@@ -263,6 +262,10 @@ made_ready {D = D} work source left target disk store before after left_are is u
     stays_there None k = tt
     stays_there (Some told) k = λ gone. let e : None ≡ Some target_header = (k.leaves None).0 gone in cc e
 
+    begins : (h : Option History) → IfTold h (λ now. Keeps (now (file.Mail target.0)) target_header) → IfTold h (λ now. HasTargetHeader (files_of now (file.Mail target.0)))
+    begins None k = tt
+    begins (Some told) k = ([], k.reads)
+
     none_there : (h : Option History) → IfTold h (λ now. AreCopied (files_of now) store.map target.0 source.copied.items)
     none_there None = tt
     none_there (Some told) = subst (λ (ps : List MapPlace). AreCopied (files_of told.now) store.map target.0 ps) (sym one.uncopied) (All-nil _)
@@ -283,6 +286,7 @@ made_ready {D = D} work source left target disk store before after left_are is u
         unnamed = make.0.unnamed;
         behind = make.2;
         copied = none_copied work source store source.copied.items one.uncopied first.0 one.short;
+        header = begins after kept;
         octets = none_there after;
         stays = stays_there after kept;
       };

@@ -13,6 +13,7 @@ use Rattle.purge_task.specs.Taken.{CanTakeAll, take_all, targets_given}
 use Rattle.purge_task.specs.declared.task.PurgeStage.{PurgeStage}
 use Rattle.purge_task.specs.declared.work.Source.{Source}
 use Rattle.purge_task.proofs.DropLemmas.{map_taken, next_begun}
+use Rattle.purge_task.proofs.FewInstanceLemmas.{true_le}
 use Rattle.purge_task.proofs.FirstCallLemmas.{few_taken, find_refused_says, known_taken, memory_says, most_fits, store_ready, store_taken, taken_says}
 use Rattle.purge_task.proofs.FurtherLemmas.{further_first}
 use Rattle.purge_task.proofs.TakeableLemmas.{can_take_all}
@@ -95,7 +96,7 @@ returns-clause-further g c =
 pub returns-clause-few : goal.returns-clause-few
 returns-clause-few g c =
     let store = store_taken c.in-Ok.work.sources.items c.args.store.now c.of.new.store c.reserve.new.store c.take_files.new.store c.in_ok-found.ensures.same c.reserve.ensures.same (subst (λ (ss : List Source). c.take_files.new.store ≡ take_all ss c.reserve.new.store) c.deref_mut.ensures.value c.take_files.ensures.store) in
-    known_taken c.in-Ok.work.sources.items c.take_files.new.store.disk c.reserve.new.store.files.spare c.reserve.new.store.map_log.room 9223372036854775808 c.args.store.now c.take_files.new.store store.0 (c.if-not-has_few_instances.ensures refl)
+    known_taken c.in-Ok.work.sources.items c.take_files.new.store.disk c.reserve.new.store.files.spare c.reserve.new.store.map_log.room 9223372036854775808 c.args.store.now c.take_files.new.store store.0 (true_le (length c.args.store.now.instances.known) 9223372036854775808 (sym c.if-not-has_few_instances.ensures))
 
 pub returns-then-not-has_few_instances-clause-map : goal.returns-then-not-has_few_instances-clause-map
 returns-then-not-has_few_instances-clause-map g c = refl
