@@ -35,6 +35,17 @@ pub mod ListingLemmas
 pub mod NextLemmas
 pub mod NumberLemmas
 pub mod PartLemmas
+pub mod QuietCallLemmas
+pub mod QuietEndLemmas
+pub mod QuietEventLemmas
+pub mod QuietFileLemmas
+pub mod QuietFirstLemmas
+pub mod QuietLemmas
+pub mod QuietOuterLemmas
+pub mod QuietRegionLemmas
+pub mod QuietStepLemmas
+pub mod QuietSwitchLemmas
+pub mod QuietTargetLemmas
 pub mod ReadingLemmas
 pub mod ReadyLemmas
 pub mod RegionLemmas

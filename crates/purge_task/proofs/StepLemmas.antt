@@ -293,7 +293,7 @@ ready_did inside t d store history same h = by_value (subst (λ (v : PurgeValue)
     by_value k = (k.0, λ begun. let low = k.1 begun in record { dropped = low.dropped; files = low.files; instances = low.instances })
 
 -- what it came to depends on the counts alone
-came_counts : (result : Result PurgeStage Refusal) (s u : PurgeValue) → s.dropped ≡ u.dropped → s.files ≡ u.files → s.instances ≡ u.instances → came_to result s ≡ came_to result u
+pub came_counts : (result : Result PurgeStage Refusal) (s u : PurgeValue) → s.dropped ≡ u.dropped → s.files ≡ u.files → s.instances ≡ u.instances → came_to result s ≡ came_to result u
 came_counts (Ok next) s u dropped files instances =
     ap (λ (n : ℕ). record s { stage = next; did = did.Quiet; dropped = n }) dropped
     ∙ (ap (λ (n : ℕ). record s { stage = next; did = did.Quiet; dropped = u.dropped; files = n }) files ∙ ap (λ (n : ℕ). record s { stage = next; did = did.Quiet; dropped = u.dropped; files = u.files; instances = n }) instances)
