@@ -23,7 +23,7 @@ use Rattle.purge_task.proofs.first_event.begin.Goals as goal
 pub returns-then-not-has_few_instances-clause-step :
     goal.returns-then-not-has_few_instances-clause-step
 returns-then-not-has_few_instances-clause-step g c t at =
-    memory_says g.D.Disk.history g.D.Disk.faults t _ c.args.store.now.files.spare c.args.store.now.map_log.room c.args.store.now c.args.store.now at refl refl c.requires refl (omega arith) (idle-begins (g.D.Disk.history c.args.store.now.disk)) refl
+    memory_says g.D.Disk.history g.D.Disk.faults t _ c.args.store.now.files.spare c.args.store.now.map_log.room c.args.store.now c.args.store.now at refl refl c.requires refl (omega arith) (idle-begins (g.D.Disk.history c.args.store.now.disk)) refl c.facts.ensures.store
 
 pub returns-in_err-found-clause-step : goal.returns-in_err-found-clause-step
 returns-in_err-found-clause-step g c t at =
@@ -41,7 +41,7 @@ returns-in-Err-clause-step g c t at =
     let more = c.reserve.ensures.no_less.1 in
     memory_says g.D.Disk.history g.D.Disk.faults t _ c.reserve.new.store.files.spare c.reserve.new.store.map_log.room c.args.store.now c.reserve.new.store at refl refl c.requires ready.0 (omega (arith, room, more))
     (subst (λ d. IsIdle (g.D.Disk.history c.args.store.now.disk) (g.D.Disk.history d)) (sym ready.1) c.in_ok-found.ensures.idle)
-    (subst (λ d. NoFault (g.D.Disk.faults c.args.store.now.disk) (g.D.Disk.faults d)) (sym ready.1) (c.in_ok-found.ensures.unfailed (λ e. cc e)))
+    (subst (λ d. NoFault (g.D.Disk.faults c.args.store.now.disk) (g.D.Disk.faults d)) (sym ready.1) (c.in_ok-found.ensures.unfailed (λ e. cc e))) c.facts.ensures.store
 
 pub take_files-requires : goal.take_files-requires
 take_files-requires g c =
