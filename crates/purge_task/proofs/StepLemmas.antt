@@ -265,7 +265,10 @@ step_did : {D : Type 0} → (t next : PurgeValue) (d : Did) (answer : Progress) 
 step_did t next d answer old new before later began faults h = record {
   ready = h.ready;
   does = (h.does.0, λ around. steps_did h.does.0 around t next d old new before later began faults (ended_by answer) (h.does.1 around));
+  first = h.first;
+  refused = h.refused;
   stopped = h.stopped;
+  regions = h.regions;
   claims = h.claims;
   grows = h.grows;
   mail = h.mail;

@@ -22,8 +22,9 @@ use Rattle.purge_task.specs.declared.task.PurgeStage.{PurgeStage}
 use Rattle.purge_task.specs.declared.task.PurgeStage.TheVariants as stage
 use Rattle.purge_task.specs.declared.work.Source.{Source}
 use Rattle.purge_task.specs.declared.work.Work.{Work}
-use Rattle.purge_task.proofs.EventLemmas.{did_stopped, fall}
+use Rattle.purge_task.proofs.EventLemmas.{did_stopped, fall, same_refusal}
 use Rattle.purge_task.proofs.PartLemmas.{copies_some, goes_on_some, next_copies, next_goes_on, next_removes}
+use Rattle.disk_model.proofs.IdleLemmas.{idle-begins}
 
 -- a purge that stands at a stage has a next part
 pub next_some : {D : Type 0} → (around : Around) (s : PurgeStage) (t : PurgeValue) (store : StoreValue D) (run : Run) (place : ℕ) (said : List Reply) → IsAtPurgeStage s t store run place said → (part : EventPart) × (next_part around run request.Purge (own_events place run) ≡ Some part)
@@ -50,7 +51,10 @@ pub stopped_says : {D : Type 0} → (t next : PurgeValue) (store : StoreValue D)
 stopped_says t next store history faults how stopped = record {
   ready = λ e. absurd (let k : progress.Done (reply.Refused refusal.Stopped) ≡ progress.More = e in cc k);
   does = ([], λ after. stopped_steps after t next store history faults how stopped);
+  first = λ begins. record { idle = idle-begins history; found = λ e. absurd (let k : progress.Done (reply.Refused refusal.Stopped) ≡ progress.More = e in cc k) };
+  refused = λ why e read stop. absurd (stop (same_refusal refusal.Stopped why e));
   stopped = record { 0 = λ e. stopped; 1 = λ e. refl };
+  regions = λ runs. absurd (fall store.stopped stopped runs);
   claims = λ runs. absurd (fall store.stopped stopped runs);
   grows = omega arith;
   mail = mail_still store.map history;
