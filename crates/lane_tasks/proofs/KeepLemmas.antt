@@ -329,7 +329,7 @@ keeps_saving history faults t next old new answer request ends saves = by_run ol
           fell = λ ran stops. let f = subst (λ (a : Progress). FaultsAt a (faults old.disk) (faults new.disk)) (s.stopped.1 stops) s.faults in (f.rose tt, f.reads);
           unread = λ none. absurd none;
           calm = λ answers told. f.calm (λ e. told (ap ended_by e));
-          tells = tt;
+          tells = λ runs. (faults old.disk, faults new.disk, subst (λ (a : Progress). Saves t.stage next.stage t.name t.time t.size a next.did old new (history old.disk) (history new.disk) (faults old.disk) (faults new.disk)) (sym (progress_back answer)) s);
           undoomed = undoomed_by (task.Deliver t) (task.Deliver next) old new (λ none. none) (λ runs. r) ends.doomed;
           idle = λ reads none. absurd reads;
           still = λ was. absurd (let k : true ≡ false = sym was ∙ r in cc k);
@@ -339,7 +339,7 @@ keeps_saving history faults t next old new answer request ends saves = by_run ol
         }
 
     by_run : (b : Bool) → old.stopped ≡ b → Same history faults (task.Deliver t) (task.Deliver next) old new (ended_by answer)
-    by_run true was = keeps_still history faults (task.Deliver t) (task.Deliver next) old new (ended_by answer) request (λ none. none) (λ runs synced. absurd (let k : false ≡ true = sym runs ∙ (ap (λ (s : StoreValue _). s.stopped) (ends.still was) ∙ was) in cc k)) tt (ends.still was)
+    by_run true was = keeps_still history faults (task.Deliver t) (task.Deliver next) old new (ended_by answer) request (λ none. none) (λ runs synced. absurd (let k : false ≡ true = sym runs ∙ (ap (λ (s : StoreValue _). s.stopped) (ends.still was) ∙ was) in cc k)) (λ runs. absurd (let k : true ≡ false = sym was ∙ runs in cc k)) (ends.still was)
     by_run false r = ran r (saves r)
 
 -- ---- of a resync
