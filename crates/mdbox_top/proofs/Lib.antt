@@ -1,6 +1,5 @@
 pub mod BatchLemmas
 pub mod CountsLemmas
-pub mod ChangeLemmas
 pub mod DeliverLemmas
 pub mod ExerciseLemmas
 pub mod FetchLemmas
@@ -18,16 +17,13 @@ pub mod OneStepLemmas
 pub mod PrefixLemmas
 pub mod PurgeLemmas
 pub mod RebuildLemmas
-pub mod ReplyFaultLemmas
 pub mod RequestLemmas
 pub mod ResyncLemmas
-pub mod RoomLemmas
 pub mod RunLemmas
 pub mod SaveLemmas
 pub mod SavedFormLemmas
 pub mod ServeLemmas
 pub mod ServedLemmas
-pub mod StaysLemmas
 pub mod UnderWayLemmas
 pub mod WorkLemmas
 pub mod WroteLemmas
