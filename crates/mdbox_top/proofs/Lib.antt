@@ -1,6 +1,5 @@
 pub mod BatchLemmas
 pub mod CountsLemmas
-pub mod ChangeLemmas
 pub mod DeliverLemmas
 pub mod ExerciseLemmas
 pub mod FetchLemmas
@@ -19,18 +18,15 @@ pub mod PlaceLemmas
 pub mod PrefixLemmas
 pub mod PurgeLemmas
 pub mod RebuildLemmas
-pub mod ReplyFaultLemmas
 pub mod ReplyKindLemmas
 pub mod ReplyReadLemmas
 pub mod RequestLemmas
 pub mod ResyncLemmas
-pub mod RoomLemmas
 pub mod RunLemmas
 pub mod SaveLemmas
 pub mod SavedFormLemmas
 pub mod ServeLemmas
 pub mod ServedLemmas
-pub mod StaysLemmas
 pub mod TextReadLemmas
 pub mod UnderWayLemmas
 pub mod WorkLemmas

@@ -3,7 +3,6 @@ pub mod BatchRun
 pub mod BatchWork
 pub mod CountsRun
 pub mod DeliverRun
-pub mod ChangeEvents
 pub mod Changed
 pub mod CopyRun
 pub mod ExerciseRun
