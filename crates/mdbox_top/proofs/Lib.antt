@@ -14,12 +14,9 @@ pub mod MailLemmas
 pub mod MakeLemmas
 pub mod NumbersLemmas
 pub mod OneStepLemmas
-pub mod PlaceLemmas
 pub mod PrefixLemmas
 pub mod PurgeLemmas
 pub mod RebuildLemmas
-pub mod ReplyKindLemmas
-pub mod ReplyReadLemmas
 pub mod RequestLemmas
 pub mod ResyncLemmas
 pub mod RunLemmas
@@ -27,7 +24,6 @@ pub mod SaveLemmas
 pub mod SavedFormLemmas
 pub mod ServeLemmas
 pub mod ServedLemmas
-pub mod TextReadLemmas
 pub mod UnderWayLemmas
 pub mod WorkLemmas
 pub mod WroteLemmas
