@@ -96,7 +96,7 @@ returns-in-Resync-clause-claims g c = λ runs.
 
 pub returns-in-Purge-clause-claims : goal.returns-in-Purge-clause-claims
 returns-in-Purge-clause-claims g c = λ runs.
-    subst (λ (t : Task). MovesOwnClaims (claims_at t) (claims_at (task.Purge c.step-in-Purge.new.self)) c.step-in-Purge.result c.args.store.now c.step-in-Purge.new.store (g.D.Disk.history c.args.store.now.disk) (g.D.Disk.history c.step-in-Purge.new.store.disk)) (sym c.in-Purge.is) (record { moves = c.step-in-Purge.ensures.claims runs; leaves = c.step-in-Purge.ensures.leaves runs; ended = λ given is. c.step-in-Purge.ensures.ended given is runs })
+    subst (λ (t : Task). MovesOwnClaims (claims_at t) (claims_at (task.Purge c.step-in-Purge.new.self)) c.step-in-Purge.result c.args.store.now c.step-in-Purge.new.store (g.D.Disk.history c.args.store.now.disk) (g.D.Disk.history c.step-in-Purge.new.store.disk)) (sym c.in-Purge.is) (c.step-in-Purge.ensures.step.claims runs)
 
 -- ---- a store that is stopped
 
@@ -131,7 +131,7 @@ pub returns-in-Resync-clause-stopped : goal.returns-in-Resync-clause-stopped
 returns-in-Resync-clause-stopped g c = (c.step-in-Resync.ensures.keeps.stopped.1, stays_stopped c.args.store.now c.step-in-Resync.new.store (λ stopped. (c.step-in-Resync.ensures.keeps.still stopped).0))
 
 pub returns-in-Purge-clause-stopped : goal.returns-in-Purge-clause-stopped
-returns-in-Purge-clause-stopped g c = (c.step-in-Purge.ensures.stopped.1, stays_stopped c.args.store.now c.step-in-Purge.new.store (λ stopped. (c.step-in-Purge.ensures.still stopped).0))
+returns-in-Purge-clause-stopped g c = (c.step-in-Purge.ensures.step.stopped.1, stays_stopped c.args.store.now c.step-in-Purge.new.store (λ stopped. (c.step-in-Purge.ensures.still stopped).0))
 
 -- a make that goes on ran in a store that runs
 make_ran : {D : Type 0} → (old new : StoreValue D) (answer : Progress) → ((answer ≡ progress.Done (reply.Refused refusal.Stopped)) ↔ (new.stopped ≡ true)) → (old.stopped ≡ true → new ≡ old) → answer ≡ progress.More → old.stopped ≡ false
@@ -288,7 +288,7 @@ returns-in-Resync-clause-keeps g c =
 pub returns-in-Purge-clause-does : goal.returns-in-Purge-clause-does
 returns-in-Purge-clause-does g c =
     subst (λ (t : Task). StepsTask t (task.Purge c.step-in-Purge.new.self) c.args.store.now c.step-in-Purge.new.store (g.D.Disk.history c.args.store.now.disk) (g.D.Disk.history c.step-in-Purge.new.store.disk) (g.D.Disk.faults c.args.store.now.disk) (g.D.Disk.faults c.step-in-Purge.new.store.disk) (ended_by c.step-in-Purge.result)) (sym c.in-Purge.is)
-    (purge_does c.in-Purge.task c.step-in-Purge.new.self c.args.store.now c.step-in-Purge.new.store (g.D.Disk.history c.args.store.now.disk) (g.D.Disk.history c.step-in-Purge.new.store.disk) (g.D.Disk.faults c.args.store.now.disk) (g.D.Disk.faults c.step-in-Purge.new.store.disk) (ended_by c.step-in-Purge.result) c.facts.ensures.store c.facts.ensures.files c.step-in-Purge.ensures.does)
+    (purge_does c.in-Purge.task c.step-in-Purge.new.self c.args.store.now c.step-in-Purge.new.store (g.D.Disk.history c.args.store.now.disk) (g.D.Disk.history c.step-in-Purge.new.store.disk) (g.D.Disk.faults c.args.store.now.disk) (g.D.Disk.faults c.step-in-Purge.new.store.disk) (ended_by c.step-in-Purge.result) c.facts.ensures.store c.facts.ensures.files c.step-in-Purge.ensures.step.does)
 
 pub returns-in-Purge-clause-left : goal.returns-in-Purge-clause-left
 returns-in-Purge-clause-left g c = λ more.
@@ -300,5 +300,5 @@ returns-in-Purge-clause-keeps g c =
     let old = c.args.store.now in
     let new = c.step-in-Purge.new.store in
     subst (λ (k : Task). TaskKeeps k (task.Purge c.step-in-Purge.new.self) old new (g.D.Disk.history old.disk) (g.D.Disk.history new.disk) (g.D.Disk.faults old.disk) (g.D.Disk.faults new.disk) (ended_by c.step-in-Purge.result)) (sym c.in-Purge.is)
-    (keeps_purging g.D.Disk.history g.D.Disk.faults c.in-Purge.task c.step-in-Purge.new.self old new (ended_by c.step-in-Purge.result) s.grows s.mail s.reads (λ told. s.calm (λ e. told (ap ended_by e))) s.changes s.unfailed s.fell (λ stopped. (s.still stopped).0)
+    (keeps_purging g.D.Disk.history g.D.Disk.faults c.in-Purge.task c.step-in-Purge.new.self old new (ended_by c.step-in-Purge.result) s.step.grows s.step.mail s.step.reads (λ told. s.step.calm (λ e. told (ap ended_by e))) s.step.changes s.step.unfailed s.step.fell (λ stopped. (s.still stopped).0)
     (s.drops, subst (λ (a : Progress). TellsCounts c.in-Purge.task c.step-in-Purge.new.self a) (sym (progress_back c.step-in-Purge.result)) s.counts))
