@@ -45,6 +45,7 @@ use Rattle.mail_save.specs.declared.task.SaveStage.TheVariants as save_stage
 use Rattle.purge_task.specs.Clause.{TellsUses, around_purging}
 use Rattle.purge_task.specs.Dropped.{DropsCounted, TellsCounts}
 use Rattle.purge_task.specs.Keeping.{PurgeValue}
+use Rattle.purge_task.specs.Quiet.{KeepsQuiet}
 use Rattle.resync_task.specs.Clause.{FindsResync}
 use Rattle.resync_task.specs.Correcting.{AreExact}
 use Rattle.resync_task.specs.Stages.{ToList}
@@ -177,14 +178,14 @@ progress_by (Some given) = progress.Done given
 abbrev pub ResyncsSo : {D : Type 0} → ResyncValue → ResyncValue → StoreValue D → StoreValue D → Option History → Option History → Option Reply → Type 0
 ResyncsSo t next old new before after ended = (began : Faults) × (now : Faults) × ResyncsOn t.stage next.stage (progress_by ended) next.did old new before after began now
 
--- What an event of a purge did to the map, unless it stopped the store: it dropped as many records as it counts; and what it has counted it
--- replies.
-abbrev pub PurgesSo : {D : Type 0} → PurgeValue → PurgeValue → StoreValue D → StoreValue D → Option Reply → Type 0
-PurgesSo t next old new ended = DropsCounted t next old new × TellsCounts t next (progress_by ended)
+-- What an event of a purge did, unless it stopped the store: it dropped as many records of the map as it counts; what it has counted it
+-- replies; and beside no other task it leaves files and map as a quiet purge does.
+abbrev pub PurgesSo : {D : Type 0} → PurgeValue → PurgeValue → StoreValue D → StoreValue D → Option History → Option History → Option Reply → Type 0
+PurgesSo t next old new before after ended = DropsCounted t next old new × TellsCounts t next (progress_by ended) × KeepsQuiet t next (progress_by ended) old new before after
 
 -- What a task answers, by what its event found in the store and left of it: of a listing or a setting of flags, and, unless the store
 -- was stopped, of a make, a copy, a move, an expunge or a resync, with the stages before and after. A resync that puts counts right
--- leaves each exact. Of a purge it is what its event dropped.
+-- leaves each exact. Of a purge it is what its event dropped, and, beside no other task, what it made of the files.
 abbrev pub TellsStore : {D : Type 0} → Task → Task → StoreValue D → StoreValue D → Option History → Option History → Option Reply → Type 0
 TellsStore (task.Ops t) next old new before after ended = (given : Reply) × (ended ≡ Some given) × Replies t.request old new given
 TellsStore (task.Make t) (task.Make next) old new before after ended = old.stopped ≡ false → MakeAnswers t.name t.stage old new before after next.stage (progress_by ended)
@@ -192,7 +193,7 @@ TellsStore (task.Copy t) (task.Copy next) old new before after ended = old.stopp
 TellsStore (task.Move t) (task.Move next) old new before after ended = old.stopped ≡ false → MoveAnswers t.name t.uid t.target t.stage old new next.stage (progress_by ended)
 TellsStore (task.Expunge t) (task.Expunge next) old new before after ended = old.stopped ≡ false → ExpungeAnswers t.name t.uid t.stage old new next.stage (progress_by ended)
 TellsStore (task.Resync t) (task.Resync next) old new before after ended = (old.stopped ≡ false → ResyncsSo t next old new before after ended) × ((corrected damaged : ℕ) → ended ≡ Some (reply.Resynced corrected damaged) → AreExact new)
-TellsStore (task.Purge t) (task.Purge next) old new before after ended = PurgesSo t next old new ended
+TellsStore (task.Purge t) (task.Purge next) old new before after ended = PurgesSo t next old new before after ended
 TellsStore t next old new before after ended = Unit {0}
 
 -- For which maps storage files and instances stay: of a delivery, a purge and a removal for that of its store, of every other event for each.
