@@ -180,8 +180,10 @@ ResyncsSo t next old new before after ended = (began : Faults) × (now : Faults)
 
 -- What an event of a purge did, unless it stopped the store: it dropped as many records of the map as it counts; what it has counted it
 -- replies; and beside no other task it leaves files and map as a quiet purge does.
-abbrev pub PurgesSo : {D : Type 0} → PurgeValue → PurgeValue → StoreValue D → StoreValue D → Option History → Option History → Option Reply → Type 0
-PurgesSo t next old new before after ended = DropsCounted t next old new × TellsCounts t next (progress_by ended) × KeepsQuiet t next (progress_by ended) old new before after
+pub record PurgesSo {D : Type 0} (t next : PurgeValue) (old new : StoreValue D) (before after : Option History) (ended : Option Reply) : Type 0 where
+  pub drops : DropsCounted t next old new
+  pub counts : TellsCounts t next (progress_by ended)
+  pub quiet : KeepsQuiet t next (progress_by ended) old new before after
 
 -- What a task answers, by what its event found in the store and left of it: of a listing or a setting of flags, and, unless the store
 -- was stopped, of a make, a copy, a move, an expunge or a resync, with the stages before and after. A resync that puts counts right

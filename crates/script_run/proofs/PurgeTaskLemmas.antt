@@ -81,10 +81,10 @@ purge_told m now mid after t next given counts drops quiet = (next.dropped, drop
 
 purge_at : {D : Type 0} → (s old new : StoreValue D) (mid before after : Option History) (t next : PurgeValue) (ended : Option Reply) → AtPurge s.map t.stage t.dropped old.map → AtQuiet s mid t.stage t old before → PurgesSo t next old new before after ended → ((ended ≡ Some (reply.Refused refusal.Stopped) → ⊥) → new.stopped ≡ false)
     → (ended ≡ None → AtPurge s.map next.stage next.dropped new.map × AtQuiet s mid next.stage next new after) × ((given : Reply) → ended ≡ Some given → IsPurgeAnswer given mid after s.map new.map)
-purge_at {D} s old new mid before after t next ended is was so runs = (more, λ given e. purge_told s.map new.map mid after t next given (subst (λ (o : Option Reply). TellsCounts t next (progress_by o)) e so.1) (λ other. dropped (λ stopped. other (same given e stopped))) (λ records files instances told. quiet given e records files instances told))
+purge_at {D} s old new mid before after t next ended is was so runs = (more, λ given e. purge_told s.map new.map mid after t next given (subst (λ (o : Option Reply). TellsCounts t next (progress_by o)) e so.counts) (λ other. dropped (λ stopped. other (same given e stopped))) (λ records files instances told. quiet given e records files instances told))
   where
     dropped : (ended ≡ Some (reply.Refused refusal.Stopped) → ⊥) → DropsUnwanted s.map new.map next.dropped
-    dropped other = dropped_on s.map old.map new.map t.stage t.dropped next.dropped is (so.0 (runs other))
+    dropped other = dropped_on s.map old.map new.map t.stage t.dropped next.dropped is (so.drops (runs other))
 
     same : (given : Reply) → ended ≡ Some given → ended ≡ Some (reply.Refused refusal.Stopped) → given ≡ reply.Refused refusal.Stopped
     same given e stopped = let k : Some given ≡ Some (reply.Refused refusal.Stopped) = sym e ∙ stopped in cc k
@@ -92,14 +92,14 @@ purge_at {D} s old new mid before after t next ended is was so runs = (more, λ 
     quiet : (given : Reply) → ended ≡ Some given → (records files instances : ℕ) → given ≡ reply.Purged records files instances → HasPurgedQuietly records files instances mid after s.map new.map
     quiet given e records files instances told =
         let is_told : ended ≡ Some (reply.Purged records files instances) = e ∙ ap (λ (r : Reply). Some r) told in
-        let keeps = subst (λ (o : Option Reply). KeepsQuiet t next (progress_by o) old new before after) is_told so.2 in
+        let keeps = subst (λ (o : Option Reply). KeepsQuiet t next (progress_by o) old new before after) is_told so.quiet in
         quiet_told s old new mid before after t records files instances was (keeps (runs (λ stopped. let k : Some (reply.Purged records files instances) ≡ Some (reply.Refused refusal.Stopped) = sym is_told ∙ stopped in cc k)))
 
     more : ended ≡ None → AtPurge s.map next.stage next.dropped new.map × AtQuiet s mid next.stage next new after
     more none =
-        let begun : next.stage ≢ stage.First = subst (λ (a : Option Reply). TellsCounts t next (progress_by a)) none so.1 in
+        let begun : next.stage ≢ stage.First = subst (λ (a : Option Reply). TellsCounts t next (progress_by a)) none so.counts in
         let goes_on : ended ≡ Some (reply.Refused refusal.Stopped) → ⊥ = λ stopped. let k : None ≡ Some (reply.Refused refusal.Stopped) = sym none ∙ stopped in cc k in
-        let keeps = subst (λ (o : Option Reply). KeepsQuiet t next (progress_by o) old new before after) none so.2 in
+        let keeps = subst (λ (o : Option Reply). KeepsQuiet t next (progress_by o) old new before after) none so.quiet in
         (goes_at s.map new.map next.stage next.dropped begun (dropped goes_on), quiet_on s old new mid before after t next begun was (keeps (runs goes_on)))
 
 purge_on : {D : Type 0} → (s : StoreValue D) (mid : Option History) (t next : Task) (old new : StoreValue D) (before after : Option History) (ended : Option Reply) → StandsPurge s mid t old before → StaysOfRequest t next → TellsStore t next old new before after ended → ((ended ≡ Some (reply.Refused refusal.Stopped) → ⊥) → new.stopped ≡ false)

@@ -295,8 +295,9 @@ returns-in-Purge-clause-keeps g c =
     let old = c.args.store.now in
     let new = c.step-in-Purge.new.store in
     subst (λ (k : Task). TaskKeeps k (task.Purge c.step-in-Purge.new.self) old new (g.D.Disk.history old.disk) (g.D.Disk.history new.disk) (g.D.Disk.faults old.disk) (g.D.Disk.faults new.disk) (ended_by c.step-in-Purge.result)) (sym c.in-Purge.is)
-    (keeps_purging g.D.Disk.history g.D.Disk.faults c.in-Purge.task c.step-in-Purge.new.self old new (ended_by c.step-in-Purge.result) s.grows s.mail s.reads (λ told. s.calm (λ e. told (ap ended_by e))) s.changes s.unfailed s.fell (λ stopped. (s.still stopped).0) (
-      s.drops,
-      subst (λ (a : Progress). TellsCounts c.in-Purge.task c.step-in-Purge.new.self a) (sym (progress_back c.step-in-Purge.result)) s.counts,
-      subst (λ (a : Progress). KeepsQuiet c.in-Purge.task c.step-in-Purge.new.self a old new (g.D.Disk.history old.disk) (g.D.Disk.history new.disk)) (sym (progress_back c.step-in-Purge.result)) s.quiet,
-    ))
+    (keeps_purging g.D.Disk.history g.D.Disk.faults c.in-Purge.task c.step-in-Purge.new.self old new (ended_by c.step-in-Purge.result) s.grows s.mail s.reads (λ told. s.calm (λ e. told (ap ended_by e))) s.changes s.unfailed s.fell (λ stopped. (s.still stopped).0)
+    (record {
+      drops = s.drops;
+      counts = subst (λ (a : Progress). TellsCounts c.in-Purge.task c.step-in-Purge.new.self a) (sym (progress_back c.step-in-Purge.result)) s.counts;
+      quiet = subst (λ (a : Progress). KeepsQuiet c.in-Purge.task c.step-in-Purge.new.self a old new (g.D.Disk.history old.disk) (g.D.Disk.history new.disk)) (sym (progress_back c.step-in-Purge.result)) s.quiet;
+    }))
