@@ -376,6 +376,7 @@ undone_alone ((at, request.Expunge name uid) ∷ []) old mid new first last s wo
 undone_alone ((at, request.Copy name uid target) ∷ []) old mid new first last s world ended r (reply.Refused why ∷ []) are runs = (copy_told at name uid target (reply.Refused why) old mid new first last s world ended r are).unchanged why refl runs.0 runs.1
 undone_alone ((at, request.Move name uid target) ∷ []) old mid new first last s world ended r (reply.Refused why ∷ []) are runs = (move_told at name uid target (reply.Refused why) old mid new first last s world ended r are).unchanged why refl runs.0 runs.1
 undone_alone ((at, request.Resync) ∷ []) old mid new first last s world ended r (reply.Refused why ∷ []) are running = (resync_told at (reply.Refused why) old mid new first last s world ended r are).unchanged why refl running
+undone_alone ((at, request.Purge) ∷ []) old mid new first last s world ended r (reply.Refused why ∷ []) are calls = (purge_told at (reply.Refused why) old mid new first last s world ended r are).unchanged why refl calls.0 calls.1
 undone_alone script old mid new first last s world ended r given are none = absurd none
 
 alike_alone : {D : Type 0} → (script : Requests) (old mid new : Option History) (first last : Faults) (s : StoreValue D) (world ended : WorldValue D) → ScriptRan script old mid new first last s world ended → (given : List Reply) → ended.replies ≡ map Some given → IsGivenBackAlone script given → MeansAlike s.map (indexes_of s.boxes) ended.store.map (indexes_of ended.store.boxes)
@@ -394,7 +395,7 @@ resynced_alone ((at, request.Resync) ∷ []) old mid new first last s world ende
 resynced_alone script old mid new first last s world ended r given are = tt
 
 purged_alone : {D : Type 0} → (script : Requests) (old mid new : Option History) (first last : Faults) (s : StoreValue D) (world ended : WorldValue D) → ScriptRan script old mid new first last s world ended → (given : List Reply) → ended.replies ≡ map Some given → IsPurgedAlone script given mid new s.map ended.store.map
-purged_alone ((at, request.Purge) ∷ []) old mid new first last s world ended r (one ∷ []) are = purge_told at one old mid new first last s world ended r are
+purged_alone ((at, request.Purge) ∷ []) old mid new first last s world ended r (one ∷ []) are = (purge_told at one old mid new first last s world ended r are).answer
 purged_alone script old mid new first last s world ended r given are = tt
 
 unmade_alone : {D : Type 0} → (script : Requests) (old mid new : Option History) (first last : Faults) (s : StoreValue D) (world ended : WorldValue D) → ScriptRan script old mid new first last s world ended → (given : List Reply) → ended.replies ≡ map Some given → IsUnmadeAlone script given → ReadAlike mid new

@@ -10,7 +10,7 @@ use Rattle.task_claims.specs.Leaving.{LeavesOthers}
 use Rattle.task_steps.specs.Step.{ended_by}
 use Rattle.purge_task.specs.Dropped.{TellsCounts}
 use Rattle.purge_task.specs.Quiet.{KeepsQuiet}
-use Rattle.lane_tasks.specs.Clause.{TaskKeeps, StepsTask}
+use Rattle.lane_tasks.specs.Clause.{TaskKeeps, StepsTask, progress_by}
 use Rattle.lane_tasks.specs.Tasks.{IsReadyTask, IsTaskOf, claims_at, work_left}
 use Rattle.lane_tasks.specs.declared.task.Task.{Task}
 use Rattle.lane_tasks.specs.declared.task.Task.TheVariants as task
@@ -300,4 +300,7 @@ returns-in-Purge-clause-keeps g c =
       drops = s.drops;
       counts = subst (λ (a : Progress). TellsCounts c.in-Purge.task c.step-in-Purge.new.self a) (sym (progress_back c.step-in-Purge.result)) s.counts;
       quiet = subst (λ (a : Progress). KeepsQuiet c.in-Purge.task c.step-in-Purge.new.self a old new (g.D.Disk.history old.disk) (g.D.Disk.history new.disk)) (sym (progress_back c.step-in-Purge.result)) s.quiet;
+      regions = s.regions;
+      idle = s.idle;
+      refused = λ why e. s.refused why (sym (progress_back c.step-in-Purge.result) ∙ ap progress_by e);
     }))
