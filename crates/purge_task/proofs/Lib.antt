@@ -43,6 +43,7 @@ pub mod QuietFirstLemmas
 pub mod QuietLemmas
 pub mod QuietOuterLemmas
 pub mod QuietRegionLemmas
+pub mod QuietStepLemmas
 pub mod QuietSwitchLemmas
 pub mod QuietTargetLemmas
 pub mod ReadingLemmas
@@ -53,6 +54,7 @@ pub mod RemovalCallLemmas
 pub mod RemovalLemmas
 pub mod RemovalSeenLemmas
 pub mod RunLemmas
+pub mod SameRegionLemmas
 pub mod SameSeenLemmas
 pub mod StableLemmas
 pub mod StageLemmas
@@ -63,6 +65,7 @@ pub mod SwitchClaimLemmas
 pub mod SwitchFileLemmas
 pub mod SwitchFitLemmas
 pub mod SwitchReadyLemmas
+pub mod SwitchRegionLemmas
 pub mod SwitchRowLemmas
 pub mod SwitchSeenLemmas
 pub mod SwitchStepLemmas

@@ -4,7 +4,7 @@ use Rattle.std.specs.Prelude.{AllPairs, Contains, drop, take}
 use Rattle.std.specs.Option.{IfSome, option_map, option_map_or}
 use Rattle.std.proofs.lemmas.List.{length-drop, length-take-le}
 use Rattle.std.proofs.lemmas.List.Elements.{All-cons, All-head, All-tail, All-weaker}
-use Rattle.disk_model.specs.Disk.{Between, DiskState, Faults, Files, History, IfTold, Keeps, SameButFor, named, reading}
+use Rattle.disk_model.specs.Disk.{Between, DiskState, Files, History, IfTold, Keeps, SameButFor, named, reading}
 use Rattle.disk_model.specs.declared.name.FileName.{FileName}
 use Rattle.disk_model.specs.declared.name.FileName.TheVariants as file
 use Rattle.disk_model.proofs.BetweenLemmas.{between-both, between-if, between-since}
@@ -31,7 +31,7 @@ use Rattle.store_core.proofs.MailChangeLemmas.{named_reads}
 use Rattle.task_claims.specs.Claims.{HasNoTask, MovesClaims, Pinned}
 use Rattle.task_claims.proofs.OpenedLemmas.{none_claimed}
 use Rattle.purge_task.specs.Claims.{claims_of_switched, claims_of_target, purge_claims, sources_left}
-use Rattle.purge_task.specs.Clause.{IsPurgeStep, at_stage}
+use Rattle.purge_task.specs.Clause.{at_stage}
 use Rattle.purge_task.specs.Copied.{IsRegionAdded}
 use Rattle.purge_task.specs.Dropped.{DropsUnwanted}
 use Rattle.purge_task.specs.Keeping.{HasPurged, IsBeginningFirst, IsToBegin, PurgeValue, target_header}
@@ -59,25 +59,7 @@ use Rattle.purge_task.proofs.TargetCallLemmas.{IsTargetOne}
 
 -- a quiet purge at its stage, whatever its last event did
 pub quiet_at : {D : Type 0} → (s : PurgeStage) (began files : Files) (first : MapMeaning) (t : PurgeValue) (store : StoreValue D) → t.stage ≡ s → IsQuietSoFar began first t store files → IsQuietSoFar began first (at_stage s t) store files
-quiet_at s began files first t store is h = subst (λ (p : PurgeStage). IsQuietSoFar began first (at_stage p t) store files) is (record {
-  only = h.only;
-  whole = h.whole;
-  numbers = h.numbers;
-  numbers_are = h.numbers_are;
-  done = h.done;
-  parted = h.parted;
-  counted = h.counted;
-  emptied = h.emptied;
-  drops = h.drops;
-  wanted = h.wanted;
-  clean = h.clean;
-  target = h.target;
-  regions = h.regions;
-  untouched = h.untouched;
-  gone = h.gone;
-  gone_are = h.gone_are;
-  removed = h.removed;
-})
+quiet_at s began files first t store is h = subst (λ (p : PurgeStage). IsQuietSoFar began first (at_stage p t) store files) is h
 
 pub from_stage : {D : Type 0} → (s : PurgeStage) (began files : Files) (first : MapMeaning) (t : PurgeValue) (store : StoreValue D) → t.stage ≡ s → IsQuietFrom t.stage began first t store files → IsQuietFrom s began first t store files
 from_stage s began files first t store is h = subst (λ (p : PurgeStage). IsQuietFrom p began first t store files) is h
@@ -138,22 +120,22 @@ begun_uncopied work source left store history h is =
     let first : IsBeginningFirst (source ∷ left) work store = subst (λ (l : List Source). IsBeginningFirst l work store) is h.2 in
     (All-head (IsToBegin work store) source left first.1).uncopied
 
-pub made_quiet : {D : Type 0} → (H : D → Option History) (F : D → Faults) (t : PurgeValue) (work : Work) (target : FileNo) (old new : StoreValue D) → t.stage ≡ stage.Begin work → IsStore (H old.disk) old → HasPurged (stage.Begin work) old (H old.disk) → (one : IsTargetOne work target old)
-    → OthersAreNamed (file.Mail target.0) (H old.disk) (H new.disk) → IfTold (H new.disk) (λ now. Keeps (now (file.Mail target.0)) target_header) → new.map ≡ old.map → IsPurgeStep t (at_stage (stage.Copying work) t) progress.More old new (H old.disk) (H new.disk) (F old.disk) (F new.disk)
+pub made_quiet : {D : Type 0} → (H : D → Option History) (t : PurgeValue) (work : Work) (target : FileNo) (old new : StoreValue D) → t.stage ≡ stage.Begin work → IsStore (H old.disk) old → HasPurged (stage.Begin work) old (H old.disk) → (one : IsTargetOne work target old)
+    → OthersAreNamed (file.Mail target.0) (H old.disk) (H new.disk) → IfTold (H new.disk) (λ now. Keeps (now (file.Mail target.0)) target_header) → new.map ≡ old.map → (new.stopped ≡ false → MovesClaims (purge_claims t.stage) (purge_claims (stage.Copying work)) old new)
     → KeepsQuiet t (at_stage (stage.Copying work) t) progress.More old new (H old.disk) (H new.disk)
-made_quiet H F t work target old new at is purged one others made same step runs =
+made_quiet H t work target old new at is purged one others made same moves runs =
     between-since (λ a b. (other : FileName) → other ≢ file.Mail target.0 → b other ≡ named (a other)) (StaysQuiet t (at_stage (stage.Copying work) t) old new) (λ now. Keeps (now (file.Mail target.0)) target_header) (H old.disk) (H new.disk)
     (λ a b rest keeps began first h. (let q : IsQuietSoFar began first t old (files_of a) = from_stage (stage.Begin work) began (files_of a) first t old at h in
     quiet_made began (files_of a) (files_of b) first t work one.source one.left target old new (quiet_at (stage.Begin work) began (files_of a) first t old at q) one.left_are one.target_is (begun_uncopied work one.source one.left old (H old.disk) purged one.left_are)
-    (one_changed target.0 old new a b same (λ other apart. ap reading (rest other apart) ∙ named_reads (a other)) one.make.unnamed (taken_unsealed target.0 old is.files one.make.taken)) (only_moves t.stage (stage.Copying work) old new q.only (step.claims runs)) keeps.reads))
+    (one_changed target.0 old new a b same (λ other apart. ap reading (rest other apart) ∙ named_reads (a other)) one.make.unnamed (taken_unsealed target.0 old is.files one.make.taken)) (only_moves t.stage (stage.Copying work) old new q.only (moves runs)) keeps.reads))
     others made
 
 -- ---- a message is copied
 
-pub copied_quiet : {D : Type 0} → (H : D → Option History) (F : D → Faults) (t : PurgeValue) (work now : Work) (source : Source) (left : List Source) (target : FileNo) (row : MapRow) (old new : StoreValue D) → t.stage ≡ stage.Copying work → IsStore (H old.disk) old → IsAsKnown old.files.files target.0 (H old.disk)
+pub copied_quiet : {D : Type 0} → (H : D → Option History) (t : PurgeValue) (work now : Work) (source : Source) (left : List Source) (target : FileNo) (row : MapRow) (old new : StoreValue D) → t.stage ≡ stage.Copying work → IsStore (H old.disk) old → IsAsKnown old.files.files target.0 (H old.disk)
     → (one : IsCopyingOne work source left target row old (H old.disk)) → IsNotedFor row one.copying.end source left work now → Between (IsRegionAdded row target.0) (H old.disk) (H new.disk) → SameButFor (file.Mail target.0) (H old.disk) (H new.disk) → new.map ≡ old.map
-    → IsPurgeStep t (at_stage (stage.Copying now) t) progress.More old new (H old.disk) (H new.disk) (F old.disk) (F new.disk) → KeepsQuiet t (at_stage (stage.Copying now) t) progress.More old new (H old.disk) (H new.disk)
-copied_quiet H F t work now source left target row old new at is known one noted added others same step runs =
+    → (new.stopped ≡ false → MovesClaims (purge_claims t.stage) (purge_claims (stage.Copying now)) old new) → KeepsQuiet t (at_stage (stage.Copying now) t) progress.More old new (H old.disk) (H new.disk)
+copied_quiet H t work now source left target row old new at is known one noted added others same moves runs =
     between-if (λ a b. IsRegionAdded row target.0 a b × ((other : FileName) → other ≢ file.Mail target.0 → b other ≡ a other)) (StaysQuiet t (at_stage (stage.Copying now) t) old new) (λ disk. option_map length (reading (disk (file.Mail target.0))) ≡ end_in target.0 old.files.files) (H old.disk) (H new.disk)
     (λ a b change long began first h. (let q : IsQuietSoFar began first t old (files_of a) = from_stage (stage.Copying work) began (files_of a) first t old at h in
     let region = change.0 in
@@ -164,27 +146,27 @@ copied_quiet H F t work now source left target row old new at is known one noted
     let ends : length region.added.before ≡ one.copying.end = (let e : Some (length region.added.before) ≡ Some one.copying.end = sym (ap (λ (o : Option (List ℕ)). option_map length o) region.added.read) ∙ (long ∙ one.copying.ends) in cc e) in
     quiet_copied began (files_of a) (files_of b) first t work now source noted.noted left target (record { uid = row.uid; offset = one.copying.end }) one.wanted.r region.added.before piece old new (quiet_at (stage.Copying work) began (files_of a) first t old at q) one.left_are noted.after noted.with_copy one.target_is
     (ap (record_at old.map) uid ∙ one.wanted.there) one.wanted.wanted region.added.read region.added.reads (sym ends) (length-take-le row.size (drop row.offset region.there) (let d = length-drop row.offset region.there in omega (arith, d, inside)) ∙ size)
-    (one_changed target.0 old new a b same (λ other apart. ap reading (change.1 other apart)) one.copying.unnamed (taken_unsealed target.0 old is.files one.copying.taken)) (only_moves t.stage (stage.Copying now) old new q.only (step.claims runs))))
+    (one_changed target.0 old new a b same (λ other apart. ap reading (change.1 other apart)) one.copying.unnamed (taken_unsealed target.0 old is.files one.copying.taken)) (only_moves t.stage (stage.Copying now) old new q.only (moves runs))))
     (between-both (IsRegionAdded row target.0) (λ a b. (other : FileName) → other ≢ file.Mail target.0 → b other ≡ a other) (λ a b. IsRegionAdded row target.0 a b × ((other : FileName) → other ≢ file.Mail target.0 → b other ≡ a other)) (H old.disk) (H new.disk) (λ a b r s. (r, s)) added others) known
 
 -- ---- a file is removed
 
-pub removed_quiet : {D : Type 0} → (H : D → Option History) (F : D → Faults) (t : PurgeValue) (work : Work) (on : PurgeStage) (source : Source) (left : List Source) (old new : StoreValue D) → t.stage ≡ stage.Removing work → IsStore (H old.disk) old → AreFilesInOrder old.files → IsRemovingOne work source left old → IsNextStage (went_on work) on
-    → SameButFor (file.Mail source.file.0) (H old.disk) (H new.disk) → IfTold (H new.disk) (λ now. reading (now (file.Mail source.file.0)) ≡ None) → new.map ≡ old.map → IsPurgeStep t (at_stage on t) progress.More old new (H old.disk) (H new.disk) (F old.disk) (F new.disk) → KeepsQuiet t (at_stage on t) progress.More old new (H old.disk) (H new.disk)
-removed_quiet H F t work on source left old new at is order one next others gone same step runs =
+pub removed_quiet : {D : Type 0} → (H : D → Option History) (t : PurgeValue) (work : Work) (on : PurgeStage) (source : Source) (left : List Source) (old new : StoreValue D) → t.stage ≡ stage.Removing work → IsStore (H old.disk) old → AreFilesInOrder old.files → IsRemovingOne work source left old → IsNextStage (went_on work) on
+    → SameButFor (file.Mail source.file.0) (H old.disk) (H new.disk) → IfTold (H new.disk) (λ now. reading (now (file.Mail source.file.0)) ≡ None) → new.map ≡ old.map → (new.stopped ≡ false → MovesClaims (purge_claims t.stage) (purge_claims on) old new) → KeepsQuiet t (at_stage on t) progress.More old new (H old.disk) (H new.disk)
+removed_quiet H t work on source left old new at is order one next others gone same moves runs =
     between-since (λ a b. (other : FileName) → other ≢ file.Mail source.file.0 → b other ≡ a other) (StaysQuiet t (at_stage on t) old new) (λ now. reading (now (file.Mail source.file.0)) ≡ None) (H old.disk) (H new.disk)
     (λ a b rest none began first h. (let q : IsQuietSoFar began first t old (files_of a) = from_stage (stage.Removing work) began (files_of a) first t old at h in
     quiet_removed began (files_of a) (files_of b) first t work on source left old new (quiet_at (stage.Removing work) began (files_of a) first t old at q) one.left_are next
-    (one_changed source.file.0 old new a b same (λ other apart. ap reading (rest other apart)) one.elsewhere (doomed_unsealed source.file.0 old is.files order.used one.doomed)) (only_moves t.stage on old new q.only (step.claims runs)) none))
+    (one_changed source.file.0 old new a b same (λ other apart. ap reading (rest other apart)) one.elsewhere (doomed_unsealed source.file.0 old is.files order.used one.doomed)) (only_moves t.stage on old new q.only (moves runs)) none))
     others gone
 
-pub bare_quiet : {D : Type 0} → (H : D → Option History) (F : D → Faults) (t : PurgeValue) (work : Work) (on : PurgeStage) (source : Source) (left : List Source) (old new : StoreValue D) → t.stage ≡ stage.Begin work → IsStore (H old.disk) old → AreFilesInOrder old.files → IsBareOne work source left old → IsNextStage (went_on work) on
-    → SameButFor (file.Mail source.file.0) (H old.disk) (H new.disk) → IfTold (H new.disk) (λ now. reading (now (file.Mail source.file.0)) ≡ None) → new.map ≡ old.map → IsPurgeStep t (at_stage on (one_counted t)) progress.More old new (H old.disk) (H new.disk) (F old.disk) (F new.disk) → KeepsQuiet t (at_stage on (one_counted t)) progress.More old new (H old.disk) (H new.disk)
-bare_quiet H F t work on source left old new at is order one next others gone same step runs =
+pub bare_quiet : {D : Type 0} → (H : D → Option History) (t : PurgeValue) (work : Work) (on : PurgeStage) (source : Source) (left : List Source) (old new : StoreValue D) → t.stage ≡ stage.Begin work → IsStore (H old.disk) old → AreFilesInOrder old.files → IsBareOne work source left old → IsNextStage (went_on work) on
+    → SameButFor (file.Mail source.file.0) (H old.disk) (H new.disk) → IfTold (H new.disk) (λ now. reading (now (file.Mail source.file.0)) ≡ None) → new.map ≡ old.map → (new.stopped ≡ false → MovesClaims (purge_claims t.stage) (purge_claims on) old new) → KeepsQuiet t (at_stage on (one_counted t)) progress.More old new (H old.disk) (H new.disk)
+bare_quiet H t work on source left old new at is order one next others gone same moves runs =
     between-since (λ a b. (other : FileName) → other ≢ file.Mail source.file.0 → b other ≡ a other) (StaysQuiet t (at_stage on (one_counted t)) old new) (λ now. reading (now (file.Mail source.file.0)) ≡ None) (H old.disk) (H new.disk)
     (λ a b rest none began first h. (let q : IsQuietSoFar began first t old (files_of a) = from_stage (stage.Begin work) began (files_of a) first t old at h in
     quiet_bare began (files_of a) (files_of b) first t work on source left old new (quiet_at (stage.Begin work) began (files_of a) first t old at q) one.left_are (pairs_head (λ (x y : Source). x.file.0 < y.file.0) source left one.apart.files) next
-    (one_changed source.file.0 old new a b same (λ other apart. ap reading (rest other apart)) one.elsewhere (emptied_unsealed source.file.0 old (H old.disk) is order one.emptied)) (only_moves t.stage on old new q.only (step.claims runs)) none))
+    (one_changed source.file.0 old new a b same (λ other apart. ap reading (rest other apart)) one.elsewhere (emptied_unsealed source.file.0 old (H old.disk) is order one.emptied)) (only_moves t.stage on old new q.only (moves runs)) none))
     others gone
 
 -- ---- a file is switched
@@ -237,16 +219,16 @@ told_copies target source store (Some h) is runs w = (copies target w, subst (λ
     copies None w u is = absurd (let e : None ≡ Some u = is in cc e)
     copies (Some t) w u is = subst (λ (f : FileNo). AreCopied (files_of h.now) store.map f.0 source.copied.items) (let e : Some t ≡ Some u = is in cc e) w.octets
 
-pub switched_quiet : {D : Type 0} → (H : D → Option History) (F : D → Faults) (t : PurgeValue) (work later : Work) (next : PurgeStage) (source spent : Source) (left : List Source) (switched : Switched) (old new : StoreValue D) → IsToSwitch t.stage work old.map → old.stopped ≡ false → IsStore (H old.disk) old → AreFilesInOrder old.files → IsSwitchedOne work source left old (H old.disk)
+pub switched_quiet : {D : Type 0} → (H : D → Option History) (t : PurgeValue) (work later : Work) (next : PurgeStage) (source spent : Source) (left : List Source) (switched : Switched) (old new : StoreValue D) → IsToSwitch t.stage work old.map → old.stopped ≡ false → IsStore (H old.disk) old → AreFilesInOrder old.files → IsSwitchedOne work source left old (H old.disk)
     → sources_left later ≡ spent ∷ left → spent.file ≡ source.file → IsSwitched source switched old new → ReadsMail (H old.disk) (H new.disk) → IsBehindSwitch switched.is_unpinned later next
-    → IsPurgeStep t (record t { stage = next; did = did.Quiet; dropped = t.dropped + switched.dropped; files = t.files + 1 }) progress.More old new (H old.disk) (H new.disk) (F old.disk) (F new.disk) → KeepsQuiet t (record t { stage = next; did = did.Quiet; dropped = t.dropped + switched.dropped; files = t.files + 1 }) progress.More old new (H old.disk) (H new.disk)
-switched_quiet H F t work later next source spent left switched old new to running is order one later_are spent_is s reads behind step runs =
+    → (new.stopped ≡ false → MovesClaims (purge_claims t.stage) (purge_claims next) old new) → KeepsQuiet t (record t { stage = next; did = did.Quiet; dropped = t.dropped + switched.dropped; files = t.files + 1 }) progress.More old new (H old.disk) (H new.disk)
+switched_quiet H t work later next source spent left switched old new to running is order one later_are spent_is s reads behind moves runs =
     between-if (λ a b. ((number : ℕ) → reading (b (file.Mail number)) ≡ reading (a (file.Mail number))) × ((hash id : List ℕ) → b (file.Inst hash id) ≡ a (file.Inst hash id))) (StaysQuiet t (record t { stage = next; did = did.Quiet; dropped = t.dropped + switched.dropped; files = t.files + 1 }) old new) (λ now. ((u : FileNo) → source.target ≡ Some u → AreCopied (files_of now) old.map u.0 source.copied.items) × All (LiesInFile (files_of now)) old.map.records) (H old.disk) (H new.disk)
     (λ a b rest copies began first h. (let q : IsQuietSoFar began first t old (files_of a) = so_far t.stage began (files_of a) first to h in
     let removing : next ≡ stage.Removing later = subst (λ (c : Bool). IsBehindSwitch c later next) (s.unpinned ∙ equal_yes (pins_in source.file.0 old.files.files) 0 (q.only (Pinned source.file.0) ∙ no_pins t.stage source.file.0)) behind in
     subst (λ (p : PurgeStage). IsQuietSoFar began first (record t { stage = p; did = did.Quiet; dropped = t.dropped + switched.dropped; files = t.files + 1 }) new (files_of b)) (sym removing)
     (quiet_switched began (files_of a) (files_of b) first t source left later switched old new q (quietly (files_of a) (to_holds t.stage work old.map old.map (files_of a) source left to one.left_are q.target) copies.0 copies.1) s (store_sound (H old.disk) old is) rest.0 (λ hash id. ap reading (rest.1 hash id))
-    (only_moves t.stage (stage.Removing later) old new q.only (subst (λ (p : PurgeStage). MovesClaims (purge_claims t.stage) (purge_claims p) old new) removing (step.claims runs)))
+    (only_moves t.stage (stage.Removing later) old new q.only (subst (λ (p : PurgeStage). MovesClaims (purge_claims t.stage) (purge_claims p) old new) removing (moves runs)))
     (drops_both first old.map new.map t.dropped switched.dropped q.drops (switch_drops source switched old new (H old.disk) is order one.ready.emptied s)))))
     reads (told_copies source.target source old (H old.disk) is running one.ready.target)
   where

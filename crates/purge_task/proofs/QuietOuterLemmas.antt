@@ -4,7 +4,7 @@ use Rattle.std.specs.Prelude.{AllPairs, Contains}
 use Rattle.std.specs.List.{AllZip, list_any}
 use Rattle.std.specs.Option.{option_map, option_map_or}
 use Rattle.std.proofs.lemmas.List.Elements.{All-cons, All-contains, All-contains_itself, All-head, All-nil, All-tail, All-weaker}
-use Rattle.disk_model.specs.Disk.{Between, DiskState, Faults, Files, History, IfTold, IsIdle, SameButFor, reading}
+use Rattle.disk_model.specs.Disk.{Between, DiskState, Files, History, IfTold, IsIdle, SameButFor, reading}
 use Rattle.disk_model.specs.declared.name.FileName.{FileName}
 use Rattle.disk_model.specs.declared.name.FileName.TheVariants as file
 use Rattle.disk_model.proofs.BetweenLemmas.{between-begins, between-if, between-since}
@@ -31,7 +31,7 @@ use Rattle.store_core.specs.Value.{StoreValue}
 use Rattle.store_core.proofs.BoxAppendLemmas.{store_sound}
 use Rattle.task_claims.specs.Claims.{Held, MovesClaims}
 use Rattle.purge_task.specs.Claims.{purge_claims}
-use Rattle.purge_task.specs.Clause.{IsPurgeStep, at_stage, uncounted}
+use Rattle.purge_task.specs.Clause.{at_stage, uncounted}
 use Rattle.purge_task.specs.Found.{AreAllBut, FindsUnclean, found_numbers}
 use Rattle.purge_task.specs.Keeping.{PurgeValue}
 use Rattle.purge_task.specs.Quiet.{HaveWanted, HoldsCopied, IsOnlyTask, IsQuietFrom, IsQuietSoFar, HasBeenQuiet, KeepsQuiet, StaysQuiet, files_to_empty, sources_to_empty}
@@ -87,13 +87,13 @@ told_first store (Some d) numbers is runs finds =
     let running = is.running runs in
     (finds.passed, finds.unclean, (λ n. running.files_known n), subst (λ (m : MapMeaning). All (LiesInFile (files_of d.now)) m.records) (sym is.map_is) running.opens.regions)
 
-pub begun_quiet : {D : Type 0} → (H : D → Option History) (F : D → Faults) (t : PurgeValue) (on : PurgeStage) (found : Found) (work now : Work) (spare room : ℕ) (old new : StoreValue D) → t.stage ≡ stage.First → old.stopped ≡ false → IsTakenFirst (H old.disk) found work now new.disk spare room old new → IsNextStage now on
-    → IsIdle (H old.disk) (H new.disk) → new.map ≡ old.map → IsPurgeStep t (at_stage on (uncounted t)) progress.More old new (H old.disk) (H new.disk) (F old.disk) (F new.disk) → KeepsQuiet t (at_stage on (uncounted t)) progress.More old new (H old.disk) (H new.disk)
-begun_quiet {D = D} H F t on found work now spare room old new at running k next idle same step runs =
+pub begun_quiet : {D : Type 0} → (H : D → Option History) (t : PurgeValue) (on : PurgeStage) (found : Found) (work now : Work) (spare room : ℕ) (old new : StoreValue D) → t.stage ≡ stage.First → old.stopped ≡ false → IsTakenFirst (H old.disk) found work now new.disk spare room old new → IsNextStage now on
+    → IsIdle (H old.disk) (H new.disk) → new.map ≡ old.map → (new.stopped ≡ false → MovesClaims (purge_claims t.stage) (purge_claims on) old new) → KeepsQuiet t (at_stage on (uncounted t)) progress.More old new (H old.disk) (H new.disk)
+begun_quiet {D = D} H t on found work now spare room old new at running k next idle same moves runs =
     between-if (λ a b. b ≡ a) (StaysQuiet t (at_stage on (uncounted t)) old new) (HasAtFirst old numbers) (H old.disk) (H new.disk)
     (λ a b still has began first h. (let q : IsQuietFrom stage.First began first t old (files_of a) = from_stage stage.First began (files_of a) first t old at h in
     subst (λ (d : DiskState). IsQuietSoFar began first (at_stage on (uncounted t)) new (files_of d)) (sym still) (subst (λ (m : MapMeaning). IsQuietSoFar began m (at_stage on (uncounted t)) new (files_of a)) (sym q.2) (subst (λ (f : Files). IsQuietSoFar f old.map (at_stage on (uncounted t)) new (files_of a)) (sym q.1)
-    (quiet_begins (files_of a) t on numbers old new (record { only = q.0; long = has.2; sealed = k.store.files.sealed; whole = has.3 }) has.0 has.1 (store_sound (H old.disk) old k.store) numbers_are wanted (next_holds now on (files_of a) old.map next) (only_moves stage.First on old new q.0 (subst (λ (p : PurgeStage). MovesClaims (purge_claims p) (purge_claims on) old new) at (step.claims runs))) same)))))
+    (quiet_begins (files_of a) t on numbers old new (record { only = q.0; long = has.2; sealed = k.store.files.sealed; whole = has.3 }) has.0 has.1 (store_sound (H old.disk) old k.store) numbers_are wanted (next_holds now on (files_of a) old.map next) (only_moves stage.First on old new q.0 (subst (λ (p : PurgeStage). MovesClaims (purge_claims p) (purge_claims on) old new) at (moves runs))) same)))))
     idle.same (told_first old (H old.disk) numbers k.store running k.found_is.files.finds)
   where
     numbers : List ℕ
@@ -110,15 +110,15 @@ begun_quiet {D = D} H F t on found work now spare room old new at running k next
 
 -- ---- an instance is removed
 
-pub gone_quiet : {D : Type 0} → (H : D → Option History) (F : D → Faults) (t : PurgeValue) (id : InstId) (old new : StoreValue D) → t.stage ≡ stage.Instances → old.stopped ≡ false → HasKnownInstances (H old.disk) old → IsUselessOne old id
-    → IfTold (H new.disk) (λ now. reading (now (file_of id old.instances.known)) ≡ None) → SameButFor (file_of id old.instances.known) (H old.disk) (H new.disk) → new.map ≡ old.map → IsPurgeStep t (at_stage stage.Instances (instance_counted t)) progress.More old new (H old.disk) (H new.disk) (F old.disk) (F new.disk)
+pub gone_quiet : {D : Type 0} → (H : D → Option History) (t : PurgeValue) (id : InstId) (old new : StoreValue D) → t.stage ≡ stage.Instances → old.stopped ≡ false → HasKnownInstances (H old.disk) old → IsUselessOne old id
+    → IfTold (H new.disk) (λ now. reading (now (file_of id old.instances.known)) ≡ None) → SameButFor (file_of id old.instances.known) (H old.disk) (H new.disk) → new.map ≡ old.map → (new.stopped ≡ false → MovesClaims (purge_claims t.stage) (purge_claims stage.Instances) old new)
     → KeepsQuiet t (at_stage stage.Instances (instance_counted t)) progress.More old new (H old.disk) (H new.disk)
-gone_quiet H F t id old new at running known one gone others same step runs =
+gone_quiet H t id old new at running known one gone others same moves runs =
     between-if (λ a b. ((other : FileName) → other ≢ file_of id old.instances.known → b other ≡ a other) × (reading (b (file_of id old.instances.known)) ≡ None)) (StaysQuiet t (at_stage stage.Instances (instance_counted t)) old new) (AreInstancesThere old.instances.known) (H old.disk) (H new.disk)
     (λ a b change there began first h. (let q : IsQuietSoFar began first t old (files_of a) = from_stage stage.Instances began (files_of a) first t old at h in
     let whole : IsThereWhole (files_of a) one.k.row = All-contains (λ (k : KnownInstance). IsThereWhole (files_of a) k.row) old.instances.known one.k there.whole (found_one (λ (k : KnownInstance). is_useless old.map k) old.instances.known one.k one.found).0 in
     quiet_instance began (files_of a) (files_of b) first t one.k.row.hash.0 one.k.row.id.0 old new (quiet_at stage.Instances began (files_of a) first t old at q) (λ none. (let e : Some whole.octets ≡ None = sym whole.there ∙ none in cc e)) (ap (λ (n : FileName). reading (b n)) (sym file_is) ∙ change.1) (λ other apart. ap reading (change.0 other (λ e. apart (e ∙ file_is)))) same
-    (only_moves t.stage stage.Instances old new q.only (step.claims runs))))
+    (only_moves t.stage stage.Instances old new q.only (moves runs))))
     (between-since (λ a b. (other : FileName) → other ≢ file_of id old.instances.known → b other ≡ a other) (λ a b. ((other : FileName) → other ≢ file_of id old.instances.known → b other ≡ a other) × (reading (b (file_of id old.instances.known)) ≡ None)) (λ now. reading (now (file_of id old.instances.known)) ≡ None) (H old.disk) (H new.disk) (λ a b r p. (r, p)) others gone)
     (known.running running)
   where

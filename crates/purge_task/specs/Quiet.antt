@@ -122,24 +122,28 @@ pub record HaveInstancesGone (old new : Files) (gone : List (List ℕ × List �
 -- counted. Each storage file that is there is sealed or clean, or is still to be emptied, or is the one that it has at hand. It has dropped so
 -- many records, and only such as it may; each that is there has the octets that it had. Sealed files are as they were. It has removed so
 -- many instances.
-pub record IsQuietSoFar {D : Type 0} (began : Files) (first : MapMeaning) (t : PurgeValue) (store : StoreValue D) (files : Files) : Type 0 where
-  pub only : IsOnlyTask t.stage store
+pub record HasDoneQuietly {D : Type 0} (began : Files) (first : MapMeaning) (at : PurgeStage) (dropped files_counted instances_counted : ℕ) (store : StoreValue D) (files : Files) : Type 0 where
+  pub only : IsOnlyTask at store
   pub whole : All (LiesInFile began) first.records
   pub numbers : List ℕ
   pub numbers_are : AreAllOf (IsUncleanFile began first) numbers
   pub done : List ℕ
-  pub parted : numbers ≡ done ++ files_to_empty t.stage
-  pub counted : t.files ≡ length done
-  pub emptied : HasEmptied first store.map (is_one_of done) (is_one_of (files_to_empty t.stage))
-  pub drops : DropsUnwanted first store.map t.dropped
-  pub wanted : HaveWanted store.map (sources_to_empty t.stage)
-  pub clean : (number : ℕ) (octets : List ℕ) → files (file.Mail number) ≡ Some octets → is_sealed store.map number ≡ false → Contains (files_to_empty t.stage) number ⊎ IsAtHand t.stage number ⊎ IsClean store.map number octets
-  pub target : HoldsCopied files store.map t.stage
+  pub parted : numbers ≡ done ++ files_to_empty at
+  pub counted : files_counted ≡ length done
+  pub emptied : HasEmptied first store.map (is_one_of done) (is_one_of (files_to_empty at))
+  pub drops : DropsUnwanted first store.map dropped
+  pub wanted : HaveWanted store.map (sources_to_empty at)
+  pub clean : (number : ℕ) (octets : List ℕ) → files (file.Mail number) ≡ Some octets → is_sealed store.map number ≡ false → Contains (files_to_empty at) number ⊎ IsAtHand at number ⊎ IsClean store.map number octets
+  pub target : HoldsCopied files store.map at
   pub regions : HaveSameRegions began files first store.map
   pub untouched : (number : ℕ) → is_sealed first number ≡ true → files (file.Mail number) ≡ began (file.Mail number)
   pub gone : List (List ℕ × List ℕ)
   pub gone_are : HaveInstancesGone began files gone
-  pub removed : t.instances ≡ length gone
+  pub removed : instances_counted ≡ length gone
+
+-- as this task has counted it
+abbrev pub IsQuietSoFar : {D : Type 0} → Files → MapMeaning → PurgeValue → StoreValue D → Files → Type 0
+IsQuietSoFar began first t store files = HasDoneQuietly began first t.stage t.dropped t.files t.instances store files
 
 -- ---- an event
 

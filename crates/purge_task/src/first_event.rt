@@ -1,5 +1,5 @@
 // The first event of a purge.
-ghost use Rattle.std.specs.Prelude.{◌≡◌, ◌≢◌, ◌≤◌, length, false, IsTrue, IfOk, OnOk};
+ghost use Rattle.std.specs.Prelude.{◌≡◌, ◌≢◌, ◌≤◌, length, false, nat_le, IfOk, OnOk};
 ghost use Rattle.purge_task.specs.Clause.{IsPurgeStep, answer_of, came_to, uncounted};
 ghost use Rattle.purge_task.specs.Keeping.{PurgeValue};
 ghost use Rattle.purge_task.specs.Left.{IsFurther};
@@ -40,7 +40,7 @@ pub fn begin<D: Disk>(store: &mut Store<D>) -> Result<PurgeStage, Refusal>
 
 /// Whether so few instances are known that the number of those that are removed fits.
 fn has_few_instances<D: Disk>(store: &Store<D>) -> bool
-    ensures { IsTrue result → length store.now.instances.known ≤ 9223372036854775808 }
+    ensures { result ≡ nat_le (length store.now.instances.known) 9223372036854775808 }
 {
     store.facts();
     let mut count: u64 = 0;

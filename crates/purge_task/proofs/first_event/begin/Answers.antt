@@ -13,6 +13,7 @@ use Rattle.purge_task.specs.Taken.{CanTakeAll, take_all, targets_given}
 use Rattle.purge_task.specs.declared.task.PurgeStage.{PurgeStage}
 use Rattle.purge_task.specs.declared.work.Source.{Source}
 use Rattle.purge_task.proofs.DropLemmas.{map_taken, next_begun}
+use Rattle.purge_task.proofs.FewInstanceLemmas.{true_le}
 use Rattle.purge_task.proofs.FirstCallLemmas.{few_taken, find_refused_says, known_taken, memory_says, most_fits, store_ready, store_taken, taken_says}
 use Rattle.purge_task.proofs.FurtherLemmas.{further_first}
 use Rattle.purge_task.proofs.TakeableLemmas.{can_take_all}
@@ -22,7 +23,7 @@ use Rattle.purge_task.proofs.first_event.begin.Goals as goal
 pub returns-then-not-has_few_instances-clause-step :
     goal.returns-then-not-has_few_instances-clause-step
 returns-then-not-has_few_instances-clause-step g c t at =
-    memory_says g.D.Disk.history g.D.Disk.faults t _ c.args.store.now.files.spare c.args.store.now.map_log.room c.args.store.now c.args.store.now at refl refl c.requires refl (omega arith) (idle-begins (g.D.Disk.history c.args.store.now.disk)) refl
+    memory_says g.D.Disk.history g.D.Disk.faults t _ c.args.store.now.files.spare c.args.store.now.map_log.room c.args.store.now c.args.store.now at refl refl c.requires refl (omega arith) (idle-begins (g.D.Disk.history c.args.store.now.disk)) refl c.facts.ensures.store
 
 pub returns-in_err-found-clause-step : goal.returns-in_err-found-clause-step
 returns-in_err-found-clause-step g c t at =
@@ -40,7 +41,7 @@ returns-in-Err-clause-step g c t at =
     let more = c.reserve.ensures.no_less.1 in
     memory_says g.D.Disk.history g.D.Disk.faults t _ c.reserve.new.store.files.spare c.reserve.new.store.map_log.room c.args.store.now c.reserve.new.store at refl refl c.requires ready.0 (omega (arith, room, more))
     (subst (λ d. IsIdle (g.D.Disk.history c.args.store.now.disk) (g.D.Disk.history d)) (sym ready.1) c.in_ok-found.ensures.idle)
-    (subst (λ d. NoFault (g.D.Disk.faults c.args.store.now.disk) (g.D.Disk.faults d)) (sym ready.1) (c.in_ok-found.ensures.unfailed (λ e. cc e)))
+    (subst (λ d. NoFault (g.D.Disk.faults c.args.store.now.disk) (g.D.Disk.faults d)) (sym ready.1) (c.in_ok-found.ensures.unfailed (λ e. cc e))) c.facts.ensures.store
 
 pub take_files-requires : goal.take_files-requires
 take_files-requires g c =
@@ -95,7 +96,7 @@ returns-clause-further g c =
 pub returns-clause-few : goal.returns-clause-few
 returns-clause-few g c =
     let store = store_taken c.in-Ok.work.sources.items c.args.store.now c.of.new.store c.reserve.new.store c.take_files.new.store c.in_ok-found.ensures.same c.reserve.ensures.same (subst (λ (ss : List Source). c.take_files.new.store ≡ take_all ss c.reserve.new.store) c.deref_mut.ensures.value c.take_files.ensures.store) in
-    known_taken c.in-Ok.work.sources.items c.take_files.new.store.disk c.reserve.new.store.files.spare c.reserve.new.store.map_log.room 9223372036854775808 c.args.store.now c.take_files.new.store store.0 (c.if-not-has_few_instances.ensures refl)
+    known_taken c.in-Ok.work.sources.items c.take_files.new.store.disk c.reserve.new.store.files.spare c.reserve.new.store.map_log.room 9223372036854775808 c.args.store.now c.take_files.new.store store.0 (true_le (length c.args.store.now.instances.known) 9223372036854775808 (sym c.if-not-has_few_instances.ensures))
 
 pub returns-then-not-has_few_instances-clause-map : goal.returns-then-not-has_few_instances-clause-map
 returns-then-not-has_few_instances-clause-map g c = refl

@@ -1,7 +1,7 @@
 use Rattle.std.proofs.Common.{ap, length, refl}
 use Rattle.purge_task.specs.declared.work.Work.{Work}
 use Rattle.purge_task.proofs.DropLemmas.{switch_begun, switch_drops}
-use Rattle.purge_task.proofs.SwitchCallLemmas.{few_dropped, further_switch, left_within, made_switch, ready_one, switch_failed, switch_says, switched_one, tells_either}
+use Rattle.purge_task.proofs.SwitchCallLemmas.{few_dropped, further_switch, left_within, made_switch, ready_one, switch_failed, switch_says, switched_one, tells_either, to_switch_begun}
 use Rattle.purge_task.proofs.switch_event.switch_file.Goals as goal
 
 pub switch-requires-clause-ready : goal.switch-requires-clause-ready
@@ -21,7 +21,7 @@ returns-in-Err-clause-steps g c t h to =
     let at = c.requires.ready in
     let one = switched_one at.0 c.args.work c.args.store.now (g.D.Disk.history c.args.store.now.disk) at.1 at.2 in
     switch_failed g.D.Disk.history g.D.Disk.faults t c.args.store.now c.switch.new.store c.requires.running c.in-Err.ensures.any_moment c.in-Err.ensures.mail_stays c.in-Err.ensures.err
-    (tells_either one.0.target c.args.store.now.files c.switch.new.store.files (c.in-Err.ensures.stopped_files c.in-Err.ensures.refused.1 one.0 one.1 one.2.left_are)) c.in-Err.ensures.grows _ refl c.in-Err.ensures.fault
+    (tells_either one.0.target c.args.store.now.files c.switch.new.store.files (c.in-Err.ensures.stopped_files c.in-Err.ensures.refused.1 one.0 one.1 one.2.left_are)) c.in-Err.ensures.grows _ refl c.in-Err.ensures.fault (to_switch_begun t.stage c.args.work c.args.store.now.map to)
 
 pub returns-in-Ok-clause-steps : goal.returns-in-Ok-clause-steps
 returns-in-Ok-clause-steps g c t h to =

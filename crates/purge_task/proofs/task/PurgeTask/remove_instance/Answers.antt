@@ -9,7 +9,7 @@ pub returns-in-None-clause-step : goal.returns-in-None-clause-step
 returns-in-None-clause-step g c =
     let at = ap (λ (t : PurgeValue). t.stage) c.self.view_is ∙ c.requires.first in
     stage_as stage.Instances _ c.args.self.now _ _ c.args.store.now c.args.store.now _ _ _ _ c.self.view_is
-    (last_says _ _ c.args.store.now (g.D.Disk.history c.args.store.now.disk) (g.D.Disk.faults c.args.store.now.disk) refl at refl c.requires.running c.facts.ensures.instances (sym c.next_useless.ensures ∙ c.in-None.is))
+    (last_says _ _ c.args.store.now (g.D.Disk.history c.args.store.now.disk) (g.D.Disk.faults c.args.store.now.disk) refl at refl c.requires.running c.facts.ensures.instances (sym c.next_useless.ensures ∙ c.in-None.is) c.facts.ensures.store)
 
 pub returns-in-None-clause-drops : goal.returns-in-None-clause-drops
 returns-in-None-clause-drops g c runs = same_drops c.args.self.now.dropped _ c.args.store.now.map c.args.store.now.map (ap (λ (v : PurgeValue). v.dropped) c.self.view_is) refl

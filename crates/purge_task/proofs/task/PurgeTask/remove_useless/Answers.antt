@@ -35,12 +35,12 @@ returns-in-Ok-clause-step g c =
     let quiet = ap (λ (t : PurgeValue). t.did) c.self.view_is ∙ c.requires.quiet in
     stage_as stage.Instances _ c.args.self.now _ _ c.args.store.now c.remove_instance.new.self _ _ _ _ c.self.view_is
     (gone_says g.D.Disk.history g.D.Disk.faults _ _ c.args.id c.args.store.now c.remove_instance.new.self refl refl quiet refl refl refl c.requires.running c.facts.ensures.instances c.facts.ensures.ids c.known_id.ensures.long c.known_id.ensures.octets c.requires.useless
-    c.in-Ok.ensures.any_moment c.in-Ok.ensures.mail_stays c.in-Ok.ensures.settled c.in-Ok.ensures.others c.in-Ok.ensures.firm c.in-Ok.ensures.ok c.in-Ok.ensures.grows c.in-Ok.ensures.unfailed)
+    c.in-Ok.ensures.any_moment c.in-Ok.ensures.mail_stays c.in-Ok.ensures.settled c.in-Ok.ensures.others c.in-Ok.ensures.firm c.in-Ok.ensures.ok c.in-Ok.ensures.grows c.in-Ok.ensures.unfailed c.facts.ensures.store)
 
 pub returns-in-Err-clause-step : goal.returns-in-Err-clause-step
 returns-in-Err-clause-step g c =
     stage_as stage.Instances _ c.args.self.now _ _ c.args.store.now c.remove_instance.new.self _ _ _ _ c.self.view_is
-    (failed_says g.D.Disk.history g.D.Disk.faults _ _ c.args.store.now c.remove_instance.new.self refl c.requires.running c.in-Err.ensures.any_moment c.in-Err.ensures.mail_stays c.in-Err.ensures.err c.in-Err.ensures.grows _ refl c.in-Err.ensures.fault)
+    (failed_says g.D.Disk.history g.D.Disk.faults _ _ c.args.store.now c.remove_instance.new.self refl c.requires.running c.in-Err.ensures.any_moment c.in-Err.ensures.mail_stays c.in-Err.ensures.err c.in-Err.ensures.grows _ refl c.in-Err.ensures.fault (λ begins. cc begins))
 
 pub returns-in-Ok-clause-left : goal.returns-in-Ok-clause-left
 returns-in-Ok-clause-left g c more =
