@@ -1,6 +1,6 @@
 -- The clause of a task's step, for tasks of any kind.
-use Rattle.std.specs.Prelude.{◌≡◌, ◌≤◌, ℕ, true, false, List, Option, Some, None}
-use Rattle.disk_model.specs.Disk.{Between, History, Faults, Grows, IsIdle}
+use Rattle.std.specs.Prelude.{◌≡◌, ◌≢◌, ◌≤◌, ℕ, true, false, List, Option, Some, None}
+use Rattle.disk_model.specs.Disk.{History, Faults, Grows, IsIdle}
 use Rattle.attach_detach.specs.declared.message.Prepared.{Prepared}
 use Rattle.mdbox_base.specs.declared.progress.Progress.{Progress}
 use Rattle.mdbox_base.specs.declared.progress.Progress.TheVariants as progress
@@ -15,7 +15,6 @@ use Rattle.mdbox_base.specs.Streams.{Rose}
 use Rattle.model_kept.specs.Kept.{MailIsKept}
 use Rattle.model_lists.specs.Lists.{Lists}
 use Rattle.model_meaning.specs.MapMeaning.{MapMeaning}
-use Rattle.model_store.specs.Settled.{files_of}
 use Rattle.list_machine.specs.Machine.{is_step}
 use Rattle.list_machine.specs.Run.{Run, RunEvent, and_then}
 use Rattle.journal.specs.Events.{Around}
@@ -43,10 +42,10 @@ use Rattle.mail_save.specs.MailFiles.{WritesMail}
 use Rattle.mail_save.specs.SaveSeen.{around_saving}
 use Rattle.mail_save.specs.Task.{SaveValue}
 use Rattle.mail_save.specs.declared.task.SaveStage.TheVariants as save_stage
-use Rattle.purge_task.specs.Clause.{TellsUses, around_purging}
+use Rattle.purge_task.specs.Clause.{BeginsPurge, KeepsRegions, TellsUses, around_purging}
 use Rattle.purge_task.specs.Dropped.{DropsCounted, TellsCounts}
 use Rattle.purge_task.specs.Keeping.{PurgeValue}
-use Rattle.purge_task.specs.Quiet.{HaveSameRegions, KeepsQuiet}
+use Rattle.purge_task.specs.Quiet.{KeepsQuiet}
 use Rattle.purge_task.specs.declared.task.PurgeStage.TheVariants as purge_stage
 use Rattle.resync_task.specs.Clause.{FindsResync}
 use Rattle.resync_task.specs.Correcting.{AreExact}
@@ -182,14 +181,15 @@ ResyncsSo t next old new before after ended = (began : Faults) × (now : Faults)
 
 -- What an event of a purge did, unless it stopped the store: it dropped as many records of the map as it counts; what it has counted it
 -- replies; beside no other task it leaves files and map as a quiet purge does; and each record that is still there has the octets that it
--- had. The first one changes nothing of the disk, and only that is refused but by a failed call.
+-- had. The first one changes nothing of the disk, takes just the files that aren't clean, and is the only one that is refused but by a
+-- failed call.
 pub record PurgesSo {D : Type 0} (t next : PurgeValue) (old new : StoreValue D) (before after : Option History) (ended : Option Reply) : Type 0 where
   pub drops : DropsCounted t next old new
   pub counts : TellsCounts t next (progress_by ended)
   pub quiet : KeepsQuiet t next (progress_by ended) old new before after
-  pub regions : new.stopped ≡ false → Between (λ was now. HaveSameRegions (files_of was) (files_of now) old.map new.map) before after
-  pub idle : t.stage ≡ purge_stage.First → IsIdle before after
-  pub refused : (why : Refusal) → ended ≡ Some (reply.Refused why) → (why ≡ refusal.ReadFault → ⊥) → (why ≡ refusal.Stopped → ⊥) → t.stage ≡ purge_stage.First
+  pub regions : new.stopped ≡ false → KeepsRegions old.map new.map before after
+  pub first : t.stage ≡ purge_stage.First → BeginsPurge (progress_by ended) next.stage old before after
+  pub refused : (why : Refusal) → ended ≡ Some (reply.Refused why) → why ≢ refusal.ReadFault → why ≢ refusal.Stopped → t.stage ≡ purge_stage.First
 
 -- What a task answers, by what its event found in the store and left of it: of a listing or a setting of flags, and, unless the store
 -- was stopped, of a make, a copy, a move, an expunge or a resync, with the stages before and after. A resync that puts counts right

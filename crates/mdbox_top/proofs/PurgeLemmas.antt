@@ -15,10 +15,11 @@ use Rattle.model_store.specs.Listing.{ShowLists}
 use Rattle.list_machine.specs.Machine.{PartAnswers, TargetFits, NextFiles, first_refusal, part_checks, refusal_at, refused_where}
 use Rattle.list_machine.specs.Run.{EventPart, First, Last, Run, RunEvent, TakenFile, before, drawn_of, map_of, target_length, with_targets}
 use Rattle.journal.specs.Journal.{AreSteps, IsReplyOf, JournalStep}
+use Rattle.purge_task.specs.Clause.{KeepsRegions}
 use Rattle.purge_task.specs.Dropped.{DropsUnwanted}
 use Rattle.script_run.specs.LeftOpen.{IsRequestDone}
 use Rattle.script_run.specs.One.{IsUndoneAlone, RunsAlone, alone}
-use Rattle.script_run.specs.Purged.{HasKeptRegions, HasPurgedQuietly, IsPurgeAnswer}
+use Rattle.script_run.specs.Purged.{HasPurgedQuietly, IsPurgeAnswer}
 use Rattle.script_run.proofs.AloneLemmas.{left_still, may_read}
 use Rattle.script_run.proofs.ShownLemmas.{ListsAnswer}
 use Rattle.script_run.proofs.SomeListsLemmas.{some_lists}
@@ -109,7 +110,7 @@ purged_runs given dropped files instances d s = let k : reply.Purged dropped fil
 refusal_stops : (given : Reply) (why : Refusal) → given ≡ reply.Refused why → (why ≡ refusal.Stopped → ⊥) → given ≡ reply.Refused refusal.Stopped → ⊥
 refusal_stops given why e running s = running (let k : reply.Refused why ≡ reply.Refused refusal.Stopped = sym e ∙ s in cc k)
 
-refused_drops : (why : Refusal) (read new : Option History) (m later : MapMeaning) → (why ≡ refusal.Stopped → ⊥) → IsPurgeAnswer (reply.Refused why) read new m later → (dropped : ℕ) × DropsUnwanted m later dropped × HasKeptRegions read new m later
+refused_drops : (why : Refusal) (read new : Option History) (m later : MapMeaning) → (why ≡ refusal.Stopped → ⊥) → IsPurgeAnswer (reply.Refused why) read new m later → (dropped : ℕ) × DropsUnwanted m later dropped × KeepsRegions m later read new
 refused_drops refusal.Stopped read new m later running answer = absurd (running refl)
 refused_drops why read new m later running answer = answer
 
@@ -118,7 +119,7 @@ numbers_told : (given : Reply) (old new : Option History) (began now : Faults) �
 numbers_told given old new began now w dropped files instances e = subst (λ (r : Reply). IsPurgeAnswer r w.done.leaves.opened new w.done.m w.later) e w.comes.purged
 
 -- what a refusal tells
-refusal_told : (given : Reply) (old new : Option History) (began now : Faults) → (w : PurgeDone given old new began now) → (why : Refusal) → given ≡ reply.Refused why → (why ≡ refusal.Stopped → ⊥) → (dropped : ℕ) × DropsUnwanted w.done.m w.later dropped × HasKeptRegions w.done.leaves.opened new w.done.m w.later
+refusal_told : (given : Reply) (old new : Option History) (began now : Faults) → (w : PurgeDone given old new began now) → (why : Refusal) → given ≡ reply.Refused why → (why ≡ refusal.Stopped → ⊥) → (dropped : ℕ) × DropsUnwanted w.done.m w.later dropped × KeepsRegions w.done.m w.later w.done.leaves.opened new
 refusal_told given old new began now w why e running = refused_drops why w.done.leaves.opened new w.done.m w.later running (subst (λ (r : Reply). IsPurgeAnswer r w.done.leaves.opened new w.done.m w.later) e w.comes.purged)
 
 purge_tells : (given : Reply) (old new : Option History) (began now : Faults) → PurgeDone given old new began now → IsPurgeReply old new given

@@ -12,6 +12,7 @@ use Rattle.model_meaning.specs.MapMeaning.{MapMeaning}
 use Rattle.model_store.specs.Listing.{ShowLists}
 use Rattle.model_store.specs.Safe.{Safe}
 use Rattle.model_store.specs.Settled.{IsSettledFor}
+use Rattle.purge_task.specs.Clause.{KeepsRegions}
 use Rattle.purge_task.specs.Dropped.{DropsUnwanted}
 use Rattle.store_open.specs.Opened.{IsOpenedAs}
 use Rattle.store_sweep.specs.Moments.{NoFailedChange}
@@ -19,7 +20,7 @@ use Rattle.store_sweep.specs.Swept.{IsSwept}
 use Rattle.request_text.specs.declared.outcome.Outcome.{Outcome}
 use Rattle.script_run.specs.One.{OpensUnchanged}
 use Rattle.script_run.specs.Opening.{StaysSettled}
-use Rattle.script_run.specs.Purged.{HasKeptRegions, HasPurgedQuietly}
+use Rattle.script_run.specs.Purged.{HasPurgedQuietly}
 use Rattle.mdbox_top.specs.Served.{RequestOutcome}
 
 -- The files open with logs in which so many records were dropped, none of which was wanted, and each other one keeps all but its place; and
@@ -57,7 +58,7 @@ pub record IsPurgeReply (old new : Option History) (given : Reply) : Type 0 wher
   pub done : (dropped files instances : ℕ) → given ≡ reply.Purged dropped files instances → OpensPurged dropped m meanings new
   pub quiet : (dropped files instances : ℕ) (is : given ≡ reply.Purged dropped files instances) → HasPurgedQuietly dropped files instances read new m (done dropped files instances is).map
   pub refused : (why : Refusal) → given ≡ reply.Refused why → (why ≡ refusal.Stopped → ⊥) → (dropped : ℕ) × OpensPurged dropped m meanings new
-  pub kept : (why : Refusal) (is : given ≡ reply.Refused why) (runs : why ≡ refusal.Stopped → ⊥) → HasKeptRegions read new m (refused why is runs).1.map
+  pub kept : (why : Refusal) (is : given ≡ reply.Refused why) (runs : why ≡ refusal.Stopped → ⊥) → KeepsRegions m (refused why is runs).1.map read new
   pub undone : (why : Refusal) → given ≡ reply.Refused why → (why ≡ refusal.ReadFault → ⊥) → (why ≡ refusal.Stopped → ⊥) → OpensUnchanged m meanings old new
   pub settled : (given ≡ reply.Refused refusal.Stopped → ⊥) → StaysSettled old new
 

@@ -16,6 +16,7 @@ use Rattle.task_claims.specs.Claims.{HasNoTask}
 use Rattle.task_steps.specs.Step.{ended_by}
 use Rattle.task_steps.proofs.OneEventLemmas.{not_true}
 use Rattle.mail_ops.specs.Requests.{IsOpsRequest}
+use Rattle.purge_task.specs.Clause.{KeepsRegions}
 use Rattle.purge_task.specs.Dropped.{DropsFrom, DropsUnwanted, TellsCounts}
 use Rattle.purge_task.specs.Keeping.{PurgeValue}
 use Rattle.purge_task.specs.Quiet.{HasBeenQuiet, HaveSameRegions, IsQuietFrom, KeepsQuiet, StaysQuiet}
@@ -29,7 +30,7 @@ use Rattle.lane_tasks.specs.Tasks.{BeginsTask}
 use Rattle.lane_tasks.specs.declared.task.Task.{Task}
 use Rattle.lane_tasks.specs.declared.task.Task.TheVariants as task
 use Rattle.lane_tasks.proofs.StepLemmas.{ops_asked}
-use Rattle.script_run.specs.Purged.{HasKeptRegions, HasPurgedQuietly, IsPurgeAnswer}
+use Rattle.script_run.specs.Purged.{HasPurgedQuietly, IsPurgeAnswer}
 use Rattle.script_run.proofs.OneTaskLemmas.{KeepsAlone}
 
 -- ---- what it knows
@@ -57,7 +58,7 @@ StandsPurge s mid other store history = ⊥
 -- but by a failed call, nothing has changed.
 pub record IsPurgeTold {D : Type 0} (s : StoreValue D) (mid : Option History) (given : Reply) (store : StoreValue D) (history : Option History) : Type 0 where
   pub answer : IsPurgeAnswer given mid history s.map store.map
-  pub unchanged : (why : Refusal) → given ≡ reply.Refused why → (why ≡ refusal.ReadFault → ⊥) → (why ≡ refusal.Stopped → ⊥) → IsIdle mid history
+  pub unchanged : (why : Refusal) → given ≡ reply.Refused why → why ≢ refusal.ReadFault → why ≢ refusal.Stopped → IsIdle mid history
 
 -- ---- event after event
 
@@ -88,8 +89,8 @@ regions_at : {D : Type 0} → (at : PurgeStage) (began files later : Files) (fir
 regions_at stage.First began files later first t old new from was same = subst (λ (f : Files). HaveSameRegions f later first new.map) (sym from.1) (subst (λ (m : MapMeaning). HaveSameRegions files later m new.map) (sym from.2) same)
 regions_at at began files later first t old new from was same = regions_then began files later first old.map new.map was from.regions same
 
-kept_on : {D : Type 0} → (s old new : StoreValue D) (mid before after : Option History) (t : PurgeValue) → AtQuiet s mid t.stage t old before → ((now : MapRecord) → Contains new.map.records now → (was : MapRecord) × Contains old.map.records was × (was.uid ≡ now.uid)) → Between (λ was now. HaveSameRegions (files_of was) (files_of now) old.map new.map) before after
-    → HasKeptRegions mid after s.map new.map
+kept_on : {D : Type 0} → (s old new : StoreValue D) (mid before after : Option History) (t : PurgeValue) → AtQuiet s mid t.stage t old before → ((now : MapRecord) → Contains new.map.records now → (was : MapRecord) × Contains old.map.records was × (was.uid ≡ now.uid)) → KeepsRegions old.map new.map before after
+    → KeepsRegions s.map new.map mid after
 kept_on s old new mid before after t was rows same =
     between-then (λ began now. IsQuietFrom t.stage (files_of began) s.map t old (files_of now)) (λ was now. HaveSameRegions (files_of was) (files_of now) old.map new.map) (λ began now. HaveSameRegions (files_of began) (files_of now) s.map new.map) mid before after
     (λ began now later from kept. regions_at t.stage (files_of began) (files_of now) (files_of later) s.map t old new from rows kept) was same
@@ -105,7 +106,7 @@ quiet_told s old new mid before after t dropped files instances was been =
     between-then (λ began now. IsQuietFrom t.stage (files_of began) s.map t old (files_of now)) (HasBeenQuiet dropped files instances t old new) (λ began now. PurgesQuietly (files_of began) (files_of now) s.map new.map dropped files instances) mid before after
     (λ began now later from done. done (files_of began) s.map from) was been
 
-purge_told : (m now : MapMeaning) (mid after : Option History) (t next : PurgeValue) (given : Reply) → TellsCounts t next (progress_by (Some given)) → ((given ≡ reply.Refused refusal.Stopped → ⊥) → DropsUnwanted m now next.dropped) → ((dropped files instances : ℕ) → given ≡ reply.Purged dropped files instances → HasPurgedQuietly dropped files instances mid after m now) → ((given ≡ reply.Refused refusal.Stopped → ⊥) → HasKeptRegions mid after m now)
+purge_told : (m now : MapMeaning) (mid after : Option History) (t next : PurgeValue) (given : Reply) → TellsCounts t next (progress_by (Some given)) → ((given ≡ reply.Refused refusal.Stopped → ⊥) → DropsUnwanted m now next.dropped) → ((dropped files instances : ℕ) → given ≡ reply.Purged dropped files instances → HasPurgedQuietly dropped files instances mid after m now) → ((given ≡ reply.Refused refusal.Stopped → ⊥) → KeepsRegions m now mid after)
     → IsPurgeAnswer given mid after m now
 purge_told m now mid after t next (reply.Purged dropped files instances) counts drops quiet kept = (subst (λ (n : ℕ). DropsUnwanted m now n) (sym counts.1.0) (drops (λ e. cc e)), quiet dropped files instances refl)
 purge_told m now mid after t next (reply.Refused refusal.Stopped) counts drops quiet kept = tt
@@ -118,7 +119,7 @@ purge_at {D} s old new mid before after t next ended stands so runs = (more, tol
     dropped : (ended ≡ Some (reply.Refused refusal.Stopped) → ⊥) → DropsUnwanted s.map new.map next.dropped
     dropped other = dropped_on s.map old.map new.map t.stage t.dropped next.dropped stands.1 (so.drops (runs other))
 
-    kept : (ended ≡ Some (reply.Refused refusal.Stopped) → ⊥) → HasKeptRegions mid after s.map new.map
+    kept : (ended ≡ Some (reply.Refused refusal.Stopped) → ⊥) → KeepsRegions s.map new.map mid after
     kept other = kept_on s old new mid before after t stands.2 (was_before t.stage t.dropped next.dropped old.map new.map (so.drops (runs other))) (so.regions (runs other))
 
     same : (given : Reply) → ended ≡ Some given → ended ≡ Some (reply.Refused refusal.Stopped) → given ≡ reply.Refused refusal.Stopped
@@ -142,7 +143,7 @@ purge_at {D} s old new mid before after t next ended stands so runs = (more, tol
     told : (given : Reply) → ended ≡ Some given → IsPurgeTold s mid given new after
     told given e = record {
       answer = purge_told s.map new.map mid after t next given (subst (λ (o : Option Reply). TellsCounts t next (progress_by o)) e so.counts) (λ other. dropped (λ stopped. other (same given e stopped))) (λ records files instances told. quiet given e records files instances told) (λ other. kept (λ stopped. other (same given e stopped)));
-      unchanged = λ why is read stopped. let first = so.refused why (e ∙ ap (λ (r : Reply). Some r) is) read stopped in idle_first mid before after t.stage first stands.3 (so.idle first);
+      unchanged = λ why is read stopped. let first = so.refused why (e ∙ ap (λ (r : Reply). Some r) is) read stopped in idle_first mid before after t.stage first stands.3 (so.first first).idle;
     }
 
 purge_on : {D : Type 0} → (s : StoreValue D) (mid : Option History) (t next : Task) (old new : StoreValue D) (before after : Option History) (ended : Option Reply) → StandsPurge s mid t old before → StaysOfRequest t next → TellsStore t next old new before after ended → ((ended ≡ Some (reply.Refused refusal.Stopped) → ⊥) → new.stopped ≡ false)

@@ -9,16 +9,12 @@ use Rattle.model_meaning.specs.MapMeaning.{MapMeaning}
 use Rattle.model_store.specs.Settled.{files_of}
 use Rattle.journal.specs.Journal.{Requests}
 use Rattle.journal.specs.QuietPurge.{PurgesQuietly}
+use Rattle.purge_task.specs.Clause.{KeepsRegions}
 use Rattle.purge_task.specs.Dropped.{DropsUnwanted}
-use Rattle.purge_task.specs.Quiet.{HaveSameRegions}
 
 -- as far as the disk tells, a purge led from these files and this map's meaning to those, with these numbers
 abbrev pub HasPurgedQuietly : ℕ → ℕ → ℕ → Option History → Option History → MapMeaning → MapMeaning → Type 0
 HasPurgedQuietly dropped files instances opened now m later = Between (λ old new. PurgesQuietly (files_of old) (files_of new) m later dropped files instances) opened now
-
--- as far as the disk tells, each record that is still there has the octets that it had
-abbrev pub HasKeptRegions : Option History → Option History → MapMeaning → MapMeaning → Type 0
-HasKeptRegions opened now m later = Between (λ old new. HaveSameRegions (files_of old) (files_of new) m later) opened now
 
 -- What a purge made of the files that the opening left and of the map, by its reply: what a quiet purge does, with the reply's numbers. It
 -- dropped as many records as the reply says, none of which was wanted; where it is refused, some, and each other one has its octets. Of a
@@ -26,7 +22,7 @@ HasKeptRegions opened now m later = Between (λ old new. HaveSameRegions (files_
 abbrev pub IsPurgeAnswer : Reply → Option History → Option History → MapMeaning → MapMeaning → Type 0
 IsPurgeAnswer (reply.Purged dropped files instances) opened now m later = DropsUnwanted m later dropped × HasPurgedQuietly dropped files instances opened now m later
 IsPurgeAnswer (reply.Refused refusal.Stopped) opened now m later = Unit {0}
-IsPurgeAnswer given opened now m later = (dropped : ℕ) × DropsUnwanted m later dropped × HasKeptRegions opened now m later
+IsPurgeAnswer given opened now m later = (dropped : ℕ) × DropsUnwanted m later dropped × KeepsRegions m later opened now
 
 -- So a purge alone is answered.
 abbrev pub IsPurgedAlone : Requests → List Reply → Option History → Option History → MapMeaning → MapMeaning → Type 0

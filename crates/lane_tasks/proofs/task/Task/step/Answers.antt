@@ -8,6 +8,7 @@ use Rattle.store_core.specs.Value.{StoreValue}
 use Rattle.task_claims.specs.Claims.{MovesClaims}
 use Rattle.task_claims.specs.Leaving.{LeavesOthers}
 use Rattle.task_steps.specs.Step.{ended_by}
+use Rattle.purge_task.specs.Clause.{BeginsPurge}
 use Rattle.purge_task.specs.Dropped.{TellsCounts}
 use Rattle.purge_task.specs.Quiet.{KeepsQuiet}
 use Rattle.lane_tasks.specs.Clause.{TaskKeeps, StepsTask, progress_by}
@@ -272,15 +273,21 @@ returns-in-Resync-clause-keeps g c =
 pub returns-in-Purge-clause-does : goal.returns-in-Purge-clause-does
 returns-in-Purge-clause-does g c =
     subst (λ (t : Task). StepsTask t (task.Purge c.step-in-Purge.new.self) c.args.store.now c.step-in-Purge.new.store (g.D.Disk.history c.args.store.now.disk) (g.D.Disk.history c.step-in-Purge.new.store.disk) (g.D.Disk.faults c.args.store.now.disk) (g.D.Disk.faults c.step-in-Purge.new.store.disk) (ended_by c.step-in-Purge.result)) (sym c.in-Purge.is)
-    (purge_does c.in-Purge.task c.step-in-Purge.new.self c.args.store.now c.step-in-Purge.new.store (g.D.Disk.history c.args.store.now.disk) (g.D.Disk.history c.step-in-Purge.new.store.disk) (g.D.Disk.faults c.args.store.now.disk) (g.D.Disk.faults c.step-in-Purge.new.store.disk) (ended_by c.step-in-Purge.result) c.facts.ensures.store c.facts.ensures.files c.step-in-Purge.ensures.does)
+    (purge_does c.in-Purge.task c.step-in-Purge.new.self c.args.store.now c.step-in-Purge.new.store (g.D.Disk.history c.args.store.now.disk) (g.D.Disk.history c.step-in-Purge.new.store.disk) (g.D.Disk.faults c.args.store.now.disk) (g.D.Disk.faults c.step-in-Purge.new.store.disk) (ended_by c.step-in-Purge.result) c.facts.ensures.store c.facts.ensures.files c.step-in-Purge.ensures.step.does)
 
 pub returns-in-Purge-clause-claims : goal.returns-in-Purge-clause-claims
 returns-in-Purge-clause-claims g c = λ runs.
-    subst (λ (t : Task). MovesClaims (claims_at t) (claims_at (task.Purge c.step-in-Purge.new.self)) c.args.store.now c.step-in-Purge.new.store) (sym c.in-Purge.is) (c.step-in-Purge.ensures.claims runs)
+    subst (λ (t : Task). MovesClaims (claims_at t) (claims_at (task.Purge c.step-in-Purge.new.self)) c.args.store.now c.step-in-Purge.new.store) (sym c.in-Purge.is) (c.step-in-Purge.ensures.step.claims runs).moves
 
 pub returns-in-Purge-clause-leaves : goal.returns-in-Purge-clause-leaves
 returns-in-Purge-clause-leaves g c = λ runs.
-    subst (λ (t : Task). LeavesOthers (claims_at t) c.args.store.now c.step-in-Purge.new.store (g.D.Disk.history c.args.store.now.disk) (g.D.Disk.history c.step-in-Purge.new.store.disk)) (sym c.in-Purge.is) (c.step-in-Purge.ensures.leaves runs)
+    subst (λ (t : Task). LeavesOthers (claims_at t) c.args.store.now c.step-in-Purge.new.store (g.D.Disk.history c.args.store.now.disk) (g.D.Disk.history c.step-in-Purge.new.store.disk)) (sym c.in-Purge.is) (c.step-in-Purge.ensures.step.claims runs).leaves
+
+pub returns-in-Purge-clause-ended : goal.returns-in-Purge-clause-ended
+returns-in-Purge-clause-ended g c = λ given e runs. (c.step-in-Purge.ensures.step.claims runs).ended given e
+
+pub returns-in-Purge-clause-stopped : goal.returns-in-Purge-clause-stopped
+returns-in-Purge-clause-stopped g c = λ stopped. c.step-in-Purge.ensures.step.stopped.1 stopped
 
 pub returns-in-Purge-clause-halted : goal.returns-in-Purge-clause-halted
 returns-in-Purge-clause-halted g c = stays_stopped c.args.store.now c.step-in-Purge.new.store (λ stopped. (c.step-in-Purge.ensures.still stopped).0)
@@ -292,15 +299,16 @@ returns-in-Purge-clause-left g c = λ more.
 pub returns-in-Purge-clause-keeps : goal.returns-in-Purge-clause-keeps
 returns-in-Purge-clause-keeps g c =
     let s = c.step-in-Purge.ensures in
+    let p = s.step in
     let old = c.args.store.now in
     let new = c.step-in-Purge.new.store in
     subst (λ (k : Task). TaskKeeps k (task.Purge c.step-in-Purge.new.self) old new (g.D.Disk.history old.disk) (g.D.Disk.history new.disk) (g.D.Disk.faults old.disk) (g.D.Disk.faults new.disk) (ended_by c.step-in-Purge.result)) (sym c.in-Purge.is)
-    (keeps_purging g.D.Disk.history g.D.Disk.faults c.in-Purge.task c.step-in-Purge.new.self old new (ended_by c.step-in-Purge.result) s.grows s.mail s.reads (λ told. s.calm (λ e. told (ap ended_by e))) s.changes s.unfailed s.fell (λ stopped. (s.still stopped).0)
+    (keeps_purging g.D.Disk.history g.D.Disk.faults c.in-Purge.task c.step-in-Purge.new.self old new (ended_by c.step-in-Purge.result) p.grows p.mail p.reads (λ told. p.calm (λ e. told (ap ended_by e))) p.changes p.unfailed p.fell (λ stopped. (s.still stopped).0)
     (record {
       drops = s.drops;
       counts = subst (λ (a : Progress). TellsCounts c.in-Purge.task c.step-in-Purge.new.self a) (sym (progress_back c.step-in-Purge.result)) s.counts;
       quiet = subst (λ (a : Progress). KeepsQuiet c.in-Purge.task c.step-in-Purge.new.self a old new (g.D.Disk.history old.disk) (g.D.Disk.history new.disk)) (sym (progress_back c.step-in-Purge.result)) s.quiet;
-      regions = s.regions;
-      idle = s.idle;
-      refused = λ why e. s.refused why (sym (progress_back c.step-in-Purge.result) ∙ ap progress_by e);
+      regions = p.regions;
+      first = λ at. subst (λ (a : Progress). BeginsPurge a c.step-in-Purge.new.self.stage old (g.D.Disk.history old.disk) (g.D.Disk.history new.disk)) (sym (progress_back c.step-in-Purge.result)) (p.first at);
+      refused = λ why e. p.refused why (sym (progress_back c.step-in-Purge.result) ∙ ap progress_by e);
     }))
