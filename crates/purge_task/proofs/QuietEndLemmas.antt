@@ -56,11 +56,11 @@ one_within ns n c = All-contains (λ (m : ℕ). is_one_of ns m ≡ true) ns n (a
 
 pub within_one : (ns : List ℕ) (n : ℕ) → is_one_of ns n ≡ true → Contains ns n
 within_one [] n e = absurd (let k : false ≡ true = e in cc k)
-within_one (m ∷ ns) n e = by_test (m == n) refl
+within_one (m ∷ ns) n e = by_test (m == n) refl (within_one ns n)
   where
-    by_test : (b : Bool) → (m == n) ≡ b → Contains (m ∷ ns) n
-    by_test true is = subst (λ (k : ℕ). Contains (m ∷ ns) k) (eqb-true m n is) (All-head (λ (k : ℕ). Contains (m ∷ ns) k) m ns (All-contains_itself (m ∷ ns)))
-    by_test false is = Contains-append_right (m ∷ []) ns n (within_one ns n (sym (ap (λ (b : Bool). b || is_one_of ns n) is) ∙ e))
+    by_test : (b : Bool) → (m == n) ≡ b → (is_one_of ns n ≡ true → Contains ns n) → Contains (m ∷ ns) n
+    by_test true is there = subst (λ (k : ℕ). Contains (m ∷ ns) k) (eqb-true m n is) (All-head (λ (k : ℕ). Contains (m ∷ ns) k) m ns (All-contains_itself (m ∷ ns)))
+    by_test false is there = Contains-append_right (m ∷ []) ns n (there (sym (ap (λ (b : Bool). b || is_one_of ns n) is) ∙ e))
 
 -- ---- records
 
@@ -110,11 +110,11 @@ only_named store now known there each unheld none hash id octets reads = (named.
       where
         named_one : (rows : List InstRow) → list_any (λ i. bytes_eq i.id.0 k.row.id.0) rows ≡ true → (inst : InstRow) × Contains rows inst × (inst.id.0 ≡ k.row.id.0)
         named_one [] e = absurd (let w : false ≡ true = e in cc w)
-        named_one (row ∷ rows) e = by_test (bytes_eq row.id.0 k.row.id.0) refl
+        named_one (row ∷ rows) e = by_test (bytes_eq row.id.0 k.row.id.0) refl (named_one rows)
           where
-            by_test : (b : Bool) → bytes_eq row.id.0 k.row.id.0 ≡ b → (inst : InstRow) × Contains (row ∷ rows) inst × (inst.id.0 ≡ k.row.id.0)
-            by_test true is = (row, All-head (λ (r : InstRow). Contains (row ∷ rows) r) row rows (All-contains_itself (row ∷ rows)), text_is row.id.0 k.row.id.0 is)
-            by_test false is = let r = named_one rows (sym (ap (λ (b : Bool). b || list_any (λ i. bytes_eq i.id.0 k.row.id.0) rows) is) ∙ e) in (r.0, Contains-append_right (row ∷ []) rows r.0 r.1, r.2)
+            by_test : (b : Bool) → bytes_eq row.id.0 k.row.id.0 ≡ b → (list_any (λ i. bytes_eq i.id.0 k.row.id.0) rows ≡ true → (inst : InstRow) × Contains rows inst × (inst.id.0 ≡ k.row.id.0)) → (inst : InstRow) × Contains (row ∷ rows) inst × (inst.id.0 ≡ k.row.id.0)
+            by_test true is later = (row, All-head (λ (r : InstRow). Contains (row ∷ rows) r) row rows (All-contains_itself (row ∷ rows)), text_is row.id.0 k.row.id.0 is)
+            by_test false is later = let r = later (sym (ap (λ (b : Bool). b || list_any (λ i. bytes_eq i.id.0 k.row.id.0) rows) is) ∙ e) in (r.0, Contains-append_right (row ∷ []) rows r.0 r.1, r.2)
 
     -- the row that a record names is the known one's
     same : named.0 ≡ k.row

@@ -81,8 +81,8 @@ run_long m offset end [] run = omega (arith, run)
 run_long m offset end (place ∷ places) run = let l = run_long m (offset + run.1.0.size) end places run.1.2.1 in omega (arith, l)
 
 pub runs_on : (m : MapMeaning) (offset end now : ℕ) (copied : List MapPlace) (place : MapPlace) (row : MapRecord) → CopiesRunTo m offset copied end → record_at m place.uid.0 ≡ Some row → 1 ≤ row.count → place.offset ≡ end → end + row.size ≡ now → CopiesRunTo m offset (copied ++ place ∷ []) now
-runs_on m offset end now [] place row run at some here ends = (here ∙ sym run, (row, at, some, ap (λ (n : ℕ). n + row.size) run ∙ ends))
-runs_on m offset end now (p ∷ ps) place row run at some here ends = (run.0, (run.1.0, run.1.1, run.1.2.0, runs_on m (offset + run.1.0.size) end now ps place row run.1.2.1 at some here ends))
+runs_on m offset end now [] place row run at some here ends = (here ∙ sym run, (row, at, (some, ap (λ (n : ℕ). n + row.size) run ∙ ends)))
+runs_on m offset end now (p ∷ ps) place row run at some here ends = (run.0, (run.1.0, run.1.1, (run.1.2.0, runs_on m (offset + run.1.0.size) end now ps place row run.1.2.1 at some here ends)))
 
 pub holds_more : (a b : Files) (m : MapMeaning) (target : ℕ) (copied : List MapPlace) (place : MapPlace) (row : MapRecord) (before piece : List ℕ) → HoldsCopies a m target copied → record_at m place.uid.0 ≡ Some row → 1 ≤ row.count → a (file.Mail target) ≡ Some before → b (file.Mail target) ≡ Some (before ++ piece) → place.offset ≡ length before → length piece ≡ row.size
     → HoldsCopies b m target (copied ++ place ∷ [])

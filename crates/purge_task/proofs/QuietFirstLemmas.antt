@@ -49,7 +49,7 @@ pub record AreFilesAtFirst {D : Type 0} (store : StoreValue D) (files : Files) :
 
 none_if : (b : Bool) → one_if b ≡ 0 → b ≡ false
 none_if false e = refl
-none_if true e = omega (arith, e)
+none_if true e = absurd (omega (arith, e))
 
 -- nobody has taken or doomed a file
 untaken : {D : Type 0} → (store : StoreValue D) (n : ℕ) → IsOnlyTask stage.First store → (is_taken_in n store.files.files ≡ false) × (is_emptied_in n store.files.files ≡ false) × (is_doomed_in n store.files.files ≡ false)
@@ -164,9 +164,12 @@ other_name a b c d e is =
     let q : b ≡ d = cc is in
     fall (bytes_eq a c && bytes_eq b d) (ap (λ (x : Bool). x && bytes_eq b d) (text_yes a c p) ∙ text_yes b d q) e
 
+abbrev name_of : List ℕ → List ℕ → List ℕ × List ℕ
+name_of hash id = (hash, id)
+
 pub gone_more : (began a b : Files) (gone : List (List ℕ × List ℕ)) (hash id : List ℕ) → HaveInstancesGone began a gone → a (file.Inst hash id) ≢ None → b (file.Inst hash id) ≡ None → ((other : FileName) → other ≢ file.Inst hash id → b other ≡ a other) → HaveInstancesGone began b (gone ++ (hash, id) ∷ [])
 gone_more began a b gone hash id h there none others = record {
-  once = pairs_push (λ (x y : List ℕ × List ℕ). x ≢ y) gone (hash, id) h.once (All-weaker (Contains gone) (λ (x : List ℕ × List ℕ). x ≢ (hash, id)) (λ x c is. there ((h.are hash id).0 (subst (λ (y : List ℕ × List ℕ). Contains gone y) is c)).1) gone (All-contains_itself gone));
+  once = pairs_push (λ (x y : List ℕ × List ℕ). x ≢ y) gone (hash, id) h.once (All-weaker (Contains gone) (λ (x : List ℕ × List ℕ). x ≢ name_of hash id) (λ x c is. there ((h.are hash id).0 (subst (λ (y : List ℕ × List ℕ). Contains gone y) is c)).1) gone (All-contains_itself gone));
   are = λ x y. (forth x y, back x y);
   others = λ x y some. by_name x y some (bytes_eq x hash && bytes_eq y id) refl;
 }
@@ -174,10 +177,10 @@ gone_more began a b gone hash id h there none others = record {
     was : began (file.Inst hash id) ≢ None
     was e = there (h.others hash id there ∙ e)
 
-    here : (x y : List ℕ) → (bytes_eq x hash && bytes_eq y id) ≡ true → (x, y) ≡ (hash, id)
+    here : (x y : List ℕ) → (bytes_eq x hash && bytes_eq y id) ≡ true → name_of x y ≡ name_of hash id
     here x y e = let s = both_text x y hash id e in ap (λ (u : List ℕ). (u, y)) s.0 ∙ ap (λ (u : List ℕ). (hash, u)) s.1
 
-    gone_here : (x y : List ℕ) → (x, y) ≡ (hash, id) → (began (file.Inst x y) ≢ None) × (b (file.Inst x y) ≡ None)
+    gone_here : (x y : List ℕ) → name_of x y ≡ name_of hash id → (began (file.Inst x y) ≢ None) × (b (file.Inst x y) ≡ None)
     gone_here x y is = subst (λ (p : List ℕ × List ℕ). (began (file.Inst p.0 p.1) ≢ None) × (b (file.Inst p.0 p.1) ≡ None)) (sym is) (was, none)
 
     forth : (x y : List ℕ) → Contains (gone ++ (hash, id) ∷ []) (x, y) → (began (file.Inst x y) ≢ None) × (b (file.Inst x y) ≡ None)
@@ -187,7 +190,7 @@ gone_more began a b gone hash id h there none others = record {
         by_name d true e = gone_here x y (here x y e)
         by_name d false e = let r = (h.are x y).0 d in (r.0, others (file.Inst x y) (other_name x y hash id e) ∙ r.1)
 
-        by_case : Contains gone (x, y) ⊎ ((hash, id) ≡ (x, y)) → (began (file.Inst x y) ≢ None) × (b (file.Inst x y) ≡ None)
+        by_case : Contains gone (x, y) ⊎ (name_of hash id ≡ name_of x y) → (began (file.Inst x y) ≢ None) × (b (file.Inst x y) ≡ None)
         by_case (inl d) = by_name d (bytes_eq x hash && bytes_eq y id) refl
         by_case (inr is) = gone_here x y (sym is)
 

@@ -41,8 +41,8 @@ pub quiet_did : {D : Type 0} → (inside t next : PurgeValue) (d : Did) (answer 
 quiet_did inside t next d answer old new before later same h = subst (λ (v : PurgeValue). KeepsQuiet v next answer old new before later) same (by_answer answer h)
   where
     by_answer : (a : Progress) → KeepsQuiet (record inside { did = d }) next a old new before later → KeepsQuiet inside next a old new before later
-    by_answer progress.More k runs = between-map (StaysQuiet (record inside { did = d }) next old new) (StaysQuiet inside next old new) before later (λ a b stays began first q. stays began first (from_did inside.stage began (files_of a) first inside d old q)) (k runs)
-    by_answer (progress.Done (reply.Purged dropped emptied removed)) k runs = between-map (HasBeenQuiet dropped emptied removed (record inside { did = d }) old new) (HasBeenQuiet dropped emptied removed inside old new) before later (λ a b been began first q. been began first (from_did inside.stage began (files_of a) first inside d old q)) (k runs)
+    by_answer progress.More k = λ runs. between-map (StaysQuiet (record inside { did = d }) next old new) (StaysQuiet inside next old new) before later (λ a b stays began first q. stays began first (from_did inside.stage began (files_of a) first inside d old q)) (k runs)
+    by_answer (progress.Done (reply.Purged dropped emptied removed)) k = λ runs. between-map (HasBeenQuiet dropped emptied removed (record inside { did = d }) old new) (HasBeenQuiet dropped emptied removed inside old new) before later (λ a b been began first q. been began first (from_did inside.stage began (files_of a) first inside d old q)) (k runs)
     by_answer (progress.Done (reply.Saved uid guid)) k = tt
     by_answer (progress.Done (reply.Listed rows)) k = tt
     by_answer (progress.Done (reply.Fetched octets)) k = tt

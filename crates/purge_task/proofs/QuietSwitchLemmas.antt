@@ -118,11 +118,11 @@ undone_first numbers done f lefts rising is = by_flag (is_one_of done f) refl
   where
     twice : (ns : List ℕ) (n : ℕ) (rest : List ℕ) → AllPairs (λ x y. x < y) (ns ++ n ∷ rest) → Contains ns n → ⊥
     twice [] n rest h c = let l = c.1 in omega (arith, l)
-    twice (m ∷ ns) n rest h c = by_case (among m ns n c)
+    twice (m ∷ ns) n rest h c = by_case (among m ns n c) (twice ns n rest (pairs_tail (λ x y. x < y) m (ns ++ n ∷ rest) h))
       where
-        by_case : (m ≡ n) ⊎ Contains ns n → ⊥
-        by_case (inl same) = let l = All-contains (λ y. m < y) (ns ++ n ∷ rest) n (pairs_head (λ x y. x < y) m (ns ++ n ∷ rest) h) (Contains-append_right ns (n ∷ rest) n (All-head (λ (y : ℕ). Contains (n ∷ rest) y) n rest (All-contains_itself (n ∷ rest)))) in omega (arith, l, same)
-        by_case (inr later) = twice ns n rest (pairs_tail (λ x y. x < y) m (ns ++ n ∷ rest) h) later
+        by_case : (m ≡ n) ⊎ Contains ns n → (Contains ns n → ⊥) → ⊥
+        by_case (inl same) again = let l = All-contains (λ y. m < y) (ns ++ n ∷ rest) n (pairs_head (λ x y. x < y) m (ns ++ n ∷ rest) h) (Contains-append_right ns (n ∷ rest) n (All-head (λ (y : ℕ). Contains (n ∷ rest) y) n rest (All-contains_itself (n ∷ rest)))) in omega (arith, l, same)
+        by_case (inr later) again = again later
 
     by_flag : (c : Bool) → is_one_of done f ≡ c → c ≡ false
     by_flag false e = refl
@@ -226,21 +226,19 @@ quiet_switched {D = D} began a b first t source left later switched old new h k 
         none_of : (rows : List MapRecord) → list_any (is_copied_from source.file.0) rows ≡ true → All (λ row. row.file ≡ source.file.0 → 1 ≤ row.count → list_any (λ p. p.uid.0 == row.uid) source.copied.items ≡ true) rows → ⊥
         none_of [] e every = let k : false ≡ true = e in cc k
         none_of (row ∷ rows) e every = by_test (row.file == source.file.0) (nat_lt 0 row.count) refl refl
+            (λ miss. none_of rows (sym (ap (λ (c : Bool). c || list_any (is_copied_from source.file.0) rows) miss) ∙ e) (All-tail (λ (r : MapRecord). r.file ≡ source.file.0 → 1 ≤ r.count → list_any (λ p. p.uid.0 == r.uid) source.copied.items ≡ true) row rows every))
           where
-            later : (row.file == source.file.0 && nat_lt 0 row.count) ≡ false → ⊥
-            later miss = none_of rows (sym (ap (λ (c : Bool). c || list_any (is_copied_from source.file.0) rows) miss) ∙ e) (All-tail (λ (r : MapRecord). r.file ≡ source.file.0 → 1 ≤ r.count → list_any (λ p. p.uid.0 == r.uid) source.copied.items ≡ true) row rows every)
-
-            by_test : (x y : Bool) → (row.file == source.file.0) ≡ x → nat_lt 0 row.count ≡ y → ⊥
-            by_test true true p q =
-                let copied = All-head (λ (r : MapRecord). r.file ≡ source.file.0 → 1 ≤ r.count → list_any (λ p. p.uid.0 == r.uid) source.copied.items ≡ true) row rows every (eqb-true row.file source.file.0 p) (positive row.count q) in
-                let none : false ≡ true = sym (ap (λ (ps : List MapPlace). list_any (λ p. p.uid.0 == row.uid) ps) empty) ∙ copied in
-                cc none
-            by_test true false p q = later (ap (λ (c : Bool). c && nat_lt 0 row.count) p ∙ q)
-            by_test false y p q = later (ap (λ (c : Bool). c && nat_lt 0 row.count) p)
-
             positive : (n : ℕ) → nat_lt 0 n ≡ true → 1 ≤ n
             positive zero p = let k : false ≡ true = p in cc k
             positive (suc n) p = omega arith
+
+            by_test : (x y : Bool) → (row.file == source.file.0) ≡ x → nat_lt 0 row.count ≡ y → ((row.file == source.file.0 && nat_lt 0 row.count) ≡ false → ⊥) → ⊥
+            by_test true true p q further =
+                let copied = All-head (λ (r : MapRecord). r.file ≡ source.file.0 → 1 ≤ r.count → list_any (λ p. p.uid.0 == r.uid) source.copied.items ≡ true) row rows every (eqb-true row.file source.file.0 p) (positive row.count q) in
+                let none : false ≡ true = sym (ap (λ (ps : List MapPlace). list_any (λ p. p.uid.0 == row.uid) ps) empty) ∙ copied in
+                cc none
+            by_test true false p q further = further (ap (λ (c : Bool). c && nat_lt 0 row.count) p ∙ q)
+            by_test false y p q further = further (ap (λ (c : Bool). c && nat_lt 0 row.count) p)
 
     -- where there is a target, something is moved to it
     named : (target : FileNo) → source.target ≡ Some target → to ≡ target.0

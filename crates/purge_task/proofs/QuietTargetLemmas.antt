@@ -70,17 +70,17 @@ copied_all m target offset end (place ∷ places) run P each =
 -- the record of each copy is among them
 pub copied_there : (m : MapMeaning) (target offset end : ℕ) (copied : List MapPlace) (run : CopiesRunTo m offset copied end) (place : MapPlace) (row : MapRecord) → Contains copied place → record_at m place.uid.0 ≡ Some row → Contains (copied_rows m target offset end copied run) (copied_row target place row)
 copied_there m target offset end [] run place row c at = absurd (let l = c.1 in omega (arith, l))
-copied_there m target offset end (first ∷ places) run place row c at = by_case (among first places place c)
+copied_there m target offset end (first ∷ places) run place row c at = by_case (among first places place c) (λ later. copied_there m target (offset + run.1.0.size) end places run.1.2.1 place row later at)
   where
     rest : List MapRecord
     rest = copied_rows m target (offset + run.1.0.size) end places run.1.2.1
 
-    by_case : (first ≡ place) ⊎ Contains places place → Contains (copied_row target first run.1.0 ∷ rest) (copied_row target place row)
-    by_case (inl same) =
+    by_case : (first ≡ place) ⊎ Contains places place → (Contains places place → Contains rest (copied_row target place row)) → Contains (copied_row target first run.1.0 ∷ rest) (copied_row target place row)
+    by_case (inl same) there =
         let r : run.1.0 ≡ row = (let e : Some run.1.0 ≡ Some row = sym run.1.1 ∙ (ap (λ (p : MapPlace). record_at m p.uid.0) same ∙ at) in cc e) in
         subst (λ (x : MapRecord). Contains (copied_row target first run.1.0 ∷ rest) x) (ap (λ (p : MapPlace). copied_row target p run.1.0) same ∙ ap (copied_row target place) r)
         (All-head (λ (x : MapRecord). Contains (copied_row target first run.1.0 ∷ rest) x) (copied_row target first run.1.0) rest (All-contains_itself (copied_row target first run.1.0 ∷ rest)))
-    by_case (inr later) = Contains-append_right (copied_row target first run.1.0 ∷ []) rest (copied_row target place row) (copied_there m target (offset + run.1.0.size) end places run.1.2.1 place row later at)
+    by_case (inr later) there = Contains-append_right (copied_row target first run.1.0 ∷ []) rest (copied_row target place row) (there later)
 
 -- ---- what moves
 
@@ -106,7 +106,7 @@ not_dropped m f us row at some dropped true e =
     let h = All-contains (λ (v : MapUid). HasRecord m v.0 (λ r. (r.file ≡ f) × (r.count ≡ 0))) us u.0 dropped u.1 in
     let same : h.0 ≡ row = (let k : Some h.0 ≡ Some row = sym (subst (λ (n : ℕ). record_at m n ≡ Some h.0) u.2 h.1) ∙ at in cc k) in
     let none = subst (λ (r : MapRecord). r.count ≡ 0) same h.2.1 in
-    omega (arith, none, some)
+    absurd (omega (arith, none, some))
 
 -- a record behind the switch is one that was there
 pub came_of : (f : FileNo) (t : ℕ) (ms : List MapPlace) (us : List MapUid) (m : MapMeaning) (now : MapRecord) → Contains (map_switched f t ms us m).records now → (was : MapRecord) × Contains m.records was × (now ≡ moved_record was t (place_given was.uid ms))

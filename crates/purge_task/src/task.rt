@@ -9,6 +9,7 @@ ghost use Rattle.purge_task.specs.Clause.{IsPurgeStep, answer_of, at_stage, came
 ghost use Rattle.purge_task.specs.Dropped.{DropsCounted, TellsCounts};
 ghost use Rattle.purge_task.specs.Keeping.{HasLowCounts, HasPurged, IsBareFirst, IsReadyToPurge, IsTargetFirst, LeavesLess, PurgeValue};
 ghost use Rattle.purge_task.specs.Left.{IsFurther, purge_left};
+ghost use Rattle.purge_task.specs.Quiet.{KeepsQuiet};
 ghost use Rattle.purge_task.specs.SwitchEvent.{answer_of_switch, came_by_switch};
 ghost use Rattle.purge_task.specs.Stages.{IsNextStage};
 ghost use Rattle.purge_task.specs.declared.task.PurgeStage.TheVariants as stage;
@@ -107,6 +108,9 @@ impl PurgeTask {
         // has counted.
         ensures drops { DropsCounted self.old self.new store.old store.new }
         ensures counts { TellsCounts self.old self.new result }
+
+        // Beside no other task it does with the files just what a purge is to do.
+        ensures quiet { KeepsQuiet self.old self.new result store.old store.new (D.history store.old.disk) (D.history store.new.disk) }
     {
         self.did = Did::Quiet;
         if store.stopped() {
@@ -121,6 +125,7 @@ impl PurgeTask {
         requires ready { IsReadyToPurge self.old store.old (D.history store.old.disk) }
         requires quiet { self.old.did ≡ did.Quiet }
         ensures step { IsPurgeStep self.old self.new result store.old store.new (D.history store.old.disk) (D.history store.new.disk) (D.faults store.old.disk) (D.faults store.new.disk) }
+        ensures quiet { KeepsQuiet self.old self.new result store.old store.new (D.history store.old.disk) (D.history store.new.disk) }
         ensures left { result ≡ progress.More → LeavesLess self.old self.new store.old store.new }
         ensures drops { DropsCounted self.old self.new store.old store.new }
         ensures counts { TellsCounts self.old self.new result }
@@ -159,6 +164,7 @@ impl PurgeTask {
         requires first { self.old.stage ≡ stage.First }
         requires quiet { self.old.did ≡ did.Quiet }
         ensures step { IsPurgeStep (at_stage stage.First self.old) self.new result store.old store.new (D.history store.old.disk) (D.history store.new.disk) (D.faults store.old.disk) (D.faults store.new.disk) }
+        ensures quiet { KeepsQuiet (at_stage stage.First self.old) self.new result store.old store.new (D.history store.old.disk) (D.history store.new.disk) }
         ensures left { result ≡ progress.More → LeavesLess (at_stage stage.First self.old) self.new store.old store.new }
         ensures drops { DropsCounted (at_stage stage.First self.old) self.new store.old store.new }
         ensures counts { TellsCounts self.old self.new result }
@@ -177,6 +183,7 @@ impl PurgeTask {
         requires first { self.old.stage ≡ stage.First }
         requires quiet { self.old.did ≡ did.Quiet }
         ensures step { IsPurgeStep (at_stage (stage.Begin work) self.old) self.new result store.old store.new (D.history store.old.disk) (D.history store.new.disk) (D.faults store.old.disk) (D.faults store.new.disk) }
+        ensures quiet { KeepsQuiet (at_stage (stage.Begin work) self.old) self.new result store.old store.new (D.history store.old.disk) (D.history store.new.disk) }
         ensures left { result ≡ progress.More → LeavesLess (at_stage (stage.Begin work) self.old) self.new store.old store.new }
         ensures drops { DropsCounted (at_stage (stage.Begin work) self.old) self.new store.old store.new }
         ensures counts { TellsCounts self.old self.new result }
@@ -206,6 +213,7 @@ impl PurgeTask {
         requires first { self.old.stage ≡ stage.First }
         requires quiet { self.old.did ≡ did.Quiet }
         ensures step { IsPurgeStep (at_stage (stage.Copying work) self.old) self.new result store.old store.new (D.history store.old.disk) (D.history store.new.disk) (D.faults store.old.disk) (D.faults store.new.disk) }
+        ensures quiet { KeepsQuiet (at_stage (stage.Copying work) self.old) self.new result store.old store.new (D.history store.old.disk) (D.history store.new.disk) }
         ensures left { result ≡ progress.More → LeavesLess (at_stage (stage.Copying work) self.old) self.new store.old store.new }
         ensures drops { DropsCounted (at_stage (stage.Copying work) self.old) self.new store.old store.new }
         ensures counts { TellsCounts self.old self.new result }
@@ -260,6 +268,7 @@ impl PurgeTask {
         requires first { self.old.stage ≡ stage.First }
         requires quiet { self.old.did ≡ did.Quiet }
         ensures step { IsPurgeStep (at_stage (stage.Removing work) self.old) self.new result store.old store.new (D.history store.old.disk) (D.history store.new.disk) (D.faults store.old.disk) (D.faults store.new.disk) }
+        ensures quiet { KeepsQuiet (at_stage (stage.Removing work) self.old) self.new result store.old store.new (D.history store.old.disk) (D.history store.new.disk) }
         ensures left { result ≡ progress.More → LeavesLess (at_stage (stage.Removing work) self.old) self.new store.old store.new }
         ensures drops { DropsCounted (at_stage (stage.Removing work) self.old) self.new store.old store.new }
         ensures counts { TellsCounts self.old self.new result }
@@ -275,6 +284,7 @@ impl PurgeTask {
         requires first { self.old.stage ≡ stage.First }
         requires quiet { self.old.did ≡ did.Quiet }
         ensures step { IsPurgeStep (at_stage stage.Instances self.old) self.new result store.old store.new (D.history store.old.disk) (D.history store.new.disk) (D.faults store.old.disk) (D.faults store.new.disk) }
+        ensures quiet { KeepsQuiet (at_stage stage.Instances self.old) self.new result store.old store.new (D.history store.old.disk) (D.history store.new.disk) }
         ensures left { result ≡ progress.More → LeavesLess (at_stage stage.Instances self.old) self.new store.old store.new }
         ensures drops { DropsCounted (at_stage stage.Instances self.old) self.new store.old store.new }
         ensures counts { TellsCounts self.old self.new result }
@@ -301,6 +311,7 @@ impl PurgeTask {
         requires quiet { self.old.did ≡ did.Quiet }
         requires useless { useless_past None store.old.map store.old.instances.known ≡ Some id }
         ensures step { IsPurgeStep (at_stage stage.Instances self.old) self.new result store.old store.new (D.history store.old.disk) (D.history store.new.disk) (D.faults store.old.disk) (D.faults store.new.disk) }
+        ensures quiet { KeepsQuiet (at_stage stage.Instances self.old) self.new result store.old store.new (D.history store.old.disk) (D.history store.new.disk) }
         ensures left { result ≡ progress.More → LeavesLess (at_stage stage.Instances self.old) self.new store.old store.new }
         ensures drops { DropsCounted (at_stage stage.Instances self.old) self.new store.old store.new }
         ensures counts { TellsCounts self.old self.new result }
@@ -341,6 +352,7 @@ pub fn remove_source<D: Disk>(store: &mut Store<D>, work: Work) -> Result<PurgeS
     requires running { store.old.stopped ≡ false }
     requires ready { HasPurged (stage.Removing work) store.old (D.history store.old.disk) }
     ensures step { (t : PurgeValue) → t.stage ≡ stage.Removing work → IsPurgeStep t (came_to result t) (answer_of result) store.old store.new (D.history store.old.disk) (D.history store.new.disk) (D.faults store.old.disk) (D.faults store.new.disk) }
+    ensures quiet { (t : PurgeValue) → t.stage ≡ stage.Removing work → KeepsQuiet t (came_to result t) (answer_of result) store.old store.new (D.history store.old.disk) (D.history store.new.disk) }
     ensures further { IfOk result (IsFurther 0 (stage.Removing work)) }
     ensures begun { IfOk result (λ next. next ≢ stage.First) }
     ensures map { store.new.map ≡ store.old.map }
@@ -369,6 +381,7 @@ fn begin_target<D: Disk>(
     requires ready { HasPurged (stage.Begin work) store.old (D.history store.old.disk) }
     requires target { IsTargetFirst (sources_left work) target }
     ensures step { (t : PurgeValue) → t.stage ≡ stage.Begin work → IsPurgeStep t (came_to result t) (answer_of result) store.old store.new (D.history store.old.disk) (D.history store.new.disk) (D.faults store.old.disk) (D.faults store.new.disk) }
+    ensures quiet { (t : PurgeValue) → t.stage ≡ stage.Begin work → KeepsQuiet t (came_to result t) (answer_of result) store.old store.new (D.history store.old.disk) (D.history store.new.disk) }
     ensures further { IfOk result (IsFurther 0 (stage.Begin work)) }
     ensures begun { IfOk result (λ next. next ≢ stage.First) }
     ensures map { store.new.map ≡ store.old.map }
@@ -386,6 +399,7 @@ fn remove_bare<D: Disk>(store: &mut Store<D>, work: Work) -> Result<PurgeStage, 
     requires ready { HasPurged (stage.Begin work) store.old (D.history store.old.disk) }
     requires bare { IsBareFirst (sources_left work) store.old.map }
     ensures step { (t : PurgeValue) → t.stage ≡ stage.Begin work → IsPurgeStep t (came_to result (record t { files = t.files + 1 })) (answer_of result) store.old store.new (D.history store.old.disk) (D.history store.new.disk) (D.faults store.old.disk) (D.faults store.new.disk) }
+    ensures quiet { (t : PurgeValue) → t.stage ≡ stage.Begin work → KeepsQuiet t (came_to result (record t { files = t.files + 1 })) (answer_of result) store.old store.new (D.history store.old.disk) (D.history store.new.disk) }
     ensures further { IfOk result (IsFurther 1 (stage.Begin work)) }
     ensures begun { IfOk result (λ next. next ≢ stage.First) }
     ensures map { store.new.map ≡ store.old.map }

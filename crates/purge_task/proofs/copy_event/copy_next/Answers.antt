@@ -8,6 +8,7 @@ use Rattle.purge_task.proofs.CopyingLemmas.{copying_one, first_left, may_copy}
 use Rattle.purge_task.proofs.FurtherLemmas.{further_copy}
 use Rattle.purge_task.proofs.RegionLemmas.{counts_same}
 use Rattle.purge_task.proofs.UnreadCallLemmas.{can_give, uncopied_says}
+use Rattle.purge_task.proofs.QuietCallLemmas.{copied_quiet}
 use Rattle.purge_task.proofs.copy_event.copy_next.Goals as goal
 
 pub copy_message-requires-clause-row : goal.copy_message-requires-clause-row
@@ -67,3 +68,15 @@ returns-in-Err-clause-map g c = map_given c.copy_message.new.store c.give_back.n
 
 pub returns-in-Ok-clause-begun : goal.returns-in-Ok-clause-begun
 returns-in-Ok-clause-begun g c = λ e. cc e
+
+pub returns-in-Ok-clause-quiet : goal.returns-in-Ok-clause-quiet
+returns-in-Ok-clause-quiet g c t at =
+    let f = first_left c.args.work c.args.target c.requires.target in
+    let one = copying_one c.args.work f.0 f.1 c.args.target c.args.row c.args.store.now (g.D.Disk.history c.args.store.now.disk) f.2 c.requires.ready c.requires.target c.requires.wanted c.facts.ensures.files.used in
+    let e = c.in-Ok.ensures in
+    let ok = e.ok one.copying.end one.copying.ends in
+    copied_quiet g.D.Disk.history t c.args.work c.copy_message.new.work f.0 f.1 c.args.target c.args.row c.args.store.now c.copy_message.new.store at c.facts.ensures.store ((c.facts.ensures.store.running c.requires.running).files_known c.args.target.0) one
+    (noted_for c.args.row one.copying.end f.0 f.1 c.args.work c.copy_message.new.work f.2 ok.2) e.copied (e.others ok.1) (ap (λ (s : StoreValue _). s.map) ok.0.same) (λ runs. ((returns-in-Ok-clause-step g c t at).claims runs).moves)
+
+pub returns-in-Err-clause-quiet : goal.returns-in-Err-clause-quiet
+returns-in-Err-clause-quiet g c t at = tt

@@ -1,3 +1,4 @@
+use Rattle.purge_task.proofs.QuietStepLemmas.{part_so, quiet_did, switch_so}
 use Rattle.purge_task.proofs.QuietRegionLemmas.{regions_same}
 use Rattle.purge_task.proofs.QuietOuterLemmas.{begun_quiet, gone_quiet, last_quiet}
 use Rattle.purge_task.proofs.QuietCallLemmas.{switched_quiet}

@@ -4,6 +4,7 @@ use Rattle.purge_task.specs.declared.task.PurgeStage.TheVariants as stage
 use Rattle.purge_task.proofs.FurtherLemmas.{target_further}
 use Rattle.purge_task.proofs.GoneCallLemmas.{failed_says}
 use Rattle.purge_task.proofs.TargetCallLemmas.{made_says, target_one}
+use Rattle.purge_task.proofs.QuietCallLemmas.{made_quiet}
 use Rattle.purge_task.proofs.task.begin_target.Goals as goal
 
 pub make_target-requires-clause-taken : goal.make_target-requires-clause-taken
@@ -32,3 +33,11 @@ returns-in-Err-clause-map g c = ap (λ (s : StoreValue _). s.map) c.in-Err.ensur
 
 pub returns-in-Ok-clause-begun : goal.returns-in-Ok-clause-begun
 returns-in-Ok-clause-begun g c = λ e. cc e
+
+pub returns-in-Ok-clause-quiet : goal.returns-in-Ok-clause-quiet
+returns-in-Ok-clause-quiet g c t at =
+    made_quiet g.D.Disk.history t c.args.work c.args.target c.args.store.now c.make_target.new.store at c.facts.ensures.store c.requires.ready (target_one c.args.work c.args.target c.args.store.now (g.D.Disk.history c.args.store.now.disk) c.requires.ready c.requires.target)
+    c.in-Ok.ensures.others c.in-Ok.ensures.made (ap (λ (s : StoreValue _). s.map) c.in-Ok.ensures.ok) (λ runs. ((returns-in-Ok-clause-step g c t at).claims runs).moves)
+
+pub returns-in-Err-clause-quiet : goal.returns-in-Err-clause-quiet
+returns-in-Err-clause-quiet g c t at = tt

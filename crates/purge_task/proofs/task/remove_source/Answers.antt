@@ -1,6 +1,6 @@
 use Rattle.std.proofs.Common.{ap, refl, subst, sym, ◌+◌, ◌∙◌, ◌≡◌}
-use Rattle.std.specs.Prelude.{drop}
-use Rattle.disk_model.specs.Disk.{SameButFor}
+use Rattle.std.specs.Prelude.{drop, None}
+use Rattle.disk_model.specs.Disk.{SameButFor, IfTold, reading}
 use Rattle.disk_model.specs.declared.name.FileName.TheVariants as file
 use Rattle.mdbox_base.specs.declared.ids.FileNo.{FileNo}
 use Rattle.storage_files.specs.Files.{is_doomed_in}
@@ -12,6 +12,7 @@ use Rattle.purge_task.proofs.DropLemmas.{next_begun}
 use Rattle.purge_task.proofs.FurtherLemmas.{further_removed}
 use Rattle.purge_task.proofs.GoneCallLemmas.{failed_says}
 use Rattle.purge_task.proofs.RemovalCallLemmas.{doomed_ends, removed_as, removing_one, removing_says}
+use Rattle.purge_task.proofs.QuietCallLemmas.{removed_quiet}
 use Rattle.purge_task.proofs.task.remove_source.Goals as goal
 
 pub remove_file-requires-clause-there : goal.remove_file-requires-clause-there
@@ -45,3 +46,14 @@ returns-in-Err-clause-map g c = ap (λ (s : StoreValue _). s.map) c.in-Err.ensur
 
 pub returns-in-Ok-clause-begun : goal.returns-in-Ok-clause-begun
 returns-in-Ok-clause-begun g c = next_begun _ c.goes_on.result c.goes_on.ensures
+
+pub returns-in-Ok-clause-quiet : goal.returns-in-Ok-clause-quiet
+returns-in-Ok-clause-quiet g c t at =
+    let s = c.in-Some.ensures.some in
+    let one = removing_one c.args.work s.0 (drop (c.args.work.next + 1) c.args.work.sources.items) c.args.store.now (g.D.Disk.history c.args.store.now.disk) s.1 c.requires.ready in
+    removed_quiet g.D.Disk.history t c.args.work c.goes_on.result s.0 (drop (c.args.work.next + 1) c.args.work.sources.items) c.args.store.now c.remove_file.new.self at c.facts.ensures.store c.facts.ensures.files one (subst (λ (w : Work). IsNextStage w c.goes_on.result) c.go_on.ensures c.goes_on.ensures)
+    (subst (λ (f : FileNo). SameButFor (file.Mail f.0) (g.D.Disk.history c.args.store.now.disk) (g.D.Disk.history c.remove_file.new.self.disk)) s.2.0 c.in-Ok.ensures.others) (subst (λ (f : FileNo). IfTold (g.D.Disk.history c.remove_file.new.self.disk) (λ now. reading (now (file.Mail f.0)) ≡ None)) s.2.0 c.in-Ok.ensures.gone)
+    (ap (λ (s : StoreValue _). s.map) c.in-Ok.ensures.ok) (λ runs. ((returns-in-Ok-clause-step g c t at).claims runs).moves)
+
+pub returns-in-Err-clause-quiet : goal.returns-in-Err-clause-quiet
+returns-in-Err-clause-quiet g c t at = tt

@@ -6,6 +6,7 @@ use Rattle.purge_task.specs.Dropped.{DropsCounted, TellsCounts}
 use Rattle.purge_task.proofs.EventLemmas.{fall}
 use Rattle.purge_task.proofs.StepLemmas.{left_of, ready_did, ready_of, step_of}
 use Rattle.purge_task.proofs.StoppedLemmas.{stopped_says}
+use Rattle.purge_task.proofs.QuietStepLemmas.{quiet_did}
 use Rattle.purge_task.proofs.task.PurgeTask.step.Goals as goal
 
 pub returns-then-stopped-clause-step : goal.returns-then-stopped-clause-step
@@ -47,3 +48,9 @@ returns-clause-drops g c = subst (λ (v : PurgeValue). DropsCounted v c.run.new.
 
 pub returns-clause-counts : goal.returns-clause-counts
 returns-clause-counts g c = subst (λ (v : PurgeValue). TellsCounts v c.run.new.self c.run.result) c.self.view_is c.run.ensures.counts
+
+pub returns-then-stopped-clause-quiet : goal.returns-then-stopped-clause-quiet
+returns-then-stopped-clause-quiet g c = tt
+
+pub returns-clause-quiet : goal.returns-clause-quiet
+returns-clause-quiet g c = quiet_did (record { stage = c.self.inside.stage; did = c.self.inside.did; dropped = c.self.inside.done.dropped; files = c.self.inside.done.files; instances = c.self.inside.done.instances }) c.args.self.now c.run.new.self did.Quiet c.run.result c.args.store.now c.run.new.store (g.D.Disk.history c.args.store.now.disk) (g.D.Disk.history c.run.new.store.disk) c.self.view_is c.run.ensures.quiet
