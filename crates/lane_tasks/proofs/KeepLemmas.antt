@@ -298,7 +298,7 @@ rose_as (progress.Done (reply.Refused refusal.Stopped)) began now f = let same =
 rose_as (progress.Done (reply.Refused refusal.ReadFault)) began now f = let same = f.changes in record { reads = f.reads; changes = omega (arith, same); unfailed = λ no. f.changes; calm = λ no. absurd (no refl) }
 rose_as answer began now f = rose_none answer began now f
 
-pub keeps_saving : {D : Type 0} → (history : D → Option History) (faults : D → Faults) (t next : SaveValue) (old new : StoreValue D) (answer : Progress) → (next.name ≡ t.name) × (next.time ≡ t.time) × (next.size ≡ t.size) → EndsSave next.stage answer old new
+pub keeps_saving : {D : Type 0} → (history : D → Option History) (faults : D → Faults) (t next : SaveValue) (old new : StoreValue D) (answer : Progress) → (next.name ≡ t.name) × (next.time ≡ t.time) × (next.size ≡ t.size) → EndsSave answer old new
     → (old.stopped ≡ false → Saves t.stage next.stage t.name t.time t.size answer next.did old new (history old.disk) (history new.disk) (faults old.disk) (faults new.disk)) → Same history faults (task.Deliver t) (task.Deliver next) old new (ended_by answer)
 keeps_saving history faults t next old new answer request ends saves = by_run old.stopped refl
   where
@@ -329,7 +329,7 @@ keeps_saving history faults t next old new answer request ends saves = by_run ol
           fell = λ ran stops. let f = subst (λ (a : Progress). FaultsAt a (faults old.disk) (faults new.disk)) (s.stopped.1 stops) s.faults in (f.rose tt, f.reads);
           unread = λ none. absurd none;
           calm = λ answers told. f.calm (λ e. told (ap ended_by e));
-          tells = tt;
+          tells = λ runs. (faults old.disk, faults new.disk, subst (λ (a : Progress). Saves t.stage next.stage t.name t.time t.size a next.did old new (history old.disk) (history new.disk) (faults old.disk) (faults new.disk)) (sym (progress_back answer)) s);
           undoomed = undoomed_by (task.Deliver t) (task.Deliver next) old new (λ none. none) (λ runs. r) ends.doomed;
           idle = λ reads none. absurd reads;
           still = λ was. absurd (let k : true ≡ false = sym was ∙ r in cc k);
@@ -339,7 +339,7 @@ keeps_saving history faults t next old new answer request ends saves = by_run ol
         }
 
     by_run : (b : Bool) → old.stopped ≡ b → Same history faults (task.Deliver t) (task.Deliver next) old new (ended_by answer)
-    by_run true was = keeps_still history faults (task.Deliver t) (task.Deliver next) old new (ended_by answer) request (λ none. none) (λ runs synced. absurd (let k : false ≡ true = sym runs ∙ (ap (λ (s : StoreValue _). s.stopped) (ends.still was) ∙ was) in cc k)) tt (ends.still was)
+    by_run true was = keeps_still history faults (task.Deliver t) (task.Deliver next) old new (ended_by answer) request (λ none. none) (λ runs synced. absurd (let k : false ≡ true = sym runs ∙ (ap (λ (s : StoreValue _). s.stopped) (ends.still was) ∙ was) in cc k)) (λ runs. absurd (let k : true ≡ false = sym was ∙ runs in cc k)) (ends.still was)
     by_run false r = ran r (saves r)
 
 -- ---- of a resync
