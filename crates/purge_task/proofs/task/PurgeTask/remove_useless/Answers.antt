@@ -1,12 +1,10 @@
 use Rattle.std.proofs.Common.{◌≡◌, ◌+◌, false, refl, sym, ◌∙◌, ap, subst}
 use Rattle.mdbox_base.specs.declared.ids.InstId.{InstId}
 use Rattle.mdbox_base.specs.declared.progress.Progress.TheVariants as progress
-use Rattle.mdbox_base.specs.declared.replies.Refusal.TheVariants as refusal
-use Rattle.mdbox_base.specs.declared.replies.Reply.TheVariants as reply
 use Rattle.map_index.specs.Shown.{is_instance_named}
 use Rattle.sis_store.specs.Instances.{holders_in, instance_in}
 use Rattle.std.specs.Prelude.{IsSome}
-use Rattle.purge_task.specs.Clause.{IsPurgeStep, at_stage}
+use Rattle.purge_task.specs.Clause.{at_stage}
 use Rattle.purge_task.specs.Keeping.{PurgeValue}
 use Rattle.purge_task.specs.declared.task.PurgeStage.TheVariants as stage
 use Rattle.store_core.specs.Value.{StoreValue}

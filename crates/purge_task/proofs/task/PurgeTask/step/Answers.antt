@@ -1,6 +1,5 @@
 use Rattle.std.proofs.Common.{refl, sym, ◌∙◌, ap, subst}
 use Rattle.mdbox_base.specs.declared.progress.Did.TheVariants as did
-use Rattle.purge_task.specs.Clause.{IsPurgeStep}
 use Rattle.purge_task.specs.Keeping.{PurgeValue}
 use Rattle.purge_task.specs.Dropped.{DropsCounted, TellsCounts}
 use Rattle.purge_task.proofs.EventLemmas.{fall}
