@@ -40,7 +40,7 @@ use Rattle.mail_ops.specs.declared.making.MakeStage.TheVariants as make_stage
 use Rattle.mail_ops.specs.declared.moving.MoveStage.TheVariants as move_stage
 use Rattle.mail_save.specs.MailFiles.{WritesMail}
 use Rattle.mail_save.specs.SaveSeen.{around_saving}
-use Rattle.mail_save.specs.Task.{SaveValue}
+use Rattle.mail_save.specs.Task.{SaveValue, Saves}
 use Rattle.mail_save.specs.declared.task.SaveStage.TheVariants as save_stage
 use Rattle.purge_task.specs.Clause.{TellsUses, around_purging}
 use Rattle.purge_task.specs.Dropped.{DropsCounted, TellsCounts}
@@ -177,20 +177,25 @@ progress_by (Some given) = progress.Done given
 abbrev pub ResyncsSo : {D : Type 0} → ResyncValue → ResyncValue → StoreValue D → StoreValue D → Option History → Option History → Option Reply → Type 0
 ResyncsSo t next old new before after ended = (began : Faults) × (now : Faults) × ResyncsOn t.stage next.stage (progress_by ended) next.did old new before after began now
 
+-- What an event of a delivery did to the store and answers, from stage to stage, whatever calls failed before.
+abbrev pub SavesSo : {D : Type 0} → SaveValue → SaveValue → StoreValue D → StoreValue D → Option History → Option History → Option Reply → Type 0
+SavesSo t next old new before after ended = (began : Faults) × (now : Faults) × Saves t.stage next.stage t.name t.time t.size (progress_by ended) next.did old new before after began now
+
 -- What an event of a purge did to the map, unless it stopped the store: it dropped as many records as it counts; and what it has counted it
 -- replies.
 abbrev pub PurgesSo : {D : Type 0} → PurgeValue → PurgeValue → StoreValue D → StoreValue D → Option Reply → Type 0
 PurgesSo t next old new ended = DropsCounted t next old new × TellsCounts t next (progress_by ended)
 
 -- What a task answers, by what its event found in the store and left of it: of a listing or a setting of flags, and, unless the store
--- was stopped, of a make, a copy, a move, an expunge or a resync, with the stages before and after. A resync that puts counts right
--- leaves each exact. Of a purge it is what its event dropped.
+-- was stopped, of a make, a copy, a move, an expunge, a delivery or a resync, with the stages before and after. A resync that puts counts
+-- right leaves each exact. Of a purge it is what its event dropped.
 abbrev pub TellsStore : {D : Type 0} → Task → Task → StoreValue D → StoreValue D → Option History → Option History → Option Reply → Type 0
 TellsStore (task.Ops t) next old new before after ended = (given : Reply) × (ended ≡ Some given) × Replies t.request old new given
 TellsStore (task.Make t) (task.Make next) old new before after ended = old.stopped ≡ false → MakeAnswers t.name t.stage old new before after next.stage (progress_by ended)
 TellsStore (task.Copy t) (task.Copy next) old new before after ended = old.stopped ≡ false → CopyAnswers t.name t.uid t.target t.stage old new next.stage (progress_by ended)
 TellsStore (task.Move t) (task.Move next) old new before after ended = old.stopped ≡ false → MoveAnswers t.name t.uid t.target t.stage old new next.stage (progress_by ended)
 TellsStore (task.Expunge t) (task.Expunge next) old new before after ended = old.stopped ≡ false → ExpungeAnswers t.name t.uid t.stage old new next.stage (progress_by ended)
+TellsStore (task.Deliver t) (task.Deliver next) old new before after ended = old.stopped ≡ false → SavesSo t next old new before after ended
 TellsStore (task.Resync t) (task.Resync next) old new before after ended = (old.stopped ≡ false → ResyncsSo t next old new before after ended) × ((corrected damaged : ℕ) → ended ≡ Some (reply.Resynced corrected damaged) → AreExact new)
 TellsStore (task.Purge t) (task.Purge next) old new before after ended = PurgesSo t next old new ended
 TellsStore t next old new before after ended = Unit {0}

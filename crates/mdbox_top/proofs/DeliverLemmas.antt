@@ -22,42 +22,47 @@ use Rattle.model_lists.specs.Lists.{Lists}
 use Rattle.model_meaning.specs.MapMeaning.{MapMeaning}
 use Rattle.model_store.specs.Safe.{Safe}
 use Rattle.model_store.specs.Settled.{IsSettledFor}
-use Rattle.task_steps.specs.Step.{HasNotBegun}
 use Rattle.task_steps.proofs.OneEventLemmas.{not_true}
 use Rattle.storage_files.specs.Files.{FilesValue}
 use Rattle.store_core.specs.Running.{IsStore}
 use Rattle.store_core.specs.Value.{StoreValue, indexes_of, list_named}
 use Rattle.saved_message.specs.Region.{guid_of_place, written_region}
 use Rattle.saved_message.specs.Saved.{ids_in}
-use Rattle.store_core.specs.StoreInstances.{HasKnownInstances}
 use Rattle.store_open.specs.Opened.{IsOpenedAs}
-use Rattle.store_open.specs.declared.error.OpenError.{OpenError}
-use Rattle.store_open.specs.declared.error.OpenError.TheVariants as error
 use Rattle.request_text.specs.Outcomes.{status_of}
 use Rattle.request_text.specs.declared.outcome.InputRefusal.{InputRefusal}
 use Rattle.request_text.specs.declared.outcome.InputRefusal.TheVariants as input
 use Rattle.request_text.specs.declared.outcome.StoreRefusal.{StoreRefusal}
 use Rattle.request_text.specs.declared.outcome.Outcome.{Outcome}
 use Rattle.request_text.specs.declared.outcome.Outcome.TheVariants as outcome
-use Rattle.script_run.specs.Opening.{IsUnopened}
-use Rattle.script_run.proofs.MailStaysLemmas.{stays_from}
-use Rattle.script_run.proofs.RunBeginsLemmas.{OpenedNow, before_opening}
 use Rattle.mdbox_top.specs.Alone.{IsDoneAlone}
-use Rattle.script_run.specs.One.{lists_told, saved_lists}
-use Rattle.mdbox_top.specs.ChangeEvents.{IsAlike, AreAlongSave, ShowsChanged, StoresAlone, SavesAlone}
-use Rattle.mdbox_top.specs.DeliverRun.{undelivered_cause, region_length, HasRecordLeft, HasRecordMore, IsDeliverAnswer, OpensAlike, OpensSaved, IsDeliverReply, SaveOutcome, AreSaved, SaveMoments, SaveRests, unread_outcome, IsUnread, DeliverOutcome, DeliverRests, DeliverStatus}
+use Rattle.script_run.specs.One.{IsAlongOne, OpensUnchanged, RunsAlone, alone, lists_told, saved_lists}
+use Rattle.mdbox_top.proofs.SaveLemmas.{IsAlike, IsSaveTold, SavesAlone, StandsSave, StoresAlone, begun_save, keeps_save}
+use Rattle.mdbox_top.proofs.MakeLemmas.{done_alone}
+use Rattle.mdbox_top.proofs.OneStepLemmas.{stopped_one, unfailed_by}
+use Rattle.mdbox_top.proofs.PurgeLemmas.{purge_done}
+use Rattle.mdbox_top.proofs.ResyncLemmas.{alone_faults, resync_done, served_some}
+use Rattle.script_run.proofs.AloneLemmas.{may_read}
+use Rattle.script_run.proofs.DoneLemmas.{settled_safe}
+use Rattle.script_run.proofs.ReachedSaveLemmas.{reached_saved}
+use Rattle.script_run.proofs.ToldLemmas.{serves_one, told_left}
+use Rattle.script_run.proofs.WorkedLemmas.{worked_told}
+use Rattle.script_run.specs.LeftOpen.{IsRequestDone}
+use Rattle.script_run.specs.Worked.{IsWorkedOut}
+use Rattle.lanes.specs.Worlds.{HasItsMessage}
+use Rattle.mdbox_base.specs.declared.requests.Request.{Request}
+use Rattle.mdbox_base.specs.declared.script.JournalEntry.{JournalEntry}
+use Rattle.task_steps.specs.Serves.{IsReached}
+use Rattle.mdbox_top.specs.DeliverRun.{undelivered_cause, region_length, HasRecordLeft, HasRecordMore, IsDeliverAnswer, OpensAlike, OpensSaved, IsDeliverReply, SaveOutcome, AreSaved, SaveMoments, unread_outcome, IsUnread, DeliverOutcome, DeliverRests, DeliverStatus}
 use Rattle.mdbox_top.specs.InputRun.{IsOneOf}
 use Rattle.mdbox_top.specs.OpeningOutcome.{opening_outcome}
 use Rattle.mdbox_top.specs.SavedMail.{LeavesDelivery, WroteMail}
-use Rattle.mdbox_top.proofs.ChangeLemmas.{opens_unchanged, moments_as}
 use Rattle.script_run.proofs.OneTaskLemmas.{one_refusal}
 use Rattle.mdbox_top.proofs.InputLemmas.{long_told}
 use Rattle.mdbox_top.proofs.KnownFirstLemmas.{named_there}
 use Rattle.mdbox_top.proofs.RequestLemmas.{opening_number, shown_number, request_status, request_used, request_input, request_damage}
-use Rattle.mdbox_top.proofs.ServedLemmas.{way_opens}
-use Rattle.script_run.proofs.ShownLemmas.{LogsShow, opens_again}
+use Rattle.script_run.proofs.ShownLemmas.{ListsAnswer, opens_again}
 use Rattle.mdbox_top.proofs.WroteLemmas.{wrote_message}
-use Rattle.mdbox_top.specs.UnderWay.{seen_alone}
 
 -- ---- the end of a run
 
@@ -180,28 +185,67 @@ unread_quiet (read.TooLong limit) P h other = h (λ same. cc same)
 unread_quiet read.Fault P h other = absurd (other refl)
 unread_quiet read.NoMemory P h other = h (λ same. cc same)
 
--- ---- the store was not opened
+-- ---- a delivery alone, by the script that it is
 
-pub save_unopened_leaves : (name : List ℕ) (time : ℕ) (octets : List ℕ) (old new : Option History) (began now : Faults) (why : OpenError) → IsUnopened why old new began now → SaveMoments name time octets old new
-save_unopened_leaves name time octets old new began now why u = λ lists at.
-    each_image-map (λ _ image. Safe image lists) (λ _ image. Safe image lists ⊎ ((some : Lists) × AreSaved name time octets lists some × Safe image some)) old new (λ m image h. inl h) (u.moments lists at)
+abbrev pub delivering : List ℕ → ℕ → List ℕ → Request
+delivering name time octets = request.Deliver name time octets
 
-pub save_unopened_rests : (name : List ℕ) (time : ℕ) (octets : List ℕ) (failed : Type 0) (old new : Option History) (began now : Faults) (why : OpenError) → (why ≡ error.DiskFault → failed) → IsUnopened why old new began now → SaveRests name time octets failed began now old new
-save_unopened_rests name time octets failed old new began now why h u = λ none lists at. inl (u.settled_again (λ f. none (h f)) lists at)
-
--- ---- behind the opening
-
--- What is known of a delivery alone: of the opening of the store, and of the events of its task.
-pub record DeliveringKnown {D : Type 0} (name : List ℕ) (time : ℕ) (octets : List ℕ) (prepared : Prepared) (given : Reply) (old mid new : Option History) (began now : Faults) (s t : StoreValue D) : Type 0 where
-  pub opened : OpenedNow old mid s
+-- It was done alone, its lanes did this, and its message has this detached form.
+pub record IsDelivered (D : Type 0) (name : List ℕ) (time : ℕ) (octets : List ℕ) (prepared : Prepared) (given : Reply) (old new : Option History) (began now : Faults) : Type 0 where
+  pub done : IsRequestDone (delivering name time octets) given old new began now
+  pub entries : List JournalEntry
+  pub worked : IsWorkedOut D (alone (delivering name time octets)) 1 (Some given ∷ []) entries old new began now
   pub form : IsPrepared octets prepared
-  pub known : HasKnownInstances mid s
-  pub later : IsStore new t
-  pub saves : SavesAlone name time octets prepared s t mid new began now given
-  pub back : t ≡ s → new ≡ mid
 
-deliver_runs : {D : Type 0} → (name : List ℕ) (time : ℕ) (octets : List ℕ) (prepared : Prepared) (given : Reply) (old mid new : Option History) (began now : Faults) (s t : StoreValue D) → DeliveringKnown name time octets prepared given old mid new began now s t → (given ≡ reply.Refused refusal.Stopped → ⊥) → t.stopped ≡ false
-deliver_runs name time octets prepared given old mid new began now s t w running = not_true t.stopped (λ e. running (w.saves.halts.1 e))
+deliver_told : {D : Type 0} → (name : List ℕ) (time : ℕ) (octets : List ℕ) (prepared : Prepared) (given : Reply) (old new : Option History) (began now : Faults) → (w : IsDelivered D name time octets prepared given old new began now)
+    → IsSaveTold name time octets prepared w.worked.store w.worked.opened given w.worked.last.store new
+deliver_told name time octets prepared given old new began now w =
+    let k = w.worked in
+    worked_told (StandsSave name time octets prepared k.store k.opened) (IsSaveTold name time octets prepared k.store k.opened) (delivering name time octets) given w.entries old new began now k
+    (keeps_save name time octets prepared k.store k.opened w.form) (begun_save name time octets prepared k.store k.opened k.running)
+
+deliver_saves : {D : Type 0} → (name : List ℕ) (time : ℕ) (octets : List ℕ) (prepared : Prepared) (given : Reply) (old new : Option History) (began now : Faults) → (w : IsDelivered D name time octets prepared given old new began now) → SavesAlone name time octets prepared w.worked.store w.worked.last.store w.worked.opened new given
+deliver_saves name time octets prepared given old new began now w = (deliver_told name time octets prepared given old new began now w).saves w.worked.later_known
+
+deliver_runs : {D : Type 0} → (name : List ℕ) (time : ℕ) (octets : List ℕ) (prepared : Prepared) (given : Reply) (old new : Option History) (began now : Faults) → (w : IsDelivered D name time octets prepared given old new began now) → (given ≡ reply.Refused refusal.Stopped → ⊥) → w.worked.last.store.stopped ≡ false
+deliver_runs name time octets prepared given old new began now w running = not_true w.worked.last.store.stopped (λ e. running ((deliver_told name time octets prepared given old new began now w).halts e))
+
+-- ---- the lists that it leaves
+
+read_or_not : (given : Reply) → (given ≡ reply.Refused refusal.ReadFault) ⊎ (given ≡ reply.Refused refusal.ReadFault → ⊥)
+read_or_not (reply.Refused refusal.ReadFault) = inl refl
+read_or_not other = inr (λ e. cc e)
+
+deliver_settles : {D : Type 0} → (name : List ℕ) (time : ℕ) (octets : List ℕ) (prepared : Prepared) (given : Reply) (old new : Option History) (began now : Faults) → IsDelivered D name time octets prepared given old new began now → (given ≡ reply.Refused refusal.Stopped → ⊥) → (lists : Lists) → IsSettledFor lists old
+    → IsSettledFor (lists_told (request.Deliver name time octets) given lists) new
+deliver_settles name time octets prepared given old new began now w running lists at = elim (read_or_not given) [
+  | inl read ↦ subst (λ (r : Reply). IsSettledFor (lists_told (request.Deliver name time octets) r lists) new) (sym read) ((deliver_saves name time octets prepared given old new began now w).settled read lists (w.worked.settled_again lists at))
+  | inr unread ↦
+      let s = w.done.done.serves lists (w.done.done.shown lists (settled_safe lists old at)) (may_read (delivering name time octets) tt lists old) in
+      subst (λ (ls : Lists). IsSettledFor ls new) (told_left lists (delivering name time octets) s.run s.journal given began now s.served.legal (unfailed_by given unread running)) (s.settled (stopped_one given running) at)
+]
+
+along_save : (name : List ℕ) (time : ℕ) (octets : List ℕ) (answer : Reply) (lists some : Lists) → some ≡ lists_told (request.Deliver name time octets) answer lists → (some ≡ lists) ⊎ AreSaved name time octets lists some
+along_save name time octets (reply.Saved uid guid) lists some is = inr (guid, is)
+along_save name time octets other lists some is = inl is
+
+one_safe : (name : List ℕ) (time : ℕ) (octets : List ℕ) (lists some : Lists) (image : Files) → IsAlongOne (request.Deliver name time octets) lists some → Safe image some → Safe image lists ⊎ ((other : Lists) × AreSaved name time octets lists other × Safe image other)
+one_safe name time octets lists some image along s = elim (along_save name time octets along.0 lists some along.1) [
+  | inl same ↦ inl (subst (λ (ls : Lists). Safe image ls) same s)
+  | inr saved ↦ inr (some, saved, s)
+]
+
+deliver_leaves : (name : List ℕ) (time : ℕ) (octets : List ℕ) (given : Reply) (old new : Option History) (began now : Faults) → IsRequestDone (delivering name time octets) given old new began now → SaveMoments name time octets old new
+deliver_leaves name time octets given old new began now w = λ lists at.
+    let s = w.done.serves lists (w.done.shown lists (settled_safe lists old at)) (may_read (delivering name time octets) tt lists old) in
+    each_image-map (IsReached lists s.run s.journal s.broken) (λ _ image. Safe image lists ⊎ ((some : Lists) × AreSaved name time octets lists some × Safe image some)) old new
+    (λ moment image is. one_safe name time octets lists is.0 image (reached_saved name time octets lists s.run s.journal s.broken (Some given ∷ []) began now _ s.m s.drawn _ s.served moment is.0 is.1) is.2) (s.crash at)
+
+by_reply : (name : List ℕ) (time : ℕ) (octets : List ℕ) (given : Reply) (lists : Lists) (new : Option History) → IsSettledFor (lists_told (request.Deliver name time octets) given lists) new → IsSettledFor lists new ⊎ ((some : Lists) × AreSaved name time octets lists some × IsSettledFor some new)
+by_reply name time octets (reply.Saved uid guid) lists new s = inr (saved_lists name time octets guid lists, (guid, refl), s)
+by_reply name time octets other lists new s = inl s
+
+-- ---- what it replies
 
 saved_runs : (given : Reply) (uid : Uid) (guid : Guid) → given ≡ reply.Saved uid guid → given ≡ reply.Refused refusal.Stopped → ⊥
 saved_runs given uid guid d s = let k : reply.Saved uid guid ≡ reply.Refused refusal.Stopped = sym d ∙ s in cc k
@@ -221,65 +265,79 @@ opens_alike name time prepared new s t k runs drawn b left = record {
   left = record_left name time prepared s.drawn s.map.highest s.map t.map s.files drawn left;
 }
 
-opens_saved : {D : Type 0} → (name : List ℕ) (time : ℕ) (octets : List ℕ) (prepared : Prepared) (guid : Guid) (old mid new : Option History) (s t : StoreValue D) → OpenedNow old mid s → HasKnownInstances mid s → IsStore new t → t.stopped ≡ false → ShowsChanged (saved_lists name time octets guid) s t → (uid : MapUid) → StoresAlone name time prepared uid guid s t mid new
-    → OpensSaved name time octets prepared guid s.map (indexes_of s.boxes) s.files old new
-opens_saved name time octets prepared guid old mid new s t opened known later runs shows uid stored = record {
-  map = t.map;
-  changed = indexes_of t.boxes;
-  opened = opens_again new t later runs;
-  shows = shows;
-  uid = uid;
-  at = stored.at;
-  guid_is = stored.guid_is;
-  rows = stored.rows;
-  more = subst (λ (h : Highest). HasRecordMore name time prepared h.map s.map s.files stored.rows uid stored.at t.map) opened.drawn stored.more;
-  mail = wrote_message prepared.parts stored.rows time opened.swept.0 (written_region name time prepared (ids_in stored.rows) guid.0) s.map s.files stored.at old mid new opened.swept.1 ((opened.store.running opened.running).files_known stored.at.file.0) (named_there mid s opened.running known) stored.unsealed stored.mail;
-  attachments = stored.attachments;
-  once = stored.once;
-}
+opens_saved : {D : Type 0} → (name : List ℕ) (time : ℕ) (octets : List ℕ) (prepared : Prepared) (given : Reply) (old new : Option History) (began now : Faults) → (w : IsDelivered D name time octets prepared given old new began now) → (uid : Uid) (guid : Guid) → given ≡ reply.Saved uid guid
+    → OpensSaved name time octets prepared guid w.worked.store.map (indexes_of w.worked.store.boxes) w.worked.store.files old new
+opens_saved name time octets prepared given old new began now w uid guid e =
+    let k = w.worked in
+    let s = k.store in
+    let t = k.last.store in
+    let saves = deliver_saves name time octets prepared given old new began now w in
+    let stored = (saves.stored uid guid e).1 in
+    record {
+      map = t.map;
+      changed = indexes_of t.boxes;
+      opened = opens_again new t k.later (deliver_runs name time octets prepared given old new began now w (saved_runs given uid guid e));
+      shows = saves.shows uid guid e;
+      uid = (saves.stored uid guid e).0;
+      at = stored.at;
+      guid_is = stored.guid_is;
+      rows = stored.rows;
+      more = subst (λ (h : Highest). HasRecordMore name time prepared h.map s.map s.files stored.rows (saves.stored uid guid e).0 stored.at t.map) k.drawn stored.more;
+      mail = wrote_message prepared.parts stored.rows time k.swept.0 (written_region name time prepared (ids_in stored.rows) guid.0) s.map s.files stored.at old k.opened new k.swept.1 ((k.sound.running k.running).files_known stored.at.file.0) (named_there k.opened s k.running k.known) stored.unsealed stored.mail;
+      attachments = stored.attachments;
+      once = stored.once;
+    }
 
 -- what was written since the opening
 by_guid : {D : Type 0} → (name : List ℕ) (time : ℕ) (prepared : Prepared) (guid : Guid) (mid new : Option History) (s t : StoreValue D) → (map_uid : MapUid) × StoresAlone name time prepared map_uid guid s t mid new
     → (rows : List InstRow) × (file : ℕ) × (offset : ℕ) × (guid.0 ≡ guid_of_place s.map.store file offset) × WroteMail prepared.parts rows time file offset (written_region name time prepared (ids_in rows) guid.0) mid new
 by_guid name time prepared guid mid new s t stored = (stored.1.rows, stored.1.at.file.0, stored.1.at.offset, sym (ap (λ (g : Guid). g.0) stored.1.guid_is) ∙ stored.1.more.place.guid_is, stored.1.mail)
 
-mail_left : {D : Type 0} → (name : List ℕ) (time : ℕ) (octets : List ℕ) (prepared : Prepared) (given : Reply) (mid new : Option History) (began now : Faults) (s t : StoreValue D) → SavesAlone name time octets prepared s t mid new began now given → LeavesDelivery s.map.store name time prepared given mid new
-mail_left name time octets prepared given mid new began now s t saves = record { saved = λ uid guid e. by_guid name time prepared guid mid new s t (saves.stored uid guid e); uncompared = saves.uncompared; unsaved = saves.leaves }
+mail_left : {D : Type 0} → (name : List ℕ) (time : ℕ) (octets : List ℕ) (prepared : Prepared) (given : Reply) (mid new : Option History) (s t : StoreValue D) → SavesAlone name time octets prepared s t mid new given → LeavesDelivery s.map.store name time prepared given mid new
+mail_left name time octets prepared given mid new s t saves = record { saved = λ uid guid e. by_guid name time prepared guid mid new s t (saves.stored uid guid e); uncompared = saves.uncompared; unsaved = saves.leaves }
 
-deliver_tells : {D : Type 0} → (name : List ℕ) (time : ℕ) (octets : List ℕ) (prepared : Prepared) (given : Reply) (old mid new : Option History) (began now : Faults) (s t : StoreValue D) → DeliveringKnown name time octets prepared given old mid new began now s t → IsDeliverReply name time octets old new given
-deliver_tells name time octets prepared given old mid new began now s t w = record {
-  m = s.map;
-  meanings = indexes_of s.boxes;
-  opened = w.opened.opened;
-  files = s.files;
-  found = w.opened.files;
-  prepared = prepared;
-  form = w.form;
-  given_is = subst (λ (h : Highest). IsDeliverAnswer (undelivered_cause (list_named s name) h) (list_named s name) s.map.store (region_length name time prepared) h.instance (length prepared.parts) s.files given) w.opened.drawn w.saves.given_is;
-  refused = λ why e. opens_unchanged old mid new s w.opened (w.back (w.saves.refused why (subst (λ (h : Highest). undelivered_cause (list_named s name) h ≡ Some why) (sym w.opened.drawn) e)));
-  unsaved = λ why e running. opens_alike name time prepared new s t w.later (deliver_runs name time octets prepared given old mid new began now s t w (refused_runs given why e running)) w.opened.drawn (w.saves.unsaved why e running) (w.saves.left why e running);
-  done = λ uid guid e. opens_saved name time octets prepared guid old mid new s t w.opened w.known w.later (deliver_runs name time octets prepared given old mid new began now s t w (saved_runs given uid guid e)) (w.saves.shows uid guid e) (w.saves.stored uid guid e).0 (w.saves.stored uid guid e).1;
-  mail = (w.opened.swept.0, mid, w.opened.swept.1, stays_from old mid new s.map (indexes_of s.boxes) w.opened.opened w.opened.reads w.opened.stays w.saves.stays, mail_left name time octets prepared given mid new began now s t w.saves);
-  settled = λ running lists at. w.saves.settled (deliver_runs name time octets prepared given old mid new began now s t w running) lists (w.opened.settled_again lists at);
-}
+deliver_tells : {D : Type 0} → (name : List ℕ) (time : ℕ) (octets : List ℕ) (prepared : Prepared) (given : Reply) (old new : Option History) (began now : Faults) → IsDelivered D name time octets prepared given old new began now → IsDeliverReply name time octets old new given
+deliver_tells name time octets prepared given old new began now w =
+    let k = w.worked in
+    let s = k.store in
+    let t = k.last.store in
+    let saves = deliver_saves name time octets prepared given old new began now w in
+    record {
+      m = s.map;
+      meanings = indexes_of s.boxes;
+      opened = k.opens;
+      files = s.files;
+      found = k.found;
+      prepared = prepared;
+      form = w.form;
+      given_is = subst (λ (h : Highest). IsDeliverAnswer (undelivered_cause (list_named s name) h) (list_named s name) s.map.store (region_length name time prepared) h.instance (length prepared.parts) s.files given) k.drawn saves.given_is;
+      refused = λ why e.
+          let back = saves.refused why (subst (λ (h : Highest). undelivered_cause (list_named s name) h ≡ Some why) (sym k.drawn) e) in
+          subst (λ (h : Option History). OpensUnchanged s.map (indexes_of s.boxes) old h) (sym back.1) (opens_again k.opened s k.sound k.running, k.carried, k.swept);
+      unsaved = λ why e running. opens_alike name time prepared new s t k.later (deliver_runs name time octets prepared given old new began now w (refused_runs given why e running)) k.drawn (saves.unsaved why e running) (saves.left why e running);
+      done = opens_saved name time octets prepared given old new began now w;
+      mail = (k.swept.0, k.opened, k.swept.1, w.done.done.stays (refl, λ delivers. served_some (delivering name time octets) given old new began now w.done tt), mail_left name time octets prepared given k.opened new s t saves);
+      settled = deliver_settles name time octets prepared given old new began now w;
+    }
 
-by_reply : (name : List ℕ) (time : ℕ) (octets : List ℕ) (given : Reply) (lists : Lists) (new : Option History) → IsSettledFor (lists_told (request.Deliver name time octets) given lists) new → IsSettledFor lists new ⊎ ((some : Lists) × AreSaved name time octets lists some × IsSettledFor some new)
-by_reply name time octets (reply.Saved uid guid) lists new s = inr (saved_lists name time octets guid lists, (guid, refl), s)
-by_reply name time octets other lists new s = inl s
+-- ---- it was done
 
-deliver_rests : {D : Type 0} → (name : List ℕ) (time : ℕ) (octets : List ℕ) (prepared : Prepared) (given : Reply) (old mid new : Option History) (began now : Faults) (s t : StoreValue D) → DeliveringKnown name time octets prepared given old mid new began now s t → SaveRests name time octets (given ≡ reply.Refused refusal.Stopped) began now old new
-deliver_rests name time octets prepared given old mid new began now s t w = λ none lists at.
-    by_reply name time octets given lists new (w.saves.settled (deliver_runs name time octets prepared given old mid new began now s t w (λ stopped. none stopped (w.saves.faults.stopped stopped))) lists (w.opened.settled_again lists at))
+deliver_done : {D : Type 0} → (name : List ℕ) (time : ℕ) (octets : List ℕ) (prepared : Prepared) (given : Reply) (old new : Option History) (began now : Faults) → IsDelivered D name time octets prepared given old new began now → IsDoneAlone (request.Deliver name time octets) given old new began now
+deliver_done name time octets prepared given old new began now w =
+    let faults = alone_faults (delivering name time octets) given old new began now w.done tt refl in
+    record {
+      tells = deliver_tells name time octets prepared given old new began now w;
+      serves = λ lists safe. serves_one (delivering name time octets) given w.done.entries old new began now w.done.done lists safe (may_read (delivering name time octets) tt lists old);
+      moments = deliver_leaves name time octets given old new began now w.done;
+      rests = λ none lists at. by_reply name time octets given lists new (deliver_settles name time octets prepared given old new began now w (λ e. none e (faults.stopped e)) lists at);
+      faults = faults;
+    }
 
-one_safe : (name : List ℕ) (time : ℕ) (octets : List ℕ) (lists some : Lists) (moment : ℕ) (image : Files) → AreAlongSave name time octets lists some → Safe image some → Safe image lists ⊎ ((other : Lists) × AreSaved name time octets lists other × Safe image other)
-one_safe name time octets lists some moment image (inl e) s = inl (subst (λ (ls : Lists). Safe image ls) e s)
-one_safe name time octets lists some moment image (inr e) s = inr (some, e, s)
-
-pub deliver_done : {D : Type 0} → (name : List ℕ) (time : ℕ) (octets : List ℕ) (prepared : Prepared) (given : Reply) (old mid new : Option History) (began now : Faults) (s t : StoreValue D) → DeliveringKnown name time octets prepared given old mid new began now s t → LogsShow → IsDoneAlone (request.Deliver name time octets) given old new began now
-deliver_done name time octets prepared given old mid new began now s t w show = record {
-  tells = deliver_tells name time octets prepared given old mid new began now s t w;
-  serves = λ lists safe. w.saves.served lists (before_opening (seen_alone s mid began) old) (way_opens HasNotBegun (request.Deliver name time octets) lists old mid began s w.opened show safe (refl, refl));
-  moments = moments_as (AreAlongSave name time octets) (λ lists moment image. Safe image lists ⊎ ((some : Lists) × AreSaved name time octets lists some × Safe image some)) old mid new s w.opened w.saves.moments (λ lists moment image safe. inl safe) (λ lists some moment image a safe. one_safe name time octets lists some moment image a safe);
-  rests = deliver_rests name time octets prepared given old mid new began now s t w;
-  faults = w.saves.faults;
-}
+-- a request of any kind that runs as a script of its own
+pub alone_done : {D : Type 0} → (asked : Request) (prepared : Option Prepared) (given : Reply) (old new : Option History) (began now : Faults) → IsRequestDone asked given old new began now → (entries : List JournalEntry) × IsWorkedOut D (alone asked) 1 (Some given ∷ []) entries old new began now → RunsAlone asked → HasItsMessage asked prepared → ListsAnswer
+    → IsDoneAlone asked given old new began now
+alone_done (request.Deliver name time octets) (Some prepared) given old new began now w k one message answer = deliver_done name time octets prepared given old new began now (record { done = w; entries = k.0; worked = k.1; form = message.1 })
+alone_done (request.Deliver name time octets) None given old new began now w k one message answer = absurd message
+alone_done request.Resync prepared given old new began now w k one message answer = resync_done given old new began now w
+alone_done request.Purge prepared given old new began now w k one message answer = purge_done given old new began now w
+alone_done asked prepared given old new began now w k one message answer = done_alone asked given old new began now w one answer

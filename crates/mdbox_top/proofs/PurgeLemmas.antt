@@ -7,7 +7,6 @@ use Rattle.mdbox_base.specs.declared.replies.Refusal.{Refusal}
 use Rattle.mdbox_base.specs.declared.replies.Refusal.TheVariants as refusal
 use Rattle.mdbox_base.specs.declared.replies.Reply.{Reply}
 use Rattle.mdbox_base.specs.declared.replies.Reply.TheVariants as reply
-use Rattle.mdbox_base.specs.declared.requests.Request.{Request}
 use Rattle.mdbox_base.specs.declared.requests.Request.TheVariants as request
 use Rattle.model_lists.specs.Lists.{Lists}
 use Rattle.model_meaning.specs.MapMeaning.{MapMeaning}
@@ -17,18 +16,16 @@ use Rattle.list_machine.specs.Run.{EventPart, First, Last, Run, RunEvent, TakenF
 use Rattle.journal.specs.Journal.{AreSteps, IsReplyOf, JournalStep}
 use Rattle.purge_task.specs.Dropped.{DropsUnwanted}
 use Rattle.script_run.specs.LeftOpen.{IsRequestDone}
-use Rattle.script_run.specs.One.{RunsAlone, alone}
+use Rattle.script_run.specs.One.{alone}
 use Rattle.script_run.specs.Purged.{IsPurgeAnswer}
 use Rattle.script_run.proofs.AloneLemmas.{left_still, may_read}
-use Rattle.script_run.proofs.ShownLemmas.{ListsAnswer}
 use Rattle.script_run.proofs.SomeListsLemmas.{some_lists}
 use Rattle.script_run.proofs.ToldLemmas.{answers_of, replied_one, serves_one, step_answers}
 use Rattle.script_run.proofs.UnchangedLemmas.{listed_safe}
 use Rattle.mdbox_top.specs.Alone.{IsDoneAlone}
 use Rattle.mdbox_top.specs.PurgeRun.{IsPurgeReply, MayReplyPurge, OpensPurged}
-use Rattle.mdbox_top.proofs.MakeLemmas.{done_alone}
 use Rattle.mdbox_top.proofs.OneStepLemmas.{stopped_one}
-use Rattle.mdbox_top.proofs.ResyncLemmas.{alone_faults, resync_done}
+use Rattle.mdbox_top.proofs.ResyncLemmas.{alone_faults}
 
 abbrev PurgeDone : Reply → Option History → Option History → Faults → Faults → Type 0
 PurgeDone given old new began now = IsRequestDone request.Purge given old new began now
@@ -130,7 +127,7 @@ purge_tells given old new began now w = record {
   settled = λ running lists at. (listed_safe request.Purge given w.entries old new began now w.done refl lists at).1 (stopped_one given running);
 }
 
-purge_done : (given : Reply) (old new : Option History) (began now : Faults) → PurgeDone given old new began now → IsDoneAlone request.Purge given old new began now
+pub purge_done : (given : Reply) (old new : Option History) (began now : Faults) → PurgeDone given old new began now → IsDoneAlone request.Purge given old new began now
 purge_done given old new began now w = record {
   tells = purge_tells given old new began now w;
   serves = λ lists safe. serves_one request.Purge given w.entries old new began now w.done lists safe (may_read request.Purge tt lists old);
@@ -138,10 +135,3 @@ purge_done given old new began now w = record {
   rests = λ none lists at. (listed_safe request.Purge given w.entries old new began now w.done refl lists at).1 (stopped_one given (λ e. none e ((alone_faults request.Purge given old new began now w tt refl).stopped e)));
   faults = alone_faults request.Purge given old new began now w tt refl;
 }
-
--- ---- every request alone
-
-pub alone_done : (asked : Request) (given : Reply) (old new : Option History) (began now : Faults) → IsRequestDone asked given old new began now → RunsAlone asked → ListsAnswer → IsDoneAlone asked given old new began now
-alone_done request.Resync given old new began now w one answer = resync_done given old new began now w
-alone_done request.Purge given old new began now w one answer = purge_done given old new began now w
-alone_done asked given old new began now w one answer = done_alone asked given old new began now w one answer

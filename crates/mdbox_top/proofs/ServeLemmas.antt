@@ -23,6 +23,7 @@ use Rattle.request_text.specs.declared.outcome.Outcome.{Outcome}
 use Rattle.request_text.specs.declared.outcome.Outcome.TheVariants as outcome
 use Rattle.script_run.specs.Opening.{IsUnopened}
 use Rattle.script_run.specs.One.{RunsAlone, moved_lists}
+use Rattle.mdbox_top.specs.DeliverRun.{AreSaved, SaveMoments}
 use Rattle.mdbox_top.specs.FetchRun.{FetchRests}
 use Rattle.mdbox_top.specs.Changed.{ChangeMoments}
 use Rattle.mdbox_top.specs.OpeningOutcome.{opening_outcome}
@@ -46,6 +47,7 @@ plain_text (request.Make name) given one = refl
 plain_text request.Counts given one = refl
 plain_text request.Resync given one = refl
 plain_text request.Purge given one = refl
+plain_text (request.Deliver name time octets) given one = refl
 plain_text other given one = absurd one
 
 pub shows_text : (request : Request) (given : Reply) (h k : Option (List ℕ)) (o : Outcome) → RunsAlone request → ShowsReply (reply_text given) given h k o → ShowsReply (single_text request given) given h k o
@@ -100,6 +102,10 @@ unopened_ends request h old new began now why u = unopened (ReplyTells request) 
 change_unopened_leaves : (change : Lists → Lists) (old new : Option History) (began now : Faults) (why : OpenError) → IsUnopened why old new began now → ChangeMoments change old new
 change_unopened_leaves change old new began now why u = λ lists at. each_image-map (λ _ image. Safe image lists) (λ _ image. Safe image lists ⊎ Safe image (change lists)) old new (λ m image h. inl h) (u.moments lists at)
 
+save_unopened_leaves : (name : List ℕ) (time : ℕ) (octets : List ℕ) (old new : Option History) (began now : Faults) (why : OpenError) → IsUnopened why old new began now → SaveMoments name time octets old new
+save_unopened_leaves name time octets old new began now why u = λ lists at.
+    each_image-map (λ _ image. Safe image lists) (λ _ image. Safe image lists ⊎ ((some : Lists) × AreSaved name time octets lists some × Safe image some)) old new (λ m image h. inl h) (u.moments lists at)
+
 pub unopened_leaves : (request : Request) (old new : Option History) (began now : Faults) (why : OpenError) → RunsAlone request → IsUnopened why old new began now → RequestMoments request old new
 unopened_leaves (request.List name) old new began now why one u = record { safe = u.moments; stays = u.stays; closed_well = u.closed_well }
 unopened_leaves request.Counts old new began now why one u = record { safe = u.moments; stays = u.stays; closed_well = u.closed_well }
@@ -111,6 +117,7 @@ unopened_leaves (request.Copy name uid target) old new began now why one u = cha
 unopened_leaves (request.Move name uid target) old new began now why one u = λ lists at.
     each_image-map (λ _ image. Safe image lists) (λ _ image. Safe image lists ⊎ (Safe image (copied_lists name uid target lists) ⊎ Safe image (moved_lists name uid target lists))) old new (λ m image h. inl h) (u.moments lists at)
 unopened_leaves (request.Make name) old new began now why one u = λ lists at. each_image-map (λ _ image. Safe image lists) (SafeForMade name old lists) old new (λ m image h. inl h) (u.moments lists at)
+unopened_leaves (request.Deliver name time octets) old new began now why one u = save_unopened_leaves name time octets old new began now why u
 unopened_leaves other old new began now why one u = absurd one
 
 pub unopened_rests : (request : Request) (old new : Option History) (began now : Faults) (why : OpenError) → RunsAlone request → IsUnopened why old new began now → RequestRests request (MayFail request (status_of (opening_outcome why))) began now old new
@@ -123,6 +130,7 @@ unopened_rests (request.Expunge name uid) old new began now why one u = λ none 
 unopened_rests (request.Copy name uid target) old new began now why one u = λ none lists at. inl (u.settled_again (λ f. none (unopened_may (request.Copy name uid target) why f)) lists at)
 unopened_rests (request.Move name uid target) old new began now why one u = λ none lists at. inl (u.settled_again (λ f. none (unopened_may (request.Move name uid target) why f)) lists at)
 unopened_rests (request.Make name) old new began now why one u = λ none lists at. inl (u.settled_again (λ f. none (unopened_may (request.Make name) why f)) lists at)
+unopened_rests (request.Deliver name time octets) old new began now why one u = λ none lists at. inl (u.settled_again (λ f. none (unopened_may (request.Deliver name time octets) why f)) lists at)
 unopened_rests other old new began now why one u = absurd one
 
 pub unopened_quiet : (request : Request) (old new : Option History) (began now : Faults) (why : OpenError) → IsUnopened why old new began now → (MayFail request (status_of (opening_outcome why)) → ⊥) → NoFault began now
@@ -133,6 +141,3 @@ fetch_unopened_rests failed old new began now why h u = λ none. (u.settled_agai
 
 pub fetch_unopened_may : (name : List ℕ) (uid : Uid) (why : OpenError) → why ≡ error.DiskFault → MayFail (request.Fetch name uid) (status_of (opening_outcome why))
 fetch_unopened_may name uid why e = unopened_may (request.Fetch name uid) why e
-
-pub deliver_unopened_may : (name : List ℕ) (time : ℕ) (octets : List ℕ) (why : OpenError) → why ≡ error.DiskFault → MayFail (request.Deliver name time octets) (status_of (opening_outcome why))
-deliver_unopened_may name time octets why e = unopened_may (request.Deliver name time octets) why e

@@ -1,6 +1,6 @@
 -- What a request alone of several events makes of a store that it may change.
 use Rattle.std.specs.Prelude.{◌≡◌, ◌⊎◌, ℕ, List, Option}
-use Rattle.disk_model.specs.Disk.{Files, History, Faults, EachImage}
+use Rattle.disk_model.specs.Disk.{History, Faults}
 use Rattle.mdbox_base.specs.declared.replies.Refusal.TheVariants as refusal
 use Rattle.mdbox_base.specs.declared.replies.Reply.{Reply}
 use Rattle.mdbox_base.specs.declared.replies.Reply.TheVariants as reply
@@ -8,7 +8,6 @@ use Rattle.model_lists.specs.Lists.{Lists, AreWellFormed}
 use Rattle.model_meaning.specs.BoxMeaning.{BoxMeaning}
 use Rattle.model_meaning.specs.MapMeaning.{MapMeaning}
 use Rattle.model_store.specs.Listing.{ShowLists}
-use Rattle.model_store.specs.Safe.{Safe}
 use Rattle.model_store.specs.Settled.{IsSettledFor, Leaves}
 use Rattle.task_claims.specs.Leaving.{SyncsMail}
 use Rattle.store_open.specs.Opened.{IsOpenedAs, KeepsOpenedMail}
@@ -47,11 +46,3 @@ ChangeMoments change old new = (lists : Lists) → IsSettledFor lists old → Le
 -- of them.
 abbrev pub ChangeRests : (Lists → Lists) → Type 0 → Faults → Faults → Option History → Option History → Type 0
 ChangeRests change failed began now old new = NoFailedChange failed began now → (lists : Lists) → IsSettledFor lists old → IsSettledFor lists new ⊎ IsSettledFor (change lists) new
-
--- A crash at any moment leaves a disk that is safe for some that are among the lists that this tells, of those for which it was
--- settled.
-abbrev pub SafeForAmong : (Lists → Lists → Type 0) → Lists → ℕ → Files → Type 0
-SafeForAmong Among lists moment image = (some : Lists) × Among lists some × Safe image some
-
-abbrev pub MomentsAmong : (Lists → Lists → Type 0) → Option History → Option History → Type 0
-MomentsAmong Among old new = (lists : Lists) → IsSettledFor lists old → EachImage (SafeForAmong Among lists) old new

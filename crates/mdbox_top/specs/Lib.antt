@@ -3,7 +3,6 @@ pub mod BatchRun
 pub mod BatchWork
 pub mod CountsRun
 pub mod DeliverRun
-pub mod ChangeEvents
 pub mod Changed
 pub mod CopyRun
 pub mod ExerciseRun
@@ -18,8 +17,6 @@ pub mod MakeRun
 pub mod MoveRun
 pub mod Numbers
 pub mod OpeningOutcome
-pub mod PrintedPlaces
-pub mod PrintedReplies
 pub mod PurgeRun
 pub mod RebuildRun
 pub mod ResyncRun

@@ -2,6 +2,7 @@
 ghost use Rattle.std.specs.Prelude.{◌≡◌, ◌≢◌, ◌≤◌, IfOk, IfErr};
 ghost use Rattle.disk_model.specs.FaultCounts.{NoFault, AnyFaultCounted};
 ghost use Rattle.mdbox_base.specs.Streams.{Rose};
+ghost use Rattle.lanes.specs.Worlds.{HasItsMessage};
 ghost use Rattle.script_run.specs.One.{RunsAlone};
 ghost use Rattle.script_run.specs.Opening.{IsUnopened};
 ghost use Rattle.mdbox_top.specs.Alone.{ReplyTells, RequestMoments, RequestRests, MayFail, IsDoneAlone};
@@ -11,6 +12,7 @@ ghost use Rattle.request_text.specs.ReplyText.{reply_text};
 ghost use Rattle.request_text.specs.declared.outcome.Outcome.TheVariants as outcome;
 
 use crate::opening::outcome_of;
+use attach_detach::Prepared;
 use disk_model::Disk;
 use mail_ops::listings_are_answered;
 use mdbox_base::{Reply, Request, Sink};
@@ -20,14 +22,16 @@ use script_run::run_request;
 use std::alloc::Global;
 use store_open::OpenRefused;
 
-/// Opens the store, does a request, prints its reply, and hands the disk back.
+/// Opens the store, does a request, prints its reply, and hands the disk back. One that delivers a message has it prepared.
 pub fn serve<D: Disk, O: Sink>(
     alloc: Global,
     request: Request,
+    prepared: Option<Prepared>,
     disk: D,
     output: &mut O,
 ) -> (Outcome, D)
-    requires { RunsAlone request }
+    requires runs { RunsAlone request }
+    requires given { HasItsMessage request prepared }
     ensures ends { RequestOutcome (ReplyTells request) request (O.held output.old) (O.held output.new) (D.history disk) (D.history result.1) (D.faults disk) (D.faults result.1) result.0 }
     ensures moments { RequestMoments request (D.history disk) (D.history result.1) }
     ensures rests { RequestRests request (MayFail request (status_of result.0)) (D.faults disk) (D.faults result.1) (D.history disk) (D.history result.1) }
@@ -37,7 +41,7 @@ pub fn serve<D: Disk, O: Sink>(
     ensures write_quiet { result.0 ≢ outcome.WriteFault → O.faults output.new ≡ O.faults output.old }
     ensures counted { O.faults output.old ≤ O.faults output.new }
 {
-    match reply_alone(alloc, request, disk) {
+    match reply_alone(alloc, request, prepared, disk) {
         Ok((reply, disk)) => (print_outcome(alloc, output, &reply), disk),
         Err(OpenRefused { error, disk }) => (outcome_of(error), disk),
     }
@@ -47,19 +51,21 @@ pub fn serve<D: Disk, O: Sink>(
 fn reply_alone<D: Disk>(
     alloc: Global,
     request: Request,
+    prepared: Option<Prepared>,
     disk: D,
 ) -> Result<(Reply, D), OpenRefused<D>>
-    requires { RunsAlone request }
+    requires runs { RunsAlone request }
+    requires given { HasItsMessage request prepared }
     ensures done { IfOk result (λ done. IsDoneAlone request done.0 (D.history disk) (D.history done.1) (D.faults disk) (D.faults done.1)) }
     ensures refused { IfErr result (λ refused. IsUnopened refused.error (D.history disk) (D.history refused.disk) (D.faults disk) (D.faults refused.disk)) }
 {
     listings_are_answered();
-    let (reply, disk) = run_request(alloc, disk, request, None)?;
+    let (reply, disk) = run_request(alloc, disk, request, prepared)?;
     Ok((reply, disk))
 }
 
 /// Prints a reply.
-pub(crate) fn print_outcome<O: Sink>(alloc: Global, output: &mut O, given: &Reply) -> Outcome
+fn print_outcome<O: Sink>(alloc: Global, output: &mut O, given: &Reply) -> Outcome
     ensures shown { ShowsReply (reply_text given.now) given.now (O.held output.old) (O.held output.new) result }
     ensures write_fault { result ≡ outcome.WriteFault → Rose (O.faults output.old) (O.faults output.new) }
     ensures write_quiet { result ≢ outcome.WriteFault → O.faults output.new ≡ O.faults output.old }

@@ -151,24 +151,42 @@ fn perform<D: Disk, I: Source, O: Sink, C: Clock>(
     match command {
         Command::Init { id } => init(alloc, id, disk, output),
         Command::Deliver { name } => deliver(alloc, name, disk, input, output, clock),
-        Command::List { name } => serve(alloc, Request::List { name }, disk, output),
+        Command::List { name } => serve(alloc, Request::List { name }, None, disk, output),
         Command::Fetch { name, uid } => fetch(alloc, name, uid, disk, output),
         Command::Flag { name, uid, flags } => {
-            serve(alloc, Request::Flag { name, uid, flags }, disk, output)
+            serve(
+                alloc,
+                Request::Flag { name, uid, flags },
+                None,
+                disk,
+                output,
+            )
         }
-        Command::Counts => serve(alloc, Request::Counts, disk, output),
-        Command::Resync => serve(alloc, Request::Resync, disk, output),
-        Command::Purge => serve(alloc, Request::Purge, disk, output),
+        Command::Counts => serve(alloc, Request::Counts, None, disk, output),
+        Command::Resync => serve(alloc, Request::Resync, None, disk, output),
+        Command::Purge => serve(alloc, Request::Purge, None, disk, output),
         Command::Expunge { name, uid } => {
-            serve(alloc, Request::Expunge { name, uid }, disk, output)
+            serve(alloc, Request::Expunge { name, uid }, None, disk, output)
         }
         Command::Copy { name, uid, target } => {
-            serve(alloc, Request::Copy { name, uid, target }, disk, output)
+            serve(
+                alloc,
+                Request::Copy { name, uid, target },
+                None,
+                disk,
+                output,
+            )
         }
         Command::Move { name, uid, target } => {
-            serve(alloc, Request::Move { name, uid, target }, disk, output)
+            serve(
+                alloc,
+                Request::Move { name, uid, target },
+                None,
+                disk,
+                output,
+            )
         }
-        Command::Make { name } => serve(alloc, Request::Make { name }, disk, output),
+        Command::Make { name } => serve(alloc, Request::Make { name }, None, disk, output),
         Command::Batch { lanes } => batch(alloc, lanes, disk, input, output),
         Command::Exercise {
             lanes,

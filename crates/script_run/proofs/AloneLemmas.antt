@@ -150,6 +150,7 @@ one_makes request.Counts one = one
 one_makes other one = absurd one
 
 pub makes_alone : (asked : Request) → MakesSteps asked → RunsAlone asked
+makes_alone (request.Deliver name time octets) one = tt
 makes_alone request.Resync one = tt
 makes_alone request.Purge one = tt
 makes_alone asked one = one
@@ -162,6 +163,7 @@ may_read (request.Make name) one lists old = λ f. absurd (let e : false ≡ tru
 may_read (request.Expunge name uid) one lists old = λ f. absurd (let e : false ≡ true = f in cc e)
 may_read (request.Copy name uid target) one lists old = λ f. absurd (let e : false ≡ true = f in cc e)
 may_read (request.Move name uid target) one lists old = λ f. absurd (let e : false ≡ true = f in cc e)
+may_read (request.Deliver name time octets) one lists old = λ f. absurd (let e : false ≡ true = f in cc e)
 may_read request.Resync one lists old = λ f. absurd (let e : false ≡ true = f in cc e)
 may_read request.Purge one lists old = λ f. absurd (let e : false ≡ true = f in cc e)
 may_read request.Counts one lists old = λ f. absurd (let e : false ≡ true = f in cc e)

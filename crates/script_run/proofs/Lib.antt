@@ -14,6 +14,7 @@ pub mod PurgeTaskLemmas
 pub mod ReachedLemmas
 pub mod ReachedMakeLemmas
 pub mod ReachedMoveLemmas
+pub mod ReachedSaveLemmas
 pub mod ResyncTaskLemmas
 pub mod RunBeginsLemmas
 pub mod ShownLemmas

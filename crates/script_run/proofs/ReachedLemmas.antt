@@ -62,7 +62,7 @@ own_taken (x ∷ events) (suc n) e all at = by_test (x.request == 0) (own_test x
     by_test true t rest = ap (λ (es : List RunEvent). x ∷ es) rest
     by_test false t rest = absurd (cc t)
 
-get_before : {X : Type 0} → (xs : List X) (n : ℕ) (x : X) → slice_get xs (suc n) ≡ Some x → (y : X) × (slice_get xs n ≡ Some y)
+pub get_before : {X : Type 0} → (xs : List X) (n : ℕ) (x : X) → slice_get xs (suc n) ≡ Some x → (y : X) × (slice_get xs n ≡ Some y)
 get_before [] n x at = absurd (let k : None ≡ Some x = at in cc k)
 get_before (y ∷ xs) zero x at = (y, refl)
 get_before (y ∷ xs) (suc n) x at = get_before xs n x at
@@ -104,7 +104,7 @@ addition_first Last refusal.Stopped is = let z : None ≡ Some First = is in cc 
 addition_first Last why is = let z : Some GivesBack ≡ Some First = is in cc (some_part GivesBack First z)
 addition_first part why is = let z : None ≡ Some First = is in cc z
 
-addition_last : (part : EventPart) (why : Refusal) → behind_addition part why ≡ Some Last → ⊥
+pub addition_last : (part : EventPart) (why : Refusal) → behind_addition part why ≡ Some Last → ⊥
 addition_last Last refusal.Stopped is = let z : None ≡ Some Last = is in cc z
 addition_last Last why is = let z : Some GivesBack ≡ Some Last = is in cc (some_part GivesBack Last z)
 addition_last part why is = let z : None ≡ Some Last = is in cc z
@@ -159,24 +159,31 @@ does_at (request.Copy name uid target) one run event Last given old new d = refl
 does_at (request.Copy name uid target) one run event part given old new d = absurd d
 does_at other one run event part given old new d = absurd one
 
-effect_of : (asked : Request) → MakesOneStep asked → (run : Run) (event : RunEvent) (part : EventPart) (given : Reply) (old new : Lists) → PartAnswers run event old asked part given new → (new ≡ old) ⊎ ((part ≡ step_part asked) × (refusal_in given ≡ None))
-effect_of asked one run event part (reply.Refused why) old new a = inl a.1
-effect_of asked one run event part given old new a = inr (does_at asked one run event part given old new a.1, refl)
+-- the part of a request's events that makes its step, and that one event of a run has it
+abbrev pub DoesAt : Request → EventPart → Type 0
+DoesAt asked made = (run : Run) (event : RunEvent) (part : EventPart) (given : Reply) (old new : Lists) → Does run event old asked part given new → part ≡ made
+
+abbrev pub OneIsAt : Run → EventPart → Type 0
+OneIsAt run made = (n m : ℕ) (a b : RunEvent) → slice_get run.events n ≡ Some a → slice_get run.events m ≡ Some b → a.part ≡ made → b.part ≡ made → n ≡ m
+
+effect_of : (asked : Request) (made : EventPart) → DoesAt asked made → (run : Run) (event : RunEvent) (part : EventPart) (given : Reply) (old new : Lists) → PartAnswers run event old asked part given new → (new ≡ old) ⊎ ((part ≡ made) × (refusal_in given ≡ None))
+effect_of asked made does run event part (reply.Refused why) old new a = inl a.1
+effect_of asked made does run event part given old new a = inr (does run event part given old new a.1, refl)
 
 -- a step leaves the lists, or is made at that event
-record IsMadeAt (run : Run) (asked : Request) (step : JournalStep) : Type 0 where
+record IsMadeAt (run : Run) (made : EventPart) (step : JournalStep) : Type 0 where
   event : RunEvent
   event_is : slice_get run.events step.event ≡ Some event
-  part_is : event.part ≡ step_part asked
+  part_is : event.part ≡ made
   free : event.refused ≡ None
 
-made_at : (asked : Request) → MakesOneStep asked → (run : Run) (old : Lists) (step : JournalStep) → IsStep run (alone asked) old step → (step.left ≡ old) ⊎ IsMadeAt run asked step
-made_at asked one run old step s =
+made_at : (asked : Request) (made : EventPart) → DoesAt asked made → (run : Run) (old : Lists) (step : JournalStep) → IsStep run (alone asked) old step → (step.left ≡ old) ⊎ IsMadeAt run made step
+made_at asked made does run old step s =
     let found = one_place asked step.request s.asked s.request_is in
     let a = subst (λ (q : ℕ × Request). PartAnswers (before step.event run) s.event old q.1 s.event.part step.answer step.left) found.1 s.answers in
-    elim (effect_of asked one (before step.event run) s.event s.event.part step.answer old step.left a) [
+    elim (effect_of asked made does (before step.event run) s.event s.event.part step.answer old step.left a) [
       | inl same ↦ inl same
-      | inr made ↦ inr (record { event = s.event; event_is = s.event_is; part_is = made.0; free = s.says ∙ made.1 })
+      | inr here ↦ inr (record { event = s.event; event_is = s.event_is; part_is = here.0; free = s.says ∙ here.1 })
     ]
 
 never_moves : (asked : Request) → MakesOneStep asked → IsMove asked → ⊥
@@ -195,11 +202,10 @@ one_half : (asked : Request) → MakesOneStep asked → length (halves_of asked)
 one_half (request.Move name uid target) one = absurd one
 one_half asked one = omega arith
 
-few_made : (start : Lists) (asked : Request) (run : Run) (journal : List JournalStep) (replies : List (Option Reply)) (old new : Faults) → MakesOneStep asked → IsLegal start (alone asked) run journal replies old new → length journal ≤ 1
-few_made start asked run journal replies old new one l =
+few_made : (start : Lists) (asked : Request) (run : Run) (journal : List JournalStep) (replies : List (Option Reply)) (old new : Faults) → length (halves_of asked) ≤ 1 → IsLegal start (alone asked) run journal replies old new → length journal ≤ 1
+few_made start asked run journal replies old new most l =
     let b = l.order.halves 0 (1, asked) refl in
     let total = sym (length-append (map (λ (s : JournalStep). s.half) (steps_of 0 journal)) b.0) ∙ ap length b.1 in
-    let most = one_half asked one in
     let same = length-map (steps_of 0 journal) (λ (s : JournalStep). s.half) ∙ ap length (all_own run (1, asked) start journal l.steps) in
     omega (arith, total, most, same)
 
@@ -253,44 +259,40 @@ prefix_of (step ∷ []) (suc (suc p)) few = inr refl
 prefix_of (step ∷ more ∷ rest) p few = absurd (let n : suc (suc (length rest)) ≤ 1 = few in omega (arith, n))
 
 -- A crash leaves the lists before the request, or those that its step leaves.
-pub reached_once : (asked : Request) (start : Lists) (run : Run) (journal : List JournalStep) (broken : Broken) (replies : List (Option Reply)) (old new : Faults) (first m : MapMeaning) (drawn : Highest) (calls : ℕ) → MakesOneStep asked
+pub reached_by : (asked : Request) (part : EventPart) (start : Lists) (run : Run) (journal : List JournalStep) (broken : Broken) (replies : List (Option Reply)) (old new : Faults) (first m : MapMeaning) (drawn : Highest) (calls : ℕ) → (IsMove asked → ⊥) → length (halves_of asked) ≤ 1 → DoesAt asked part → OneIsAt run part
     → IsServed start (alone asked) run journal broken replies old new first m drawn calls → (moment : ℕ) (lists : Lists) → Reached start run journal broken moment lists → IsAlongOne asked start lists
-reached_once asked start run journal broken replies old new first m drawn calls one s moment lists r = by_reach r
+reached_by asked part start run journal broken replies old new first m drawn calls apart half does at s moment lists r = by_reach r
   where
     few : length journal ≤ 1
-    few = few_made start asked run journal replies old new one s.legal
-
-    at : (n : ℕ) (event : RunEvent) → slice_get run.events n ≡ Some event → event.part ≡ step_part asked → n ≡ step_place asked
-    at = step_at s.around s.after start asked run journal one s.next
+    few = few_made start asked run journal replies old new half s.legal
 
     few_broken : length broken.steps ≤ 1
     few_broken = few_of broken.place broken.steps s.of_failure.once (broken_at asked run broken (left_by start journal) broken.steps s.of_failure.events s.of_failure.one s.broken_is s.of_failure.steps)
 
     left : IsAlongOne asked start (left_by start journal)
-    left = one_left asked run start journal (never_moves asked one) s.legal.steps few
+    left = one_left asked run start journal apart s.legal.steps few
 
     -- a step was made, so the failed append would have made none
-    made : (steps : List JournalStep) (step : JournalStep) (lists : Lists) → IsMadeAt run asked step → length steps ≤ 1 → AreSteps (as_if run broken) (alone asked) lists steps → All (λ x. broken.place ≤ x.event) steps → left_by lists steps ≡ lists
+    made : (steps : List JournalStep) (step : JournalStep) (lists : Lists) → IsMadeAt run part step → length steps ≤ 1 → AreSteps (as_if run broken) (alone asked) lists steps → All (λ x. broken.place ≤ x.event) steps → left_by lists steps ≡ lists
     made [] step lists by few t place = refl
     made (b ∷ more ∷ rest) step lists by few t place = absurd (let n : suc (suc (length rest)) ≤ 1 = few in omega (arith, n))
-    made (b ∷ []) step lists by few t place = elim (made_at asked one (as_if run broken) lists b t.0) [
+    made (b ∷ []) step lists by few t place = elim (made_at asked part does (as_if run broken) lists b t.0) [
       | inl same ↦ same
       | inr again ↦
           let w = would_at run.events broken.events broken.place b.event again.event s.of_failure.events s.of_failure.one (All-head (λ (x : JournalStep). broken.place ≤ x.event) b [] place) again.event_is in
-          let here = at broken.place w.failed w.failed_is (sym w.part_is ∙ again.part_is) in
-          let there = at step.event by.event by.event_is by.part_is in
-          let one_is : Some by.event ≡ Some w.failed = sym by.event_is ∙ (ap (λ (n : ℕ). slice_get run.events n) (there ∙ sym here) ∙ w.failed_is) in
+          let here = at step.event broken.place by.event w.failed by.event_is w.failed_is by.part_is (sym w.part_is ∙ again.part_is) in
+          let one_is : Some by.event ≡ Some w.failed = sym by.event_is ∙ (ap (λ (n : ℕ). slice_get run.events n) here ∙ w.failed_is) in
           let same : by.event ≡ w.failed = cc one_is in
           absurd (let k : None ≡ Some refusal.Stopped = sym by.free ∙ (ap (λ (x : RunEvent). x.refused) same ∙ w.stopped) in cc k)
     ]
 
     by_journal : (journal : List JournalStep) → length journal ≤ 1 → AreSteps run (alone asked) start journal → AreSteps (as_if run broken) (alone asked) (left_by start journal) broken.steps → IsAlongOne asked start (left_by start journal) → IsAlongOne asked start (left_by (left_by start journal) broken.steps)
-    by_journal [] few t u left = one_left asked (as_if run broken) start broken.steps (never_moves asked one) u few_broken
+    by_journal [] few t u left = one_left asked (as_if run broken) start broken.steps apart u few_broken
     by_journal (step ∷ more ∷ rest) few t u left = absurd (let n : suc (suc (length rest)) ≤ 1 = few in omega (arith, n))
-    by_journal (step ∷ []) few t u left = elim (made_at asked one run start step t.0) [
+    by_journal (step ∷ []) few t u left = elim (made_at asked part does run start step t.0) [
       | inl same ↦
           subst (λ (ls : Lists). IsAlongOne asked start (left_by ls broken.steps)) (sym same)
-          (one_left asked (as_if run broken) start broken.steps (never_moves asked one) (subst (λ (ls : Lists). AreSteps (as_if run broken) (alone asked) ls broken.steps) same u) few_broken)
+          (one_left asked (as_if run broken) start broken.steps apart (subst (λ (ls : Lists). AreSteps (as_if run broken) (alone asked) ls broken.steps) same u) few_broken)
       | inr by ↦ subst (IsAlongOne asked start) (sym (made broken.steps step step.left by few_broken u s.of_failure.steps)) left
     ]
 
@@ -300,3 +302,11 @@ reached_once asked start run journal broken replies old new first m drawn calls 
       | inr all ↦ subst (λ (steps : List JournalStep). IsAlongOne asked start (left_by start steps)) (sym all) left
     ])
     by_reach (inr (began, is)) = subst (IsAlongOne asked start) (sym is) (by_journal journal few s.legal.steps s.broken_is left)
+
+-- So it is of each request that makes its step at the same event always.
+pub reached_once : (asked : Request) (start : Lists) (run : Run) (journal : List JournalStep) (broken : Broken) (replies : List (Option Reply)) (old new : Faults) (first m : MapMeaning) (drawn : Highest) (calls : ℕ) → MakesOneStep asked
+    → IsServed start (alone asked) run journal broken replies old new first m drawn calls → (moment : ℕ) (lists : Lists) → Reached start run journal broken moment lists → IsAlongOne asked start lists
+reached_once asked start run journal broken replies old new first m drawn calls one s moment lists r =
+    let at = step_at s.around s.after start asked run journal one s.next in
+    reached_by asked (step_part asked) start run journal broken replies old new first m drawn calls (never_moves asked one) (one_half asked one) (does_at asked one)
+    (λ n k a b there here first second. at n a there first ∙ sym (at k b here second)) s moment lists r

@@ -1,6 +1,6 @@
 -- What a world did is handed out with its store, and handed back with the disk.
-use Rattle.std.specs.Prelude.{◌≡◌, ℕ, false, List, [], ◌∷◌, Option, Some}
-use Rattle.std.proofs.Common.{refl, sym, ap, subst}
+use Rattle.std.specs.Prelude.{◌≡◌, ℕ, false, List, [], ◌∷◌, Option, Some, None, length, replicate, slice_get}
+use Rattle.std.proofs.Common.{refl, sym, ap, subst, ◌∙◌}
 use Rattle.disk_model.specs.Disk.{Faults, History}
 use Rattle.mdbox_base.specs.declared.replies.Reply.{Reply}
 use Rattle.mdbox_base.specs.declared.requests.Request.{Request}
@@ -9,18 +9,28 @@ use Rattle.mdbox_base.specs.declared.script.Script.{Script}
 use Rattle.journal.specs.Journal.{Requests}
 use Rattle.lanes.specs.Worlds.{ArePartsOf, GoesOnBy, IsFreshWorld, PartsValue, WorldValue}
 use Rattle.store_core.specs.Running.{IsStore}
+use Rattle.store_core.specs.StoreInstances.{HasKnownInstances}
 use Rattle.store_core.specs.Value.{StoreValue, indexes_of}
-use Rattle.store_open.specs.Opened.{IsOpenedAs}
+use Rattle.store_files.specs.Found.{IsFoundFiles}
+use Rattle.store_open.specs.Opened.{IsOpenedAs, StoreCarries}
 use Rattle.store_sweep.specs.Swept.{IsSwept}
+use Rattle.lane_tasks.specs.Tasks.{BeginsTask}
+use Rattle.lane_tasks.specs.declared.task.Task.{Task}
+use Rattle.lanes.specs.Going.{AreFreshRows}
+use Rattle.lanes.proofs.TraceLemmas.{as_finished}
+use Rattle.script_run.proofs.ChainLemmas.{stays_over}
 use Rattle.script_run.proofs.DoneLemmas.{EndedParts}
+use Rattle.script_run.proofs.OneTaskLemmas.{IsAloneSo, KeepsAlone, alone_fresh, alone_on}
 use Rattle.script_run.specs.One.{alone}
+use Rattle.script_run.specs.Opening.{StaysSettled}
 use Rattle.script_run.specs.Worked.{IsWorkedOut}
 
 -- A world that began with these parts went on to one that was taken apart so.
-pub worked_out : {D : Type 0} → (history : D → Option History) (faults : D → Faults) (script : Requests) (lanes : ℕ) (parts : PartsValue) (old : Option History) (began : Faults) (s : StoreValue D) (world ended : WorldValue D) (turns : List ℕ) (apart : EndedParts D) → IsOpenedAs old s.map (indexes_of s.boxes) → (generation : ℕ) × IsSwept generation s.map old (history s.disk) → IsStore (history s.disk) s → s.stopped ≡ false
+pub worked_out : {D : Type 0} → (history : D → Option History) (faults : D → Faults) (script : Requests) (lanes : ℕ) (parts : PartsValue) (old : Option History) (began : Faults) (s : StoreValue D) (world ended : WorldValue D) (turns : List ℕ) (apart : EndedParts D) → IsOpenedAs old s.map (indexes_of s.boxes) → (generation : ℕ) × IsSwept generation s.map old (history s.disk) → StoreCarries old (history s.disk) → StaysSettled old (history s.disk) → IsFoundFiles s.map old s.files → s.drawn ≡ s.map.highest
+    → IsStore (history s.disk) s → HasKnownInstances (history s.disk) s → s.stopped ≡ false → IsStore (history ended.store.disk) ended.store → HasKnownInstances (history ended.store.disk) ended.store
     → ArePartsOf script lanes parts → IsFreshWorld s parts (history s.disk) world → GoesOnBy turns world ended (history world.store.disk) (history ended.store.disk) (faults world.store.disk) (faults ended.store.disk) → apart ≡ (ended.store, ended.replies, ended.journal, ended.broken) → faults s.disk ≡ began
     → IsWorkedOut D script lanes apart.1 apart.2 old (history apart.0.disk) began (faults apart.0.disk)
-worked_out {D} history faults script lanes parts old began s world ended turns apart opens swept sound running are begun goes is same =
+worked_out {D} history faults script lanes parts old began s world ended turns apart opens swept carried again found drawn sound known running later later_known are begun goes is same =
     subst (λ (f : Faults). IsWorkedOut D script lanes apart.1 apart.2 old (history apart.0.disk) f (faults apart.0.disk)) same
     (subst (λ (p : EndedParts D). IsWorkedOut D script lanes p.1 p.2 old (history p.0.disk) (faults s.disk) (faults p.0.disk)) (sym is) whole)
   where
@@ -30,7 +40,12 @@ worked_out {D} history faults script lanes parts old began s world ended turns a
       store = s;
       opens = opens;
       swept = swept;
+      carried = carried;
+      settled_again = again;
+      found = found;
+      drawn = drawn;
       sound = sound;
+      known = known;
       running = running;
       parts = parts;
       are = are;
@@ -39,6 +54,8 @@ worked_out {D} history faults script lanes parts old began s world ended turns a
       last = ended;
       turns = turns;
       goes = subst (λ (t : StoreValue D). GoesOnBy turns world ended (history t.disk) (history ended.store.disk) (faults t.disk) (faults ended.store.disk)) (ap (λ (w : WorldValue D). w.store) begun.2) goes;
+      later = later;
+      later_known = later_known;
       replies_are = refl;
       entries_are = refl;
     }
@@ -59,3 +76,18 @@ worked_alone {D} history faults request script one replies entries old began sto
       entries,
       subst (λ (rs : List (Option Reply)). IsWorkedOut D (alone request) 1 rs entries old (history disk) began (faults disk)) given c,
     )
+
+-- What the one task of a request alone knows, from one event to the next, it knows in the end, with its reply.
+pub worked_told : {D : Type 0} → (Stands : Task → StoreValue D → Option History → Type 0) (Told : Reply → StoreValue D → Option History → Type 0) (asked : Request) (one : Reply) (entries : List JournalEntry) (old new : Option History) (began now : Faults) → (w : IsWorkedOut D (alone asked) 1 (Some one ∷ []) entries old new began now)
+    → KeepsAlone Stands Told → ((t : Task) → BeginsTask asked t → Stands t w.store w.opened) → Told one w.last.store new
+worked_told {D} Stands Told asked one entries old new began now w keeps begun =
+    (stays_over (IsAloneSo Stands Told 1) (alone_on Stands Told 1 keeps) 0 w.turns (as_finished w.fresh) w.last w.opened new began now w.goes
+    (record {
+      one = ap length replies;
+      rows = alone_fresh (λ t. Stands t w.fresh.store w.opened) 1 asked w.fresh.rows (λ t b. subst (λ (v : StoreValue D). Stands t v w.opened) (sym (ap (λ (f : WorldValue D). f.store) w.begins.2)) (begun t b))
+          (subst (AreFreshRows (alone asked)) (sym (ap (λ (f : WorldValue D). f.rows) w.begins.2)) w.are.rows);
+      told = λ given has. let k : Some None ≡ Some (Some given) = sym (ap (λ (rs : List (Option Reply)). slice_get rs 0) replies) ∙ has in absurd (let n : None ≡ Some given = cc k in cc n);
+    })).told one (ap (λ (rs : List (Option Reply)). slice_get rs 0) (sym w.replies_are))
+  where
+    replies : w.fresh.replies ≡ None ∷ []
+    replies = ap (λ (f : WorldValue D). f.replies) w.begins.2 ∙ ap (λ (n : ℕ). let none : List (Option Reply) = replicate n None in none) w.are.requests

@@ -91,8 +91,10 @@ MakesSteps (request.Make name) = Unit {0}
 MakesSteps (request.Move name uid target) = Unit {0}
 MakesSteps asked = MakesOneStep asked
 
--- A request that makes its steps so; or a resync or a purge, which make one step too, and read messages.
+-- A request that makes its steps so; or a delivery, a resync or a purge, which make one step too, and read octets. So it is of each but a
+-- fetch.
 abbrev pub RunsAlone : Request → Type 0
+RunsAlone (request.Deliver name time octets) = Unit {0}
 RunsAlone request.Resync = Unit {0}
 RunsAlone request.Purge = Unit {0}
 RunsAlone asked = MakesSteps asked

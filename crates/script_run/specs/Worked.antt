@@ -6,19 +6,28 @@ use Rattle.mdbox_base.specs.declared.script.JournalEntry.{JournalEntry}
 use Rattle.journal.specs.Journal.{Requests}
 use Rattle.lanes.specs.Worlds.{ArePartsOf, GoesOnBy, IsFreshWorld, PartsValue, WorldValue}
 use Rattle.store_core.specs.Running.{IsStore}
+use Rattle.store_core.specs.StoreInstances.{HasKnownInstances}
 use Rattle.store_core.specs.Value.{StoreValue, indexes_of}
-use Rattle.store_open.specs.Opened.{IsOpenedAs}
+use Rattle.store_files.specs.Found.{IsFoundFiles}
+use Rattle.store_open.specs.Opened.{IsOpenedAs, StoreCarries}
 use Rattle.store_sweep.specs.Swept.{IsSwept}
+use Rattle.script_run.specs.Opening.{StaysSettled}
 
--- The store was opened, with logs that the files have, and isn't stopped; a world of the script's requests, of so many lanes, began over it, and went on by its events in
--- rounds: each is a step of its request's task, from the store as it was then. The replies and the journal are those that the world had
--- at its end.
+-- The store was opened, with logs, storage files and instances that the files have, and isn't stopped; the opening swept the disk,
+-- carried over all that the store reads, and left a disk settled that was so. A world of the script's requests, of so many lanes, began
+-- over it, and went on by its events in rounds: each is a step of its request's task, from the store as it was then. The replies and the
+-- journal are those that the world had at its end, and its store is one of the disk.
 pub record IsWorkedOut (D : Type 0) (script : Requests) (lanes : ℕ) (replies : List (Option Reply)) (entries : List JournalEntry) (old new : Option History) (began now : Faults) : Type 0 where
   pub opened : Option History
   pub store : StoreValue D
   pub opens : IsOpenedAs old store.map (indexes_of store.boxes)
   pub swept : (generation : ℕ) × IsSwept generation store.map old opened
+  pub carried : StoreCarries old opened
+  pub settled_again : StaysSettled old opened
+  pub found : IsFoundFiles store.map old store.files
+  pub drawn : store.drawn ≡ store.map.highest
   pub sound : IsStore opened store
+  pub known : HasKnownInstances opened store
   pub running : store.stopped ≡ false
   pub parts : PartsValue
   pub are : ArePartsOf script lanes parts
@@ -27,5 +36,7 @@ pub record IsWorkedOut (D : Type 0) (script : Requests) (lanes : ℕ) (replies :
   pub last : WorldValue D
   pub turns : List ℕ
   pub goes : GoesOnBy turns fresh last opened new began now
+  pub later : IsStore new last.store
+  pub later_known : HasKnownInstances new last.store
   pub replies_are : replies ≡ last.replies
   pub entries_are : entries ≡ last.journal

@@ -68,6 +68,12 @@ pub fn makes_make_one_step()
         → (moment : ℕ) (lists : Lists) → Reached start run journal broken moment lists → AreAlongMake (next_mailbox first) name start lists }
 {}
 
+/// A delivery alone adds its message once at the most: a crash within it leaves the lists before it, or those with the message.
+pub fn deliveries_make_one_step()
+    ensures { (name : List ℕ) (time : ℕ) (octets : List ℕ) (start : Lists) (run : Run) (journal : List JournalStep) (broken : Broken) (replies : List (Option Reply)) (old new : Faults) (first m : MapMeaning) (drawn : Highest) (calls : ℕ) → IsServed start (alone (request.Deliver name time octets)) run journal broken replies old new first m drawn calls
+        → (moment : ℕ) (lists : Lists) → Reached start run journal broken moment lists → IsAlongOne (request.Deliver name time octets) start lists }
+{}
+
 /// A crash within a move alone leaves the lists before it, those with the copy, or those that are moved; and its second step finds the
 /// message that the first has copied.
 pub fn moves_make_two_steps()

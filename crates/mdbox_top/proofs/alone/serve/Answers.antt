@@ -10,7 +10,7 @@ returns-in-Ok-clause-ends g c = inr (record {
   tells = c.in-Ok.ensures.done.tells;
   serves = c.in-Ok.ensures.done.serves;
   faults = c.in-Ok.ensures.done.faults;
-  printed = shows_text c.args.request c.in-Ok.reply _ _ c.print_outcome.result c.requires c.print_outcome.ensures.shown;
+  printed = shows_text c.args.request c.in-Ok.reply _ _ c.print_outcome.result c.requires.runs c.print_outcome.ensures.shown;
 })
 
 pub returns-in-Ok-clause-moments : goal.returns-in-Ok-clause-moments
@@ -29,10 +29,10 @@ pub returns-in-Err-clause-ends : goal.returns-in-Err-clause-ends
 returns-in-Err-clause-ends g c = rw c.outcome_of.ensures (unopened_ends c.args.request _ _ _ _ _ c.in-Err.field-0.error c.in-Err.ensures.refused)
 
 pub returns-in-Err-clause-moments : goal.returns-in-Err-clause-moments
-returns-in-Err-clause-moments g c = unopened_leaves c.args.request _ _ _ _ c.in-Err.field-0.error c.requires c.in-Err.ensures.refused
+returns-in-Err-clause-moments g c = unopened_leaves c.args.request _ _ _ _ c.in-Err.field-0.error c.requires.runs c.in-Err.ensures.refused
 
 pub returns-in-Err-clause-rests : goal.returns-in-Err-clause-rests
-returns-in-Err-clause-rests g c = rw c.outcome_of.ensures (unopened_rests c.args.request _ _ _ _ c.in-Err.field-0.error c.requires c.in-Err.ensures.refused)
+returns-in-Err-clause-rests g c = rw c.outcome_of.ensures (unopened_rests c.args.request _ _ _ _ c.in-Err.field-0.error c.requires.runs c.in-Err.ensures.refused)
 
 pub returns-in-Err-clause-disk_fault : goal.returns-in-Err-clause-disk_fault
 returns-in-Err-clause-disk_fault g c = counted_as _ _ _ _ (λ e. opening_fault c.in-Err.field-0.error (sym c.outcome_of.ensures ∙ e)) c.in-Err.ensures.refused.fault

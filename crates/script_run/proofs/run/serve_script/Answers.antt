@@ -4,6 +4,7 @@ use Rattle.script_run.proofs.RunBeginsLemmas.{OpenedNow}
 use Rattle.script_run.proofs.StillLemmas.{unopened_still}
 use Rattle.script_run.proofs.WorkedLemmas.{worked_out}
 use Rattle.store_core.specs.Running.{IsStore}
+use Rattle.store_core.specs.StoreInstances.{HasKnownInstances}
 use Rattle.script_run.proofs.run.serve_script.Goals as goal
 
 pub returns-in_default-clause-refused : goal.returns-in_default-clause-refused
@@ -70,5 +71,8 @@ returns-in-Ok-open_store-clause-served g c =
 pub returns-in-Ok-open_store-clause-worked : goal.returns-in-Ok-open_store-clause-worked
 returns-in-Ok-open_store-clause-worked g c =
     let o = c.in-Ok-open_store.ensures in
+    let back = c.facts-in-Ok-open_store.ensures in
+    let later = subst (λ (p : EndedParts _). IsStore (g.D.Disk.history p.0.disk) p.0) c.into_parts-store.ensures back.store in
+    let known = subst (λ (p : EndedParts _). HasKnownInstances (g.D.Disk.history p.0.disk) p.0) c.into_parts-store.ensures back.instances in
     worked_out g.D.Disk.history g.D.Disk.faults c.args.script.requests c.args.script.lanes c.in-Ok.parts (g.D.Disk.history c.args.disk) (g.D.Disk.faults c.args.disk) c.in-Ok-open_store.store c.of-world.result c.finish.new.self c.finish.ensures.goes.0 c.into_parts-store.result
-    o.opened (o.swept.0, o.swept.2) c.facts.ensures.store o.state.1 c.in-Ok.ensures c.of-world.ensures c.finish.ensures.goes.1 c.into_parts-store.ensures (o.unfailed (λ f. f))
+    o.opened (o.swept.0, o.swept.2) (o.carried (λ f. absurd f)) (o.settled_again (λ f. absurd f)) o.files o.state.3 c.facts.ensures.store c.facts.ensures.instances o.state.1 later known c.in-Ok.ensures c.of-world.ensures c.finish.ensures.goes.1 c.into_parts-store.ensures (o.unfailed (λ f. f))
