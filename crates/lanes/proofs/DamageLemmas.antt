@@ -1,4 +1,4 @@
--- No message that a script fetches is damaged, where the disk was settled for the lists from which it is served.
+-- No message that a script fetches is damaged, where the fetch finds the messages of the lists from which it is served.
 use Rattle.std.proofs.Common.{◌≡◌, ◌==◌, ◌+◌, ℕ, Bool, true, false, List, [], ◌∷◌, ◌++◌, map, slice_set, Option, Some, None, refl, sym, ◌∙◌, ap, subst, arith, inl, inr}
 use Rattle.std.specs.Prelude.{◌≢◌, ◌⊎◌, All, slice_get}
 use Rattle.std.specs.Option.{IfSome, option_or}

@@ -40,7 +40,7 @@ use Rattle.lane_tasks.specs.declared.task.Task.{Task}
 use Rattle.lane_tasks.specs.declared.task.Task.TheVariants as task
 use Rattle.lane_tasks.proofs.RoomLemmas.{found_free, safe_answered}
 use Rattle.lane_tasks.proofs.StandLemmas.{task_taken}
-use Rattle.lanes.specs.Going.{FindsFiles, stands_in}
+use Rattle.lanes.specs.Going.{FindsMessages, stands_in}
 
 -- ---- room
 
@@ -94,7 +94,7 @@ no_steps run script start [] steps none = refl
 no_steps run script start (step ∷ journal) steps none = absurd (let k : None ≡ Some steps.0.event = sym (ap (λ (es : List RunEvent). slice_get es step.event) none) ∙ steps.0.event_is in cc k)
 
 -- So before the first event of a fetch the files read as safe for the lists that its script has come to, or the disk is settled for them.
-pub files_found : (around after : ℕ → Around) (script : Requests) (start : Lists) (run : Run) (journal : List JournalStep) (began history : Option History) (place lane : ℕ) (asked : Request) → FindsFiles start script run began history → slice_get script place ≡ Some (lane, asked) → AreNextEvents around after script start run journal → AreSteps run script start journal → (IsSettledFor start began → IsSettledFor (left_by start journal) history)
+pub files_found : (around after : ℕ → Around) (script : Requests) (start : Lists) (run : Run) (journal : List JournalStep) (began history : Option History) (place lane : ℕ) (asked : Request) → FindsMessages start script run began history → slice_get script place ≡ Some (lane, asked) → AreNextEvents around after script start run journal → AreSteps run script start journal → (IsSettledFor start began → IsSettledFor (left_by start journal) history)
     → IsSettledFor (left_by start journal) history ⊎ (own_events place run ≡ [] → ReadsSafe (left_by start journal) history)
 files_found around after script start run journal began history place lane asked (inl settled) there next steps stays = inl (stays settled)
 files_found around after script start run journal began history place lane asked (inr first) there next steps stays = inr (λ none.

@@ -58,13 +58,13 @@ pub record AreUndamaged (script : Requests) (run : Run) (replies : List (Option 
 
 -- A fetch finds that the files store what the lists have: the disk was settled for the lists at the start; or the request is the script's
 -- only one, and the files read as safe for them before its first event.
-abbrev pub FindsFiles : Lists → Requests → Run → Option History → Option History → Type 0
-FindsFiles start script run began history = IsSettledFor start began ⊎ ((length script ≡ 1) × (run.events ≡ [] → ReadsSafe start history))
+abbrev pub FindsMessages : Lists → Requests → Run → Option History → Option History → Type 0
+FindsMessages start script run began history = IsSettledFor start began ⊎ ((length script ≡ 1) × (run.events ≡ [] → ReadsSafe start history))
 
 -- A script is being served by lanes, of which there are 64 at most, from these lists and from a store as it was seen then, by the
 -- events of this run: with this journal, these broken steps and these replies so far, each lane's request in turn stands where its task
 -- does, those behind it begin; and unless the store is stopped, the lanes account for it, and no call of the disk has failed but for those
--- that read faults tell. A script with a fetch is served so only if that finds the files (`FindsFiles`), and no message that it reads is
+-- that read faults tell. A script with a fetch is served so only if that finds the messages (`FindsMessages`), and no message that it reads is
 -- damaged.
 pub record IsGoing {D : Type 0} (start : Lists) (script : Requests) (run : Run) (journal : List JournalStep) (broken : Broken) (replies : List (Option Reply)) (began : Seen) (store : StoreValue D) (history : Option History) (faults : Faults) (rows : List LaneRow) : Type 0 where
   pub serving : IsServing (stands_in store history) start script run journal broken replies began (seen_in store history faults) (lanes_of rows)
@@ -73,7 +73,7 @@ pub record IsGoing {D : Type 0} (start : Lists) (script : Requests) (run : Run) 
   pub waiting : (k : ℕ) (row : LaneRow) → slice_get rows k ≡ Some row → AreWaiting script (k + 1) row.waiting
   pub accounts : store.stopped ≡ false → LanesAccount claims_at IsReadyTask store history (lanes_of rows)
   pub quiet : store.stopped ≡ false → All (λ event. event.refused ≢ Some refusal.ReadFault) run.events → NoFault began.faults faults
-  pub fetched : (place lane : ℕ) (name : List ℕ) (uid : Uid) → slice_get script place ≡ Some (lane, request.Fetch name uid) → FindsFiles start script run began.history history
+  pub fetched : (place lane : ℕ) (name : List ℕ) (uid : Uid) → slice_get script place ≡ Some (lane, request.Fetch name uid) → FindsMessages start script run began.history history
   pub undamaged : AreUndamaged script run replies
 
 -- ---- what an event of a lane adds to the run and to the journal

@@ -32,7 +32,7 @@ use Rattle.task_claims.specs.Claims.{HasNoTask}
 use Rattle.task_steps.specs.Step.{IsFirmAt, Seen, ShowsSeen}
 use Rattle.task_steps.proofs.OneEventLemmas.{not_true}
 use Rattle.mail_fetch.specs.Task.{seen_in}
-use Rattle.lanes.specs.Going.{AreFreshRows, FindsFiles, IsGoing}
+use Rattle.lanes.specs.Going.{AreFreshRows, FindsMessages, IsGoing}
 use Rattle.lanes.specs.Rows.{LaneRow, lane_value, lanes_of}
 use Rattle.attach_detach.specs.declared.message.Prepared.{Prepared}
 use Rattle.lanes.specs.Worlds.{AreGiven, AreOfLanes, ArePartsOf, GoesOnBy, IsFreshWorld, IsWorldOf, PartsValue, WorldValue, and_events}
@@ -153,7 +153,7 @@ LanesEnd D = (start : Lists) (script : Requests) (run : Run) (journal : List Jou
 abbrev pub LanesBegin : (D : Type 0) → Type 0
 LanesBegin D = (start : Lists) (script : Requests) (run : Run) (rows : List LaneRow) (store : StoreValue D) (history : Option History) (faults : Faults) → IsAtOpening run store → HasCome run store.map store.drawn (told_calls history) → HasNoTask store → store.stopped ≡ false → ShowsSeen (seen_in store history faults) start → IsFirmAt start (seen_in store history faults)
     → AreFreshRows script rows → HaveLanes script (lanes_of rows) → length rows ≤ 64
-    → ((place lane : ℕ) (name : List ℕ) (uid : Uid) → slice_get script place ≡ Some (lane, request.Fetch name uid) → FindsFiles start script run history history) → IsGoing start script run [] no_broken (unreplied script) (seen_in store history faults) store history faults rows
+    → ((place lane : ℕ) (name : List ℕ) (uid : Uid) → slice_get script place ≡ Some (lane, request.Fetch name uid) → FindsMessages start script run history history) → IsGoing start script run [] no_broken (unreplied script) (seen_in store history faults) store history faults rows
 
 -- What is known of a script's run: the opening, the world that began then, and what it came to.
 pub record ScriptRan {D : Type 0} (script : Requests) (old mid new : Option History) (first last : Faults) (s : StoreValue D) (world ended : WorldValue D) : Type 0 where
