@@ -74,7 +74,7 @@ text_by name uid given old new began now w lists safe row entry shown (inr (octe
     let m = step_text name uid s.run lists whole s.journal s.served.legal.steps replied in
     (m.0, m.1, inl (is ∙ ap reply.Fetched m.2))
 text_by name uid given old new began now w lists safe row entry shown (inr (octets, told, inr (none, is))) =
-    absurd (All-head (λ one. TellsDamage (refusal_in one) → ⊥) given [] (w.done.undamaged (lists, may_fetch name uid lists old safe)) (subst (λ (r : Reply). TellsDamage (refusal_in r)) (sym is) tt))
+    absurd (All-head (λ (one : Reply). TellsDamage (refusal_in one) → ⊥) given [] (w.done.undamaged (lists, may_fetch name uid lists old safe)) (subst (λ (r : Reply). TellsDamage (refusal_in r)) (sym is) tt))
 
 -- ---- it was done
 

@@ -59,7 +59,7 @@ KeepsCounted Stands Told = (queued : Queued) (next : Task) (event : LaneEvent) (
 
 -- So it does whatever the counts are.
 abbrev pub KeepsAlone : {D : Type 0} → (Task → StoreValue D → Option History → Type 0) → (Reply → StoreValue D → Option History → Type 0) → Type 0
-KeepsAlone Stands Told = KeepsCounted (λ t store history faults. Stands t store history) (λ given store history faults. Told given store history)
+KeepsAlone {D} Stands Told = KeepsCounted {D = D} (λ t store history faults. Stands t store history) (λ given store history faults. Told given store history)
 
 pub alone_on : {D : Type 0} → (Stands : Task → StoreValue D → Option History → Faults → Type 0) (Told : Reply → StoreValue D → Option History → Faults → Type 0) (at : ℕ) → KeepsCounted Stands Told → StaysOver {D = D} (IsAloneSo Stands Told at)
 alone_on {D} Stands Told at keeps lane old mid before between first counted e is = record {
