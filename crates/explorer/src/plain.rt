@@ -67,12 +67,7 @@ impl Followed {
                 Some(Reply::Saved { guid, .. }) => self.deliver(name, *time, message, *guid),
                 _ => Ok(self.no_mailbox(name)),
             },
-            Request::List { name } => {
-                let lists = self.lists();
-                let reply = lists.list(alloc, name);
-                self.mailboxes = lists.into_mailboxes();
-                Ok(Some(reply?))
-            }
+            Request::List { name } => Ok(Some(self.list(name)?)),
             Request::Fetch { name, uid } => Ok(Some(self.fetch(name, *uid)?)),
             Request::Flag { name, uid, flags } => {
                 let mut lists = self.lists();
@@ -108,6 +103,13 @@ impl Followed {
     /// The lists, which are to be put back.
     fn lists(&mut self) -> PlainLists {
         PlainLists::of(mem::replace(&mut self.mailboxes, Vec::new(self.alloc)))
+    }
+
+    fn list(&mut self, name: &Name) -> Result<Reply, NoMemory> {
+        let lists = self.lists();
+        let reply = lists.list(self.alloc, name);
+        self.mailboxes = lists.into_mailboxes();
+        reply
     }
 
     fn make(&mut self, name: Name) -> Result<Reply, NoMemory> {

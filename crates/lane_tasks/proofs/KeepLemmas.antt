@@ -301,7 +301,7 @@ rose_as (progress.Done (reply.Refused refusal.Stopped)) began now f = let same =
 rose_as (progress.Done (reply.Refused refusal.ReadFault)) began now f = let same = f.changes in record { reads = f.reads; changes = omega (arith, same); unfailed = λ no. f.changes; calm = λ no. absurd (no refl) }
 rose_as answer began now f = rose_none answer began now f
 
-pub keeps_saving : {D : Type 0} → (history : D → Option History) (faults : D → Faults) (t next : SaveValue) (old new : StoreValue D) (answer : Progress) → (next.name ≡ t.name) × (next.time ≡ t.time) × (next.size ≡ t.size) → EndsSave next.stage answer old new
+pub keeps_saving : {D : Type 0} → (history : D → Option History) (faults : D → Faults) (t next : SaveValue) (old new : StoreValue D) (answer : Progress) → (next.name ≡ t.name) × (next.time ≡ t.time) × (next.size ≡ t.size) → EndsSave answer old new
     → (old.stopped ≡ false → Saves t.stage next.stage t.name t.time t.size answer next.did old new (history old.disk) (history new.disk) (faults old.disk) (faults new.disk)) → Same history faults (task.Deliver t) (task.Deliver next) old new (ended_by answer)
 keeps_saving history faults t next old new answer request ends saves = by_run old.stopped refl
   where

@@ -50,7 +50,6 @@ use Rattle.mail_save.specs.Ready.{IsReadyToSave}
 use Rattle.mail_save.specs.SaveEffects.{SaveEffects}
 use Rattle.mail_save.specs.SaveSeen.{HasItsParts, IsAtSave, StepsWithRoom, around_saving}
 use Rattle.mail_save.specs.Task.{EndsSave, IsReadyToDeliver, SaveValue}
-use Rattle.mail_save.specs.declared.task.SaveStage.{SaveStage}
 use Rattle.mail_save.proofs.SavePartLemmas.{ready_has_parts}
 use Rattle.purge_task.specs.Clause.{PurgeSteps, TellsUses, around_purging}
 use Rattle.purge_task.specs.Keeping.{PurgeValue}
@@ -427,8 +426,8 @@ request_stays (task.Purge t) (task.Purge next) asked same is = is
 request_stays t next asked same is = absurd same
 
 -- one that goes on ran in a store that runs
-pub deliver_ran : {D : Type 0} → (next : SaveStage) (old new : StoreValue D) (answer : Progress) → EndsSave next answer old new → answer ≡ progress.More → old.stopped ≡ false
-deliver_ran next old new answer ends more = by_test new.stopped refl
+pub deliver_ran : {D : Type 0} → (old new : StoreValue D) (answer : Progress) → EndsSave answer old new → answer ≡ progress.More → old.stopped ≡ false
+deliver_ran old new answer ends more = by_test new.stopped refl
   where
     by_test : (b : Bool) → new.stopped ≡ b → old.stopped ≡ false
     by_test true is = absurd (let k : progress.More ≡ progress.Done (reply.Refused refusal.Stopped) = sym more ∙ ends.stopped.1 is in cc k)

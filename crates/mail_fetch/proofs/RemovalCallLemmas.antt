@@ -233,10 +233,12 @@ pub removing_says : {D : Type 0} → (H : D → Option History) (F : D → Fault
 removing_says {D = D} H F name uid n given old new runs can order drawn moments mail rests gone others is grows Failed fault quiet = record {
   does = λ around after. subst (λ (s : StoreValue D). FetchSteps around after name uid (stage.Removing n given) stage.First old s (H old.disk) (H new.disk) (F old.disk) (F new.disk) did.Quiet (Some given)) (sym is)
       (removing_steps around after name uid n given new.disk old (H old.disk) (H new.disk) (F old.disk) (F new.disk) runs can below (record { moments = moments; rests = rests; grows = grows; mail = mail; quiet = quiet }));
-  claims = λ r. subst (λ (s : StoreValue D). MovesClaims (claims_of_removal n.0) no_claims old s) (sym is) (moves_removal n.0 new.disk old d can.unpinned);
-  leaves = λ r. subst (λ (s : StoreValue D). LeavesOthers (claims_of_removal n.0) old s (H old.disk) (H new.disk)) (sym is)
-      (removal_leaves (claims_of_removal n.0) n.0 new.disk old (H old.disk) (H new.disk) can.elsewhere (untaken n.0 old d) (ungrown n.0 old can.unpinned) others (firm_same old (without n.0 new.disk old) (H old.disk) (H new.disk) refl refl (syncs_placed n.0 (H old.disk) (H new.disk) others)));
-  ended = λ answer e r thing. refl;
+  claims = λ r. record {
+    moves = subst (λ (s : StoreValue D). MovesClaims (claims_of_removal n.0) no_claims old s) (sym is) (moves_removal n.0 new.disk old d can.unpinned);
+    leaves = subst (λ (s : StoreValue D). LeavesOthers (claims_of_removal n.0) old s (H old.disk) (H new.disk)) (sym is)
+        (removal_leaves (claims_of_removal n.0) n.0 new.disk old (H old.disk) (H new.disk) can.elsewhere (untaken n.0 old d) (ungrown n.0 old can.unpinned) others (firm_same old (without n.0 new.disk old) (H old.disk) (H new.disk) refl refl (syncs_placed n.0 (H old.disk) (H new.disk) others)));
+    ended = λ answer e thing. refl;
+  };
   alone = record {
     replies = (λ stopped. absurd (fall old.stopped stopped runs), λ r. inl (refl, refl));
     did_is = refl;
@@ -274,8 +276,6 @@ failed_says {D = D} H F name uid n given old new runs moments mail is grows Fail
   does = λ around after. subst (λ (s : StoreValue D). FetchSteps around after name uid (stage.Removing n given) (stage.Removing n given) old s (H old.disk) (H new.disk) (F old.disk) (F new.disk) did.Failed (Some (reply.Refused refusal.Stopped))) (sym is)
       (fail_steps around after name uid n given new.disk old (H old.disk) (H new.disk) (F old.disk) (F new.disk) runs (record { moments = moments; grows = grows; mail = mail; reads = let e = fault.reads in omega (arith, e); changes = fault.changes; rose = fault.rose failed }));
   claims = λ r. absurd (fall new.stopped halted r);
-  leaves = λ r. absurd (fall new.stopped halted r);
-  ended = λ answer e r. absurd (fall new.stopped halted r);
   alone = record {
     replies = (λ stopped. absurd (fall old.stopped stopped runs), λ r. inr (fault.rose failed, refl, refl));
     did_is = ap (λ (s : Bool). event_did (stage.Removing n given) (stage.Removing n given) (progress.Done (reply.Refused refusal.Stopped)) s) (sym runs);

@@ -24,6 +24,7 @@ use Rattle.store_core.specs.Running.{IsStore}
 use Rattle.store_core.specs.Value.{StoreValue}
 use Rattle.task_claims.specs.Claims.{ClaimsNothing, MovesClaims, Thing, amount_in, no_claims}
 use Rattle.task_claims.specs.Leaving.{LeavesOthers}
+use Rattle.task_claims.specs.Stable.{MovesOwnClaims}
 use Rattle.task_steps.specs.Step.{ended_by}
 use Rattle.mail_fetch.specs.Claims.{HasClaimed, IsReadyToFetch, claims_of_pinned, fetch_claims, used_by, with_claims, without_claims}
 use Rattle.mail_fetch.specs.Clause.{FetchSteps, FetchesAlone, MakesOfDisk, OnlyReadsDisk}
@@ -43,9 +44,7 @@ use Rattle.mail_fetch.proofs.StepLemmas.{begin_steps, last_pin_steps, read_steps
 -- What a step says of a store as it was and as it is, but for how many events are left.
 pub record StepSays {D : Type 0} (H : D → Option History) (F : D → Faults) (name : List ℕ) (uid : Uid) (now next : FetchStage) (old new : StoreValue D) (how : Did) (answer : Progress) : Type 0 where
   pub does : (around after : Around) → FetchSteps around after name uid now next old new (H old.disk) (H new.disk) (F old.disk) (F new.disk) how (ended_by answer)
-  pub claims : new.stopped ≡ false → MovesClaims (fetch_claims now) (fetch_claims next) old new
-  pub leaves : new.stopped ≡ false → LeavesOthers (fetch_claims now) old new (H old.disk) (H new.disk)
-  pub ended : (given : Reply) → answer ≡ progress.Done given → new.stopped ≡ false → ClaimsNothing (fetch_claims next)
+  pub claims : new.stopped ≡ false → MovesOwnClaims (fetch_claims now) (fetch_claims next) answer old new (H old.disk) (H new.disk)
   pub alone : FetchesAlone name uid.0 now next how answer old new (H old.disk) (H new.disk) (F old.disk) (F new.disk)
 
 -- It says so of a task that is seen as this, at this stage.
@@ -93,8 +92,6 @@ pub stopped_says : {D : Type 0} → (H : D → Option History) (F : D → Faults
 stopped_says H F name uid now store left stopped = record {
   does = λ around after. stopped_steps around after name uid now store (H store.disk) (F store.disk) left stopped;
   claims = λ runs. absurd (fall store.stopped stopped runs);
-  leaves = λ runs. absurd (fall store.stopped stopped runs);
-  ended = λ given e runs. absurd (fall store.stopped stopped runs);
   alone = record {
     replies = stopped_next name uid.0 now store (H store.disk) (F store.disk) stopped;
     did_is = stopped_did now store.stopped stopped;
@@ -122,9 +119,7 @@ first_says {D = D} H F name uid next old new how answer is runs b there same cla
           subst (λ (d : D). FetchSteps around after name uid stage.First next old new (H old.disk) (H d) (F old.disk) (F d) how (ended_by answer)) (sym disk)
           (subst (λ (s : StoreValue D). FetchSteps around after name uid stage.First next old s (H old.disk) (H old.disk) (F old.disk) (F old.disk) how (ended_by answer)) (sym same)
           (begin_steps around after name uid old (H old.disk) (F old.disk) next answer how is runs b there hows));
-      claims = λ runs_now. claims;
-      leaves = λ runs_now. leaves;
-      ended = λ given e runs_now. begun_ended name uid.0 old next answer given b e;
+      claims = λ runs_now. record { moves = claims; leaves = leaves; ended = λ given e. begun_ended name uid.0 old next answer given b e };
       alone = record {
         replies = b;
         did_is = hows;
@@ -149,12 +144,14 @@ pub reading_says : {D : Type 0} → (H : D → Option History) (F : D → Faults
     → ((HasFailedRead next → ⊥) → NoFault (F old.disk) (F new.disk)) → IsPieceRead region next (H old.disk) (F old.disk) (F new.disk) → IsReadyToFetch next new → StepSays H F name uid (stage.Reading region) next old new did.Quiet progress.More
 reading_says H F name uid region next old new left runs same idle fault unfailed read ready = record {
   does = λ around after. read_steps around after name uid region old new (H old.disk) (H new.disk) (F old.disk) (F new.disk) next left runs same idle fault unfailed read;
-  claims = λ runs_now thing.
-      let amount = reading_moves old new same thing in
-      let mine = piece_claims region next (H old.disk) (F old.disk) (F new.disk) thing read in
-      ap (λ (n : ℕ). n + claims_of_pinned region.from thing) amount ∙ ap (λ (n : ℕ). amount_in thing old + n) (sym mine);
-  leaves = λ runs_now. reading_leaves old new (H old.disk) (H new.disk) same idle (claims_of_pinned region.from);
-  ended = λ given e. absurd (more_is given e);
+  claims = λ runs_now. record {
+    moves = λ thing.
+        let amount = reading_moves old new same thing in
+        let mine = piece_claims region next (H old.disk) (F old.disk) (F new.disk) thing read in
+        ap (λ (n : ℕ). n + claims_of_pinned region.from thing) amount ∙ ap (λ (n : ℕ). amount_in thing old + n) (sym mine);
+    leaves = reading_leaves old new (H old.disk) (H new.disk) same idle (claims_of_pinned region.from);
+    ended = λ given e. absurd (more_is given e);
+  };
   alone = record {
     replies = (λ stopped. absurd (fall old.stopped stopped runs), λ runs_now. (refl, read));
     did_is = refl;
@@ -181,9 +178,11 @@ unpinning_says {D = D} H F name uid from given next answer old new runs own unpi
           subst (λ (n : FetchStage). FetchSteps around after name uid (stage.Unpinning from given) n old new (H old.disk) (H new.disk) (F old.disk) (F new.disk) did.Quiet (ended_by answer)) (sym next_is)
           (subst (λ (a : Progress). FetchSteps around after name uid (stage.Unpinning from given) then_next old new (H old.disk) (H new.disk) (F old.disk) (F new.disk) did.Quiet (ended_by a)) (sym answer_is)
           (subst (λ (s : StoreValue D). FetchSteps around after name uid (stage.Unpinning from given) then_next old s (H old.disk) (H s.disk) (F old.disk) (F s.disk) did.Quiet (ended_by then_answer)) (sym same) (steps around after)));
-      claims = λ runs_now. claims;
-      leaves = λ runs_now. leaves;
-      ended = λ reply e runs_now. subst (λ (n : FetchStage). ClaimsNothing (fetch_claims n)) (sym next_is) (ended reply (sym answer_is ∙ e));
+      claims = λ runs_now. record {
+        moves = claims;
+        leaves = leaves;
+        ended = λ reply e. subst (λ (n : FetchStage). ClaimsNothing (fetch_claims n)) (sym next_is) (ended reply (sym answer_is ∙ e));
+      };
       alone = record {
         replies = (λ stopped. absurd (fall old.stopped stopped runs), λ runs_now. unpinned);
         did_is = refl;

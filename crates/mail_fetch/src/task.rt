@@ -5,10 +5,10 @@ ghost use Rattle.disk_model.specs.FaultCounts.{NoFault};
 ghost use Rattle.journal.specs.Events.{Around};
 ghost use Rattle.mdbox_base.specs.declared.progress.Did.TheVariants as did;
 ghost use Rattle.mdbox_base.specs.declared.progress.Progress.TheVariants as progress;
-ghost use Rattle.mdbox_base.specs.declared.replies.Reply.{Reply};
 ghost use Rattle.storage_files.specs.Files.{end_in};
-ghost use Rattle.task_claims.specs.Claims.{ClaimsNothing, MovesClaims, no_claims};
+ghost use Rattle.task_claims.specs.Claims.{MovesClaims, no_claims};
 ghost use Rattle.task_claims.specs.Leaving.{LeavesOthers};
+ghost use Rattle.task_claims.specs.Stable.{MovesOwnClaims};
 ghost use Rattle.task_steps.specs.Step.{ended_by};
 ghost use Rattle.mail_fetch.specs.Claims.{HasClaimed, HasFetchRoom, HasUseRoom, IsReadyToFetch, claims_of_pinned, fetch_claims, used_by, without_claims};
 ghost use Rattle.mail_fetch.specs.Clause.{FetchSteps, FetchesAlone};
@@ -92,10 +92,9 @@ impl FetchTask {
         // answered, and what a crash may leave.
         ensures does { (around after : Around) → FetchSteps around after self.old.name self.old.uid self.old.stage self.new.stage store.old store.new (D.history store.old.disk) (D.history store.new.disk) (D.faults store.old.disk) (D.faults store.new.disk) self.new.did (ended_by result) }
 
-        // It moves only its own claims, and leaves to other tasks what is theirs. One that was replied claims nothing.
-        ensures claims { store.new.stopped ≡ false → MovesClaims (fetch_claims self.old.stage) (fetch_claims self.new.stage) store.old store.new }
-        ensures leaves { store.new.stopped ≡ false → LeavesOthers (fetch_claims self.old.stage) store.old store.new (D.history store.old.disk) (D.history store.new.disk) }
-        ensures ended { (given : Reply) → result ≡ progress.Done given → store.new.stopped ≡ false → ClaimsNothing (fetch_claims self.new.stage) }
+        // Unless it stops the store, it moves only its own claims, and leaves to other tasks what is theirs. One that was replied claims
+        // nothing.
+        ensures claims { store.new.stopped ≡ false → MovesOwnClaims (fetch_claims self.old.stage) (fetch_claims self.new.stage) result store.old store.new (D.history store.old.disk) (D.history store.new.disk) }
 
         // So it ends.
         ensures left { result ≡ progress.More → events_left self.new.stage < events_left self.old.stage }

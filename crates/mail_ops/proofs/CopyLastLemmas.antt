@@ -55,7 +55,6 @@ use Rattle.mail_ops.proofs.FlagListLemmas.{numbered}
 use Rattle.mail_ops.proofs.LoweringLemmas.{comes_with, lowered_due, shows_still, leads_still}
 use Rattle.mail_ops.proofs.MessageLemmas.{ShownRow, shown_row, shown_guid, record_of_row, store_is_sound, stored_by}
 use Rattle.mail_ops.proofs.RemovalLemmas.{took_tells, box_tells, box_fell_stays, map_fell_stays}
-use Rattle.mail_ops.proofs.SettledFlagLemmas.{LogsShowLists, well_settled, shown_settled}
 use Rattle.mail_ops.proofs.ShownEntryLemmas.{shown_entry}
 
 some_part : (p : EventPart) → Some p ≡ None → ⊥
@@ -149,17 +148,6 @@ brings_copy (Some h) store name uid target row number given lists is runs at k s
       },
       tt,
     )
-
--- the entry gives the lists with the copy, of a disk that is settled for them
-pub record CopySettled {D : Type 0} (store : StoreValue D) (row : LogRow) (number : ℕ) (given : Uid) (name : List ℕ) (uid : Uid) (target : List ℕ) (lists : Lists) (history : Option History) : Type 0 where
-  pub known : CopyKnown store name uid target row number given lists
-  pub brings : Brings store.map (added_copy given row) known.shown.message.octets history
-
-pub copy_settled : {D : Type 0} → (history : Option History) (store : StoreValue D) (name : List ℕ) (uid : Uid) (target : List ℕ) (row : LogRow) (number : ℕ) (given : Uid) (lists : Lists) → LogsShowLists → IsStore history store → store.stopped ≡ false → CopyPlace name uid.0 target store row number given.0 → IsSettledFor lists history
-    → CopySettled store row number given name uid target lists history
-copy_settled history store name uid target row number given lists show is runs at settled =
-    let k = copy_known store name uid target row number given lists at (well_settled lists history settled) (shown_settled lists history store show is runs settled) in
-    record { known = k; brings = brings_copy history store name uid target row number given lists is runs at k settled }
 
 -- ---- it is refused, and goes on
 

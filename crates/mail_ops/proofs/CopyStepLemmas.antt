@@ -1,9 +1,7 @@
 -- What the step of a copy says, event by event.
-use Rattle.std.proofs.Common.{◌≡◌, ◌≢◌, ◌≤◌, ◌<◌, ◌+◌, ◌↔◌, ℕ, true, false, List, Option, Some, None, refl, sym, ◌∙◌, ap, subst, arith, inl, inr}
+use Rattle.std.proofs.Common.{◌≡◌, ◌≤◌, ◌<◌, ◌+◌, ℕ, true, false, List, Option, Some, None, refl, sym, ◌∙◌, ap, subst, arith, inl, inr}
 use Rattle.std.specs.Prelude.{◌⊎◌}
-use Rattle.std.specs.Option.{option_map_or}
 use Rattle.disk_model.specs.Disk.{History, Faults}
-use Rattle.disk_model.specs.FaultCounts.{NoFault, ChangeFaultCounted}
 use Rattle.mdbox_base.specs.declared.ids.MapUid.{MapUid}
 use Rattle.mdbox_base.specs.declared.ids.Uid.{Uid}
 use Rattle.mdbox_base.specs.declared.progress.Did.{Did}
@@ -16,44 +14,38 @@ use Rattle.mdbox_base.specs.declared.replies.Reply.{Reply}
 use Rattle.mdbox_base.specs.declared.replies.Reply.TheVariants as reply
 use Rattle.mdbox_base.specs.declared.requests.Request.TheVariants as request
 use Rattle.mdbox_base.specs.declared.script.Half.TheVariants as half
-use Rattle.model_lists.specs.Lists.{ListedMessage, Lists}
 use Rattle.model_meaning.specs.MapMeaning.{MapBox, MapMeaning}
 use Rattle.model_store.specs.Listing.{meaning_named}
-use Rattle.model_store.specs.Settled.{IsSettledFor, Leaves}
-use Rattle.list_machine.specs.Machine.{add_message, is_step, message_at}
+use Rattle.list_machine.specs.Machine.{is_step}
 use Rattle.store_core.specs.Dues.{due_at, Moves, amounts_in}
+use Rattle.store_core.specs.Keeping.{KeepsRest}
 use Rattle.store_core.specs.Running.{IsStore}
 use Rattle.store_core.specs.Value.{StoreValue, indexes_of, list_named}
 use Rattle.store_core.proofs.DueLemmas.{moves_as}
 use Rattle.task_steps.specs.ExpungeStages.{one_due}
 use Rattle.task_steps.specs.Step.{IsKept, ended_by}
-use Rattle.task_steps.proofs.OneEventLemmas.{leaves_none}
 use Rattle.task_steps.proofs.SeenLemmas.{not_begun_stays}
 use Rattle.mail_ops.specs.Appends.{MapAppends, MapTook, MapFell, lowering_of}
-use Rattle.mail_ops.specs.Copy.{CopyValue, IsAtCopy, copy_amounts, copy_left, copied_lists, copy_lists, lists_copied, IsReadyToCopy, CopyAnswers, CopiesOn}
+use Rattle.mail_ops.specs.Copy.{CopyValue, IsAtCopy, copy_amounts, copy_left, IsReadyToCopy, CopyAnswers, CopiesOn}
 use Rattle.mail_ops.specs.Copying.{copy_refusal, RaisesRow, IsRaiseRefusal, MayBeRaised, IsNotRaised, AddsRow, FellAdding}
+use Rattle.mail_ops.specs.OnlyLogs.{ChangesOnlyLogs}
 use Rattle.mail_ops.specs.Event.{refusal_told, told_as}
 use Rattle.mail_ops.specs.declared.copy.CopyStage.{CopyStage}
 use Rattle.mail_ops.specs.declared.copy.CopyStage.TheVariants as stage
 use Rattle.mail_ops.specs.declared.event.NotDone.{NotDone}
 use Rattle.mail_ops.specs.declared.event.NotDone.TheVariants as not_done
 use Rattle.mail_ops.proofs.CopyFirstLemmas.{CopyingClause, raise_stopped, raise_refused, raise_unremembered, raise_fell, raise_done, raise_steps, copy_steps}
-use Rattle.mail_ops.proofs.CopyLastLemmas.{copy_settled, added_due, add_stopped, add_refused, add_unremembered, add_fell, copy_added, back_stopped, back_fell, given_back, holding_kept, giving_back_kept}
+use Rattle.mail_ops.proofs.CopyLastLemmas.{added_due, add_stopped, add_refused, add_unremembered, add_fell, copy_added, back_stopped, back_fell, given_back, holding_kept, giving_back_kept}
 use Rattle.mail_ops.proofs.CopyPartLemmas.{copy_copies}
-use Rattle.mail_ops.proofs.EventLemmas.{fall}
 use Rattle.store_seen.proofs.SeeingLemmas.{due_as_before}
 use Rattle.mail_ops.proofs.LoweringLemmas.{lowered_due}
-use Rattle.mail_ops.proofs.SettledFlagLemmas.{LogsShowLists}
+use Rattle.mail_ops.proofs.OnlyLogsLemmas.{box_fell_keeps, box_took_keeps, idle_keeps, map_fell_keeps, map_took_keeps}
 
 -- what a step says of an event
 pub record CopyKnown {D : Type 0} (name : List ℕ) (uid : Uid) (target : List ℕ) (now next : CopyStage) (answer : Progress) (how : Did) (old new : StoreValue D) (before after : Option History) (began faulted : Faults) : Type 0 where
   pub ready : IsReadyToCopy name uid next new
   pub does : CopyingClause (request.Copy name uid target) (IsAtCopy now) (IsAtCopy next) old new before after began faulted how (ended_by answer)
-  pub moments : (lists : Lists) → IsSettledFor lists before → Leaves lists (copy_lists name uid target now lists) before after
-  pub settled : new.stopped ≡ false → (lists : Lists) → IsSettledFor lists before → IsSettledFor (lists_copied name uid target answer lists) after
-  pub stopped : (answer ≡ progress.Done (reply.Refused refusal.Stopped)) ↔ (new.stopped ≡ true)
-  pub fault : ChangeFaultCounted (answer ≡ progress.Done (reply.Refused refusal.Stopped)) began faulted
-  pub unfailed : answer ≢ progress.Done (reply.Refused refusal.Stopped) → NoFault began faulted
+  pub keeps : ChangesOnlyLogs (KeepsRest old new) now next answer old new before after began faulted
   pub moves : Moves (copy_amounts now) (copy_amounts next) (amounts_in old) (amounts_in new)
   pub replies : CopyAnswers name uid target now old new next answer
   pub left : answer ≡ progress.More → copy_left next < copy_left now
@@ -100,11 +92,7 @@ known_raised name uid target held old new before after began faulted is ran r = 
     source = record { m = r.keeps.m; named = kept_named old new before after began faulted name r.took.appends ∙ r.keeps.named; below = r.keeps.below; same = r.keeps.same };
   };
   does = raise_done (request.Copy name uid target) name uid target half.Whole held old new before after began faulted (copy_copies name uid target) is ran r;
-  moments = λ lists s. r.took.appends.moments lists s;
-  settled = λ runs lists s. r.took.settled lists s;
-  stopped = record { 0 = λ e. absurd (more_is (reply.Refused refusal.Stopped) e); 1 = λ e. absurd (fall new.stopped e r.took.runs) };
-  fault = record { reads = r.took.appends.reads; changes = r.took.appends.changes; rose = λ e. absurd (more_is (reply.Refused refusal.Stopped) e) };
-  unfailed = λ other. r.took.unfailed;
+  keeps = map_took_keeps _ _ _ _ old new before after began faulted ran (more_is (reply.Refused refusal.Stopped)) r.took;
   moves = record { due = λ other. raised_moves (due_at other old) (due_at other new) held.0 other (r.took.due other) };
   replies = (r.row, r.number, r.next, r.at, r.holds, r.few, record { indexes = r.took.appends.indexes; mailboxes = r.took.appends.mailboxes; taken = r.took.taken });
   left = λ e. omega arith;
@@ -115,11 +103,7 @@ known_unraised : {D : Type 0} → (name : List ℕ) (uid : Uid) (target : List �
 known_unraised name uid target old new before after began faulted ran f may = record {
   ready = none_due name uid new;
   does = raise_fell (request.Copy name uid target) name uid target half.Whole (IsAtCopy stage.First) old new before after began faulted (copy_copies name uid target) ran f;
-  moments = λ lists s. f.appends.moments lists s;
-  settled = λ runs lists s. absurd (fall new.stopped f.stopped runs);
-  stopped = record { 0 = λ e. f.stopped; 1 = λ e. refl };
-  fault = record { reads = f.appends.reads; changes = f.appends.changes; rose = λ e. f.rose };
-  unfailed = λ other. absurd (other refl);
+  keeps = map_fell_keeps _ _ old new before after began faulted ran f;
   moves = moves_as (copy_amounts stage.First) (amounts_in old) (amounts_in new) (λ other. due_as_before old new other f.map f.dues);
   replies = inl (refl, f.stopped, may);
   left = λ e. absurd (done_more (reply.Refused refusal.Stopped) e);
@@ -131,11 +115,7 @@ known_same : {D : Type 0} → (name : List ℕ) (uid : Uid) (target : List ℕ) 
 known_same name uid target why how store history faults runs running cause does = record {
   ready = none_due name uid store;
   does = does;
-  moments = λ lists s. leaves_none history lists lists s;
-  settled = λ e lists s. s;
-  stopped = record { 0 = λ e. absurd (running (why_is why refusal.Stopped e)); 1 = λ e. absurd (fall store.stopped e runs) };
-  fault = record { reads = refl; changes = omega arith; rose = λ e. absurd (running (why_is why refusal.Stopped e)) };
-  unfailed = λ other. refl;
+  keeps = idle_keeps (KeepsRest store store) _ _ _ store history faults runs (λ e. running (why_is why refusal.Stopped e)) refl;
   moves = moves_as (copy_amounts stage.First) (amounts_in store) (amounts_in store) (λ other. refl);
   replies = inr (refl, cause);
   left = λ e. absurd (done_more (reply.Refused why) e);
@@ -156,23 +136,12 @@ known_refused history faults name uid target not_done.Stopped old new ran r = kn
 ended_moves : (old new held uid : ℕ) → new + one_due held uid ≡ old → new + one_due held uid ≡ old + 0
 ended_moves old new held uid e = omega (arith, e)
 
-with_copy : (name : List ℕ) (uid : Uid) (target : List ℕ) (message : ListedMessage) (lists : Lists) → message_at name uid.0 lists ≡ Some message → add_message target message lists ≡ copied_lists name uid target lists
-with_copy name uid target message lists there = sym (ap (λ (o : Option ListedMessage). option_map_or (λ m. add_message target m lists) o lists) there)
-
-known_added : {D : Type 0} → (name : List ℕ) (uid : Uid) (target : List ℕ) (held : MapUid) (given : Uid) (old new : StoreValue D) (before after : Option History) (began faulted : Faults) → LogsShowLists → IsStore before old → old.stopped ≡ false → IsReadyToCopy name uid (stage.Adding held) old
+known_added : {D : Type 0} → (name : List ℕ) (uid : Uid) (target : List ℕ) (held : MapUid) (given : Uid) (old new : StoreValue D) (before after : Option History) (began faulted : Faults) → IsStore before old → old.stopped ≡ false → IsReadyToCopy name uid (stage.Adding held) old
     → AddsRow name uid target held given old new before after began faulted → CopyKnown name uid target (stage.Adding held) stage.First (progress.Done (reply.Copied given)) (did.Step half.Whole) old new before after began faulted
-known_added name uid target held given old new before after began faulted show is ran ready r = record {
+known_added name uid target held given old new before after began faulted is ran ready r = record {
   ready = none_due name uid new;
   does = copy_added name uid target held given (IsAtCopy stage.First) old new before after began faulted is ran ready.due r;
-  moments = λ lists s.
-      let c = copy_settled before old name uid target r.row r.number given lists show is ran r.at s in
-      subst (λ (ls : Lists). Leaves lists ls before after) (c.known.by ∙ with_copy name uid target c.known.shown.message lists c.known.shown.there) (r.took.appends.moments lists c.known.shown.message.octets c.brings s);
-  settled = λ runs lists s.
-      let c = copy_settled before old name uid target r.row r.number given lists show is ran r.at s in
-      subst (λ (ls : Lists). IsSettledFor ls after) (c.known.by ∙ with_copy name uid target c.known.shown.message lists c.known.shown.there) (r.took.settled lists c.known.shown.message.octets c.brings s);
-  stopped = record { 0 = λ e. absurd (copied_stopped given e); 1 = λ e. absurd (fall new.stopped e r.took.runs) };
-  fault = record { reads = r.took.appends.reads; changes = r.took.appends.changes; rose = λ e. absurd (copied_stopped given e) };
-  unfailed = λ other. r.took.unfailed;
+  keeps = box_took_keeps _ _ _ _ _ old new before after began faulted ran (copied_stopped given) r.took;
   moves = record { due = λ other. ended_moves (due_at other old) (due_at other new) held.0 other (added_due held given r.row r.at.m old new other r.holds (ready.due other) (r.took.due r.at.m other r.at.to.numbered)) };
   replies = (r.row, r.number, r.at, r.holds);
   left = λ e. absurd (done_more (reply.Copied given) e);
@@ -181,9 +150,9 @@ known_added name uid target held given old new before after began faulted show i
 held_still : {D : Type 0} → (held : MapUid) (old new : StoreValue D) → ((other : ℕ) → one_due held.0 other ≤ due_at other old) → ((other : ℕ) → due_at other new ≡ due_at other old) → (other : ℕ) → one_due held.0 other ≤ due_at other new
 held_still held old new due same other = subst (λ (n : ℕ). one_due held.0 other ≤ n) (sym (same other)) (due other)
 
-known_unadded : {D : Type 0} → (name : List ℕ) (uid : Uid) (target : List ℕ) (held : MapUid) (old new : StoreValue D) (before after : Option History) (began faulted : Faults) → LogsShowLists → IsStore before old → old.stopped ≡ false → IsReadyToCopy name uid (stage.Adding held) old → FellAdding name uid target held old new before after began faulted
+known_unadded : {D : Type 0} → (name : List ℕ) (uid : Uid) (target : List ℕ) (held : MapUid) (old new : StoreValue D) (before after : Option History) (began faulted : Faults) → IsStore before old → old.stopped ≡ false → IsReadyToCopy name uid (stage.Adding held) old → FellAdding name uid target held old new before after began faulted
     → CopyKnown name uid target (stage.Adding held) (stage.Adding held) (progress.Done (reply.Refused refusal.Stopped)) (did.Broken half.Whole) old new before after began faulted
-known_unadded name uid target held old new before after began faulted show is ran ready r = record {
+known_unadded name uid target held old new before after began faulted is ran ready r = record {
   ready = record {
     due = held_still held old new ready.due (λ other. due_as_before old new other r.fell.appends.map r.fell.dues);
     source = record {
@@ -194,13 +163,7 @@ known_unadded name uid target held old new before after began faulted show is ra
     };
   };
   does = add_fell (request.Copy name uid target) name uid target half.Whole held (IsAtCopy (stage.Adding held)) old new before after began faulted (copy_copies name uid target) is ran r;
-  moments = λ lists s.
-      let c = copy_settled before old name uid target r.row r.number r.given lists show is ran r.at s in
-      subst (λ (ls : Lists). Leaves lists ls before after) (c.known.by ∙ with_copy name uid target c.known.shown.message lists c.known.shown.there) (r.fell.appends.moments lists c.known.shown.message.octets c.brings s);
-  settled = λ runs lists s. absurd (fall new.stopped r.fell.stopped runs);
-  stopped = record { 0 = λ e. r.fell.stopped; 1 = λ e. refl };
-  fault = record { reads = r.fell.appends.reads; changes = r.fell.appends.changes; rose = λ e. r.fell.rose };
-  unfailed = λ other. absurd (other refl);
+  keeps = box_fell_keeps _ _ _ _ old new before after began faulted ran r.fell;
   moves = moves_as (copy_amounts (stage.Adding held)) (amounts_in old) (amounts_in new) (λ other. due_as_before old new other r.fell.appends.map r.fell.dues);
   replies = (refl, refl, r.fell.stopped);
   left = λ e. absurd (done_more (reply.Refused refusal.Stopped) e);
@@ -216,11 +179,7 @@ known_back : {D : Type 0} → (name : List ℕ) (uid : Uid) (target : List ℕ) 
 known_back name uid target held why how store history faults runs ready cause does = record {
   ready = record { due = ready.due; source = back_runs name uid target why store cause };
   does = does;
-  moments = λ lists s. leaves_none history (copied_lists name uid target lists) lists s;
-  settled = λ e lists s. s;
-  stopped = record { 0 = λ e. absurd (more_is (reply.Refused refusal.Stopped) e); 1 = λ e. absurd (fall store.stopped e runs) };
-  fault = record { reads = refl; changes = omega arith; rose = λ e. absurd (more_is (reply.Refused refusal.Stopped) e) };
-  unfailed = λ other. refl;
+  keeps = idle_keeps (KeepsRest store store) _ _ _ store history faults runs (more_is (reply.Refused refusal.Stopped)) refl;
   moves = moves_as (copy_amounts (stage.Adding held)) (amounts_in store) (amounts_in store) (λ other. refl);
   replies = (refl, refl, cause);
   left = λ e. omega arith;
@@ -233,11 +192,7 @@ known_given : {D : Type 0} → (name : List ℕ) (uid : Uid) (target : List ℕ)
 known_given name uid target held why old new before after began faulted ran ready running t = record {
   ready = none_due name uid new;
   does = given_back (request.Copy name uid target) name uid target half.Whole held why (IsAtCopy stage.First) old new before after began faulted (copy_copies name uid target) ran ready.due t;
-  moments = λ lists s. t.appends.moments lists s;
-  settled = λ runs lists s. t.settled lists s;
-  stopped = record { 0 = λ e. absurd (running (why_is why refusal.Stopped e)); 1 = λ e. absurd (fall new.stopped e t.runs) };
-  fault = record { reads = t.appends.reads; changes = t.appends.changes; rose = λ e. absurd (running (why_is why refusal.Stopped e)) };
-  unfailed = λ other. t.unfailed;
+  keeps = map_took_keeps _ _ _ _ old new before after began faulted ran (λ e. running (why_is why refusal.Stopped e)) t;
   moves = record { due = λ other. ended_moves (due_at other old) (due_at other new) held.0 other (lowered_due held old new other (ready.due other) (t.due other)) };
   replies = (refl, record { indexes = t.appends.indexes; mailboxes = t.appends.mailboxes; taken = t.taken });
   left = λ e. absurd (done_more (reply.Refused why) e);
@@ -248,11 +203,7 @@ known_ungiven : {D : Type 0} → (name : List ℕ) (uid : Uid) (target : List �
 known_ungiven name uid target held why old new before after began faulted ran ready f = record {
   ready = record { due = held_still held old new ready.due (λ other. due_as_before old new other f.map f.dues); source = ready.source };
   does = back_fell (request.Copy name uid target) name uid target half.Whole held why (IsAtCopy (stage.GivingBack held why)) old new before after began faulted (copy_copies name uid target) ran f;
-  moments = λ lists s. f.appends.moments lists s;
-  settled = λ runs lists s. absurd (fall new.stopped f.stopped runs);
-  stopped = record { 0 = λ e. f.stopped; 1 = λ e. refl };
-  fault = record { reads = f.appends.reads; changes = f.appends.changes; rose = λ e. f.rose };
-  unfailed = λ other. absurd (other refl);
+  keeps = map_fell_keeps _ _ old new before after began faulted ran f;
   moves = moves_as (copy_amounts (stage.GivingBack held why)) (amounts_in old) (amounts_in new) (λ other. due_as_before old new other f.map f.dues);
   replies = (refl, refl, refl, f.stopped);
   left = λ e. absurd (done_more (reply.Refused refusal.Stopped) e);
@@ -263,20 +214,20 @@ known_ungiven name uid target held why old new before after began faulted ran re
 abbrev KnownBy : {D : Type 0} → (D → Option History) → (D → Faults) → List ℕ → Uid → List ℕ → CopyStage → CopyStage → Progress → Did → StoreValue D → StoreValue D → Type 0
 KnownBy history faults name uid target now next answer how old new = CopyKnown name uid target now next answer how old new (history old.disk) (history new.disk) (faults old.disk) (faults new.disk)
 
-known_by : {D : Type 0} → (history : D → Option History) (faults : D → Faults) (name : List ℕ) (uid : Uid) (target : List ℕ) (now next : CopyStage) (answer : Progress) (how : Did) (old new : StoreValue D) → LogsShowLists → IsStore (history old.disk) old → old.stopped ≡ false → IsReadyToCopy name uid now old
+known_by : {D : Type 0} → (history : D → Option History) (faults : D → Faults) (name : List ℕ) (uid : Uid) (target : List ℕ) (now next : CopyStage) (answer : Progress) (how : Did) (old new : StoreValue D) → IsStore (history old.disk) old → old.stopped ≡ false → IsReadyToCopy name uid now old
     → CopiesOn name uid target now next answer how old new (history old.disk) (history new.disk) (faults old.disk) (faults new.disk) → KnownBy history faults name uid target now next answer how old new
-known_by history faults name uid target stage.First (stage.Adding held) progress.More how old new show is ran ready on =
+known_by history faults name uid target stage.First (stage.Adding held) progress.More how old new is ran ready on =
     subst (λ (h : Did). KnownBy history faults name uid target stage.First (stage.Adding held) progress.More h old new) (sym on.0) (known_raised name uid target held old new (history old.disk) (history new.disk) (faults old.disk) (faults new.disk) is ran on.1)
-known_by history faults name uid target stage.First stage.First (progress.Done (reply.Refused why)) how old new show is ran ready on =
+known_by history faults name uid target stage.First stage.First (progress.Done (reply.Refused why)) how old new is ran ready on =
     subst (λ (h : Did). KnownBy history faults name uid target stage.First stage.First (progress.Done (reply.Refused why)) h old new) (sym on.2)
     (subst (λ (w : Refusal). KnownBy history faults name uid target stage.First stage.First (progress.Done (reply.Refused w)) (told_as half.Whole did.Failed on.0) old new) (sym on.1) (known_refused history faults name uid target on.0 old new ran on.3))
-known_by history faults name uid target (stage.Adding held) stage.First (progress.Done (reply.Copied given)) how old new show is ran ready on =
-    subst (λ (h : Did). KnownBy history faults name uid target (stage.Adding held) stage.First (progress.Done (reply.Copied given)) h old new) (sym on.0) (known_added name uid target held given old new (history old.disk) (history new.disk) (faults old.disk) (faults new.disk) show is ran ready on.1)
-known_by history faults name uid target (stage.Adding held) (stage.Adding still) (progress.Done (reply.Refused why)) how old new show is ran ready on =
+known_by history faults name uid target (stage.Adding held) stage.First (progress.Done (reply.Copied given)) how old new is ran ready on =
+    subst (λ (h : Did). KnownBy history faults name uid target (stage.Adding held) stage.First (progress.Done (reply.Copied given)) h old new) (sym on.0) (known_added name uid target held given old new (history old.disk) (history new.disk) (faults old.disk) (faults new.disk) is ran ready on.1)
+known_by history faults name uid target (stage.Adding held) (stage.Adding still) (progress.Done (reply.Refused why)) how old new is ran ready on =
     subst (λ (h : Did). KnownBy history faults name uid target (stage.Adding held) (stage.Adding still) (progress.Done (reply.Refused why)) h old new) (sym on.2)
     (subst (λ (w : Refusal). KnownBy history faults name uid target (stage.Adding held) (stage.Adding still) (progress.Done (reply.Refused w)) (did.Broken half.Whole) old new) (sym on.1)
-    (subst (λ (s : MapUid). KnownBy history faults name uid target (stage.Adding held) (stage.Adding s) (progress.Done (reply.Refused refusal.Stopped)) (did.Broken half.Whole) old new) (sym on.0) (known_unadded name uid target held old new (history old.disk) (history new.disk) (faults old.disk) (faults new.disk) show is ran ready on.3)))
-known_by history faults name uid target (stage.Adding held) (stage.GivingBack still why) progress.More how old new show is ran ready on =
+    (subst (λ (s : MapUid). KnownBy history faults name uid target (stage.Adding held) (stage.Adding s) (progress.Done (reply.Refused refusal.Stopped)) (did.Broken half.Whole) old new) (sym on.0) (known_unadded name uid target held old new (history old.disk) (history new.disk) (faults old.disk) (faults new.disk) is ran ready on.3)))
+known_by history faults name uid target (stage.Adding held) (stage.GivingBack still why) progress.More how old new is ran ready on =
     subst (λ (s : MapUid). KnownBy history faults name uid target (stage.Adding held) (stage.GivingBack s why) progress.More how old new) (sym on.0)
     (subst (λ (s : StoreValue _). KnownBy history faults name uid target (stage.Adding held) (stage.GivingBack held why) progress.More how old s) (sym on.1) (by_cause on.2))
   where
@@ -288,23 +239,23 @@ known_by history faults name uid target (stage.Adding held) (stage.GivingBack st
         subst (λ (h : Did). KnownBy history faults name uid target (stage.Adding held) (stage.GivingBack held why) progress.More h old old) (sym e.0)
         (subst (λ (w : Refusal). KnownBy history faults name uid target (stage.Adding held) (stage.GivingBack held w) progress.More did.Quiet old old) (sym e.1)
         (known_back name uid target held refusal.NoMemory did.Quiet old (history old.disk) (faults old.disk) ran ready (inr refl) (add_unremembered (request.Copy name uid target) name uid target half.Whole held old (history old.disk) (faults old.disk) (copy_copies name uid target) ran)))
-known_by history faults name uid target (stage.GivingBack held why) stage.First (progress.Done (reply.Refused given)) how old new show is ran ready on =
+known_by history faults name uid target (stage.GivingBack held why) stage.First (progress.Done (reply.Refused given)) how old new is ran ready on =
     subst (λ (h : Did). KnownBy history faults name uid target (stage.GivingBack held why) stage.First (progress.Done (reply.Refused given)) h old new) (sym on.1)
     (subst (λ (w : Refusal). KnownBy history faults name uid target (stage.GivingBack held why) stage.First (progress.Done (reply.Refused w)) did.Quiet old new) (sym on.0) (known_given name uid target held why old new (history old.disk) (history new.disk) (faults old.disk) (faults new.disk) ran ready ready.source on.2))
-known_by history faults name uid target (stage.GivingBack held why) (stage.GivingBack still cause) (progress.Done (reply.Refused given)) how old new show is ran ready on =
+known_by history faults name uid target (stage.GivingBack held why) (stage.GivingBack still cause) (progress.Done (reply.Refused given)) how old new is ran ready on =
     subst (λ (h : Did). KnownBy history faults name uid target (stage.GivingBack held why) (stage.GivingBack still cause) (progress.Done (reply.Refused given)) h old new) (sym on.3)
     (subst (λ (w : Refusal). KnownBy history faults name uid target (stage.GivingBack held why) (stage.GivingBack still cause) (progress.Done (reply.Refused w)) did.Failed old new) (sym on.2)
     (subst (λ (w : Refusal). KnownBy history faults name uid target (stage.GivingBack held why) (stage.GivingBack still w) (progress.Done (reply.Refused refusal.Stopped)) did.Failed old new) (sym on.1)
     (subst (λ (s : MapUid). KnownBy history faults name uid target (stage.GivingBack held why) (stage.GivingBack s why) (progress.Done (reply.Refused refusal.Stopped)) did.Failed old new) (sym on.0) (known_ungiven name uid target held why old new (history old.disk) (history new.disk) (faults old.disk) (faults new.disk) ran ready on.4))))
-known_by history faults name uid target now next answer how old new show is ran ready on = absurd on
+known_by history faults name uid target now next answer how old new is ran ready on = absurd on
 
 -- Of a task that is seen as this.
-pub copy_known_by : {D : Type 0} → (history : D → Option History) (faults : D → Faults) (task seen : CopyValue) (now next : CopyStage) (answer : Progress) (how : Did) (old new : StoreValue D) → task ≡ seen → task.stage ≡ now → LogsShowLists → IsStore (history old.disk) old → old.stopped ≡ false
+pub copy_known_by : {D : Type 0} → (history : D → Option History) (faults : D → Faults) (task seen : CopyValue) (now next : CopyStage) (answer : Progress) (how : Did) (old new : StoreValue D) → task ≡ seen → task.stage ≡ now → IsStore (history old.disk) old → old.stopped ≡ false
     → IsReadyToCopy task.name task.uid now old → CopiesOn task.name task.uid task.target now next answer how old new (history old.disk) (history new.disk) (faults old.disk) (faults new.disk)
     → KnownBy history faults seen.name seen.uid seen.target seen.stage next answer how old new
-copy_known_by history faults task seen now next answer how old new same at show is ran ready on =
+copy_known_by history faults task seen now next answer how old new same at is ran ready on =
     subst (λ (v : CopyValue). KnownBy history faults v.name v.uid v.target v.stage next answer how old new) same
-    (subst (λ (s : CopyStage). KnownBy history faults task.name task.uid task.target s next answer how old new) (sym at) (known_by history faults task.name task.uid task.target now next answer how old new show is ran ready on))
+    (subst (λ (s : CopyStage). KnownBy history faults task.name task.uid task.target s next answer how old new) (sym at) (known_by history faults task.name task.uid task.target now next answer how old new is ran ready on))
 
 pub copy_ready : {D : Type 0} → (task seen : CopyValue) (now : CopyStage) (store : StoreValue D) → task ≡ seen → task.stage ≡ now → IsReadyToCopy seen.name seen.uid seen.stage store → IsReadyToCopy task.name task.uid now store
 copy_ready task seen now store same at ready =

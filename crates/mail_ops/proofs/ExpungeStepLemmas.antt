@@ -1,8 +1,7 @@
 -- What the step of an expunge says, event by event.
-use Rattle.std.proofs.Common.{◌≡◌, ◌≢◌, ◌≤◌, ◌<◌, ◌+◌, ◌↔◌, ℕ, true, false, List, [], Option, Some, None, refl, sym, ◌∙◌, ap, subst, arith, inl, inr}
+use Rattle.std.proofs.Common.{◌≡◌, ◌≤◌, ◌<◌, ◌+◌, ℕ, true, false, List, Option, Some, None, refl, sym, ◌∙◌, ap, subst, arith, inl, inr}
 use Rattle.std.specs.Prelude.{◌⊎◌}
 use Rattle.disk_model.specs.Disk.{History, Faults}
-use Rattle.disk_model.specs.FaultCounts.{NoFault, ChangeFaultCounted}
 use Rattle.mdbox_base.specs.declared.ids.MapUid.{MapUid}
 use Rattle.mdbox_base.specs.declared.ids.Uid.{Uid}
 use Rattle.mdbox_base.specs.declared.progress.Did.{Did}
@@ -14,44 +13,37 @@ use Rattle.mdbox_base.specs.declared.replies.Refusal.TheVariants as refusal
 use Rattle.mdbox_base.specs.declared.replies.Reply.{Reply}
 use Rattle.mdbox_base.specs.declared.replies.Reply.TheVariants as reply
 use Rattle.mdbox_base.specs.declared.script.Half.TheVariants as half
-use Rattle.model_lists.specs.Lists.{Lists}
-use Rattle.model_store.specs.Settled.{IsSettledFor, Leaves}
-use Rattle.list_machine.specs.Machine.{expunge}
 use Rattle.journal.specs.Stages.{ToRemove, ToLower}
 use Rattle.store_core.specs.Dues.{due_at, Moves, amounts_in}
+use Rattle.store_core.specs.Keeping.{KeepsRest}
 use Rattle.store_core.specs.Running.{IsStore}
 use Rattle.store_core.specs.Value.{StoreValue}
 use Rattle.store_core.proofs.DueLemmas.{moves_as}
 use Rattle.task_steps.specs.ExpungeStages.{one_due}
 use Rattle.task_steps.specs.Step.{IsKept, ended_by}
 use Rattle.task_steps.proofs.ExpungingLemmas.{expunges_are_kept}
-use Rattle.task_steps.proofs.OneEventLemmas.{leaves_none}
 use Rattle.mail_ops.specs.Appends.{MapTook, MapFell, lowering_of}
+use Rattle.mail_ops.specs.OnlyLogs.{ChangesOnlyLogs}
 use Rattle.mail_ops.specs.Event.{refusal_told, told_as}
-use Rattle.mail_ops.specs.Expunging.{ExpungeValue, IsAtExpunge, expunge_amounts, expunge_left, expunge_lists, expunged_lists, ExpungeAnswers, ExpungesOn, RemovesRow, FellRemoving, IsNotRemoved}
+use Rattle.mail_ops.specs.Expunging.{ExpungeValue, IsAtExpunge, expunge_amounts, expunge_left, ExpungeAnswers, ExpungesOn, RemovesRow, FellRemoving, IsNotRemoved}
 use Rattle.mail_ops.specs.Messages.{missing_message}
 use Rattle.mail_ops.specs.Owing.{AreDueIn}
 use Rattle.mail_ops.specs.declared.event.NotDone.{NotDone}
 use Rattle.mail_ops.specs.declared.event.NotDone.TheVariants as not_done
 use Rattle.mail_ops.specs.declared.expunging.ExpungeStage.{ExpungeStage}
 use Rattle.mail_ops.specs.declared.expunging.ExpungeStage.TheVariants as stage
-use Rattle.mail_ops.proofs.EventLemmas.{fall}
 use Rattle.mail_ops.proofs.ExpungeEventLemmas.{ExpungeClause, expunge_stopped, expunge_removed, expunge_broken, expunge_refused, expunge_unremembered, expunge_lowered, expunge_unlowered}
 use Rattle.store_seen.proofs.SeeingLemmas.{due_as_before}
 use Rattle.mail_ops.proofs.LoweringLemmas.{lowered_due}
 use Rattle.mail_ops.proofs.MessageLemmas.{missing_is, not_missing}
-use Rattle.mail_ops.proofs.RemovalLemmas.{brings_removal, removal_due, removal_settled}
-use Rattle.mail_ops.proofs.SettledFlagLemmas.{LogsShowLists}
+use Rattle.mail_ops.proofs.RemovalLemmas.{removal_due}
+use Rattle.mail_ops.proofs.OnlyLogsLemmas.{box_fell_keeps, box_took_keeps, idle_keeps, map_fell_keeps, map_took_keeps}
 
 -- what a step says of an event
 pub record ExpungeKnown {D : Type 0} (name : List ℕ) (uid : Uid) (now next : ExpungeStage) (answer : Progress) (how : Did) (old new : StoreValue D) (before after : Option History) (began then : Faults) : Type 0 where
   pub due : AreDueIn new (expunge_amounts next)
   pub does : ExpungeClause name uid now next old new before after began then how (ended_by answer)
-  pub moments : (lists : Lists) → IsSettledFor lists before → Leaves lists (expunge_lists name uid now lists) before after
-  pub settled : new.stopped ≡ false → (lists : Lists) → IsSettledFor lists before → IsSettledFor (expunged_lists name uid answer lists) after
-  pub stopped : (answer ≡ progress.Done (reply.Refused refusal.Stopped)) ↔ (new.stopped ≡ true)
-  pub fault : ChangeFaultCounted (answer ≡ progress.Done (reply.Refused refusal.Stopped)) began then
-  pub unfailed : answer ≢ progress.Done (reply.Refused refusal.Stopped) → NoFault began then
+  pub keeps : ChangesOnlyLogs (KeepsRest old new) now next answer old new before after began then
   pub moves : Moves (expunge_amounts now) (expunge_amounts next) (amounts_in old) (amounts_in new)
   pub replies : ExpungeAnswers name uid now old new next answer
   pub left : answer ≡ progress.More → expunge_left next < expunge_left now
@@ -78,16 +70,12 @@ removed_moves old new owed uid e = omega (arith, e)
 removed_covers : (old new owed uid : ℕ) → new ≡ old + one_due owed uid → one_due owed uid ≤ new
 removed_covers old new owed uid e = omega (arith, e)
 
-known_removed : {D : Type 0} → (name : List ℕ) (uid : Uid) (owed : MapUid) (old new : StoreValue D) (before after : Option History) (began then : Faults) → LogsShowLists → IsStore before old → old.stopped ≡ false → RemovesRow name uid owed old new before after began then
+known_removed : {D : Type 0} → (name : List ℕ) (uid : Uid) (owed : MapUid) (old new : StoreValue D) (before after : Option History) (began then : Faults) → IsStore before old → old.stopped ≡ false → RemovesRow name uid owed old new before after began then
     → ExpungeKnown name uid stage.First (stage.Owing owed) progress.More (did.Step half.Whole) old new before after began then
-known_removed name uid owed old new before after began then show is ran r = record {
+known_removed name uid owed old new before after began then is ran r = record {
   due = λ other. removed_covers (due_at other old) (due_at other new) owed.0 other (rises other);
   does = expunge_removed name uid owed old new before after began then is ran r;
-  moments = λ lists s. subst (λ (ls : Lists). Leaves lists ls before after) (removal_settled before old name uid r.number r.row lists show is ran r.there s) (r.took.appends.moments lists [] (brings_removal old.map uid [] before) s);
-  settled = λ runs lists s. subst (λ (ls : Lists). IsSettledFor ls after) (removal_settled before old name uid r.number r.row lists show is ran r.there s) (r.took.settled lists [] (brings_removal old.map uid [] before) s);
-  stopped = record { 0 = λ e. absurd (more_is (reply.Refused refusal.Stopped) e); 1 = λ e. absurd (fall new.stopped e r.took.runs) };
-  fault = record { reads = r.took.appends.reads; changes = r.took.appends.changes; rose = λ e. absurd (more_is (reply.Refused refusal.Stopped) e) };
-  unfailed = λ other. r.took.unfailed;
+  keeps = box_took_keeps _ _ _ _ _ old new before after began then ran (more_is (reply.Refused refusal.Stopped)) r.took;
   moves = record { due = λ other. removed_moves (due_at other old) (due_at other new) owed.0 other (rises other) };
   replies = (r.number, r.row, r.there, r.owes);
   left = λ e. omega arith;
@@ -96,16 +84,12 @@ known_removed name uid owed old new before after began then show is ran r = reco
     rises : (other : ℕ) → due_at other new ≡ due_at other old + one_due owed.0 other
     rises other = subst (λ (u : ℕ). due_at other new ≡ due_at other old + one_due u other) (sym r.owes) (removal_due old new r.there.m uid r.row other r.there.listed (r.took.due r.there.m other r.there.box.numbered))
 
-known_broken : {D : Type 0} → (name : List ℕ) (uid : Uid) (old new : StoreValue D) (before after : Option History) (began then : Faults) → LogsShowLists → IsStore before old → old.stopped ≡ false → FellRemoving name uid old new before after began then
+known_broken : {D : Type 0} → (name : List ℕ) (uid : Uid) (old new : StoreValue D) (before after : Option History) (began then : Faults) → IsStore before old → old.stopped ≡ false → FellRemoving name uid old new before after began then
     → ExpungeKnown name uid stage.First stage.First (progress.Done (reply.Refused refusal.Stopped)) (did.Broken half.Whole) old new before after began then
-known_broken name uid old new before after began then show is ran r = record {
+known_broken name uid old new before after began then is ran r = record {
   due = λ other. omega arith;
   does = expunge_broken name uid old new before after began then is ran r;
-  moments = λ lists s. subst (λ (ls : Lists). Leaves lists ls before after) (removal_settled before old name uid r.number r.row lists show is ran r.there s) (r.fell.appends.moments lists [] (brings_removal old.map uid [] before) s);
-  settled = λ runs lists s. absurd (fall new.stopped r.fell.stopped runs);
-  stopped = record { 0 = λ e. r.fell.stopped; 1 = λ e. refl };
-  fault = record { reads = r.fell.appends.reads; changes = r.fell.appends.changes; rose = λ e. r.fell.rose };
-  unfailed = λ other. absurd (other refl);
+  keeps = box_fell_keeps _ _ _ _ old new before after began then ran r.fell;
   moves = moves_as (expunge_amounts stage.First) (amounts_in old) (amounts_in new) (λ other. due_as_before old new other r.fell.appends.map r.fell.dues);
   replies = (r.fell.stopped, not_missing name uid.0 old r.number r.row r.there);
   left = λ e. absurd (done_more (reply.Refused refusal.Stopped) e);
@@ -130,11 +114,7 @@ known_same : {D : Type 0} → (name : List ℕ) (uid : Uid) (why : Refusal) (how
 known_same name uid why how store history faults runs running missing does = record {
   due = λ other. omega arith;
   does = does;
-  moments = λ lists s. leaves_none history (expunge name uid.0 lists) lists s;
-  settled = λ e lists s. s;
-  stopped = record { 0 = λ e. absurd (running (why_is why refusal.Stopped e)); 1 = λ e. absurd (fall store.stopped e runs) };
-  fault = record { reads = refl; changes = omega arith; rose = λ e. absurd (running (why_is why refusal.Stopped e)) };
-  unfailed = λ n. refl;
+  keeps = idle_keeps (KeepsRest store store) _ _ _ store history faults runs (λ e. running (why_is why refusal.Stopped e)) refl;
   moves = moves_as (expunge_amounts stage.First) (amounts_in store) (amounts_in store) (λ other. refl);
   replies = same_answers name uid why store running missing;
   left = λ e. absurd (done_more (reply.Refused why) e);
@@ -147,16 +127,16 @@ missing_runs why (inr e) f = let k : refusal.NoMessage ≡ refusal.Stopped = sym
 memory_runs : refusal.NoMemory ≡ refusal.Stopped → ⊥
 memory_runs e = cc e
 
-known_refused : {D : Type 0} → (history : D → Option History) (faults : D → Faults) (name : List ℕ) (uid : Uid) (error : NotDone) (old new : StoreValue D) → LogsShowLists → IsStore (history old.disk) old → old.stopped ≡ false
+known_refused : {D : Type 0} → (history : D → Option History) (faults : D → Faults) (name : List ℕ) (uid : Uid) (error : NotDone) (old new : StoreValue D) → IsStore (history old.disk) old → old.stopped ≡ false
     → IsNotRemoved name uid error old new (history old.disk) (history new.disk) (faults old.disk) (faults new.disk)
     → ExpungeKnown name uid stage.First stage.First (progress.Done (reply.Refused (refusal_told error))) (told_as half.Whole (did.Broken half.Whole) error) old new (history old.disk) (history new.disk) (faults old.disk) (faults new.disk)
-known_refused history faults name uid (not_done.Refused why) old new show is ran r =
+known_refused history faults name uid (not_done.Refused why) old new is ran r =
     subst (λ (s : StoreValue _). ExpungeKnown name uid stage.First stage.First (progress.Done (reply.Refused why)) (did.Step half.Whole) old s (history old.disk) (history s.disk) (faults old.disk) (faults s.disk)) (sym r.0)
     (known_same name uid why (did.Step half.Whole) old (history old.disk) (faults old.disk) ran (missing_runs why (missing_is name uid.0 old why r.1)) (inl r.1) (expunge_refused name uid old (history old.disk) (faults old.disk) why ran r.1))
-known_refused history faults name uid not_done.NoMemory old new show is ran r =
+known_refused history faults name uid not_done.NoMemory old new is ran r =
     subst (λ (s : StoreValue _). ExpungeKnown name uid stage.First stage.First (progress.Done (reply.Refused refusal.NoMemory)) did.Quiet old s (history old.disk) (history s.disk) (faults old.disk) (faults s.disk)) (sym r.0)
     (known_same name uid refusal.NoMemory did.Quiet old (history old.disk) (faults old.disk) ran memory_runs (inr (r.1, refl)) (expunge_unremembered name uid old (history old.disk) (faults old.disk) ran))
-known_refused history faults name uid not_done.Stopped old new show is ran r = known_broken name uid old new (history old.disk) (history new.disk) (faults old.disk) (faults new.disk) show is ran r
+known_refused history faults name uid not_done.Stopped old new is ran r = known_broken name uid old new (history old.disk) (history new.disk) (faults old.disk) (faults new.disk) is ran r
 
 -- ---- the last event
 
@@ -168,11 +148,7 @@ known_lowered : {D : Type 0} → (name : List ℕ) (uid : Uid) (owed : MapUid) (
 known_lowered name uid owed old new before after began then ran due t = record {
   due = λ other. omega arith;
   does = expunge_lowered name uid owed old new before after began then ran due t;
-  moments = λ lists s. t.appends.moments lists s;
-  settled = λ runs lists s. t.settled lists s;
-  stopped = record { 0 = λ e. absurd (done_stopped e); 1 = λ e. absurd (fall new.stopped e t.runs) };
-  fault = record { reads = t.appends.reads; changes = t.appends.changes; rose = λ e. absurd (done_stopped e) };
-  unfailed = λ other. t.unfailed;
+  keeps = map_took_keeps _ _ _ _ old new before after began then ran done_stopped t;
   moves = record { due = λ other. lowered_moves (due_at other old) (due_at other new) owed.0 other (lowered_due owed old new other (due other) (t.due other)) };
   replies = tt;
   left = λ e. absurd (done_more reply.Done e);
@@ -183,11 +159,7 @@ known_unlowered : {D : Type 0} → (name : List ℕ) (uid : Uid) (owed : MapUid)
 known_unlowered name uid owed old new before after began then ran due f = record {
   due = λ other. subst (λ (n : ℕ). one_due owed.0 other ≤ n) (sym (due_as_before old new other f.map f.dues)) (due other);
   does = expunge_unlowered name uid owed old new before after began then ran f;
-  moments = λ lists s. f.appends.moments lists s;
-  settled = λ runs lists s. absurd (fall new.stopped f.stopped runs);
-  stopped = record { 0 = λ e. f.stopped; 1 = λ e. refl };
-  fault = record { reads = f.appends.reads; changes = f.appends.changes; rose = λ e. f.rose };
-  unfailed = λ other. absurd (other refl);
+  keeps = map_fell_keeps _ _ old new before after began then ran f;
   moves = moves_as (expunge_amounts (stage.Owing owed)) (amounts_in old) (amounts_in new) (λ other. due_as_before old new other f.map f.dues);
   replies = (refl, f.stopped);
   left = λ e. absurd (done_more (reply.Refused refusal.Stopped) e);
@@ -195,28 +167,28 @@ known_unlowered name uid owed old new before after began then ran due f = record
 
 -- ---- any event
 
-known_by : {D : Type 0} → (history : D → Option History) (faults : D → Faults) (name : List ℕ) (uid : Uid) (now next : ExpungeStage) (answer : Progress) (how : Did) (old new : StoreValue D) → LogsShowLists → IsStore (history old.disk) old → old.stopped ≡ false → AreDueIn old (expunge_amounts now)
+known_by : {D : Type 0} → (history : D → Option History) (faults : D → Faults) (name : List ℕ) (uid : Uid) (now next : ExpungeStage) (answer : Progress) (how : Did) (old new : StoreValue D) → IsStore (history old.disk) old → old.stopped ≡ false → AreDueIn old (expunge_amounts now)
     → ExpungesOn name uid now next answer how old new (history old.disk) (history new.disk) (faults old.disk) (faults new.disk) → ExpungeKnown name uid now next answer how old new (history old.disk) (history new.disk) (faults old.disk) (faults new.disk)
-known_by history faults name uid stage.First (stage.Owing owed) progress.More how old new show is ran due on =
-    subst (λ (h : Did). ExpungeKnown name uid stage.First (stage.Owing owed) progress.More h old new (history old.disk) (history new.disk) (faults old.disk) (faults new.disk)) (sym on.0) (known_removed name uid owed old new (history old.disk) (history new.disk) (faults old.disk) (faults new.disk) show is ran on.1)
-known_by history faults name uid stage.First stage.First (progress.Done (reply.Refused why)) how old new show is ran due on =
+known_by history faults name uid stage.First (stage.Owing owed) progress.More how old new is ran due on =
+    subst (λ (h : Did). ExpungeKnown name uid stage.First (stage.Owing owed) progress.More h old new (history old.disk) (history new.disk) (faults old.disk) (faults new.disk)) (sym on.0) (known_removed name uid owed old new (history old.disk) (history new.disk) (faults old.disk) (faults new.disk) is ran on.1)
+known_by history faults name uid stage.First stage.First (progress.Done (reply.Refused why)) how old new is ran due on =
     subst (λ (h : Did). ExpungeKnown name uid stage.First stage.First (progress.Done (reply.Refused why)) h old new (history old.disk) (history new.disk) (faults old.disk) (faults new.disk)) (sym on.2)
-    (subst (λ (w : Refusal). ExpungeKnown name uid stage.First stage.First (progress.Done (reply.Refused w)) (told_as half.Whole (did.Broken half.Whole) on.0) old new (history old.disk) (history new.disk) (faults old.disk) (faults new.disk)) (sym on.1) (known_refused history faults name uid on.0 old new show is ran on.3))
-known_by history faults name uid (stage.Owing owed) stage.First (progress.Done reply.Done) how old new show is ran due on =
+    (subst (λ (w : Refusal). ExpungeKnown name uid stage.First stage.First (progress.Done (reply.Refused w)) (told_as half.Whole (did.Broken half.Whole) on.0) old new (history old.disk) (history new.disk) (faults old.disk) (faults new.disk)) (sym on.1) (known_refused history faults name uid on.0 old new is ran on.3))
+known_by history faults name uid (stage.Owing owed) stage.First (progress.Done reply.Done) how old new is ran due on =
     subst (λ (h : Did). ExpungeKnown name uid (stage.Owing owed) stage.First (progress.Done reply.Done) h old new (history old.disk) (history new.disk) (faults old.disk) (faults new.disk)) (sym on.0) (known_lowered name uid owed old new (history old.disk) (history new.disk) (faults old.disk) (faults new.disk) ran due on.1)
-known_by history faults name uid (stage.Owing owed) (stage.Owing still) (progress.Done (reply.Refused why)) how old new show is ran due on =
+known_by history faults name uid (stage.Owing owed) (stage.Owing still) (progress.Done (reply.Refused why)) how old new is ran due on =
     subst (λ (h : Did). ExpungeKnown name uid (stage.Owing owed) (stage.Owing still) (progress.Done (reply.Refused why)) h old new (history old.disk) (history new.disk) (faults old.disk) (faults new.disk)) (sym on.2)
     (subst (λ (w : Refusal). ExpungeKnown name uid (stage.Owing owed) (stage.Owing still) (progress.Done (reply.Refused w)) did.Failed old new (history old.disk) (history new.disk) (faults old.disk) (faults new.disk)) (sym on.1)
     (subst (λ (s : MapUid). ExpungeKnown name uid (stage.Owing owed) (stage.Owing s) (progress.Done (reply.Refused refusal.Stopped)) did.Failed old new (history old.disk) (history new.disk) (faults old.disk) (faults new.disk)) (sym on.0) (known_unlowered name uid owed old new (history old.disk) (history new.disk) (faults old.disk) (faults new.disk) ran due on.3)))
-known_by history faults name uid now next answer how old new show is ran due on = absurd on
+known_by history faults name uid now next answer how old new is ran due on = absurd on
 
 -- Of a task that is seen as this.
-pub expunge_known : {D : Type 0} → (history : D → Option History) (faults : D → Faults) (task seen : ExpungeValue) (now next : ExpungeStage) (answer : Progress) (how : Did) (old new : StoreValue D) → task ≡ seen → task.stage ≡ now → LogsShowLists → IsStore (history old.disk) old → old.stopped ≡ false
+pub expunge_known : {D : Type 0} → (history : D → Option History) (faults : D → Faults) (task seen : ExpungeValue) (now next : ExpungeStage) (answer : Progress) (how : Did) (old new : StoreValue D) → task ≡ seen → task.stage ≡ now → IsStore (history old.disk) old → old.stopped ≡ false
     → AreDueIn old (expunge_amounts seen.stage) → ExpungesOn task.name task.uid now next answer how old new (history old.disk) (history new.disk) (faults old.disk) (faults new.disk)
     → ExpungeKnown seen.name seen.uid seen.stage next answer how old new (history old.disk) (history new.disk) (faults old.disk) (faults new.disk)
-expunge_known history faults task seen now next answer how old new same at show is ran due on =
+expunge_known history faults task seen now next answer how old new same at is ran due on =
     subst (λ (v : ExpungeValue). ExpungeKnown v.name v.uid v.stage next answer how old new (history old.disk) (history new.disk) (faults old.disk) (faults new.disk)) same
-    (subst (λ (s : ExpungeStage). ExpungeKnown task.name task.uid s next answer how old new (history old.disk) (history new.disk) (faults old.disk) (faults new.disk)) (sym at) (known_by history faults task.name task.uid now next answer how old new show is ran (subst (λ (s : ExpungeStage). AreDueIn old (expunge_amounts s)) (sym (ap (λ (v : ExpungeValue). v.stage) same) ∙ at) due) on))
+    (subst (λ (s : ExpungeStage). ExpungeKnown task.name task.uid s next answer how old new (history old.disk) (history new.disk) (faults old.disk) (faults new.disk)) (sym at) (known_by history faults task.name task.uid now next answer how old new is ran (subst (λ (s : ExpungeStage). AreDueIn old (expunge_amounts s)) (sym (ap (λ (v : ExpungeValue). v.stage) same) ∙ at) due) on))
 
 -- Of one whose store was stopped.
 pub stopped_known : {D : Type 0} → (task seen : ExpungeValue) (store : StoreValue D) (history : Option History) (faults : Faults) → task ≡ seen → store.stopped ≡ true → ExpungeClause seen.name seen.uid seen.stage task.stage store store history history faults faults did.Quiet (Some (reply.Refused refusal.Stopped))

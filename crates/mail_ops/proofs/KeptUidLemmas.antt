@@ -15,8 +15,8 @@ use Rattle.model_store.specs.Listing.{meaning_named, meaning_numbered}
 use Rattle.store_core.specs.Keeping.{KeepsUid, KeepsUids}
 use Rattle.store_core.specs.Value.{StoreValue, indexes_of, list_named, list_numbered}
 use Rattle.mail_ops.specs.Appends.{MapTook, MapFell}
-use Rattle.mail_ops.specs.Copying.{added_copy, AddsRow, FellAdding}
-use Rattle.mail_ops.specs.Expunging.{RemovesRow, FellRemoving}
+use Rattle.mail_ops.specs.Copying.{added_copy, AddsRow}
+use Rattle.mail_ops.specs.Expunging.{RemovesRow}
 use Rattle.mail_ops.proofs.KeptRowLemmas.{KeepsRows, WasListed, addition_keeps, flagging_keeps, removal_keeps}
 
 some_meaning : (a b : BoxMeaning) → Some a ≡ Some b → a ≡ b
@@ -98,14 +98,8 @@ addition_left name uid target held given old new before after began now r =
     entry_keeps r.number (added_copy given r.row) r.at.m old new r.took.appends.map r.took.taken r.at.to.numbered
     (addition_keeps given r.row.flags r.row.time r.row.size (record { 0 = r.row.map_uid }) (record { 0 = r.row.guid }) r.at.m r.at.next_is)
 
-pub fell_adding_keeps : {D : Type 0} → (name : List ℕ) (uid : Uid) (target : List ℕ) (held : MapUid) (old new : StoreValue D) (before after : Option History) (began now : Faults) → FellAdding name uid target held old new before after began now → KeepsUids old new
-fell_adding_keeps name uid target held old new before after began now r = logs_keep old new (ap (λ (m : MapMeaning). m.boxes) r.fell.appends.map) r.fell.indexes
-
 pub removal_left : {D : Type 0} → (name : List ℕ) (uid : Uid) (owed : MapUid) (old new : StoreValue D) (before after : Option History) (began now : Faults) → RemovesRow name uid owed old new before after began now → KeepsUids old new
 removal_left name uid owed old new before after began now r = entry_keeps r.number (box_entry.R uid) r.there.m old new r.took.appends.map r.took.taken r.there.box.numbered (removal_keeps uid r.there.m)
-
-pub fell_removing_keeps : {D : Type 0} → (name : List ℕ) (uid : Uid) (old new : StoreValue D) (before after : Option History) (began now : Faults) → FellRemoving name uid old new before after began now → KeepsUids old new
-fell_removing_keeps name uid old new before after began now r = logs_keep old new (ap (λ (m : MapMeaning). m.boxes) r.fell.appends.map) r.fell.indexes
 
 pub flags_left : {D : Type 0} → (number : ℕ) (uid : Uid) (flags : ℕ) (m : BoxMeaning) (old new : StoreValue D) → new.map ≡ old.map → indexes_of new.boxes ≡ meanings_by number (box_entry.F uid flags) old.map.boxes (indexes_of old.boxes) → list_numbered old number ≡ Some m → KeepsUids old new
 flags_left number uid flags m old new map_is taken numbered = entry_keeps number (box_entry.F uid flags) m old new map_is taken numbered (flagging_keeps uid flags m)

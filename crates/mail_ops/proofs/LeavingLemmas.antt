@@ -45,7 +45,7 @@ use Rattle.mail_ops.specs.declared.expunging.ExpungeStage.TheVariants as expunge
 use Rattle.mail_ops.specs.declared.moving.MoveStage.{MoveStage}
 use Rattle.mail_ops.specs.declared.moving.MoveStage.TheVariants as move_stage
 use Rattle.mail_ops.proofs.EventLemmas.{fall}
-use Rattle.mail_ops.proofs.KeptMailLemmas.{same_mail}
+use Rattle.mail_ops.proofs.OnlyLogsLemmas.{same_mail}
 use Rattle.mail_ops.proofs.KeptUidLemmas.{took_keeps, addition_left, removal_left}
 use Rattle.mail_ops.proofs.MessageLemmas.{record_of_row}
 use Rattle.mail_ops.proofs.UnlistedLemmas.{addition_lists, entry_refs, flag_lists, listed_counts, removal_lists}
@@ -74,9 +74,6 @@ none_more a b l e = omega (arith, l, e)
 due_other : (t : Bool) (old : ℕ) → (t ≡ true → ⊥) → old + cond t 1 0 ≡ old
 due_other true old other = absurd (other refl)
 due_other false old other = omega arith
-
-due_less : (new old mine : ℕ) → new + mine ≡ old → mine ≡ 0 → new ≡ old
-due_less new old mine e z = omega (arith, e, z)
 
 -- the mailboxes and what is due of it stay
 same_unlisted : {D : Type 0} → (mine : Claims) (old new : StoreValue D) → indexes_of new.boxes ≡ indexes_of old.boxes → ((uid : ℕ) → mine (Due uid) ≡ 0 → (rec : MapRecord) → record_at old.map uid ≡ Some rec → references_to old rec.guid ≡ 0 → due_at uid new ≡ due_at uid old) → LeavesUnlisted mine old new

@@ -12,8 +12,6 @@ pub mod ExpungeEventLemmas
 pub mod ExpungeStepLemmas
 pub mod FlagEventLemmas
 pub mod FlagListLemmas
-pub mod KeptMailLemmas
-pub mod KeptRestLemmas
 pub mod KeptRowLemmas
 pub mod KeptUidLemmas
 pub mod LeavingLemmas
@@ -33,10 +31,10 @@ pub mod MoveKnownLemmas
 pub mod MovePartLemmas
 pub mod MoveStepLemmas
 pub mod NamedListLemmas
+pub mod OnlyLogsLemmas
 pub mod ReadyLemmas
 pub mod RemovalLemmas
 pub mod RowLemmas
-pub mod SettledFlagLemmas
 pub mod ShownEntryLemmas
 pub mod StableLemmas
 pub mod StageLemmas

@@ -12,7 +12,7 @@ use Rattle.mdbox_base.specs.declared.progress.Progress.{Progress}
 use Rattle.mdbox_base.specs.declared.progress.Progress.TheVariants as progress
 use Rattle.mdbox_base.specs.declared.replies.Reply.{Reply}
 use Rattle.mdbox_base.specs.declared.replies.Reply.TheVariants as reply
-use Rattle.model_meaning.specs.BoxMeaning.{LogRow, BoxMeaning, box_meaning}
+use Rattle.model_meaning.specs.BoxMeaning.{BoxMeaning, box_meaning}
 use Rattle.model_meaning.specs.MapMeaning.{MapMeaning}
 use Rattle.model_meaning.proofs.AppliedLemmas.{records_by_mailbox}
 use Rattle.model_store.specs.Listing.{refs_in}
@@ -100,9 +100,6 @@ log_less number old new left there other = by_test (number == other) refl
         omega (arith, same, own)
 
 -- ---- mailboxes
-
-has_guid_of : List ℕ → LogRow → Bool
-has_guid_of guid row = bytes_eq row.guid guid
 
 -- one more that lists nothing
 refs_of_new : (ms : List BoxMeaning) (guid : List ℕ) → refs_in (ms ++ box_meaning [] ∷ []) guid ≡ refs_in ms guid

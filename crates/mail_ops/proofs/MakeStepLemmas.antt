@@ -1,10 +1,8 @@
 -- What the step of a make says, event by event.
-use Rattle.std.proofs.Common.{◌≡◌, ◌≢◌, ◌≤◌, ◌<◌, ◌+◌, ◌↔◌, ℕ, Bool, true, false, cond, List, Option, Some, None, refl, sym, ◌∙◌, ap, subst, arith, inl, inr}
+use Rattle.std.proofs.Common.{◌≡◌, ◌≤◌, ◌<◌, ◌+◌, ℕ, Bool, true, false, cond, List, Option, Some, None, refl, sym, ◌∙◌, ap, subst, arith, inl, inr}
 use Rattle.std.specs.Prelude.{◌⊎◌, nat_lt}
 use Rattle.std.proofs.lemmas.Grind.{common_steps}
-use Rattle.disk_model.specs.Disk.{History, Faults, Files}
-use Rattle.disk_model.specs.FaultCounts.{NoFault, ChangeFaultCounted}
-use Rattle.disk_model.proofs.MomentLemmas.{each_image-map}
+use Rattle.disk_model.specs.Disk.{History, Faults}
 use Rattle.mdbox_base.specs.Words.{IsName, IsNumber}
 use Rattle.mdbox_base.specs.declared.ids.BoxNo.{BoxNo}
 use Rattle.mdbox_base.specs.declared.progress.Did.{Did}
@@ -16,11 +14,7 @@ use Rattle.mdbox_base.specs.declared.replies.Refusal.TheVariants as refusal
 use Rattle.mdbox_base.specs.declared.replies.Reply.{Reply}
 use Rattle.mdbox_base.specs.declared.replies.Reply.TheVariants as reply
 use Rattle.mdbox_base.specs.declared.script.Half.TheVariants as half
-use Rattle.model_kept.specs.Kept.{MailIsKept}
 use Rattle.model_lists.specs.Lists.{Lists}
-use Rattle.model_meaning.specs.MapMeaning.{MapMeaning}
-use Rattle.model_store.specs.Safe.{Safe}
-use Rattle.model_store.specs.Settled.{IsSettledFor, Leaves}
 use Rattle.list_machine.specs.Machine.{is_step}
 use Rattle.store_core.specs.Dues.{Moves, no_amounts, amounts_in}
 use Rattle.store_core.specs.Keeping.{KeepsMail, KeepsUids}
@@ -29,18 +23,16 @@ use Rattle.store_core.specs.Running.{IsStore}
 use Rattle.store_core.specs.Value.{StoreValue, indexes_of}
 use Rattle.store_core.proofs.DueLemmas.{moves_as}
 use Rattle.task_steps.specs.Step.{ended_by}
-use Rattle.task_steps.proofs.OneEventLemmas.{leaves_none}
 use Rattle.mail_ops.specs.Event.{refusal_told, told_as}
-use Rattle.mail_ops.specs.Making.{MakeValue, naming_refusal, making_refusal, IsReadyToMake, KeepsAllButLogs, make_left, make_lists, lists_by_make, with_drawn_box, NamesLog, RemovesLog, IsLogNotMade, IsStoppedSo, MakeAnswers, HasChangedDisk, FellChanging, same_lists, with_mailbox, MadeLogSo, FellIfStopped, CanBeNamed, MakesOn}
+use Rattle.mail_ops.specs.Making.{MakeValue, naming_refusal, making_refusal, IsReadyToMake, KeepsAllButLogs, make_left, with_drawn_box, NamesLog, RemovesLog, IsLogNotMade, IsStoppedSo, MakeAnswers, HasChangedDisk, FellChanging, same_lists, with_mailbox, MadeLogSo, FellIfStopped, CanBeNamed, MakesOn}
 use Rattle.mail_ops.specs.declared.event.NotDone.{NotDone}
 use Rattle.mail_ops.specs.declared.event.NotDone.TheVariants as not_done
 use Rattle.mail_ops.specs.declared.making.MakeStage.{MakeStage}
 use Rattle.mail_ops.specs.declared.making.MakeStage.TheVariants as stage
-use Rattle.mail_ops.proofs.EventLemmas.{fall}
 use Rattle.task_claims.specs.Leaving.{SyncsMail}
-use Rattle.mail_ops.specs.SparedMail.{SparesMail}
+use Rattle.mail_ops.specs.OnlyLogs.{ChangesOnlyLogs}
 use Rattle.store_seen.proofs.SeeingLemmas.{due_as_before}
-use Rattle.mail_ops.proofs.KeptMailLemmas.{fell_spares, mail_named, spared_none, took_spares}
+use Rattle.mail_ops.proofs.OnlyLogsLemmas.{done_keeps, fell_keeps, idle_keeps, mail_named, spared_none, took_spares}
 use Rattle.mail_ops.proofs.KeptUidLemmas.{logs_keep, same_keeps}
 use Rattle.mail_ops.proofs.MakeCheckLemmas.{naming_steps, making_steps}
 use Rattle.mail_ops.proofs.MakeEventLemmas.{MakeClause, first_stopped, naming_stopped, making_refused, making_unremembered, making_fell, making_done, naming_refused, naming_unremembered, removing_fell, naming_overtaken}
@@ -51,15 +43,9 @@ use Rattle.mail_ops.proofs.MakeNamedLemmas.{IsNamedSo, named_due, naming_done, n
 pub record MakeKnown {D : Type 0} (name : List ℕ) (now next : MakeStage) (answer : Progress) (how : Did) (old new : StoreValue D) (before after : Option History) (began then : Faults) : Type 0 where
   pub ready : IsReadyToMake next new
   pub does : MakeClause name now next old new before after began then how (ended_by answer)
-  pub moments : (lists : Lists) → IsSettledFor lists before → Leaves lists (make_lists name now lists) before after
-  pub settled : new.stopped ≡ false → (lists : Lists) → IsSettledFor lists before → IsSettledFor (lists_by_make name now answer lists) after
-  pub stopped : (answer ≡ progress.Done (reply.Refused refusal.Stopped)) ↔ (new.stopped ≡ true)
-  pub fault : ChangeFaultCounted (answer ≡ progress.Done (reply.Refused refusal.Stopped)) began then
-  pub unfailed : answer ≢ progress.Done (reply.Refused refusal.Stopped) → NoFault began then
+  pub keeps : ChangesOnlyLogs (KeepsAllButLogs old new) now next answer old new before after began then
   pub moves : Moves no_amounts no_amounts (amounts_in old) (amounts_in new)
-  pub keeps : KeepsUids old new
-  pub rest : KeepsAllButLogs old new
-  pub mail : SparesMail (new.stopped ≡ old.stopped) before after
+  pub uids : KeepsUids old new
   pub replies : MakeAnswers name now old new before after next answer
   pub left : answer ≡ progress.More → make_left next new < make_left now old
 
@@ -91,23 +77,6 @@ step_runs why s e = let k : true ≡ false = sym s ∙ ap is_step e in cc k
 memory_runs : refusal.NoMemory ≡ refusal.Stopped → ⊥
 memory_runs e = cc e
 
--- ---- what a crash leaves
-
--- safe for the same lists, so for these or others
-leaves_also : (lists later : Lists) (before after : Option History) → Leaves lists lists before after → Leaves lists later before after
-leaves_also lists later before after l = each_image-map (λ _ image. Safe image lists ⊎ Safe image lists) (λ _ image. Safe image lists ⊎ Safe image later) before after (λ m image s. either image s) l
-  where
-    either : (image : Files) → Safe image lists ⊎ Safe image lists → Safe image lists ⊎ Safe image later
-    either image (inl s) = inl s
-    either image (inr s) = inl s
-
-leaves_make : (name : List ℕ) (now : MakeStage) (lists : Lists) (before after : Option History) → Leaves lists lists before after → Leaves lists (make_lists name now lists) before after
-leaves_make name now lists before after l = leaves_also lists (make_lists name now lists) before after l
-
--- what a refusal leaves of the lists
-refused_lists : (name : List ℕ) (now : MakeStage) (why : Refusal) (lists : Lists) (after : Option History) → IsSettledFor lists after → IsSettledFor (lists_by_make name now (progress.Done (reply.Refused why)) lists) after
-refused_lists name now why lists after s = s
-
 -- ---- the first event
 
 high_number : (highest drawn number : ℕ) → highest ≤ drawn → number ≡ drawn + 1 → nat_lt highest number ≡ true
@@ -122,15 +91,9 @@ known_made : {D : Type 0} → (name : List ℕ) (number : BoxNo) (old new : Stor
 known_made name number old new before after began then b m = record {
   ready = made_there number old new m.log;
   does = making_done name number old new before after began then b.runs m;
-  moments = λ lists s. m.disk.change.moments lists s;
-  settled = λ runs lists s. m.disk.settled lists s;
-  stopped = record { 0 = λ e. absurd (more_is (reply.Refused refusal.Stopped) e); 1 = λ e. absurd (fall new.stopped e (ap (λ (s : StoreValue _). s.stopped) m.log.same ∙ b.runs)) };
-  fault = record { reads = m.disk.change.reads; changes = m.disk.change.changes; rose = λ e. absurd (more_is (reply.Refused refusal.Stopped) e) };
-  unfailed = λ other. m.disk.unfailed;
+  keeps = done_keeps (KeepsAllButLogs old new) _ _ _ old new before after began then b.runs (ap (λ (s : StoreValue _). s.stopped) m.log.same ∙ b.runs) (more_is (reply.Refused refusal.Stopped)) m.disk.unfailed (rest_of m.log.same) (record { stays = m.disk.change.stays; left = λ same. mail_named number.0 before after m.others });
   moves = moves_as no_amounts (amounts_in old) (amounts_in new) (λ uid. due_as_before old new uid map_is (ap (λ (s : StoreValue _). s.dues) m.log.same));
-  keeps = logs_keep old new (ap (λ (s : StoreValue _). s.map.boxes) m.log.same) (ap (λ (s : StoreValue _). indexes_of s.boxes) m.log.same);
-  rest = rest_of m.log.same;
-  mail = record { stays = m.disk.change.stays; left = λ same. mail_named number.0 before after m.others };
+  uids = logs_keep old new (ap (λ (s : StoreValue _). s.map.boxes) m.log.same) (ap (λ (s : StoreValue _). indexes_of s.boxes) m.log.same);
   replies = (m.free, m.log, m.others);
   left = λ e. one_left (nat_lt new.map.highest.mailbox number.0) (ap (λ (s : StoreValue _). nat_lt s.map.highest.mailbox number.0) m.log.same ∙ high_number old.map.highest.mailbox old.drawn.mailbox number.0 b.store_is.drawn.mailbox m.log.next);
 }
@@ -147,15 +110,9 @@ known_refused : {D : Type 0} → (name : List ℕ) (why : Refusal) (store : Stor
 known_refused name why store history faults b refuses = record {
   ready = tt;
   does = making_refused name stage.First store history faults why b.runs refuses;
-  moments = λ lists s. leaves_none history lists lists s;
-  settled = λ runs lists s. s;
-  stopped = record { 0 = λ e. absurd (step_runs why (making_steps name store why refuses) (why_is why refusal.Stopped e)); 1 = λ e. absurd (fall store.stopped e b.runs) };
-  fault = record { reads = refl; changes = omega arith; rose = λ e. absurd (step_runs why (making_steps name store why refuses) (why_is why refusal.Stopped e)) };
-  unfailed = λ other. refl;
+  keeps = idle_keeps (KeepsAllButLogs store store) _ _ _ store history faults b.runs (λ e. step_runs why (making_steps name store why refuses) (why_is why refusal.Stopped e)) refl;
   moves = moves_as no_amounts (amounts_in store) (amounts_in store) (λ uid. refl);
-  keeps = same_keeps store store refl;
-  rest = refl;
-  mail = spared_none _ history;
+  uids = same_keeps store store refl;
   replies = (not_done.Refused why, refl, (refl, refuses));
   left = λ e. absurd (done_more (reply.Refused why) e);
 }
@@ -166,15 +123,9 @@ known_unremembered : {D : Type 0} → (name : List ℕ) (store : StoreValue D) (
 known_unremembered name store history faults b free = record {
   ready = tt;
   does = making_unremembered name stage.First store history faults b.runs;
-  moments = λ lists s. leaves_none history lists lists s;
-  settled = λ runs lists s. s;
-  stopped = record { 0 = λ e. absurd (memory_runs (why_is refusal.NoMemory refusal.Stopped e)); 1 = λ e. absurd (fall store.stopped e b.runs) };
-  fault = record { reads = refl; changes = omega arith; rose = λ e. absurd (memory_runs (why_is refusal.NoMemory refusal.Stopped e)) };
-  unfailed = λ other. refl;
+  keeps = done_keeps (KeepsAllButLogs store (with_drawn_box (store.drawn.mailbox + 1) store)) _ _ _ store (with_drawn_box (store.drawn.mailbox + 1) store) history history faults faults b.runs b.runs (λ e. memory_runs (why_is refusal.NoMemory refusal.Stopped e)) refl refl (spared_none (store.stopped ≡ store.stopped) history);
   moves = moves_as no_amounts (amounts_in store) (amounts_in store) (λ uid. refl);
-  keeps = logs_keep store (with_drawn_box (store.drawn.mailbox + 1) store) refl refl;
-  rest = refl;
-  mail = spared_none _ history;
+  uids = logs_keep store (with_drawn_box (store.drawn.mailbox + 1) store) refl refl;
   replies = (not_done.NoMemory, refl, (refl, free));
   left = λ e. absurd (done_more (reply.Refused refusal.NoMemory) e);
 }
@@ -185,15 +136,9 @@ known_fell : {D : Type 0} → (name : List ℕ) (old new : StoreValue D) (before
 known_fell name old new before after began then b n f = record {
   ready = tt;
   does = making_fell name stage.First old new before after began then b.runs n.0 f;
-  moments = λ lists s. f.change.moments lists s;
-  settled = λ runs lists s. absurd (fall new.stopped stops runs);
-  stopped = record { 0 = λ e. stops; 1 = λ e. refl };
-  fault = record { reads = f.change.reads; changes = f.change.changes; rose = λ e. f.rose };
-  unfailed = λ other. absurd (other refl);
+  keeps = fell_keeps (KeepsAllButLogs old new) _ _ old new before after began then b.runs stops f.change.reads f.change.changes f.rose (rest_of n.0) f.change.stays;
   moves = moves_as no_amounts (amounts_in old) (amounts_in new) (λ uid. due_as_before old new uid (ap (λ (s : StoreValue _). s.map) n.0) (ap (λ (s : StoreValue _). s.dues) n.0));
-  keeps = logs_keep old new (ap (λ (s : StoreValue _). s.map.boxes) n.0) (ap (λ (s : StoreValue _). indexes_of s.boxes) n.0);
-  rest = rest_of n.0;
-  mail = fell_spares old new before after b.runs stops f.change.stays;
+  uids = logs_keep old new (ap (λ (s : StoreValue _). s.map.boxes) n.0) (ap (λ (s : StoreValue _). indexes_of s.boxes) n.0);
   replies = (not_done.Stopped, refl, n);
   left = λ e. absurd (done_more (reply.Refused refusal.Stopped) e);
 }
@@ -225,15 +170,9 @@ known_named : {D : Type 0} → (name : List ℕ) (number : BoxNo) (old new : Sto
 known_named name number old new before after began then b can n mail d = record {
   ready = tt;
   does = naming_done name number stage.First old new before after began then b.store_is b.runs (named_so name number old before b can) n d;
-  moments = λ lists s. d.change.moments lists s;
-  settled = λ runs lists s. d.settled lists s;
-  stopped = record { 0 = λ e. absurd (made_stopped e); 1 = λ e. absurd (fall new.stopped e (ap (λ (s : StoreValue _). s.stopped) n.same ∙ b.runs)) };
-  fault = record { reads = d.change.reads; changes = d.change.changes; rose = λ e. absurd (made_stopped e) };
-  unfailed = λ other. d.unfailed;
+  keeps = done_keeps (KeepsAllButLogs old new) _ _ _ old new before after began then b.runs (ap (λ (s : StoreValue _). s.stopped) n.same ∙ b.runs) made_stopped d.unfailed (rest_of n.same) (took_spares (new.stopped ≡ old.stopped) before after d.change.stays mail);
   moves = moves_as no_amounts (amounts_in old) (amounts_in new) (λ uid. named_due old new number name uid n);
-  keeps = naming_keeps number name old new n;
-  rest = rest_of n.same;
-  mail = took_spares _ before after d.change.stays mail;
+  uids = naming_keeps number name old new n;
   replies = (can.free, can.above, n, mail);
   left = λ e. absurd (done_more reply.Done e);
 }
@@ -244,7 +183,7 @@ known_named name number old new before after began then b can n mail d = record 
 -- the log was removed: what every answer says
 pub record RemovedKnown {D : Type 0} (now : MakeStage) (old new : StoreValue D) (before after : Option History) : Type 0 where
   pub moves : Moves no_amounts no_amounts (amounts_in old) (amounts_in new)
-  pub keeps : KeepsUids old new
+  pub uids : KeepsUids old new
   pub rest : KeepsAllButLogs old new
   pub mail : SyncsMail before after
   pub runs : new.stopped ≡ old.stopped
@@ -252,7 +191,7 @@ pub record RemovedKnown {D : Type 0} (now : MakeStage) (old new : StoreValue D) 
 removed_known : {D : Type 0} → (number : BoxNo) (old new : StoreValue D) (before after : Option History) (began then : Faults) → RemovesLog number.0 old new before after → HasChangedDisk same_lists before after began then → RemovedKnown (stage.Naming number) old new before after
 removed_known number old new before after began then r d = record {
   moves = moves_as no_amounts (amounts_in old) (amounts_in new) (λ uid. due_as_before old new uid map_is (ap (λ (s : StoreValue _). s.dues) r.same));
-  keeps = logs_keep old new (ap (λ (s : StoreValue _). s.map.boxes) r.same) (ap (λ (s : StoreValue _). indexes_of s.boxes) r.same);
+  uids = logs_keep old new (ap (λ (s : StoreValue _). s.map.boxes) r.same) (ap (λ (s : StoreValue _). indexes_of s.boxes) r.same);
   rest = rest_of r.same;
   mail = mail_named number.0 before after r.others;
   runs = ap (λ (s : StoreValue _). s.stopped) r.same;
@@ -272,15 +211,9 @@ known_removed name number why how old new before after began then b r d running 
     let k = removed_known number old new before after began then r d in record {
       ready = tt;
       does = does;
-      moments = λ lists s. leaves_make name (stage.Naming number) lists before after (d.change.moments lists s);
-      settled = λ runs lists s. refused_lists name (stage.Naming number) why lists after (d.settled lists s);
-      stopped = record { 0 = λ e. absurd (running (why_is why refusal.Stopped e)); 1 = λ e. absurd (fall new.stopped e (k.runs ∙ b.runs)) };
-      fault = record { reads = d.change.reads; changes = d.change.changes; rose = λ e. absurd (running (why_is why refusal.Stopped e)) };
-      unfailed = λ other. d.unfailed;
+      keeps = done_keeps (KeepsAllButLogs old new) _ _ _ old new before after began then b.runs (k.runs ∙ b.runs) (λ e. running (why_is why refusal.Stopped e)) d.unfailed k.rest (record { stays = d.change.stays; left = λ same. k.mail });
       moves = k.moves;
-      keeps = k.keeps;
-      rest = k.rest;
-      mail = record { stays = d.change.stays; left = λ same. k.mail };
+      uids = k.uids;
       replies = (r, cause);
       left = λ e. absurd (done_more (reply.Refused why) e);
     }
@@ -299,35 +232,23 @@ known_overtaken name number old new before after began then b free behind_it r d
     let k = removed_known number old new before after began then r d in record {
       ready = tt;
       does = naming_overtaken name number old new before after began then b.runs free behind_it r d;
-      moments = λ lists s. leaves_make name (stage.Naming number) lists before after (d.change.moments lists s);
-      settled = λ runs lists s. d.settled lists s;
-      stopped = record { 0 = λ e. absurd (more_is (reply.Refused refusal.Stopped) e); 1 = λ e. absurd (fall new.stopped e (k.runs ∙ b.runs)) };
-      fault = record { reads = d.change.reads; changes = d.change.changes; rose = λ e. absurd (more_is (reply.Refused refusal.Stopped) e) };
-      unfailed = λ other. d.unfailed;
+      keeps = done_keeps (KeepsAllButLogs old new) _ _ _ old new before after began then b.runs (k.runs ∙ b.runs) (more_is (reply.Refused refusal.Stopped)) d.unfailed k.rest (record { stays = d.change.stays; left = λ same. k.mail });
       moves = k.moves;
-      keeps = k.keeps;
-      rest = k.rest;
-      mail = record { stays = d.change.stays; left = λ same. k.mail };
+      uids = k.uids;
       replies = (free, behind_it, r);
       left = λ e. two_left (nat_lt old.map.highest.mailbox number.0) (not_above old.map.highest.mailbox number.0 behind_it);
     }
 
 -- a change of the disk failed
-known_stopped : {D : Type 0} → (name : List ℕ) (number : BoxNo) (how : Did) (old new : StoreValue D) (before after : Option History) (began then : Faults) → MakeBegins name (stage.Naming number) old before → IsStoppedSo old new → ((lists : Lists) → IsSettledFor lists before → Leaves lists (make_lists name (stage.Naming number) lists) before after)
-    → ((m : MapMeaning) → MailIsKept m before after) → ChangeFaultCounted (progress.Done (reply.Refused refusal.Stopped) ≡ progress.Done (reply.Refused refusal.Stopped)) began then → MakeClause name (stage.Naming number) (stage.Naming number) old new before after began then how (Some (reply.Refused refusal.Stopped))
+known_stopped : {D : Type 0} → (name : List ℕ) (number : BoxNo) (how : Did) (left : Lists → Lists) (old new : StoreValue D) (before after : Option History) (began then : Faults) → MakeBegins name (stage.Naming number) old before → IsStoppedSo old new → FellChanging left before after began then
+    → MakeClause name (stage.Naming number) (stage.Naming number) old new before after began then how (Some (reply.Refused refusal.Stopped))
     → MakeKnown name (stage.Naming number) (stage.Naming number) (progress.Done (reply.Refused refusal.Stopped)) how old new before after began then
-known_stopped name number how old new before after began then b same moments stays fault does = record {
+known_stopped name number how left old new before after began then b same f does = record {
   ready = ap (λ (s : StoreValue _). has_made_log number.0 s) same ∙ b.ready;
   does = does;
-  moments = moments;
-  settled = λ runs lists s. absurd (fall new.stopped stops runs);
-  stopped = record { 0 = λ e. stops; 1 = λ e. refl };
-  fault = fault;
-  unfailed = λ other. absurd (other refl);
+  keeps = fell_keeps (KeepsAllButLogs old new) _ _ old new before after began then b.runs stops f.change.reads f.change.changes f.rose (rest_of same) f.change.stays;
   moves = moves_as no_amounts (amounts_in old) (amounts_in new) (λ uid. due_as_before old new uid (ap (λ (s : StoreValue _). s.map) same) (ap (λ (s : StoreValue _). s.dues) same));
-  keeps = logs_keep old new (ap (λ (s : StoreValue _). s.map.boxes) same) (ap (λ (s : StoreValue _). indexes_of s.boxes) same);
-  rest = rest_of same;
-  mail = fell_spares old new before after b.runs stops stays;
+  uids = logs_keep old new (ap (λ (s : StoreValue _). s.map.boxes) same) (ap (λ (s : StoreValue _). indexes_of s.boxes) same);
   replies = (refl, refl, same);
   left = λ e. absurd (done_more (reply.Refused refusal.Stopped) e);
 }
@@ -337,9 +258,6 @@ known_stopped name number how old new before after began then b same moments sta
 
     rest_of : IsStoppedSo old new → KeepsAllButLogs old new
     rest_of is = subst (λ (s : StoreValue _). s ≡ record old { disk = s.disk; map_log = s.map_log; map = s.map; boxes = s.boxes; made = s.made; drawn = s.drawn; stopped = s.stopped }) (sym is) refl
-
-fell_fault : (left : Lists → Lists) (before after : Option History) (began then : Faults) → FellChanging left before after began then → ChangeFaultCounted (progress.Done (reply.Refused refusal.Stopped) ≡ progress.Done (reply.Refused refusal.Stopped)) began then
-fell_fault left before after began then f = record { reads = f.change.reads; changes = f.change.changes; rose = λ e. f.rose }
 
 -- ---- any event
 
@@ -384,11 +302,11 @@ known_by history faults name (stage.Naming number) (stage.Naming still) (progres
         → KnownBy history faults name (stage.Naming number) (stage.Naming number) (progress.Done (reply.Refused refusal.Stopped)) how old new
     by_cause (inl e) =
         subst (λ (h : Did). KnownBy history faults name (stage.Naming number) (stage.Naming number) (progress.Done (reply.Refused refusal.Stopped)) h old new) (sym e.0)
-        (known_stopped name number did.Failed old new before after (faults old.disk) (faults new.disk) b on.2 (λ lists s. leaves_make name (stage.Naming number) lists before after (e.1.change.moments lists s)) e.1.change.stays (fell_fault same_lists before after (faults old.disk) (faults new.disk) e.1)
+        (known_stopped name number did.Failed same_lists old new before after (faults old.disk) (faults new.disk) b on.2 e.1
         (removing_fell name number (stage.Naming number) old new before after (faults old.disk) (faults new.disk) b.runs on.2 e.1))
     by_cause (inr e) =
         subst (λ (h : Did). KnownBy history faults name (stage.Naming number) (stage.Naming number) (progress.Done (reply.Refused refusal.Stopped)) h old new) (sym e.0)
-        (known_stopped name number (did.Broken half.Whole) old new before after (faults old.disk) (faults new.disk) b on.2 (λ lists s. e.2.change.moments lists s) e.2.change.stays (fell_fault (with_mailbox number.0 name) before after (faults old.disk) (faults new.disk) e.2)
+        (known_stopped name number (did.Broken half.Whole) (with_mailbox number.0 name) old new before after (faults old.disk) (faults new.disk) b on.2 e.2
         (naming_fell name number (stage.Naming number) old new before after (faults old.disk) (faults new.disk) b.store_is b.runs (named_so name number old before b e.1) on.2 e.2))
 known_by history faults name now next answer how old new b on = absurd on
 

@@ -1,9 +1,7 @@
 -- What the step of a move says of each event.
-use Rattle.std.proofs.Common.{◌≡◌, ◌≢◌, ◌≤◌, ◌<◌, ◌+◌, ◌↔◌, ℕ, Bool, true, false, List, [], Option, Some, None, refl, sym, ◌∙◌, ap, subst, arith, inl, inr}
+use Rattle.std.proofs.Common.{◌≡◌, ◌≤◌, ◌<◌, ◌+◌, ℕ, Bool, true, false, List, Option, Some, None, refl, sym, ◌∙◌, ap, subst, arith, inl, inr}
 use Rattle.std.specs.Prelude.{◌⊎◌}
-use Rattle.std.specs.Option.{option_map_or}
 use Rattle.disk_model.specs.Disk.{History, Faults}
-use Rattle.disk_model.specs.FaultCounts.{NoFault, ChangeFaultCounted}
 use Rattle.mdbox_base.specs.declared.ids.MapUid.{MapUid}
 use Rattle.mdbox_base.specs.declared.ids.Uid.{Uid}
 use Rattle.mdbox_base.specs.declared.progress.Did.{Did}
@@ -16,49 +14,42 @@ use Rattle.mdbox_base.specs.declared.replies.Reply.{Reply}
 use Rattle.mdbox_base.specs.declared.replies.Reply.TheVariants as reply
 use Rattle.mdbox_base.specs.declared.requests.Request.TheVariants as request
 use Rattle.mdbox_base.specs.declared.script.Half.TheVariants as half
-use Rattle.model_lists.specs.Lists.{ListedMessage, Lists}
 use Rattle.model_meaning.specs.MapMeaning.{MapBox, MapMeaning}
 use Rattle.model_store.specs.Listing.{meaning_named}
-use Rattle.model_store.specs.Settled.{IsSettledFor, Leaves}
-use Rattle.list_machine.specs.Machine.{add_message, expunge, is_step, message_at}
+use Rattle.list_machine.specs.Machine.{is_step}
 use Rattle.store_core.specs.Dues.{due_at, Moves, amounts_in}
+use Rattle.store_core.specs.Keeping.{KeepsRest}
 use Rattle.store_core.specs.Running.{IsStore}
 use Rattle.store_core.specs.Value.{StoreValue, indexes_of, list_named}
 use Rattle.store_core.proofs.DueLemmas.{moves_as}
 use Rattle.task_steps.specs.ExpungeStages.{one_due}
 use Rattle.task_steps.specs.Step.{ended_by}
-use Rattle.task_steps.proofs.OneEventLemmas.{leaves_none}
 use Rattle.mail_ops.specs.Appends.{MapAppends, MapTook, MapFell, lowering_of}
-use Rattle.mail_ops.specs.Copy.{copied_lists}
 use Rattle.mail_ops.specs.Copying.{copy_refusal, RaisesRow, IsRaiseRefusal, MayBeRaised, IsNotRaised, AddsRow, FellAdding}
+use Rattle.mail_ops.specs.OnlyLogs.{ChangesOnlyLogs}
 use Rattle.mail_ops.specs.Event.{refusal_told, told_as}
 use Rattle.mail_ops.specs.Expunging.{RemovesRow, FellRemoving}
 use Rattle.mail_ops.specs.Messages.{missing_message}
-use Rattle.mail_ops.specs.Moving.{IsAtMove, move_amounts, move_left, move_lists, lists_moved, IsReadyToMove, MoveAnswers}
+use Rattle.mail_ops.specs.Moving.{IsAtMove, move_amounts, move_left, IsReadyToMove, MoveAnswers}
 use Rattle.mail_ops.specs.declared.event.NotDone.TheVariants as not_done
 use Rattle.mail_ops.specs.declared.event.NotDone.{NotDone}
 use Rattle.mail_ops.specs.declared.moving.MoveStage.TheVariants as stage
 use Rattle.mail_ops.specs.declared.moving.MoveStage.{MoveStage}
 use Rattle.mail_ops.proofs.CopyFirstLemmas.{CopyingClause, raise_refused, raise_unremembered, raise_fell, raise_done, raise_steps, copy_steps}
-use Rattle.mail_ops.proofs.CopyLastLemmas.{copy_settled, added_due, add_fell, back_fell, given_back}
-use Rattle.mail_ops.proofs.EventLemmas.{fall}
+use Rattle.mail_ops.proofs.CopyLastLemmas.{added_due, add_fell, back_fell, given_back}
 use Rattle.store_seen.proofs.SeeingLemmas.{due_as_before}
 use Rattle.mail_ops.proofs.KeptUidLemmas.{addition_left}
 use Rattle.mail_ops.proofs.LoweringLemmas.{lowered_due}
 use Rattle.mail_ops.proofs.MoveEventLemmas.{move_added, move_gone, move_removed, move_broken, move_unlowered, move_lowered}
 use Rattle.mail_ops.proofs.MovePartLemmas.{move_copies}
-use Rattle.mail_ops.proofs.RemovalLemmas.{brings_removal, removal_due, removal_settled}
-use Rattle.mail_ops.proofs.SettledFlagLemmas.{LogsShowLists}
+use Rattle.mail_ops.proofs.RemovalLemmas.{removal_due}
+use Rattle.mail_ops.proofs.OnlyLogsLemmas.{box_fell_keeps, box_took_keeps, idle_keeps, map_fell_keeps, map_took_keeps}
 
 -- what a step says of an event
 pub record MoveKnown {D : Type 0} (name : List ℕ) (uid : Uid) (target : List ℕ) (now next : MoveStage) (answer : Progress) (how : Did) (old new : StoreValue D) (before after : Option History) (began faulted : Faults) : Type 0 where
   pub ready : IsReadyToMove name uid next new
   pub does : CopyingClause (request.Move name uid target) (IsAtMove uid now) (IsAtMove uid next) old new before after began faulted how (ended_by answer)
-  pub moments : (lists : Lists) → IsSettledFor lists before → Leaves lists (move_lists name uid target now lists) before after
-  pub settled : new.stopped ≡ false → (lists : Lists) → IsSettledFor lists before → IsSettledFor (lists_moved name uid target now next lists) after
-  pub stopped : (answer ≡ progress.Done (reply.Refused refusal.Stopped)) ↔ (new.stopped ≡ true)
-  pub fault : ChangeFaultCounted (answer ≡ progress.Done (reply.Refused refusal.Stopped)) began faulted
-  pub unfailed : answer ≢ progress.Done (reply.Refused refusal.Stopped) → NoFault began faulted
+  pub keeps : ChangesOnlyLogs (KeepsRest old new) now next answer old new before after began faulted
   pub moves : Moves (move_amounts now) (move_amounts next) (amounts_in old) (amounts_in new)
   pub replies : MoveAnswers name uid target now old new next answer
   pub left : answer ≡ progress.More → move_left next < move_left now
@@ -105,11 +96,7 @@ known_raised name uid target held old new before after began faulted is ran r = 
     source = record { m = r.keeps.m; named = kept_named old new before after began faulted name r.took.appends ∙ r.keeps.named; below = r.keeps.below; same = r.keeps.same };
   };
   does = raise_done (request.Move name uid target) name uid target half.CopyHalf held old new before after began faulted (move_copies name uid target) is ran r;
-  moments = λ lists s. r.took.appends.moments lists s;
-  settled = λ runs lists s. r.took.settled lists s;
-  stopped = record { 0 = λ e. absurd (more_is (reply.Refused refusal.Stopped) e); 1 = λ e. absurd (fall new.stopped e r.took.runs) };
-  fault = record { reads = r.took.appends.reads; changes = r.took.appends.changes; rose = λ e. absurd (more_is (reply.Refused refusal.Stopped) e) };
-  unfailed = λ other. r.took.unfailed;
+  keeps = map_took_keeps _ _ _ _ old new before after began faulted ran (more_is (reply.Refused refusal.Stopped)) r.took;
   moves = record { due = λ other. raised_moves (due_at other old) (due_at other new) held.0 other (r.took.due other) };
   replies = (r.row, r.number, r.next, r.at, r.holds, r.few, record { indexes = r.took.appends.indexes; mailboxes = r.took.appends.mailboxes; taken = r.took.taken });
   left = λ e. omega arith;
@@ -120,11 +107,7 @@ known_unraised : {D : Type 0} → (name : List ℕ) (uid : Uid) (target : List �
 known_unraised name uid target old new before after began faulted ran f may = record {
   ready = none_due name uid new;
   does = raise_fell (request.Move name uid target) name uid target half.CopyHalf (IsAtMove uid stage.First) old new before after began faulted (move_copies name uid target) ran f;
-  moments = λ lists s. f.appends.moments lists s;
-  settled = λ runs lists s. absurd (fall new.stopped f.stopped runs);
-  stopped = record { 0 = λ e. f.stopped; 1 = λ e. refl };
-  fault = record { reads = f.appends.reads; changes = f.appends.changes; rose = λ e. f.rose };
-  unfailed = λ other. absurd (other refl);
+  keeps = map_fell_keeps _ _ old new before after began faulted ran f;
   moves = moves_as (move_amounts stage.First) (amounts_in old) (amounts_in new) (λ other. due_as_before old new other f.map f.dues);
   replies = inl (refl, f.stopped, may);
   left = λ e. absurd (done_more (reply.Refused refusal.Stopped) e);
@@ -136,11 +119,7 @@ known_same : {D : Type 0} → (name : List ℕ) (uid : Uid) (target : List ℕ) 
 known_same name uid target why how store history faults runs running cause does = record {
   ready = none_due name uid store;
   does = does;
-  moments = λ lists s. leaves_none history lists lists s;
-  settled = λ e lists s. s;
-  stopped = record { 0 = λ e. absurd (running (why_is why refusal.Stopped e)); 1 = λ e. absurd (fall store.stopped e runs) };
-  fault = record { reads = refl; changes = omega arith; rose = λ e. absurd (running (why_is why refusal.Stopped e)) };
-  unfailed = λ other. refl;
+  keeps = idle_keeps (KeepsRest store store) _ _ _ store history faults runs (λ e. running (why_is why refusal.Stopped e)) refl;
   moves = moves_as (move_amounts stage.First) (amounts_in store) (amounts_in store) (λ other. refl);
   replies = inr (refl, cause);
   left = λ e. absurd (done_more (reply.Refused why) e);
@@ -161,23 +140,12 @@ known_refused history faults name uid target not_done.Stopped old new ran r = kn
 ended_moves : (old new held uid : ℕ) → new + one_due held uid ≡ old → new + one_due held uid ≡ old + 0
 ended_moves old new held uid e = omega (arith, e)
 
-with_copy : (name : List ℕ) (uid : Uid) (target : List ℕ) (message : ListedMessage) (lists : Lists) → message_at name uid.0 lists ≡ Some message → add_message target message lists ≡ copied_lists name uid target lists
-with_copy name uid target message lists there = sym (ap (λ (o : Option ListedMessage). option_map_or (λ m. add_message target m lists) o lists) there)
-
-pub known_added : {D : Type 0} → (name : List ℕ) (uid : Uid) (target : List ℕ) (held : MapUid) (given : Uid) (old new : StoreValue D) (before after : Option History) (began faulted : Faults) → LogsShowLists → IsStore before old → old.stopped ≡ false → IsReadyToMove name uid (stage.Adding held) old
+pub known_added : {D : Type 0} → (name : List ℕ) (uid : Uid) (target : List ℕ) (held : MapUid) (given : Uid) (old new : StoreValue D) (before after : Option History) (began faulted : Faults) → IsStore before old → old.stopped ≡ false → IsReadyToMove name uid (stage.Adding held) old
     → AddsRow name uid target held given old new before after began faulted → MoveKnown name uid target (stage.Adding held) (stage.Removing held given) progress.More (did.Step half.CopyHalf) old new before after began faulted
-known_added name uid target held given old new before after began faulted show is ran ready r = record {
+known_added name uid target held given old new before after began faulted is ran ready r = record {
   ready = record { due = λ other. omega arith; source = addition_left name uid target held given old new before after began faulted r name uid.0 held.0 ready.source };
   does = move_added name uid target held given old new before after began faulted is ran ready.due r;
-  moments = λ lists s.
-      let c = copy_settled before old name uid target r.row r.number given lists show is ran r.at s in
-      subst (λ (ls : Lists). Leaves lists ls before after) (c.known.by ∙ with_copy name uid target c.known.shown.message lists c.known.shown.there) (r.took.appends.moments lists c.known.shown.message.octets c.brings s);
-  settled = λ runs lists s.
-      let c = copy_settled before old name uid target r.row r.number given lists show is ran r.at s in
-      subst (λ (ls : Lists). IsSettledFor ls after) (c.known.by ∙ with_copy name uid target c.known.shown.message lists c.known.shown.there) (r.took.settled lists c.known.shown.message.octets c.brings s);
-  stopped = record { 0 = λ e. absurd (more_is (reply.Refused refusal.Stopped) e); 1 = λ e. absurd (fall new.stopped e r.took.runs) };
-  fault = record { reads = r.took.appends.reads; changes = r.took.appends.changes; rose = λ e. absurd (more_is (reply.Refused refusal.Stopped) e) };
-  unfailed = λ other. r.took.unfailed;
+  keeps = box_took_keeps _ _ _ _ _ old new before after began faulted ran (more_is (reply.Refused refusal.Stopped)) r.took;
   moves = record { due = λ other. ended_moves (due_at other old) (due_at other new) held.0 other (added_due held given r.row r.at.m old new other r.holds (ready.due other) (r.took.due r.at.m other r.at.to.numbered)) };
   replies = (refl, (r.row, r.number, r.at, r.holds));
   left = λ e. omega arith;
@@ -186,9 +154,9 @@ known_added name uid target held given old new before after began faulted show i
 held_still : {D : Type 0} → (held : MapUid) (old new : StoreValue D) → ((other : ℕ) → one_due held.0 other ≤ due_at other old) → ((other : ℕ) → due_at other new ≡ due_at other old) → (other : ℕ) → one_due held.0 other ≤ due_at other new
 held_still held old new due same other = subst (λ (n : ℕ). one_due held.0 other ≤ n) (sym (same other)) (due other)
 
-pub known_unadded : {D : Type 0} → (name : List ℕ) (uid : Uid) (target : List ℕ) (held : MapUid) (old new : StoreValue D) (before after : Option History) (began faulted : Faults) → LogsShowLists → IsStore before old → old.stopped ≡ false → IsReadyToMove name uid (stage.Adding held) old → FellAdding name uid target held old new before after began faulted
+pub known_unadded : {D : Type 0} → (name : List ℕ) (uid : Uid) (target : List ℕ) (held : MapUid) (old new : StoreValue D) (before after : Option History) (began faulted : Faults) → IsStore before old → old.stopped ≡ false → IsReadyToMove name uid (stage.Adding held) old → FellAdding name uid target held old new before after began faulted
     → MoveKnown name uid target (stage.Adding held) (stage.Adding held) (progress.Done (reply.Refused refusal.Stopped)) (did.Broken half.CopyHalf) old new before after began faulted
-known_unadded name uid target held old new before after began faulted show is ran ready r = record {
+known_unadded name uid target held old new before after began faulted is ran ready r = record {
   ready = record {
     due = held_still held old new ready.due (λ other. due_as_before old new other r.fell.appends.map r.fell.dues);
     source = record {
@@ -199,13 +167,7 @@ known_unadded name uid target held old new before after began faulted show is ra
     };
   };
   does = add_fell (request.Move name uid target) name uid target half.CopyHalf held (IsAtMove uid (stage.Adding held)) old new before after began faulted (move_copies name uid target) is ran r;
-  moments = λ lists s.
-      let c = copy_settled before old name uid target r.row r.number r.given lists show is ran r.at s in
-      subst (λ (ls : Lists). Leaves lists ls before after) (c.known.by ∙ with_copy name uid target c.known.shown.message lists c.known.shown.there) (r.fell.appends.moments lists c.known.shown.message.octets c.brings s);
-  settled = λ runs lists s. absurd (fall new.stopped r.fell.stopped runs);
-  stopped = record { 0 = λ e. r.fell.stopped; 1 = λ e. refl };
-  fault = record { reads = r.fell.appends.reads; changes = r.fell.appends.changes; rose = λ e. r.fell.rose };
-  unfailed = λ other. absurd (other refl);
+  keeps = box_fell_keeps _ _ _ _ old new before after began faulted ran r.fell;
   moves = moves_as (move_amounts (stage.Adding held)) (amounts_in old) (amounts_in new) (λ other. due_as_before old new other r.fell.appends.map r.fell.dues);
   replies = (refl, refl, r.fell.stopped);
   left = λ e. absurd (done_more (reply.Refused refusal.Stopped) e);
@@ -221,11 +183,7 @@ pub known_back : {D : Type 0} → (name : List ℕ) (uid : Uid) (target : List �
 known_back name uid target held why how store history faults runs ready cause does = record {
   ready = record { due = ready.due; source = back_runs name uid target why store cause };
   does = does;
-  moments = λ lists s. leaves_none history (copied_lists name uid target lists) lists s;
-  settled = λ e lists s. s;
-  stopped = record { 0 = λ e. absurd (more_is (reply.Refused refusal.Stopped) e); 1 = λ e. absurd (fall store.stopped e runs) };
-  fault = record { reads = refl; changes = omega arith; rose = λ e. absurd (more_is (reply.Refused refusal.Stopped) e) };
-  unfailed = λ other. refl;
+  keeps = idle_keeps (KeepsRest store store) _ _ _ store history faults runs (more_is (reply.Refused refusal.Stopped)) refl;
   moves = moves_as (move_amounts (stage.Adding held)) (amounts_in store) (amounts_in store) (λ other. refl);
   replies = (refl, refl, cause);
   left = λ e. omega arith;
@@ -238,11 +196,7 @@ pub known_given : {D : Type 0} → (name : List ℕ) (uid : Uid) (target : List 
 known_given name uid target held why old new before after began faulted ran ready running t = record {
   ready = none_due name uid new;
   does = given_back (request.Move name uid target) name uid target half.CopyHalf held why (IsAtMove uid stage.First) old new before after began faulted (move_copies name uid target) ran ready.due t;
-  moments = λ lists s. t.appends.moments lists s;
-  settled = λ runs lists s. t.settled lists s;
-  stopped = record { 0 = λ e. absurd (running (why_is why refusal.Stopped e)); 1 = λ e. absurd (fall new.stopped e t.runs) };
-  fault = record { reads = t.appends.reads; changes = t.appends.changes; rose = λ e. absurd (running (why_is why refusal.Stopped e)) };
-  unfailed = λ other. t.unfailed;
+  keeps = map_took_keeps _ _ _ _ old new before after began faulted ran (λ e. running (why_is why refusal.Stopped e)) t;
   moves = record { due = λ other. ended_moves (due_at other old) (due_at other new) held.0 other (lowered_due held old new other (ready.due other) (t.due other)) };
   replies = (refl, record { indexes = t.appends.indexes; mailboxes = t.appends.mailboxes; taken = t.taken });
   left = λ e. absurd (done_more (reply.Refused why) e);
@@ -253,11 +207,7 @@ pub known_ungiven : {D : Type 0} → (name : List ℕ) (uid : Uid) (target : Lis
 known_ungiven name uid target held why old new before after began faulted ran ready f = record {
   ready = record { due = held_still held old new ready.due (λ other. due_as_before old new other f.map f.dues); source = ready.source };
   does = back_fell (request.Move name uid target) name uid target half.CopyHalf held why (IsAtMove uid (stage.GivingBack held why)) old new before after began faulted (move_copies name uid target) ran f;
-  moments = λ lists s. f.appends.moments lists s;
-  settled = λ runs lists s. absurd (fall new.stopped f.stopped runs);
-  stopped = record { 0 = λ e. f.stopped; 1 = λ e. refl };
-  fault = record { reads = f.appends.reads; changes = f.appends.changes; rose = λ e. f.rose };
-  unfailed = λ other. absurd (other refl);
+  keeps = map_fell_keeps _ _ old new before after began faulted ran f;
   moves = moves_as (move_amounts (stage.GivingBack held why)) (amounts_in old) (amounts_in new) (λ other. due_as_before old new other f.map f.dues);
   replies = (refl, refl, refl, f.stopped);
   left = λ e. absurd (done_more (reply.Refused refusal.Stopped) e);
@@ -271,16 +221,12 @@ removed_moves old new owed uid e = omega (arith, e)
 removed_covers : (old new owed uid : ℕ) → new ≡ old + one_due owed uid → one_due owed uid ≤ new
 removed_covers old new owed uid e = omega (arith, e)
 
-pub known_removed : {D : Type 0} → (name : List ℕ) (uid : Uid) (target : List ℕ) (held : MapUid) (copied : Uid) (old new : StoreValue D) (before after : Option History) (began faulted : Faults) → LogsShowLists → IsStore before old → old.stopped ≡ false → RemovesRow name uid held old new before after began faulted
+pub known_removed : {D : Type 0} → (name : List ℕ) (uid : Uid) (target : List ℕ) (held : MapUid) (copied : Uid) (old new : StoreValue D) (before after : Option History) (began faulted : Faults) → IsStore before old → old.stopped ≡ false → RemovesRow name uid held old new before after began faulted
     → MoveKnown name uid target (stage.Removing held copied) (stage.Owing held copied) progress.More (did.Step half.ExpungeHalf) old new before after began faulted
-known_removed name uid target held copied old new before after began faulted show is ran r = record {
+known_removed name uid target held copied old new before after began faulted is ran r = record {
   ready = record { due = λ other. removed_covers (due_at other old) (due_at other new) held.0 other (rises other); source = tt };
   does = move_removed name uid target held copied old new before after began faulted is ran r;
-  moments = λ lists s. subst (λ (ls : Lists). Leaves lists ls before after) (removal_settled before old name uid r.number r.row lists show is ran r.there s) (r.took.appends.moments lists [] (brings_removal old.map uid [] before) s);
-  settled = λ runs lists s. subst (λ (ls : Lists). IsSettledFor ls after) (removal_settled before old name uid r.number r.row lists show is ran r.there s) (r.took.settled lists [] (brings_removal old.map uid [] before) s);
-  stopped = record { 0 = λ e. absurd (more_is (reply.Refused refusal.Stopped) e); 1 = λ e. absurd (fall new.stopped e r.took.runs) };
-  fault = record { reads = r.took.appends.reads; changes = r.took.appends.changes; rose = λ e. absurd (more_is (reply.Refused refusal.Stopped) e) };
-  unfailed = λ other. r.took.unfailed;
+  keeps = box_took_keeps _ _ _ _ _ old new before after began faulted ran (more_is (reply.Refused refusal.Stopped)) r.took;
   moves = record { due = λ other. removed_moves (due_at other old) (due_at other new) held.0 other (rises other) };
   replies = (refl, refl, (r.number, r.row, r.there, r.owes));
   left = λ e. omega arith;
@@ -294,19 +240,15 @@ pub known_gone : {D : Type 0} → (name : List ℕ) (uid : Uid) (target : List �
 known_gone name uid target held copied why store history faults runs missing = record {
   ready = none_due name uid store;
   does = move_gone name uid target held copied (IsAtMove uid stage.First) store history faults why runs missing;
-  moments = λ lists s. leaves_none history (expunge name uid.0 lists) lists s;
-  settled = λ e lists s. s;
-  stopped = record { 0 = λ e. absurd (moved_stopped copied true e); 1 = λ e. absurd (fall store.stopped e runs) };
-  fault = record { reads = refl; changes = omega arith; rose = λ e. absurd (moved_stopped copied true e) };
-  unfailed = λ other. refl;
+  keeps = idle_keeps (KeepsRest store store) _ _ _ store history faults runs (moved_stopped copied true) refl;
   moves = moves_as (move_amounts stage.First) (amounts_in store) (amounts_in store) (λ other. refl);
   replies = (refl, refl, refl, (why, missing));
   left = λ e. absurd (done_more (reply.Moved copied true) e);
 }
 
-pub known_broken : {D : Type 0} → (name : List ℕ) (uid : Uid) (target : List ℕ) (held : MapUid) (copied : Uid) (old new : StoreValue D) (before after : Option History) (began faulted : Faults) → LogsShowLists → IsStore before old → old.stopped ≡ false → IsReadyToMove name uid (stage.Removing held copied) old
+pub known_broken : {D : Type 0} → (name : List ℕ) (uid : Uid) (target : List ℕ) (held : MapUid) (copied : Uid) (old new : StoreValue D) (before after : Option History) (began faulted : Faults) → IsStore before old → old.stopped ≡ false → IsReadyToMove name uid (stage.Removing held copied) old
     → FellRemoving name uid old new before after began faulted → MoveKnown name uid target (stage.Removing held copied) (stage.Removing held copied) (progress.Done (reply.Refused refusal.Stopped)) (did.Broken half.ExpungeHalf) old new before after began faulted
-known_broken name uid target held copied old new before after began faulted show is ran ready r = record {
+known_broken name uid target held copied old new before after began faulted is ran ready r = record {
   ready = record {
     due = λ other. omega arith;
     source = record {
@@ -317,11 +259,7 @@ known_broken name uid target held copied old new before after began faulted show
     };
   };
   does = move_broken name uid target held copied (IsAtMove uid (stage.Removing held copied)) old new before after began faulted is ran r;
-  moments = λ lists s. subst (λ (ls : Lists). Leaves lists ls before after) (removal_settled before old name uid r.number r.row lists show is ran r.there s) (r.fell.appends.moments lists [] (brings_removal old.map uid [] before) s);
-  settled = λ runs lists s. absurd (fall new.stopped r.fell.stopped runs);
-  stopped = record { 0 = λ e. r.fell.stopped; 1 = λ e. refl };
-  fault = record { reads = r.fell.appends.reads; changes = r.fell.appends.changes; rose = λ e. r.fell.rose };
-  unfailed = λ other. absurd (other refl);
+  keeps = box_fell_keeps _ _ _ _ old new before after began faulted ran r.fell;
   moves = moves_as (move_amounts (stage.Removing held copied)) (amounts_in old) (amounts_in new) (λ other. due_as_before old new other r.fell.appends.map r.fell.dues);
   replies = (refl, refl, refl, r.fell.stopped);
   left = λ e. absurd (done_more (reply.Refused refusal.Stopped) e);
@@ -334,11 +272,7 @@ pub known_lowered : {D : Type 0} → (name : List ℕ) (uid : Uid) (target : Lis
 known_lowered name uid target owed copied old new before after began faulted ran ready t = record {
   ready = none_due name uid new;
   does = move_lowered name uid target owed copied (IsAtMove uid stage.First) old new before after began faulted ran ready.due t;
-  moments = λ lists s. t.appends.moments lists s;
-  settled = λ runs lists s. t.settled lists s;
-  stopped = record { 0 = λ e. absurd (moved_stopped copied false e); 1 = λ e. absurd (fall new.stopped e t.runs) };
-  fault = record { reads = t.appends.reads; changes = t.appends.changes; rose = λ e. absurd (moved_stopped copied false e) };
-  unfailed = λ other. t.unfailed;
+  keeps = map_took_keeps _ _ _ _ old new before after began faulted ran (moved_stopped copied false) t;
   moves = record { due = λ other. ended_moves (due_at other old) (due_at other new) owed.0 other (lowered_due owed old new other (ready.due other) (t.due other)) };
   replies = (refl, refl, record { indexes = t.appends.indexes; mailboxes = t.appends.mailboxes; taken = t.taken });
   left = λ e. absurd (done_more (reply.Moved copied false) e);
@@ -349,11 +283,7 @@ pub known_unlowered : {D : Type 0} → (name : List ℕ) (uid : Uid) (target : L
 known_unlowered name uid target owed copied old new before after began faulted ran ready f = record {
   ready = record { due = held_still owed old new ready.due (λ other. due_as_before old new other f.map f.dues); source = tt };
   does = move_unlowered name uid target owed copied (IsAtMove uid (stage.Owing owed copied)) old new before after began faulted ran f;
-  moments = λ lists s. f.appends.moments lists s;
-  settled = λ runs lists s. absurd (fall new.stopped f.stopped runs);
-  stopped = record { 0 = λ e. f.stopped; 1 = λ e. refl };
-  fault = record { reads = f.appends.reads; changes = f.appends.changes; rose = λ e. f.rose };
-  unfailed = λ other. absurd (other refl);
+  keeps = map_fell_keeps _ _ old new before after began faulted ran f;
   moves = moves_as (move_amounts (stage.Owing owed copied)) (amounts_in old) (amounts_in new) (λ other. due_as_before old new other f.map f.dues);
   replies = (refl, refl, refl, f.stopped);
   left = λ e. absurd (done_more (reply.Refused refusal.Stopped) e);

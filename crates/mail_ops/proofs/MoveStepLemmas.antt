@@ -27,28 +27,27 @@ use Rattle.mail_ops.proofs.CopyLastLemmas.{add_stopped, add_refused, add_unremem
 use Rattle.mail_ops.proofs.MoveEventLemmas.{removal_stopped, lowering_stopped, copied_kept, moved_kept}
 use Rattle.mail_ops.proofs.MoveKnownLemmas.{MoveKnown, known_raised, known_refused, known_added, known_unadded, known_back, known_given, known_ungiven, known_removed, known_gone, known_broken, known_lowered, known_unlowered}
 use Rattle.mail_ops.proofs.MovePartLemmas.{move_copies}
-use Rattle.mail_ops.proofs.SettledFlagLemmas.{LogsShowLists}
 
 -- ---- any event
 
 abbrev KnownBy : {D : Type 0} → (D → Option History) → (D → Faults) → List ℕ → Uid → List ℕ → MoveStage → MoveStage → Progress → Did → StoreValue D → StoreValue D → Type 0
 KnownBy history faults name uid target now next answer how old new = MoveKnown name uid target now next answer how old new (history old.disk) (history new.disk) (faults old.disk) (faults new.disk)
 
-known_by : {D : Type 0} → (history : D → Option History) (faults : D → Faults) (name : List ℕ) (uid : Uid) (target : List ℕ) (now next : MoveStage) (answer : Progress) (how : Did) (old new : StoreValue D) → LogsShowLists → IsStore (history old.disk) old → old.stopped ≡ false → IsReadyToMove name uid now old
+known_by : {D : Type 0} → (history : D → Option History) (faults : D → Faults) (name : List ℕ) (uid : Uid) (target : List ℕ) (now next : MoveStage) (answer : Progress) (how : Did) (old new : StoreValue D) → IsStore (history old.disk) old → old.stopped ≡ false → IsReadyToMove name uid now old
     → MovesOn name uid target now next answer how old new (history old.disk) (history new.disk) (faults old.disk) (faults new.disk) → KnownBy history faults name uid target now next answer how old new
-known_by history faults name uid target stage.First (stage.Adding held) progress.More how old new show is ran ready on =
+known_by history faults name uid target stage.First (stage.Adding held) progress.More how old new is ran ready on =
     subst (λ (h : Did). KnownBy history faults name uid target stage.First (stage.Adding held) progress.More h old new) (sym on.0) (known_raised name uid target held old new (history old.disk) (history new.disk) (faults old.disk) (faults new.disk) is ran on.1)
-known_by history faults name uid target stage.First stage.First (progress.Done (reply.Refused why)) how old new show is ran ready on =
+known_by history faults name uid target stage.First stage.First (progress.Done (reply.Refused why)) how old new is ran ready on =
     subst (λ (h : Did). KnownBy history faults name uid target stage.First stage.First (progress.Done (reply.Refused why)) h old new) (sym on.2)
     (subst (λ (w : Refusal). KnownBy history faults name uid target stage.First stage.First (progress.Done (reply.Refused w)) (told_as half.CopyHalf did.Failed on.0) old new) (sym on.1) (known_refused history faults name uid target on.0 old new ran on.3))
-known_by history faults name uid target (stage.Adding held) (stage.Removing still copied) progress.More how old new show is ran ready on =
+known_by history faults name uid target (stage.Adding held) (stage.Removing still copied) progress.More how old new is ran ready on =
     subst (λ (h : Did). KnownBy history faults name uid target (stage.Adding held) (stage.Removing still copied) progress.More h old new) (sym on.1)
-    (subst (λ (s : MapUid). KnownBy history faults name uid target (stage.Adding held) (stage.Removing s copied) progress.More (did.Step half.CopyHalf) old new) (sym on.0) (known_added name uid target held copied old new (history old.disk) (history new.disk) (faults old.disk) (faults new.disk) show is ran ready on.2))
-known_by history faults name uid target (stage.Adding held) (stage.Adding still) (progress.Done (reply.Refused why)) how old new show is ran ready on =
+    (subst (λ (s : MapUid). KnownBy history faults name uid target (stage.Adding held) (stage.Removing s copied) progress.More (did.Step half.CopyHalf) old new) (sym on.0) (known_added name uid target held copied old new (history old.disk) (history new.disk) (faults old.disk) (faults new.disk) is ran ready on.2))
+known_by history faults name uid target (stage.Adding held) (stage.Adding still) (progress.Done (reply.Refused why)) how old new is ran ready on =
     subst (λ (h : Did). KnownBy history faults name uid target (stage.Adding held) (stage.Adding still) (progress.Done (reply.Refused why)) h old new) (sym on.2)
     (subst (λ (w : Refusal). KnownBy history faults name uid target (stage.Adding held) (stage.Adding still) (progress.Done (reply.Refused w)) (did.Broken half.CopyHalf) old new) (sym on.1)
-    (subst (λ (s : MapUid). KnownBy history faults name uid target (stage.Adding held) (stage.Adding s) (progress.Done (reply.Refused refusal.Stopped)) (did.Broken half.CopyHalf) old new) (sym on.0) (known_unadded name uid target held old new (history old.disk) (history new.disk) (faults old.disk) (faults new.disk) show is ran ready on.3)))
-known_by history faults name uid target (stage.Adding held) (stage.GivingBack still why) progress.More how old new show is ran ready on =
+    (subst (λ (s : MapUid). KnownBy history faults name uid target (stage.Adding held) (stage.Adding s) (progress.Done (reply.Refused refusal.Stopped)) (did.Broken half.CopyHalf) old new) (sym on.0) (known_unadded name uid target held old new (history old.disk) (history new.disk) (faults old.disk) (faults new.disk) is ran ready on.3)))
+known_by history faults name uid target (stage.Adding held) (stage.GivingBack still why) progress.More how old new is ran ready on =
     subst (λ (s : MapUid). KnownBy history faults name uid target (stage.Adding held) (stage.GivingBack s why) progress.More how old new) (sym on.0)
     (subst (λ (s : StoreValue _). KnownBy history faults name uid target (stage.Adding held) (stage.GivingBack held why) progress.More how old s) (sym on.1) (by_cause on.2))
   where
@@ -60,46 +59,46 @@ known_by history faults name uid target (stage.Adding held) (stage.GivingBack st
         subst (λ (h : Did). KnownBy history faults name uid target (stage.Adding held) (stage.GivingBack held why) progress.More h old old) (sym e.0)
         (subst (λ (w : Refusal). KnownBy history faults name uid target (stage.Adding held) (stage.GivingBack held w) progress.More did.Quiet old old) (sym e.1)
         (known_back name uid target held refusal.NoMemory did.Quiet old (history old.disk) (faults old.disk) ran ready (inr refl) (add_unremembered (request.Move name uid target) name uid target half.CopyHalf held old (history old.disk) (faults old.disk) (move_copies name uid target) ran)))
-known_by history faults name uid target (stage.GivingBack held why) stage.First (progress.Done (reply.Refused given)) how old new show is ran ready on =
+known_by history faults name uid target (stage.GivingBack held why) stage.First (progress.Done (reply.Refused given)) how old new is ran ready on =
     subst (λ (h : Did). KnownBy history faults name uid target (stage.GivingBack held why) stage.First (progress.Done (reply.Refused given)) h old new) (sym on.1)
     (subst (λ (w : Refusal). KnownBy history faults name uid target (stage.GivingBack held why) stage.First (progress.Done (reply.Refused w)) did.Quiet old new) (sym on.0) (known_given name uid target held why old new (history old.disk) (history new.disk) (faults old.disk) (faults new.disk) ran ready ready.source on.2))
-known_by history faults name uid target (stage.GivingBack held why) (stage.GivingBack still cause) (progress.Done (reply.Refused given)) how old new show is ran ready on =
+known_by history faults name uid target (stage.GivingBack held why) (stage.GivingBack still cause) (progress.Done (reply.Refused given)) how old new is ran ready on =
     subst (λ (h : Did). KnownBy history faults name uid target (stage.GivingBack held why) (stage.GivingBack still cause) (progress.Done (reply.Refused given)) h old new) (sym on.3)
     (subst (λ (w : Refusal). KnownBy history faults name uid target (stage.GivingBack held why) (stage.GivingBack still cause) (progress.Done (reply.Refused w)) did.Failed old new) (sym on.2)
     (subst (λ (w : Refusal). KnownBy history faults name uid target (stage.GivingBack held why) (stage.GivingBack still w) (progress.Done (reply.Refused refusal.Stopped)) did.Failed old new) (sym on.1)
     (subst (λ (s : MapUid). KnownBy history faults name uid target (stage.GivingBack held why) (stage.GivingBack s why) (progress.Done (reply.Refused refusal.Stopped)) did.Failed old new) (sym on.0) (known_ungiven name uid target held why old new (history old.disk) (history new.disk) (faults old.disk) (faults new.disk) ran ready on.4))))
-known_by history faults name uid target (stage.Removing held copied) (stage.Owing owed same) progress.More how old new show is ran ready on =
+known_by history faults name uid target (stage.Removing held copied) (stage.Owing owed same) progress.More how old new is ran ready on =
     subst (λ (h : Did). KnownBy history faults name uid target (stage.Removing held copied) (stage.Owing owed same) progress.More h old new) (sym on.2)
     (subst (λ (u : Uid). KnownBy history faults name uid target (stage.Removing held copied) (stage.Owing owed u) progress.More (did.Step half.ExpungeHalf) old new) (sym on.1)
-    (subst (λ (s : MapUid). KnownBy history faults name uid target (stage.Removing held copied) (stage.Owing s copied) progress.More (did.Step half.ExpungeHalf) old new) (sym on.0) (known_removed name uid target held copied old new (history old.disk) (history new.disk) (faults old.disk) (faults new.disk) show is ran on.3)))
-known_by history faults name uid target (stage.Removing held copied) stage.First (progress.Done (reply.Moved given gone)) how old new show is ran ready on =
+    (subst (λ (s : MapUid). KnownBy history faults name uid target (stage.Removing held copied) (stage.Owing s copied) progress.More (did.Step half.ExpungeHalf) old new) (sym on.0) (known_removed name uid target held copied old new (history old.disk) (history new.disk) (faults old.disk) (faults new.disk) is ran on.3)))
+known_by history faults name uid target (stage.Removing held copied) stage.First (progress.Done (reply.Moved given gone)) how old new is ran ready on =
     subst (λ (h : Did). KnownBy history faults name uid target (stage.Removing held copied) stage.First (progress.Done (reply.Moved given gone)) h old new) (sym on.2)
     (subst (λ (b : Bool). KnownBy history faults name uid target (stage.Removing held copied) stage.First (progress.Done (reply.Moved given b)) (did.Step half.ExpungeHalf) old new) (sym on.1)
     (subst (λ (u : Uid). KnownBy history faults name uid target (stage.Removing held copied) stage.First (progress.Done (reply.Moved u true)) (did.Step half.ExpungeHalf) old new) (sym on.0)
     (subst (λ (s : StoreValue _). KnownBy history faults name uid target (stage.Removing held copied) stage.First (progress.Done (reply.Moved copied true)) (did.Step half.ExpungeHalf) old s) (sym on.3) (known_gone name uid target held copied on.4.0 old (history old.disk) (faults old.disk) ran on.4.1))))
-known_by history faults name uid target (stage.Removing held copied) (stage.Removing still same) (progress.Done (reply.Refused why)) how old new show is ran ready on =
+known_by history faults name uid target (stage.Removing held copied) (stage.Removing still same) (progress.Done (reply.Refused why)) how old new is ran ready on =
     subst (λ (h : Did). KnownBy history faults name uid target (stage.Removing held copied) (stage.Removing still same) (progress.Done (reply.Refused why)) h old new) (sym on.3)
     (subst (λ (w : Refusal). KnownBy history faults name uid target (stage.Removing held copied) (stage.Removing still same) (progress.Done (reply.Refused w)) (did.Broken half.ExpungeHalf) old new) (sym on.2)
     (subst (λ (u : Uid). KnownBy history faults name uid target (stage.Removing held copied) (stage.Removing still u) (progress.Done (reply.Refused refusal.Stopped)) (did.Broken half.ExpungeHalf) old new) (sym on.1)
-    (subst (λ (s : MapUid). KnownBy history faults name uid target (stage.Removing held copied) (stage.Removing s copied) (progress.Done (reply.Refused refusal.Stopped)) (did.Broken half.ExpungeHalf) old new) (sym on.0) (known_broken name uid target held copied old new (history old.disk) (history new.disk) (faults old.disk) (faults new.disk) show is ran ready on.4))))
-known_by history faults name uid target (stage.Owing owed copied) stage.First (progress.Done (reply.Moved given gone)) how old new show is ran ready on =
+    (subst (λ (s : MapUid). KnownBy history faults name uid target (stage.Removing held copied) (stage.Removing s copied) (progress.Done (reply.Refused refusal.Stopped)) (did.Broken half.ExpungeHalf) old new) (sym on.0) (known_broken name uid target held copied old new (history old.disk) (history new.disk) (faults old.disk) (faults new.disk) is ran ready on.4))))
+known_by history faults name uid target (stage.Owing owed copied) stage.First (progress.Done (reply.Moved given gone)) how old new is ran ready on =
     subst (λ (h : Did). KnownBy history faults name uid target (stage.Owing owed copied) stage.First (progress.Done (reply.Moved given gone)) h old new) (sym on.2)
     (subst (λ (b : Bool). KnownBy history faults name uid target (stage.Owing owed copied) stage.First (progress.Done (reply.Moved given b)) did.Quiet old new) (sym on.1)
     (subst (λ (u : Uid). KnownBy history faults name uid target (stage.Owing owed copied) stage.First (progress.Done (reply.Moved u false)) did.Quiet old new) (sym on.0) (known_lowered name uid target owed copied old new (history old.disk) (history new.disk) (faults old.disk) (faults new.disk) ran ready on.3)))
-known_by history faults name uid target (stage.Owing owed copied) (stage.Owing still same) (progress.Done (reply.Refused why)) how old new show is ran ready on =
+known_by history faults name uid target (stage.Owing owed copied) (stage.Owing still same) (progress.Done (reply.Refused why)) how old new is ran ready on =
     subst (λ (h : Did). KnownBy history faults name uid target (stage.Owing owed copied) (stage.Owing still same) (progress.Done (reply.Refused why)) h old new) (sym on.3)
     (subst (λ (w : Refusal). KnownBy history faults name uid target (stage.Owing owed copied) (stage.Owing still same) (progress.Done (reply.Refused w)) did.Failed old new) (sym on.2)
     (subst (λ (u : Uid). KnownBy history faults name uid target (stage.Owing owed copied) (stage.Owing still u) (progress.Done (reply.Refused refusal.Stopped)) did.Failed old new) (sym on.1)
     (subst (λ (s : MapUid). KnownBy history faults name uid target (stage.Owing owed copied) (stage.Owing s copied) (progress.Done (reply.Refused refusal.Stopped)) did.Failed old new) (sym on.0) (known_unlowered name uid target owed copied old new (history old.disk) (history new.disk) (faults old.disk) (faults new.disk) ran ready on.4))))
-known_by history faults name uid target now next answer how old new show is ran ready on = absurd on
+known_by history faults name uid target now next answer how old new is ran ready on = absurd on
 
 -- Of a task that is seen as this.
-pub move_known_by : {D : Type 0} → (history : D → Option History) (faults : D → Faults) (task seen : MoveValue) (now next : MoveStage) (answer : Progress) (how : Did) (old new : StoreValue D) → task ≡ seen → task.stage ≡ now → LogsShowLists → IsStore (history old.disk) old → old.stopped ≡ false
+pub move_known_by : {D : Type 0} → (history : D → Option History) (faults : D → Faults) (task seen : MoveValue) (now next : MoveStage) (answer : Progress) (how : Did) (old new : StoreValue D) → task ≡ seen → task.stage ≡ now → IsStore (history old.disk) old → old.stopped ≡ false
     → IsReadyToMove task.name task.uid now old → MovesOn task.name task.uid task.target now next answer how old new (history old.disk) (history new.disk) (faults old.disk) (faults new.disk)
     → KnownBy history faults seen.name seen.uid seen.target seen.stage next answer how old new
-move_known_by history faults task seen now next answer how old new same at show is ran ready on =
+move_known_by history faults task seen now next answer how old new same at is ran ready on =
     subst (λ (v : MoveValue). KnownBy history faults v.name v.uid v.target v.stage next answer how old new) same
-    (subst (λ (s : MoveStage). KnownBy history faults task.name task.uid task.target s next answer how old new) (sym at) (known_by history faults task.name task.uid task.target now next answer how old new show is ran ready on))
+    (subst (λ (s : MoveStage). KnownBy history faults task.name task.uid task.target s next answer how old new) (sym at) (known_by history faults task.name task.uid task.target now next answer how old new is ran ready on))
 
 pub move_ready : {D : Type 0} → (task seen : MoveValue) (now : MoveStage) (store : StoreValue D) → task ≡ seen → task.stage ≡ now → IsReadyToMove seen.name seen.uid seen.stage store → IsReadyToMove task.name task.uid now store
 move_ready task seen now store same at ready =

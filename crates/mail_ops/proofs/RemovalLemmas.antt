@@ -13,7 +13,6 @@ use Rattle.model_lists.specs.Lists.{Lists, AreWellFormed}
 use Rattle.model_meaning.specs.BoxMeaning.{LogRow, BoxMeaning, row_at}
 use Rattle.model_meaning.specs.MapMeaning.{MapMeaning, record_of}
 use Rattle.model_store.specs.Listing.{ShowLists}
-use Rattle.model_store.specs.Settled.{IsSettledFor}
 use Rattle.list_machine.specs.Run.{Run}
 use Rattle.list_machine.specs.Machine.{expunge, HasMailbox, HasUid, first_refusal}
 use Rattle.journal.specs.Events.{IsRecord}
@@ -31,7 +30,6 @@ use Rattle.store_seen.specs.Seeing.{seen_of}
 use Rattle.store_seen.proofs.SeeingLemmas.{due_as_before, tells_as_before}
 use Rattle.mail_ops.proofs.EventLemmas.{StaysSo, fall}
 use Rattle.mail_ops.proofs.MessageLemmas.{ShownRow, shown_row, shown_guid, RecordOfRow, record_of_row}
-use Rattle.mail_ops.proofs.SettledFlagLemmas.{LogsShowLists, well_settled, shown_settled}
 use Rattle.mail_ops.proofs.ShownEntryLemmas.{shown_entry}
 
 -- a removal adds no message, so it brings any octets
@@ -115,9 +113,3 @@ removal_known pins history faults store name uid number row lists run s at well 
       by = by;
       shows = subst (λ (ls : Lists). ShowLists store.map.boxes (meanings_by number (entry.R uid) store.map.boxes (indexes_of store.boxes)) ls) by (shown_entry number [] (entry.R uid) store.map.boxes (indexes_of store.boxes) lists refl h);
     }
-
--- the entry gives the lists without the message, of a disk that is settled for them
-pub removal_settled : {D : Type 0} → (history : Option History) (store : StoreValue D) (name : List ℕ) (uid : Uid) (number : ℕ) (row : LogRow) (lists : Lists) → LogsShowLists → IsStore history store → store.stopped ≡ false → IsRowOf name uid.0 store number row → IsSettledFor lists history
-    → lists_by number [] (entry.R uid) lists ≡ expunge name uid.0 lists
-removal_settled history store name uid number row lists show s runs at settled =
-    removal_gives lists name uid number row (well_settled lists history settled) (shown_row store name uid.0 number row lists at (shown_settled lists history store show s runs settled))

@@ -70,17 +70,9 @@ pub record IsReadyToCopy {D : Type 0} (name : List ℕ) (uid : Uid) (now : CopyS
   pub due : AreDueIn store (copy_amounts now)
   pub source : KeepsSource name uid now store
 
--- the lists with the copy, those that an event may make of these, and those that it makes where it answers this
+-- the lists with the copy
 abbrev pub copied_lists : List ℕ → Uid → List ℕ → Lists → Lists
 copied_lists name uid target lists = option_map_or (λ message. add_message target message lists) (message_at name uid.0 lists) lists
-
-abbrev pub copy_lists : List ℕ → Uid → List ℕ → CopyStage → Lists → Lists
-copy_lists name uid target (stage.Adding held) lists = copied_lists name uid target lists
-copy_lists name uid target now lists = lists
-
-abbrev pub lists_copied : List ℕ → Uid → List ℕ → Progress → Lists → Lists
-lists_copied name uid target (progress.Done (reply.Copied given)) lists = copied_lists name uid target lists
-lists_copied name uid target answer lists = lists
 
 -- What is answered. The first event is refused, or out of memory, and has done nothing then; else the record is held, whose
 -- count had room and was raised. The second gives the target's next UID; or it is refused, or out of memory, and the count is given

@@ -12,10 +12,8 @@ use Rattle.mdbox_base.specs.declared.replies.Refusal.TheVariants as refusal
 use Rattle.mdbox_base.specs.declared.replies.Reply.{Reply}
 use Rattle.mdbox_base.specs.declared.replies.Reply.TheVariants as reply
 use Rattle.mdbox_base.specs.declared.script.Half.TheVariants as half
-use Rattle.model_lists.specs.Lists.{Lists}
 use Rattle.model_meaning.specs.BoxMeaning.{LogRow}
 use Rattle.list_machine.specs.Run.{Run}
-use Rattle.list_machine.specs.Machine.{expunge}
 use Rattle.journal.specs.Stages.{ToRemove, ToLower}
 use Rattle.store_core.specs.Dues.{Amounts}
 use Rattle.store_core.specs.Value.{StoreValue}
@@ -52,16 +50,6 @@ expunge_amounts now = record { due = expunge_dues now }
 abbrev pub expunge_left : ExpungeStage → ℕ
 expunge_left stage.First = 2
 expunge_left (stage.Owing owed) = 1
-
--- the lists that an event may make of these, and those that it makes where it answers this: the first event removes the
--- message, where the request goes on
-abbrev pub expunge_lists : List ℕ → Uid → ExpungeStage → Lists → Lists
-expunge_lists name uid stage.First lists = expunge name uid.0 lists
-expunge_lists name uid (stage.Owing owed) lists = lists
-
-abbrev pub expunged_lists : List ℕ → Uid → Progress → Lists → Lists
-expunged_lists name uid progress.More lists = expunge name uid.0 lists
-expunged_lists name uid (progress.Done given) lists = lists
 
 -- What is answered. A stopped store replies so. The first event is refused if there is no such message, or out of memory; else
 -- the request goes on, and its record is owed. The last one is done. Either may be stopped by a change of the disk that failed, the

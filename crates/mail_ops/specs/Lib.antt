@@ -12,6 +12,7 @@ pub mod Making
 pub mod Messages
 pub mod MoveStages
 pub mod Moving
+pub mod OnlyLogs
 pub mod Owing
 pub mod Requests
 pub mod SparedMail

@@ -74,17 +74,6 @@ abbrev pub make_left : {D : Type 0} → MakeStage → StoreValue D → ℕ
 make_left stage.First store = 2
 make_left (stage.Naming number) store = if nat_lt store.map.highest.mailbox number.0 then 1 else 3
 
--- ---- the lists
-
--- those that an event may make of these, and those that it makes where it answers this: the second adds an empty mailbox
-abbrev pub make_lists : List ℕ → MakeStage → Lists → Lists
-make_lists name stage.First lists = lists
-make_lists name (stage.Naming number) lists = lists ++ empty_mailbox number.0 name ∷ []
-
-abbrev pub lists_by_make : List ℕ → MakeStage → Progress → Lists → Lists
-lists_by_make name now (progress.Done reply.Done) lists = make_lists name now lists
-lists_by_make name now answer lists = lists
-
 -- ---- the store
 
 -- with this number drawn

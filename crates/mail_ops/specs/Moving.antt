@@ -12,18 +12,15 @@ use Rattle.mdbox_base.specs.declared.replies.Refusal.TheVariants as refusal
 use Rattle.mdbox_base.specs.declared.replies.Reply.{Reply}
 use Rattle.mdbox_base.specs.declared.replies.Reply.TheVariants as reply
 use Rattle.mdbox_base.specs.declared.script.Half.TheVariants as half
-use Rattle.model_lists.specs.Lists.{Lists}
 use Rattle.model_meaning.specs.BoxMeaning.{LogRow}
 use Rattle.model_meaning.specs.MapMeaning.{count_of}
 use Rattle.list_machine.specs.Run.{Run}
-use Rattle.list_machine.specs.Machine.{expunge}
 use Rattle.store_core.specs.Dues.{Amounts}
 use Rattle.store_core.specs.Keeping.{KeepsUid}
 use Rattle.store_core.specs.Value.{StoreValue}
 use Rattle.task_steps.specs.ExpungeStages.{one_due}
 use Rattle.task_steps.specs.Step.{HasNotBegun}
 use Rattle.mail_ops.specs.Appends.{MapTook, MapFell, TakesIntoMap, lowering_of}
-use Rattle.mail_ops.specs.Copy.{copied_lists}
 use Rattle.mail_ops.specs.CopyStages.{IsHolding, IsGivingBack}
 use Rattle.mail_ops.specs.Copying.{CopyPlace, copy_refusal, RaisesRow, IsRaiseRefusal, MayBeRaised, raising_of, IsNotRaised, AddsRow, FellAdding}
 use Rattle.mail_ops.specs.Event.{refusal_told, told_as}
@@ -81,18 +78,6 @@ KeepsMoved name uid now store = Unit {0}
 pub record IsReadyToMove {D : Type 0} (name : List ℕ) (uid : Uid) (now : MoveStage) (store : StoreValue D) : Type 0 where
   pub due : AreDueIn store (move_amounts now)
   pub source : KeepsMoved name uid now store
-
--- The lists that an event may make of these: the second adds the message to the target, the third removes it from its source.
-abbrev pub move_lists : List ℕ → Uid → List ℕ → MoveStage → Lists → Lists
-move_lists name uid target (stage.Adding held) lists = copied_lists name uid target lists
-move_lists name uid target (stage.Removing held copied) lists = expunge name uid.0 lists
-move_lists name uid target now lists = lists
-
--- and those that it makes which leads from one stage to another: it did so
-abbrev pub lists_moved : List ℕ → Uid → List ℕ → MoveStage → MoveStage → Lists → Lists
-lists_moved name uid target (stage.Adding held) (stage.Removing still copied) lists = copied_lists name uid target lists
-lists_moved name uid target (stage.Removing held copied) (stage.Owing owed same) lists = expunge name uid.0 lists
-lists_moved name uid target now next lists = lists
 
 -- What is answered. The first event is refused, or out of memory, and has done nothing then; else the record is held, whose
 -- count had room and was raised. The second adds the message, with the target's next UID; or it is refused, or out of memory, and the count

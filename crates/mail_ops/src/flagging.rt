@@ -1,16 +1,14 @@
 // Setting the flags of a message.
-ghost use Rattle.std.specs.Prelude.{◌≡◌, ◌≢◌, ◌⊎◌, ◌↔◌, ℕ, Some, None, true, false};
-ghost use Rattle.disk_model.specs.FaultCounts.{NoFault, ChangeFaultCounted};
+ghost use Rattle.std.specs.Prelude.{◌≡◌, ◌⊎◌, ℕ, Some, None, true, false};
 ghost use Rattle.journal.specs.Events.{Around};
+ghost use Rattle.mdbox_base.specs.declared.progress.Progress.TheVariants as progress;
 ghost use Rattle.mdbox_base.specs.declared.replies.Refusal.{Refusal};
 ghost use Rattle.mdbox_base.specs.declared.replies.Refusal.TheVariants as refusal;
 ghost use Rattle.mdbox_base.specs.declared.replies.Reply.TheVariants as reply;
 ghost use Rattle.mdbox_base.specs.declared.requests.Request.TheVariants as request;
-ghost use Rattle.model_lists.specs.Lists.{Lists};
-ghost use Rattle.model_store.specs.Settled.{IsSettledFor, Leaves};
 ghost use Rattle.mail_ops.specs.Flagging.{flag_refusal};
-ghost use Rattle.mail_ops.specs.Requests.{lists_after, lists_by_reply};
-ghost use Rattle.mail_ops.specs.SparedMail.{SparesMail};
+ghost use Rattle.mail_ops.specs.OnlyLogs.{ChangesOnlyLogs};
+ghost use Rattle.mail_ops.specs.declared.task.TaskStage.TheVariants as stage;
 ghost use Rattle.task_claims.specs.Claims.{no_claims};
 ghost use Rattle.task_claims.specs.Leaving.{LeavesOthers};
 ghost use Rattle.store_seen.specs.Seeing.{seen_of};
@@ -21,7 +19,7 @@ ghost use Rattle.task_steps.specs.Step.{HasNotBegun, Steps};
 use crate::laws::flags_are_shown;
 use disk_model::Disk;
 use mdbox_base::{BoxEntry, Did, Flags, Half, Name, Refusal, Reply, Uid};
-use store_core::{StepError, Store, listings_are_shown};
+use store_core::{StepError, Store};
 
 /// Sets the flags of a message: the only event of its request. It takes no memory.
 pub fn flag<D: Disk>(store: &mut Store<D>, name: &Name, uid: Uid, flags: Flags) -> (Reply, Did)
@@ -29,17 +27,10 @@ pub fn flag<D: Disk>(store: &mut Store<D>, name: &Name, uid: Uid, flags: Flags) 
     ensures refused { (why : Refusal) → flag_refusal name.now uid.0 store.old ≡ Some why → (result.0 ≡ reply.Refused why) × (store.new ≡ store.old) }
     ensures done { flag_refusal name.now uid.0 store.old ≡ None → (result.0 ≡ reply.Done) ⊎ ((result.0 ≡ reply.Refused refusal.Stopped) × (store.new.stopped ≡ true)) }
     ensures due { (uid : ℕ) → due_at uid store.new ≡ due_at uid store.old }
-    ensures rest { KeepsRest store.old store.new }
     ensures leaves { store.new.stopped ≡ false → LeavesOthers no_claims store.old store.new (D.history store.old.disk) (D.history store.new.disk) }
-    ensures mail { SparesMail (store.new.stopped ≡ store.old.stopped) (D.history store.old.disk) (D.history store.new.disk) }
-    ensures moments { (lists : Lists) → IsSettledFor lists (D.history store.old.disk) → Leaves lists (lists_after (request.Flag name.now uid flags) lists) (D.history store.old.disk) (D.history store.new.disk) }
-    ensures settled { store.new.stopped ≡ false → (lists : Lists) → IsSettledFor lists (D.history store.old.disk) → IsSettledFor (lists_by_reply (request.Flag name.now uid flags) result.0 lists) (D.history store.new.disk) }
-    ensures stopped { (result.0 ≡ reply.Refused refusal.Stopped) ↔ (store.new.stopped ≡ true) }
-    ensures fault { store.old.stopped ≡ false → ChangeFaultCounted (result.0 ≡ reply.Refused refusal.Stopped) (D.faults store.old.disk) (D.faults store.new.disk) }
-    ensures unfailed { result.0 ≢ reply.Refused refusal.Stopped → NoFault (D.faults store.old.disk) (D.faults store.new.disk) }
+    ensures keeps { ChangesOnlyLogs (KeepsRest store.old store.new) stage.First stage.First (progress.Done result.0) store.old store.new (D.history store.old.disk) (D.history store.new.disk) (D.faults store.old.disk) (D.faults store.new.disk) }
 {
     flags_are_shown();
-    listings_are_shown();
     store.facts();
     if store.stopped() {
         return (Reply::Refused(Refusal::Stopped), Did::Quiet);

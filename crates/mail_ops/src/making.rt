@@ -1,23 +1,17 @@
 // Making a mailbox.
-ghost use Rattle.std.specs.Prelude.{◌≡◌, ◌≢◌, ◌↔◌, ◌<◌, Some, None, IfOk, IfErr, OnOk, true, false, ℕ};
-ghost use Rattle.disk_model.specs.FaultCounts.{NoFault, ChangeFaultCounted};
+ghost use Rattle.std.specs.Prelude.{◌≡◌, ◌<◌, Some, None, IfOk, IfErr, OnOk, true, false, ℕ};
 ghost use Rattle.journal.specs.Events.{Around};
 ghost use Rattle.mdbox_base.specs.Words.{IsName};
 ghost use Rattle.mdbox_base.specs.declared.progress.Did.TheVariants as did;
 ghost use Rattle.mdbox_base.specs.declared.progress.Progress.TheVariants as progress;
-ghost use Rattle.mdbox_base.specs.declared.replies.Refusal.TheVariants as refusal;
 ghost use Rattle.mdbox_base.specs.declared.replies.Reply.{Reply};
-ghost use Rattle.mdbox_base.specs.declared.replies.Reply.TheVariants as reply;
 ghost use Rattle.mdbox_base.specs.declared.requests.Request.TheVariants as request;
-ghost use Rattle.model_lists.specs.Lists.{Lists};
-ghost use Rattle.model_store.specs.Settled.{IsSettledFor, Leaves};
 ghost use Rattle.store_core.specs.MadeLogs.{has_made_log};
 ghost use Rattle.task_steps.specs.Step.{Steps, ended_by};
-ghost use Rattle.mail_ops.specs.Making.{IsAtMake, naming_refusal, IsReadyToMake, KeepsAllButLogs, MakeAnswers, make_left, make_lists, lists_by_make, IsLogNotMade, MadeLogSo, FellIfStopped, MakesOn, RemovesOr};
-ghost use Rattle.task_claims.specs.Claims.{ClaimsNothing, MovesClaims};
-ghost use Rattle.task_claims.specs.Leaving.{LeavesOthers};
+ghost use Rattle.mail_ops.specs.Making.{IsAtMake, naming_refusal, IsReadyToMake, KeepsAllButLogs, MakeAnswers, make_left, IsLogNotMade, MadeLogSo, FellIfStopped, MakesOn, RemovesOr};
+ghost use Rattle.task_claims.specs.Stable.{MovesOwnClaims};
 ghost use Rattle.mail_ops.specs.Claims.{make_claims};
-ghost use Rattle.mail_ops.specs.SparedMail.{SparesMail};
+ghost use Rattle.mail_ops.specs.OnlyLogs.{ChangesOnlyLogs};
 ghost use Rattle.store_seen.specs.Seeing.{seen_of};
 ghost use Rattle.mail_ops.specs.declared.making.MakeStage.TheVariants as stage;
 
@@ -89,28 +83,14 @@ impl MakeTask {
         // crash images it leaves.
         ensures does { (around after : Around) (pins : ℕ → ℕ) → Steps (IsAtMake self.old.stage) (IsAtMake self.new.stage) around after (request.Make self.old.name) (seen_of pins store.old (D.history store.old.disk) (D.faults store.old.disk)) (seen_of pins store.new (D.history store.new.disk) (D.faults store.new.disk)) self.new.did (ended_by result) }
 
-        // Of a settled disk each crash image at every moment is safe for its lists, or for those that the event makes of them,
-        // whatever fails. Unless the store is stopped then, the disk is settled for those that the answer tells.
-        ensures moments { (lists : Lists) → IsSettledFor lists (D.history store.old.disk) → Leaves lists (make_lists self.old.name self.old.stage lists) (D.history store.old.disk) (D.history store.new.disk) }
-        ensures settled { store.new.stopped ≡ false → (lists : Lists) → IsSettledFor lists (D.history store.old.disk) → IsSettledFor (lists_by_make self.old.name self.old.stage result lists) (D.history store.new.disk) }
-
-        // A store that is stopped replies so, and no other does. One that was running is stopped only by a change of the disk
-        // that failed; no other call of the disk fails.
-        ensures stopped { (result ≡ progress.Done (reply.Refused refusal.Stopped)) ↔ (store.new.stopped ≡ true) }
-        ensures still { store.old.stopped ≡ true → (store.new ≡ store.old) × (self.new.stage ≡ self.old.stage) }
-        ensures fault { store.old.stopped ≡ false → ChangeFaultCounted (result ≡ progress.Done (reply.Refused refusal.Stopped)) (D.faults store.old.disk) (D.faults store.new.disk) }
-        ensures unfailed { result ≢ progress.Done (reply.Refused refusal.Stopped) → NoFault (D.faults store.old.disk) (D.faults store.new.disk) }
-
-        // The rest of the store stays; storage files and instances do at each moment, and names may be synced.
-        ensures rest { KeepsAllButLogs store.old store.new }
-        ensures mail { SparesMail (store.new.stopped ≡ store.old.stopped) (D.history store.old.disk) (D.history store.new.disk) }
+        // Whatever the disk is: what it leaves of the store and the disk, and what it answers. A store that is stopped replies so, and no
+        // other does; it is stopped only by a change of the disk that failed.
+        ensures keeps { ChangesOnlyLogs (KeepsAllButLogs store.old store.new) self.old.stage self.new.stage result store.old store.new (D.history store.old.disk) (D.history store.new.disk) (D.faults store.old.disk) (D.faults store.new.disk) }
         ensures replies { store.old.stopped ≡ false → MakeAnswers self.old.name self.old.stage store.old store.new (D.history store.old.disk) (D.history store.new.disk) self.new.stage result }
 
         // Unless it stops the store, it moves only its own claims, and leaves to other tasks what is theirs. One that was replied claims
         // nothing.
-        ensures claims { store.new.stopped ≡ false → MovesClaims (make_claims self.old.stage) (make_claims self.new.stage) store.old store.new }
-        ensures leaves { store.new.stopped ≡ false → LeavesOthers (make_claims self.old.stage) store.old store.new (D.history store.old.disk) (D.history store.new.disk) }
-        ensures ended { (given : Reply) → result ≡ progress.Done given → store.new.stopped ≡ false → ClaimsNothing (make_claims self.new.stage) }
+        ensures claims { store.new.stopped ≡ false → MovesOwnClaims (make_claims self.old.stage) (make_claims self.new.stage) result store.old store.new (D.history store.old.disk) (D.history store.new.disk) }
 
         // So it ends.
         ensures left { result ≡ progress.More → make_left self.new.stage store.new < make_left self.old.stage store.old }

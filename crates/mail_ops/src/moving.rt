@@ -1,22 +1,16 @@
 // Moving a message to a mailbox.
-ghost use Rattle.std.specs.Prelude.{◌≡◌, ◌≢◌, ◌↔◌, ◌<◌, ◌≤◌, IfOk, IfErr, true, false, ℕ};
-ghost use Rattle.disk_model.specs.FaultCounts.{NoFault, ChangeFaultCounted};
+ghost use Rattle.std.specs.Prelude.{◌≡◌, ◌<◌, true, false, ℕ};
 ghost use Rattle.journal.specs.Events.{Around};
 ghost use Rattle.mdbox_base.specs.declared.progress.Did.TheVariants as did;
 ghost use Rattle.mdbox_base.specs.declared.progress.Progress.TheVariants as progress;
-ghost use Rattle.mdbox_base.specs.declared.replies.Refusal.TheVariants as refusal;
 ghost use Rattle.mdbox_base.specs.declared.replies.Reply.{Reply};
-ghost use Rattle.mdbox_base.specs.declared.replies.Reply.TheVariants as reply;
 ghost use Rattle.mdbox_base.specs.declared.requests.Request.TheVariants as request;
-ghost use Rattle.model_lists.specs.Lists.{Lists};
-ghost use Rattle.model_store.specs.Settled.{IsSettledFor, Leaves};
 ghost use Rattle.store_core.specs.Keeping.{KeepsRest};
 ghost use Rattle.task_steps.specs.Step.{Steps, ended_by};
-ghost use Rattle.mail_ops.specs.Moving.{IsAtMove, move_left, move_lists, lists_moved, IsReadyToMove, MoveAnswers, MovesOn};
-ghost use Rattle.task_claims.specs.Claims.{ClaimsNothing, MovesClaims};
-ghost use Rattle.task_claims.specs.Leaving.{LeavesOthers};
+ghost use Rattle.mail_ops.specs.Moving.{IsAtMove, move_left, IsReadyToMove, MoveAnswers, MovesOn};
+ghost use Rattle.task_claims.specs.Stable.{MovesOwnClaims};
 ghost use Rattle.mail_ops.specs.Claims.{move_claims};
-ghost use Rattle.mail_ops.specs.SparedMail.{SparesMail};
+ghost use Rattle.mail_ops.specs.OnlyLogs.{ChangesOnlyLogs};
 ghost use Rattle.store_seen.specs.Seeing.{seen_of};
 ghost use Rattle.mail_ops.specs.declared.moving.MoveStage.TheVariants as stage;
 
@@ -28,7 +22,7 @@ use disk_model::Disk;
 use mdbox_base::{Did, Half, Name, Progress, Refusal, Reply, Uid};
 use std::marker::Model;
 use std::mem;
-use store_core::{Stopped, Store, listings_are_shown};
+use store_core::{Stopped, Store};
 
 /// Which event of a move is the next.
 #[derive(Drop)]
@@ -98,34 +92,19 @@ impl MoveTask {
         ensures does { (around after : Around) (pins : ℕ → ℕ) → Steps (IsAtMove self.old.uid self.old.stage) (IsAtMove self.old.uid self.new.stage) around after (request.Move self.old.name self.old.uid self.old.target)
             (seen_of pins store.old (D.history store.old.disk) (D.faults store.old.disk)) (seen_of pins store.new (D.history store.new.disk) (D.faults store.new.disk)) self.new.did (ended_by result) }
 
-        // Of a settled disk each crash image at every moment is safe for its lists, or for those that the event makes of them,
-        // whatever fails. Unless the store is stopped then, the disk is settled for those that the stages tell.
-        ensures moments { (lists : Lists) → IsSettledFor lists (D.history store.old.disk) → Leaves lists (move_lists self.old.name self.old.uid self.old.target self.old.stage lists) (D.history store.old.disk) (D.history store.new.disk) }
-        ensures settled { store.new.stopped ≡ false → (lists : Lists) → IsSettledFor lists (D.history store.old.disk) → IsSettledFor (lists_moved self.old.name self.old.uid self.old.target self.old.stage self.new.stage lists) (D.history store.new.disk) }
-
-        // A store that is stopped replies so, and no other does. One that was running is stopped only by a change of the disk
-        // that failed; no other call of the disk fails.
-        ensures stopped { (result ≡ progress.Done (reply.Refused refusal.Stopped)) ↔ (store.new.stopped ≡ true) }
-        ensures still { store.old.stopped ≡ true → (store.new ≡ store.old) × (self.new.stage ≡ self.old.stage) }
-        ensures fault { store.old.stopped ≡ false → ChangeFaultCounted (result ≡ progress.Done (reply.Refused refusal.Stopped)) (D.faults store.old.disk) (D.faults store.new.disk) }
-        ensures unfailed { result ≢ progress.Done (reply.Refused refusal.Stopped) → NoFault (D.faults store.old.disk) (D.faults store.new.disk) }
-
-        // The rest of the store stays, and so do storage files and instances, at each moment.
-        ensures rest { KeepsRest store.old store.new }
-        ensures mail { SparesMail (store.new.stopped ≡ store.old.stopped) (D.history store.old.disk) (D.history store.new.disk) }
+        // Whatever the disk is: what it leaves of the store and the disk, and what it answers. A store that is stopped replies so, and no
+        // other does; it is stopped only by a change of the disk that failed.
+        ensures keeps { ChangesOnlyLogs (KeepsRest store.old store.new) self.old.stage self.new.stage result store.old store.new (D.history store.old.disk) (D.history store.new.disk) (D.faults store.old.disk) (D.faults store.new.disk) }
         ensures replies { store.old.stopped ≡ false → MoveAnswers self.old.name self.old.uid self.old.target self.old.stage store.old store.new self.new.stage result }
 
         // Unless it stops the store, it moves only its own claims, and leaves to other tasks what is theirs. One that was replied claims
         // nothing.
-        ensures claims { store.new.stopped ≡ false → MovesClaims (move_claims self.old.stage) (move_claims self.new.stage) store.old store.new }
-        ensures leaves { store.new.stopped ≡ false → LeavesOthers (move_claims self.old.stage) store.old store.new (D.history store.old.disk) (D.history store.new.disk) }
-        ensures ended { (given : Reply) → result ≡ progress.Done given → store.new.stopped ≡ false → ClaimsNothing (move_claims self.new.stage) }
+        ensures claims { store.new.stopped ≡ false → MovesOwnClaims (move_claims self.old.stage) (move_claims self.new.stage) result store.old store.new (D.history store.old.disk) (D.history store.new.disk) }
 
         // So it ends.
         ensures left { result ≡ progress.More → move_left self.new.stage < move_left self.old.stage }
         ensures request { (self.new.name ≡ self.old.name) × (self.new.uid ≡ self.old.uid) × (self.new.target ≡ self.old.target) }
     {
-        listings_are_shown();
         store.facts();
         if store.stopped() {
             self.did = Did::Quiet;

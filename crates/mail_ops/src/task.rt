@@ -1,22 +1,18 @@
 // The task of a request.
-ghost use Rattle.std.specs.Prelude.{◌≡◌, ◌≢◌, ◌↔◌, ℕ, Some, true, false};
-ghost use Rattle.disk_model.specs.FaultCounts.{NoFault, ChangeFaultCounted};
+ghost use Rattle.std.specs.Prelude.{◌≡◌, ℕ, Some, false};
 ghost use Rattle.journal.specs.Events.{Around};
 ghost use Rattle.mdbox_base.specs.declared.progress.Did.TheVariants as did;
 ghost use Rattle.mdbox_base.specs.declared.progress.Progress.TheVariants as progress;
-ghost use Rattle.mdbox_base.specs.declared.replies.Refusal.TheVariants as refusal;
 ghost use Rattle.mdbox_base.specs.declared.replies.Reply.{Reply};
-ghost use Rattle.mdbox_base.specs.declared.replies.Reply.TheVariants as reply;
-ghost use Rattle.model_lists.specs.Lists.{Lists};
-ghost use Rattle.model_store.specs.Settled.{IsSettledFor, Leaves};
 ghost use Rattle.task_steps.specs.Step.{HasNotBegun, Steps, ended_by};
-ghost use Rattle.mail_ops.specs.Requests.{IsOpsRequest, Replies, AppendsNothing, lists_after, lists_by_reply};
+ghost use Rattle.mail_ops.specs.Requests.{IsOpsRequest, Replies, AppendsNothing};
 ghost use Rattle.store_core.specs.Dues.{due_at};
 ghost use Rattle.store_core.specs.Keeping.{KeepsRest};
 ghost use Rattle.mail_ops.specs.Task.{IsAt};
-ghost use Rattle.mail_ops.specs.SparedMail.{SparesMail};
-ghost use Rattle.task_claims.specs.Claims.{MovesClaims, no_claims};
+ghost use Rattle.mail_ops.specs.OnlyLogs.{ChangesOnlyLogs};
+ghost use Rattle.task_claims.specs.Claims.{no_claims};
 ghost use Rattle.task_claims.specs.Leaving.{LeavesOthers};
+ghost use Rattle.task_claims.specs.Stable.{MovesOwnClaims};
 ghost use Rattle.store_seen.specs.Seeing.{seen_of};
 ghost use Rattle.mail_ops.specs.declared.task.TaskStage.TheVariants as stage;
 
@@ -79,24 +75,12 @@ impl OpsTask {
         // crash images it leaves.
         ensures does { (around after : Around) (pins : ℕ → ℕ) → Steps (IsAt self.old.stage) (IsAt self.new.stage) around after self.old.request (seen_of pins store.old (D.history store.old.disk) (D.faults store.old.disk)) (seen_of pins store.new (D.history store.new.disk) (D.faults store.new.disk)) self.new.did (ended_by result) }
 
-        // Of a settled disk each crash image at every moment is safe for its lists, or for those that the request makes of them,
-        // whatever fails. Unless the store is stopped then, the disk is settled for the lists that the reply tells.
-        ensures moments { (lists : Lists) → IsSettledFor lists (D.history store.old.disk) → Leaves lists (lists_after self.old.request lists) (D.history store.old.disk) (D.history store.new.disk) }
-        ensures settled { store.new.stopped ≡ false → (given : Reply) → result ≡ progress.Done given → (lists : Lists) → IsSettledFor lists (D.history store.old.disk) → IsSettledFor (lists_by_reply self.old.request given lists) (D.history store.new.disk) }
-
-        // A store that is stopped replies so, and no other does. One that was running is stopped only by a change of the disk
-        // that failed; no other call of the disk fails.
-        ensures stopped { (result ≡ progress.Done (reply.Refused refusal.Stopped)) ↔ (store.new.stopped ≡ true) }
-        ensures fault { store.old.stopped ≡ false → ChangeFaultCounted (result ≡ progress.Done (reply.Refused refusal.Stopped)) (D.faults store.old.disk) (D.faults store.new.disk) }
-        ensures unfailed { result ≢ progress.Done (reply.Refused refusal.Stopped) → NoFault (D.faults store.old.disk) (D.faults store.new.disk) }
-
-        // The rest of the store stays, and so do storage files and instances, at each moment.
-        ensures rest { KeepsRest store.old store.new }
-        ensures mail { SparesMail (store.new.stopped ≡ store.old.stopped) (D.history store.old.disk) (D.history store.new.disk) }
+        // Whatever the disk is: what it leaves of the store and the disk. A store that is stopped replies so, and no other does; it is
+        // stopped only by a change of the disk that failed.
+        ensures keeps { ChangesOnlyLogs (KeepsRest store.old store.new) self.old.stage self.new.stage result store.old store.new (D.history store.old.disk) (D.history store.new.disk) (D.faults store.old.disk) (D.faults store.new.disk) }
 
         // It claims nothing. Unless it stops the store, it moves no claims, and leaves to other tasks what is theirs.
-        ensures claims { store.new.stopped ≡ false → MovesClaims no_claims no_claims store.old store.new }
-        ensures leaves { store.new.stopped ≡ false → LeavesOthers no_claims store.old store.new (D.history store.old.disk) (D.history store.new.disk) }
+        ensures claims { store.new.stopped ≡ false → MovesOwnClaims no_claims no_claims result store.old store.new (D.history store.old.disk) (D.history store.new.disk) }
         ensures replies { (reply : Reply) × (result ≡ progress.Done reply) × Replies self.old.request store.old store.new reply }
         ensures same { AppendsNothing self.old.request store.old → store.new ≡ store.old }
         ensures request { self.new.request ≡ self.old.request }
@@ -115,14 +99,8 @@ fn only_event<D: Disk>(store: &mut Store<D>, request: &Request) -> (Reply, Did)
     ensures replies { Replies request.now store.old store.new result.0 }
     ensures same { AppendsNothing request.now store.old → store.new ≡ store.old }
     ensures due { (uid : ℕ) → due_at uid store.new ≡ due_at uid store.old }
-    ensures rest { KeepsRest store.old store.new }
     ensures leaves { store.new.stopped ≡ false → LeavesOthers no_claims store.old store.new (D.history store.old.disk) (D.history store.new.disk) }
-    ensures mail { SparesMail (store.new.stopped ≡ store.old.stopped) (D.history store.old.disk) (D.history store.new.disk) }
-    ensures moments { (lists : Lists) → IsSettledFor lists (D.history store.old.disk) → Leaves lists (lists_after request.now lists) (D.history store.old.disk) (D.history store.new.disk) }
-    ensures settled { store.new.stopped ≡ false → (lists : Lists) → IsSettledFor lists (D.history store.old.disk) → IsSettledFor (lists_by_reply request.now result.0 lists) (D.history store.new.disk) }
-    ensures stopped { (result.0 ≡ reply.Refused refusal.Stopped) ↔ (store.new.stopped ≡ true) }
-    ensures fault { store.old.stopped ≡ false → ChangeFaultCounted (result.0 ≡ reply.Refused refusal.Stopped) (D.faults store.old.disk) (D.faults store.new.disk) }
-    ensures unfailed { result.0 ≢ reply.Refused refusal.Stopped → NoFault (D.faults store.old.disk) (D.faults store.new.disk) }
+    ensures keeps { ChangesOnlyLogs (KeepsRest store.old store.new) stage.First stage.First (progress.Done result.0) store.old store.new (D.history store.old.disk) (D.history store.new.disk) (D.faults store.old.disk) (D.faults store.new.disk) }
 {
     match request {
         Request::List { name } => list(store, name),

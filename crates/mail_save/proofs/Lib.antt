@@ -2,7 +2,6 @@ pub mod AddLemmas
 pub mod AttachEventLemmas
 pub mod AttachLemmas
 pub mod AttachmentSizeLemmas
-pub mod DeliveredListLemmas
 pub mod FaultLemmas
 pub mod HeldInstanceLemmas
 pub mod HeldLemmas
@@ -27,7 +26,6 @@ pub mod SaveKeptLemmas
 pub mod SaveLastLemmas
 pub mod SaveLeavesLemmas
 pub mod SaveListLemmas
-pub mod SaveMomentLemmas
 pub mod SaveNumberLemmas
 pub mod SavePartLemmas
 pub mod SaveReadyLemmas

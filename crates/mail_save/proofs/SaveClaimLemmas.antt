@@ -263,19 +263,17 @@ save_ended now next name time size answer given old new e is =
 -- ---- how a step ends
 
 pub save_ends : {D : Type 0} → (now next : SaveStage) (name : List ℕ) (time size : ℕ) (answer : Progress) (how : Did) (old new : StoreValue D) (before after : Option History) (began faulted : Faults) → old.stopped ≡ false → AreFilesInOrder old.files → HasLeft now name time old before
-    → Saves now next name time size answer how old new before after began faulted → EndsSave next answer old new
+    → Saves now next name time size answer how old new before after began faulted → EndsSave answer old new
 save_ends now next name time size answer how old new before after began faulted ran order left s = record {
   stopped = s.stopped;
   still = λ stopped. absurd (unfallen old.stopped stopped ran);
   doomed = λ runs. (files_move now next name time size answer old new before after order left s.left runs s.stopped s.replies s.effects).doomed;
-  unclaimed = λ given is runs. save_ended now next name time size answer given old new s.effects is;
 }
 
 -- in a store that was stopped
-pub stopped_ends : {D : Type 0} → (next : SaveStage) (store : StoreValue D) → store.stopped ≡ true → EndsSave next stopped_reply store store
-stopped_ends next store stopped = record {
+pub stopped_ends : {D : Type 0} → (store : StoreValue D) → store.stopped ≡ true → EndsSave stopped_reply store store
+stopped_ends store stopped = record {
   stopped = record { 0 = λ e. stopped; 1 = λ e. refl };
   still = λ e. refl;
   doomed = λ runs. absurd (unfallen store.stopped stopped runs);
-  unclaimed = λ given is runs. absurd (unfallen store.stopped stopped runs);
 }

@@ -8,11 +8,6 @@ use Rattle.disk_model.specs.declared.name.FileName.TheVariants.{Mail}
 use Rattle.mdbox_base.specs.declared.entries.InstRow.{InstRow}
 use Rattle.mdbox_base.specs.declared.ids.MapUid.{MapUid}
 use Rattle.mdbox_base.specs.declared.ids.Uid.{Uid}
-use Rattle.mdbox_base.specs.declared.progress.Progress.{Progress}
-use Rattle.mdbox_base.specs.declared.progress.Progress.TheVariants as progress
-use Rattle.mdbox_base.specs.declared.replies.Reply.TheVariants as reply
-use Rattle.list_machine.specs.Machine.{add_message}
-use Rattle.model_lists.specs.Lists.{Lists}
 use Rattle.model_meaning.specs.MapMeaning.{MapRecord, record_at}
 use Rattle.model_store.specs.Settled.{files_of}
 use Rattle.save_instances.specs.Attaching.{next_attachment}
@@ -69,17 +64,3 @@ IsReadyToSave (stage.Placing parts file) name time size octets store history = H
 IsReadyToSave (stage.Storing at rows room) name time size octets store history = HasSize size octets × IsPlacedReady at rows name time octets history
 IsReadyToSave (stage.Adding added room) name time size octets store history = HasSize size octets × IsRecordReady added name time octets store history
 IsReadyToSave now name time size octets store history = HasSize size octets
-
--- ---- the lists
-
--- the lists with the message, those that an event may make of these, and those that it makes where it answers this
-abbrev pub delivered_lists : List ℕ → Added → List ℕ → Lists → Lists
-delivered_lists name added octets lists = add_message name (record { uid = 0; flags = 0; time = added.time; guid = added.guid.0; octets = octets }) lists
-
-abbrev pub save_lists : SaveStage → List ℕ → List ℕ → Lists → Lists
-save_lists (stage.Adding added room) name octets lists = delivered_lists name added octets lists
-save_lists now name octets lists = lists
-
-abbrev pub lists_delivered : SaveStage → List ℕ → List ℕ → Progress → Lists → Lists
-lists_delivered (stage.Adding added room) name octets (progress.Done (reply.Saved uid guid)) lists = delivered_lists name added octets lists
-lists_delivered now name octets answer lists = lists

@@ -5,9 +5,7 @@ use Rattle.mdbox_base.specs.declared.entries.InstRow.{InstRow}
 use Rattle.mdbox_base.specs.declared.entries.MapEntry.{MapEntry}
 use Rattle.mdbox_base.specs.declared.entries.MapEntry.TheVariants as entry
 use Rattle.mdbox_base.specs.declared.ids.MapUid.{MapUid}
-use Rattle.model_lists.specs.Lists.{Lists}
-use Rattle.model_store.specs.Settled.{IsSettledFor}
-use Rattle.store_core.specs.StoreInstances.{AreInstancesFirm, IsFirmInstance}
+use Rattle.store_core.specs.StoreInstances.{IsFirmInstance}
 use Rattle.store_core.specs.Value.{StoreValue}
 use Rattle.mail_save.specs.declared.place.SavedAt.{SavedAt}
 
@@ -22,7 +20,3 @@ entry_lowered uid = entry.D (uid ∷ [])
 -- a record that is made may name these instances
 abbrev pub MayBeNamed : {D : Type 0} → List InstRow → StoreValue D → Option History → Type 0
 MayBeNamed rows store history = IfTold history (λ now. All (IsFirmInstance store.map now) rows)
-
--- the disk of a store is settled for these lists, and a record that is made may name each instance that the store knows
-abbrev pub IsSettledInStore : {D : Type 0} → Lists → StoreValue D → Option History → Type 0
-IsSettledInStore lists store history = IsSettledFor lists history × IfTold history (AreInstancesFirm store.instances.known store.map)

@@ -32,9 +32,7 @@ use Rattle.store_core.specs.Keeping.{KeepsInstances, MovesHolds}
 use Rattle.store_core.specs.MapAppend.{IsReadyToStore}
 use Rattle.store_core.specs.Value.{StoreValue, list_named}
 use Rattle.store_seen.specs.Seeing.{seen_of}
-use Rattle.task_claims.specs.Claims.{ClaimsNothing}
 use Rattle.mail_save.specs.Added.{HasRoomUnder, entry_added}
-use Rattle.mail_save.specs.Claims.{save_claims}
 use Rattle.mail_save.specs.Events.{box_refusal, instance_refusal, save_refusal, uid_refusal}
 use Rattle.mail_save.specs.Held.{HasHoldRoom, save_amounts, save_holds}
 use Rattle.mail_save.specs.Left.{HoldsFile, HoldsInstances, HoldsRegion}
@@ -214,12 +212,11 @@ pub record Saves {D : Type 0} (now next : SaveStage) (name : List ℕ) (time siz
   pub grows : Grows before after
 
 -- How a step ends: it replies so if and only if the store is stopped then, and a store that was stopped stays as it was. Else no file
--- is doomed more or less, and a task that has replied claims nothing.
-pub record EndsSave {D : Type 0} (next : SaveStage) (answer : Progress) (old new : StoreValue D) : Type 0 where
+-- is doomed more or less.
+pub record EndsSave {D : Type 0} (answer : Progress) (old new : StoreValue D) : Type 0 where
   pub stopped : (answer ≡ stopped_reply) ↔ (new.stopped ≡ true)
   pub still : old.stopped ≡ true → new ≡ old
   pub doomed : new.stopped ≡ false → (file : ℕ) → is_doomed_in file new.files.files ≡ is_doomed_in file old.files.files
-  pub unclaimed : (given : Reply) → answer ≡ progress.Done given → new.stopped ≡ false → ClaimsNothing (save_claims next)
 
 -- Of the message with these octets, where the task is ready for it: its clause, with what the store has for the message. In a store that
 -- was stopped it need not be ready, but for the number of attachments.

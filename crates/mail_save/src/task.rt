@@ -9,19 +9,14 @@ ghost use Rattle.mdbox_base.specs.declared.progress.Did.TheVariants as did;
 ghost use Rattle.mdbox_base.specs.declared.progress.Progress.TheVariants as progress;
 ghost use Rattle.mdbox_base.specs.declared.replies.Refusal.TheVariants as refusal;
 ghost use Rattle.mdbox_base.specs.declared.replies.Reply.TheVariants as reply;
-ghost use Rattle.model_lists.specs.Lists.{Lists};
-ghost use Rattle.model_store.specs.Settled.{IsSettledFor, Leaves};
 ghost use Rattle.save_instances.specs.Attaching.{next_attachment};
 ghost use Rattle.saved_message.specs.Laid.{IsLaid};
 ghost use Rattle.store_core.specs.Dues.{due_at};
-ghost use Rattle.task_claims.specs.Claims.{MovesClaims};
-ghost use Rattle.task_claims.specs.Leaving.{LeavesOthers};
+ghost use Rattle.task_claims.specs.Stable.{MovesOwnClaims};
 ghost use Rattle.task_steps.specs.Step.{ended_by};
 ghost use Rattle.mail_save.specs.Claims.{save_claims};
 ghost use Rattle.mail_save.specs.SaveEffects.{NamesFound};
 ghost use Rattle.mail_save.specs.declared.first.SavedParts.{SavedParts as SavedPartsValue};
-ghost use Rattle.mail_save.specs.Ready.{IsReadyToSave, save_lists, lists_delivered};
-ghost use Rattle.mail_save.specs.Record.{IsSettledInStore};
 ghost use Rattle.mail_save.specs.Task.{EndsSave, HasLeft, IsAttached, IsReadyToDeliver, Saves, StepsDelivery, save_events_left, refused_did, failing_did};
 ghost use Rattle.mail_save.specs.declared.task.SaveStage.TheVariants as stage;
 
@@ -36,7 +31,7 @@ use mdbox_base::{Did, FileNo, Half, InstRow, MapUid, Name, Progress, Refusal, Re
 use save_instances::{Attaching, let_go_all};
 use std::marker::Model;
 use std::mem;
-use store_core::{Stopped, Store, listings_are_shown};
+use store_core::{Stopped, Store};
 
 /// Which event of a delivery is the next.
 #[derive(Drop)]
@@ -144,25 +139,18 @@ impl SaveTask {
         // to the store, with so many pins of each file, and in which no request has taken the file that it finds.
         ensures does { (octets : List ℕ) (pins : ℕ → ℕ) (after : Around) → StepsDelivery self.old self.new octets pins after store.old store.new (D.history store.old.disk) (D.history store.new.disk) (D.faults store.old.disk) (D.faults store.new.disk) (ended_by result) }
 
-        // Of the message with these octets, where the task is ready for it: of a settled disk on which a record may name each known
-        // instance, each crash image at every moment is safe for its lists, or for those with the message, whatever fails. Unless
-        // the store is stopped then, the disk is settled for those that the answer tells.
-        ensures moments { (octets : List ℕ) → IsReadyToSave self.old.stage self.old.name self.old.time self.old.size octets store.old (D.history store.old.disk) → (lists : Lists) → IsSettledInStore lists store.old (D.history store.old.disk) → Leaves lists (save_lists self.old.stage self.old.name octets lists) (D.history store.old.disk) (D.history store.new.disk) }
-        ensures settled { store.new.stopped ≡ false → (octets : List ℕ) → IsReadyToSave self.old.stage self.old.name self.old.time self.old.size octets store.old (D.history store.old.disk) → (lists : Lists) → IsSettledInStore lists store.old (D.history store.old.disk) → IsSettledFor (lists_delivered self.old.stage self.old.name octets result lists) (D.history store.new.disk) }
-
-        // Unless it stops the store, it moves only its own claims, and leaves to other tasks what is theirs.
-        ensures claims { store.new.stopped ≡ false → MovesClaims (save_claims self.old.stage) (save_claims self.new.stage) store.old store.new }
-        ensures leaves { store.new.stopped ≡ false → LeavesOthers (save_claims self.old.stage) store.old store.new (D.history store.old.disk) (D.history store.new.disk) }
+        // Unless it stops the store, it moves only its own claims, and leaves to other tasks what is theirs. One that was replied claims
+        // nothing.
+        ensures claims { store.new.stopped ≡ false → MovesOwnClaims (save_claims self.old.stage) (save_claims self.new.stage) result store.old store.new (D.history store.old.disk) (D.history store.new.disk) }
 
         // It replies so if and only if the store is stopped then, and one that was stopped stays as it was. Else no storage file is
-        // doomed more, and a task that was replied claims nothing.
-        ensures ended { EndsSave self.new.stage result store.old store.new }
+        // doomed more.
+        ensures ended { EndsSave result store.old store.new }
 
         // So it ends.
         ensures left { result ≡ progress.More → save_events_left self.new.stage store.new.instances < save_events_left self.old.stage store.old.instances }
         ensures request { (self.new.name ≡ self.old.name) × (self.new.time ≡ self.old.time) × (self.new.size ≡ self.old.size) }
     {
-        listings_are_shown();
         store.facts();
         known_id(store);
         if store.stopped() {

@@ -9,8 +9,8 @@ use Rattle.request_text.specs.BatchText.{batch_text}
 use Rattle.request_text.specs.declared.outcome.Outcome.{Outcome}
 use Rattle.request_text.specs.declared.outcome.Outcome.TheVariants as outcome
 use Rattle.mdbox_top.specs.BatchRun.{IsBatchDone, ShowsReplies}
-use Rattle.mdbox_top.specs.PrintedReplies.{AreRepliesTo, ReplyHasWords}
-use Rattle.mdbox_top.proofs.ReplyReadLemmas.{prefix_read}
+use Rattle.printed_replies.specs.PrintedReplies.{AreRepliesTo, ReplyHasWords}
+use Rattle.printed_replies.proofs.ReplyReadLemmas.{prefix_read}
 
 abbrev Begins : List ℕ → List ℕ → Type 0
 Begins printed text = (rest : List ℕ) × (printed ++ rest ≡ text)

@@ -16,8 +16,6 @@ pub mod MakeRun
 pub mod MoveRun
 pub mod Numbers
 pub mod OpeningOutcome
-pub mod PrintedPlaces
-pub mod PrintedReplies
 pub mod PurgeRun
 pub mod RebuildRun
 pub mod ResyncRun

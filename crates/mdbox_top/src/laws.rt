@@ -1,58 +1,22 @@
 // Laws of what is printed.
-ghost use Rattle.std.specs.Prelude.{◌≡◌, ◌≤◌, ◌++◌, ℕ, All, AllPairs, List, Option, Some, length, map, sum_by, take, ◌⊎◌, false};
+ghost use Rattle.std.specs.Prelude.{◌≡◌, ◌≤◌, ◌++◌, ℕ, All, List, Option, Some, length, map, sum_by, take, ◌⊎◌, false};
 ghost use Rattle.disk_model.specs.Disk.{Faults, History};
 ghost use Rattle.exercise_course.specs.Hindered.{BeginsFree, is_full};
-ghost use Rattle.journal.specs.Journal.{IsLegal, JournalStep, Requests};
-ghost use Rattle.lanes.specs.Worlds.{AreOfLanes};
-ghost use Rattle.list_machine.specs.Run.{Run};
+ghost use Rattle.journal.specs.Journal.{Requests};
 ghost use Rattle.mdbox_base.specs.declared.replies.Reply.{Reply};
 ghost use Rattle.mdbox_base.specs.declared.replies.Reply.TheVariants as reply;
-ghost use Rattle.mdbox_base.specs.declared.requests.Request.{Request};
-ghost use Rattle.mdbox_base.specs.declared.script.JournalEntry.{JournalEntry};
 ghost use Rattle.model_lists.specs.Lists.{Lists};
 ghost use Rattle.model_meaning.specs.BoxMeaning.{BoxMeaning};
 ghost use Rattle.model_meaning.specs.MapMeaning.{MapMeaning};
 ghost use Rattle.script_run.specs.Opening.{LogsShowLists};
-ghost use Rattle.script_run.specs.Script.{ServesScript};
 ghost use Rattle.request_text.specs.BatchText.{batch_text};
-ghost use Rattle.request_text.specs.ReplyText.{reply_text};
 ghost use Rattle.request_text.specs.declared.outcome.Outcome.{Outcome};
 ghost use Rattle.request_text.specs.declared.outcome.Outcome.TheVariants as outcome;
 ghost use Rattle.mdbox_top.specs.BatchRun.{IsBatchDone};
 ghost use Rattle.mdbox_top.specs.CountsRun.{counts_of};
 ghost use Rattle.mdbox_top.specs.ExerciseRun.{IsCountedUp, IsDoneInOrder, made_requests};
 ghost use Rattle.mdbox_top.specs.Numbers.{messages_listed, octets_listed, summary_of};
-ghost use Rattle.mdbox_top.specs.PrintedPlaces.{NumberJournal};
-ghost use Rattle.mdbox_top.specs.PrintedReplies.{AreRepliesTo, IsReplyTo, ReplyHasWords};
-
-/// The places that are printed of a script's replies number its journal, from 1 and without gaps.
-pub fn printed_places_number_the_journal()
-    ensures { (script : Requests) (lists : Lists) (given : List Reply) (entries : List JournalEntry) (began now : Faults) (old opened new : Option History) → length given ≡ length script → ServesScript script lists given entries began now old opened new → NumberJournal entries given }
-{}
-
-/// A script of one lane is done in its own order: the steps of an earlier request stand before those of a later one.
-pub fn one_lane_keeps_script_order()
-    ensures { (script : Requests) (start : Lists) (run : Run) (journal : List JournalStep) (replies : List (Option Reply)) (old new : Faults) → AreOfLanes 1 script → IsLegal start script run journal replies old new → AllPairs (λ a b. a.request ≤ b.request) journal }
-{}
-
-/// A reply to a request is read from its text in one way, whatever follows; so none begins another one to the same request.
-pub fn no_reply_begins_another()
-    ensures { (asked : Request) (a b : Reply) (x y : List ℕ) → IsReplyTo asked a → IsReplyTo asked b → ReplyHasWords a → ReplyHasWords b
-        → reply_text a ++ x ≡ reply_text b ++ y → (a ≡ b) × (x ≡ y) }
-{}
-
-/// So are the replies to the requests of a script, from what `batch` prints of them.
-pub fn printed_replies_are_read_in_one_way()
-    ensures { (script : Requests) (i j : List JournalEntry) (a b : List Reply) (x y : List ℕ) → AreRepliesTo script a → AreRepliesTo script b → All ReplyHasWords a → All ReplyHasWords b
-        → batch_text i (map Some a) ++ x ≡ batch_text j (map Some b) ++ y → (a ≡ b) × (x ≡ y) }
-{}
-
-/// What was printed of a script, whole or not, tells the replies that are whole in it: if it begins with the first n replies of one run, and
-/// is a prefix of what another run prints, that run's first n replies are the same.
-pub fn a_printed_prefix_tells_its_replies()
-    ensures { (script : Requests) (i j : List JournalEntry) (a b : List Reply) (n : ℕ) (printed cut rest : List ℕ) → AreRepliesTo script a → AreRepliesTo script b → All ReplyHasWords a → All ReplyHasWords b
-        → printed ≡ batch_text i (map Some (take n a)) ++ cut → printed ++ rest ≡ batch_text j (map Some b) → take n a ≡ take n b }
-{}
+ghost use Rattle.printed_replies.specs.PrintedReplies.{AreRepliesTo, ReplyHasWords};
 
 /// So `batch` with status 5 or 8: of two runs of a script that print the same, whole or cut off, the replies that are whole in it are the same.
 pub fn batch_tells_the_replies_that_are_whole()
@@ -60,11 +24,6 @@ pub fn batch_tells_the_replies_that_are_whole()
         (a : IsBatchDone script (Some held) (Some (held ++ printed)) old new began now one) (b : IsBatchDone script (Some held) (Some (held ++ printed)) older newer before after other)
         → AreRepliesTo script a.given → AreRepliesTo script b.given → All ReplyHasWords a.given → All ReplyHasWords b.given
         → printed ≡ batch_text a.journal (map Some (take n a.given)) ++ cut → take n a.given ≡ take n b.given }
-{}
-
-/// The replies of a script that was served are those of their requests' kinds.
-pub fn served_replies_are_to_their_requests()
-    ensures { (script : Requests) (lists : Lists) (given : List Reply) (entries : List JournalEntry) (began now : Faults) (old opened new : Option History) → length given ≡ length script → ServesScript script lists given entries began now old opened new → AreRepliesTo script given }
 {}
 
 /// Four of the numbers of an exercise are those that the request `counts` replies of the same logs.

@@ -3,7 +3,6 @@
 
 pub use laws::{
     counted_messages_are_listed, exercises_are_done_in_order, exercises_count_their_requests,
-    printed_places_number_the_journal,
 };
 pub use request_text::Status;
 pub use run::{mdbox_alone, mdbox_run};
@@ -14,7 +13,6 @@ mod deliver;
 mod exercise;
 mod init;
 mod input_commands;
-mod known;
 mod laws;
 mod numbers;
 mod opening;

@@ -1,19 +1,21 @@
 -- What a purge has copied, with one message more.
-use Rattle.std.proofs.Common.{◌≡◌, ◌≢◌, ◌≤◌, ◌<◌, ◌+◌, ◌==◌, ◌&&◌, ◌||◌, ◌⊎◌, ℕ, Bool, true, false, not, List, [], ◌∷◌, ◌++◌, length, refl, sym, ◌∙◌, ap, subst, arith, inl, inr, All, Some}
+use Rattle.std.proofs.Common.{◌≡◌, ◌≢◌, ◌≤◌, ◌<◌, ◌+◌, ◌==◌, ◌&&◌, ◌||◌, ◌⊎◌, ℕ, Bool, true, false, not, List, [], ◌∷◌, ◌++◌, length, refl, sym, ◌∙◌, ap, subst, arith, inl, inr, All, Option, Some}
 use Rattle.std.specs.Prelude.{AllPairs, Contains, nat_le, nat_lt, sum_by, if◌then◌else◌}
 use Rattle.std.specs.List.{list_any}
+use Rattle.std.specs.Option.{option_map_or}
 use Rattle.std.proofs.lemmas.Bool.{cases_lt, eq-eqb}
 use Rattle.std.proofs.lemmas.Grind.{common_steps}
-use Rattle.std.proofs.lemmas.List.Elements.{All-cons, All-contains, All-contains_itself, All-nil, All-push, All-weaker}
+use Rattle.std.proofs.lemmas.List.Elements.{All-cons, All-contains, All-contains_itself, All-head, All-nil, All-push, All-tail, All-weaker}
+use Rattle.std.proofs.lemmas.List.Kept.{AllPairs-cons}
 use Rattle.std.proofs.lemmas.List.Sums.{get_or-le-sum_by, sum_by-cons}
 use Rattle.mdbox_base.specs.declared.entries.MapPlace.{MapPlace}
 use Rattle.model_meaning.specs.MapFits.{HasRecord}
 use Rattle.model_meaning.specs.MapMeaning.{MapMeaning, MapRecord, record_at}
 use Rattle.model_meaning.specs.Sound.{AreApart, IsSoundMap, IsSoundRecord}
-use Rattle.model_octets.proofs.PairLemmas.{pairs_head, pairs_push, pairs_tail}
+use Rattle.model_octets.proofs.PairLemmas.{pairs_head, pairs_nil, pairs_push, pairs_tail}
 use Rattle.list_machine.specs.Run.{is_copied_from}
 use Rattle.purge_task.specs.Copied.{IsNextWanted}
-use Rattle.purge_task.specs.Keeping.{AreCopiedUpTo, target_header}
+use Rattle.purge_task.specs.Keeping.{AreCopiedUpTo, AreCopiesInRow, size_at, target_header}
 use Rattle.map_rows.specs.declared.rows.MapRow.{MapRow}
 use Rattle.purge_task.proofs.CopyLemmas.{next_contained}
 use Rattle.purge_task.proofs.RunLemmas.{any_push}
@@ -94,16 +96,43 @@ or_right false b e = e
 wanted_flag : (n : ℕ) → 1 ≤ n → nat_lt 0 n ≡ true
 wanted_flag n l = grind (arith, common_steps, l)
 
+-- ---- copies in a row
+
+-- those behind an offset
+in_row_behind : (m : MapMeaning) (offset end : ℕ) (places : List MapPlace) → AreCopiesInRow m offset places end → All (λ p. offset ≤ p.offset) places
+in_row_behind m offset end [] h = All-nil _
+in_row_behind m offset end (p ∷ ps) h =
+    let at = h.0 in
+    All-cons (λ (q : MapPlace). offset ≤ q.offset) p ps (omega (arith, at))
+    (All-weaker (λ (q : MapPlace). offset + size_at m p.uid.0 ≤ q.offset) (λ (q : MapPlace). offset ≤ q.offset) (λ q l. omega (arith, l)) ps (in_row_behind m (offset + size_at m p.uid.0) end ps h.1))
+
+-- each ends before the next one begins
+pub in_row_follow : (m : MapMeaning) (Holds : MapPlace → MapRecord → Type 0) (offset end : ℕ) (places : List MapPlace) → AreCopiesInRow m offset places end → All (λ p. HasRecord m p.uid.0 (Holds p)) places → AllPairs (λ a b. HasRecord m a.uid.0 (λ row. a.offset + row.size ≤ b.offset)) places
+in_row_follow m Holds offset end [] h there = pairs_nil (λ (a b : MapPlace). HasRecord m a.uid.0 (λ row. a.offset + row.size ≤ b.offset))
+in_row_follow m Holds offset end (p ∷ ps) h there =
+    let has = All-head (λ (q : MapPlace). HasRecord m q.uid.0 (Holds q)) p ps there in
+    let size : size_at m p.uid.0 ≡ has.0.size = ap (λ (o : Option MapRecord). option_map_or (λ r. r.size) o 0) has.1 in
+    let at = h.0 in
+    AllPairs-cons (λ (a b : MapPlace). HasRecord m a.uid.0 (λ row. a.offset + row.size ≤ b.offset)) p ps
+    (All-weaker (λ (q : MapPlace). offset + size_at m p.uid.0 ≤ q.offset) (λ (q : MapPlace). HasRecord m p.uid.0 (λ row. p.offset + row.size ≤ q.offset)) (λ q l. (has.0, has.1, omega (arith, l, size, at))) ps (in_row_behind m (offset + size_at m p.uid.0) end ps h.1))
+    (in_row_follow m Holds (offset + size_at m p.uid.0) end ps h.1 (All-tail (λ (q : MapPlace). HasRecord m q.uid.0 (Holds q)) p ps there))
+
+-- one more at the end
+in_row_push : (m : MapMeaning) (offset end : ℕ) (places : List MapPlace) (place : MapPlace) → AreCopiesInRow m offset places end → place.offset ≡ end → AreCopiesInRow m offset (places ++ place ∷ []) (end + size_at m place.uid.0)
+in_row_push m offset end [] place h at = (at ∙ sym h, ap (λ (n : ℕ). n + size_at m place.uid.0) h)
+in_row_push m offset end (p ∷ ps) place h at = (h.0, in_row_push m (offset + size_at m p.uid.0) end ps place h.1 at)
+
+-- ---- all that was copied
+
 -- the message that is next was copied to the end of the target
-pub copied_more : (m : MapMeaning) (source from end : ℕ) (copied : List MapPlace) (row : MapRow) (place : MapPlace) → IsSoundMap m → AreCopiedUpTo source from end copied m → (h : IsNextWanted m source from row) → place.uid.0 ≡ h.r.uid → place.offset ≡ end → length target_header ≤ end
+pub copied_more : (m : MapMeaning) (source from end : ℕ) (copied : List MapPlace) (row : MapRow) (place : MapPlace) → IsSoundMap m → AreCopiedUpTo source from end copied m → (h : IsNextWanted m source from row) → place.uid.0 ≡ h.r.uid → place.offset ≡ end
     → AreCopiedUpTo source (h.r.offset + h.r.size) (end + h.r.size) (copied ++ place ∷ []) m
-copied_more m source from end copied row place sound c h uid_is at header = record {
+copied_more m source from end copied row place sound c h uid_is at = record {
   there = All-push Now copied place (All-weaker Before Now (λ p r. (r.0, r.1, (r.2.0, (let l = r.2.1 in let b = h.behind in omega (arith, l, b)), (let l = r.2.2 in omega (arith, l))))) copied c.there)
       (h.r, ap (record_at m) uid_is ∙ h.there, (h.in_file, (omega arith), (omega (arith, at))));
   every = All-weaker (Contains m.records) (λ (x : MapRecord). x.file ≡ source → x.offset < h.r.offset + h.r.size → 1 ≤ x.count → list_any (λ p. p.uid.0 == x.uid) (copied ++ place ∷ []) ≡ true) one m.records (All-contains_itself m.records);
   once = pairs_push (λ (a b : MapPlace). a.uid.0 ≢ b.uid.0) copied place c.once (All-weaker Before (λ (p : MapPlace). p.uid.0 ≢ place.uid.0) other copied c.there);
-  behind = All-push (λ (p : MapPlace). length target_header ≤ p.offset) copied place c.behind (omega (arith, at, header));
-  follow = pairs_push (λ (a b : MapPlace). HasRecord m a.uid.0 (λ r. a.offset + r.size ≤ b.offset)) copied place c.follow (All-weaker Before (λ (p : MapPlace). HasRecord m p.uid.0 (λ r. p.offset + r.size ≤ place.offset)) (λ p r. (r.0, r.1, (let l = r.2.2 in omega (arith, l, at)))) copied c.there);
+  row = subst (λ (n : ℕ). AreCopiesInRow m (length target_header) (copied ++ place ∷ []) (end + n)) size (in_row_push m (length target_header) end copied place c.row at);
   fits =
       let l = one_less source from (h.r.offset + h.r.size) m.records h.r (let b = h.behind in omega (arith, b)) here counted in
       let f = c.fits in
@@ -115,6 +144,9 @@ copied_more m source from end copied row place sound c h uid_is at header = reco
 
     Now : MapPlace → Type 0
     Now p = HasRecord m p.uid.0 (λ r. (r.file ≡ source) × (r.offset + r.size ≤ h.r.offset + h.r.size) × (p.offset + r.size ≤ end + h.r.size))
+
+    size : size_at m place.uid.0 ≡ h.r.size
+    size = ap (λ (o : Option MapRecord). option_map_or (λ r. r.size) o 0) (ap (record_at m) uid_is ∙ h.there)
 
     here : Contains m.records h.r
     here = next_contained m source from row h

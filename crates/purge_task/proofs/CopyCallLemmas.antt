@@ -34,17 +34,19 @@ use Rattle.purge_task.specs.Claims.{claims_of_sources, claims_of_target, purge_c
 use Rattle.purge_task.specs.Clause.{IsPurgeStep, PurgeSteps}
 use Rattle.purge_task.specs.Copied.{IsRegionAdded, IsSourceWith, IsTargetAt, NotesCopy}
 use Rattle.purge_task.specs.Found.{messages_in}
-use Rattle.purge_task.specs.Keeping.{AreCopiedUpTo, AreSourcesApart, HasPurged, HasSwitchRoom, IsCopyingFirst, IsCopyingTo, IsSourceCopied, PurgeValue}
+use Rattle.purge_task.specs.Keeping.{AreCopiedUpTo, AreSourcesApart, HasPurged, HasSwitchRoom, HasTargetHeader, IsCopyingFirst, IsCopyingTo, IsSourceCopied, PurgeValue}
 use Rattle.purge_task.specs.declared.task.PurgeStage.{PurgeStage}
 use Rattle.purge_task.specs.declared.task.PurgeStage.TheVariants as stage
 use Rattle.purge_task.specs.declared.work.Source.{Source}
 use Rattle.purge_task.specs.declared.work.Work.{Work}
 use Rattle.purge_task.proofs.CopiedOctetsLemmas.{copied_octets}
 use Rattle.purge_task.proofs.CopyStepLemmas.{copy_steps}
-use Rattle.purge_task.proofs.CopyingLemmas.{HasMore, IsCopyingOne, each_still, grown_amount, grown_ends, grown_keeps, grown_of, later_targets, more_copied, more_grows, target_untaken}
+use Rattle.purge_task.proofs.CopyingLemmas.{HasMore, IsCopyingOne, each_still, grown_amount, grown_ends, grown_keeps, grown_of, header_before, later_targets, more_copied, more_grows, target_untaken}
 use Rattle.purge_task.proofs.EventLemmas.{fall}
 use Rattle.purge_task.proofs.RegionLemmas.{with_end}
 use Rattle.purge_task.proofs.TargetLeavingLemmas.{one_file_leaves, same_others}
+use Rattle.store_core.specs.Running.{IsStore}
+use Rattle.purge_task.proofs.SameRegionLemmas.{regions_but}
 
 -- ---- what is noted
 
@@ -206,6 +208,7 @@ copied_ready {D = D} work now source left target row disk store before after sou
       behind = subst (λ (k : ℕ). k < target.0) (sym file_same) one.copying.behind;
       copied = copies_as store.map source.file.0 n.noted.file.0 (one.wanted.r.offset + one.wanted.r.size) now.from (one.copying.end + one.wanted.r.size) end (source.copied.items ++ place ∷ []) n.noted.copied.items file_same (let f = n.from in omega (arith, f, offset, size)) (omega (arith, size)) n.with_copy.listed
           (more_copied work source left target row store before place sound one (ap (λ (x : MapRow). x.uid.0) one.wanted.shown) refl);
+      header = between-on (IsRegionAdded row target.0) (λ d. HasTargetHeader (files_of d (file.Mail target.0))) (λ d. HasTargetHeader (files_of d (file.Mail target.0))) before after (λ a b r begins. header_before _ (a (file.Mail target.0)) (b (file.Mail target.0)) r.added begins) added one.copying.header;
       octets = octets_now work source n.noted left target row store before after one n.with_copy known added others;
       stays = between-on (IsRegionAdded row target.0) (λ d. MayLeave (d (file.Mail target.0)) None → ⊥) (λ d. MayLeave (d (file.Mail target.0)) None → ⊥) before after (λ a b r none gone. none (r.added.leaves gone)) added one.copying.stays;
     }
@@ -233,8 +236,8 @@ runs_still target end disk old runs = ap (λ (b : Bool). with_end target end dis
 pub copied_says : {D : Type 0} → (H : D → Option History) (F : D → Faults) (t next : PurgeValue) (work now : Work) (source : Source) (left : List Source) (target : FileNo) (row : MapRow) (old new : StoreValue D) → t.stage ≡ stage.Copying work → next.stage ≡ stage.Copying now → next.did ≡ did.Quiet → next.dropped ≡ t.dropped → next.files ≡ t.files → next.instances ≡ t.instances
     → old.stopped ≡ false → IsSoundMap old.map → All IsUsedFile old.files.files → IsAsKnown old.files.files target.0 (H old.disk) → (one : IsCopyingOne work source left target row old (H old.disk)) → IsNotedFor row one.copying.end source left work now
     → ((lists : Lists) → IsSettledFor lists (H old.disk) → Leaves lists lists (H old.disk) (H new.disk)) → MailIsKept old.map (H old.disk) (H new.disk) → ((lists : Lists) → IsSettledFor lists (H old.disk) → IsSettledFor lists (H new.disk)) → Between (IsRegionAdded row target.0) (H old.disk) (H new.disk) → SameButFor (file.Mail target.0) (H old.disk) (H new.disk)
-    → Between (HasMore target.0) (H old.disk) (H new.disk) → IsTargetAt target.0 (one.copying.end + row.size) old new → new.stopped ≡ false → Grows (H old.disk) (H new.disk) → NoFault (F old.disk) (F new.disk) → IsPurgeStep t next progress.More old new (H old.disk) (H new.disk) (F old.disk) (F new.disk)
-copied_says {D = D} H F t next work now source left target row old new at to how dropped files instances runs sound used known one n moments mail rests added others more there on grows quiet = record {
+    → Between (HasMore target.0) (H old.disk) (H new.disk) → IsTargetAt target.0 (one.copying.end + row.size) old new → new.stopped ≡ false → Grows (H old.disk) (H new.disk) → NoFault (F old.disk) (F new.disk) → IsStore (H old.disk) old → IsPurgeStep t next progress.More old new (H old.disk) (H new.disk) (F old.disk) (F new.disk)
+copied_says {D = D} H F t next work now source left target row old new at to how dropped files instances runs sound used known one n moments mail rests added others more there on grows quiet store = record {
   ready = λ answer r. subst (λ (s : PurgeStage). HasPurged s new (H new.disk)) (sym to) (subst (λ (s : StoreValue D). HasPurged (stage.Copying now) s (H new.disk)) (sym is) (copied_ready work now source left target row new.disk old (H old.disk) (H new.disk) sound one n known added others));
   does = (
     [],
@@ -242,21 +245,26 @@ copied_says {D = D} H F t next work now source left target row old new at to how
         (copy_steps around t next work now source n.noted left row place one.copying.end target.0 new.disk grown old (H old.disk) (H new.disk) (F old.disk) (F new.disk) at one.left_are to n.after n.with_copy one.apart sound one.copying.copied one.wanted (ap (λ (x : MapRow). x.uid.0) one.wanted.shown)
         how dropped files instances runs (grown_of target.0 one.copying.end end old.files.files one.copying.ends later) (record { moments = moments; rests = rests; grows = grows; mail = mail; quiet = quiet })),
   );
+  first = λ begins. absurd (let e : stage.Copying work ≡ stage.First = sym at ∙ begins in cc e);
+  refused = λ why e read stop. absurd (let k : progress.More ≡ progress.Done (reply.Refused why) = e in cc k);
   stopped = record { 0 = λ e. absurd (let k : progress.More ≡ progress.Done (reply.Refused refusal.Stopped) = e in cc k); 1 = λ e. absurd (fall new.stopped e on) };
-  claims = λ r. subst (λ (s : StoreValue D). MovesClaims (purge_claims t.stage) (purge_claims next.stage) old s) (sym is) (subst (λ (s : PurgeStage). MovesClaims (purge_claims s) (purge_claims next.stage) old after) (sym at)
-      (subst (λ (s : PurgeStage). MovesClaims (purge_claims (stage.Copying work)) (purge_claims s) old after) (sym to) (moves_copied work now source n.noted left target.0 end new.disk old one.left_are n.after (file_as place source n.noted n.with_copy) (target_as place source n.noted n.with_copy))));
-  leaves = λ r. subst (λ (s : StoreValue D). LeavesOthers (purge_claims t.stage) old s (H old.disk) (H new.disk)) (sym (is ∙ sym (runs_still target.0 end new.disk old runs))) (subst (λ (s : PurgeStage). LeavesOthers (purge_claims s) old (with_end target.0 end new.disk old.stopped old) (H old.disk) (H new.disk)) (sym at)
-      (one_file_leaves (purge_claims (stage.Copying work)) target.0 new.disk grown old (H old.disk) (H new.disk) one.copying.unnamed (target_untaken work source left target old one.left_are one.target_is used one.copying.taken)
-      (λ may. more_grows target.0 one.copying.end end old (with_end target.0 end new.disk old.stopped old) (H old.disk) (H new.disk) one.copying.ends (grown_ends target.0 one.copying.end end old.files.files one.copying.ends) later more)
-      (λ m apart. file-other target.0 m (ending_at end) old.files.files (λ f. refl) apart) (same_others target.0 (H old.disk) (H new.disk) others)));
-  ended = λ given e. absurd (let k : progress.More ≡ progress.Done given = e in cc k);
+  regions = λ r. regions_but target.0 old new.map (H old.disk) (H new.disk) store runs (ap (λ (s : StoreValue D). s.map) is) one.copying.unnamed others;
+  claims = λ r. record {
+    moves = subst (λ (s : StoreValue D). MovesClaims (purge_claims t.stage) (purge_claims next.stage) old s) (sym is) (subst (λ (s : PurgeStage). MovesClaims (purge_claims s) (purge_claims next.stage) old after) (sym at)
+        (subst (λ (s : PurgeStage). MovesClaims (purge_claims (stage.Copying work)) (purge_claims s) old after) (sym to) (moves_copied work now source n.noted left target.0 end new.disk old one.left_are n.after (file_as place source n.noted n.with_copy) (target_as place source n.noted n.with_copy))));
+    leaves = subst (λ (s : StoreValue D). LeavesOthers (purge_claims t.stage) old s (H old.disk) (H new.disk)) (sym (is ∙ sym (runs_still target.0 end new.disk old runs))) (subst (λ (s : PurgeStage). LeavesOthers (purge_claims s) old (with_end target.0 end new.disk old.stopped old) (H old.disk) (H new.disk)) (sym at)
+        (one_file_leaves (purge_claims (stage.Copying work)) target.0 new.disk grown old (H old.disk) (H new.disk) one.copying.unnamed (target_untaken work source left target old one.left_are one.target_is used one.copying.taken)
+        (λ may. more_grows target.0 one.copying.end end old (with_end target.0 end new.disk old.stopped old) (H old.disk) (H new.disk) one.copying.ends (grown_ends target.0 one.copying.end end old.files.files one.copying.ends) later more)
+        (λ m apart. file-other target.0 m (ending_at end) old.files.files (λ f. refl) apart) (same_others target.0 (H old.disk) (H new.disk) others)));
+    ended = λ given e. absurd (let k : progress.More ≡ progress.Done given = e in cc k);
+  };
   grows = grows;
   mail = mail;
   reads = let e = ap (λ (f : Faults). f.reads) quiet in omega (arith, e);
   changes = let e = ap (λ (f : Faults). f.changes) quiet in omega (arith, e);
   calm = λ told. ap (λ (f : Faults). f.reads) quiet;
   unfailed = λ r. ap (λ (f : Faults). f.changes) quiet;
-  fell = λ e. absurd (fall new.stopped e on);
+  fell = λ was e. absurd (fall new.stopped e on);
 }
   where
     end : ℕ

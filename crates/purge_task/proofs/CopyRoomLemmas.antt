@@ -14,7 +14,7 @@ use Rattle.model_octets.proofs.SearchLemmas.{among, found_one}
 use Rattle.map_rows.specs.declared.rows.MapRow.{MapRow}
 use Rattle.purge_task.specs.Copied.{IsNextWanted}
 use Rattle.purge_task.specs.Found.{messages_in}
-use Rattle.purge_task.specs.Keeping.{AreCopiedUpTo, target_header}
+use Rattle.purge_task.specs.Keeping.{AreCopiedUpTo}
 use Rattle.purge_task.specs.declared.work.Source.{Source}
 use Rattle.purge_task.proofs.CopiedMoreLemmas.{copied_more}
 use Rattle.purge_task.proofs.CopyLemmas.{kept_of}
@@ -87,10 +87,10 @@ copied_few m source from end copied h = few_places source m.records copied h.onc
     (All-weaker (λ (p : MapPlace). HasRecord m p.uid.0 (λ r. (r.file ≡ source) × (r.offset + r.size ≤ from) × (p.offset + r.size ≤ end))) (IsOfRecord m.records source)
     (λ p r. let f = found_one (λ (x : MapRecord). x.uid == p.uid.0) m.records r.0 r.1 in (r.0, f.0, eqb-true r.0.uid p.uid.0 f.1, r.2.0)) copied h.there)
 
-pub room_for_copy : (m : MapMeaning) (source : Source) (from end : ℕ) (row : MapRow) → IsSoundMap m → AreCopiedUpTo source.file.0 from end source.copied.items m → IsNextWanted m source.file.0 from row → length target_header ≤ end → messages_in m source.file.0 ≤ vec_capacity source.copied → length source.copied.items < vec_capacity source.copied
-room_for_copy m source from end row sound copied wanted header room =
+pub room_for_copy : (m : MapMeaning) (source : Source) (from end : ℕ) (row : MapRow) → IsSoundMap m → AreCopiedUpTo source.file.0 from end source.copied.items m → IsNextWanted m source.file.0 from row → messages_in m source.file.0 ≤ vec_capacity source.copied → length source.copied.items < vec_capacity source.copied
+room_for_copy m source from end row sound copied wanted room =
     let place : MapPlace = record { uid = record { 0 = wanted.r.uid }; offset = end } in
-    let few = copied_few m source.file.0 (wanted.r.offset + wanted.r.size) (end + wanted.r.size) (source.copied.items ++ place ∷ []) (copied_more m source.file.0 from end source.copied.items row place sound copied wanted refl refl header) in
+    let few = copied_few m source.file.0 (wanted.r.offset + wanted.r.size) (end + wanted.r.size) (source.copied.items ++ place ∷ []) (copied_more m source.file.0 from end source.copied.items row place sound copied wanted refl refl) in
     let long = length-append source.copied.items (place ∷ []) in
     let one : length (place ∷ []) ≡ 1 = refl in
     omega (arith, few, long, one, room)

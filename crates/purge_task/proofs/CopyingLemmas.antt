@@ -1,10 +1,10 @@
 -- The file of which a message is copied, and its target, which has grown.
-use Rattle.std.proofs.Common.{◌≡◌, ◌≢◌, ◌≤◌, ◌<◌, ◌+◌, ◌==◌, ◌&&◌, ◌++◌, ℕ, Bool, true, false, cond, List, [], ◌∷◌, length, Option, Some, None, All, refl, sym, ◌∙◌, ap, subst, arith, inl, inr}
+use Rattle.std.proofs.Common.{◌≡◌, ◌≢◌, ◌≤◌, ◌<◌, ◌+◌, ◌==◌, ◌&&◌, ◌++◌, ℕ, Bool, true, false, cond, List, [], ◌∷◌, length, append_assoc, Option, Some, None, All, refl, sym, ◌∙◌, ap, subst, arith, inl, inr}
 use Rattle.std.specs.Option.{IfSome, option_and_then, option_map, option_map_or}
 use Rattle.std.proofs.lemmas.Bool.{cases_eq, eq-eqb}
 use Rattle.std.proofs.lemmas.List.Elements.{All-cons, All-head, All-nil, All-tail}
 use Rattle.std.proofs.lemmas.List.Sums.{sum_by-cons}
-use Rattle.disk_model.specs.Disk.{Between, DiskState, History, reading}
+use Rattle.disk_model.specs.Disk.{Between, DiskState, FileState, History, reading}
 use Rattle.disk_model.specs.declared.name.FileName.TheVariants as file
 use Rattle.disk_model.proofs.BetweenLemmas.{between-map}
 use Rattle.mdbox_base.specs.declared.entries.MapPlace.{MapPlace}
@@ -21,7 +21,7 @@ use Rattle.task_claims.specs.Claims.{Due, Emptied, Held, Made, Pinned, PlacingPi
 use Rattle.task_claims.specs.Leaving.{OnlyGrows, OthersTook}
 use Rattle.purge_task.specs.Claims.{claims_of_sources, purge_claims, sources_left}
 use Rattle.purge_task.specs.Copied.{IsNextWanted, IsNextWantedFirst, IsShownRow}
-use Rattle.purge_task.specs.Keeping.{AreCopiedUpTo, AreSourcesApart, HasPurged, HasSwitchRoom, IsCopyingFirst, IsCopyingTo, IsTargetFirst, IsTargetToMake, IsToBegin, target_header}
+use Rattle.purge_task.specs.Keeping.{AreCopiedUpTo, AreSourcesApart, HasPurged, HasSwitchRoom, HasTargetHeader, IsCopyingFirst, IsCopyingTo, IsTargetFirst, IsTargetToMake, IsToBegin, target_header}
 use Rattle.purge_task.specs.Reserved.{HasRoomForCopy}
 use Rattle.purge_task.specs.declared.task.PurgeStage.TheVariants as stage
 use Rattle.purge_task.specs.declared.work.Source.{Source}
@@ -46,7 +46,6 @@ pub record IsCopyingOne {D : Type 0} (work : Work) (source : Source) (left : Lis
   pub copying : IsCopyingTo target.0 source work store history
   pub each : All (IsToBegin work store) left
   pub wanted : IsNextWanted store.map source.file.0 work.from row
-  pub header : length target_header ≤ copying.end
 
 pub first_left : (work : Work) (target : FileNo) → IsTargetFirst (sources_left work) target → (source : Source) × (left : List Source) × (sources_left work ≡ source ∷ left)
 first_left work target is = by_left (sources_left work) refl is
@@ -54,16 +53,6 @@ first_left work target is = by_left (sources_left work) refl is
     by_left : (l : List Source) → sources_left work ≡ l → IsTargetFirst l target → (source : Source) × (left : List Source) × (sources_left work ≡ source ∷ left)
     by_left [] are none = absurd none
     by_left (source ∷ left) are is = (source, left, are)
-
-begun_before : {D : Type 0} → (target end : ℕ) (store : StoreValue D) → All IsUsedFile store.files.files → is_taken_in target store.files.files ≡ true → place_begun_in target store.files.files ≡ Some (length target_header) → end_in target store.files.files ≡ Some end → length target_header ≤ end
-begun_before target end store used taken begun ends =
-    let d = taken_file target store.files.files used taken in
-    let b : d.f.begun ≡ Some (length target_header) = sym (ap (λ (o : Option MailFile). option_and_then (λ f. f.begun) o) d.found) ∙ begun in
-    let p = (d.used.placing (length target_header) b).1 in
-    let e : Some p.0 ≡ Some end = sym p.1 ∙ (sym (ap (λ (o : Option MailFile). option_and_then (λ f. f.end) o) d.found) ∙ ends) in
-    let same : p.0 ≡ end = cc e in
-    let l = p.2 in
-    omega (arith, same, l)
 
 pub copying_one : {D : Type 0} → (work : Work) (source : Source) (left : List Source) (target : FileNo) (row : MapRow) (store : StoreValue D) (history : Option History) → sources_left work ≡ source ∷ left → HasPurged (stage.Copying work) store history → IsTargetFirst (sources_left work) target
     → IsNextWantedFirst (sources_left work) work.from store.map row → All IsUsedFile store.files.files → IsCopyingOne work source left target row store history
@@ -84,13 +73,12 @@ copying_one work source left target row store history is h first_target next use
       copying = copying;
       each = first.1;
       wanted = subst (λ (l : List Source). IsNextWantedFirst l work.from store.map row) is next;
-      header = begun_before target.0 copying.end store used copying.taken copying.begun copying.ends;
     }
 
 -- the copies with this one more, which the target has room for
 pub more_copied : {D : Type 0} → (work : Work) (source : Source) (left : List Source) (target : FileNo) (row : MapRow) (store : StoreValue D) (history : Option History) (place : MapPlace) → IsSoundMap store.map → (one : IsCopyingOne work source left target row store history) → place.uid.0 ≡ one.wanted.r.uid → place.offset ≡ one.copying.end
     → AreCopiedUpTo source.file.0 (one.wanted.r.offset + one.wanted.r.size) (one.copying.end + one.wanted.r.size) (source.copied.items ++ place ∷ []) store.map
-more_copied work source left target row store history place sound one uid at = copied_more store.map source.file.0 work.from one.copying.end source.copied.items row place sound one.copying.copied one.wanted uid at one.header
+more_copied work source left target row store history place sound one uid at = copied_more store.map source.file.0 work.from one.copying.end source.copied.items row place sound one.copying.copied one.wanted uid at
 
 -- ---- what a copy asks
 
@@ -113,7 +101,7 @@ copy_apart work source left target row store history one same =
 
 copy_room : {D : Type 0} → (work : Work) (source : Source) (left : List Source) (target : FileNo) (row : MapRow) (store : StoreValue D) (history : Option History) → IsSoundMap store.map → IsCopyingOne work source left target row store history → HasRoomForCopy (sources_left work)
 copy_room work source left target row store history sound one =
-    subst HasRoomForCopy (sym one.left_are) (room_for_copy store.map source work.from one.copying.end row sound one.copying.copied one.wanted one.header one.room.lists.0)
+    subst HasRoomForCopy (sym one.left_are) (room_for_copy store.map source work.from one.copying.end row sound one.copying.copied one.wanted one.room.lists.0)
 
 -- what the call owes
 pub record MayCopy {D : Type 0} (work : Work) (target : FileNo) (row : MapRow) (store : StoreValue D) : Type 0 where
@@ -187,6 +175,12 @@ grown_of n before end files ends later =
 
 pub grown_ends : (n before end : ℕ) (files : List MailFile) → end_in n files ≡ Some before → end_in n (changed_in n (ending_at end) files) ≡ Some end
 grown_ends n before end files ends = let k = file_as (file_in n files) before ends in ends-here n end files k.0 k.1
+
+-- the header stays before what is added
+pub header_before : (piece : List ℕ) (a b : FileState) → IsPieceAdded piece a b → HasTargetHeader (reading a) → HasTargetHeader (reading b)
+header_before piece a b added h =
+    let same : added.before ≡ target_header ++ h.0 = (let e : Some added.before ≡ Some (target_header ++ h.0) = sym added.read ∙ h.1 in cc e) in
+    (h.0 ++ piece, added.reads ∙ (ap (λ (xs : List ℕ). Some (xs ++ piece)) same ∙ ap Some (append_assoc target_header h.0 piece)))
 
 -- octets were added
 abbrev pub HasMore : ℕ → DiskState → DiskState → Type 0

@@ -146,7 +146,7 @@ at_most (u ∷ us) rows rising =
     let c = at_most us rows rising in
     omega (arith, a, b, c)
 
-left_or_gone : (p : MapRecord → Bool) (rows : List MapRecord) → length rows ≡ length (filter (λ o. not (p o)) rows) + count_by p rows
+pub left_or_gone : (p : MapRecord → Bool) (rows : List MapRecord) → length rows ≡ length (filter (λ o. not (p o)) rows) + count_by p rows
 left_or_gone p [] = refl
 left_or_gone p (x ∷ xs) =
     let a = sum_by-cons (λ (o : MapRecord). cond (p o) 1 0) x xs in
@@ -158,7 +158,7 @@ left_or_gone p (x ∷ xs) =
     by_test true = omega arith
     by_test false = omega arith
 
-listed_one : (us : List MapUid) (n : ℕ) → has_map_uid n us ≡ true → (u : MapUid) × Contains us u × (u.0 ≡ n)
+pub listed_one : (us : List MapUid) (n : ℕ) → has_map_uid n us ≡ true → (u : MapUid) × Contains us u × (u.0 ≡ n)
 listed_one [] n e = absurd (let k : false ≡ true = e in cc k)
 listed_one (u ∷ us) n e = by_test (u.0 == n) refl (listed_one us n)
   where
@@ -178,7 +178,7 @@ emptied_unsealed file store history is order e =
     by_seal f false s = s
     by_seal f true s = absurd (fall f.f.emptied f.emptied (f.used.sealed (is.files.sealed file f.f f.found ∙ s)).0)
 
-same_apart : (row : MapRecord) (t : ℕ) (o : Option MapPlace) → apart_from_place (moved_record row t o) ≡ apart_from_place row
+pub same_apart : (row : MapRecord) (t : ℕ) (o : Option MapPlace) → apart_from_place (moved_record row t o) ≡ apart_from_place row
 same_apart row t None = refl
 same_apart row t (Some place) = refl
 

@@ -9,6 +9,7 @@ use Rattle.mdbox_base.specs.Streams.{Rose}
 use Rattle.mdbox_base.specs.declared.entries.Highest.{Highest}
 use Rattle.mdbox_base.specs.declared.progress.Did.{Did}
 use Rattle.mdbox_base.specs.declared.progress.Did.TheVariants as did
+use Rattle.mdbox_base.specs.declared.progress.Progress.TheVariants as progress
 use Rattle.mdbox_base.specs.declared.replies.Refusal.{Refusal}
 use Rattle.mdbox_base.specs.declared.replies.Refusal.TheVariants as refusal
 use Rattle.mdbox_base.specs.declared.replies.Reply.{Reply}
@@ -35,6 +36,10 @@ use Rattle.purge_task.proofs.PartLemmas.{last_with}
 
 pub fall : (b : Bool) → b ≡ true → b ≡ false → ⊥
 fall b t f = let k : true ≡ false = sym t ∙ f in cc k
+
+-- one that is so refused is refused no other way
+pub same_refusal : (a b : Refusal) → progress.Done (reply.Refused a) ≡ progress.Done (reply.Refused b) → b ≡ a
+same_refusal a b e = let k : reply.Refused a ≡ reply.Refused b = cc e in let w : a ≡ b = cc k in sym w
 
 pub no_reply : (r : Reply) → None ≡ Some r → ⊥
 no_reply r e = cc e

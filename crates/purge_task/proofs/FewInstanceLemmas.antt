@@ -26,16 +26,16 @@ first_at p (x ∷ xs) d zero before lt at = ap (λ (b : Bool). cond b (Some x) (
 first_at p (x ∷ xs) d (suc i) before lt at =
     ap (λ (b : Bool). cond b (Some x) (find p xs)) (before 0 (omega arith)) ∙ first_at p xs d i (λ k l. before (suc k) (omega (arith, l))) (omega (arith, lt)) at
 
-le_true : (a b : ℕ) → a ≤ b → nat_le a b ≡ true
+pub le_true : (a b : ℕ) → a ≤ b → nat_le a b ≡ true
 le_true a b l = grind (arith, nat_tests, l)
 
-le_false : (a b : ℕ) → b < a → nat_le a b ≡ false
+pub le_false : (a b : ℕ) → b < a → nat_le a b ≡ false
 le_false a b l = grind (arith, nat_tests, l)
 
 not_less : (o : Ordering) → o ≡ ordering_reverse Less → is_lt o ≡ false
 not_less o e = ap is_lt e
 
-true_le : (a b : ℕ) → nat_le a b ≡ true → a ≤ b
+pub true_le : (a b : ℕ) → nat_le a b ≡ true → a ≤ b
 true_le a b e = grind (arith, nat_tests, e)
 
 -- what was found is the one at that place

@@ -48,7 +48,7 @@ use Rattle.purge_task.specs.Claims.{claims_of_sources, purge_claims, sources_lef
 use Rattle.task_steps.specs.Step.{DidEvent, HasNotBegun}
 use Rattle.task_steps.proofs.OneEventLemmas.{never_more, next_first}
 use Rattle.purge_task.specs.Clause.{IsPurgeStep, PurgeSteps, around_purging, came_to, seen_by_purge, uncounted}
-use Rattle.purge_task.specs.Found.{AreAllBut, AreUncleanFound, HasFound, IsFindRefusal, IsFoundFile, IsFullToEnd, LacksTargets, found_numbers, targets_in}
+use Rattle.purge_task.specs.Found.{AreAllBut, AreUncleanFound, FindsUnclean, HasFound, IsFindRefusal, IsFoundFile, IsFullToEnd, LacksTargets, found_numbers, targets_in}
 use Rattle.purge_task.specs.Keeping.{AreSourcesApart, HasPurged, IsBeginningFirst, IsToBegin, PurgeValue}
 use Rattle.purge_task.specs.Reserved.{IsNewSource, IsNewWork}
 use Rattle.purge_task.specs.Stages.{IsAtPurge, IsAtPurgeStage, IsNextStage}
@@ -75,6 +75,8 @@ use Rattle.purge_task.proofs.TakenLemmas.{given_long}
 use Rattle.purge_task.proofs.TakenStateLemmas.{IsDrawnFor, TargetIsDrawn, are_apart, drawn_all, drawn_file, emptied_all, given_files, kept_all, rest_all}
 use Rattle.purge_task.proofs.WithinLemmas.{mapped_of}
 use Rattle.purge_task.proofs.TakenStoreLemmas.{FitsFound, FitsGiven, IsTakenWith, all_given, begins_with, begun_all, found_fit, highest_all, numbers_told, short_told, targets_told, wanted_told}
+use Rattle.purge_task.specs.Quiet.{files_to_empty}
+use Rattle.purge_task.proofs.SameRegionLemmas.{regions_idle}
 
 -- ---- what it leaves
 
@@ -157,22 +159,27 @@ first_claims s thing e = ap (λ (x : PurgeStage). purge_claims x thing) e
 
 -- Refused, with nothing taken: this is what it did.
 pub refused_says : {D : Type 0} → (H : D → Option History) (F : D → Faults) (t next : PurgeValue) (why : Refusal) (fs : List ℕ) (spare room : ℕ) (old new : StoreValue D) → t.stage ≡ stage.First → next.stage ≡ stage.First → why ≢ refusal.Stopped → old.stopped ≡ false → new ≡ with_room new.disk spare room old → old.map_log.room ≤ room → IsIdle (H old.disk) (H new.disk)
-    → (F old.disk).reads ≤ (F new.disk).reads → (F new.disk).changes ≡ (F old.disk).changes → ((why ≡ refusal.ReadFault → ⊥) → (F new.disk).reads ≡ (F old.disk).reads) → ((around : Around) → PurgeSteps fs around t next old (with_room new.disk spare room old) (H old.disk) (H new.disk) (F old.disk) (F new.disk) (Some (reply.Refused why)))
+    → (F old.disk).reads ≤ (F new.disk).reads → (F new.disk).changes ≡ (F old.disk).changes → ((why ≡ refusal.ReadFault → ⊥) → (F new.disk).reads ≡ (F old.disk).reads) → ((around : Around) → PurgeSteps fs around t next old (with_room new.disk spare room old) (H old.disk) (H new.disk) (F old.disk) (F new.disk) (Some (reply.Refused why))) → IsStore (H old.disk) old
     → IsPurgeStep t next (progress.Done (reply.Refused why)) old new (H old.disk) (H new.disk) (F old.disk) (F new.disk)
-refused_says {D = D} H F t next why fs spare room old new at to other runs is more idle reads changes unread steps = record {
+refused_says {D = D} H F t next why fs spare room old new at to other runs is more idle reads changes unread steps store = record {
   ready = λ e. absurd (let k : progress.Done (reply.Refused why) ≡ progress.More = e in cc k);
   does = (fs, λ around. subst (λ (s : StoreValue D). PurgeSteps fs around t next old s (H old.disk) (H new.disk) (F old.disk) (F new.disk) (Some (reply.Refused why))) (sym is) (steps around));
+  first = λ begins. record { idle = idle; found = λ e. absurd (let k : progress.Done (reply.Refused why) ≡ progress.More = e in cc k) };
+  refused = λ reason e read stop. at;
   stopped = record { 0 = λ e. absurd (other (let k : why ≡ refusal.Stopped = cc e in k)); 1 = λ e. absurd (fall new.stopped e ran) };
-  claims = λ r thing. (let a = first_claims t.stage thing at in let b = first_claims next.stage thing to in let c = ap (λ (s : StoreValue D). amount_in thing s) is in let d = room_amounts new.disk spare room old thing in omega (arith, a, b, c, d));
-  leaves = λ r. subst (λ (s : StoreValue D). LeavesOthers (purge_claims t.stage) old s (H old.disk) (H new.disk)) (sym is) (first_leaves (purge_claims t.stage) new.disk (record old.map_log { room = room }) (record old.files { spare = spare }) old.drawn old (H old.disk) (H new.disk) idle more (λ n took. refl) (λ n. refl));
-  ended = λ given e r thing. first_claims next.stage thing to;
+  regions = λ r. regions_idle old new.map (H old.disk) (H new.disk) store runs (ap (λ (s : StoreValue D). s.map) is) idle;
+  claims = λ r. record {
+    moves = λ thing. (let a = first_claims t.stage thing at in let b = first_claims next.stage thing to in let c = ap (λ (s : StoreValue D). amount_in thing s) is in let d = room_amounts new.disk spare room old thing in omega (arith, a, b, c, d));
+    leaves = subst (λ (s : StoreValue D). LeavesOthers (purge_claims t.stage) old s (H old.disk) (H new.disk)) (sym is) (first_leaves (purge_claims t.stage) new.disk (record old.map_log { room = room }) (record old.files { spare = spare }) old.drawn old (H old.disk) (H new.disk) idle more (λ n took. refl) (λ n. refl));
+    ended = λ given e thing. first_claims next.stage thing to;
+  };
   grows = idle_grows (H old.disk) (H new.disk) idle;
   mail = kept_idle old.map (H old.disk) (H new.disk) idle;
   reads = reads;
   changes = omega (arith, changes);
   calm = λ told. unread (λ e. told (ap (λ (w : Refusal). progress.Done (reply.Refused w)) e));
   unfailed = λ r. changes;
-  fell = λ e. absurd (fall new.stopped e ran);
+  fell = λ was e. absurd (fall new.stopped e ran);
 }
   where
     ran : new.stopped ≡ false
@@ -286,6 +293,15 @@ begun_claims work next thing (inr some) = ap (λ (s : PurgeStage). purge_claims 
 moved : (old v new all mine mine_now left given : ℕ) → all + 0 ≡ v + given → mine ≡ 0 → new ≡ all → v ≡ old → mine_now ≡ left → left ≡ given → new + mine ≡ old + mine_now
 moved old v new all mine mine_now left given m a b c d e = omega (arith, m, a, b, c, d, e)
 
+-- the files that it is to empty then are those that it took
+files_told : (sources : List Source) → map (λ t. t.file) (taken_all sources) ≡ map (λ s. s.file.0) sources
+files_told [] = refl
+files_told (s ∷ sources) = ap (λ (files : List ℕ). s.file.0 ∷ files) (files_told sources)
+
+begun_files : (work : Work) (next : PurgeStage) → IsNextStage work next → files_to_empty next ≡ map (λ s. s.file.0) (sources_left work)
+begun_files work next (inl none) = ap files_to_empty none.1 ∙ ap (λ (ss : List Source). map (λ (s : Source). s.file.0) ss) (sym none.0)
+begun_files work next (inr some) = ap files_to_empty some.1
+
 -- what it took
 pub taken_says : {D : Type 0} → (H : D → Option History) (F : D → Faults) (t next : PurgeValue) (found : Found) (work now : Work) (spare room : ℕ) (old new : StoreValue D) → t.stage ≡ stage.First → IsNextStage now next.stage → next.did ≡ did.Quiet → next.dropped ≡ 0 → next.files ≡ 0 → next.instances ≡ 0 → old.stopped ≡ false → IsTakenFirst (H old.disk) found work now new.disk spare room old new
     → IsIdle (H old.disk) (H new.disk) → NoFault (F old.disk) (F new.disk) → IsPurgeStep t next progress.More old new (H old.disk) (H new.disk) (F old.disk) (F new.disk)
@@ -296,20 +312,28 @@ taken_says {D = D} H F t next found work now spare room old new at to how droppe
     λ around. subst (λ (s : StoreValue D). PurgeSteps (map (λ t. t.file) (taken_all (sources_left now))) around t next old s (H old.disk) (H new.disk) (F old.disk) (F new.disk) None) (sym is)
         (first_steps around t next now found.targets new.disk log new.files old (H old.disk) (H new.disk) (F old.disk) (F new.disk) at to how dropped files instances runs x.store.files sound begun (idle_settles old.map (H old.disk) (H new.disk) (F old.disk) (F new.disk) idle quiet)),
   );
+  first = λ begins. record { idle = idle; found = λ more. finds };
+  refused = λ reason e read stop. at;
   stopped = record { 0 = λ e. absurd (let k : progress.More ≡ progress.Done (reply.Refused refusal.Stopped) = e in cc k); 1 = λ e. absurd (fall new.stopped e ran) };
-  claims = λ r. moves;
-  leaves = λ r. subst (λ (s : StoreValue D). LeavesOthers (purge_claims t.stage) old s (H old.disk) (H new.disk)) (sym is)
-      (first_leaves (purge_claims t.stage) new.disk log new.files (record old.drawn { file = old.drawn.file + found.targets }) old (H old.disk) (H new.disk) idle x.more others (λ n. begun_is.ended n));
-  ended = λ given e. absurd (let k : progress.More ≡ progress.Done given = e in cc k);
+  regions = λ r. regions_idle old new.map (H old.disk) (H new.disk) x.store runs (ap (λ (s : StoreValue D). s.map) is) idle;
+  claims = λ r. record {
+    moves = moves;
+    leaves = subst (λ (s : StoreValue D). LeavesOthers (purge_claims t.stage) old s (H old.disk) (H new.disk)) (sym is)
+        (first_leaves (purge_claims t.stage) new.disk log new.files (record old.drawn { file = old.drawn.file + found.targets }) old (H old.disk) (H new.disk) idle x.more others (λ n. begun_is.ended n));
+    ended = λ given e. absurd (let k : progress.More ≡ progress.Done given = e in cc k);
+  };
   grows = idle_grows (H old.disk) (H new.disk) idle;
   mail = kept_idle old.map (H old.disk) (H new.disk) idle;
   reads = let e = ap (λ (f : Faults). f.reads) quiet in omega (arith, e);
   changes = let e = ap (λ (f : Faults). f.changes) quiet in omega (arith, e);
   calm = λ told. ap (λ (f : Faults). f.reads) quiet;
   unfailed = λ r. ap (λ (f : Faults). f.changes) quiet;
-  fell = λ e. absurd (fall new.stopped e ran);
+  fell = λ was e. absurd (fall new.stopped e ran);
 }
   where
+    finds : FindsUnclean old (H old.disk) (files_to_empty next.stage)
+    finds = subst (FindsUnclean old (H old.disk)) (sym (numbers_told old.files.highest found.files.items work.sources.items x.work_is.sources) ∙ (files_told (targets_given old.files.highest work.sources.items) ∙ (ap (λ (ss : List Source). map (λ (s : Source). s.file.0) ss) (sym x.left) ∙ sym (begun_files now next.stage to)))) x.found_is.files.finds
+
     log : LogState
     log = record old.map_log { room = room }
 
@@ -431,21 +455,21 @@ begins_first : {D : Type 0} → (around : Around) (t : PurgeValue) (store : Stor
 begins_first around t store run place said at stood = let begins : HasNotBegun run place said = subst (λ (s : PurgeStage). IsAtPurgeStage s t store run place said) at stood in next_first around run request.Purge (own_events place run) begins.0
 
 -- refused for lack of memory
-pub memory_says : {D : Type 0} → (H : D → Option History) (F : D → Faults) (t next : PurgeValue) (spare room : ℕ) (old new : StoreValue D) → t.stage ≡ stage.First → next.stage ≡ stage.First → next.did ≡ did.Quiet → old.stopped ≡ false → new ≡ with_room new.disk spare room old → old.map_log.room ≤ room → IsIdle (H old.disk) (H new.disk) → NoFault (F old.disk) (F new.disk)
+pub memory_says : {D : Type 0} → (H : D → Option History) (F : D → Faults) (t next : PurgeValue) (spare room : ℕ) (old new : StoreValue D) → t.stage ≡ stage.First → next.stage ≡ stage.First → next.did ≡ did.Quiet → old.stopped ≡ false → new ≡ with_room new.disk spare room old → old.map_log.room ≤ room → IsIdle (H old.disk) (H new.disk) → NoFault (F old.disk) (F new.disk) → IsStore (H old.disk) old
     → IsPurgeStep t next (progress.Done (reply.Refused refusal.NoMemory)) old new (H old.disk) (H new.disk) (F old.disk) (F new.disk)
-memory_says H F t next spare room old new at to how runs is more idle quiet =
+memory_says H F t next spare room old new at to how runs is more idle quiet store =
     refused_says H F t next refusal.NoMemory [] spare room old new at to (λ e. let k : refusal.NoMemory ≡ refusal.Stopped = e in cc k) runs is more idle (let e = ap (λ (f : Faults). f.reads) quiet in omega (arith, e)) (ap (λ (f : Faults). f.changes) quiet) (λ unread. ap (λ (f : Faults). f.reads) quiet)
     (λ around. room_steps [] around t next new.disk spare room old (H old.disk) (H new.disk) (F old.disk) (F new.disk) (reply.Refused refusal.NoMemory) runs
-    (memory_steps around t next new.disk (record old.files { spare = spare }) old (H old.disk) (H new.disk) (F old.disk) (F new.disk) at how runs (tells_same old.files.files) (idle_settles old.map (H old.disk) (H new.disk) (F old.disk) (F new.disk) idle quiet)))
+    (memory_steps around t next new.disk (record old.files { spare = spare }) old (H old.disk) (H new.disk) (F old.disk) (F new.disk) at how runs (tells_same old.files.files) (idle_settles old.map (H old.disk) (H new.disk) (F old.disk) (F new.disk) idle quiet))) store
 
 -- refused by a fault of a read
-pub unread_says : {D : Type 0} → (H : D → Option History) (F : D → Faults) (t next : PurgeValue) (old new : StoreValue D) → t.stage ≡ stage.First → next.stage ≡ stage.First → next.did ≡ did.Quiet → old.stopped ≡ false → new ≡ record old { disk = new.disk } → IsIdle (H old.disk) (H new.disk) → Rose (F old.disk).reads (F new.disk).reads → (F old.disk).reads ≤ (F new.disk).reads → (F new.disk).changes ≡ (F old.disk).changes
+pub unread_says : {D : Type 0} → (H : D → Option History) (F : D → Faults) (t next : PurgeValue) (old new : StoreValue D) → t.stage ≡ stage.First → next.stage ≡ stage.First → next.did ≡ did.Quiet → old.stopped ≡ false → new ≡ record old { disk = new.disk } → IsIdle (H old.disk) (H new.disk) → Rose (F old.disk).reads (F new.disk).reads → (F old.disk).reads ≤ (F new.disk).reads → (F new.disk).changes ≡ (F old.disk).changes → IsStore (H old.disk) old
     → IsPurgeStep t next (progress.Done (reply.Refused refusal.ReadFault)) old new (H old.disk) (H new.disk) (F old.disk) (F new.disk)
-unread_says H F t next old new at to how runs is idle rose reads changes =
+unread_says H F t next old new at to how runs is idle rose reads changes store =
     refused_says H F t next refusal.ReadFault [] old.files.spare old.map_log.room old new at to (λ e. let k : refusal.ReadFault ≡ refusal.Stopped = e in cc k) runs is (stays old.map_log.room) idle reads changes (λ unread. absurd (unread refl))
     (λ around. room_steps [] around t next new.disk old.files.spare old.map_log.room old (H old.disk) (H new.disk) (F old.disk) (F new.disk) (reply.Refused refusal.ReadFault) runs
     (unread_steps around t next new.disk old.files old (H old.disk) (H new.disk) (F old.disk) (F new.disk) First refl how runs (λ run place said come stood. begins_first (around_purging [] old) t old run place said at stood) (tells_same old.files.files)
-    (record { moments = λ lists settled. idle_leaves lists (H old.disk) (H new.disk) idle settled; rests = λ lists settled. idle_settled lists (H old.disk) (H new.disk) idle settled; grows = idle_grows (H old.disk) (H new.disk) idle; mail = kept_idle old.map (H old.disk) (H new.disk) idle; reads = reads; changes = omega (arith, changes); rose = rose })))
+    (record { moments = λ lists settled. idle_leaves lists (H old.disk) (H new.disk) idle settled; rests = λ lists settled. idle_settled lists (H old.disk) (H new.disk) idle settled; grows = idle_grows (H old.disk) (H new.disk) idle; mail = kept_idle old.map (H old.disk) (H new.disk) idle; reads = reads; changes = omega (arith, changes); rose = rose }))) store
 
 -- ---- refused for lack of numbers
 
@@ -505,7 +529,7 @@ full_says {D = D} H F t next fs old new at to how runs store found lacks is idle
     (full_steps around t next (map found_told fs) new.disk old.files old (H old.disk) (H new.disk) (F old.disk) (F new.disk) at how runs (tells_same old.files.files) store.files (store_sound (H old.disk) old store)
     (subst (λ (ns : List ℕ). AllPairs (λ a b. a < b) ns) (sym (told_numbers fs)) (AllPairs-from_increasing (found_numbers fs) found.finds.known.rising)) (subst (AreAllBut (IsFullToEnd old) old.files.files) (sym (told_numbers fs)) found.finds.known)
     (subst (λ (n : ℕ). (4294967294 < n + length (with_targets old.map (map found_told fs))) ⊎ ((t : TakenFile) × Contains (with_targets old.map (map found_told fs)) t × (4294967294 < target_length old.map t.file))) store.files.highest (lacks_told old.map old.files.highest fs found.each lacks))
-    (idle_settles old.map (H old.disk) (H new.disk) (F old.disk) (F new.disk) idle quiet)))
+    (idle_settles old.map (H old.disk) (H new.disk) (F old.disk) (F new.disk) idle quiet))) store
 
 -- The refusals of looking for files, by their cause.
 no_fault : (why : Refusal) → (why ≡ refusal.ReadFault → ⊥) → IsErrOf {T = Found} (Err why) refusal.ReadFault → ⊥
@@ -514,9 +538,9 @@ no_fault why apart e = apart (let w : ◌≡◌ {A = Result Found Refusal} (Err 
 pub find_refused_says : {D : Type 0} → (H : D → Option History) (F : D → Faults) (t : PurgeValue) (why : Refusal) (old new : StoreValue D) → t.stage ≡ stage.First → old.stopped ≡ false → IsStore (H old.disk) old → IsFindRefusal old (H old.disk) why → new ≡ record old { disk = new.disk } → IsIdle (H old.disk) (H new.disk)
     → ReadFaultCounted (IsErrOf {T = Found} (Err why) refusal.ReadFault) (F old.disk) (F new.disk) → ((IsErrOf {T = Found} (Err why) refusal.ReadFault → ⊥) → NoFault (F old.disk) (F new.disk)) → IsPurgeStep t (came_to (Err why) (uncounted t)) (progress.Done (reply.Refused why)) old new (H old.disk) (H new.disk) (F old.disk) (F new.disk)
 find_refused_says {D = D} H F t refusal.NoMemory old new at runs store cause same idle fault quiet =
-    memory_says H F t (came_to (Err refusal.NoMemory) (uncounted t)) old.files.spare old.map_log.room old new at refl refl runs same (stays old.map_log.room) idle (quiet (no_fault refusal.NoMemory (λ e. let k : refusal.NoMemory ≡ refusal.ReadFault = e in cc k)))
+    memory_says H F t (came_to (Err refusal.NoMemory) (uncounted t)) old.files.spare old.map_log.room old new at refl refl runs same (stays old.map_log.room) idle (quiet (no_fault refusal.NoMemory (λ e. let k : refusal.NoMemory ≡ refusal.ReadFault = e in cc k))) store
 find_refused_says {D = D} H F t refusal.ReadFault old new at runs store cause same idle fault quiet =
-    unread_says H F t (came_to (Err refusal.ReadFault) (uncounted t)) old new at refl refl runs same idle (fault.rose refl) fault.reads fault.changes
+    unread_says H F t (came_to (Err refusal.ReadFault) (uncounted t)) old new at refl refl runs same idle (fault.rose refl) fault.reads fault.changes store
 find_refused_says {D = D} H F t (refusal.StoreFull most) old new at runs store cause same idle fault quiet =
     subst (λ (n : ℕ). IsPurgeStep t (came_to (Err (refusal.StoreFull n)) (uncounted t)) (progress.Done (reply.Refused (refusal.StoreFull n))) old new (H old.disk) (H new.disk) (F old.disk) (F new.disk)) (sym cause.0)
     (full_says H F t (came_to (Err (refusal.StoreFull 4294967294)) (uncounted t)) cause.1.0 old new at refl refl runs store cause.1.1 cause.1.2 same idle (quiet (no_fault (refusal.StoreFull most) (λ e. let k : refusal.StoreFull most ≡ refusal.ReadFault = e in cc k))))

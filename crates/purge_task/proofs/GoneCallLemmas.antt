@@ -44,13 +44,15 @@ use Rattle.purge_task.specs.Clause.{IsPurgeStep, PurgeSteps, at_stage}
 use Rattle.purge_task.specs.Keeping.{HasPurged, PurgeValue}
 use Rattle.purge_task.specs.declared.task.PurgeStage.{PurgeStage}
 use Rattle.purge_task.specs.declared.task.PurgeStage.TheVariants as stage
-use Rattle.purge_task.proofs.EventLemmas.{fall}
+use Rattle.purge_task.proofs.EventLemmas.{fall, same_refusal}
 use Rattle.purge_task.proofs.FailLemmas.{fail_steps}
 use Rattle.purge_task.proofs.GoneLemmas.{gone_steps, last_steps}
 use Rattle.purge_task.proofs.InstanceSeenLemmas.{none_with, other_with, without_it}
 use Rattle.purge_task.proofs.LeavingLemmas.{gone_leaves}
 use Rattle.purge_task.proofs.NumberLemmas.{drawn_id}
 use Rattle.purge_task.proofs.SameSeenLemmas.{tells_same, with_state}
+use Rattle.store_core.specs.Running.{IsStore}
+use Rattle.purge_task.proofs.SameRegionLemmas.{regions_gone, regions_idle}
 
 -- ---- which instance it is
 
@@ -132,47 +134,57 @@ moves_none s next old new at to same thing = let a = no_claim s thing at in let 
 
 -- ---- the calls
 
-pub last_says : {D : Type 0} → (t next : PurgeValue) (store : StoreValue D) (history : Option History) (faults : Faults) → t.stage ≡ stage.Instances → next.stage ≡ stage.First → next.did ≡ did.Step half.Whole → store.stopped ≡ false → HasKnownInstances history store → useless_past None store.map store.instances.known ≡ None
+pub last_says : {D : Type 0} → (t next : PurgeValue) (store : StoreValue D) (history : Option History) (faults : Faults) → t.stage ≡ stage.Instances → next.stage ≡ stage.First → next.did ≡ did.Step half.Whole → store.stopped ≡ false → HasKnownInstances history store → useless_past None store.map store.instances.known ≡ None → IsStore history store
     → IsPurgeStep t next (progress.Done (reply.Purged t.dropped t.files t.instances)) store store history history faults faults
-last_says t next store history faults at to how runs known none = record {
+last_says t next store history faults at to how runs known none is = record {
   ready = λ e. absurd (let k : progress.Done (reply.Purged t.dropped t.files t.instances) ≡ progress.More = e in cc k);
   does = ([], λ around. last_steps around t next store history faults at how runs known (none_useless store.map store.instances.known none));
+  first = λ begins. absurd (let e : stage.Instances ≡ stage.First = sym at ∙ begins in cc e);
+  refused = λ why e read stop. absurd (let k : reply.Purged t.dropped t.files t.instances ≡ reply.Refused why = cc e in cc k);
   stopped = record { 0 = λ e. absurd (let k : reply.Purged t.dropped t.files t.instances ≡ reply.Refused refusal.Stopped = cc e in cc k); 1 = λ e. absurd (fall store.stopped e runs) };
-  claims = λ r. moves_none t.stage next.stage store store (inl at) (inr to) (λ thing. refl);
-  leaves = λ r. idle_leaves (purge_claims t.stage) store history history (idle-begins history);
-  ended = λ given e r thing. no_claim next.stage thing (inr to);
+  regions = λ r. regions_idle store store.map history history is runs refl (idle-begins history);
+  claims = λ r. record {
+    moves = moves_none t.stage next.stage store store (inl at) (inr to) (λ thing. refl);
+    leaves = idle_leaves (purge_claims t.stage) store history history (idle-begins history);
+    ended = λ given e thing. no_claim next.stage thing (inr to);
+  };
   grows = omega arith;
   mail = mail_still store.map history;
   reads = omega arith;
   changes = omega arith;
   calm = λ told. refl;
   unfailed = λ r. refl;
-  fell = λ e. absurd (fall store.stopped e runs);
+  fell = λ was e. absurd (fall store.stopped e runs);
 }
 
 pub gone_says : {D : Type 0} → (H : D → Option History) (F : D → Faults) (t next : PurgeValue) (id : InstId) (old new : StoreValue D) → t.stage ≡ stage.Instances → next.stage ≡ stage.Instances → next.did ≡ did.Quiet → next.dropped ≡ t.dropped → next.files ≡ t.files → next.instances ≡ t.instances + 1 → old.stopped ≡ false → HasKnownInstances (H old.disk) old
     → AreInstances old.instances → length id.0 ≡ 16 → IsOctets id.0 → useless_past None old.map old.instances.known ≡ Some id → ((lists : Lists) → IsSettledFor lists (H old.disk) → Leaves lists lists (H old.disk) (H new.disk)) → MailIsKept old.map (H old.disk) (H new.disk) → ((lists : Lists) → IsSettledFor lists (H old.disk) → IsSettledFor lists (H new.disk))
-    → SameButFor (file_of id old.instances.known) (H old.disk) (H new.disk) → KeepsFirm old new (H old.disk) (H new.disk) → new ≡ record old { disk = new.disk; instances = record old.instances { known = without_instance id old.instances.known } } → Grows (H old.disk) (H new.disk) → NoFault (F old.disk) (F new.disk)
+    → SameButFor (file_of id old.instances.known) (H old.disk) (H new.disk) → KeepsFirm old new (H old.disk) (H new.disk) → new ≡ record old { disk = new.disk; instances = record old.instances { known = without_instance id old.instances.known } } → Grows (H old.disk) (H new.disk) → NoFault (F old.disk) (F new.disk) → IsStore (H old.disk) old
     → IsPurgeStep t next progress.More old new (H old.disk) (H new.disk) (F old.disk) (F new.disk)
-gone_says {D = D} H F t next id old new at to how dropped files instances runs known ids long octets useless moments mail rests others firm is grows quiet = record {
+gone_says {D = D} H F t next id old new at to how dropped files instances runs known ids long octets useless moments mail rests others firm is grows quiet store = record {
   ready = λ more r. subst (λ (s : PurgeStage). HasPurged s new (H new.disk)) (sym to) tt;
   does = (
     [],
     λ around. subst (λ (s : StoreValue D). PurgeSteps [] around t next old s (H old.disk) (H new.disk) (F old.disk) (F new.disk) None) (sym now)
         (gone_steps around t next one.k new.disk old (H old.disk) (H new.disk) (F old.disk) (F new.disk) at to how dropped files instances runs known ids one.found drawn (record { moments = moments; rests = rests; grows = grows; mail = mail; quiet = quiet })),
   );
+  first = λ begins. absurd (let e : stage.Instances ≡ stage.First = sym at ∙ begins in cc e);
+  refused = λ why e read stop. absurd (let k : progress.More ≡ progress.Done (reply.Refused why) = e in cc k);
   stopped = record { 0 = λ e. absurd (let k : progress.More ≡ progress.Done (reply.Refused refusal.Stopped) = e in cc k); 1 = λ e. absurd (fall old.stopped (ap (λ (s : StoreValue D). s.stopped) (sym now) ∙ e) runs) };
-  claims = λ r. moves_none t.stage next.stage old new (inl at) (inl to) (λ thing. ap (λ (s : StoreValue D). amount_in thing s) now ∙ gone_amount one.k.row.id new.disk old one.unheld thing);
-  leaves = λ r. subst (λ (s : StoreValue D). LeavesOthers (purge_claims t.stage) old s (H old.disk) (H new.disk)) (sym now)
-      (gone_leaves (purge_claims t.stage) one.k new.disk old (H old.disk) (H new.disk) one.unheld (names_others old.map one.k.row.id.0 one.unnamed) (subst (λ (n : FileName). SameButFor n (H old.disk) (H new.disk)) file_is others) (subst (λ (s : StoreValue D). KeepsFirm old s (H old.disk) (H new.disk)) now firm));
-  ended = λ given e. absurd (let k : progress.More ≡ progress.Done given = e in cc k);
+  regions = λ r. regions_gone one.k.row.hash.0 one.k.row.id.0 old new.map (H old.disk) (H new.disk) store runs (ap (λ (s : StoreValue D). s.map) now) (subst (λ (n : FileName). SameButFor n (H old.disk) (H new.disk)) file_is others);
+  claims = λ r. record {
+    moves = moves_none t.stage next.stage old new (inl at) (inl to) (λ thing. ap (λ (s : StoreValue D). amount_in thing s) now ∙ gone_amount one.k.row.id new.disk old one.unheld thing);
+    leaves = subst (λ (s : StoreValue D). LeavesOthers (purge_claims t.stage) old s (H old.disk) (H new.disk)) (sym now)
+        (gone_leaves (purge_claims t.stage) one.k new.disk old (H old.disk) (H new.disk) one.unheld (names_others old.map one.k.row.id.0 one.unnamed) (subst (λ (n : FileName). SameButFor n (H old.disk) (H new.disk)) file_is others) (subst (λ (s : StoreValue D). KeepsFirm old s (H old.disk) (H new.disk)) now firm));
+    ended = λ given e. absurd (let k : progress.More ≡ progress.Done given = e in cc k);
+  };
   grows = grows;
   mail = mail;
   reads = let e = ap (λ (f : Faults). f.reads) quiet in omega (arith, e);
   changes = let e = ap (λ (f : Faults). f.changes) quiet in omega (arith, e);
   calm = λ told. ap (λ (f : Faults). f.reads) quiet;
   unfailed = λ r. ap (λ (f : Faults). f.changes) quiet;
-  fell = λ e. absurd (fall old.stopped (ap (λ (s : StoreValue D). s.stopped) (sym now) ∙ e) runs);
+  fell = λ was e. absurd (fall old.stopped (ap (λ (s : StoreValue D). s.stopped) (sym now) ∙ e) runs);
 }
   where
     one : IsUselessOne old id
@@ -192,25 +204,26 @@ gone_says {D = D} H F t next id old new at to how dropped files instances runs k
 
 -- a change of the disk failed, and nothing else has changed
 pub failed_says : {D : Type 0} → (H : D → Option History) (F : D → Faults) (t next : PurgeValue) (old new : StoreValue D) → next.did ≡ did.Failed → old.stopped ≡ false → ((lists : Lists) → IsSettledFor lists (H old.disk) → Leaves lists lists (H old.disk) (H new.disk)) → MailIsKept old.map (H old.disk) (H new.disk)
-    → new ≡ record old { disk = new.disk; stopped = true } → Grows (H old.disk) (H new.disk) → (Failed : Type 0) → Failed → ChangeFaultCounted Failed (F old.disk) (F new.disk) → IsPurgeStep t next (progress.Done (reply.Refused refusal.Stopped)) old new (H old.disk) (H new.disk) (F old.disk) (F new.disk)
-failed_says {D = D} H F t next old new how runs moments mail is grows Failed failed fault = record {
+    → new ≡ record old { disk = new.disk; stopped = true } → Grows (H old.disk) (H new.disk) → (Failed : Type 0) → Failed → ChangeFaultCounted Failed (F old.disk) (F new.disk) → t.stage ≢ stage.First → IsPurgeStep t next (progress.Done (reply.Refused refusal.Stopped)) old new (H old.disk) (H new.disk) (F old.disk) (F new.disk)
+failed_says {D = D} H F t next old new how runs moments mail is grows Failed failed fault begun = record {
   ready = λ e. absurd (let k : progress.Done (reply.Refused refusal.Stopped) ≡ progress.More = e in cc k);
   does = (
     [],
     λ around. subst (λ (s : StoreValue D). PurgeSteps [] around t next old s (H old.disk) (H new.disk) (F old.disk) (F new.disk) (Some (reply.Refused refusal.Stopped))) (sym is)
         (fail_steps around t next new.disk old.files old (H old.disk) (H new.disk) (F old.disk) (F new.disk) how runs (tells_same old.files.files) (record { moments = moments; grows = grows; mail = mail; reads = let e = fault.reads in omega (arith, e); changes = fault.changes; rose = fault.rose failed })),
   );
+  first = λ begins. absurd (begun begins);
+  refused = λ why e read stop. absurd (stop (same_refusal refusal.Stopped why e));
   stopped = record { 0 = λ e. ap (λ (s : StoreValue D). s.stopped) is; 1 = λ e. refl };
+  regions = λ r. absurd (fall new.stopped (ap (λ (s : StoreValue D). s.stopped) is) r);
   claims = λ r. absurd (fall new.stopped (ap (λ (s : StoreValue D). s.stopped) is) r);
-  leaves = λ r. absurd (fall new.stopped (ap (λ (s : StoreValue D). s.stopped) is) r);
-  ended = λ given e r. absurd (fall new.stopped (ap (λ (s : StoreValue D). s.stopped) is) r);
   grows = grows;
   mail = mail;
   reads = let e = fault.reads in omega (arith, e);
   changes = fault.changes;
   calm = λ told. fault.reads;
   unfailed = λ r. absurd (fall new.stopped (ap (λ (s : StoreValue D). s.stopped) is) r);
-  fell = λ e. (fault.rose failed, fault.reads);
+  fell = λ was e. (fault.rose failed, fault.reads);
 }
 
 -- of a task as its fields are seen

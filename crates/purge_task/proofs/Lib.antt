@@ -35,6 +35,17 @@ pub mod ListingLemmas
 pub mod NextLemmas
 pub mod NumberLemmas
 pub mod PartLemmas
+pub mod QuietCallLemmas
+pub mod QuietEndLemmas
+pub mod QuietEventLemmas
+pub mod QuietFileLemmas
+pub mod QuietFirstLemmas
+pub mod QuietLemmas
+pub mod QuietOuterLemmas
+pub mod QuietRegionLemmas
+pub mod QuietStepLemmas
+pub mod QuietSwitchLemmas
+pub mod QuietTargetLemmas
 pub mod ReadingLemmas
 pub mod ReadyLemmas
 pub mod RegionLemmas
@@ -43,6 +54,7 @@ pub mod RemovalCallLemmas
 pub mod RemovalLemmas
 pub mod RemovalSeenLemmas
 pub mod RunLemmas
+pub mod SameRegionLemmas
 pub mod SameSeenLemmas
 pub mod StableLemmas
 pub mod StageLemmas
@@ -53,6 +65,7 @@ pub mod SwitchClaimLemmas
 pub mod SwitchFileLemmas
 pub mod SwitchFitLemmas
 pub mod SwitchReadyLemmas
+pub mod SwitchRegionLemmas
 pub mod SwitchRowLemmas
 pub mod SwitchSeenLemmas
 pub mod SwitchStepLemmas

@@ -16,6 +16,7 @@ use Rattle.purge_task.specs.Keeping.{IsSourceCopied, IsTargetToMake, IsToBegin, 
 use Rattle.purge_task.specs.Switched.{IsReadyToSwitch, IsTargetWritten, IsWritten}
 use Rattle.purge_task.specs.declared.work.Source.{Source}
 use Rattle.purge_task.specs.declared.work.Work.{Work}
+use Rattle.purge_task.proofs.CopiedMoreLemmas.{in_row_follow}
 
 -- one of which no message is wanted
 pub ready_unwanted : {D : Type 0} → (work : Work) (source : Source) (store : StoreValue D) (history : Option History) → IsToBegin work store source → source.target ≡ None → IsReadyToSwitch source work store history
@@ -69,7 +70,7 @@ ready_copied work source store history h none = record {
       unnamed = h.copying.unnamed;
       within = All-weaker (λ (place : MapPlace). HasRecord store.map place.uid.0 (λ row. (row.file ≡ source.file.0) × (row.offset + row.size ≤ work.from) × (place.offset + row.size ≤ h.copying.end))) (λ (place : MapPlace). HasRecord store.map place.uid.0 (λ row. place.offset + row.size ≤ h.copying.end))
           (λ place r. (r.0, r.1, r.2.2)) source.copied.items h.copying.copied.there;
-      follow = h.copying.copied.follow;
+      follow = in_row_follow store.map (λ place row. (row.file ≡ source.file.0) × (row.offset + row.size ≤ work.from) × (place.offset + row.size ≤ h.copying.end)) (length target_header) h.copying.end source.copied.items h.copying.copied.row h.copying.copied.there;
       octets = h.copying.octets;
       stays = h.copying.stays;
     }

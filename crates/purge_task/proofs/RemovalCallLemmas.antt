@@ -42,6 +42,8 @@ use Rattle.purge_task.proofs.LeavingLemmas.{removal_leaves}
 use Rattle.purge_task.proofs.RemovalLemmas.{LeavesSettled, removing_steps}
 use Rattle.purge_task.proofs.RemovalSeenLemmas.{without}
 use Rattle.purge_task.proofs.StageLemmas.{left_on}
+use Rattle.store_core.specs.Running.{IsStore}
+use Rattle.purge_task.proofs.SameRegionLemmas.{regions_but}
 
 -- ---- a file that is doomed
 
@@ -207,26 +209,31 @@ removing_one work source left store history is h =
 
 pub removing_says : {D : Type 0} → (H : D → Option History) (F : D → Faults) (t next : PurgeValue) (work : Work) (source : Source) (left : List Source) (old new : StoreValue D) → t.stage ≡ stage.Removing work → IsNextStage (went_on work) next.stage → next.did ≡ did.Quiet → next.dropped ≡ t.dropped → next.files ≡ t.files → next.instances ≡ t.instances
     → old.stopped ≡ false → IsRemovingOne work source left old → AreFilesInOrder old.files → old.files.highest ≡ old.drawn.file → ((lists : Lists) → IsSettledFor lists (H old.disk) → Leaves lists lists (H old.disk) (H new.disk)) → MailIsKept old.map (H old.disk) (H new.disk) → ((lists : Lists) → IsSettledFor lists (H old.disk) → IsSettledFor lists (H new.disk))
-    → SameButFor (file.Mail source.file.0) (H old.disk) (H new.disk) → new ≡ without source.file.0 new.disk old → Grows (H old.disk) (H new.disk) → NoFault (F old.disk) (F new.disk) → IsPurgeStep t next progress.More old new (H old.disk) (H new.disk) (F old.disk) (F new.disk)
-removing_says {D = D} H F t next work source left old new at to how dropped files instances runs one order drawn moments mail rests others is grows quiet = record {
+    → SameButFor (file.Mail source.file.0) (H old.disk) (H new.disk) → new ≡ without source.file.0 new.disk old → Grows (H old.disk) (H new.disk) → NoFault (F old.disk) (F new.disk) → IsStore (H old.disk) old → IsPurgeStep t next progress.More old new (H old.disk) (H new.disk) (F old.disk) (F new.disk)
+removing_says {D = D} H F t next work source left old new at to how dropped files instances runs one order drawn moments mail rests others is grows quiet store = record {
   ready = λ more r. subst (λ (s : StoreValue D). HasPurged next.stage s (H new.disk)) (sym is) (ready_next work source left next.stage new.disk old (H new.disk) one.left_are to one.block one.apart one.each);
   does = (
     [],
     λ around. subst (λ (s : StoreValue D). PurgeSteps [] around t next old s (H old.disk) (H new.disk) (F old.disk) (F new.disk) None) (sym is)
         (removing_steps around t next work source left new.disk old (H old.disk) (H new.disk) (F old.disk) (F new.disk) at one.left_are to how dropped files instances runs one.unpinned below one.elsewhere (record { moments = moments; rests = rests; grows = grows; mail = mail; quiet = quiet })),
   );
+  first = λ begins. absurd (let e : stage.Removing work ≡ stage.First = sym at ∙ begins in cc e);
+  refused = λ why e read stop. absurd (let k : progress.More ≡ progress.Done (reply.Refused why) = e in cc k);
   stopped = record { 0 = λ e. absurd (let k : progress.More ≡ progress.Done (reply.Refused refusal.Stopped) = e in cc k); 1 = λ e. absurd (fall old.stopped (ap (λ (s : StoreValue D). s.stopped) (sym is) ∙ e) runs) };
-  claims = λ r. subst (λ (s : StoreValue D). MovesClaims (purge_claims t.stage) (purge_claims next.stage) old s) (sym is) (subst (λ (s : PurgeStage). MovesClaims (purge_claims s) (purge_claims next.stage) old (without source.file.0 new.disk old)) (sym at) (moves_removal work source left next.stage new.disk old one.left_are to d one.unpinned));
-  leaves = λ r. subst (λ (s : StoreValue D). LeavesOthers (purge_claims t.stage) old s (H old.disk) (H new.disk)) (sym is) (subst (λ (s : PurgeStage). LeavesOthers (purge_claims s) old (without source.file.0 new.disk old) (H old.disk) (H new.disk)) (sym at)
-      (removal_leaves (purge_claims (stage.Removing work)) source.file.0 new.disk old (H old.disk) (H new.disk) one.elsewhere untaken ungrown others (firm_same old (without source.file.0 new.disk old) (H old.disk) (H new.disk) refl refl (syncs_placed source.file.0 (H old.disk) (H new.disk) others))));
-  ended = λ given e. absurd (let k : progress.More ≡ progress.Done given = e in cc k);
+  regions = λ r. regions_but source.file.0 old new.map (H old.disk) (H new.disk) store runs (ap (λ (s : StoreValue D). s.map) is) one.elsewhere others;
+  claims = λ r. record {
+    moves = subst (λ (s : StoreValue D). MovesClaims (purge_claims t.stage) (purge_claims next.stage) old s) (sym is) (subst (λ (s : PurgeStage). MovesClaims (purge_claims s) (purge_claims next.stage) old (without source.file.0 new.disk old)) (sym at) (moves_removal work source left next.stage new.disk old one.left_are to d one.unpinned));
+    leaves = subst (λ (s : StoreValue D). LeavesOthers (purge_claims t.stage) old s (H old.disk) (H new.disk)) (sym is) (subst (λ (s : PurgeStage). LeavesOthers (purge_claims s) old (without source.file.0 new.disk old) (H old.disk) (H new.disk)) (sym at)
+        (removal_leaves (purge_claims (stage.Removing work)) source.file.0 new.disk old (H old.disk) (H new.disk) one.elsewhere untaken ungrown others (firm_same old (without source.file.0 new.disk old) (H old.disk) (H new.disk) refl refl (syncs_placed source.file.0 (H old.disk) (H new.disk) others))));
+    ended = λ given e. absurd (let k : progress.More ≡ progress.Done given = e in cc k);
+  };
   grows = grows;
   mail = mail;
   reads = let e = ap (λ (f : Faults). f.reads) quiet in omega (arith, e);
   changes = let e = ap (λ (f : Faults). f.changes) quiet in omega (arith, e);
   calm = λ told. ap (λ (f : Faults). f.reads) quiet;
   unfailed = λ r. ap (λ (f : Faults). f.changes) quiet;
-  fell = λ e. absurd (fall old.stopped (ap (λ (s : StoreValue D). s.stopped) (sym is) ∙ e) runs);
+  fell = λ was e. absurd (fall old.stopped (ap (λ (s : StoreValue D). s.stopped) (sym is) ∙ e) runs);
 }
   where
     d : IsDoomedFile source.file.0 old.files.files

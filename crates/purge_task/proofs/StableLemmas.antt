@@ -31,7 +31,7 @@ use Rattle.task_claims.specs.Stable.{Beside}
 use Rattle.task_claims.proofs.LeftLemmas.{emptied_left, removing_left, taken_left}
 use Rattle.purge_task.specs.Claims.{claims_of_sources, claims_of_switched, claims_of_target, purge_claims, sources_left}
 use Rattle.purge_task.specs.Found.{messages_in}
-use Rattle.purge_task.specs.Keeping.{AreCopiedUpTo, HasCountRoom, HasLowCounts, HasPurged, HasSwitchRoom, IsBeginningFirst, IsCopyingFirst, IsCopyingTo, IsReadyToPurge, IsRemovingFirst, IsSourceCopied, IsTargetToMake, IsToBegin, IsToMake, PurgeValue, target_header}
+use Rattle.purge_task.specs.Keeping.{AreCopiedUpTo, AreCopiesInRow, HasCountRoom, HasLowCounts, HasPurged, HasSwitchRoom, HasTargetHeader, IsBeginningFirst, IsCopyingFirst, IsCopyingTo, IsReadyToPurge, IsRemovingFirst, IsSourceCopied, IsTargetToMake, IsToBegin, IsToMake, PurgeValue, size_at, target_header}
 use Rattle.purge_task.specs.Left.{events_before_instances, purge_left}
 use Rattle.purge_task.specs.declared.task.PurgeStage.{PurgeStage}
 use Rattle.purge_task.specs.declared.task.PurgeStage.TheVariants as stage
@@ -146,11 +146,25 @@ of_record m uid P Q h k =
     let same : h.0 ≡ k.0 = (let e : Some h.0 ≡ Some k.0 = sym h.1 ∙ k.1 in cc e) in
     (h.0, h.1, (h.2, subst Q (sym same) k.2))
 
-only_record : (m : MapMeaning) (uid : ℕ) (P Q : MapRecord → Type 0) → ((row : MapRecord) → P row → Q row) → HasRecord m uid P → HasRecord m uid Q
-only_record m uid P Q to h = (h.0, h.1, to h.0 h.2)
-
 abbrev same_field : (row now : MapRecord) → but_count now ≡ but_count row → (f : MapRecord → ℕ) → ((r : MapRecord) → f (but_count r) ≡ f r) → f now ≡ f row
 same_field row now e f uncounted = sym (uncounted now) ∙ (ap f e ∙ uncounted row)
+
+in_row_stays : (file from last end offset : ℕ) (places : List MapPlace) (m n : MapMeaning) → AreAlikeWithin file m n → All (λ place. HasRecord m place.uid.0 (λ row. (row.file ≡ file) × (row.offset + row.size ≤ from) × (place.offset + row.size ≤ last))) places → AreCopiesInRow m offset places end → AreCopiesInRow n offset places end
+in_row_stays file from last end offset [] m n a there h = h
+in_row_stays file from last end offset (p ∷ ps) m n a there h =
+    (h.0, subst (λ (size : ℕ). AreCopiesInRow n (offset + size) ps end) (sym same) (in_row_stays file from last end (offset + size_at m p.uid.0) ps m n a (All-tail (λ (place : MapPlace). HasRecord m place.uid.0 (λ row. (row.file ≡ file) × (row.offset + row.size ≤ from) × (place.offset + row.size ≤ last))) p ps there) h.1))
+  where
+    has : HasRecord m p.uid.0 (λ row. (row.file ≡ file) × (row.offset + row.size ≤ from) × (p.offset + row.size ≤ last))
+    has = All-head (λ (place : MapPlace). HasRecord m place.uid.0 (λ row. (row.file ≡ file) × (row.offset + row.size ≤ from) × (place.offset + row.size ≤ last))) p ps there
+
+    now : (r : MapRecord) × (record_at n p.uid.0 ≡ Some r) × (but_count r ≡ but_count has.0)
+    now = is_so file m n p.uid.0 has.0 a has.1 has.2.0
+
+    size_of : Option MapRecord → ℕ
+    size_of o = option_map_or (λ r. r.size) o 0
+
+    same : size_at n p.uid.0 ≡ size_at m p.uid.0
+    same = ap size_of now.1 ∙ (same_field has.0 now.0 now.2 (λ r. r.size) (λ r. refl) ∙ sym (ap size_of has.1))
 
 copied_stays : (file from end : ℕ) (copied : List MapPlace) (m n : MapMeaning) → AreAlikeWithin file m n → AreCopiedUpTo file from end copied m → AreCopiedUpTo file from end copied n
 copied_stays file from end copied m n a h =
@@ -160,8 +174,7 @@ copied_stays file from end copied m n a h =
       there = λ i d lt. there (get_or copied i d) (h.there i d lt);
       every = each_within file m n (λ row. row.offset < from → 1 ≤ row.count → list_any (λ (place : MapPlace). place.uid.0 == row.uid) copied ≡ true) (λ row. row.offset < from → 1 ≤ row.count → list_any (λ (place : MapPlace). place.uid.0 == row.uid) copied ≡ true) a every h.every;
       once = h.once;
-      behind = h.behind;
-      follow = λ i j d lt lj. follow (get_or copied i d) (get_or copied j d) (h.there i d (omega (arith, lt, lj))) (h.follow i j d lt lj);
+      row = in_row_stays file from end end (length target_header) copied m n a h.there h.row;
       fits = omega (arith, less, fits);
     }
   where
@@ -184,13 +197,6 @@ copied_stays file from end copied m n a h =
         by_count : (n : ℕ) → (n ≡ 0 → row.count ≡ 0) → 1 ≤ n
         by_count zero z = absurd (let k = z refl in omega (arith, k, some))
         by_count (suc k) z = omega arith
-
-    follow : (x y : MapPlace) → HasRecord m x.uid.0 (λ row. (row.file ≡ file) × (row.offset + row.size ≤ from) × (x.offset + row.size ≤ end)) → HasRecord m x.uid.0 (λ row. x.offset + row.size ≤ y.offset) → HasRecord n x.uid.0 (λ row. x.offset + row.size ≤ y.offset)
-    follow x y k q =
-        let both = of_record m x.uid.0 (λ row. (row.file ≡ file) × (row.offset + row.size ≤ from) × (x.offset + row.size ≤ end)) (λ row. x.offset + row.size ≤ y.offset) k q in
-        only_record n x.uid.0 (λ row. (row.file ≡ file) × (x.offset + row.size ≤ y.offset)) (λ row. x.offset + row.size ≤ y.offset) (λ row z. z.1)
-        (placed_stays file m n x.uid.0 (λ row. ((row.file ≡ file) × (row.offset + row.size ≤ from) × (x.offset + row.size ≤ end)) × (x.offset + row.size ≤ y.offset)) (λ row. (row.file ≡ file) × (x.offset + row.size ≤ y.offset)) a (λ row z. z.0.0)
-        (λ row now e z. let f = same_field row now e (λ r. r.file) (λ r. refl) in let s = same_field row now e (λ r. r.size) (λ r. refl) in let l = z.1 in (f ∙ z.0.0, omega (arith, s, l))) both)
 
 -- both files read as they did
 copied_on : (target offset : ℕ) (a b : DiskState) (row now : MapRecord) → but_count now ≡ but_count row → reading (b (Mail row.file)) ≡ reading (a (Mail row.file)) → reading (b (Mail target)) ≡ reading (a (Mail target)) → IsCopiedTo (files_of a) target offset row → IsCopiedTo (files_of b) target offset now
@@ -233,6 +239,7 @@ copying_stays theirs target s work old new before after p source claimed h =
       unnamed = elsewhere_within target old.map new.map l.0.records h.unnamed;
       behind = h.behind;
       copied = copied_stays s.file.0 work.from h.end s.copied.items old.map new.map a h.copied;
+      header = between-on (λ x y. IsSameOrSynced (x (Mail target)) (y (Mail target))) (λ now. HasTargetHeader (files_of now (Mail target))) (λ now. HasTargetHeader (files_of now (Mail target))) before after (λ x y u begins. (begins.0, same_reads (x (Mail target)) (y (Mail target)) u ∙ begins.1)) l.0.state h.header;
       octets = between-on (λ x y. (IsSameOrSynced (x (Mail s.file.0)) (y (Mail s.file.0))) × (IsSameOrSynced (x (Mail target)) (y (Mail target)))) (λ now. AreCopied (files_of now) old.map target s.copied.items) (λ now. AreCopied (files_of now) new.map target s.copied.items) before after
           (λ x y both are. octets_stay s.file.0 target work.from h.end s.copied.items old.map new.map x y a h.copied (same_reads (x (Mail s.file.0)) (y (Mail s.file.0)) both.0) (same_reads (x (Mail target)) (y (Mail target)) both.1) are)
           (between-both (λ x y. IsSameOrSynced (x (Mail s.file.0)) (y (Mail s.file.0))) (λ x y. IsSameOrSynced (x (Mail target)) (y (Mail target))) (λ x y. (IsSameOrSynced (x (Mail s.file.0)) (y (Mail s.file.0))) × (IsSameOrSynced (x (Mail target)) (y (Mail target)))) before after (λ x y u v. (u, v)) k.0.state l.0.state) h.octets;

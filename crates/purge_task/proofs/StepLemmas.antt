@@ -89,7 +89,7 @@ goes_on_runs t next old new before later began faults h = by_flag new.stopped re
 pub further_says : {D : Type 0} → (counted : ℕ) (t next : PurgeValue) (old new : StoreValue D) (before later : Option History) (began faults : Faults) → IsPurgeStep t next progress.More old new before later began faults → IsFurther counted t.stage next.stage → next.files ≡ t.files + counted → next.dropped ≤ t.dropped + counted * 4294967295 → next.instances ≡ t.instances → HasLowCounts t old
     → counted ≤ 1 → LeavesLess t next old new
 further_says counted t next old new before later began faults h further files dropped instances low one =
-    let leaves = h.leaves (goes_on_runs t next old new before later began faults h) in
+    let leaves = (h.claims (goes_on_runs t next old new before later began faults h)).leaves in
     let l = left_stays t.stage (purge_claims t.stage) old new before later leaves in
     let few = leaves.numbers.few in
     let events = further.events in
@@ -107,7 +107,7 @@ further_says counted t next old new before later began faults h further files dr
 -- The first event went on.
 pub first_low : {D : Type 0} → (t next : PurgeValue) (old new : StoreValue D) (before later : Option History) (began faults : Faults) → IsPurgeStep t next progress.More old new before later began faults → t.stage ≡ stage.First → IsFurther 0 stage.First next.stage → next.dropped ≡ 0 → next.files ≡ 0 → next.instances ≡ 0 → length new.instances.known ≤ 9223372036854775808 → LeavesLess t next old new
 first_low t next old new before later began faults h at further dropped files instances few =
-    let leaves = h.leaves (goes_on_runs t next old new before later began faults h) in
+    let leaves = (h.claims (goes_on_runs t next old new before later began faults h)).leaves in
     let l = left_stays t.stage (purge_claims t.stage) old new before later leaves in
     let s : events_before_instances t.stage ≡ events_before_instances stage.First = ap events_before_instances at in
     let events = further.events in
@@ -265,10 +265,11 @@ step_did : {D : Type 0} → (t next : PurgeValue) (d : Did) (answer : Progress) 
 step_did t next d answer old new before later began faults h = record {
   ready = h.ready;
   does = (h.does.0, λ around. steps_did h.does.0 around t next d old new before later began faults (ended_by answer) (h.does.1 around));
+  first = h.first;
+  refused = h.refused;
   stopped = h.stopped;
+  regions = h.regions;
   claims = h.claims;
-  leaves = h.leaves;
-  ended = h.ended;
   grows = h.grows;
   mail = h.mail;
   reads = h.reads;
@@ -295,7 +296,7 @@ ready_did inside t d store history same h = by_value (subst (λ (v : PurgeValue)
     by_value k = (k.0, λ begun. let low = k.1 begun in record { dropped = low.dropped; files = low.files; instances = low.instances })
 
 -- what it came to depends on the counts alone
-came_counts : (result : Result PurgeStage Refusal) (s u : PurgeValue) → s.dropped ≡ u.dropped → s.files ≡ u.files → s.instances ≡ u.instances → came_to result s ≡ came_to result u
+pub came_counts : (result : Result PurgeStage Refusal) (s u : PurgeValue) → s.dropped ≡ u.dropped → s.files ≡ u.files → s.instances ≡ u.instances → came_to result s ≡ came_to result u
 came_counts (Ok next) s u dropped files instances =
     ap (λ (n : ℕ). record s { stage = next; did = did.Quiet; dropped = n }) dropped
     ∙ (ap (λ (n : ℕ). record s { stage = next; did = did.Quiet; dropped = u.dropped; files = n }) files ∙ ap (λ (n : ℕ). record s { stage = next; did = did.Quiet; dropped = u.dropped; files = u.files; instances = n }) instances)

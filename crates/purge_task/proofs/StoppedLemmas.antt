@@ -1,28 +1,30 @@
 -- A purge of a store that is stopped.
-use Rattle.std.proofs.Common.{◌≡◌, ℕ, List, [], ◌∷◌, ◌++◌, Some, None, refl, sym, ◌∙◌, ap, subst, Option}
+use Rattle.std.proofs.Common.{◌≡◌, ℕ, List, [], ◌∷◌, ◌++◌, Some, None, true, refl, sym, ◌∙◌, ap, subst, arith, Option}
 use Rattle.disk_model.specs.Disk.{Faults, History}
 use Rattle.mdbox_base.specs.declared.progress.Did.{Did}
 use Rattle.mdbox_base.specs.declared.progress.Did.TheVariants as did
+use Rattle.mdbox_base.specs.declared.progress.Progress.TheVariants as progress
 use Rattle.mdbox_base.specs.declared.replies.Refusal.TheVariants as refusal
 use Rattle.mdbox_base.specs.declared.replies.Reply.{Reply}
 use Rattle.mdbox_base.specs.declared.replies.Reply.TheVariants as reply
 use Rattle.mdbox_base.specs.declared.requests.Request.TheVariants as request
-use Rattle.std.proofs.Common.{true}
 use Rattle.list_machine.specs.Run.{EventPart, First, RemovesFile, Run, own_events}
 use Rattle.journal.specs.Events.{Around, next_part, next_taken}
 use Rattle.store_core.specs.Value.{StoreValue}
 use Rattle.task_steps.specs.Step.{DidEvent}
 use Rattle.task_steps.proofs.OneEventLemmas.{never_more, next_first}
+use Rattle.task_steps.proofs.UnmovedLemmas.{mail_still}
 use Rattle.purge_task.specs.Claims.{sources_left}
-use Rattle.purge_task.specs.Clause.{PurgeSteps, around_purging, seen_by_purge}
+use Rattle.purge_task.specs.Clause.{IsPurgeStep, PurgeSteps, around_purging, seen_by_purge}
 use Rattle.purge_task.specs.Keeping.{PurgeValue}
 use Rattle.purge_task.specs.Stages.{IsAtPurge, IsAtPurgeStage, IsAtSwitched}
 use Rattle.purge_task.specs.declared.task.PurgeStage.{PurgeStage}
 use Rattle.purge_task.specs.declared.task.PurgeStage.TheVariants as stage
 use Rattle.purge_task.specs.declared.work.Source.{Source}
 use Rattle.purge_task.specs.declared.work.Work.{Work}
-use Rattle.purge_task.proofs.EventLemmas.{did_stopped}
+use Rattle.purge_task.proofs.EventLemmas.{did_stopped, fall, same_refusal}
 use Rattle.purge_task.proofs.PartLemmas.{copies_some, goes_on_some, next_copies, next_goes_on, next_removes}
+use Rattle.disk_model.proofs.IdleLemmas.{idle-begins}
 
 -- a purge that stands at a stage has a next part
 pub next_some : {D : Type 0} → (around : Around) (s : PurgeStage) (t : PurgeValue) (store : StoreValue D) (run : Run) (place : ℕ) (said : List Reply) → IsAtPurgeStage s t store run place said → (part : EventPart) × (next_part around run request.Purge (own_events place run) ≡ Some part)
@@ -44,3 +46,21 @@ stopped_steps after t next store history faults how stopped = λ run lane place 
           (did_stopped around after run lane place said lists (seen_by_purge store history faults) part.0 come shows stopped part.1 refl),
       λ e. absurd (never_more _ e),
     )
+
+pub stopped_says : {D : Type 0} → (t next : PurgeValue) (store : StoreValue D) (history : Option History) (faults : Faults) → next.did ≡ did.Quiet → store.stopped ≡ true → IsPurgeStep t next (progress.Done (reply.Refused refusal.Stopped)) store store history history faults faults
+stopped_says t next store history faults how stopped = record {
+  ready = λ e. absurd (let k : progress.Done (reply.Refused refusal.Stopped) ≡ progress.More = e in cc k);
+  does = ([], λ after. stopped_steps after t next store history faults how stopped);
+  first = λ begins. record { idle = idle-begins history; found = λ e. absurd (let k : progress.Done (reply.Refused refusal.Stopped) ≡ progress.More = e in cc k) };
+  refused = λ why e read stop. absurd (stop (same_refusal refusal.Stopped why e));
+  stopped = record { 0 = λ e. stopped; 1 = λ e. refl };
+  regions = λ runs. absurd (fall store.stopped stopped runs);
+  claims = λ runs. absurd (fall store.stopped stopped runs);
+  grows = omega arith;
+  mail = mail_still store.map history;
+  reads = omega arith;
+  calm = λ told. refl;
+  changes = omega arith;
+  unfailed = λ runs. refl;
+  fell = λ runs e. absurd (fall store.stopped stopped runs);
+}

@@ -63,7 +63,7 @@ use Rattle.purge_task.specs.declared.task.PurgeStage.TheVariants as stage
 use Rattle.purge_task.specs.declared.work.Source.{Source}
 use Rattle.purge_task.specs.declared.work.Work.{Work}
 use Rattle.purge_task.proofs.BareCallLemmas.{IsEmptiedFile, emptied_file}
-use Rattle.purge_task.proofs.EventLemmas.{fall}
+use Rattle.purge_task.proofs.EventLemmas.{fall, same_refusal}
 use Rattle.purge_task.proofs.FailLemmas.{fail_steps}
 use Rattle.purge_task.proofs.FurtherLemmas.{further_switch_on, further_switch_removing}
 use Rattle.purge_task.proofs.PartLemmas.{next_copies, next_goes_on, next_is}
@@ -80,6 +80,7 @@ use Rattle.purge_task.proofs.SwitchRowLemmas.{elsewhere_switched, length_as, map
 use Rattle.purge_task.proofs.SwitchSeenLemmas.{with_map}
 use Rattle.purge_task.proofs.SwitchStepLemmas.{CountsSwitch, HasSwitched, IsSpent, switch_steps}
 use Rattle.purge_task.proofs.SwitchedLemmas.{reads_begin}
+use Rattle.purge_task.proofs.SwitchRegionLemmas.{regions_switched}
 
 and_false : (c : Bool) → (c && false) ≡ false
 and_false true = refl
@@ -382,30 +383,35 @@ says_of : {D : Type 0} → (t next : PurgeValue) (work later : Work) (source spe
     → ((thing : Thing) → purge_claims t.stage thing ≡ claims_of_sources (source ∷ left) thing + claims_of_target (source ∷ left) thing) → IsSwitchedOne work source left old before → sources_left later ≡ spent ∷ left → IsSpent source spent → length later.block.items ≡ length work.block.items → length later.text.items ≡ length work.text.items
     → IsStore before old → AreFilesInOrder old.files → AreSwitchLists old.map source.file.0 source.copied.items moved dropped
     → IsSwitchMade source moved dropped old (with_switched source.file.0 source.target disk log (map_switched source.file (target_named source.target moved) moved dropped old.map) dues old) before after
-    → IsBehindSwitch (pins_in source.file.0 old.files.files == 0) later next.stage → next.did ≡ did.Quiet → CountsSwitch t next dropped → old.stopped ≡ false → LeavesSettled old.map before after began faults
+    → IsBehindSwitch (pins_in source.file.0 old.files.files == 0) later next.stage → next.did ≡ did.Quiet → CountsSwitch t next dropped → old.stopped ≡ false → LeavesSettled old.map before after began faults → t.stage ≢ stage.First
     → IsPurgeStep t next progress.More old (with_switched source.file.0 source.target disk log (map_switched source.file (target_named source.target moved) moved dropped old.map) dues old) before after began faults
-says_of {D = D} t next work later source spent left moved dropped disk log dues old before after began faults Before stands part claimed one left_are spent_is block text is order listed made to how counts runs leaves = record {
+says_of {D = D} t next work later source spent left moved dropped disk log dues old before after began faults Before stands part claimed one left_are spent_is block text is order listed made to how counts runs leaves going = record {
   ready = λ more r. ready_behind work later source spent left moved dropped disk log dues old before after next.stage one left_are spent_is block text is order written made (pins_in source.file.0 old.files.files == 0) refl to;
   does = (
     [],
     λ around. switch_steps around t next later source spent left Before (target_named source.target moved) moved dropped disk log dues (record old.files { files = files_switched source.file.0 source.target old.files.files }) old before after began faults stands part left_are spent_is one.apart switched to how counts runs leaves,
   );
+  first = λ begins. absurd (going begins);
+  refused = λ why e read stop. absurd (let k : progress.More ≡ progress.Done (reply.Refused why) = e in cc k);
   stopped = record { 0 = λ e. absurd (let k : progress.More ≡ progress.Done (reply.Refused refusal.Stopped) = e in cc k); 1 = λ e. absurd (fall old.stopped e runs) };
-  claims = λ r thing.
-      let a = switched_amount source left disk log (map_switched source.file (target_named source.target moved) moved dropped old.map) dues old known written made.due thing in
-      let b = claimed thing in
-      let c = behind_claims later source spent left next.stage (pins_in source.file.0 old.files.files == 0) thing left_are to in
-      let d = removal_as source spent left old (pins_in source.file.0 old.files.files == 0) thing spent_is refl in
-      omega (arith, a, b, c, d);
-  leaves = λ r. switch_leaves (purge_claims t.stage) source left moved dropped disk log dues old before after claimed is known written made;
-  ended = λ given e. absurd (let k : progress.More ≡ progress.Done given = e in cc k);
+  regions = λ r. regions_switched source moved dropped old before after is runs listed made.untargeted one.ready.target made.reads;
+  claims = λ r. record {
+    moves = λ thing.
+        let a = switched_amount source left disk log (map_switched source.file (target_named source.target moved) moved dropped old.map) dues old known written made.due thing in
+        let b = claimed thing in
+        let c = behind_claims later source spent left next.stage (pins_in source.file.0 old.files.files == 0) thing left_are to in
+        let d = removal_as source spent left old (pins_in source.file.0 old.files.files == 0) thing spent_is refl in
+        omega (arith, a, b, c, d);
+    leaves = switch_leaves (purge_claims t.stage) source left moved dropped disk log dues old before after claimed is known written made;
+    ended = λ given e. absurd (let k : progress.More ≡ progress.Done given = e in cc k);
+  };
   grows = leaves.grows;
   mail = leaves.mail;
   reads = let e = ap (λ (f : Faults). f.reads) leaves.quiet in omega (arith, e);
   changes = let e = ap (λ (f : Faults). f.changes) leaves.quiet in omega (arith, e);
   calm = λ told. ap (λ (f : Faults). f.reads) leaves.quiet;
   unfailed = λ r. ap (λ (f : Faults). f.changes) leaves.quiet;
-  fell = λ e. absurd (fall old.stopped e runs);
+  fell = λ was e. absurd (fall old.stopped e runs);
 }
   where
     new : StoreValue D
@@ -491,6 +497,10 @@ few_dropped work source left switched m old new before kept same is one s =
     let counted = s.counted in
     omega (arith, most, all, few, counted)
 
+-- a purge that is to switch a file has begun
+pub to_switch_begun : (at : PurgeStage) (work : Work) (m : MapMeaning) → IsToSwitch at work m → at ≢ stage.First
+to_switch_begun at work m to first = subst (λ (s : PurgeStage). IsToSwitch s work m) first to
+
 -- it leaves fewer events
 at_either : (at : PurgeStage) (work : Work) (m : MapMeaning) → IsToSwitch at work m → (at ≡ stage.Begin work) ⊎ (at ≡ stage.Copying work)
 at_either (stage.Begin begun) work m to = inl (ap (λ (w : Work). stage.Begin w) to.0)
@@ -556,7 +566,7 @@ switch_says {D = D} H F t next work later source spent left switched old new c h
         → ((run : Run) (place : ℕ) (said : List Reply) (done : List Source) → HasComeTo run (seen_by_purge old (H old.disk) (F old.disk)) → IsPurging t done (source ∷ left) (Before run) old run place said → next_part (around_purging [] old) run request.Purge (own_events place run) ≡ Some Switches)
         → ((thing : Thing) → purge_claims t.stage thing ≡ claims_of_sources (source ∷ left) thing + claims_of_target (source ∷ left) thing) → IsPurgeStep t next progress.More old new (H old.disk) (H new.disk) (F old.disk) (F new.disk)
     says Before stands part claimed = subst (λ (s : StoreValue D). IsPurgeStep t next progress.More old s (H old.disk) (H new.disk) (F old.disk) (F new.disk)) (sym same)
-        (says_of t next work later source spent left moved gone new.disk new.map_log new.dues old (H old.disk) (H new.disk) (F old.disk) (F new.disk) Before stands part claimed c.one c.left_are c.spent_is c.block c.text c.is c.order c.switch.listed made goes how counts c.runs c.leaves)
+        (says_of t next work later source spent left moved gone new.disk new.map_log new.dues old (H old.disk) (H new.disk) (F old.disk) (F new.disk) Before stands part claimed c.one c.left_are c.spent_is c.block c.text c.is c.order c.switch.listed made goes how counts c.runs c.leaves (to_switch_begun t.stage work old.map to))
 
     by_stage : (s : PurgeStage) → t.stage ≡ s → HasPurged s old (H old.disk) → IsToSwitch s work old.map → IsPurgeStep t next progress.More old new (H old.disk) (H new.disk) (F old.disk) (F new.disk)
     by_stage stage.First at h to = absurd to
@@ -593,26 +603,27 @@ tells_either target old new (inl same) = subst (λ (v : FilesValue). TellsNoLess
 tells_either target old new (inr synced) = subst (λ (v : FilesValue). TellsNoLess old.files v.files) (sym synced) (tells_synced target old.files)
 
 pub switch_failed : {D : Type 0} → (H : D → Option History) (F : D → Faults) (t : PurgeValue) (old new : StoreValue D) → old.stopped ≡ false → ((lists : Lists) → IsSettledFor lists (H old.disk) → Leaves lists lists (H old.disk) (H new.disk)) → MailIsKept old.map (H old.disk) (H new.disk)
-    → new ≡ record old { disk = new.disk; map_log = new.map_log; files = new.files; stopped = true } → TellsNoLess old.files.files new.files.files → Grows (H old.disk) (H new.disk) → (Failed : Type 0) → Failed → ChangeFaultCounted Failed (F old.disk) (F new.disk)
+    → new ≡ record old { disk = new.disk; map_log = new.map_log; files = new.files; stopped = true } → TellsNoLess old.files.files new.files.files → Grows (H old.disk) (H new.disk) → (Failed : Type 0) → Failed → ChangeFaultCounted Failed (F old.disk) (F new.disk) → t.stage ≢ stage.First
     → IsPurgeStep t (record t { stage = stage.First; did = did.Failed }) (progress.Done (reply.Refused refusal.Stopped)) old new (H old.disk) (H new.disk) (F old.disk) (F new.disk)
-switch_failed {D = D} H F t old new runs moments mail is tells grows Failed failed fault = record {
+switch_failed {D = D} H F t old new runs moments mail is tells grows Failed failed fault begun = record {
   ready = λ e. absurd (let k : progress.Done (reply.Refused refusal.Stopped) ≡ progress.More = e in cc k);
   does = (
     [],
     λ around. subst (λ (s : StoreValue D). PurgeSteps [] around t next old s (H old.disk) (H new.disk) (F old.disk) (F new.disk) (Some (reply.Refused refusal.Stopped))) (sym is)
         (fail_steps around t next new.disk new.files old (H old.disk) (H new.disk) (F old.disk) (F new.disk) refl runs tells (record { moments = moments; grows = grows; mail = mail; reads = let e = fault.reads in omega (arith, e); changes = fault.changes; rose = fault.rose failed })),
   );
+  first = λ begins. absurd (begun begins);
+  refused = λ why e read stop. absurd (stop (same_refusal refusal.Stopped why e));
   stopped = record { 0 = λ e. ap (λ (s : StoreValue D). s.stopped) is; 1 = λ e. refl };
+  regions = λ r. absurd (fall new.stopped (ap (λ (s : StoreValue D). s.stopped) is) r);
   claims = λ r. absurd (fall new.stopped (ap (λ (s : StoreValue D). s.stopped) is) r);
-  leaves = λ r. absurd (fall new.stopped (ap (λ (s : StoreValue D). s.stopped) is) r);
-  ended = λ given e r. absurd (fall new.stopped (ap (λ (s : StoreValue D). s.stopped) is) r);
   grows = grows;
   mail = mail;
   reads = let e = fault.reads in omega (arith, e);
   changes = fault.changes;
   calm = λ told. fault.reads;
   unfailed = λ r. absurd (fall new.stopped (ap (λ (s : StoreValue D). s.stopped) is) r);
-  fell = λ e. (fault.rose failed, fault.reads);
+  fell = λ was e. (fault.rose failed, fault.reads);
 }
   where
     next : PurgeValue

@@ -38,7 +38,7 @@ use Rattle.task_claims.specs.Leaving.{LeavesOthers, MayOnlyGrow, OthersTook}
 use Rattle.task_steps.specs.Step.{HasComeTo, was_given, was_used}
 use Rattle.purge_task.specs.Claims.{claims_of_sources, claims_of_target, purge_claims, sources_left}
 use Rattle.purge_task.specs.Clause.{IsPurgeStep, PurgeSteps, seen_by_purge}
-use Rattle.purge_task.specs.Keeping.{PurgeValue, IsTargetFirst, AreCopiedUpTo, AreSourcesApart, HasPurged, HasSwitchRoom, IsBeginningFirst, IsCopyingFirst, IsSourceCopied, IsTargetToMake, IsToBegin, IsToMake, target_header}
+use Rattle.purge_task.specs.Keeping.{PurgeValue, IsTargetFirst, AreCopiedUpTo, AreSourcesApart, HasPurged, HasSwitchRoom, HasTargetHeader, IsBeginningFirst, IsCopyingFirst, IsSourceCopied, IsTargetToMake, IsToBegin, IsToMake, target_header}
 use Rattle.purge_task.specs.declared.task.PurgeStage.{PurgeStage}
 use Rattle.purge_task.specs.declared.task.PurgeStage.TheVariants as stage
 use Rattle.purge_task.specs.declared.work.Source.{Source}
@@ -48,6 +48,8 @@ use Rattle.purge_task.proofs.RemovalLemmas.{LeavesSettled}
 use Rattle.purge_task.proofs.TargetLemmas.{target_steps}
 use Rattle.purge_task.proofs.TargetLeavingLemmas.{named_others, one_file_leaves}
 use Rattle.purge_task.proofs.TargetSeenLemmas.{IsMadeOf, with_files}
+use Rattle.store_core.specs.Running.{IsStore}
+use Rattle.purge_task.proofs.SameRegionLemmas.{regions_named}
 
 -- ---- the file
 
@@ -221,8 +223,7 @@ none_copied work source store places none from short = subst (λ (ps : List MapP
   there = All-nil _;
   every = All-weaker (λ (row : MapRecord). Unit {0}) (λ (row : MapRecord). row.file ≡ source.file.0 → row.offset < work.from → 1 ≤ row.count → list_any (λ (place : MapPlace). place.uid.0 == row.uid) [] ≡ true) (λ row t here before. absurd (omega (arith, before, from))) store.map.records (λ i d lt. tt);
   once = pairs_nil (λ (a b : MapPlace). a.uid.0 ≢ b.uid.0);
-  behind = All-nil _;
-  follow = pairs_nil (λ (a b : MapPlace). HasRecord store.map a.uid.0 (λ row. a.offset + row.size ≤ b.offset));
+  row = refl;
   fits =
       let l = sum_by-le-sum_by (λ (row : MapRecord). if is_copied_from source.file.0 row && nat_le work.from row.offset then row.size else 0) (λ (row : MapRecord). if is_copied_from source.file.0 row then row.size else 0) store.map.records
       (λ row. either_less (is_copied_from source.file.0 row) (nat_le work.from row.offset) row.size) in
@@ -263,6 +264,10 @@ made_ready {D = D} work source left target disk store before after left_are is u
     stays_there None k = tt
     stays_there (Some told) k = λ gone. let e : None ≡ Some target_header = (k.leaves None).0 gone in cc e
 
+    begins : (h : Option History) → IfTold h (λ now. Keeps (now (file.Mail target.0)) target_header) → IfTold h (λ now. HasTargetHeader (files_of now (file.Mail target.0)))
+    begins None k = tt
+    begins (Some told) k = ([], k.reads)
+
     none_there : (h : Option History) → IfTold h (λ now. AreCopied (files_of now) store.map target.0 source.copied.items)
     none_there None = tt
     none_there (Some told) = subst (λ (ps : List MapPlace). AreCopied (files_of told.now) store.map target.0 ps) (sym one.uncopied) (All-nil _)
@@ -283,6 +288,7 @@ made_ready {D = D} work source left target disk store before after left_are is u
         unnamed = make.0.unnamed;
         behind = make.2;
         copied = none_copied work source store source.copied.items one.uncopied first.0 one.short;
+        header = begins after kept;
         octets = none_there after;
         stays = stays_there after kept;
       };
@@ -354,8 +360,8 @@ never_given t store before began run guid u come at = by_flag (was_given run gui
 
 pub made_says : {D : Type 0} → (H : D → Option History) (F : D → Faults) (t next : PurgeValue) (work : Work) (target : FileNo) (old new : StoreValue D) → t.stage ≡ stage.Begin work → next.stage ≡ stage.Copying work → next.did ≡ did.Quiet → next.dropped ≡ t.dropped → next.files ≡ t.files → next.instances ≡ t.instances
     → old.stopped ≡ false → HasPurged (stage.Begin work) old (H old.disk) → IsTargetOne work target old → All IsUsedFile old.files.files → ((lists : Lists) → IsSettledFor lists (H old.disk) → Leaves lists lists (H old.disk) (H new.disk)) → MailIsKept old.map (H old.disk) (H new.disk) → ((lists : Lists) → IsSettledFor lists (H old.disk) → IsSettledFor lists (H new.disk))
-    → OthersAreNamed (file.Mail target.0) (H old.disk) (H new.disk) → IfTold (H new.disk) (λ now. Keeps (now (file.Mail target.0)) target_header) → new ≡ with_made target.0 new.disk old → Grows (H old.disk) (H new.disk) → NoFault (F old.disk) (F new.disk) → IsPurgeStep t next progress.More old new (H old.disk) (H new.disk) (F old.disk) (F new.disk)
-made_says {D = D} H F t next work target old new at to how dropped files instances runs h one used moments mail rests others kept is grows quiet = record {
+    → OthersAreNamed (file.Mail target.0) (H old.disk) (H new.disk) → IfTold (H new.disk) (λ now. Keeps (now (file.Mail target.0)) target_header) → new ≡ with_made target.0 new.disk old → Grows (H old.disk) (H new.disk) → NoFault (F old.disk) (F new.disk) → IsStore (H old.disk) old → IsPurgeStep t next progress.More old new (H old.disk) (H new.disk) (F old.disk) (F new.disk)
+made_says {D = D} H F t next work target old new at to how dropped files instances runs h one used moments mail rests others kept is grows quiet store = record {
   ready = λ more r. subst (λ (s : PurgeStage). HasPurged s new (H new.disk)) (sym to) (subst (λ (s : StoreValue D). HasPurged (stage.Copying work) s (H new.disk)) (sym is) (made_ready work one.source one.left target new.disk old (H old.disk) (H new.disk) one.left_are one.target_is u h kept));
   does = (
     [],
@@ -363,19 +369,24 @@ made_says {D = D} H F t next work target old new at to how dropped files instanc
         (target_steps around t next work one.source one.left target new.disk (record old.files { files = made_in target.0 old.files.files }) old (H old.disk) (H new.disk) (F old.disk) (F new.disk) at one.left_are one.target_is one.some to how dropped files instances runs made
         (λ run come. never_used target.0 old (H old.disk) (F old.disk) run u come) (λ run guid come own number. never_given target.0 old (H old.disk) (F old.disk) run guid u come number) (record { moments = moments; rests = rests; grows = grows; mail = mail; quiet = quiet })),
   );
+  first = λ begins. absurd (let e : stage.Begin work ≡ stage.First = sym at ∙ begins in cc e);
+  refused = λ why e read stop. absurd (let k : progress.More ≡ progress.Done (reply.Refused why) = e in cc k);
   stopped = record { 0 = λ e. absurd (let k : progress.More ≡ progress.Done (reply.Refused refusal.Stopped) = e in cc k); 1 = λ e. absurd (fall old.stopped (ap (λ (s : StoreValue D). s.stopped) (sym is) ∙ e) runs) };
-  claims = λ r. subst (λ (s : StoreValue D). MovesClaims (purge_claims t.stage) (purge_claims next.stage) old s) (sym is) (subst (λ (s : PurgeStage). MovesClaims (purge_claims s) (purge_claims next.stage) old (with_made target.0 new.disk old)) (sym at)
-      (subst (λ (s : PurgeStage). MovesClaims (purge_claims (stage.Begin work)) (purge_claims s) old (with_made target.0 new.disk old)) (sym to) (moves_made work one.source one.left target new.disk old one.left_are one.target_is u)));
-  leaves = λ r. subst (λ (s : StoreValue D). LeavesOthers (purge_claims t.stage) old s (H old.disk) (H new.disk)) (sym is) (subst (λ (s : PurgeStage). LeavesOthers (purge_claims s) old (with_made target.0 new.disk old) (H old.disk) (H new.disk)) (sym at)
-      (made_leaves work one.source one.left target new.disk old (H old.disk) (H new.disk) one.left_are one.target_is u one.make others));
-  ended = λ given e. absurd (let k : progress.More ≡ progress.Done given = e in cc k);
+  regions = λ r. regions_named target.0 old new.map (H old.disk) (H new.disk) store runs (ap (λ (s : StoreValue D). s.map) is) one.make.unnamed others;
+  claims = λ r. record {
+    moves = subst (λ (s : StoreValue D). MovesClaims (purge_claims t.stage) (purge_claims next.stage) old s) (sym is) (subst (λ (s : PurgeStage). MovesClaims (purge_claims s) (purge_claims next.stage) old (with_made target.0 new.disk old)) (sym at)
+        (subst (λ (s : PurgeStage). MovesClaims (purge_claims (stage.Begin work)) (purge_claims s) old (with_made target.0 new.disk old)) (sym to) (moves_made work one.source one.left target new.disk old one.left_are one.target_is u)));
+    leaves = subst (λ (s : StoreValue D). LeavesOthers (purge_claims t.stage) old s (H old.disk) (H new.disk)) (sym is) (subst (λ (s : PurgeStage). LeavesOthers (purge_claims s) old (with_made target.0 new.disk old) (H old.disk) (H new.disk)) (sym at)
+        (made_leaves work one.source one.left target new.disk old (H old.disk) (H new.disk) one.left_are one.target_is u one.make others));
+    ended = λ given e. absurd (let k : progress.More ≡ progress.Done given = e in cc k);
+  };
   grows = grows;
   mail = mail;
   reads = let e = ap (λ (f : Faults). f.reads) quiet in omega (arith, e);
   changes = let e = ap (λ (f : Faults). f.changes) quiet in omega (arith, e);
   calm = λ told. ap (λ (f : Faults). f.reads) quiet;
   unfailed = λ r. ap (λ (f : Faults). f.changes) quiet;
-  fell = λ e. absurd (fall old.stopped (ap (λ (s : StoreValue D). s.stopped) (sym is) ∙ e) runs);
+  fell = λ was e. absurd (fall old.stopped (ap (λ (s : StoreValue D). s.stopped) (sym is) ∙ e) runs);
 }
   where
     u : IsUnmadeFile target.0 old.files.files

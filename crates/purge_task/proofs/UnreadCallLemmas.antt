@@ -42,6 +42,9 @@ use Rattle.purge_task.proofs.RegionLemmas.{with_end}
 use Rattle.purge_task.proofs.SameSeenLemmas.{tells_grown, with_state}
 use Rattle.purge_task.proofs.TargetCallLemmas.{unmade_file, unmade_unplaced}
 use Rattle.purge_task.proofs.TargetLeavingLemmas.{files_leave, same_others}
+use Rattle.store_core.specs.Running.{IsStore}
+use Rattle.purge_task.proofs.SameRegionLemmas.{regions_but}
+use Rattle.purge_task.proofs.EventLemmas.{same_refusal}
 
 -- ---- what is given back
 
@@ -117,29 +120,34 @@ moves_back work source left n end disk store left_are g thing =
     omega (arith, a, b, d)
 
 unread_says : {D : Type 0} → (t next : PurgeValue) (work : Work) (source : Source) (left : List Source) (target : FileNo) (row : MapRow) (end : ℕ) (disk : D) (old : StoreValue D) (before later : Option History) (began faults : Faults) → t.stage ≡ stage.Copying work → next.stage ≡ stage.First → next.did ≡ did.Quiet → old.stopped ≡ false → IsSoundMap old.map → All IsUsedFile old.files.files
-    → (one : IsCopyingOne work source left target row old before) → one.copying.end ≤ end → AreToGiveBack source left (grown_files target.0 end old.files.files) → SameButFor (file.Mail target.0) before later → Between (HasMore target.0) before later → LeavesUnread old.map before later began faults → faults.changes ≡ began.changes
+    → (one : IsCopyingOne work source left target row old before) → one.copying.end ≤ end → AreToGiveBack source left (grown_files target.0 end old.files.files) → SameButFor (file.Mail target.0) before later → Between (HasMore target.0) before later → LeavesUnread old.map before later began faults → faults.changes ≡ began.changes → IsStore before old
     → IsPurgeStep t next (progress.Done (reply.Refused refusal.ReadFault)) old (with_released (source ∷ left) (with_end target.0 end disk false old)) before later began faults
-unread_says {D = D} t next work source left target row end disk old before later began faults at to how runs sound used one longer g others more leaves quiet = record {
+unread_says {D = D} t next work source left target row end disk old before later began faults at to how runs sound used one longer g others more leaves quiet store = record {
   ready = λ e. absurd (let k : progress.Done (reply.Refused refusal.ReadFault) ≡ progress.More = e in cc k);
   does = (
     [],
     λ around. unread_steps around t next disk given old before later began faults CopiesMessage refl how runs (next_copy t work source left row one.copying.end old before began at one.left_are sound one.copying.copied one.wanted runs)
         (tells_given old.files.files grown source left (tells_grown target.0 old.files.files grown (grown_of target.0 one.copying.end end old.files.files one.copying.ends longer)) g.first g.each g.clear) leaves,
   );
+  first = λ begins. absurd (let e : stage.Copying work ≡ stage.First = sym at ∙ begins in cc e);
+  refused = λ why e read stop. absurd (read (same_refusal refusal.ReadFault why e));
   stopped = record { 0 = λ e. absurd (unread_apart (let k : reply.Refused refusal.ReadFault ≡ reply.Refused refusal.Stopped = cc e in k)); 1 = λ e. absurd (let k : false ≡ true = e in cc k) };
-  claims = λ r. subst (λ (s : PurgeStage). MovesClaims (purge_claims s) (purge_claims next.stage) old after) (sym at) (subst (λ (s : PurgeStage). MovesClaims (purge_claims (stage.Copying work)) (purge_claims s) old after) (sym to) moves);
-  leaves = λ r. subst (λ (s : PurgeStage). LeavesOthers (purge_claims s) old after before later) (sym at) (subst (λ (b : Bool). LeavesOthers mine old (with_state disk given b old) before later) runs
-      (files_leave mine target.0 disk given old before later one.copying.unnamed (target_untaken work source left target old one.left_are one.target_is used one.copying.taken)
-      (λ may. more_grows target.0 one.copying.end end old (with_state disk given old.stopped old) before later one.copying.ends (ends_given target.0 (source ∷ left) grown ∙ grown_ends target.0 one.copying.end end old.files.files one.copying.ends) longer more)
-      known (λ m apart. ends_given m (source ∷ left) grown ∙ ap (λ (o : Option MailFile). option_and_then (λ f. f.end) o) (file-other target.0 m (ending_at end) old.files.files (λ f. refl) apart)) (same_others target.0 before later others)));
-  ended = λ answer e r thing. ap (λ (s : PurgeStage). purge_claims s thing) to;
+  regions = λ r. regions_but target.0 old old.map before later store runs refl one.copying.unnamed others;
+  claims = λ r. record {
+    moves = subst (λ (s : PurgeStage). MovesClaims (purge_claims s) (purge_claims next.stage) old after) (sym at) (subst (λ (s : PurgeStage). MovesClaims (purge_claims (stage.Copying work)) (purge_claims s) old after) (sym to) moves);
+    leaves = subst (λ (s : PurgeStage). LeavesOthers (purge_claims s) old after before later) (sym at) (subst (λ (b : Bool). LeavesOthers mine old (with_state disk given b old) before later) runs
+        (files_leave mine target.0 disk given old before later one.copying.unnamed (target_untaken work source left target old one.left_are one.target_is used one.copying.taken)
+        (λ may. more_grows target.0 one.copying.end end old (with_state disk given old.stopped old) before later one.copying.ends (ends_given target.0 (source ∷ left) grown ∙ grown_ends target.0 one.copying.end end old.files.files one.copying.ends) longer more)
+        known (λ m apart. ends_given m (source ∷ left) grown ∙ ap (λ (o : Option MailFile). option_and_then (λ f. f.end) o) (file-other target.0 m (ending_at end) old.files.files (λ f. refl) apart)) (same_others target.0 before later others)));
+    ended = λ answer e thing. ap (λ (s : PurgeStage). purge_claims s thing) to;
+  };
   grows = leaves.grows;
   mail = leaves.mail;
   reads = leaves.reads;
   changes = leaves.changes;
   calm = λ told. absurd (told refl);
   unfailed = λ r. quiet;
-  fell = λ e. absurd (let k : false ≡ true = e in cc k);
+  fell = λ was e. absurd (let k : false ≡ true = e in cc k);
 }
   where
     grown : List MailFile
@@ -185,25 +193,26 @@ unread_says {D = D} t next work source left target row end disk old before later
 
 -- ---- a write that failed
 
-fallen_says : {D : Type 0} → (t next : PurgeValue) (n from end : ℕ) (disk : D) (old : StoreValue D) (before later : Option History) (began faults : Faults) → next.did ≡ did.Failed → old.stopped ≡ false → end_in n old.files.files ≡ Some from → from ≤ end → LeavesFailed old.map before later began faults → faults.reads ≡ began.reads
+fallen_says : {D : Type 0} → (t next : PurgeValue) (n from end : ℕ) (disk : D) (old : StoreValue D) (before later : Option History) (began faults : Faults) → next.did ≡ did.Failed → old.stopped ≡ false → end_in n old.files.files ≡ Some from → from ≤ end → LeavesFailed old.map before later began faults → faults.reads ≡ began.reads → t.stage ≢ stage.First
     → IsPurgeStep t next (progress.Done (reply.Refused refusal.Stopped)) old (with_end n end disk true old) before later began faults
-fallen_says t next n from end disk old before later began faults how runs ends longer leaves quiet = record {
+fallen_says t next n from end disk old before later began faults how runs ends longer leaves quiet begun = record {
   ready = λ e. absurd (let k : progress.Done (reply.Refused refusal.Stopped) ≡ progress.More = e in cc k);
   does = (
     [],
     λ around. fail_steps around t next disk (record old.files { files = grown_files n end old.files.files }) old before later began faults how runs (tells_grown n old.files.files (grown_files n end old.files.files) (grown_of n from end old.files.files ends longer)) leaves,
   );
+  first = λ begins. absurd (begun begins);
+  refused = λ why e read stop. absurd (stop (same_refusal refusal.Stopped why e));
   stopped = record { 0 = λ e. refl; 1 = λ e. refl };
+  regions = λ r. absurd (let k : true ≡ false = r in cc k);
   claims = λ r. absurd (let k : true ≡ false = r in cc k);
-  leaves = λ r. absurd (let k : true ≡ false = r in cc k);
-  ended = λ given e r. absurd (let k : true ≡ false = r in cc k);
   grows = leaves.grows;
   mail = leaves.mail;
   reads = leaves.reads;
   changes = leaves.changes;
   calm = λ told. quiet;
   unfailed = λ r. absurd (let k : true ≡ false = r in cc k);
-  fell = λ e. (leaves.rose, quiet);
+  fell = λ was e. (leaves.rose, quiet);
 }
 
 -- ---- the calls
@@ -222,8 +231,8 @@ errors_apart a b apart e = apart (let k : a ≡ b = cc e in k)
 
 pub uncopied_says : {D T : Type 0} → (H : D → Option History) (F : D → Faults) (t : PurgeValue) (work : Work) (source : Source) (left sources : List Source) (target : FileNo) (row : MapRow) (why : Refusal) (old mid new : StoreValue D) → t.stage ≡ stage.Copying work → old.stopped ≡ false → IsSoundMap old.map → All IsUsedFile old.files.files → All IsUsedFile mid.files.files
     → HasPurged (stage.Copying work) old (H old.disk) → IsCopyingOne work source left target row old (H old.disk) → sources ≡ source ∷ left → IsCopyRefusal target.0 why old mid → LeavesUncopied target.0 old mid (H old.disk) (H mid.disk) → CopyFaultCounted {T = T} (Err why) (F old.disk) (F mid.disk)
-    → (mid.stopped ≡ true → new ≡ mid) → (mid.stopped ≡ false → new ≡ record mid { files = record mid.files { files = all_released sources mid.files.files } }) → IsPurgeStep t (came_to (Err why) t) (answer_of (Err why)) old new (H old.disk) (H new.disk) (F old.disk) (F new.disk)
-uncopied_says {D = D} {T = T} H F t work source left sources target row why old mid new at runs sound used used_now h one are refused leaves counted still given = by_cause refused.cause
+    → (mid.stopped ≡ true → new ≡ mid) → (mid.stopped ≡ false → new ≡ record mid { files = record mid.files { files = all_released sources mid.files.files } }) → IsStore (H old.disk) old → IsPurgeStep t (came_to (Err why) t) (answer_of (Err why)) old new (H old.disk) (H new.disk) (F old.disk) (F new.disk)
+uncopied_says {D = D} {T = T} H F t work source left sources target row why old mid new at runs sound used used_now h one are refused leaves counted still given store = by_cause refused.cause
   where
     end : ℕ
     end = refused.end
@@ -250,7 +259,7 @@ uncopied_says {D = D} {T = T} H F t work source left sources target row why old 
         (unread_says t (came_to (Err refusal.ReadFault) t) work source left target row end mid.disk old (H old.disk) (H mid.disk) (F old.disk) (F mid.disk) at refl refl runs sound used one longer
         (giving_back work source left target row end mid.disk old (H old.disk) one h (subst (λ (fs : List MailFile). All IsUsedFile fs) files used_now)) (leaves.others on) (leaves.more on)
         (record { moments = leaves.moments; rests = leaves.rests on; grows = leaves.grows; mail = leaves.mail; reads = c.reads; changes = c.changes; rose = c.read_rose refl })
-        (c.unchanged (errors_apart refusal.ReadFault refusal.Stopped (λ e. let k : refusal.ReadFault ≡ refusal.Stopped = e in cc k)))))
+        (c.unchanged (errors_apart refusal.ReadFault refusal.Stopped (λ e. let k : refusal.ReadFault ≡ refusal.Stopped = e in cc k))) store))
     by_cause (inr stop) =
         let c : CopyFaultCounted {T = T} (Err refusal.Stopped) (F old.disk) (F mid.disk) = subst (λ (w : Refusal). CopyFaultCounted {T = T} (Err w) (F old.disk) (F mid.disk)) stop.0 counted in
         let is : new ≡ with_end target.0 end mid.disk true old = still stop.1 ∙ mid_is true stop.1 in
@@ -258,4 +267,5 @@ uncopied_says {D = D} {T = T} H F t work source left sources target row why old 
         (subst (λ (v : StoreValue D). IsPurgeStep t (came_to (Err refusal.Stopped) t) (progress.Done (reply.Refused refusal.Stopped)) old v (H old.disk) (H v.disk) (F old.disk) (F v.disk)) (sym is)
         (fallen_says t (came_to (Err refusal.Stopped) t) target.0 one.copying.end end mid.disk old (H old.disk) (H mid.disk) (F old.disk) (F mid.disk) refl runs one.copying.ends longer
         (record { moments = leaves.moments; grows = leaves.grows; mail = leaves.mail; reads = c.reads; changes = c.changes; rose = c.change_rose refl })
-        (c.unread (errors_apart refusal.Stopped refusal.ReadFault (λ e. let k : refusal.Stopped ≡ refusal.ReadFault = e in cc k)))))
+        (c.unread (errors_apart refusal.Stopped refusal.ReadFault (λ e. let k : refusal.Stopped ≡ refusal.ReadFault = e in cc k)))
+        (λ begins. let e : stage.Copying work ≡ stage.First = sym at ∙ begins in cc e)))

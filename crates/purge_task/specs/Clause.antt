@@ -1,7 +1,7 @@
 -- The clause of a purge's step.
-use Rattle.std.specs.Prelude.{◌≡◌, ◌≤◌, ◌↔◌, ◌||◌, ◌⊎◌, ℕ, true, false, List, [], find, Option, None, Result, Ok, Err}
+use Rattle.std.specs.Prelude.{◌≡◌, ◌≢◌, ◌≤◌, ◌↔◌, ◌||◌, ◌⊎◌, ℕ, true, false, List, [], find, Option, None, Result, Ok, Err}
 use Rattle.std.specs.Option.{option_map}
-use Rattle.disk_model.specs.Disk.{Faults, Grows, History}
+use Rattle.disk_model.specs.Disk.{Between, Faults, Grows, History, IsIdle}
 use Rattle.mdbox_base.specs.Streams.{Rose}
 use Rattle.mdbox_base.specs.declared.progress.Did.{Did}
 use Rattle.mdbox_base.specs.declared.progress.Did.TheVariants as did
@@ -12,8 +12,9 @@ use Rattle.mdbox_base.specs.declared.replies.Refusal.TheVariants as refusal
 use Rattle.mdbox_base.specs.declared.script.Half.TheVariants as half
 use Rattle.mdbox_base.specs.declared.replies.Reply.TheVariants as reply
 use Rattle.model_kept.specs.Kept.{MailIsKept}
-use Rattle.task_claims.specs.Claims.{ClaimsNothing, MovesClaims}
-use Rattle.task_claims.specs.Leaving.{LeavesOthers}
+use Rattle.model_meaning.specs.MapMeaning.{MapMeaning}
+use Rattle.model_store.specs.Settled.{files_of}
+use Rattle.task_claims.specs.Stable.{MovesOwnClaims}
 use Rattle.purge_task.specs.Claims.{purge_claims}
 use Rattle.purge_task.specs.declared.task.PurgeStage.{PurgeStage}
 use Rattle.purge_task.specs.declared.task.PurgeStage.TheVariants as stage
@@ -31,7 +32,9 @@ use Rattle.store_core.specs.Removing.{is_useless}
 use Rattle.store_core.specs.Value.{StoreValue}
 use Rattle.store_seen.specs.Seeing.{seen_of}
 use Rattle.task_steps.specs.Step.{Seen, Steps, ended_by}
+use Rattle.purge_task.specs.Found.{FindsUnclean}
 use Rattle.purge_task.specs.Keeping.{HasPurged, PurgeValue}
+use Rattle.purge_task.specs.Quiet.{HaveSameRegions, files_to_empty}
 use Rattle.purge_task.specs.Stages.{IsAtPurge}
 
 -- ---- what it finds
@@ -70,25 +73,35 @@ abbrev pub PurgeSteps : {D : Type 0} → List ℕ → Around → PurgeValue → 
 PurgeSteps files after t next old new before later began faults ended =
     Steps (λ run place said. IsAtPurge t old run place said × (old.stopped ≡ false → TellsUses run old)) (IsAtPurge next new) (around_purging files old) after request.Purge (seen_by_purge old before began) (seen_by_purge new later faults) next.did ended
 
--- What a step says of a store that runs, from one stage to another: that it is ready for its next event, which event it was of whichever run
--- has come to the store, that a change of the disk failed if and only if it stopped the store and replies so, and that a read failed only
--- if it replies so. Unless it stopped the store, it moves only
--- its own claims, and leaves to other tasks what is theirs; one that was replied claims nothing. What the map needs of storage files and
--- instances stays at each moment.
+-- The first event changes nothing on the disk. Where the purge goes on, the files that it has taken to empty are just those that aren't clean.
+pub record BeginsPurge {D : Type 0} (answer : Progress) (next : PurgeStage) (old : StoreValue D) (before later : Option History) : Type 0 where
+  pub idle : IsIdle before later
+  pub found : answer ≡ progress.More → FindsUnclean old before (files_to_empty next)
+
+-- each record that is still there has the octets that it had
+abbrev pub KeepsRegions : MapMeaning → MapMeaning → Option History → Option History → Type 0
+KeepsRegions first m = Between (λ a b. HaveSameRegions (files_of a) (files_of b) first m)
+
+-- What a step says, from one stage to another: that it is ready for its next event, and which event it was of whichever run has come to the
+-- store. Only the first one is refused, but by a fault. It replies that the store is stopped if and only if that is so then. Unless it is,
+-- each record keeps the octets of its region, wherever it lies; the step moves only its own claims, and leaves to other tasks what is theirs;
+-- and one that was replied claims nothing. What the map needs of storage files and instances stays at each moment. A read failed only if it
+-- replies so; and of a store that ran, a change of the disk failed if and only if the step stopped it.
 pub record IsPurgeStep {D : Type 0} (t next : PurgeValue) (answer : Progress) (old new : StoreValue D) (before later : Option History) (began faults : Faults) : Type 0 where
   pub ready : answer ≡ progress.More → new.stopped ≡ false → HasPurged next.stage new later
   pub does : (files : List ℕ) × ((around : Around) → PurgeSteps files around t next old new before later began faults (ended_by answer))
+  pub first : t.stage ≡ stage.First → BeginsPurge answer next.stage old before later
+  pub refused : (why : Refusal) → answer ≡ progress.Done (reply.Refused why) → why ≢ refusal.ReadFault → why ≢ refusal.Stopped → t.stage ≡ stage.First
   pub stopped : (answer ≡ progress.Done (reply.Refused refusal.Stopped)) ↔ (new.stopped ≡ true)
-  pub claims : new.stopped ≡ false → MovesClaims (purge_claims t.stage) (purge_claims next.stage) old new
-  pub leaves : new.stopped ≡ false → LeavesOthers (purge_claims t.stage) old new before later
-  pub ended : (given : Reply) → answer ≡ progress.Done given → new.stopped ≡ false → ClaimsNothing (purge_claims next.stage)
+  pub regions : new.stopped ≡ false → KeepsRegions old.map new.map before later
+  pub claims : new.stopped ≡ false → MovesOwnClaims (purge_claims t.stage) (purge_claims next.stage) answer old new before later
   pub grows : Grows before later
   pub mail : MailIsKept old.map before later
   pub reads : began.reads ≤ faults.reads
   pub calm : (answer ≡ progress.Done (reply.Refused refusal.ReadFault) → ⊥) → faults.reads ≡ began.reads
   pub changes : began.changes ≤ faults.changes
   pub unfailed : new.stopped ≡ false → faults.changes ≡ began.changes
-  pub fell : new.stopped ≡ true → Rose began.changes faults.changes × (faults.reads ≡ began.reads)
+  pub fell : old.stopped ≡ false → new.stopped ≡ true → Rose began.changes faults.changes × (faults.reads ≡ began.reads)
 
 -- the task at this stage, with nothing done by its last event
 abbrev pub at_stage : PurgeStage → PurgeValue → PurgeValue

@@ -1,7 +1,7 @@
 -- What a purge keeps between its events, of the store and of its disk.
-use Rattle.std.specs.Prelude.{◌≡◌, ◌≢◌, ◌<◌, ◌≤◌, ◌+◌, ◌*◌, ◌==◌, ◌&&◌, nat_le, ℕ, true, List, [], ◌∷◌, All, AllPairs, length, sum_by, Option, Some, None, if◌then◌else◌}
+use Rattle.std.specs.Prelude.{◌≡◌, ◌≢◌, ◌<◌, ◌≤◌, ◌+◌, ◌*◌, ◌==◌, ◌&&◌, ◌++◌, nat_le, ℕ, true, List, [], ◌∷◌, All, AllPairs, length, sum_by, Option, Some, None, if◌then◌else◌}
 use Rattle.std.specs.List.{list_any}
-use Rattle.std.specs.Option.{IfSome}
+use Rattle.std.specs.Option.{IfSome, option_map_or}
 use Rattle.disk_model.specs.Disk.{History, IfTold, MayLeave}
 use Rattle.disk_model.specs.declared.name.FileName.TheVariants.{Mail}
 use Rattle.list_machine.specs.Run.{is_copied_from, target_length}
@@ -10,7 +10,7 @@ use Rattle.mdbox_base.specs.declared.entries.MapPlace.{MapPlace}
 use Rattle.mdbox_base.specs.declared.progress.Did.{Did}
 use Rattle.model_appends.specs.MapAppending.{AreCopied}
 use Rattle.model_meaning.specs.MapFits.{HasRecord}
-use Rattle.model_meaning.specs.MapMeaning.{MapMeaning}
+use Rattle.model_meaning.specs.MapMeaning.{MapMeaning, record_at}
 use Rattle.model_store.specs.Settled.{files_of}
 use Rattle.storage_files.specs.Files.{end_in, is_doomed_in, is_emptied_in, is_taken_in, pins_in, place_begun_in}
 use Rattle.store_core.specs.Removing.{AreElsewhere}
@@ -81,18 +81,30 @@ pub record AreSourcesApart (sources : List Source) : Type 0 where
 abbrev pub target_header : List ℕ
 target_header = 50 ∷ 32 ∷ 77 ∷ 49 ∷ 101 ∷ 32 ∷ 67 ∷ 48 ∷ 10 ∷ []
 
--- The messages of the source before this offset that are wanted were copied, each once, and no others. The copies stand one behind another in the
--- target, behind its header and to this end, and there is room for what is still to be copied.
+-- the octets begin with the header
+abbrev pub HasTargetHeader : Option (List ℕ) → Type 0
+HasTargetHeader octets = (rest : List ℕ) × (octets ≡ Some (target_header ++ rest))
+
+-- how long the region of a record is
+abbrev pub size_at : MapMeaning → ℕ → ℕ
+size_at m uid = option_map_or (λ row. row.size) (record_at m uid) 0
+
+-- Copies stand directly one behind another, from this offset to the end.
+abbrev pub AreCopiesInRow : MapMeaning → ℕ → List MapPlace → ℕ → Type 0
+AreCopiesInRow m offset [] end = offset ≡ end
+AreCopiesInRow m offset (place ∷ places) end = (place.offset ≡ offset) × AreCopiesInRow m (offset + size_at m place.uid.0) places end
+
+-- The messages of the source before this offset that are wanted were copied, each once, and no others. The copies stand directly one behind
+-- another in the target, from its header to this end, and there is room for what is still to be copied.
 pub record AreCopiedUpTo (source from end : ℕ) (copied : List MapPlace) (m : MapMeaning) : Type 0 where
   pub there : All (λ place. HasRecord m place.uid.0 (λ row. (row.file ≡ source) × (row.offset + row.size ≤ from) × (place.offset + row.size ≤ end))) copied
   pub every : All (λ row. row.file ≡ source → row.offset < from → 1 ≤ row.count → list_any (λ place. place.uid.0 == row.uid) copied ≡ true) m.records
   pub once : AllPairs (λ a b. a.uid.0 ≢ b.uid.0) copied
-  pub behind : All (λ place. length target_header ≤ place.offset) copied
-  pub follow : AllPairs (λ a b. HasRecord m a.uid.0 (λ row. a.offset + row.size ≤ b.offset)) copied
+  pub row : AreCopiesInRow m (length target_header) copied end
   pub fits : end + sum_by (λ row. if is_copied_from source row && nat_le from row.offset then row.size else 0) m.records ≤ 4294967294
 
--- The target is there, with octets being placed in it from its header on; no crash takes it away; and what was copied stands in it octet
--- for octet.
+-- The target is there, and begins with its header; octets are being placed in it from there on; no crash takes it away; and what was copied
+-- stands in it octet for octet.
 pub record IsCopyingTo {D : Type 0} (target : ℕ) (source : Source) (work : Work) (store : StoreValue D) (history : Option History) : Type 0 where
   pub taken : is_taken_in target store.files.files ≡ true
   pub begun : place_begun_in target store.files.files ≡ Some (length target_header)
@@ -102,6 +114,7 @@ pub record IsCopyingTo {D : Type 0} (target : ℕ) (source : Source) (work : Wor
   pub unnamed : AreElsewhere target store.map.records
   pub behind : source.file.0 < target
   pub copied : AreCopiedUpTo source.file.0 work.from end source.copied.items store.map
+  pub header : IfTold history (λ now. HasTargetHeader (files_of now (Mail target)))
   pub octets : IfTold history (λ now. AreCopied (files_of now) store.map target source.copied.items)
   pub stays : IfTold history (λ now. MayLeave (now (Mail target)) None → ⊥)
 

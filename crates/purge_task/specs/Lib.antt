@@ -5,6 +5,7 @@ pub mod Dropped
 pub mod Found
 pub mod Keeping
 pub mod Left
+pub mod Quiet
 pub mod Reserved
 pub mod Stages
 pub mod SwitchEvent

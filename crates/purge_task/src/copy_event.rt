@@ -5,6 +5,7 @@ ghost use Rattle.purge_task.specs.Clause.{IsPurgeStep, answer_of, came_to};
 ghost use Rattle.purge_task.specs.Copied.{IsNextWantedFirst};
 ghost use Rattle.purge_task.specs.Keeping.{HasPurged, IsTargetFirst, PurgeValue};
 ghost use Rattle.purge_task.specs.Left.{IsFurther};
+ghost use Rattle.purge_task.specs.Quiet.{KeepsQuiet};
 ghost use Rattle.purge_task.specs.declared.task.PurgeStage.TheVariants as stage;
 
 use crate::copying::copy_message;
@@ -29,6 +30,7 @@ pub fn copy_next<D: Disk>(
     requires target { IsTargetFirst (sources_left work) target }
     requires wanted { IsNextWantedFirst (sources_left work) work.from store.old.map row }
     ensures step { (t : PurgeValue) → t.stage ≡ stage.Copying work → IsPurgeStep t (came_to result t) (answer_of result) store.old store.new (D.history store.old.disk) (D.history store.new.disk) (D.faults store.old.disk) (D.faults store.new.disk) }
+    ensures quiet { (t : PurgeValue) → t.stage ≡ stage.Copying work → KeepsQuiet t (came_to result t) (answer_of result) store.old store.new (D.history store.old.disk) (D.history store.new.disk) }
     ensures further { IfOk result (IsFurther 0 (stage.Copying work)) }
     ensures begun { IfOk result (λ next. next ≢ stage.First) }
     ensures map { store.new.map ≡ store.old.map }

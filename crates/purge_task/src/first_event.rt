@@ -1,8 +1,9 @@
 // The first event of a purge.
-ghost use Rattle.std.specs.Prelude.{◌≡◌, ◌≢◌, ◌≤◌, length, false, IsTrue, IfOk, OnOk};
+ghost use Rattle.std.specs.Prelude.{◌≡◌, ◌≢◌, ◌≤◌, length, false, nat_le, IfOk, OnOk};
 ghost use Rattle.purge_task.specs.Clause.{IsPurgeStep, answer_of, came_to, uncounted};
 ghost use Rattle.purge_task.specs.Keeping.{PurgeValue};
 ghost use Rattle.purge_task.specs.Left.{IsFurther};
+ghost use Rattle.purge_task.specs.Quiet.{KeepsQuiet};
 ghost use Rattle.purge_task.specs.declared.task.PurgeStage.TheVariants as stage;
 
 use crate::finding::Found;
@@ -19,6 +20,7 @@ const MOST_KNOWN: u64 = 9_223_372_036_854_775_808;
 pub fn begin<D: Disk>(store: &mut Store<D>) -> Result<PurgeStage, Refusal>
     requires { store.old.stopped ≡ false }
     ensures step { (t : PurgeValue) → t.stage ≡ stage.First → IsPurgeStep t (came_to result (uncounted t)) (answer_of result) store.old store.new (D.history store.old.disk) (D.history store.new.disk) (D.faults store.old.disk) (D.faults store.new.disk) }
+    ensures quiet { (t : PurgeValue) → t.stage ≡ stage.First → KeepsQuiet t (came_to result (uncounted t)) (answer_of result) store.old store.new (D.history store.old.disk) (D.history store.new.disk) }
     ensures further { IfOk result (IsFurther 0 stage.First) }
     ensures few { OnOk result (length store.new.instances.known ≤ 9223372036854775808) }
     ensures begun { IfOk result (λ next. next ≢ stage.First) }
@@ -40,7 +42,7 @@ pub fn begin<D: Disk>(store: &mut Store<D>) -> Result<PurgeStage, Refusal>
 
 /// Whether so few instances are known that the number of those that are removed fits.
 fn has_few_instances<D: Disk>(store: &Store<D>) -> bool
-    ensures { IsTrue result → length store.now.instances.known ≤ 9223372036854775808 }
+    ensures { result ≡ nat_le (length store.now.instances.known) 9223372036854775808 }
 {
     store.facts();
     let mut count: u64 = 0;

@@ -4,6 +4,7 @@ ghost use Rattle.purge_task.specs.Clause.{IsPurgeStep};
 ghost use Rattle.purge_task.specs.Dropped.{DropsUnwanted};
 ghost use Rattle.purge_task.specs.Keeping.{HasPurged, PurgeValue};
 ghost use Rattle.purge_task.specs.Left.{IsFurther};
+ghost use Rattle.purge_task.specs.Quiet.{KeepsQuiet};
 ghost use Rattle.purge_task.specs.SwitchEvent.{IsBehindSwitch, IsToSwitch, answer_of_switch, came_by_switch};
 ghost use Rattle.purge_task.specs.declared.task.PurgeStage.TheVariants as stage;
 ghost use Rattle.purge_task.specs.declared.task.PurgeStage.{PurgeStage as StageValue};
@@ -27,6 +28,7 @@ pub fn switch_file<D: Disk>(store: &mut Store<D>, work: Work) -> Result<Switched
     requires running { store.old.stopped ≡ false }
     requires ready { (at : StageValue) × HasPurged at store.old (D.history store.old.disk) × IsToSwitch at work store.old.map }
     ensures steps { (t : PurgeValue) → HasPurged t.stage store.old (D.history store.old.disk) → IsToSwitch t.stage work store.old.map → IsPurgeStep t (came_by_switch result t) (answer_of_switch result) store.old store.new (D.history store.old.disk) (D.history store.new.disk) (D.faults store.old.disk) (D.faults store.new.disk) }
+    ensures quiet { (t : PurgeValue) → HasPurged t.stage store.old (D.history store.old.disk) → IsToSwitch t.stage work store.old.map → KeepsQuiet t (came_by_switch result t) (answer_of_switch result) store.old store.new (D.history store.old.disk) (D.history store.new.disk) }
 
     // Fewer events are left, and one file less is to be counted.
     ensures further { IfOk result (λ switched. (at : StageValue) → HasPurged at store.old (D.history store.old.disk) → IsToSwitch at work store.old.map → IsFurther 1 at switched.next) }

@@ -1,24 +1,15 @@
 // The task of a purge.
-ghost use Rattle.std.specs.Prelude.{◌≡◌, ◌≢◌, ◌≤◌, ◌<◌, ◌+◌, ◌↔◌, ℕ, List, length, true, false, Some, None, IfOk};
-ghost use Rattle.disk_model.specs.Disk.{Grows};
-ghost use Rattle.journal.specs.Events.{Around};
-ghost use Rattle.mdbox_base.specs.Streams.{Rose};
-ghost use Rattle.model_kept.specs.Kept.{MailIsKept};
-ghost use Rattle.task_steps.specs.Step.{ended_by};
+ghost use Rattle.std.specs.Prelude.{◌≡◌, ◌≢◌, ◌<◌, ◌+◌, length, true, false, Some, None, IfOk};
 ghost use Rattle.mdbox_base.specs.Words.{IsOctets};
 ghost use Rattle.mdbox_base.specs.declared.progress.Did.TheVariants as did;
 ghost use Rattle.mdbox_base.specs.declared.progress.Progress.TheVariants as progress;
-ghost use Rattle.mdbox_base.specs.declared.replies.Refusal.TheVariants as refusal;
-ghost use Rattle.mdbox_base.specs.declared.replies.Reply.{Reply as ReplyValue};
-ghost use Rattle.mdbox_base.specs.declared.replies.Reply.TheVariants as reply;
 ghost use Rattle.store_core.specs.Removing.{useless_past};
-ghost use Rattle.task_claims.specs.Claims.{ClaimsNothing, MovesClaims};
-ghost use Rattle.task_claims.specs.Leaving.{LeavesOthers};
-ghost use Rattle.purge_task.specs.Claims.{purge_claims, sources_left};
-ghost use Rattle.purge_task.specs.Clause.{IsPurgeStep, PurgeSteps, answer_of, at_stage, came_to, did_of_refusal};
+ghost use Rattle.purge_task.specs.Claims.{sources_left};
+ghost use Rattle.purge_task.specs.Clause.{IsPurgeStep, answer_of, at_stage, came_to, did_of_refusal};
 ghost use Rattle.purge_task.specs.Dropped.{DropsCounted, TellsCounts};
 ghost use Rattle.purge_task.specs.Keeping.{HasLowCounts, HasPurged, IsBareFirst, IsReadyToPurge, IsTargetFirst, LeavesLess, PurgeValue};
 ghost use Rattle.purge_task.specs.Left.{IsFurther, purge_left};
+ghost use Rattle.purge_task.specs.Quiet.{KeepsQuiet};
 ghost use Rattle.purge_task.specs.SwitchEvent.{answer_of_switch, came_by_switch};
 ghost use Rattle.purge_task.specs.Stages.{IsNextStage};
 ghost use Rattle.purge_task.specs.declared.task.PurgeStage.TheVariants as stage;
@@ -108,34 +99,18 @@ impl PurgeTask {
         ensures ready { result ≡ progress.More → store.new.stopped ≡ false → IsReadyToPurge self.new store.new (D.history store.new.disk) }
         ensures left { result ≡ progress.More → purge_left self.new.stage store.new < purge_left self.old.stage store.old }
 
+        // Which event it was, of every run that has come to the store, what it answered, and which crash images it leaves; what it does
+        // with claims; and which faults it had. A store that is stopped stays as it is, and so does the task.
+        ensures step { IsPurgeStep self.old self.new result store.old store.new (D.history store.old.disk) (D.history store.new.disk) (D.faults store.old.disk) (D.faults store.new.disk) }
+        ensures still { store.old.stopped ≡ true → (store.new ≡ store.old) × (self.new ≡ at_stage self.old.stage self.old) }
+
         // Unless it stops the store, it drops as many records as it counts, and only such as nobody wants; and its reply tells what it
         // has counted.
         ensures drops { DropsCounted self.old self.new store.old store.new }
         ensures counts { TellsCounts self.old self.new result }
 
-        // Of every run that has come to the store, and whose requests use what is used in it: which event it was, of the files that the
-        // first one finds, what it answered, and which crash images it leaves.
-        ensures does { (files : List ℕ) × ((after : Around) → PurgeSteps files after self.old self.new store.old store.new (D.history store.old.disk) (D.history store.new.disk) (D.faults store.old.disk) (D.faults store.new.disk) (ended_by result)) }
-
-        // A store that is stopped replies so, and no other does.
-        ensures stopped { (result ≡ progress.Done (reply.Refused refusal.Stopped)) ↔ (store.new.stopped ≡ true) }
-        ensures still { store.old.stopped ≡ true → (store.new ≡ store.old) × (self.new.stage ≡ self.old.stage) }
-
-        // Unless it stops the store, it moves only its own claims, and leaves to other tasks what is theirs. One that was replied claims
-        // nothing.
-        ensures claims { store.new.stopped ≡ false → MovesClaims (purge_claims self.old.stage) (purge_claims self.new.stage) store.old store.new }
-        ensures leaves { store.new.stopped ≡ false → LeavesOthers (purge_claims self.old.stage) store.old store.new (D.history store.old.disk) (D.history store.new.disk) }
-        ensures ended { (given : ReplyValue) → result ≡ progress.Done given → store.new.stopped ≡ false → ClaimsNothing (purge_claims self.new.stage) }
-
-        // At each moment storage files and instances have what the map needs. Unless the store is stopped then, no change of the disk
-        // failed; an event that stops it is one in which a change failed, and no read. A read failed only if that is replied.
-        ensures grows { Grows (D.history store.old.disk) (D.history store.new.disk) }
-        ensures mail { MailIsKept store.old.map (D.history store.old.disk) (D.history store.new.disk) }
-        ensures reads { (D.faults store.old.disk).reads ≤ (D.faults store.new.disk).reads }
-        ensures calm { (result ≡ progress.Done (reply.Refused refusal.ReadFault) → ⊥) → (D.faults store.new.disk).reads ≡ (D.faults store.old.disk).reads }
-        ensures changes { (D.faults store.old.disk).changes ≤ (D.faults store.new.disk).changes }
-        ensures unfailed { store.new.stopped ≡ false → (D.faults store.new.disk).changes ≡ (D.faults store.old.disk).changes }
-        ensures fell { store.old.stopped ≡ false → store.new.stopped ≡ true → Rose (D.faults store.old.disk).changes (D.faults store.new.disk).changes × ((D.faults store.new.disk).reads ≡ (D.faults store.old.disk).reads) }
+        // Beside no other task it does with the files just what a purge is to do.
+        ensures quiet { KeepsQuiet self.old self.new result store.old store.new (D.history store.old.disk) (D.history store.new.disk) }
     {
         self.did = Did::Quiet;
         if store.stopped() {
@@ -150,6 +125,7 @@ impl PurgeTask {
         requires ready { IsReadyToPurge self.old store.old (D.history store.old.disk) }
         requires quiet { self.old.did ≡ did.Quiet }
         ensures step { IsPurgeStep self.old self.new result store.old store.new (D.history store.old.disk) (D.history store.new.disk) (D.faults store.old.disk) (D.faults store.new.disk) }
+        ensures quiet { KeepsQuiet self.old self.new result store.old store.new (D.history store.old.disk) (D.history store.new.disk) }
         ensures left { result ≡ progress.More → LeavesLess self.old self.new store.old store.new }
         ensures drops { DropsCounted self.old self.new store.old store.new }
         ensures counts { TellsCounts self.old self.new result }
@@ -188,6 +164,7 @@ impl PurgeTask {
         requires first { self.old.stage ≡ stage.First }
         requires quiet { self.old.did ≡ did.Quiet }
         ensures step { IsPurgeStep (at_stage stage.First self.old) self.new result store.old store.new (D.history store.old.disk) (D.history store.new.disk) (D.faults store.old.disk) (D.faults store.new.disk) }
+        ensures quiet { KeepsQuiet (at_stage stage.First self.old) self.new result store.old store.new (D.history store.old.disk) (D.history store.new.disk) }
         ensures left { result ≡ progress.More → LeavesLess (at_stage stage.First self.old) self.new store.old store.new }
         ensures drops { DropsCounted (at_stage stage.First self.old) self.new store.old store.new }
         ensures counts { TellsCounts self.old self.new result }
@@ -206,6 +183,7 @@ impl PurgeTask {
         requires first { self.old.stage ≡ stage.First }
         requires quiet { self.old.did ≡ did.Quiet }
         ensures step { IsPurgeStep (at_stage (stage.Begin work) self.old) self.new result store.old store.new (D.history store.old.disk) (D.history store.new.disk) (D.faults store.old.disk) (D.faults store.new.disk) }
+        ensures quiet { KeepsQuiet (at_stage (stage.Begin work) self.old) self.new result store.old store.new (D.history store.old.disk) (D.history store.new.disk) }
         ensures left { result ≡ progress.More → LeavesLess (at_stage (stage.Begin work) self.old) self.new store.old store.new }
         ensures drops { DropsCounted (at_stage (stage.Begin work) self.old) self.new store.old store.new }
         ensures counts { TellsCounts self.old self.new result }
@@ -235,6 +213,7 @@ impl PurgeTask {
         requires first { self.old.stage ≡ stage.First }
         requires quiet { self.old.did ≡ did.Quiet }
         ensures step { IsPurgeStep (at_stage (stage.Copying work) self.old) self.new result store.old store.new (D.history store.old.disk) (D.history store.new.disk) (D.faults store.old.disk) (D.faults store.new.disk) }
+        ensures quiet { KeepsQuiet (at_stage (stage.Copying work) self.old) self.new result store.old store.new (D.history store.old.disk) (D.history store.new.disk) }
         ensures left { result ≡ progress.More → LeavesLess (at_stage (stage.Copying work) self.old) self.new store.old store.new }
         ensures drops { DropsCounted (at_stage (stage.Copying work) self.old) self.new store.old store.new }
         ensures counts { TellsCounts self.old self.new result }
@@ -289,6 +268,7 @@ impl PurgeTask {
         requires first { self.old.stage ≡ stage.First }
         requires quiet { self.old.did ≡ did.Quiet }
         ensures step { IsPurgeStep (at_stage (stage.Removing work) self.old) self.new result store.old store.new (D.history store.old.disk) (D.history store.new.disk) (D.faults store.old.disk) (D.faults store.new.disk) }
+        ensures quiet { KeepsQuiet (at_stage (stage.Removing work) self.old) self.new result store.old store.new (D.history store.old.disk) (D.history store.new.disk) }
         ensures left { result ≡ progress.More → LeavesLess (at_stage (stage.Removing work) self.old) self.new store.old store.new }
         ensures drops { DropsCounted (at_stage (stage.Removing work) self.old) self.new store.old store.new }
         ensures counts { TellsCounts self.old self.new result }
@@ -304,6 +284,7 @@ impl PurgeTask {
         requires first { self.old.stage ≡ stage.First }
         requires quiet { self.old.did ≡ did.Quiet }
         ensures step { IsPurgeStep (at_stage stage.Instances self.old) self.new result store.old store.new (D.history store.old.disk) (D.history store.new.disk) (D.faults store.old.disk) (D.faults store.new.disk) }
+        ensures quiet { KeepsQuiet (at_stage stage.Instances self.old) self.new result store.old store.new (D.history store.old.disk) (D.history store.new.disk) }
         ensures left { result ≡ progress.More → LeavesLess (at_stage stage.Instances self.old) self.new store.old store.new }
         ensures drops { DropsCounted (at_stage stage.Instances self.old) self.new store.old store.new }
         ensures counts { TellsCounts self.old self.new result }
@@ -330,6 +311,7 @@ impl PurgeTask {
         requires quiet { self.old.did ≡ did.Quiet }
         requires useless { useless_past None store.old.map store.old.instances.known ≡ Some id }
         ensures step { IsPurgeStep (at_stage stage.Instances self.old) self.new result store.old store.new (D.history store.old.disk) (D.history store.new.disk) (D.faults store.old.disk) (D.faults store.new.disk) }
+        ensures quiet { KeepsQuiet (at_stage stage.Instances self.old) self.new result store.old store.new (D.history store.old.disk) (D.history store.new.disk) }
         ensures left { result ≡ progress.More → LeavesLess (at_stage stage.Instances self.old) self.new store.old store.new }
         ensures drops { DropsCounted (at_stage stage.Instances self.old) self.new store.old store.new }
         ensures counts { TellsCounts self.old self.new result }
@@ -370,6 +352,7 @@ pub fn remove_source<D: Disk>(store: &mut Store<D>, work: Work) -> Result<PurgeS
     requires running { store.old.stopped ≡ false }
     requires ready { HasPurged (stage.Removing work) store.old (D.history store.old.disk) }
     ensures step { (t : PurgeValue) → t.stage ≡ stage.Removing work → IsPurgeStep t (came_to result t) (answer_of result) store.old store.new (D.history store.old.disk) (D.history store.new.disk) (D.faults store.old.disk) (D.faults store.new.disk) }
+    ensures quiet { (t : PurgeValue) → t.stage ≡ stage.Removing work → KeepsQuiet t (came_to result t) (answer_of result) store.old store.new (D.history store.old.disk) (D.history store.new.disk) }
     ensures further { IfOk result (IsFurther 0 (stage.Removing work)) }
     ensures begun { IfOk result (λ next. next ≢ stage.First) }
     ensures map { store.new.map ≡ store.old.map }
@@ -398,6 +381,7 @@ fn begin_target<D: Disk>(
     requires ready { HasPurged (stage.Begin work) store.old (D.history store.old.disk) }
     requires target { IsTargetFirst (sources_left work) target }
     ensures step { (t : PurgeValue) → t.stage ≡ stage.Begin work → IsPurgeStep t (came_to result t) (answer_of result) store.old store.new (D.history store.old.disk) (D.history store.new.disk) (D.faults store.old.disk) (D.faults store.new.disk) }
+    ensures quiet { (t : PurgeValue) → t.stage ≡ stage.Begin work → KeepsQuiet t (came_to result t) (answer_of result) store.old store.new (D.history store.old.disk) (D.history store.new.disk) }
     ensures further { IfOk result (IsFurther 0 (stage.Begin work)) }
     ensures begun { IfOk result (λ next. next ≢ stage.First) }
     ensures map { store.new.map ≡ store.old.map }
@@ -415,6 +399,7 @@ fn remove_bare<D: Disk>(store: &mut Store<D>, work: Work) -> Result<PurgeStage, 
     requires ready { HasPurged (stage.Begin work) store.old (D.history store.old.disk) }
     requires bare { IsBareFirst (sources_left work) store.old.map }
     ensures step { (t : PurgeValue) → t.stage ≡ stage.Begin work → IsPurgeStep t (came_to result (record t { files = t.files + 1 })) (answer_of result) store.old store.new (D.history store.old.disk) (D.history store.new.disk) (D.faults store.old.disk) (D.faults store.new.disk) }
+    ensures quiet { (t : PurgeValue) → t.stage ≡ stage.Begin work → KeepsQuiet t (came_to result (record t { files = t.files + 1 })) (answer_of result) store.old store.new (D.history store.old.disk) (D.history store.new.disk) }
     ensures further { IfOk result (IsFurther 1 (stage.Begin work)) }
     ensures begun { IfOk result (λ next. next ≢ stage.First) }
     ensures map { store.new.map ≡ store.old.map }

@@ -1,8 +1,8 @@
 -- What the step of a resync says, event by event.
-use Rattle.std.proofs.Common.{◌≡◌, ◌≢◌, ◌≤◌, ◌<◌, ◌+◌, ◌||◌, ◌↔◌, ℕ, Bool, true, false, List, [], ◌∷◌, length, Option, Some, None, slice_get, refl, sym, ◌∙◌, ap, subst, arith, zero, suc}
+use Rattle.std.proofs.Common.{◌≡◌, ◌≢◌, ◌≤◌, ◌<◌, ◌+◌, ◌||◌, ℕ, Bool, true, false, List, [], ◌∷◌, length, Option, Some, None, slice_get, refl, sym, ◌∙◌, ap, subst, arith, zero, suc}
 use Rattle.std.specs.Prelude.{All, Contains, count_by}
 use Rattle.std.proofs.lemmas.List.Elements.{All-weaker}
-use Rattle.disk_model.specs.Disk.{History, Faults, Grows}
+use Rattle.disk_model.specs.Disk.{History, Faults}
 use Rattle.disk_model.specs.FaultCounts.{ReadFaultCounted}
 use Rattle.mdbox_base.specs.declared.progress.Did.{Did}
 use Rattle.mdbox_base.specs.declared.progress.Did.TheVariants as did
@@ -14,24 +14,21 @@ use Rattle.mdbox_base.specs.declared.replies.Reply.{Reply}
 use Rattle.mdbox_base.specs.declared.replies.Reply.TheVariants as reply
 use Rattle.mdbox_base.specs.declared.requests.Request.TheVariants as request
 use Rattle.mdbox_base.specs.declared.script.Half.TheVariants as half
-use Rattle.model_lists.specs.Lists.{Lists}
 use Rattle.model_meaning.specs.MapFits.{HasRecord}
 use Rattle.model_meaning.specs.MapMeaning.{MapMeaning}
-use Rattle.model_store.specs.Settled.{IsSettledFor, Leaves}
 use Rattle.list_machine.specs.Run.{RunEvent, Run, map_of, own_events}
 use Rattle.journal.specs.Events.{Around, is_reading}
 use Rattle.journal.specs.Found.{FindsDamage, ListsFiles, file_to_read, is_known_file, is_named_file}
-use Rattle.store_core.specs.Keeping.{KeepsRest}
 use Rattle.store_core.specs.Running.{IsStore}
 use Rattle.store_core.specs.Value.{StoreValue}
 use Rattle.resync_task.specs.WrongCounts.{wrong_of}
 use Rattle.store_seen.specs.Seeing.{seen_of}
-use Rattle.task_claims.specs.Claims.{MovesClaims, no_claims}
-use Rattle.task_claims.specs.Leaving.{LeavesOthers}
+use Rattle.task_claims.specs.Claims.{no_claims}
+use Rattle.task_claims.specs.Stable.{MovesOwnClaims}
 use Rattle.task_claims.proofs.RestLemmas.{mail_same}
 use Rattle.task_steps.specs.Step.{DidEvent, ended_by}
-use Rattle.task_steps.proofs.OneEventLemmas.{leaves_none, never_more}
-use Rattle.resync_task.specs.Clause.{CountsFaults, FindsResync, KeepsMessages, ResyncClause}
+use Rattle.task_steps.proofs.OneEventLemmas.{never_more}
+use Rattle.resync_task.specs.Clause.{CountsFaults, FindsResync, ResyncClause, ResyncKeeps}
 use Rattle.resync_task.specs.Correcting.{AreExact, FellCorrecting, PutsRight}
 use Rattle.resync_task.specs.Damage.{AreDamaged, HasDamagedRegion}
 use Rattle.resync_task.specs.Files.{AreRecordFiles}
@@ -40,7 +37,7 @@ use Rattle.resync_task.specs.Reading.{ReadsStoreOnly, ReadsNext}
 use Rattle.resync_task.specs.Task.{ResyncsOn, resync_left}
 use Rattle.resync_task.proofs.CorrectingLemmas.{entry_fits, entry_many}
 use Rattle.resync_task.proofs.EventLemmas.{fall}
-use Rattle.resync_task.proofs.IdleStoreLemmas.{idle_grows, idle_leaves, idle_settled, reading_claims, reading_leaves, reading_leads, reading_mail, reading_rest, reading_shows, reading_stays}
+use Rattle.resync_task.proofs.IdleStoreLemmas.{idle_grows, reading_claims, reading_leaves, reading_leads, reading_mail, reading_rest, reading_shows, reading_stays}
 use Rattle.resync_task.proofs.RefusedResyncLemmas.{resync_broken, resync_faulted, resync_stopped, resync_unremembered}
 use Rattle.resync_task.proofs.ResyncEventLemmas.{corrects_then, lists_then, reads_then}
 use Rattle.resync_task.proofs.RightCountLemmas.{counts_fit, fell_stays, right_claims, right_exact, right_leaves, right_shows, right_tells}
@@ -51,15 +48,8 @@ use Rattle.disk_model.proofs.IdleLemmas.{idle-begins}
 pub record ResyncKnown {D : Type 0} (now next : ResyncAt) (answer : Progress) (how : Did) (old new : StoreValue D) (before after : Option History) (began then : Faults) : Type 0 where
   pub does : ResyncClause now next old new before after began then how (ended_by answer)
   pub exact : (corrected damaged : ℕ) → answer ≡ progress.Done (reply.Resynced corrected damaged) → AreExact new
-  pub moments : (lists : Lists) → IsSettledFor lists before → Leaves lists lists before after
-  pub settled : new.stopped ≡ false → (lists : Lists) → IsSettledFor lists before → IsSettledFor lists after
-  pub stopped : (answer ≡ progress.Done (reply.Refused refusal.Stopped)) ↔ (new.stopped ≡ true)
-  pub fault : CountsFaults answer old new began then
-  pub rest : KeepsRest old new
-  pub mail : KeepsMessages (new.stopped ≡ old.stopped) before after
-  pub claims : new.stopped ≡ false → MovesClaims no_claims no_claims old new
-  pub leaves : new.stopped ≡ false → LeavesOthers no_claims old new before after
-  pub grows : Grows before after
+  pub keeps : ResyncKeeps now next answer old new before after began then
+  pub claims : new.stopped ≡ false → MovesOwnClaims no_claims no_claims answer old new before after
   pub left : answer ≡ progress.More → resync_left next < resync_left now
 
 -- ---- answers that are told apart
@@ -160,15 +150,15 @@ known_listed files store history faults runs are few = record {
     λ run lane place said lists come shows stood. lists_then (found_files files) behind run lane place said lists (seen_of pins store history faults) come shows stood runs (listing_agrees run store.map files come.come.map_is are),
   );
   exact = λ corrected damaged e. absurd (more_done _ e);
-  moments = λ lists s. leaves_none history lists lists s;
-  settled = λ r lists s. s;
-  stopped = record { 0 = λ e. absurd (more_done _ e); 1 = λ e. absurd (fall store.stopped e runs) };
-  fault = faults_none progress.More store store faults faults refl (more_done _) (more_done _);
-  rest = refl;
-  mail = reading_mail _ history history (idle-begins history);
-  claims = λ r. reading_claims store store refl;
-  leaves = λ r. reading_leaves store store history history (record { same = refl; idle = idle-begins history });
-  grows = omega arith;
+  keeps = record {
+    stopped = record { 0 = λ e. absurd (more_done _ e); 1 = λ e. absurd (fall store.stopped e runs) };
+    still = λ halted. absurd (fall store.stopped halted runs);
+    fault = faults_none progress.More store store faults faults refl (more_done _) (more_done _);
+    rest = refl;
+    mail = reading_mail _ history history (idle-begins history);
+    grows = omega arith;
+  };
+  claims = λ r. record { moves = reading_claims store store refl; leaves = reading_leaves store store history history (record { same = refl; idle = idle-begins history }); ended = λ given e thing. refl };
   left = λ e. omega (arith, few);
 }
 
@@ -187,15 +177,15 @@ known_unremembered now old new before after began then ran left only none = reco
     ),
   );
   exact = λ corrected damaged e. absurd (refused_not _ corrected damaged e);
-  moments = λ lists s. idle_leaves lists before after s only.idle;
-  settled = λ r lists s. idle_settled lists before after s only.idle;
-  stopped = record { 0 = λ e. absurd (memory_stopped e); 1 = λ e. absurd (fall new.stopped e runs) };
-  fault = faults_none (Refuses refusal.NoMemory) old new began then none memory_fault memory_stopped;
-  rest = reading_rest old new only.same;
-  mail = reading_mail _ before after only.idle;
-  claims = λ r. reading_claims old new only.same;
-  leaves = λ r. reading_leaves old new before after only;
-  grows = idle_grows before after only.idle;
+  keeps = record {
+    stopped = record { 0 = λ e. absurd (memory_stopped e); 1 = λ e. absurd (fall new.stopped e runs) };
+    still = λ halted. absurd (fall old.stopped halted ran);
+    fault = faults_none (Refuses refusal.NoMemory) old new began then none memory_fault memory_stopped;
+    rest = reading_rest old new only.same;
+    mail = reading_mail _ before after only.idle;
+    grows = idle_grows before after only.idle;
+  };
+  claims = λ r. record { moves = reading_claims old new only.same; leaves = reading_leaves old new before after only; ended = λ given e thing. refl };
   left = λ e. absurd (done_more _ e);
 }
   where
@@ -222,15 +212,15 @@ known_read files read damaged uids old new before after began then ran r = recor
         (reading_leads pins old new before after began then lists r.only.idle),
   );
   exact = λ corrected all e. absurd (more_done _ e);
-  moments = λ lists s. idle_leaves lists before after s r.only.idle;
-  settled = λ k lists s. idle_settled lists before after s r.only.idle;
-  stopped = record { 0 = λ e. absurd (more_done _ e); 1 = λ e. absurd (fall new.stopped e runs) };
-  fault = faults_none progress.More old new began then r.unfailed (more_done _) (more_done _);
-  rest = reading_rest old new r.only.same;
-  mail = reading_mail _ before after r.only.idle;
-  claims = λ k. reading_claims old new r.only.same;
-  leaves = λ k. reading_leaves old new before after r.only;
-  grows = idle_grows before after r.only.idle;
+  keeps = record {
+    stopped = record { 0 = λ e. absurd (more_done _ e); 1 = λ e. absurd (fall new.stopped e runs) };
+    still = λ halted. absurd (fall old.stopped halted ran);
+    fault = faults_none progress.More old new began then r.unfailed (more_done _) (more_done _);
+    rest = reading_rest old new r.only.same;
+    mail = reading_mail _ before after r.only.idle;
+    grows = idle_grows before after r.only.idle;
+  };
+  claims = λ k. record { moves = reading_claims old new r.only.same; leaves = reading_leaves old new before after r.only; ended = λ given e thing. refl };
   left = λ e. (let l = left in omega (arith, l));
 }
   where
@@ -254,22 +244,22 @@ known_faulted files read damaged old new before after began then ran left only c
     ),
   );
   exact = λ corrected all e. absurd (refused_not _ corrected all e);
-  moments = λ lists s. idle_leaves lists before after s only.idle;
-  settled = λ k lists s. idle_settled lists before after s only.idle;
-  stopped = record { 0 = λ e. absurd (fault_stopped e); 1 = λ e. absurd (fall new.stopped e runs) };
-  fault = record {
-    reads = counted.reads;
-    changes = (let e = counted.changes in omega (arith, e));
-    read = λ e. counted.rose tt;
-    change = λ k e. absurd (fault_stopped e);
-    steady = λ k. counted.changes;
-    unfailed = λ calm k. absurd (calm refl);
+  keeps = record {
+    stopped = record { 0 = λ e. absurd (fault_stopped e); 1 = λ e. absurd (fall new.stopped e runs) };
+    still = λ halted. absurd (fall old.stopped halted ran);
+    fault = record {
+      reads = counted.reads;
+      changes = (let e = counted.changes in omega (arith, e));
+      read = λ e. counted.rose tt;
+      change = λ k e. absurd (fault_stopped e);
+      steady = λ k. counted.changes;
+      unfailed = λ calm k. absurd (calm refl);
+    };
+    rest = reading_rest old new only.same;
+    mail = reading_mail _ before after only.idle;
+    grows = idle_grows before after only.idle;
   };
-  rest = reading_rest old new only.same;
-  mail = reading_mail _ before after only.idle;
-  claims = λ k. reading_claims old new only.same;
-  leaves = λ k. reading_leaves old new before after only;
-  grows = idle_grows before after only.idle;
+  claims = λ k. record { moves = reading_claims old new only.same; leaves = reading_leaves old new before after only; ended = λ given e thing. refl };
   left = λ e. absurd (done_more _ e);
 }
   where
@@ -295,15 +285,15 @@ known_right files damaged corrected old new before after began then s ran p = re
     ),
   );
   exact = λ a b e. right_exact before corrected old new before after began then s p;
-  moments = λ lists k. p.keeps.moments lists k;
-  settled = λ r lists k. p.settled lists k;
-  stopped = record { 0 = λ e. absurd (resynced_not _ corrected damaged e); 1 = λ e. absurd (fall new.stopped e p.runs) };
-  fault = faults_none (progress.Done (reply.Resynced corrected damaged)) old new began then p.unfailed (resynced_not _ corrected damaged) (resynced_not _ corrected damaged);
-  rest = p.keeps.rest;
-  mail = record { stays = λ m. p.keeps.stays m; left = λ k. mail_same before after p.mail };
-  claims = λ r. right_claims corrected old new before after began then p;
-  leaves = λ r. right_leaves before corrected old new before after began then s p;
-  grows = p.keeps.grows;
+  keeps = record {
+    stopped = record { 0 = λ e. absurd (resynced_not _ corrected damaged e); 1 = λ e. absurd (fall new.stopped e p.runs) };
+    still = λ halted. absurd (fall old.stopped halted ran);
+    fault = faults_none (progress.Done (reply.Resynced corrected damaged)) old new began then p.unfailed (resynced_not _ corrected damaged) (resynced_not _ corrected damaged);
+    rest = p.keeps.rest;
+    mail = record { stays = λ m. p.keeps.stays m; left = λ k. mail_same before after p.mail };
+    grows = p.keeps.grows;
+  };
+  claims = λ r. record { moves = right_claims corrected old new before after began then p; leaves = right_leaves before corrected old new before after began then s p; ended = λ given e thing. refl };
   left = λ e. absurd (done_more _ e);
 }
   where
@@ -323,22 +313,22 @@ known_broken files damaged old new before after began then s ran f = record {
     ),
   );
   exact = λ corrected all e. absurd (refused_not _ corrected all e);
-  moments = λ lists k. f.keeps.moments lists k;
-  settled = λ runs lists k. absurd (fall new.stopped f.stopped runs);
-  stopped = record { 0 = λ e. f.stopped; 1 = λ e. refl };
-  fault = record {
-    reads = (let e = f.keeps.reads in omega (arith, e));
-    changes = f.keeps.changes;
-    read = λ e. absurd (stopped_fault e);
-    change = λ k e. (f.rose, f.keeps.reads);
-    steady = λ runs. absurd (fall new.stopped f.stopped runs);
-    unfailed = λ a b. absurd (b refl);
+  keeps = record {
+    stopped = record { 0 = λ e. f.stopped; 1 = λ e. refl };
+    still = λ halted. absurd (fall old.stopped halted ran);
+    fault = record {
+      reads = (let e = f.keeps.reads in omega (arith, e));
+      changes = f.keeps.changes;
+      read = λ e. absurd (stopped_fault e);
+      change = λ k e. (f.rose, f.keeps.reads);
+      steady = λ runs. absurd (fall new.stopped f.stopped runs);
+      unfailed = λ a b. absurd (b refl);
+    };
+    rest = f.keeps.rest;
+    mail = record { stays = λ m. f.keeps.stays m; left = λ same. absurd (fall new.stopped f.stopped (same ∙ ran)) };
+    grows = f.keeps.grows;
   };
-  rest = f.keeps.rest;
-  mail = record { stays = λ m. f.keeps.stays m; left = λ same. absurd (fall new.stopped f.stopped (same ∙ ran)) };
   claims = λ runs. absurd (fall new.stopped f.stopped runs);
-  leaves = λ runs. absurd (fall new.stopped f.stopped runs);
-  grows = f.keeps.grows;
   left = λ e. absurd (done_more _ e);
 }
 
@@ -403,15 +393,19 @@ stopped_by now store history faults left stopped = λ behind pins. (
 pub stopped_known : {D : Type 0} → (now seen : ResyncAt) (store : StoreValue D) (history : Option History) (faults : Faults) → now ≡ seen → HasFilesLeft now → store.stopped ≡ true → ResyncClause seen now store store history history faults faults did.Quiet (Some (reply.Refused refusal.Stopped))
 stopped_known now seen store history faults same left stopped = subst (λ (at : ResyncAt). ResyncClause at now store store history history faults faults did.Quiet (Some (reply.Refused refusal.Stopped))) same (stopped_by now store history faults left stopped)
 
-pub stopped_faults : {D : Type 0} → (store : StoreValue D) (faults : Faults) → store.stopped ≡ true → CountsFaults (Refuses refusal.Stopped) store store faults faults
-stopped_faults store faults stopped = record {
-  reads = omega arith;
-  changes = omega arith;
-  read = λ e. absurd (stopped_fault e);
-  change = λ ran e. absurd (fall store.stopped stopped ran);
-  steady = λ runs. refl;
-  unfailed = λ a b. refl;
+pub stopped_keeps : {D : Type 0} → (now next : ResyncAt) (store : StoreValue D) (history : Option History) (faults : Faults) → next ≡ now → store.stopped ≡ true → ResyncKeeps now next (Refuses refusal.Stopped) store store history history faults faults
+stopped_keeps now next store history faults same stopped = record {
+  stopped = (λ e. stopped, λ e. refl);
+  still = λ e. (refl, same);
+  fault = record {
+    reads = omega arith;
+    changes = omega arith;
+    read = λ e. absurd (stopped_fault e);
+    change = λ ran e. absurd (fall store.stopped stopped ran);
+    steady = λ runs. refl;
+    unfailed = λ a b. refl;
+  };
+  rest = refl;
+  mail = reading_mail _ history history (idle-begins history);
+  grows = omega arith;
 }
-
-pub stopped_mail : (unfailed : Type 0) (history : Option History) → KeepsMessages unfailed history history
-stopped_mail unfailed history = reading_mail unfailed history history (idle-begins history)

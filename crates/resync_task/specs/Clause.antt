@@ -1,6 +1,6 @@
 -- The clauses of a resync's step.
-use Rattle.std.specs.Prelude.{◌≡◌, ◌≢◌, ◌≤◌, ℕ, false, slice_get, Option, Some, None}
-use Rattle.disk_model.specs.Disk.{History, Faults}
+use Rattle.std.specs.Prelude.{◌≡◌, ◌≢◌, ◌≤◌, ◌↔◌, ℕ, true, false, slice_get, Option, Some, None}
+use Rattle.disk_model.specs.Disk.{History, Faults, Grows}
 use Rattle.disk_model.specs.FaultCounts.{NoFault}
 use Rattle.mdbox_base.specs.Streams.{Rose}
 use Rattle.mdbox_base.specs.declared.progress.Did.{Did}
@@ -13,6 +13,7 @@ use Rattle.mdbox_base.specs.declared.requests.Request.TheVariants as request
 use Rattle.model_kept.specs.Kept.{MailIsKept}
 use Rattle.model_meaning.specs.MapMeaning.{MapMeaning}
 use Rattle.journal.specs.Events.{Around}
+use Rattle.store_core.specs.Keeping.{KeepsRest}
 use Rattle.store_core.specs.Value.{StoreValue}
 use Rattle.store_seen.specs.Seeing.{seen_of}
 use Rattle.task_claims.specs.Leaving.{SyncsMail}
@@ -48,3 +49,14 @@ pub record CountsFaults {D : Type 0} (answer : Progress) (old new : StoreValue D
 pub record KeepsMessages (unfailed : Type 0) (before after : Option History) : Type 0 where
   pub stays : (m : MapMeaning) → MailIsKept m before after
   pub left : unfailed → SyncsMail before after
+
+-- What an event leaves of store and disk, whatever the disk is. A store that is stopped then replies so, and no other does; one that was
+-- stopped stays as it was, and so does the stage. The rest of the store stays, and so do storage files and instances, at each moment.
+-- Time goes on.
+pub record ResyncKeeps {D : Type 0} (now next : ResyncAt) (answer : Progress) (old new : StoreValue D) (before after : Option History) (began faults : Faults) : Type 0 where
+  pub stopped : (answer ≡ progress.Done (reply.Refused refusal.Stopped)) ↔ (new.stopped ≡ true)
+  pub still : old.stopped ≡ true → (new ≡ old) × (next ≡ now)
+  pub fault : CountsFaults answer old new began faults
+  pub rest : KeepsRest old new
+  pub mail : KeepsMessages (new.stopped ≡ old.stopped) before after
+  pub grows : Grows before after

@@ -1,17 +1,12 @@
 // The task of a resync.
-ghost use Rattle.std.specs.Prelude.{◌≡◌, ◌↔◌, ◌<◌, ℕ, List, length, true, false};
-ghost use Rattle.disk_model.specs.Disk.{Grows};
+ghost use Rattle.std.specs.Prelude.{◌≡◌, ◌<◌, ℕ, List, length, false};
 ghost use Rattle.mdbox_base.specs.declared.progress.Did.TheVariants as how;
 ghost use Rattle.mdbox_base.specs.declared.progress.Progress.TheVariants as progress;
-ghost use Rattle.mdbox_base.specs.declared.replies.Refusal.TheVariants as refusal;
 ghost use Rattle.mdbox_base.specs.declared.replies.Reply.TheVariants as reply;
-ghost use Rattle.model_lists.specs.Lists.{Lists};
-ghost use Rattle.model_store.specs.Settled.{IsSettledFor, Leaves};
-ghost use Rattle.store_core.specs.Keeping.{KeepsRest};
-ghost use Rattle.task_claims.specs.Claims.{MovesClaims, no_claims};
-ghost use Rattle.task_claims.specs.Leaving.{LeavesOthers};
+ghost use Rattle.task_claims.specs.Claims.{no_claims};
+ghost use Rattle.task_claims.specs.Stable.{MovesOwnClaims};
 ghost use Rattle.task_steps.specs.Step.{ended_by};
-ghost use Rattle.resync_task.specs.Clause.{CountsFaults, KeepsMessages, ResyncClause};
+ghost use Rattle.resync_task.specs.Clause.{ResyncClause, ResyncKeeps};
 ghost use Rattle.resync_task.specs.Correcting.{AreExact};
 ghost use Rattle.resync_task.specs.Stages.{ToList, ToRead, HasFilesLeft};
 ghost use Rattle.resync_task.specs.Task.{ResyncsOn, at_reading, resync_left, stage_of};
@@ -84,26 +79,13 @@ impl ResyncTask {
         ensures on { store.old.stopped ≡ false → ResyncsOn self.old.stage self.new.stage result self.new.did store.old store.new (D.history store.old.disk) (D.history store.new.disk) (D.faults store.old.disk) (D.faults store.new.disk) }
         ensures exact { (corrected damaged : ℕ) → result ≡ progress.Done (reply.Resynced corrected damaged) → AreExact store.new }
 
-        // Of a settled disk each crash image at every moment is safe for its lists, whatever fails. Unless the store is stopped then,
-        // the disk is settled for them still.
-        ensures moments { (lists : Lists) → IsSettledFor lists (D.history store.old.disk) → Leaves lists lists (D.history store.old.disk) (D.history store.new.disk) }
-        ensures settled { store.new.stopped ≡ false → (lists : Lists) → IsSettledFor lists (D.history store.old.disk) → IsSettledFor lists (D.history store.new.disk) }
-
-        // A store that is stopped replies so, and no other does.
-        ensures stopped { (result ≡ progress.Done (reply.Refused refusal.Stopped)) ↔ (store.new.stopped ≡ true) }
-        ensures still { store.old.stopped ≡ true → (store.new ≡ store.old) × (self.new.stage ≡ self.old.stage) }
-        ensures fault { CountsFaults result store.old store.new (D.faults store.old.disk) (D.faults store.new.disk) }
-
-        // The rest of the store stays, and so do storage files and instances, at each moment.
-        ensures rest { KeepsRest store.old store.new }
-        ensures mail { KeepsMessages (store.new.stopped ≡ store.old.stopped) (D.history store.old.disk) (D.history store.new.disk) }
+        // What it leaves of the store and the disk. A store that is stopped replies so, and no other does.
+        ensures keeps { ResyncKeeps self.old.stage self.new.stage result store.old store.new (D.history store.old.disk) (D.history store.new.disk) (D.faults store.old.disk) (D.faults store.new.disk) }
 
         // It claims nothing: unless it stops the store, what all tasks claim stays, and it leaves to them what is theirs.
-        ensures claims { store.new.stopped ≡ false → MovesClaims no_claims no_claims store.old store.new }
-        ensures leaves { store.new.stopped ≡ false → LeavesOthers no_claims store.old store.new (D.history store.old.disk) (D.history store.new.disk) }
+        ensures claims { store.new.stopped ≡ false → MovesOwnClaims no_claims no_claims result store.old store.new (D.history store.old.disk) (D.history store.new.disk) }
 
-        // Time goes on. So it ends.
-        ensures grows { Grows (D.history store.old.disk) (D.history store.new.disk) }
+        // So it ends.
         ensures left { result ≡ progress.More → resync_left self.new.stage < resync_left self.old.stage }
     {
         store.facts();

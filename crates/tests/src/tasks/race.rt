@@ -1,7 +1,6 @@
 // Two tasks over one store, whose events take turns.
 ghost use Rattle.std.specs.Prelude.{◌≡◌, false, true};
-ghost use Rattle.task_claims.specs.Claims.{MovesClaims};
-ghost use Rattle.task_claims.specs.Leaving.{LeavesOthers};
+ghost use Rattle.task_claims.specs.Stable.{MovesOwnClaims};
 ghost use Rattle.tests.specs.Tasks.{racer_claims, IsReadyRacer, HasNotStarted};
 
 use disk_model::Disk;
@@ -42,8 +41,7 @@ impl AnyTask {
         requires ready { store.old.stopped ≡ false → IsReadyRacer self.old store.old }
         ensures ready { store.new.stopped ≡ false → IsReadyRacer self.new store.new }
         ensures still { store.old.stopped ≡ true → store.new.stopped ≡ true }
-        ensures claims { store.new.stopped ≡ false → MovesClaims (racer_claims self.old) (racer_claims self.new) store.old store.new }
-        ensures leaves { store.new.stopped ≡ false → LeavesOthers (racer_claims self.old) store.old store.new (D.history store.old.disk) (D.history store.new.disk) }
+        ensures claims { store.new.stopped ≡ false → MovesOwnClaims (racer_claims self.old) (racer_claims self.new) result store.old store.new (D.history store.old.disk) (D.history store.new.disk) }
     {
         match self {
             AnyTask::Copy(task) => task.step(store),

@@ -1,20 +1,17 @@
-use Rattle.std.proofs.Common.{ap, sym, ◌∙◌, subst, Err, [], refl, arith}
+use Rattle.std.proofs.Common.{ap, sym, ◌∙◌, Err, [], refl, arith}
 use Rattle.std.specs.Option.{option_copied, option_map}
 use Rattle.box_index.specs.Row.{row_of}
 use Rattle.box_index.specs.State.{BoxState}
 use Rattle.mdbox_base.specs.declared.replies.Refusal.TheVariants as refusal
-use Rattle.model_lists.specs.Lists.{Lists}
-use Rattle.model_store.specs.Settled.{IsSettledFor, Leaves}
-use Rattle.task_steps.proofs.OneEventLemmas.{does_nothing, does_refuse, never_more, when_stopped, not_true, ok_is_none, leaves_none}
+use Rattle.task_steps.proofs.OneEventLemmas.{does_nothing, does_refuse, never_more, when_stopped, not_true, ok_is_none}
 use Rattle.store_seen.specs.Seeing.{seen_of}
 use Rattle.store_seen.proofs.SeeingLemmas.{due_as_before}
 use Rattle.mail_ops.proofs.FlagEventLemmas.{flag_is_plain, flags_known, brings_none, flag_done, flag_broken, none_of, some_of}
-use Rattle.mail_ops.proofs.SettledFlagLemmas.{settled_by, counted_for, not_both}
 use Rattle.mail_ops.proofs.RemovalLemmas.{store_tells}
 use Rattle.mail_ops.proofs.KeptUidLemmas.{flags_left}
 use Rattle.task_claims.specs.Claims.{no_claims}
 use Rattle.mail_ops.proofs.EventLemmas.{fall}
-use Rattle.mail_ops.proofs.KeptMailLemmas.{fell_spares, spared_none, took_spares}
+use Rattle.mail_ops.proofs.OnlyLogsLemmas.{done_keeps, done_not, fell_keeps, halted_keeps, idle_keeps, refused_not, took_spares}
 use Rattle.mail_ops.proofs.LeavingLemmas.{flag_leaves, same_leaves}
 use Rattle.mail_ops.proofs.flagging.flag.Goals as goal
 
@@ -80,58 +77,6 @@ returns-in-Err-Stopped-clause-does g c = λ around after pins run lane place sai
   λ e. absurd (never_more _ e),
 )
 
-pub returns-then-stopped-clause-moments : goal.returns-then-stopped-clause-moments
-returns-then-stopped-clause-moments g c = λ lists s. leaves_none _ _ lists s
-
-pub returns-in_default-clause-moments : goal.returns-in_default-clause-moments
-returns-in_default-clause-moments g c = λ lists s. leaves_none _ _ lists s
-
-pub returns-then-is_none-clause-moments : goal.returns-then-is_none-clause-moments
-returns-then-is_none-clause-moments g c = λ lists s. leaves_none _ _ lists s
-
-pub returns-in-Ok-clause-moments : goal.returns-in-Ok-clause-moments
-returns-in-Ok-clause-moments g c = λ lists s.
-    subst (λ (ls : Lists). Leaves lists ls (g.D.Disk.history c.args.store.now.disk) (g.D.Disk.history c.append_box.new.self.disk))
-    (settled_by lists (g.D.Disk.history c.args.store.now.disk) c.args.store.now c.args.name.now c.in-Some-number_of.number.0 c.args.uid c.args.flags c.bits.result c.in-Some.index.now.meaning c.listings_are_shown.ensures.logs c.facts.ensures.store (sym c.stopped.ensures ∙ c.if-stopped.false) (sym c.list_of.ensures ∙ ap (λ o. option_map (λ (i : BoxState). i.meaning) (option_copied o)) c.in-Some.is) c.in-Some-number_of.ensures.some.1 c.bits.ensures.same s)
-    (c.in-Ok.ensures.any_moment lists [] (brings_none c.args.store.now.map c.args.uid c.bits.result [] (g.D.Disk.history c.args.store.now.disk)) s)
-
-pub returns-in-Err-Stopped-clause-moments : goal.returns-in-Err-Stopped-clause-moments
-returns-in-Err-Stopped-clause-moments g c = λ lists s.
-    subst (λ (ls : Lists). Leaves lists ls (g.D.Disk.history c.args.store.now.disk) (g.D.Disk.history c.append_box.new.self.disk))
-    (settled_by lists (g.D.Disk.history c.args.store.now.disk) c.args.store.now c.args.name.now c.in-Some-number_of.number.0 c.args.uid c.args.flags c.bits.result c.in-Some.index.now.meaning c.listings_are_shown.ensures.logs c.facts.ensures.store (sym c.stopped.ensures ∙ c.if-stopped.false) (sym c.list_of.ensures ∙ ap (λ o. option_map (λ (i : BoxState). i.meaning) (option_copied o)) c.in-Some.is) c.in-Some-number_of.ensures.some.1 c.bits.ensures.same s)
-    (c.in-Err-Stopped.ensures.any_moment lists [] (brings_none c.args.store.now.map c.args.uid c.bits.result [] (g.D.Disk.history c.args.store.now.disk)) s)
-
-pub returns-in-Ok-clause-settled : goal.returns-in-Ok-clause-settled
-returns-in-Ok-clause-settled g c = λ runs lists s.
-    subst (λ (ls : Lists). IsSettledFor ls (g.D.Disk.history c.append_box.new.self.disk))
-    (settled_by lists (g.D.Disk.history c.args.store.now.disk) c.args.store.now c.args.name.now c.in-Some-number_of.number.0 c.args.uid c.args.flags c.bits.result c.in-Some.index.now.meaning c.listings_are_shown.ensures.logs c.facts.ensures.store (sym c.stopped.ensures ∙ c.if-stopped.false) (sym c.list_of.ensures ∙ ap (λ o. option_map (λ (i : BoxState). i.meaning) (option_copied o)) c.in-Some.is) c.in-Some-number_of.ensures.some.1 c.bits.ensures.same s)
-    (c.in-Ok.ensures.settled lists [] (brings_none c.args.store.now.map c.args.uid c.bits.result [] (g.D.Disk.history c.args.store.now.disk)) s)
-
-pub returns-in-Err-Stopped-clause-settled : goal.returns-in-Err-Stopped-clause-settled
-returns-in-Err-Stopped-clause-settled g c = λ runs lists s. absurd (not_both _ (c.in-Err-Stopped.ensures.stopped.0 (ap Err c.in-Err-Stopped.field-0-is)) runs)
-
-pub returns-in-Ok-clause-stopped : goal.returns-in-Ok-clause-stopped
-returns-in-Ok-clause-stopped g c = (λ e. absurd (cc e), λ e. absurd (ok_is_none _ (c.in-Ok.ensures.stopped.1 e)))
-
-pub returns-in-Err-Stopped-clause-stopped : goal.returns-in-Err-Stopped-clause-stopped
-returns-in-Err-Stopped-clause-stopped g c = (λ e. c.in-Err-Stopped.ensures.stopped.0 (ap Err c.in-Err-Stopped.field-0-is), λ e. refl)
-
-pub returns-in-Ok-clause-fault : goal.returns-in-Ok-clause-fault
-returns-in-Ok-clause-fault g c = λ runs. counted_for _ _ _ _ (λ e. absurd (cc e)) c.in-Ok.ensures.fault
-
-pub returns-in-Err-Stopped-clause-fault : goal.returns-in-Err-Stopped-clause-fault
-returns-in-Err-Stopped-clause-fault g c = λ runs. counted_for _ _ _ _ (λ e. ap Err c.in-Err-Stopped.field-0-is) c.in-Err-Stopped.ensures.fault
-
-pub returns-in-Ok-clause-rest : goal.returns-in-Ok-clause-rest
-returns-in-Ok-clause-rest g c =
-    let same = c.in-Ok.ensures.same in
-    same ∙ sym (ap (λ v. record c.args.store.now { disk = v.disk; map_log = v.map_log; map = v.map; boxes = v.boxes; drawn = v.drawn; dues = v.dues; stopped = v.stopped }) same)
-
-pub returns-in-Err-Stopped-clause-rest : goal.returns-in-Err-Stopped-clause-rest
-returns-in-Err-Stopped-clause-rest g c =
-    let same = c.in-Err-Stopped.ensures.same in
-    same ∙ sym (ap (λ v. record c.args.store.now { disk = v.disk; map_log = v.map_log; map = v.map; boxes = v.boxes; drawn = v.drawn; dues = v.dues; stopped = v.stopped }) same)
-
 pub returns-then-stopped-clause-leaves : goal.returns-then-stopped-clause-leaves
 returns-then-stopped-clause-leaves g c = λ runs. same_leaves g.D.Disk.history no_claims c.args.store.now c.args.store.now refl
 
@@ -150,18 +95,23 @@ returns-in-Ok-clause-leaves g c = λ runs.
 pub returns-in-Err-Stopped-clause-leaves : goal.returns-in-Err-Stopped-clause-leaves
 returns-in-Err-Stopped-clause-leaves g c = λ runs. absurd (fall _ (c.in-Err-Stopped.ensures.stopped.0 (ap Err c.in-Err-Stopped.field-0-is)) runs)
 
-pub returns-then-stopped-clause-mail : goal.returns-then-stopped-clause-mail
-returns-then-stopped-clause-mail g c = spared_none _ _
+pub returns-then-stopped-clause-keeps : goal.returns-then-stopped-clause-keeps
+returns-then-stopped-clause-keeps g c = halted_keeps _ _ _ c.args.store.now _ _ (sym c.stopped.ensures ∙ c.if-stopped.true) refl refl
 
-pub returns-in_default-clause-mail : goal.returns-in_default-clause-mail
-returns-in_default-clause-mail g c = spared_none _ _
+pub returns-in_default-clause-keeps : goal.returns-in_default-clause-keeps
+returns-in_default-clause-keeps g c = idle_keeps _ _ _ _ c.args.store.now _ _ (sym c.stopped.ensures ∙ c.if-stopped.false) (refused_not refusal.NoMailbox (λ e. cc e)) refl
 
-pub returns-then-is_none-clause-mail : goal.returns-then-is_none-clause-mail
-returns-then-is_none-clause-mail g c = spared_none _ _
+pub returns-then-is_none-clause-keeps : goal.returns-then-is_none-clause-keeps
+returns-then-is_none-clause-keeps g c = idle_keeps _ _ _ _ c.args.store.now _ _ (sym c.stopped.ensures ∙ c.if-stopped.false) (refused_not refusal.NoMessage (λ e. cc e)) refl
 
-pub returns-in-Ok-clause-mail : goal.returns-in-Ok-clause-mail
-returns-in-Ok-clause-mail g c = took_spares _ _ _ c.in-Ok.ensures.mail_stays c.in-Ok.ensures.others
+pub returns-in-Ok-clause-keeps : goal.returns-in-Ok-clause-keeps
+returns-in-Ok-clause-keeps g c =
+    done_keeps _ _ _ _ c.args.store.now c.append_box.new.self _ _ _ _ (sym c.stopped.ensures ∙ c.if-stopped.false) (not_true _ (λ e. ok_is_none _ (c.in-Ok.ensures.stopped.1 e))) done_not c.in-Ok.ensures.unfailed
+    (c.in-Ok.ensures.same ∙ sym (ap (λ v. record c.args.store.now { disk = v.disk; map_log = v.map_log; map = v.map; boxes = v.boxes; drawn = v.drawn; dues = v.dues; stopped = v.stopped }) c.in-Ok.ensures.same)) (took_spares _ _ _ c.in-Ok.ensures.mail_stays c.in-Ok.ensures.others)
 
-pub returns-in-Err-Stopped-clause-mail : goal.returns-in-Err-Stopped-clause-mail
-returns-in-Err-Stopped-clause-mail g c =
-    fell_spares c.args.store.now c.append_box.new.self _ _ (sym c.stopped.ensures ∙ c.if-stopped.false) (c.in-Err-Stopped.ensures.stopped.0 (ap Err c.in-Err-Stopped.field-0-is)) c.in-Err-Stopped.ensures.mail_stays
+pub returns-in-Err-Stopped-clause-keeps : goal.returns-in-Err-Stopped-clause-keeps
+returns-in-Err-Stopped-clause-keeps g c =
+    let failed = ap Err c.in-Err-Stopped.field-0-is in
+    let fault = c.in-Err-Stopped.ensures.fault in
+    fell_keeps _ _ _ c.args.store.now c.append_box.new.self _ _ _ _ (sym c.stopped.ensures ∙ c.if-stopped.false) (c.in-Err-Stopped.ensures.stopped.0 failed) fault.reads fault.changes (fault.rose failed)
+    (c.in-Err-Stopped.ensures.same ∙ sym (ap (λ v. record c.args.store.now { disk = v.disk; map_log = v.map_log; map = v.map; boxes = v.boxes; drawn = v.drawn; dues = v.dues; stopped = v.stopped }) c.in-Err-Stopped.ensures.same)) c.in-Err-Stopped.ensures.mail_stays

@@ -8,6 +8,7 @@ use Rattle.purge_task.proofs.CopyingLemmas.{copying_one, first_left, may_copy}
 use Rattle.purge_task.proofs.FurtherLemmas.{further_copy}
 use Rattle.purge_task.proofs.RegionLemmas.{counts_same}
 use Rattle.purge_task.proofs.UnreadCallLemmas.{can_give, uncopied_says}
+use Rattle.purge_task.proofs.QuietCallLemmas.{copied_quiet}
 use Rattle.purge_task.proofs.copy_event.copy_next.Goals as goal
 
 pub copy_message-requires-clause-row : goal.copy_message-requires-clause-row
@@ -39,7 +40,7 @@ returns-in-Ok-clause-step g c t at =
     let e = c.in-Ok.ensures in
     let ok = e.ok one.copying.end one.copying.ends in
     copied_says g.D.Disk.history g.D.Disk.faults t _ c.args.work c.copy_message.new.work f.0 f.1 c.args.target c.args.row c.args.store.now c.copy_message.new.store at refl refl refl refl refl c.requires.running (store_sound _ _ c.facts.ensures.store) c.facts.ensures.files.used
-    ((c.facts.ensures.store.running c.requires.running).files_known c.args.target.0) one (noted_for c.args.row one.copying.end f.0 f.1 c.args.work c.copy_message.new.work f.2 ok.2) e.any_moment e.mail_stays (e.settled ok.1) e.copied (e.others ok.1) (e.front ok.1) ok.0 ok.1 e.grows (counts_same _ c.in-Ok.field-0 _ _ refl e.fault)
+    ((c.facts.ensures.store.running c.requires.running).files_known c.args.target.0) one (noted_for c.args.row one.copying.end f.0 f.1 c.args.work c.copy_message.new.work f.2 ok.2) e.any_moment e.mail_stays (e.settled ok.1) e.copied (e.others ok.1) (e.front ok.1) ok.0 ok.1 e.grows (counts_same _ c.in-Ok.field-0 _ _ refl e.fault) c.facts.ensures.store
 
 pub returns-in-Err-clause-step : goal.returns-in-Err-clause-step
 returns-in-Err-clause-step g c t at =
@@ -47,7 +48,7 @@ returns-in-Err-clause-step g c t at =
     let one = copying_one c.args.work f.0 f.1 c.args.target c.args.row c.args.store.now (g.D.Disk.history c.args.store.now.disk) f.2 c.requires.ready c.requires.target c.requires.wanted c.facts.ensures.files.used in
     let e = c.in-Err.ensures in
     uncopied_says g.D.Disk.history g.D.Disk.faults t c.args.work f.0 f.1 _ c.args.target c.args.row c.in-Err.why c.args.store.now c.copy_message.new.store c.give_back.new.store at c.requires.running (store_sound _ _ c.facts.ensures.store) c.facts.ensures.files.used c.facts-in-Err.ensures.files.used c.requires.ready one
-    (c.left.ensures ∙ (ap sources_left e.refused.1 ∙ f.2)) e.refused.0 (record { moments = e.any_moment; mail = e.mail_stays; rests = e.settled; others = e.others; more = e.front; grows = e.grows }) e.fault c.give_back.ensures.stopped c.give_back.ensures.running
+    (c.left.ensures ∙ (ap sources_left e.refused.1 ∙ f.2)) e.refused.0 (record { moments = e.any_moment; mail = e.mail_stays; rests = e.settled; others = e.others; more = e.front; grows = e.grows }) e.fault c.give_back.ensures.stopped c.give_back.ensures.running c.facts.ensures.store
 
 pub returns-in-Ok-clause-further : goal.returns-in-Ok-clause-further
 returns-in-Ok-clause-further g c =
@@ -67,3 +68,15 @@ returns-in-Err-clause-map g c = map_given c.copy_message.new.store c.give_back.n
 
 pub returns-in-Ok-clause-begun : goal.returns-in-Ok-clause-begun
 returns-in-Ok-clause-begun g c = λ e. cc e
+
+pub returns-in-Ok-clause-quiet : goal.returns-in-Ok-clause-quiet
+returns-in-Ok-clause-quiet g c t at =
+    let f = first_left c.args.work c.args.target c.requires.target in
+    let one = copying_one c.args.work f.0 f.1 c.args.target c.args.row c.args.store.now (g.D.Disk.history c.args.store.now.disk) f.2 c.requires.ready c.requires.target c.requires.wanted c.facts.ensures.files.used in
+    let e = c.in-Ok.ensures in
+    let ok = e.ok one.copying.end one.copying.ends in
+    copied_quiet g.D.Disk.history t c.args.work c.copy_message.new.work f.0 f.1 c.args.target c.args.row c.args.store.now c.copy_message.new.store at c.facts.ensures.store ((c.facts.ensures.store.running c.requires.running).files_known c.args.target.0) one
+    (noted_for c.args.row one.copying.end f.0 f.1 c.args.work c.copy_message.new.work f.2 ok.2) e.copied (e.others ok.1) (ap (λ (s : StoreValue _). s.map) ok.0.same) (λ runs. ((returns-in-Ok-clause-step g c t at).claims runs).moves)
+
+pub returns-in-Err-clause-quiet : goal.returns-in-Err-clause-quiet
+returns-in-Err-clause-quiet g c t at = tt

@@ -1,5 +1,5 @@
-use Rattle.std.proofs.Common.{◌≡◌, ◌∙◌, sym, arith}
-use Rattle.purge_task.proofs.FewInstanceLemmas.{all_passed, none_passed, one_passed}
+use Rattle.std.proofs.Common.{◌≡◌, ◌∙◌, length, sym, arith}
+use Rattle.purge_task.proofs.FewInstanceLemmas.{all_passed, le_false, le_true, next_at, none_passed, one_passed}
 use Rattle.purge_task.proofs.first_event.has_few_instances.Goals as goal
 
 pub loop-id-init : goal.loop-id-init
@@ -24,7 +24,14 @@ loop-id-preserved g c =
     }
 
 pub returns : goal.returns
-returns g c is_few =
+returns g c =
     let few = c.loop-id.invariant.few in
     let all = all_passed c.loop-id.last c.loop-id.count c.args.store.now.instances.known c.loop-id.invariant.passed (sym c.next_instance.ensures ∙ c.in_default.is) in
-    omega (arith, few, all)
+    sym (le_true (length c.args.store.now.instances.known) 9223372036854775808 (omega (arith, few, all)))
+
+pub returns-then-count-eq : goal.returns-then-count-eq
+returns-then-count-eq g c =
+    let next = next_at c.loop-id.last c.loop-id.count c.args.store.now.instances.known c.in-Some.id c.loop-id.invariant.passed (sym c.next_instance.ensures ∙ c.in-Some.is) in
+    let more = next.lt in
+    let most = c.if-count.true in
+    sym (le_false (length c.args.store.now.instances.known) 9223372036854775808 (omega (arith, more, most)))

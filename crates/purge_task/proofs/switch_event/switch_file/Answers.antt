@@ -1,7 +1,8 @@
 use Rattle.std.proofs.Common.{ap, length, refl}
 use Rattle.purge_task.specs.declared.work.Work.{Work}
 use Rattle.purge_task.proofs.DropLemmas.{switch_begun, switch_drops}
-use Rattle.purge_task.proofs.SwitchCallLemmas.{few_dropped, further_switch, left_within, made_switch, ready_one, switch_failed, switch_says, switched_one, tells_either}
+use Rattle.purge_task.proofs.SwitchCallLemmas.{few_dropped, further_switch, left_within, made_switch, ready_one, switch_failed, switch_says, switched_one, tells_either, to_switch_begun}
+use Rattle.purge_task.proofs.QuietCallLemmas.{switched_quiet}
 use Rattle.purge_task.proofs.switch_event.switch_file.Goals as goal
 
 pub switch-requires-clause-ready : goal.switch-requires-clause-ready
@@ -21,7 +22,7 @@ returns-in-Err-clause-steps g c t h to =
     let at = c.requires.ready in
     let one = switched_one at.0 c.args.work c.args.store.now (g.D.Disk.history c.args.store.now.disk) at.1 at.2 in
     switch_failed g.D.Disk.history g.D.Disk.faults t c.args.store.now c.switch.new.store c.requires.running c.in-Err.ensures.any_moment c.in-Err.ensures.mail_stays c.in-Err.ensures.err
-    (tells_either one.0.target c.args.store.now.files c.switch.new.store.files (c.in-Err.ensures.stopped_files c.in-Err.ensures.refused.1 one.0 one.1 one.2.left_are)) c.in-Err.ensures.grows _ refl c.in-Err.ensures.fault
+    (tells_either one.0.target c.args.store.now.files c.switch.new.store.files (c.in-Err.ensures.stopped_files c.in-Err.ensures.refused.1 one.0 one.1 one.2.left_are)) c.in-Err.ensures.grows _ refl c.in-Err.ensures.fault (to_switch_begun t.stage c.args.work c.args.store.now.map to)
 
 pub returns-in-Ok-clause-steps : goal.returns-in-Ok-clause-steps
 returns-in-Ok-clause-steps g c t h to =
@@ -66,3 +67,15 @@ returns-in-Ok-clause-dropped g c =
 
 pub returns-in-Ok-clause-begun : goal.returns-in-Ok-clause-begun
 returns-in-Ok-clause-begun g c = switch_begun c.in-Ok.switched.is_unpinned _ c.next_stage.result c.next_stage.ensures
+
+pub returns-in-Ok-clause-quiet : goal.returns-in-Ok-clause-quiet
+returns-in-Ok-clause-quiet g c t h to =
+    let at = c.requires.ready in
+    let one = switched_one at.0 c.args.work c.args.store.now (g.D.Disk.history c.args.store.now.disk) at.1 at.2 in
+    let spent = c.in-Ok.ensures.work one.0 one.1 one.2.left_are in
+    let switch = c.in-Ok.ensures.switched one.0 one.1 one.2.left_are in
+    switched_quiet g.D.Disk.history t c.args.work c.switch.new.work c.next_stage.result one.0 spent.0 one.1 c.in-Ok.switched c.args.store.now c.switch.new.store to c.requires.running c.facts.ensures.store c.facts.ensures.files one.2 spent.1 spent.2 switch c.in-Ok.ensures.others c.next_stage.ensures
+    (λ runs. ((returns-in-Ok-clause-steps g c t h to).claims runs).moves)
+
+pub returns-in-Err-clause-quiet : goal.returns-in-Err-clause-quiet
+returns-in-Err-clause-quiet g c t h to = tt

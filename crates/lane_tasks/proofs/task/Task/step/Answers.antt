@@ -143,26 +143,26 @@ step-requires-in-Deliver g c = record {
 pub returns-in-Deliver-clause-ready : goal.returns-in-Deliver-clause-ready
 returns-in-Deliver-clause-ready g c = λ more runs.
     let step = c.step-in-Deliver.ensures in
-    let ran = deliver_ran c.step-in-Deliver.new.self.stage c.args.store.now c.step-in-Deliver.new.store c.step-in-Deliver.result step.ended more in
+    let ran = deliver_ran c.args.store.now c.step-in-Deliver.new.store c.step-in-Deliver.result step.ended more in
     let ready = subst (λ (k : Task). IsReadyTask k c.args.store.now (g.D.Disk.history c.args.store.now.disk)) c.in-Deliver.is (c.requires.ready ran) in
     (ready.0, ready_as c.in-Deliver.task c.step-in-Deliver.new.self ready.0 c.step-in-Deliver.new.store (g.D.Disk.history c.step-in-Deliver.new.store.disk) step.request (step.ready more ready.0 ready.1))
 
 pub returns-in-Deliver-clause-does : goal.returns-in-Deliver-clause-does
 returns-in-Deliver-clause-does g c =
     subst (λ (t : Task). StepsTask t (task.Deliver c.step-in-Deliver.new.self) c.args.store.now c.step-in-Deliver.new.store (g.D.Disk.history c.args.store.now.disk) (g.D.Disk.history c.step-in-Deliver.new.store.disk) (g.D.Disk.faults c.args.store.now.disk) (g.D.Disk.faults c.step-in-Deliver.new.store.disk) (ended_by c.step-in-Deliver.result)) (sym c.in-Deliver.is)
-    (let r = c.step-in-Deliver.ensures.request in deliver_does c.in-Deliver.task c.step-in-Deliver.new.self c.args.store.now c.step-in-Deliver.new.store (g.D.Disk.history c.args.store.now.disk) (g.D.Disk.history c.step-in-Deliver.new.store.disk) (g.D.Disk.faults c.args.store.now.disk) (g.D.Disk.faults c.step-in-Deliver.new.store.disk) c.step-in-Deliver.result r c.step-in-Deliver.ensures.claims
+    (let r = c.step-in-Deliver.ensures.request in deliver_does c.in-Deliver.task c.step-in-Deliver.new.self c.args.store.now c.step-in-Deliver.new.store (g.D.Disk.history c.args.store.now.disk) (g.D.Disk.history c.step-in-Deliver.new.store.disk) (g.D.Disk.faults c.args.store.now.disk) (g.D.Disk.faults c.step-in-Deliver.new.store.disk) c.step-in-Deliver.result r (λ runs. (c.step-in-Deliver.ensures.claims runs).moves)
     c.step-in-Deliver.ensures.ready (λ ran. (c.step-in-Deliver.ensures.saves ran).effects) (λ octets pins behind. c.step-in-Deliver.ensures.does octets pins behind))
 
 pub returns-in-Deliver-clause-claims : goal.returns-in-Deliver-clause-claims
 returns-in-Deliver-clause-claims g c = λ runs.
-    subst (λ (t : Task). MovesClaims (claims_at t) (claims_at (task.Deliver c.step-in-Deliver.new.self)) c.args.store.now c.step-in-Deliver.new.store) (sym c.in-Deliver.is) (c.step-in-Deliver.ensures.claims runs)
+    subst (λ (t : Task). MovesClaims (claims_at t) (claims_at (task.Deliver c.step-in-Deliver.new.self)) c.args.store.now c.step-in-Deliver.new.store) (sym c.in-Deliver.is) (c.step-in-Deliver.ensures.claims runs).moves
 
 pub returns-in-Deliver-clause-leaves : goal.returns-in-Deliver-clause-leaves
 returns-in-Deliver-clause-leaves g c = λ runs.
-    subst (λ (t : Task). LeavesOthers (claims_at t) c.args.store.now c.step-in-Deliver.new.store (g.D.Disk.history c.args.store.now.disk) (g.D.Disk.history c.step-in-Deliver.new.store.disk)) (sym c.in-Deliver.is) (c.step-in-Deliver.ensures.leaves runs)
+    subst (λ (t : Task). LeavesOthers (claims_at t) c.args.store.now c.step-in-Deliver.new.store (g.D.Disk.history c.args.store.now.disk) (g.D.Disk.history c.step-in-Deliver.new.store.disk)) (sym c.in-Deliver.is) (c.step-in-Deliver.ensures.claims runs).leaves
 
 pub returns-in-Deliver-clause-ended : goal.returns-in-Deliver-clause-ended
-returns-in-Deliver-clause-ended g c = c.step-in-Deliver.ensures.ended.unclaimed
+returns-in-Deliver-clause-ended g c = λ given is runs. (c.step-in-Deliver.ensures.claims runs).ended given is
 
 pub returns-in-Deliver-clause-stopped : goal.returns-in-Deliver-clause-stopped
 returns-in-Deliver-clause-stopped g c = c.step-in-Deliver.ensures.ended.stopped.1

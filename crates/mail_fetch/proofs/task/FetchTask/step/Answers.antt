@@ -57,20 +57,6 @@ returns-then-stopped-clause-claims g c =
     (stopped_says g.D.Disk.history g.D.Disk.faults c.self.inside.name c.self.inside.uid c.self.inside.stage c.args.store.now c.self.invariant runs_not) in
     says.claims
 
-pub returns-then-stopped-clause-leaves : goal.returns-then-stopped-clause-leaves
-returns-then-stopped-clause-leaves g c =
-    let runs_not = sym c.stopped.ensures ∙ c.if-stopped.true in
-    let says = says_seen g.D.Disk.history g.D.Disk.faults _ c.args.self.now c.self.inside.stage c.self.inside.stage c.self.inside.stage c.args.store.now c.args.store.now did.Quiet (progress.Done (reply.Refused refusal.Stopped)) c.self.view_is refl refl
-    (stopped_says g.D.Disk.history g.D.Disk.faults c.self.inside.name c.self.inside.uid c.self.inside.stage c.args.store.now c.self.invariant runs_not) in
-    says.leaves
-
-pub returns-then-stopped-clause-ended : goal.returns-then-stopped-clause-ended
-returns-then-stopped-clause-ended g c =
-    let runs_not = sym c.stopped.ensures ∙ c.if-stopped.true in
-    let says = says_seen g.D.Disk.history g.D.Disk.faults _ c.args.self.now c.self.inside.stage c.self.inside.stage c.self.inside.stage c.args.store.now c.args.store.now did.Quiet (progress.Done (reply.Refused refusal.Stopped)) c.self.view_is refl refl
-    (stopped_says g.D.Disk.history g.D.Disk.faults c.self.inside.name c.self.inside.uid c.self.inside.stage c.args.store.now c.self.invariant runs_not) in
-    says.ended
-
 pub returns-then-stopped-clause-alone : goal.returns-then-stopped-clause-alone
 returns-then-stopped-clause-alone g c =
     let runs_not = sym c.stopped.ensures ∙ c.if-stopped.true in
@@ -93,22 +79,6 @@ returns-in-First-clause-claims g c =
     let says = says_seen g.D.Disk.history g.D.Disk.faults _ c.args.self.now stage.First c.begin-next.result.0 c.begin-next.result.0 c.args.store.now c.begin-next.new.store c.did_begin-self-inside.result c.begin-next.result.1 c.self.view_is (sym c.replace.ensures.value ∙ c.in-First.is) refl
     (first_says g.D.Disk.history g.D.Disk.faults c.self.inside.name c.self.inside.uid c.begin-next.result.0 c.args.store.now c.begin-next.new.store c.did_begin-self-inside.result c.begin-next.result.1 c.facts.ensures.store runs begun.begun begun.there begun.same begun.claims begun.leaves begun.ready c.did_begin-self-inside.ensures) in
     says.claims
-
-pub returns-in-First-clause-leaves : goal.returns-in-First-clause-leaves
-returns-in-First-clause-leaves g c =
-    let runs = sym c.stopped.ensures ∙ c.if-stopped.false in
-    let begun = c.begin-next.ensures in
-    let says = says_seen g.D.Disk.history g.D.Disk.faults _ c.args.self.now stage.First c.begin-next.result.0 c.begin-next.result.0 c.args.store.now c.begin-next.new.store c.did_begin-self-inside.result c.begin-next.result.1 c.self.view_is (sym c.replace.ensures.value ∙ c.in-First.is) refl
-    (first_says g.D.Disk.history g.D.Disk.faults c.self.inside.name c.self.inside.uid c.begin-next.result.0 c.args.store.now c.begin-next.new.store c.did_begin-self-inside.result c.begin-next.result.1 c.facts.ensures.store runs begun.begun begun.there begun.same begun.claims begun.leaves begun.ready c.did_begin-self-inside.ensures) in
-    says.leaves
-
-pub returns-in-First-clause-ended : goal.returns-in-First-clause-ended
-returns-in-First-clause-ended g c =
-    let runs = sym c.stopped.ensures ∙ c.if-stopped.false in
-    let begun = c.begin-next.ensures in
-    let says = says_seen g.D.Disk.history g.D.Disk.faults _ c.args.self.now stage.First c.begin-next.result.0 c.begin-next.result.0 c.args.store.now c.begin-next.new.store c.did_begin-self-inside.result c.begin-next.result.1 c.self.view_is (sym c.replace.ensures.value ∙ c.in-First.is) refl
-    (first_says g.D.Disk.history g.D.Disk.faults c.self.inside.name c.self.inside.uid c.begin-next.result.0 c.args.store.now c.begin-next.new.store c.did_begin-self-inside.result c.begin-next.result.1 c.facts.ensures.store runs begun.begun begun.there begun.same begun.claims begun.leaves begun.ready c.did_begin-self-inside.ensures) in
-    says.ended
 
 pub returns-in-First-clause-alone : goal.returns-in-First-clause-alone
 returns-in-First-clause-alone g c =
@@ -137,26 +107,6 @@ returns-in-Reading-clause-claims g c =
     let says = says_seen g.D.Disk.history g.D.Disk.faults _ c.args.self.now (stage.Reading c.in-Reading.region) c.read_piece.result c.read_piece.result c.args.store.now c.read_piece.new.store did.Quiet progress.More c.self.view_is at refl
     (reading_says g.D.Disk.history g.D.Disk.faults c.self.inside.name c.self.inside.uid c.in-Reading.region c.read_piece.result c.args.store.now c.read_piece.new.store (subst HasPieceLeft at c.self.invariant) runs read.same read.idle read.fault read.unfailed read.read (read.ready ready)) in
     says.claims
-
-pub returns-in-Reading-clause-leaves : goal.returns-in-Reading-clause-leaves
-returns-in-Reading-clause-leaves g c =
-    let runs = sym c.stopped.ensures ∙ c.if-stopped.false in
-    let at = sym c.replace.ensures.value ∙ c.in-Reading.is in
-    let read = c.read_piece.ensures in
-    let ready = subst (λ (s : FetchStage). IsReadyToFetch s c.args.store.now) (stage_seen _ c.args.self.now (stage.Reading c.in-Reading.region) c.self.view_is at) (c.requires.ready runs) in
-    let says = says_seen g.D.Disk.history g.D.Disk.faults _ c.args.self.now (stage.Reading c.in-Reading.region) c.read_piece.result c.read_piece.result c.args.store.now c.read_piece.new.store did.Quiet progress.More c.self.view_is at refl
-    (reading_says g.D.Disk.history g.D.Disk.faults c.self.inside.name c.self.inside.uid c.in-Reading.region c.read_piece.result c.args.store.now c.read_piece.new.store (subst HasPieceLeft at c.self.invariant) runs read.same read.idle read.fault read.unfailed read.read (read.ready ready)) in
-    says.leaves
-
-pub returns-in-Reading-clause-ended : goal.returns-in-Reading-clause-ended
-returns-in-Reading-clause-ended g c =
-    let runs = sym c.stopped.ensures ∙ c.if-stopped.false in
-    let at = sym c.replace.ensures.value ∙ c.in-Reading.is in
-    let read = c.read_piece.ensures in
-    let ready = subst (λ (s : FetchStage). IsReadyToFetch s c.args.store.now) (stage_seen _ c.args.self.now (stage.Reading c.in-Reading.region) c.self.view_is at) (c.requires.ready runs) in
-    let says = says_seen g.D.Disk.history g.D.Disk.faults _ c.args.self.now (stage.Reading c.in-Reading.region) c.read_piece.result c.read_piece.result c.args.store.now c.read_piece.new.store did.Quiet progress.More c.self.view_is at refl
-    (reading_says g.D.Disk.history g.D.Disk.faults c.self.inside.name c.self.inside.uid c.in-Reading.region c.read_piece.result c.args.store.now c.read_piece.new.store (subst HasPieceLeft at c.self.invariant) runs read.same read.idle read.fault read.unfailed read.read (read.ready ready)) in
-    says.ended
 
 pub returns-in-Reading-clause-alone : goal.returns-in-Reading-clause-alone
 returns-in-Reading-clause-alone g c =
@@ -188,26 +138,6 @@ returns-in-Unpinning-clause-claims g c =
     (unpinning_says g.D.Disk.history g.D.Disk.faults c.self.inside.name c.self.inside.uid c.in-Unpinning.from c.in-Unpinning.reply c.unpin-next.result.0 c.unpin-next.result.1 c.args.store.now c.unpin-next.new.store runs own unpinned.unpinned unpinned.same unpinned.claims unpinned.leaves unpinned.ready) in
     says.claims
 
-pub returns-in-Unpinning-clause-leaves : goal.returns-in-Unpinning-clause-leaves
-returns-in-Unpinning-clause-leaves g c =
-    let runs = sym c.stopped.ensures ∙ c.if-stopped.false in
-    let at = sym c.replace.ensures.value ∙ c.in-Unpinning.is in
-    let own = subst (λ (s : FetchStage). IsReadyToFetch s c.args.store.now) (stage_seen _ c.args.self.now (stage.Unpinning c.in-Unpinning.from c.in-Unpinning.reply) c.self.view_is at) (c.requires.ready runs) in
-    let unpinned = c.unpin-next.ensures in
-    let says = says_seen g.D.Disk.history g.D.Disk.faults _ c.args.self.now (stage.Unpinning c.in-Unpinning.from c.in-Unpinning.reply) c.unpin-next.result.0 c.unpin-next.result.0 c.args.store.now c.unpin-next.new.store did.Quiet c.unpin-next.result.1 c.self.view_is at refl
-    (unpinning_says g.D.Disk.history g.D.Disk.faults c.self.inside.name c.self.inside.uid c.in-Unpinning.from c.in-Unpinning.reply c.unpin-next.result.0 c.unpin-next.result.1 c.args.store.now c.unpin-next.new.store runs own unpinned.unpinned unpinned.same unpinned.claims unpinned.leaves unpinned.ready) in
-    says.leaves
-
-pub returns-in-Unpinning-clause-ended : goal.returns-in-Unpinning-clause-ended
-returns-in-Unpinning-clause-ended g c =
-    let runs = sym c.stopped.ensures ∙ c.if-stopped.false in
-    let at = sym c.replace.ensures.value ∙ c.in-Unpinning.is in
-    let own = subst (λ (s : FetchStage). IsReadyToFetch s c.args.store.now) (stage_seen _ c.args.self.now (stage.Unpinning c.in-Unpinning.from c.in-Unpinning.reply) c.self.view_is at) (c.requires.ready runs) in
-    let unpinned = c.unpin-next.ensures in
-    let says = says_seen g.D.Disk.history g.D.Disk.faults _ c.args.self.now (stage.Unpinning c.in-Unpinning.from c.in-Unpinning.reply) c.unpin-next.result.0 c.unpin-next.result.0 c.args.store.now c.unpin-next.new.store did.Quiet c.unpin-next.result.1 c.self.view_is at refl
-    (unpinning_says g.D.Disk.history g.D.Disk.faults c.self.inside.name c.self.inside.uid c.in-Unpinning.from c.in-Unpinning.reply c.unpin-next.result.0 c.unpin-next.result.1 c.args.store.now c.unpin-next.new.store runs own unpinned.unpinned unpinned.same unpinned.claims unpinned.leaves unpinned.ready) in
-    says.ended
-
 pub returns-in-Unpinning-clause-alone : goal.returns-in-Unpinning-clause-alone
 returns-in-Unpinning-clause-alone g c =
     let runs = sym c.stopped.ensures ∙ c.if-stopped.false in
@@ -238,26 +168,6 @@ returns-in-Ok-clause-claims g c =
     (removing_says g.D.Disk.history g.D.Disk.faults c.self.inside.name c.self.inside.uid c.in-Removing.file c.in-Removing.reply c.args.store.now c.remove_file.new.self runs can c.facts.ensures.files c.facts.ensures.store.files.highest gone.any_moment gone.mail_stays gone.settled gone.gone gone.others gone.ok gone.grows _ gone.fault gone.unfailed) in
     says.claims
 
-pub returns-in-Ok-clause-leaves : goal.returns-in-Ok-clause-leaves
-returns-in-Ok-clause-leaves g c =
-    let runs = sym c.stopped.ensures ∙ c.if-stopped.false in
-    let at = sym c.replace.ensures.value ∙ c.in-Removing.is in
-    let can = subst (λ (s : FetchStage). IsReadyToFetch s c.args.store.now) (stage_seen _ c.args.self.now (stage.Removing c.in-Removing.file c.in-Removing.reply) c.self.view_is at) (c.requires.ready runs) in
-    let gone = c.in-Ok.ensures in
-    let says = says_seen g.D.Disk.history g.D.Disk.faults _ c.args.self.now (stage.Removing c.in-Removing.file c.in-Removing.reply) stage.First c.replace.new.dest c.args.store.now c.remove_file.new.self did.Quiet (progress.Done c.in-Removing.reply) c.self.view_is at c.replace.ensures.after
-    (removing_says g.D.Disk.history g.D.Disk.faults c.self.inside.name c.self.inside.uid c.in-Removing.file c.in-Removing.reply c.args.store.now c.remove_file.new.self runs can c.facts.ensures.files c.facts.ensures.store.files.highest gone.any_moment gone.mail_stays gone.settled gone.gone gone.others gone.ok gone.grows _ gone.fault gone.unfailed) in
-    says.leaves
-
-pub returns-in-Ok-clause-ended : goal.returns-in-Ok-clause-ended
-returns-in-Ok-clause-ended g c =
-    let runs = sym c.stopped.ensures ∙ c.if-stopped.false in
-    let at = sym c.replace.ensures.value ∙ c.in-Removing.is in
-    let can = subst (λ (s : FetchStage). IsReadyToFetch s c.args.store.now) (stage_seen _ c.args.self.now (stage.Removing c.in-Removing.file c.in-Removing.reply) c.self.view_is at) (c.requires.ready runs) in
-    let gone = c.in-Ok.ensures in
-    let says = says_seen g.D.Disk.history g.D.Disk.faults _ c.args.self.now (stage.Removing c.in-Removing.file c.in-Removing.reply) stage.First c.replace.new.dest c.args.store.now c.remove_file.new.self did.Quiet (progress.Done c.in-Removing.reply) c.self.view_is at c.replace.ensures.after
-    (removing_says g.D.Disk.history g.D.Disk.faults c.self.inside.name c.self.inside.uid c.in-Removing.file c.in-Removing.reply c.args.store.now c.remove_file.new.self runs can c.facts.ensures.files c.facts.ensures.store.files.highest gone.any_moment gone.mail_stays gone.settled gone.gone gone.others gone.ok gone.grows _ gone.fault gone.unfailed) in
-    says.ended
-
 pub returns-in-Ok-clause-alone : goal.returns-in-Ok-clause-alone
 returns-in-Ok-clause-alone g c =
     let runs = sym c.stopped.ensures ∙ c.if-stopped.false in
@@ -285,24 +195,6 @@ returns-in-Err-clause-claims g c =
     let says = says_seen g.D.Disk.history g.D.Disk.faults _ c.args.self.now (stage.Removing c.in-Removing.file c.in-Removing.reply) (stage.Removing c.in-Removing.file c.in-Removing.reply) (stage.Removing c.in-Removing.file c.in-Removing.reply) c.args.store.now c.remove_file.new.self did.Failed (progress.Done (reply.Refused refusal.Stopped)) c.self.view_is at refl
     (failed_says g.D.Disk.history g.D.Disk.faults c.self.inside.name c.self.inside.uid c.in-Removing.file c.in-Removing.reply c.args.store.now c.remove_file.new.self runs failed.any_moment failed.mail_stays failed.err failed.grows _ refl failed.fault) in
     says.claims
-
-pub returns-in-Err-clause-leaves : goal.returns-in-Err-clause-leaves
-returns-in-Err-clause-leaves g c =
-    let runs = sym c.stopped.ensures ∙ c.if-stopped.false in
-    let at = sym c.replace.ensures.value ∙ c.in-Removing.is in
-    let failed = c.in-Err.ensures in
-    let says = says_seen g.D.Disk.history g.D.Disk.faults _ c.args.self.now (stage.Removing c.in-Removing.file c.in-Removing.reply) (stage.Removing c.in-Removing.file c.in-Removing.reply) (stage.Removing c.in-Removing.file c.in-Removing.reply) c.args.store.now c.remove_file.new.self did.Failed (progress.Done (reply.Refused refusal.Stopped)) c.self.view_is at refl
-    (failed_says g.D.Disk.history g.D.Disk.faults c.self.inside.name c.self.inside.uid c.in-Removing.file c.in-Removing.reply c.args.store.now c.remove_file.new.self runs failed.any_moment failed.mail_stays failed.err failed.grows _ refl failed.fault) in
-    says.leaves
-
-pub returns-in-Err-clause-ended : goal.returns-in-Err-clause-ended
-returns-in-Err-clause-ended g c =
-    let runs = sym c.stopped.ensures ∙ c.if-stopped.false in
-    let at = sym c.replace.ensures.value ∙ c.in-Removing.is in
-    let failed = c.in-Err.ensures in
-    let says = says_seen g.D.Disk.history g.D.Disk.faults _ c.args.self.now (stage.Removing c.in-Removing.file c.in-Removing.reply) (stage.Removing c.in-Removing.file c.in-Removing.reply) (stage.Removing c.in-Removing.file c.in-Removing.reply) c.args.store.now c.remove_file.new.self did.Failed (progress.Done (reply.Refused refusal.Stopped)) c.self.view_is at refl
-    (failed_says g.D.Disk.history g.D.Disk.faults c.self.inside.name c.self.inside.uid c.in-Removing.file c.in-Removing.reply c.args.store.now c.remove_file.new.self runs failed.any_moment failed.mail_stays failed.err failed.grows _ refl failed.fault) in
-    says.ended
 
 pub returns-in-Err-clause-alone : goal.returns-in-Err-clause-alone
 returns-in-Err-clause-alone g c =

@@ -1,8 +1,6 @@
-use Rattle.std.proofs.Common.{sym, ◌∙◌}
-use Rattle.task_steps.proofs.OneEventLemmas.{leaves_none}
+use Rattle.std.proofs.Common.{refl, sym, ◌∙◌, ap}
 use Rattle.mail_ops.proofs.CopyStepLemmas.{copy_known_by, copy_ready, copy_stopped}
-use Rattle.mail_ops.proofs.KeptMailLemmas.{spared_none, copy_mail}
-use Rattle.mail_ops.proofs.KeptRestLemmas.{copy_rest}
+use Rattle.mail_ops.proofs.OnlyLogsLemmas.{halted_keeps}
 use Rattle.task_claims.proofs.RestLemmas.{due_claims}
 use Rattle.mail_ops.specs.Copy.{copy_dues}
 use Rattle.mail_ops.proofs.EndedLemmas.{copy_ended}
@@ -13,62 +11,35 @@ use Rattle.mail_ops.proofs.copy.CopyTask.step.Goals as goal
 pub returns-then-stopped-clause-does : goal.returns-then-stopped-clause-does
 returns-then-stopped-clause-does g c = copy_stopped _ _ c.args.store.now (g.D.Disk.history c.args.store.now.disk) (g.D.Disk.faults c.args.store.now.disk) c.self.view_is (sym c.stopped.ensures ∙ c.if-stopped.true)
 
-pub returns-then-stopped-clause-moments : goal.returns-then-stopped-clause-moments
-returns-then-stopped-clause-moments g c = λ lists s. leaves_none _ _ lists s
+pub returns-then-stopped-clause-keeps : goal.returns-then-stopped-clause-keeps
+returns-then-stopped-clause-keeps g c = halted_keeps _ _ _ c.args.store.now _ _ (sym c.stopped.ensures ∙ c.if-stopped.true) (ap (λ v. v.stage) c.self.view_is) refl
 
 pub next_event-next-requires-clause-ready : goal.next_event-next-requires-clause-ready
 next_event-next-requires-clause-ready g c = copy_ready _ _ c.replace-now.result c.args.store.now c.self.view_is (sym c.replace-now.ensures.value) (c.requires.ready (sym c.stopped.ensures ∙ c.if-stopped.false))
 
 pub returns-clause-ready : goal.returns-clause-ready
-returns-clause-ready g c = λ runs. (copy_known_by g.D.Disk.history g.D.Disk.faults _ _ c.replace-now.result c.next_event-next.result.0 c.next_event-next.result.1 c.next_event-next.result.2 c.args.store.now c.next_event-next.new.store c.self.view_is (sym c.replace-now.ensures.value) c.listings_are_shown.ensures.logs c.facts.ensures.store (sym c.stopped.ensures ∙ c.if-stopped.false) (copy_ready _ _ c.replace-now.result c.args.store.now c.self.view_is (sym c.replace-now.ensures.value) (c.requires.ready (sym c.stopped.ensures ∙ c.if-stopped.false))) c.next_event-next.ensures).ready
+returns-clause-ready g c = λ runs. (copy_known_by g.D.Disk.history g.D.Disk.faults _ _ c.replace-now.result c.next_event-next.result.0 c.next_event-next.result.1 c.next_event-next.result.2 c.args.store.now c.next_event-next.new.store c.self.view_is (sym c.replace-now.ensures.value) c.facts.ensures.store (sym c.stopped.ensures ∙ c.if-stopped.false) (copy_ready _ _ c.replace-now.result c.args.store.now c.self.view_is (sym c.replace-now.ensures.value) (c.requires.ready (sym c.stopped.ensures ∙ c.if-stopped.false))) c.next_event-next.ensures).ready
 
 pub returns-clause-does : goal.returns-clause-does
-returns-clause-does g c = (copy_known_by g.D.Disk.history g.D.Disk.faults _ _ c.replace-now.result c.next_event-next.result.0 c.next_event-next.result.1 c.next_event-next.result.2 c.args.store.now c.next_event-next.new.store c.self.view_is (sym c.replace-now.ensures.value) c.listings_are_shown.ensures.logs c.facts.ensures.store (sym c.stopped.ensures ∙ c.if-stopped.false) (copy_ready _ _ c.replace-now.result c.args.store.now c.self.view_is (sym c.replace-now.ensures.value) (c.requires.ready (sym c.stopped.ensures ∙ c.if-stopped.false))) c.next_event-next.ensures).does
+returns-clause-does g c = (copy_known_by g.D.Disk.history g.D.Disk.faults _ _ c.replace-now.result c.next_event-next.result.0 c.next_event-next.result.1 c.next_event-next.result.2 c.args.store.now c.next_event-next.new.store c.self.view_is (sym c.replace-now.ensures.value) c.facts.ensures.store (sym c.stopped.ensures ∙ c.if-stopped.false) (copy_ready _ _ c.replace-now.result c.args.store.now c.self.view_is (sym c.replace-now.ensures.value) (c.requires.ready (sym c.stopped.ensures ∙ c.if-stopped.false))) c.next_event-next.ensures).does
 
-pub returns-clause-moments : goal.returns-clause-moments
-returns-clause-moments g c = (copy_known_by g.D.Disk.history g.D.Disk.faults _ _ c.replace-now.result c.next_event-next.result.0 c.next_event-next.result.1 c.next_event-next.result.2 c.args.store.now c.next_event-next.new.store c.self.view_is (sym c.replace-now.ensures.value) c.listings_are_shown.ensures.logs c.facts.ensures.store (sym c.stopped.ensures ∙ c.if-stopped.false) (copy_ready _ _ c.replace-now.result c.args.store.now c.self.view_is (sym c.replace-now.ensures.value) (c.requires.ready (sym c.stopped.ensures ∙ c.if-stopped.false))) c.next_event-next.ensures).moments
-
-pub returns-clause-settled : goal.returns-clause-settled
-returns-clause-settled g c = (copy_known_by g.D.Disk.history g.D.Disk.faults _ _ c.replace-now.result c.next_event-next.result.0 c.next_event-next.result.1 c.next_event-next.result.2 c.args.store.now c.next_event-next.new.store c.self.view_is (sym c.replace-now.ensures.value) c.listings_are_shown.ensures.logs c.facts.ensures.store (sym c.stopped.ensures ∙ c.if-stopped.false) (copy_ready _ _ c.replace-now.result c.args.store.now c.self.view_is (sym c.replace-now.ensures.value) (c.requires.ready (sym c.stopped.ensures ∙ c.if-stopped.false))) c.next_event-next.ensures).settled
-
-pub returns-clause-stopped : goal.returns-clause-stopped
-returns-clause-stopped g c = (copy_known_by g.D.Disk.history g.D.Disk.faults _ _ c.replace-now.result c.next_event-next.result.0 c.next_event-next.result.1 c.next_event-next.result.2 c.args.store.now c.next_event-next.new.store c.self.view_is (sym c.replace-now.ensures.value) c.listings_are_shown.ensures.logs c.facts.ensures.store (sym c.stopped.ensures ∙ c.if-stopped.false) (copy_ready _ _ c.replace-now.result c.args.store.now c.self.view_is (sym c.replace-now.ensures.value) (c.requires.ready (sym c.stopped.ensures ∙ c.if-stopped.false))) c.next_event-next.ensures).stopped
-
-pub returns-clause-unfailed : goal.returns-clause-unfailed
-returns-clause-unfailed g c = (copy_known_by g.D.Disk.history g.D.Disk.faults _ _ c.replace-now.result c.next_event-next.result.0 c.next_event-next.result.1 c.next_event-next.result.2 c.args.store.now c.next_event-next.new.store c.self.view_is (sym c.replace-now.ensures.value) c.listings_are_shown.ensures.logs c.facts.ensures.store (sym c.stopped.ensures ∙ c.if-stopped.false) (copy_ready _ _ c.replace-now.result c.args.store.now c.self.view_is (sym c.replace-now.ensures.value) (c.requires.ready (sym c.stopped.ensures ∙ c.if-stopped.false))) c.next_event-next.ensures).unfailed
+pub returns-clause-keeps : goal.returns-clause-keeps
+returns-clause-keeps g c = (copy_known_by g.D.Disk.history g.D.Disk.faults _ _ c.replace-now.result c.next_event-next.result.0 c.next_event-next.result.1 c.next_event-next.result.2 c.args.store.now c.next_event-next.new.store c.self.view_is (sym c.replace-now.ensures.value) c.facts.ensures.store (sym c.stopped.ensures ∙ c.if-stopped.false) (copy_ready _ _ c.replace-now.result c.args.store.now c.self.view_is (sym c.replace-now.ensures.value) (c.requires.ready (sym c.stopped.ensures ∙ c.if-stopped.false))) c.next_event-next.ensures).keeps
 
 pub returns-clause-left : goal.returns-clause-left
-returns-clause-left g c = (copy_known_by g.D.Disk.history g.D.Disk.faults _ _ c.replace-now.result c.next_event-next.result.0 c.next_event-next.result.1 c.next_event-next.result.2 c.args.store.now c.next_event-next.new.store c.self.view_is (sym c.replace-now.ensures.value) c.listings_are_shown.ensures.logs c.facts.ensures.store (sym c.stopped.ensures ∙ c.if-stopped.false) (copy_ready _ _ c.replace-now.result c.args.store.now c.self.view_is (sym c.replace-now.ensures.value) (c.requires.ready (sym c.stopped.ensures ∙ c.if-stopped.false))) c.next_event-next.ensures).left
-
-pub returns-clause-fault : goal.returns-clause-fault
-returns-clause-fault g c = λ ran. (copy_known_by g.D.Disk.history g.D.Disk.faults _ _ c.replace-now.result c.next_event-next.result.0 c.next_event-next.result.1 c.next_event-next.result.2 c.args.store.now c.next_event-next.new.store c.self.view_is (sym c.replace-now.ensures.value) c.listings_are_shown.ensures.logs c.facts.ensures.store (sym c.stopped.ensures ∙ c.if-stopped.false) (copy_ready _ _ c.replace-now.result c.args.store.now c.self.view_is (sym c.replace-now.ensures.value) (c.requires.ready (sym c.stopped.ensures ∙ c.if-stopped.false))) c.next_event-next.ensures).fault
+returns-clause-left g c = (copy_known_by g.D.Disk.history g.D.Disk.faults _ _ c.replace-now.result c.next_event-next.result.0 c.next_event-next.result.1 c.next_event-next.result.2 c.args.store.now c.next_event-next.new.store c.self.view_is (sym c.replace-now.ensures.value) c.facts.ensures.store (sym c.stopped.ensures ∙ c.if-stopped.false) (copy_ready _ _ c.replace-now.result c.args.store.now c.self.view_is (sym c.replace-now.ensures.value) (c.requires.ready (sym c.stopped.ensures ∙ c.if-stopped.false))) c.next_event-next.ensures).left
 
 pub returns-clause-replies : goal.returns-clause-replies
-returns-clause-replies g c = λ ran. (copy_known_by g.D.Disk.history g.D.Disk.faults _ _ c.replace-now.result c.next_event-next.result.0 c.next_event-next.result.1 c.next_event-next.result.2 c.args.store.now c.next_event-next.new.store c.self.view_is (sym c.replace-now.ensures.value) c.listings_are_shown.ensures.logs c.facts.ensures.store (sym c.stopped.ensures ∙ c.if-stopped.false) (copy_ready _ _ c.replace-now.result c.args.store.now c.self.view_is (sym c.replace-now.ensures.value) (c.requires.ready (sym c.stopped.ensures ∙ c.if-stopped.false))) c.next_event-next.ensures).replies
-
-pub returns-clause-rest : goal.returns-clause-rest
-returns-clause-rest g c = copy_rest _ _ _ c.replace-now.result c.next_event-next.result.0 c.next_event-next.result.1 c.next_event-next.result.2 c.args.store.now c.next_event-next.new.store _ _ _ _ c.next_event-next.ensures
-
-pub returns-then-stopped-clause-mail : goal.returns-then-stopped-clause-mail
-returns-then-stopped-clause-mail g c = spared_none _ _
-
-pub returns-clause-mail : goal.returns-clause-mail
-returns-clause-mail g c = copy_mail g.D.Disk.history _ _ _ c.replace-now.result c.next_event-next.result.0 c.next_event-next.result.1 c.next_event-next.result.2 c.args.store.now c.next_event-next.new.store _ _ (sym c.stopped.ensures ∙ c.if-stopped.false) c.next_event-next.ensures
+returns-clause-replies g c = λ ran. (copy_known_by g.D.Disk.history g.D.Disk.faults _ _ c.replace-now.result c.next_event-next.result.0 c.next_event-next.result.1 c.next_event-next.result.2 c.args.store.now c.next_event-next.new.store c.self.view_is (sym c.replace-now.ensures.value) c.facts.ensures.store (sym c.stopped.ensures ∙ c.if-stopped.false) (copy_ready _ _ c.replace-now.result c.args.store.now c.self.view_is (sym c.replace-now.ensures.value) (c.requires.ready (sym c.stopped.ensures ∙ c.if-stopped.false))) c.next_event-next.ensures).replies
 
 pub returns-then-stopped-clause-claims : goal.returns-then-stopped-clause-claims
 returns-then-stopped-clause-claims g c = λ runs. absurd (fall _ (sym c.stopped.ensures ∙ c.if-stopped.true) runs)
 
-pub returns-then-stopped-clause-leaves : goal.returns-then-stopped-clause-leaves
-returns-then-stopped-clause-leaves g c = λ runs. absurd (fall _ (sym c.stopped.ensures ∙ c.if-stopped.true) runs)
-
-pub returns-then-stopped-clause-ended : goal.returns-then-stopped-clause-ended
-returns-then-stopped-clause-ended g c = λ given is runs. absurd (fall _ (sym c.stopped.ensures ∙ c.if-stopped.true) runs)
-
 pub returns-clause-claims : goal.returns-clause-claims
-returns-clause-claims g c = λ runs. due_claims (copy_dues c.args.self.now.stage) (copy_dues c.next_event-next.result.0) c.args.store.now c.next_event-next.new.store ((copy_known_by g.D.Disk.history g.D.Disk.faults _ _ c.replace-now.result c.next_event-next.result.0 c.next_event-next.result.1 c.next_event-next.result.2 c.args.store.now c.next_event-next.new.store c.self.view_is (sym c.replace-now.ensures.value) c.listings_are_shown.ensures.logs c.facts.ensures.store (sym c.stopped.ensures ∙ c.if-stopped.false) (copy_ready _ _ c.replace-now.result c.args.store.now c.self.view_is (sym c.replace-now.ensures.value) (c.requires.ready (sym c.stopped.ensures ∙ c.if-stopped.false))) c.next_event-next.ensures).moves.due) (copy_rest _ _ _ c.replace-now.result c.next_event-next.result.0 c.next_event-next.result.1 c.next_event-next.result.2 c.args.store.now c.next_event-next.new.store _ _ _ _ c.next_event-next.ensures)
-
-pub returns-clause-leaves : goal.returns-clause-leaves
-returns-clause-leaves g c = λ runs. copy_leaves_by g.D.Disk.history _ _ c.replace-now.result c.next_event-next.result.0 c.next_event-next.result.1 c.next_event-next.result.2 c.args.store.now c.next_event-next.new.store _ _ c.self.view_is (sym c.replace-now.ensures.value) c.facts.ensures.store runs c.next_event-next.ensures
-
-pub returns-clause-ended : goal.returns-clause-ended
-returns-clause-ended g c = λ given is runs. copy_ended _ _ _ c.replace-now.result c.next_event-next.result.0 c.next_event-next.result.1 c.next_event-next.result.2 c.args.store.now c.next_event-next.new.store _ _ _ _ given c.next_event-next.ensures is runs
+returns-clause-claims g c = λ runs.
+    let k = (copy_known_by g.D.Disk.history g.D.Disk.faults _ _ c.replace-now.result c.next_event-next.result.0 c.next_event-next.result.1 c.next_event-next.result.2 c.args.store.now c.next_event-next.new.store c.self.view_is (sym c.replace-now.ensures.value) c.facts.ensures.store (sym c.stopped.ensures ∙ c.if-stopped.false) (copy_ready _ _ c.replace-now.result c.args.store.now c.self.view_is (sym c.replace-now.ensures.value) (c.requires.ready (sym c.stopped.ensures ∙ c.if-stopped.false))) c.next_event-next.ensures) in
+    record {
+      moves = due_claims (copy_dues c.args.self.now.stage) (copy_dues c.next_event-next.result.0) c.args.store.now c.next_event-next.new.store k.moves.due k.keeps.rest;
+      leaves = copy_leaves_by g.D.Disk.history _ _ c.replace-now.result c.next_event-next.result.0 c.next_event-next.result.1 c.next_event-next.result.2 c.args.store.now c.next_event-next.new.store _ _ c.self.view_is (sym c.replace-now.ensures.value) c.facts.ensures.store runs c.next_event-next.ensures;
+      ended = λ given is. copy_ended _ _ _ c.replace-now.result c.next_event-next.result.0 c.next_event-next.result.1 c.next_event-next.result.2 c.args.store.now c.next_event-next.new.store _ _ _ _ given c.next_event-next.ensures is runs;
+    }

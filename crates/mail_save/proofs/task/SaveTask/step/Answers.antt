@@ -1,10 +1,8 @@
 use Rattle.std.proofs.Common.{rules, ◌<◌, ◌^◌, refl, sym, ◌∙◌}
-use Rattle.store_core.proofs.BoxCrashLemmas.{leaves_none}
-use Rattle.mail_save.proofs.SaveClaimLemmas.{save_ends, save_moves, stopped_ends}
+use Rattle.mail_save.proofs.SaveClaimLemmas.{save_ended, save_ends, save_moves, stopped_ends}
 use Rattle.mail_save.proofs.SaveDoesLemmas.{IsOpenStore, seen_does, seen_stopped}
 use Rattle.mail_save.proofs.SaveEventLemmas.{done_goes_on, seen_saves, unfallen}
 use Rattle.mail_save.proofs.SaveLeavesLemmas.{save_leaves}
-use Rattle.mail_save.proofs.SaveMomentLemmas.{save_moments, save_rests}
 use Rattle.mail_save.proofs.SaveReadyLemmas.{save_ready}
 use Rattle.mail_save.proofs.task.SaveTask.step.Goals as goal
 
@@ -39,22 +37,6 @@ returns-clause-does g c = λ octets pins after parts ready.
     } in
     seen_does pins g.D.Disk.history g.D.Disk.faults _ c.args.self.now c.replace-now.result _ octets _ _ c.args.store.now c.next_event-next.new.store c.self.view_is c.replace-now.ensures.value known timed ran (c.requires.left ran) parts (ready ran) c.next_event-next.ensures after
 
-pub returns-then-stopped-clause-moments : goal.returns-then-stopped-clause-moments
-returns-then-stopped-clause-moments g c = λ octets ready lists at. leaves_none _ lists _ at.0
-
-pub returns-then-stopped-clause-settled : goal.returns-then-stopped-clause-settled
-returns-then-stopped-clause-settled g c = λ ran octets ready lists at. absurd (unfallen c.args.store.now.stopped (sym c.stopped.ensures ∙ c.if-stopped.true) ran)
-
-pub returns-clause-moments : goal.returns-clause-moments
-returns-clause-moments g c = λ octets ready lists at.
-    let s = seen_saves _ c.args.self.now c.replace-now.result _ _ _ _ _ _ _ _ _ c.self.view_is c.replace-now.ensures.value c.next_event-next.ensures in
-    save_moments c.args.self.now.stage _ _ _ _ _ _ c.args.store.now _ _ _ _ _ c.listings_are_shown.ensures.logs c.facts.ensures.store (sym c.stopped.ensures ∙ c.if-stopped.false) (g.met.D.Disk.reads_image c.args.store.now.disk) (c.requires.left (sym c.stopped.ensures ∙ c.if-stopped.false)) s octets ready lists at
-
-pub returns-clause-settled : goal.returns-clause-settled
-returns-clause-settled g c = λ ran octets ready lists at.
-    let s = seen_saves _ c.args.self.now c.replace-now.result _ _ _ _ _ _ _ _ _ c.self.view_is c.replace-now.ensures.value c.next_event-next.ensures in
-    save_rests c.args.self.now.stage _ _ _ _ _ _ c.args.store.now _ _ _ _ _ c.listings_are_shown.ensures.logs c.facts.ensures.store (sym c.stopped.ensures ∙ c.if-stopped.false) (g.met.D.Disk.reads_image c.args.store.now.disk) (c.requires.left (sym c.stopped.ensures ∙ c.if-stopped.false)) s ran octets ready lists at
-
 pub returns-then-stopped-clause-ready : goal.returns-then-stopped-clause-ready
 returns-then-stopped-clause-ready g c = λ more. absurd (done_goes_on _ more)
 
@@ -69,10 +51,14 @@ returns-then-stopped-clause-claims g c = λ ran. absurd (unfallen c.args.store.n
 pub returns-clause-claims : goal.returns-clause-claims
 returns-clause-claims g c = λ ran.
     let s = seen_saves _ c.args.self.now c.replace-now.result _ _ _ _ _ _ _ _ _ c.self.view_is c.replace-now.ensures.value c.next_event-next.ensures in
-    save_moves c.args.self.now.stage _ _ _ _ _ _ c.args.store.now _ _ _ _ _ c.facts.ensures.files (c.requires.left (sym c.stopped.ensures ∙ c.if-stopped.false)) ran s
+    let left = c.requires.left (sym c.stopped.ensures ∙ c.if-stopped.false) in record {
+      moves = save_moves c.args.self.now.stage _ _ _ _ _ _ c.args.store.now _ _ _ _ _ c.facts.ensures.files left ran s;
+      leaves = save_leaves c.args.self.now.stage _ _ _ _ _ _ c.args.store.now _ _ _ _ _ c.facts.ensures.store (sym c.stopped.ensures ∙ c.if-stopped.false) c.facts.ensures.files c.facts.ensures.instances.kept.highest left ran s;
+      ended = λ given is. save_ended c.args.self.now.stage _ _ _ _ _ given c.args.store.now _ s.effects is;
+    }
 
 pub returns-then-stopped-clause-ended : goal.returns-then-stopped-clause-ended
-returns-then-stopped-clause-ended g c = stopped_ends _ c.args.store.now (sym c.stopped.ensures ∙ c.if-stopped.true)
+returns-then-stopped-clause-ended g c = stopped_ends c.args.store.now (sym c.stopped.ensures ∙ c.if-stopped.true)
 
 pub returns-clause-ended : goal.returns-clause-ended
 returns-clause-ended g c =
@@ -84,11 +70,3 @@ returns-then-stopped-clause-left g c = λ more. absurd (done_goes_on _ more)
 
 pub returns-clause-left : goal.returns-clause-left
 returns-clause-left g c = (seen_saves _ c.args.self.now c.replace-now.result _ _ _ _ _ _ _ _ _ c.self.view_is c.replace-now.ensures.value c.next_event-next.ensures).fewer
-
-pub returns-then-stopped-clause-leaves : goal.returns-then-stopped-clause-leaves
-returns-then-stopped-clause-leaves g c = λ ran. absurd (unfallen c.args.store.now.stopped (sym c.stopped.ensures ∙ c.if-stopped.true) ran)
-
-pub returns-clause-leaves : goal.returns-clause-leaves
-returns-clause-leaves g c = λ ran.
-    let s = seen_saves _ c.args.self.now c.replace-now.result _ _ _ _ _ _ _ _ _ c.self.view_is c.replace-now.ensures.value c.next_event-next.ensures in
-    save_leaves c.args.self.now.stage _ _ _ _ _ _ c.args.store.now _ _ _ _ _ c.facts.ensures.store (sym c.stopped.ensures ∙ c.if-stopped.false) c.facts.ensures.files c.facts.ensures.instances.kept.highest (c.requires.left (sym c.stopped.ensures ∙ c.if-stopped.false)) ran s

@@ -5,6 +5,8 @@ use Rattle.purge_task.specs.Keeping.{LeavesLess, PurgeValue}
 use Rattle.purge_task.specs.declared.task.PurgeStage.TheVariants as stage
 use Rattle.purge_task.proofs.DropLemmas.{part_counts, part_tells}
 use Rattle.purge_task.proofs.StepLemmas.{first_part_low, part_left, part_says}
+use Rattle.purge_task.specs.Quiet.{KeepsQuiet}
+use Rattle.purge_task.proofs.QuietStepLemmas.{part_so}
 use Rattle.purge_task.proofs.task.PurgeTask.begin.Goals as goal
 
 pub returns-clause-step : goal.returns-clause-step
@@ -27,3 +29,6 @@ returns-clause-drops g c runs = (c.begin-next.ensures.map, part_counts c.begin-n
 
 pub returns-clause-counts : goal.returns-clause-counts
 returns-clause-counts g c = part_tells c.begin-next.result c.args.self.now _ c.come_to.new.self c.come_to.result c.come_to.ensures.task c.come_to.ensures.answer c.begin-next.ensures.begun
+
+pub returns-clause-quiet : goal.returns-clause-quiet
+returns-clause-quiet g c = part_so (λ n a. KeepsQuiet (at_stage stage.First c.args.self.now) n a c.args.store.now c.begin-next.new.store (g.D.Disk.history c.args.store.now.disk) (g.D.Disk.history c.begin-next.new.store.disk)) c.begin-next.result (uncounted (at_stage stage.First c.args.self.now)) _ c.come_to.new.self c.come_to.result c.come_to.ensures.task c.come_to.ensures.answer refl refl refl (c.begin-next.ensures.quiet (at_stage stage.First c.args.self.now) refl)

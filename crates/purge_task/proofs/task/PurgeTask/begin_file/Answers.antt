@@ -7,6 +7,8 @@ use Rattle.purge_task.specs.SwitchEvent.{answer_of_switch, came_by_switch}
 use Rattle.purge_task.specs.declared.task.PurgeStage.TheVariants as stage
 use Rattle.purge_task.proofs.DropLemmas.{part_drops, part_tells, switch_counts, switch_tells}
 use Rattle.purge_task.proofs.StepLemmas.{bare_first, begin_some, files_fit, further_at, part_left, part_low, part_says, some_left, switch_left, switch_part, switched_fits, target_first, unwanted_first}
+use Rattle.purge_task.specs.Quiet.{KeepsQuiet}
+use Rattle.purge_task.proofs.QuietStepLemmas.{part_so, switch_so}
 use Rattle.purge_task.proofs.task.PurgeTask.begin_file.Goals as goal
 
 pub returns-in-Some-target-clause-step : goal.returns-in-Some-target-clause-step
@@ -59,3 +61,14 @@ returns-else-has_message-clause-drops g c runs = part_drops c.remove_bare-next.r
 
 pub returns-else-has_message-clause-counts : goal.returns-else-has_message-clause-counts
 returns-else-has_message-clause-counts g c = part_tells c.remove_bare-next.result c.args.self.now _ c.come_to-else-has_message.new.self c.come_to-else-has_message.result c.come_to-else-has_message.ensures.task c.come_to-else-has_message.ensures.answer c.remove_bare-next.ensures.begun
+
+pub returns-in-Some-target-clause-quiet : goal.returns-in-Some-target-clause-quiet
+returns-in-Some-target-clause-quiet g c = part_so (λ n a. KeepsQuiet (at_stage (stage.Begin c.args.work) c.args.self.now) n a c.args.store.now c.begin_target-next.new.store (g.D.Disk.history c.args.store.now.disk) (g.D.Disk.history c.begin_target-next.new.store.disk)) c.begin_target-next.result (at_stage (stage.Begin c.args.work) c.args.self.now) _ c.come_to.new.self c.come_to.result c.come_to.ensures.task c.come_to.ensures.answer refl refl refl (c.begin_target-next.ensures.quiet (at_stage (stage.Begin c.args.work) c.args.self.now) refl)
+
+pub returns-then-has_message-clause-quiet : goal.returns-then-has_message-clause-quiet
+returns-then-has_message-clause-quiet g c =
+    let s = c.in-Some.ensures.some in
+    switch_so (λ n a. KeepsQuiet (at_stage (stage.Begin c.args.work) c.args.self.now) n a c.args.store.now c.switch_file-switched.new.store (g.D.Disk.history c.args.store.now.disk) (g.D.Disk.history c.switch_file-switched.new.store.disk)) c.switch_file-switched.result (at_stage (stage.Begin c.args.work) c.args.self.now) c.args.self.now c.come_by_switch.new.self c.come_by_switch.result c.come_by_switch.ensures.task c.come_by_switch.ensures.answer refl (c.switch_file-switched.ensures.quiet (at_stage (stage.Begin c.args.work) c.args.self.now) c.requires.ready (unwanted_first c.args.work s.0 (drop (c.args.work.next + 1) c.args.work.sources.items) c.in-Some.source.file c.in-Some.source.target c.args.store.now.map s.1 s.2.0 s.2.1 c.in_default-target.is (subst (λ (m : MapMeaning). list_any (λ row. row.file == c.in-Some.source.file.0) m.records ≡ true) c.map.ensures (sym c.has_message.ensures ∙ c.if-has_message.true))))
+
+pub returns-else-has_message-clause-quiet : goal.returns-else-has_message-clause-quiet
+returns-else-has_message-clause-quiet g c = part_so (λ n a. KeepsQuiet (at_stage (stage.Begin c.args.work) c.args.self.now) n a c.args.store.now c.remove_bare-next.new.store (g.D.Disk.history c.args.store.now.disk) (g.D.Disk.history c.remove_bare-next.new.store.disk)) c.remove_bare-next.result (record (at_stage (stage.Begin c.args.work) c.args.self.now) { files = c.args.self.now.files + 1 }) _ c.come_to-else-has_message.new.self c.come_to-else-has_message.result c.come_to-else-has_message.ensures.task c.come_to-else-has_message.ensures.answer (sym (ap (λ (v : PurgeValue). v.dropped) c.self.view_is)) (sym (ap (λ (v : PurgeValue). v.files + 1) c.self.view_is)) (sym (ap (λ (v : PurgeValue). v.instances) c.self.view_is)) (c.remove_bare-next.ensures.quiet (at_stage (stage.Begin c.args.work) c.args.self.now) refl)

@@ -9,6 +9,8 @@ use Rattle.purge_task.specs.SwitchEvent.{answer_of_switch, came_by_switch}
 use Rattle.purge_task.specs.declared.task.PurgeStage.TheVariants as stage
 use Rattle.purge_task.proofs.DropLemmas.{part_drops, part_tells, switch_counts, switch_tells}
 use Rattle.purge_task.proofs.StepLemmas.{copied_first, copying_some, copying_target, further_at, part_left, part_low, part_says, some_left, switch_left, switch_part, target_first, wanted_first}
+use Rattle.purge_task.specs.Quiet.{KeepsQuiet}
+use Rattle.purge_task.proofs.QuietStepLemmas.{part_so, switch_so}
 use Rattle.purge_task.proofs.task.PurgeTask.copy_or_switch.Goals as goal
 
 pub next_wanted-requires : goal.next_wanted-requires
@@ -49,3 +51,11 @@ returns-in-None-clause-drops g c runs = switch_counts c.switch_file-switched.res
 
 pub returns-in-None-clause-counts : goal.returns-in-None-clause-counts
 returns-in-None-clause-counts g c = switch_tells c.switch_file-switched.result c.args.self.now _ c.come_by_switch.new.self c.come_by_switch.result c.come_by_switch.ensures.task c.come_by_switch.ensures.answer c.switch_file-switched.ensures.begun
+
+pub returns-in-Some-next_wanted-clause-quiet : goal.returns-in-Some-next_wanted-clause-quiet
+returns-in-Some-next_wanted-clause-quiet g c = part_so (λ n a. KeepsQuiet (at_stage (stage.Copying c.args.work) c.args.self.now) n a c.args.store.now c.copy_next-next.new.store (g.D.Disk.history c.args.store.now.disk) (g.D.Disk.history c.copy_next-next.new.store.disk)) c.copy_next-next.result (at_stage (stage.Copying c.args.work) c.args.self.now) _ c.come_to.new.self c.come_to.result c.come_to.ensures.task c.come_to.ensures.answer refl refl refl (c.copy_next-next.ensures.quiet (at_stage (stage.Copying c.args.work) c.args.self.now) refl)
+
+pub returns-in-None-clause-quiet : goal.returns-in-None-clause-quiet
+returns-in-None-clause-quiet g c =
+    let s = c.in-Some.ensures.some in
+    switch_so (λ n a. KeepsQuiet (at_stage (stage.Copying c.args.work) c.args.self.now) n a c.args.store.now c.switch_file-switched.new.store (g.D.Disk.history c.args.store.now.disk) (g.D.Disk.history c.switch_file-switched.new.store.disk)) c.switch_file-switched.result (at_stage (stage.Copying c.args.work) c.args.self.now) c.args.self.now c.come_by_switch.new.self c.come_by_switch.result c.come_by_switch.ensures.task c.come_by_switch.ensures.answer refl (c.switch_file-switched.ensures.quiet (at_stage (stage.Copying c.args.work) c.args.self.now) c.requires.ready (copied_first c.args.work s.0 (drop (c.args.work.next + 1) c.args.work.sources.items) c.in-Some.source.file c.args.store.now.map s.1 s.2.0 (subst (λ (m : MapMeaning). AreUnwantedFrom m c.in-Some.source.file.0 c.args.work.from) c.map.ensures c.in-None.ensures.none)))

@@ -13,6 +13,8 @@ use Rattle.store_core.specs.Value.{StoreValue}
 use Rattle.purge_task.proofs.DropLemmas.{same_drops}
 use Rattle.purge_task.proofs.GoneCallLemmas.{failed_says, gone_says, stage_as, useless_one}
 use Rattle.purge_task.proofs.StepLemmas.{gone_low}
+use Rattle.purge_task.specs.Quiet.{KeepsQuiet}
+use Rattle.purge_task.proofs.QuietOuterLemmas.{gone_quiet}
 use Rattle.purge_task.proofs.task.PurgeTask.remove_useless.Goals as goal
 
 pub remove_instance-requires-clause-known : goal.remove_instance-requires-clause-known
@@ -35,12 +37,12 @@ returns-in-Ok-clause-step g c =
     let quiet = ap (λ (t : PurgeValue). t.did) c.self.view_is ∙ c.requires.quiet in
     stage_as stage.Instances _ c.args.self.now _ _ c.args.store.now c.remove_instance.new.self _ _ _ _ c.self.view_is
     (gone_says g.D.Disk.history g.D.Disk.faults _ _ c.args.id c.args.store.now c.remove_instance.new.self refl refl quiet refl refl refl c.requires.running c.facts.ensures.instances c.facts.ensures.ids c.known_id.ensures.long c.known_id.ensures.octets c.requires.useless
-    c.in-Ok.ensures.any_moment c.in-Ok.ensures.mail_stays c.in-Ok.ensures.settled c.in-Ok.ensures.others c.in-Ok.ensures.firm c.in-Ok.ensures.ok c.in-Ok.ensures.grows c.in-Ok.ensures.unfailed)
+    c.in-Ok.ensures.any_moment c.in-Ok.ensures.mail_stays c.in-Ok.ensures.settled c.in-Ok.ensures.others c.in-Ok.ensures.firm c.in-Ok.ensures.ok c.in-Ok.ensures.grows c.in-Ok.ensures.unfailed c.facts.ensures.store)
 
 pub returns-in-Err-clause-step : goal.returns-in-Err-clause-step
 returns-in-Err-clause-step g c =
     stage_as stage.Instances _ c.args.self.now _ _ c.args.store.now c.remove_instance.new.self _ _ _ _ c.self.view_is
-    (failed_says g.D.Disk.history g.D.Disk.faults _ _ c.args.store.now c.remove_instance.new.self refl c.requires.running c.in-Err.ensures.any_moment c.in-Err.ensures.mail_stays c.in-Err.ensures.err c.in-Err.ensures.grows _ refl c.in-Err.ensures.fault)
+    (failed_says g.D.Disk.history g.D.Disk.faults _ _ c.args.store.now c.remove_instance.new.self refl c.requires.running c.in-Err.ensures.any_moment c.in-Err.ensures.mail_stays c.in-Err.ensures.err c.in-Err.ensures.grows _ refl c.in-Err.ensures.fault (λ begins. cc begins))
 
 pub returns-in-Ok-clause-left : goal.returns-in-Ok-clause-left
 returns-in-Ok-clause-left g c more =
@@ -59,3 +61,12 @@ returns-in-Ok-clause-counts g c = λ e. cc e
 
 pub returns-in-Err-clause-counts : goal.returns-in-Err-clause-counts
 returns-in-Err-clause-counts g c = tt
+
+pub returns-in-Ok-clause-quiet : goal.returns-in-Ok-clause-quiet
+returns-in-Ok-clause-quiet g c =
+    subst (λ (v : PurgeValue). KeepsQuiet (at_stage stage.Instances v) _ progress.More c.args.store.now c.remove_instance.new.self (g.D.Disk.history c.args.store.now.disk) (g.D.Disk.history c.remove_instance.new.self.disk)) c.self.view_is
+    (gone_quiet g.D.Disk.history (at_stage stage.Instances (record { stage = c.self.inside.stage; did = c.self.inside.did; dropped = c.self.inside.done.dropped; files = c.self.inside.done.files; instances = c.self.inside.done.instances })) c.args.id c.args.store.now c.remove_instance.new.self refl c.requires.running c.facts.ensures.instances (useless_one c.args.store.now c.args.id c.facts.ensures.ids c.requires.useless) c.in-Ok.ensures.gone c.in-Ok.ensures.others (ap (λ (s : StoreValue _). s.map) c.in-Ok.ensures.ok)
+    (λ runs. ((returns-in-Ok-clause-step g c).claims runs).moves))
+
+pub returns-in-Err-clause-quiet : goal.returns-in-Err-clause-quiet
+returns-in-Err-clause-quiet g c = tt

@@ -5,6 +5,7 @@ use Rattle.purge_task.specs.Keeping.{LeavesLess, PurgeValue}
 use Rattle.purge_task.specs.declared.task.PurgeStage.{PurgeStage}
 use Rattle.purge_task.specs.declared.task.PurgeStage.TheVariants as stage
 use Rattle.purge_task.proofs.StepLemmas.{ready_at, stage_is}
+use Rattle.purge_task.specs.Quiet.{KeepsQuiet}
 use Rattle.purge_task.proofs.task.PurgeTask.run.Goals as goal
 
 pub begin-requires-clause-quiet : goal.begin-requires-clause-quiet
@@ -102,3 +103,18 @@ returns-in-Instances-clause-drops g c = subst (λ (v : PurgeValue). DropsCounted
 
 pub returns-in-Instances-clause-counts : goal.returns-in-Instances-clause-counts
 returns-in-Instances-clause-counts g c = subst (λ (v : PurgeValue). TellsCounts v c.remove_instance.new.self c.remove_instance.result) c.self.view_is c.remove_instance.ensures.counts
+
+pub returns-in-First-clause-quiet : goal.returns-in-First-clause-quiet
+returns-in-First-clause-quiet g c = subst (λ (v : PurgeValue). KeepsQuiet v c.begin.new.self c.begin.result c.args.store.now c.begin.new.store (g.D.Disk.history c.args.store.now.disk) (g.D.Disk.history c.begin.new.store.disk)) (stage_is stage.First (record { stage = c.self.inside.stage; did = c.self.inside.did; dropped = c.self.inside.done.dropped; files = c.self.inside.done.files; instances = c.self.inside.done.instances }) c.args.self.now c.self.view_is (sym c.replace.ensures.value ∙ c.in-First.is) c.requires.quiet) c.begin.ensures.quiet
+
+pub returns-in-Begin-clause-quiet : goal.returns-in-Begin-clause-quiet
+returns-in-Begin-clause-quiet g c = subst (λ (v : PurgeValue). KeepsQuiet v c.begin_file.new.self c.begin_file.result c.args.store.now c.begin_file.new.store (g.D.Disk.history c.args.store.now.disk) (g.D.Disk.history c.begin_file.new.store.disk)) (stage_is (stage.Begin c.in-Begin.work) (record { stage = c.self.inside.stage; did = c.self.inside.did; dropped = c.self.inside.done.dropped; files = c.self.inside.done.files; instances = c.self.inside.done.instances }) c.args.self.now c.self.view_is (sym c.replace.ensures.value ∙ c.in-Begin.is) c.requires.quiet) c.begin_file.ensures.quiet
+
+pub returns-in-Copying-clause-quiet : goal.returns-in-Copying-clause-quiet
+returns-in-Copying-clause-quiet g c = subst (λ (v : PurgeValue). KeepsQuiet v c.copy_or_switch.new.self c.copy_or_switch.result c.args.store.now c.copy_or_switch.new.store (g.D.Disk.history c.args.store.now.disk) (g.D.Disk.history c.copy_or_switch.new.store.disk)) (stage_is (stage.Copying c.in-Copying.work) (record { stage = c.self.inside.stage; did = c.self.inside.did; dropped = c.self.inside.done.dropped; files = c.self.inside.done.files; instances = c.self.inside.done.instances }) c.args.self.now c.self.view_is (sym c.replace.ensures.value ∙ c.in-Copying.is) c.requires.quiet) c.copy_or_switch.ensures.quiet
+
+pub returns-in-Removing-clause-quiet : goal.returns-in-Removing-clause-quiet
+returns-in-Removing-clause-quiet g c = subst (λ (v : PurgeValue). KeepsQuiet v c.remove_switched.new.self c.remove_switched.result c.args.store.now c.remove_switched.new.store (g.D.Disk.history c.args.store.now.disk) (g.D.Disk.history c.remove_switched.new.store.disk)) (stage_is (stage.Removing c.in-Removing.work) (record { stage = c.self.inside.stage; did = c.self.inside.did; dropped = c.self.inside.done.dropped; files = c.self.inside.done.files; instances = c.self.inside.done.instances }) c.args.self.now c.self.view_is (sym c.replace.ensures.value ∙ c.in-Removing.is) c.requires.quiet) c.remove_switched.ensures.quiet
+
+pub returns-in-Instances-clause-quiet : goal.returns-in-Instances-clause-quiet
+returns-in-Instances-clause-quiet g c = subst (λ (v : PurgeValue). KeepsQuiet v c.remove_instance.new.self c.remove_instance.result c.args.store.now c.remove_instance.new.store (g.D.Disk.history c.args.store.now.disk) (g.D.Disk.history c.remove_instance.new.store.disk)) (stage_is stage.Instances (record { stage = c.self.inside.stage; did = c.self.inside.did; dropped = c.self.inside.done.dropped; files = c.self.inside.done.files; instances = c.self.inside.done.instances }) c.args.self.now c.self.view_is (sym c.replace.ensures.value ∙ c.in-Instances.is) c.requires.quiet) c.remove_instance.ensures.quiet

@@ -1,7 +1,0 @@
-use Rattle.std.proofs.Common.{ℕ, ◌<◌, slice_index_or}
-use Rattle.mdbox_base.specs.declared.replies.ListRow.{ListRow}
-use Rattle.mdbox_top.specs.PrintedReplies.{RowHasWords}
-use Rattle.mdbox_top.proofs.known.known_rows.Given as goal
-
-abbrev pub invariant-loop-row : goal.invariant-loop-row
-invariant-loop-row l = (k : ℕ) (d : ListRow) → k < l.row-index → RowHasWords (slice_index_or l.rows k d)

@@ -1,5 +1,0 @@
-use Rattle.mdbox_top.proofs.ReplyReadLemmas.{reply_read}
-use Rattle.mdbox_top.proofs.laws.no_reply_begins_another.Goals as goal
-
-pub returns : goal.returns
-returns c = λ asked a b x y p q v w e. reply_read asked a b x y p q v w e

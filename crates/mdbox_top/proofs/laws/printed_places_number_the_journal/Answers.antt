@@ -1,5 +1,0 @@
-use Rattle.mdbox_top.proofs.PlaceLemmas.{served_places}
-use Rattle.mdbox_top.proofs.laws.printed_places_number_the_journal.Goals as goal
-
-pub returns : goal.returns
-returns c = λ script lists given entries began now old opened new many served. served_places script lists given entries began now old opened new many served

@@ -1,0 +1,4 @@
+mod PlaceLemmas
+pub mod ReplyKindLemmas
+pub mod ReplyReadLemmas
+mod TextReadLemmas

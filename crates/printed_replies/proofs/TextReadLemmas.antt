@@ -1,0 +1,241 @@
+-- Numbers, digits and refusals are read from their text in one way.
+use Rattle.std.specs.Prelude.{◌≡◌, ◌<◌, ◌^◌, ◌==◌, ℕ, nat_le, ◌&&◌, false, List, [], ◌∷◌, ◌++◌, length, drop, flat_map, slice_index, IsTrue, refl, if◌then◌else◌}
+use Rattle.std.specs.List.{list_all, AllByRecursion}
+use Rattle.std.proofs.Common.{sym, ◌∙◌, ap, arith, append_assoc, append-nil}
+use Rattle.std.proofs.lemmas.Grind.{common_steps}
+use Rattle.mdbox_base.specs.Numbers.{decimal_text}
+use Rattle.mdbox_base.specs.Words.{IsOctets}
+use Rattle.mdbox_base.specs.declared.ids.Guid.{Guid}
+use Rattle.mdbox_base.specs.declared.ids.Uid.{Uid}
+use Rattle.mdbox_base.specs.declared.replies.ListRow.{ListRow}
+use Rattle.mdbox_base.specs.declared.replies.Refusal.{Refusal}
+use Rattle.mdbox_base.specs.declared.replies.Refusal.TheVariants as refusal
+use Rattle.file_paths.proofs.InstLemmas.{same_digits}
+use Rattle.model_storage.proofs.ReferenceLemmas.{first, second, is_digit, decimal_digits, number_until}
+use Rattle.request_text.specs.ReplyText.{guid_text, numbers_text, row_text, refusal_text}
+use Rattle.printed_replies.specs.PrintedReplies.{AreWords, RowHasWords, RefusalHasWords}
+
+-- ---- digits up to a mark
+
+-- digits up to two marks that are none: the marks are the same
+pub marks_same : (p q : List ℕ) (c d : ℕ) (x y : List ℕ) → is_digit c ≡ false → is_digit d ≡ false → IsTrue (list_all is_digit p) → IsTrue (list_all is_digit q) → p ++ c ∷ x ≡ q ++ d ∷ y → c ≡ d
+marks_same [] [] c d x y h k v w e = cc e
+marks_same [] (b ∷ q) c d x y h k v w e = absurd (no_digit c b h (first (is_digit b) _ w) (cc e))
+  where
+    no_digit : (c b : ℕ) → is_digit c ≡ false → IsTrue (is_digit b) → c ≡ b → ⊥
+    no_digit c b h w e = grind (arith, common_steps, h, w, e)
+marks_same (a ∷ p) [] c d x y h k v w e = absurd (no_digit d a k (first (is_digit a) _ v) (cc e))
+  where
+    no_digit : (d a : ℕ) → is_digit d ≡ false → IsTrue (is_digit a) → a ≡ d → ⊥
+    no_digit d a k v e = grind (arith, common_steps, k, v, e)
+marks_same (a ∷ p) (b ∷ q) c d x y h k v w e =
+    let t : p ++ c ∷ x ≡ q ++ d ∷ y = cc e in
+    marks_same p q c d x y h k (second (is_digit a) _ v) (second (is_digit b) _ w) t
+
+-- ---- numbers
+
+-- a number, and what follows
+number_first : (n : ℕ) (rest after : List ℕ) → numbers_text (n ∷ []) ++ after ≡ 32 ∷ (decimal_text n ++ after)
+number_first n rest after = ap (λ (l : List ℕ). 32 ∷ (l ++ after)) (append-nil (decimal_text n))
+
+numbers_first : (n : ℕ) (ns after : List ℕ) → numbers_text (n ∷ ns) ++ after ≡ 32 ∷ (decimal_text n ++ (numbers_text ns ++ after))
+numbers_first n ns after = ap (λ (l : List ℕ). 32 ∷ l) (append_assoc (decimal_text n) (numbers_text ns) after)
+
+-- as many numbers up to a mark that is no digit
+pub numbers_read : (mark : ℕ) (ns ms x y : List ℕ) → is_digit mark ≡ false → length ns ≡ length ms → AreWords ns → AreWords ms → numbers_text ns ++ mark ∷ x ≡ numbers_text ms ++ mark ∷ y → (ns ≡ ms) × (x ≡ y)
+numbers_read mark [] [] x y h l p q e = (refl, ap (drop 1) e)
+numbers_read mark [] (m ∷ ms) x y h l p q e = absurd (omega (arith, l))
+numbers_read mark (n ∷ ns) [] x y h l p q e = absurd (omega (arith, l))
+numbers_read mark (n ∷ []) (m ∷ []) x y h l p q e =
+    let f : decimal_text n ++ mark ∷ x ≡ decimal_text m ++ mark ∷ y = ap (drop 1) (sym (number_first n [] (mark ∷ x)) ∙ e ∙ number_first m [] (mark ∷ y)) in
+    let r = number_until mark n m x y h p.0 q.0 f in
+    (ap (λ (k : ℕ). k ∷ []) r.0, r.1)
+numbers_read mark (n ∷ []) (m ∷ m2 ∷ ms) x y h l p q e = absurd (omega (arith, l))
+numbers_read mark (n ∷ n2 ∷ ns) (m ∷ []) x y h l p q e = absurd (omega (arith, l))
+numbers_read mark (n ∷ n2 ∷ ns) (m ∷ m2 ∷ ms) x y h l p q e =
+    let f = ap (drop 1) (sym (numbers_first n (n2 ∷ ns) (mark ∷ x)) ∙ e ∙ numbers_first m (m2 ∷ ms) (mark ∷ y)) in
+    let r = number_until 32 n m _ _ refl p.0 q.0 f in
+    let s = numbers_read mark (n2 ∷ ns) (m2 ∷ ms) x y h (omega (arith, l)) p.1 q.1 (ap (λ (t : List ℕ). 32 ∷ t) r.1) in
+    (ap (λ (k : ℕ). k ∷ n2 ∷ ns) r.0 ∙ ap (λ (t : List ℕ). m ∷ t) s.0, s.1)
+
+-- one number, and what begins with a space
+pub number_read : (m n : ℕ) (x y : List ℕ) → m < 2 ^ 64 → n < 2 ^ 64 → numbers_text (m ∷ []) ++ 32 ∷ x ≡ numbers_text (n ∷ []) ++ 32 ∷ y → (m ≡ n) × (x ≡ y)
+number_read m n x y p q e = number_until 32 m n x y refl p q (ap (drop 1) (sym (number_first m [] (32 ∷ x)) ∙ e ∙ number_first n [] (32 ∷ y)))
+
+-- the mark behind one number
+pub mark_read : (m n c d : ℕ) (x y : List ℕ) → is_digit c ≡ false → is_digit d ≡ false → m < 2 ^ 64 → n < 2 ^ 64 → numbers_text (m ∷ []) ++ c ∷ x ≡ numbers_text (n ∷ []) ++ d ∷ y → c ≡ d
+mark_read m n c d x y h k p q e = marks_same (decimal_text m) (decimal_text n) c d x y h k (decimal_digits m p) (decimal_digits n q) (ap (drop 1) (sym (number_first m [] (c ∷ x)) ∙ e ∙ number_first n [] (d ∷ y)))
+
+-- ---- GUIDs and rows
+
+pub uid_same : (a b : Uid) → a.0 ≡ b.0 → a ≡ b
+uid_same a b e = ap (λ (n : ℕ). let u : Uid = record { 0 = n } in u) e
+
+guid_same : (a b : Guid) → a.0 ≡ b.0 → a ≡ b
+guid_same a b e = ap (λ (n : List ℕ). let u : Guid = record { 0 = n } in u) e
+
+pub guid_read : (a b : Guid) (x y : List ℕ) → IsOctets a.0 → IsOctets b.0 → guid_text a ++ 10 ∷ x ≡ guid_text b ++ 10 ∷ y → (a ≡ b) × (x ≡ y)
+guid_read a b x y p q e =
+    let r = same_digits 10 a.0 b.0 x y (omega arith) p q (ap (drop 1) e) in
+    (guid_same a b r.0, r.1)
+
+abbrev made_row : ℕ → List ℕ → Guid → ListRow
+made_row uid numbers guid = record {
+  uid = record { 0 = uid };
+  flags = slice_index numbers 0;
+  size = slice_index numbers 1;
+  time = slice_index numbers 2;
+  guid = guid;
+}
+
+row_first : (row : ListRow) (x : List ℕ) → row_text row ++ x ≡ decimal_text row.uid.0 ++ (numbers_text (row.flags ∷ row.size ∷ row.time ∷ []) ++ (guid_text row.guid ++ 10 ∷ x))
+row_first row x =
+    let numbers = numbers_text (row.flags ∷ row.size ∷ row.time ∷ []) in
+    append_assoc (decimal_text row.uid.0) (numbers ++ (guid_text row.guid ++ 10 ∷ [])) x
+    ∙ ap (λ (l : List ℕ). decimal_text row.uid.0 ++ l) (append_assoc numbers (guid_text row.guid ++ 10 ∷ []) x ∙ ap (λ (l : List ℕ). numbers ++ l) (append_assoc (guid_text row.guid) (10 ∷ []) x))
+
+pub row_read : (a b : ListRow) (x y : List ℕ) → RowHasWords a → RowHasWords b → row_text a ++ x ≡ row_text b ++ y → (a ≡ b) × (x ≡ y)
+row_read a b x y p q e =
+    let r = number_until 32 a.uid.0 b.uid.0 _ _ refl p.0.0 q.0.0 (sym (row_first a x) ∙ e ∙ row_first b y) in
+    let s = numbers_read 32 (a.flags ∷ a.size ∷ a.time ∷ []) (b.flags ∷ b.size ∷ b.time ∷ []) _ _ refl refl p.0.1 q.0.1 (ap (λ (t : List ℕ). 32 ∷ t) r.1) in
+    let t = guid_read a.guid b.guid x y p.1 q.1 (ap (λ (t : List ℕ). 32 ∷ t) s.1) in
+    (ap (λ (n : ℕ). made_row n (a.flags ∷ a.size ∷ a.time ∷ []) a.guid) r.0 ∙ ap (λ (l : List ℕ). made_row b.uid.0 l a.guid) s.0 ∙ ap (made_row b.uid.0 (b.flags ∷ b.size ∷ b.time ∷ [])) t.0, t.1)
+
+pub rows_read : (a b : List ListRow) (x y : List ℕ) → length a ≡ length b → AllByRecursion RowHasWords a → AllByRecursion RowHasWords b → flat_map row_text a ++ x ≡ flat_map row_text b ++ y → (a ≡ b) × (x ≡ y)
+rows_read [] [] x y l p q e = (refl, e)
+rows_read [] (h ∷ b) x y l p q e = absurd (omega (arith, l))
+rows_read (g ∷ a) [] x y l p q e = absurd (omega (arith, l))
+rows_read (g ∷ a) (h ∷ b) x y l p q e =
+    let r = row_read g h _ _ p.0 q.0 (sym (append_assoc (row_text g) (flat_map row_text a) x) ∙ e ∙ append_assoc (row_text h) (flat_map row_text b) y) in
+    let s = rows_read a b x y (omega (arith, l)) p.1 q.1 r.1 in
+    (ap (λ (k : ListRow). k ∷ a) r.0 ∙ ap (λ (t : List ListRow). h ∷ t) s.0, s.1)
+
+-- ---- refusals
+
+-- the second digit of a refusal's number; 20 of damage
+abbrev which : Refusal → ℕ
+which refusal.NoMailbox = 48
+which refusal.Exists = 49
+which refusal.NoMessage = 50
+which (refusal.TooManyCopies n) = 51
+which (refusal.MailboxFull n) = 52
+which (refusal.TooManyMailboxes n) = 53
+which (refusal.StoreFull n) = 54
+which refusal.NoMemory = 55
+which refusal.ReadFault = 56
+which refusal.Stopped = 57
+which (refusal.Damaged file offset) = 20
+
+-- its numbers
+abbrev told_by : Refusal → List ℕ
+told_by (refusal.TooManyCopies n) = n ∷ []
+told_by (refusal.MailboxFull n) = n ∷ []
+told_by (refusal.TooManyMailboxes n) = n ∷ []
+told_by (refusal.StoreFull n) = n ∷ []
+told_by (refusal.Damaged file offset) = file.0 ∷ offset ∷ []
+told_by other = []
+
+-- the refusal with these
+abbrev refusal_of : ℕ → List ℕ → Refusal
+refusal_of digit ns =
+    if digit == 48 then refusal.NoMailbox
+    else (if digit == 49 then refusal.Exists
+    else (if digit == 50 then refusal.NoMessage
+    else (if digit == 51 then refusal.TooManyCopies (slice_index ns 0)
+    else (if digit == 52 then refusal.MailboxFull (slice_index ns 0)
+    else (if digit == 53 then refusal.TooManyMailboxes (slice_index ns 0)
+    else (if digit == 54 then refusal.StoreFull (slice_index ns 0)
+    else (if digit == 55 then refusal.NoMemory
+    else (if digit == 56 then refusal.ReadFault
+    else (if digit == 57 then refusal.Stopped
+    else refusal.Damaged (record { 0 = slice_index ns 0 }) (slice_index ns 1))))))))))
+
+abbrev many : ℕ → ℕ
+many digit = if digit == 20 then 2 else (if nat_le 51 digit && nat_le digit 54 then 1 else 0)
+
+-- where its numbers begin in its text
+abbrev words_of : ℕ → List ℕ → List ℕ
+words_of digit text =
+    if digit == 48 then drop 13 text
+    else (if digit == 49 then drop 9 text
+    else (if digit == 50 then drop 13 text
+    else (if digit == 51 then drop 18 text
+    else (if digit == 52 then drop 15 text
+    else (if digit == 53 then drop 21 text
+    else (if digit == 54 then drop 13 text
+    else (if digit == 55 then drop 9 text
+    else (if digit == 56 then drop 13 text
+    else (if digit == 57 then drop 10 text
+    else 32 ∷ drop 21 text)))))))))
+
+-- which it is, by its text
+abbrev which_in : List ℕ → ℕ
+which_in text = if slice_index text 0 == 50 then 20 else slice_index text 1
+
+which_read : (r : Refusal) (x : List ℕ) → which_in (refusal_text r ++ 10 ∷ x) ≡ which r
+which_read refusal.NoMailbox x = refl
+which_read refusal.Exists x = refl
+which_read refusal.NoMessage x = refl
+which_read (refusal.TooManyCopies n) x = refl
+which_read (refusal.MailboxFull n) x = refl
+which_read (refusal.TooManyMailboxes n) x = refl
+which_read (refusal.StoreFull n) x = refl
+which_read refusal.NoMemory x = refl
+which_read refusal.ReadFault x = refl
+which_read refusal.Stopped x = refl
+which_read (refusal.Damaged file offset) x = refl
+
+words_read : (r : Refusal) (x : List ℕ) → words_of (which r) (refusal_text r ++ 10 ∷ x) ≡ numbers_text (told_by r) ++ 10 ∷ x
+words_read refusal.NoMailbox x = refl
+words_read refusal.Exists x = refl
+words_read refusal.NoMessage x = refl
+words_read (refusal.TooManyCopies n) x = refl
+words_read (refusal.MailboxFull n) x = refl
+words_read (refusal.TooManyMailboxes n) x = refl
+words_read (refusal.StoreFull n) x = refl
+words_read refusal.NoMemory x = refl
+words_read refusal.ReadFault x = refl
+words_read refusal.Stopped x = refl
+words_read (refusal.Damaged file offset) x = refl
+
+many_are : (r : Refusal) → length (told_by r) ≡ many (which r)
+many_are refusal.NoMailbox = refl
+many_are refusal.Exists = refl
+many_are refusal.NoMessage = refl
+many_are (refusal.TooManyCopies n) = refl
+many_are (refusal.MailboxFull n) = refl
+many_are (refusal.TooManyMailboxes n) = refl
+many_are (refusal.StoreFull n) = refl
+many_are refusal.NoMemory = refl
+many_are refusal.ReadFault = refl
+many_are refusal.Stopped = refl
+many_are (refusal.Damaged file offset) = refl
+
+made_again : (r : Refusal) → refusal_of (which r) (told_by r) ≡ r
+made_again refusal.NoMailbox = refl
+made_again refusal.Exists = refl
+made_again refusal.NoMessage = refl
+made_again (refusal.TooManyCopies n) = refl
+made_again (refusal.MailboxFull n) = refl
+made_again (refusal.TooManyMailboxes n) = refl
+made_again (refusal.StoreFull n) = refl
+made_again refusal.NoMemory = refl
+made_again refusal.ReadFault = refl
+made_again refusal.Stopped = refl
+made_again (refusal.Damaged file offset) = refl
+
+told_words : (r : Refusal) → RefusalHasWords r → AreWords (told_by r)
+told_words (refusal.TooManyCopies n) p = p
+told_words (refusal.MailboxFull n) p = p
+told_words (refusal.TooManyMailboxes n) p = p
+told_words (refusal.StoreFull n) p = p
+told_words (refusal.Damaged file offset) p = p
+told_words other p = tt
+
+pub refusal_read : (r s : Refusal) (x y : List ℕ) → RefusalHasWords r → RefusalHasWords s → refusal_text r ++ 10 ∷ x ≡ refusal_text s ++ 10 ∷ y → (r ≡ s) × (x ≡ y)
+refusal_read r s x y p q e =
+    let w : which r ≡ which s = sym (which_read r x) ∙ ap which_in e ∙ which_read s y in
+    let t = sym (words_read r x) ∙ ap (words_of (which r)) e ∙ ap (λ (n : ℕ). words_of n (refusal_text s ++ 10 ∷ y)) w ∙ words_read s y in
+    let l : length (told_by r) ≡ length (told_by s) = many_are r ∙ ap many w ∙ sym (many_are s) in
+    let n = numbers_read 10 (told_by r) (told_by s) x y refl l (told_words r p) (told_words s q) t in
+    (sym (made_again r) ∙ ap (λ (k : ℕ). refusal_of k (told_by r)) w ∙ ap (refusal_of (which s)) n.0 ∙ made_again s, n.1)

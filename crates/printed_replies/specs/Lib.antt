@@ -1,0 +1,2 @@
+pub mod PrintedPlaces
+pub mod PrintedReplies

@@ -1,0 +1,82 @@
+// What the types of replies say of them.
+ghost use Rattle.std.specs.Prelude.{◌<◌, ◌^◌, All};
+ghost use Rattle.mdbox_base.specs.Words.{IsOctets};
+ghost use Rattle.printed_replies.specs.PrintedReplies.{RowHasWords, RefusalHasWords, ReplyHasWords};
+
+use mdbox_base::{ListRow, Refusal, Reply, Uid};
+
+fn known_octets(octets: &[u8])
+    ensures { IsOctets octets.now }
+{
+    let _length = octets.len();
+}
+
+fn known_uid(uid: Uid)
+    ensures { uid.0 < 2 ^ 64 }
+{}
+
+fn known_row(row: ListRow)
+    ensures { RowHasWords row }
+{
+    known_octets(&row.guid.0);
+}
+
+fn known_refusal(refusal: Refusal)
+    ensures { RefusalHasWords refusal }
+{
+    match refusal {
+        Refusal::Damaged {
+            file: _file,
+            offset: _offset,
+        } => (),
+        _ => (),
+    }
+}
+
+fn known_rows(rows: &[ListRow])
+    ensures { All RowHasWords rows.now }
+{
+    for row in rows {
+        known_row(*row);
+    }
+}
+
+/// The numbers and lengths of a reply are below 2 ^ 64, and a GUID has octets.
+pub fn known_words(reply: &Reply)
+    ensures { ReplyHasWords reply.now }
+{
+    match reply {
+        Reply::Saved { uid, guid } => {
+            known_uid(*uid);
+            known_octets(&guid.0);
+        }
+        Reply::Listed(rows) => known_rows(rows.as_slice()),
+        Reply::Fetched(octets) => known_octets(octets.as_slice()),
+        Reply::Done => (),
+        Reply::Copied { uid } => {
+            known_uid(*uid);
+        }
+        Reply::Moved { uid, gone: _gone } => {
+            known_uid(*uid);
+        }
+        Reply::Counted {
+            records,
+            references,
+            counts,
+            instances,
+        } => {
+            let _numbers = [*records, *references, *counts, *instances];
+        }
+        Reply::Purged {
+            dropped,
+            files,
+            instances,
+        } => {
+            let _numbers = [*dropped, *files, *instances];
+        }
+        Reply::Resynced { corrected, damaged } => {
+            let _numbers = [*corrected, *damaged];
+        }
+        Reply::Refused(refusal) => known_refusal(*refusal),
+    }
+}
