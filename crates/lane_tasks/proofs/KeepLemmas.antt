@@ -1,9 +1,9 @@
 -- What an event of a task keeps, by its kind.
-use Rattle.std.specs.Prelude.{◌↔◌, ◌⊎◌, ◌&&◌, ◌==◌}
+use Rattle.std.specs.Prelude.{◌⊎◌, ◌&&◌, ◌==◌}
 use Rattle.std.proofs.Common.{◌≡◌, ◌≤◌, ℕ, zero, suc, Bool, true, false, List, Option, Some, None, refl, sym, ◌∙◌, ap, subst, arith, inl, inr}
 use Rattle.disk_model.specs.Disk.{History, Faults, Grows, IsIdle, DiskState, told_calls}
 use Rattle.disk_model.specs.declared.name.FileName.TheVariants as file
-use Rattle.disk_model.specs.FaultCounts.{NoFault, ChangeFaultCounted}
+use Rattle.disk_model.specs.FaultCounts.{NoFault}
 use Rattle.disk_model.proofs.IdleLemmas.{idle-begins}
 use Rattle.mdbox_base.specs.declared.progress.Did.{Did}
 use Rattle.mdbox_base.specs.declared.progress.Progress.{Progress}
@@ -16,7 +16,7 @@ use Rattle.model_meaning.specs.MapMeaning.{MapMeaning}
 use Rattle.store_core.specs.Value.{StoreValue}
 use Rattle.task_claims.specs.Leaving.{SyncsMail}
 use Rattle.task_steps.proofs.UnmovedLemmas.{mail_still}
-use Rattle.mail_ops.specs.SparedMail.{SparesMail}
+use Rattle.mail_ops.specs.OnlyLogs.{ChangesOnlyLogs}
 use Rattle.mail_fetch.specs.Claims.{used_by}
 use Rattle.mail_fetch.specs.Clause.{FetchesAlone, MakesOfDisk, OnlyReadsDisk, RemovesFromDisk}
 use Rattle.mail_fetch.specs.Events.{FetchesNext, GoesOnWith, fetch_refusal, with_piece}
@@ -59,14 +59,14 @@ use Rattle.mail_ops.specs.declared.moving.MoveStage.TheVariants as move_stage
 use Rattle.mail_save.specs.SaveEffects.{SaveEffects}
 use Rattle.mail_save.specs.declared.task.SaveStage.{SaveStage}
 use Rattle.mail_save.specs.declared.task.SaveStage.TheVariants as save_stage
-use Rattle.resync_task.specs.Clause.{CountsFaults, KeepsMessages}
+use Rattle.resync_task.specs.Clause.{ResyncKeeps}
 use Rattle.resync_task.specs.Correcting.{AreExact}
 use Rattle.resync_task.specs.Stages.{ResyncAt, ToList, ToRead}
 use Rattle.resync_task.specs.Task.{ResyncValue, ResyncsOn}
 use Rattle.lane_tasks.specs.Clause.{DoomsNone, DoomsNothing, FetchesSo, IsAtStart, PurgesSo, RemovesNothing, StaysOfRequest, TaskKeeps, TellsStore, OnlyReads, WritesTask, progress_by}
 use Rattle.lane_tasks.specs.declared.task.Task.{Task}
 use Rattle.lane_tasks.specs.declared.task.Task.TheVariants as task
-use Rattle.lane_tasks.proofs.StepLemmas.{ran_before, undoomed_by, undoomed_rest}
+use Rattle.lane_tasks.proofs.StepLemmas.{ran_before, rest_files, undoomed_by, undoomed_rest}
 
 -- ---- the disk
 
@@ -117,17 +117,17 @@ progress_back (progress.Done given) = refl
 abbrev IsStoppedReply : Progress → Type 0
 IsStoppedReply answer = answer ≡ progress.Done (reply.Refused refusal.Stopped)
 
-pub keeps_by : {D : Type 0} → (history : D → Option History) (faults : D → Faults) (t next : Task) (old new : StoreValue D) (answer : Progress) → StaysOfRequest t next → (DoomsNone t → DoomsNone next) → new.files ≡ old.files → SparesMail (new.stopped ≡ old.stopped) (history old.disk) (history new.disk) → (IsStoppedReply answer ↔ (new.stopped ≡ true)) → (old.stopped ≡ true → new ≡ old)
-    → (old.stopped ≡ false → ChangeFaultCounted (IsStoppedReply answer) (faults old.disk) (faults new.disk)) → ((IsStoppedReply answer → ⊥) → NoFault (faults old.disk) (faults new.disk)) → (OnlyReads t → new ≡ old) → ((why : Refusal) → IsAtStart t → old.stopped ≡ false → answer ≡ progress.Done (reply.Refused why) → is_step why ≡ true → new ≡ old)
+pub keeps_by : {D Stage : Type 0} → (history : D → Option History) (faults : D → Faults) (t next : Task) (Rest : Type 0) (now then : Stage) (old new : StoreValue D) (answer : Progress) → StaysOfRequest t next → (DoomsNone t → DoomsNone next) → new.files ≡ old.files → ChangesOnlyLogs Rest now then answer old new (history old.disk) (history new.disk) (faults old.disk) (faults new.disk)
+    → (OnlyReads t → new ≡ old) → ((why : Refusal) → IsAtStart t → old.stopped ≡ false → answer ≡ progress.Done (reply.Refused why) → is_step why ≡ true → new ≡ old)
     → (SyncsMail (history old.disk) (history new.disk) → WritesTask t next old (history old.disk) (history new.disk)) → TellsStore t next old new (history old.disk) (history new.disk) (ended_by answer) → FetchesSo t next old new (history old.disk) (history new.disk) (faults old.disk) (faults new.disk) (ended_by answer) → Same history faults t next old new (ended_by answer)
-keeps_by history faults t next old new answer kind dooms files mail halts still fault unfailed reads refused writes tells fetches = record {
+keeps_by history faults t next Rest now then old new answer kind dooms files k reads refused writes tells fetches = record {
   request = kind;
-  grows = grows_kept old.map (history old.disk) (history new.disk) (mail.stays old.map);
-  mail = λ m kept. mail.stays m;
+  grows = grows_kept old.map (history old.disk) (history new.disk) (k.mail.stays old.map);
+  mail = λ m kept. k.mail.stays m;
   reads = (let same = unread old.stopped refl in omega (arith, same));
   changes = more old.stopped refl;
-  unfailed = λ runs. ap (λ (f : Faults). f.changes) (unfailed (λ e. absurd (let k : true ≡ false = sym (halts.0 e) ∙ runs in cc k)));
-  fell = λ ran stops. ((fault ran).rose (halts.1 stops), (fault ran).reads);
+  unfailed = λ runs. ap (λ (f : Faults). f.changes) (k.unfailed (λ e. absurd (let z : true ≡ false = sym (k.stopped.0 e) ∙ runs in cc z)));
+  fell = λ ran stops. ((k.fault ran).rose (k.stopped.1 stops), (k.fault ran).reads);
   unread = λ none. unread old.stopped refl;
   calm = λ answers told. unread old.stopped refl;
   tells = tells;
@@ -140,10 +140,13 @@ keeps_by history faults t next old new answer kind dooms files mail halts still 
   still = λ stopped. (idle_same (still stopped), subst (λ (d : _). (faults d).changes ≡ (faults old.disk).changes) (sym (disk_same (still stopped))) refl);
   same = idle_disk;
   refused = λ why begun e step. idle_same (by_stop why begun (answered answer why e) step old.stopped refl);
-  left = λ runs. writes (mail.left (runs ∙ sym (ran_before old.stopped new.stopped (λ was. ap (λ (s : StoreValue _). s.stopped) (still was) ∙ was) runs)));
+  left = λ runs. writes (k.mail.left (runs ∙ sym (ran_before old.stopped new.stopped (λ was. ap (λ (s : StoreValue _). s.stopped) (still was) ∙ was) runs)));
   fetches = fetches;
 }
   where
+    still : old.stopped ≡ true → new ≡ old
+    still was = (k.still was).0
+
     disk_same : new ≡ old → new.disk ≡ old.disk
     disk_same same = ap (λ (s : StoreValue _). s.disk) same
 
@@ -163,11 +166,11 @@ keeps_by history faults t next old new answer kind dooms files mail halts still 
 
     unread : (b : Bool) → old.stopped ≡ b → (faults new.disk).reads ≡ (faults old.disk).reads
     unread true was = subst (λ (d : _). (faults d).reads ≡ (faults old.disk).reads) (sym (disk_same (still was))) refl
-    unread false ran = (fault ran).reads
+    unread false ran = (k.fault ran).reads
 
     more : (b : Bool) → old.stopped ≡ b → (faults old.disk).changes ≤ (faults new.disk).changes
     more true was = subst (λ (d : _). (faults old.disk).changes ≤ (faults d).changes) (sym (disk_same (still was))) (omega arith)
-    more false ran = (fault ran).changes
+    more false ran = (k.fault ran).changes
 
 -- ---- of a fetch
 
@@ -365,31 +368,34 @@ resync_refused now next how old new before after began then answer why is e said
 
 pub keeps_resyncing : {D : Type 0} → (history : D → Option History) (faults : D → Faults) (t next : ResyncValue) (old new : StoreValue D) (answer : Progress)
     → (old.stopped ≡ false → ResyncsOn t.stage next.stage answer next.did old new (history old.disk) (history new.disk) (faults old.disk) (faults new.disk)) → ((corrected damaged : ℕ) → answer ≡ progress.Done (reply.Resynced corrected damaged) → AreExact new)
-    → (IsStoppedReply answer ↔ (new.stopped ≡ true)) → (old.stopped ≡ true → new ≡ old) → CountsFaults answer old new (faults old.disk) (faults new.disk) → KeepsMessages (new.stopped ≡ old.stopped) (history old.disk) (history new.disk) → Grows (history old.disk) (history new.disk) → new.files ≡ old.files
+    → ResyncKeeps t.stage next.stage answer old new (history old.disk) (history new.disk) (faults old.disk) (faults new.disk)
     → Same history faults (task.Resync t) (task.Resync next) old new (ended_by answer)
-keeps_resyncing history faults t next old new answer on exact halts still fault mail grows files = record {
+keeps_resyncing history faults t next old new answer on exact k = record {
   request = tt;
-  grows = grows;
-  mail = λ m kept. mail.stays m;
-  reads = fault.reads;
-  changes = fault.changes;
-  unfailed = fault.steady;
-  fell = λ ran stops. fault.change ran (halts.1 stops);
+  grows = k.grows;
+  mail = λ m kept. k.mail.stays m;
+  reads = k.fault.reads;
+  changes = k.fault.changes;
+  unfailed = k.fault.steady;
+  fell = λ ran stops. k.fault.change ran (k.stopped.1 stops);
   unread = λ none. absurd none;
   calm = λ answers told. by_calm (λ e. told (ap ended_by e)) old.stopped refl;
   tells = (
     λ ran. (faults old.disk, faults new.disk, subst (λ (a : Progress). ResyncsOn t.stage next.stage a next.did old new (history old.disk) (history new.disk) (faults old.disk) (faults new.disk)) (sym (progress_back answer)) (on ran)),
     λ corrected damaged e. exact corrected damaged (told_so answer (reply.Resynced corrected damaged) e),
   );
-  undoomed = undoomed_rest (task.Resync t) (task.Resync next) old new (λ none. none) (λ was. ap (λ (s : StoreValue _). s.stopped) (still was) ∙ was) files;
+  undoomed = undoomed_rest (task.Resync t) (task.Resync next) old new (λ none. none) (λ was. ap (λ (s : StoreValue _). s.stopped) (still was) ∙ was) (rest_files old new k.rest);
   idle = λ reads none. absurd reads;
   still = λ stopped. (idle_same (still stopped), subst (λ (d : _). (faults d).changes ≡ (faults old.disk).changes) (sym (disk_same (still stopped))) refl);
   same = idle_disk;
   refused = λ why begun e step. idle_same (by_stop why begun (told_so answer (reply.Refused why) e) old.stopped refl);
-  left = λ runs. mail.left (runs ∙ sym (ran_before old.stopped new.stopped (λ was. ap (λ (s : StoreValue _). s.stopped) (still was) ∙ was) runs));
+  left = λ runs. k.mail.left (runs ∙ sym (ran_before old.stopped new.stopped (λ was. ap (λ (s : StoreValue _). s.stopped) (still was) ∙ was) runs));
   fetches = tt;
 }
   where
+    still : old.stopped ≡ true → new ≡ old
+    still was = (k.still was).0
+
     disk_same : new ≡ old → new.disk ≡ old.disk
     disk_same same = ap (λ (s : StoreValue _). s.disk) same
 
@@ -407,8 +413,8 @@ keeps_resyncing history faults t next old new answer on exact halts still fault 
     by_calm unread false ran = by_end new.stopped refl
       where
         by_end : (b : Bool) → new.stopped ≡ b → (faults new.disk).reads ≡ (faults old.disk).reads
-        by_end true stops = (fault.change ran (halts.1 stops)).1
-        by_end false runs = ap (λ (f : Faults). f.reads) (fault.unfailed unread (λ e. absurd (let k : true ≡ false = sym (halts.0 e) ∙ runs in cc k)))
+        by_end true stops = (k.fault.change ran (k.stopped.1 stops)).1
+        by_end false runs = ap (λ (f : Faults). f.reads) (k.fault.unfailed unread (λ e. absurd (let z : true ≡ false = sym (k.stopped.0 e) ∙ runs in cc z)))
 
     by_stop : (why : Refusal) → t.stage ≡ ToList → answer ≡ progress.Done (reply.Refused why) → (b : Bool) → old.stopped ≡ b → new ≡ old
     by_stop why begun e true was = still was

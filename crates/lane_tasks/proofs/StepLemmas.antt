@@ -1,6 +1,6 @@
 -- The clause of a task's step, from that of its kind.
 use Rattle.std.proofs.Common.{◌≡◌, ◌<◌, ◌-◌, ℕ, Bool, true, false, List, Option, Some, None, refl, sym, ◌∙◌, ap, subst, arith}
-use Rattle.std.specs.Prelude.{◌≤◌, ◌==◌, if◌then◌else◌, is_some}
+use Rattle.std.specs.Prelude.{◌≤◌, ◌==◌, is_some}
 use Rattle.disk_model.specs.Disk.{History, Faults}
 use Rattle.mdbox_base.specs.declared.entries.Highest.{Highest}
 use Rattle.mdbox_base.specs.declared.ids.Uid.{Uid}
@@ -34,7 +34,6 @@ use Rattle.mail_ops.specs.Copy.{CopyValue, IsAtCopy}
 use Rattle.mail_ops.specs.Expunging.{ExpungeValue, IsAtExpunge}
 use Rattle.mail_ops.specs.Making.{IsAtMake, KeepsAllButLogs, MakeAnswers, MakeValue, make_left, with_drawn_box}
 use Rattle.mail_ops.specs.Moving.{IsAtMove, MoveValue}
-use Rattle.mail_ops.specs.Flagging.{flag_refusal}
 use Rattle.mail_ops.specs.Requests.{AppendsNothing, IsOpsRequest, Replies}
 use Rattle.mail_ops.specs.Task.{IsAt, TaskValue}
 use Rattle.mail_ops.specs.declared.making.MakeStage.{MakeStage}
@@ -171,17 +170,6 @@ resync_does t u old new before after began now ended rest steps =
 
 pub stays_stopped : {D : Type 0} → (old new : StoreValue D) → (old.stopped ≡ true → new ≡ old) → old.stopped ≡ true → new.stopped ≡ true
 stays_stopped old new still stopped = ap (λ (s : StoreValue _). s.stopped) (still stopped) ∙ stopped
-
-refuses_flags : {D : Type 0} → (name : List ℕ) (uid : ℕ) (store : StoreValue D) → store.stopped ≡ true → flag_refusal name uid store ≡ Some refusal.Stopped
-refuses_flags name uid store stopped = ap (λ (b : Bool). if b then Some refusal.Stopped else flag_refusal name uid (record store { stopped = false })) stopped
-
-pub ops_still : {D : Type 0} → (q : Request) (old new : StoreValue D) → IsOpsRequest q → (AppendsNothing q old → new ≡ old) → old.stopped ≡ true → new ≡ old
-ops_still (request.List name) old new is same stopped = same tt
-ops_still (request.Flag name uid flags) old new is same stopped = same (refusal.Stopped, refuses_flags name uid.0 old stopped)
-ops_still other old new is same stopped = absurd is
-
-pub ops_halted : {D : Type 0} → (q : Request) (old new : StoreValue D) → IsOpsRequest q → (AppendsNothing q old → new ≡ old) → old.stopped ≡ true → new.stopped ≡ true
-ops_halted q old new is same stopped = stays_stopped old new (ops_still q old new is same) stopped
 
 -- a listing changes nothing
 pub lists_same : {D : Type 0} → (q : Request) (old new : StoreValue D) → IsOpsRequest q → (AppendsNothing q old → new ≡ old) → SetsNoFlags q → new ≡ old

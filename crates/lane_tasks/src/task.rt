@@ -3,11 +3,9 @@ ghost use Rattle.std.specs.Prelude.{◌≡◌, ◌≤◌, ◌<◌, ℕ, true, fa
 ghost use Rattle.attach_detach.specs.Prepared.{IsPrepared};
 ghost use Rattle.mdbox_base.specs.declared.progress.Progress.TheVariants as progress;
 ghost use Rattle.mdbox_base.specs.declared.replies.Refusal.TheVariants as refusal;
-ghost use Rattle.mdbox_base.specs.declared.replies.Reply.{Reply};
 ghost use Rattle.mdbox_base.specs.declared.replies.Reply.TheVariants as reply;
 ghost use Rattle.mdbox_base.specs.declared.requests.Request.TheVariants as request;
-ghost use Rattle.task_claims.specs.Claims.{ClaimsNothing, MovesClaims};
-ghost use Rattle.task_claims.specs.Leaving.{LeavesOthers};
+ghost use Rattle.task_claims.specs.Stable.{MovesOwnClaims};
 ghost use Rattle.task_steps.specs.Step.{ended_by};
 ghost use Rattle.mail_fetch.specs.Claims.{HasUseRoom};
 ghost use Rattle.lane_tasks.specs.Clause.{TaskKeeps, StepsTask};
@@ -109,13 +107,10 @@ impl Task {
 
         // Unless it stops the store, it moves only its own claims, and leaves to other tasks what is theirs. One that was replied claims
         // nothing.
-        ensures claims { store.new.stopped ≡ false → MovesClaims (claims_at self.old) (claims_at self.new) store.old store.new }
-        ensures leaves { store.new.stopped ≡ false → LeavesOthers (claims_at self.old) store.old store.new (D.history store.old.disk) (D.history store.new.disk) }
-        ensures ended { (given : Reply) → result ≡ progress.Done given → store.new.stopped ≡ false → ClaimsNothing (claims_at self.new) }
+        ensures claims { store.new.stopped ≡ false → MovesOwnClaims (claims_at self.old) (claims_at self.new) result store.old store.new (D.history store.old.disk) (D.history store.new.disk) }
 
         // It replies so if the store is stopped then, and a store that is stopped stays so.
-        ensures stopped { store.new.stopped ≡ true → result ≡ progress.Done (reply.Refused refusal.Stopped) }
-        ensures halted { store.old.stopped ≡ true → store.new.stopped ≡ true }
+        ensures stopped { (store.new.stopped ≡ true → result ≡ progress.Done (reply.Refused refusal.Stopped)) × (store.old.stopped ≡ true → store.new.stopped ≡ true) }
 
         // What it keeps of the store and its disk, whatever run it is of.
         ensures keeps { TaskKeeps self.old self.new store.old store.new (D.history store.old.disk) (D.history store.new.disk) (D.faults store.old.disk) (D.faults store.new.disk) (ended_by result) }

@@ -25,7 +25,7 @@ use Rattle.mdbox_base.specs.declared.script.Half.{Half}
 use Rattle.model_kept.specs.Kept.{MailIsKept}
 use Rattle.model_lists.specs.Lists.{Lists}
 use Rattle.model_meaning.specs.MapFits.{MapFits}
-use Rattle.model_meaning.specs.MapMeaning.{MapMeaning, is_sealed, map_meaning, map_applied, named_instances, no_numbers}
+use Rattle.model_meaning.specs.MapMeaning.{MapMeaning, map_meaning, map_applied, named_instances, no_numbers}
 use Rattle.list_machine.specs.Run.{EventPart, RunEvent, event_of, Run, before, and_then, entries_of, map_of, drawn_also, own_events, is_one_of, is_unpinning}
 use Rattle.list_machine.specs.Machine.{is_step, first_refusal, part_checks, checks_of}
 use Rattle.journal.specs.Journal.{half_of, halves_of, refusal_in, IsReplyOf}

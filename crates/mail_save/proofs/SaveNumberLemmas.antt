@@ -1,5 +1,5 @@
 -- Which numbers an event of a delivery draws: instances that it places draw one each, and no mailbox gets one.
-use Rattle.std.proofs.Common.{◌≡◌, ◌≢◌, ◌≤◌, ◌+◌, ℕ, Bool, true, false, List, Option, refl, sym, ◌∙◌, ap, subst, arith, inl, inr, length}
+use Rattle.std.proofs.Common.{◌≡◌, ◌≤◌, ◌+◌, ℕ, Bool, true, false, List, refl, sym, ◌∙◌, ap, subst, arith, inl, inr, length}
 use Rattle.std.specs.Prelude.{◌<◌, if◌then◌else◌, map}
 use Rattle.std.proofs.Math.Nat.{le-max_left, le_of_eq}
 use Rattle.mdbox_base.specs.declared.entries.InstRow.{InstRow}
@@ -12,7 +12,7 @@ use Rattle.mdbox_base.specs.declared.replies.Refusal.TheVariants as refusal
 use Rattle.mdbox_base.specs.declared.replies.Reply.TheVariants as reply
 use Rattle.model_meaning.specs.MapMeaning.{MapMeaning, map_applied, numbers_of}
 use Rattle.save_instances.proofs.AttachCountLemmas.{AreSameRows, held_rows, let_go_rows, placed_many, same_candidates, same_many}
-use Rattle.save_instances.specs.Attaching.{AttachingValue, candidate_held, found_let_go}
+use Rattle.save_instances.specs.Attaching.{AttachingValue, candidate_held}
 use Rattle.sis_store.specs.Instances.{InstancesValue, after_placing, holders_in, instance_placed}
 use Rattle.sis_store.specs.declared.instance.KnownInstance.{KnownInstance}
 use Rattle.store_core.specs.Value.{StoreValue}

@@ -71,8 +71,8 @@ use Rattle.mail_save.proofs.SaveFrontLemmas.{SeesAround, KeepsMap, begins_save, 
 use Rattle.mail_save.proofs.SaveLastLemmas.{FindsBox, saved_message, broken_save, refused_message, forgotten_message, lowers_count}
 use Rattle.mail_save.proofs.SaveListLemmas.{box_checked, made_of}
 use Rattle.mail_save.proofs.SaveRefusedLemmas.{ends_first, ends_taking, ends_placing, ends_storing, ends_giving, first_at, taking_at, placing_at, storing_at, lowering_at, fallen_save, forgotten_save, checked_save, full_files, full_uids}
-use Rattle.mail_save.proofs.SaveRoomLemmas.{known_room, no_room, lt_true, true_lt}
-use Rattle.mail_save.proofs.SaveStoreLemmas.{TellsFiles, tells_begun, tells_ended, tells_made, tells_released, tells_same, tells_taken, sees_around, same_ends, gave_on, tells_store, has_run, has_run_in, due_stays, stays_so, drawn_file, drawn_map, less_due, place_long, place_octets, place_file, place_new, place_given, file_below, is_before}
+use Rattle.mail_save.proofs.SaveRoomLemmas.{known_room, no_room}
+use Rattle.mail_save.proofs.SaveStoreLemmas.{TellsFiles, tells_begun, tells_ended, tells_made, tells_released, tells_same, tells_taken, sees_around, same_ends, gave_on, tells_store, has_run, has_run_in, due_stays, stays_so, drawn_file, drawn_map, less_due, place_long, place_octets, place_file, place_new, place_given, file_below}
 use Rattle.mail_save.proofs.SeenInstanceLemmas.{above, gone_on, knows_in, knows_same}
 
 -- ---- answers

@@ -9,13 +9,13 @@ use Rattle.std.proofs.lemmas.List.Elements.{All-cons, All-contains, All-contains
 use Rattle.std.proofs.lemmas.List.Kept.{AllPairs-cons}
 use Rattle.std.proofs.lemmas.List.Sums.{get_or-le-sum_by, sum_by-cons}
 use Rattle.mdbox_base.specs.declared.entries.MapPlace.{MapPlace}
-use Rattle.model_meaning.specs.MapFits.{HasRecord}
+use Rattle.model_meaning.specs.MapFits.{HasRecord, size_at}
 use Rattle.model_meaning.specs.MapMeaning.{MapMeaning, MapRecord, record_at}
 use Rattle.model_meaning.specs.Sound.{AreApart, IsSoundMap, IsSoundRecord}
 use Rattle.model_octets.proofs.PairLemmas.{pairs_head, pairs_nil, pairs_push, pairs_tail}
 use Rattle.list_machine.specs.Run.{is_copied_from}
 use Rattle.purge_task.specs.Copied.{IsNextWanted}
-use Rattle.purge_task.specs.Keeping.{AreCopiedUpTo, AreCopiesInRow, size_at, target_header}
+use Rattle.purge_task.specs.Keeping.{AreCopiedUpTo, AreCopiesInRow, target_header}
 use Rattle.map_rows.specs.declared.rows.MapRow.{MapRow}
 use Rattle.purge_task.proofs.CopyLemmas.{next_contained}
 use Rattle.purge_task.proofs.RunLemmas.{any_push}

@@ -13,7 +13,7 @@ use Rattle.disk_model.proofs.OneFileLemmas.{named-narrows}
 use Rattle.mdbox_base.specs.declared.entries.MapPlace.{MapPlace}
 use Rattle.mdbox_base.specs.declared.ids.FileNo.{FileNo}
 use Rattle.model_appends.specs.MapAppending.{AreCopied, IsCopiedTo}
-use Rattle.model_meaning.specs.MapFits.{HasRecord}
+use Rattle.model_meaning.specs.MapFits.{HasRecord, size_at}
 use Rattle.model_meaning.specs.MapMeaning.{MapMeaning, MapRecord, record_at}
 use Rattle.model_meaning.specs.Sound.{IsSoundMap}
 use Rattle.model_octets.proofs.SearchLemmas.{found_one}
@@ -31,7 +31,7 @@ use Rattle.task_claims.specs.Stable.{Beside}
 use Rattle.task_claims.proofs.LeftLemmas.{emptied_left, removing_left, taken_left}
 use Rattle.purge_task.specs.Claims.{claims_of_sources, claims_of_switched, claims_of_target, purge_claims, sources_left}
 use Rattle.purge_task.specs.Found.{messages_in}
-use Rattle.purge_task.specs.Keeping.{AreCopiedUpTo, AreCopiesInRow, HasCountRoom, HasLowCounts, HasPurged, HasSwitchRoom, HasTargetHeader, IsBeginningFirst, IsCopyingFirst, IsCopyingTo, IsReadyToPurge, IsRemovingFirst, IsSourceCopied, IsTargetToMake, IsToBegin, IsToMake, PurgeValue, size_at, target_header}
+use Rattle.purge_task.specs.Keeping.{AreCopiedUpTo, AreCopiesInRow, HasCountRoom, HasLowCounts, HasPurged, HasSwitchRoom, HasTargetHeader, IsBeginningFirst, IsCopyingFirst, IsCopyingTo, IsReadyToPurge, IsRemovingFirst, IsSourceCopied, IsTargetToMake, IsToBegin, IsToMake, PurgeValue, target_header}
 use Rattle.purge_task.specs.Left.{events_before_instances, purge_left}
 use Rattle.purge_task.specs.declared.task.PurgeStage.{PurgeStage}
 use Rattle.purge_task.specs.declared.task.PurgeStage.TheVariants as stage

@@ -1,5 +1,5 @@
 -- Records keep the octets of their regions where a file is switched.
-use Rattle.std.proofs.Common.{◌≡◌, ℕ, List, [], Option, Some, None, refl, sym, ◌∙◌, subst, All}
+use Rattle.std.proofs.Common.{◌≡◌, ℕ, false, List, [], Option, Some, None, refl, sym, ◌∙◌, subst, All}
 use Rattle.disk_model.specs.Disk.{Between, DiskState, History, IfTold, reading}
 use Rattle.disk_model.specs.declared.name.FileName.TheVariants as file
 use Rattle.disk_model.proofs.BetweenLemmas.{between-if}

@@ -1,7 +1,7 @@
 -- What a purge keeps between its events, of the store and of its disk.
 use Rattle.std.specs.Prelude.{◌≡◌, ◌≢◌, ◌<◌, ◌≤◌, ◌+◌, ◌*◌, ◌==◌, ◌&&◌, ◌++◌, nat_le, ℕ, true, List, [], ◌∷◌, All, AllPairs, length, sum_by, Option, Some, None, if◌then◌else◌}
 use Rattle.std.specs.List.{list_any}
-use Rattle.std.specs.Option.{IfSome, option_map_or}
+use Rattle.std.specs.Option.{IfSome}
 use Rattle.disk_model.specs.Disk.{History, IfTold, MayLeave}
 use Rattle.disk_model.specs.declared.name.FileName.TheVariants.{Mail}
 use Rattle.list_machine.specs.Run.{is_copied_from, target_length}
@@ -9,8 +9,8 @@ use Rattle.mdbox_base.specs.declared.ids.FileNo.{FileNo}
 use Rattle.mdbox_base.specs.declared.entries.MapPlace.{MapPlace}
 use Rattle.mdbox_base.specs.declared.progress.Did.{Did}
 use Rattle.model_appends.specs.MapAppending.{AreCopied}
-use Rattle.model_meaning.specs.MapFits.{HasRecord}
-use Rattle.model_meaning.specs.MapMeaning.{MapMeaning, record_at}
+use Rattle.model_meaning.specs.MapFits.{HasRecord, size_at}
+use Rattle.model_meaning.specs.MapMeaning.{MapMeaning}
 use Rattle.model_store.specs.Settled.{files_of}
 use Rattle.storage_files.specs.Files.{end_in, is_doomed_in, is_emptied_in, is_taken_in, pins_in, place_begun_in}
 use Rattle.store_core.specs.Removing.{AreElsewhere}
@@ -84,10 +84,6 @@ target_header = 50 ∷ 32 ∷ 77 ∷ 49 ∷ 101 ∷ 32 ∷ 67 ∷ 48 ∷ 10 ∷ 
 -- the octets begin with the header
 abbrev pub HasTargetHeader : Option (List ℕ) → Type 0
 HasTargetHeader octets = (rest : List ℕ) × (octets ≡ Some (target_header ++ rest))
-
--- how long the region of a record is
-abbrev pub size_at : MapMeaning → ℕ → ℕ
-size_at m uid = option_map_or (λ row. row.size) (record_at m uid) 0
 
 -- Copies stand directly one behind another, from this offset to the end.
 abbrev pub AreCopiesInRow : MapMeaning → ℕ → List MapPlace → ℕ → Type 0

@@ -29,8 +29,8 @@ returns g c =
     let all = all_passed c.loop-id.last c.loop-id.count c.args.store.now.instances.known c.loop-id.invariant.passed (sym c.next_instance.ensures ∙ c.in_default.is) in
     sym (le_true (length c.args.store.now.instances.known) 9223372036854775808 (omega (arith, few, all)))
 
-pub returns-then-count-eq : goal.returns-then-count-eq
-returns-then-count-eq g c =
+pub returns-then-count : goal.returns-then-count-eq
+returns-then-count g c =
     let next = next_at c.loop-id.last c.loop-id.count c.args.store.now.instances.known c.in-Some.id c.loop-id.invariant.passed (sym c.next_instance.ensures ∙ c.in-Some.is) in
     let more = next.lt in
     let most = c.if-count.true in

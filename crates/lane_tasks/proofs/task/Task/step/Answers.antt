@@ -5,28 +5,29 @@ use Rattle.mdbox_base.specs.declared.progress.Progress.TheVariants as progress
 use Rattle.mdbox_base.specs.declared.replies.Refusal.TheVariants as refusal
 use Rattle.mdbox_base.specs.declared.replies.Reply.TheVariants as reply
 use Rattle.store_core.specs.Value.{StoreValue}
-use Rattle.task_claims.specs.Claims.{MovesClaims}
-use Rattle.task_claims.specs.Leaving.{LeavesOthers}
+use Rattle.task_claims.specs.Claims.{no_claims}
+use Rattle.task_claims.specs.Stable.{MovesOwnClaims}
 use Rattle.task_steps.specs.Step.{ended_by}
 use Rattle.purge_task.specs.Dropped.{TellsCounts}
 use Rattle.lane_tasks.specs.Clause.{TaskKeeps, StepsTask}
-use Rattle.lane_tasks.specs.Tasks.{IsReadyTask, IsTaskOf, claims_at, work_left}
+use Rattle.lane_tasks.specs.Tasks.{IsReadyTask, claims_at, work_left}
 use Rattle.lane_tasks.specs.declared.task.Task.{Task}
 use Rattle.lane_tasks.specs.declared.task.Task.TheVariants as task
 use Rattle.mail_ops.specs.Copy.{CopyAnswers}
 use Rattle.mail_ops.specs.Expunging.{ExpungeAnswers}
 use Rattle.mail_ops.specs.Making.{MakeAnswers}
 use Rattle.mail_ops.specs.Moving.{MoveAnswers}
+use Rattle.mail_ops.proofs.LeavingLemmas.{same_leaves}
 use Rattle.mail_fetch.proofs.StageLemmas.{halted_reply, used_halted}
 use Rattle.mail_save.proofs.SaveReadyLemmas.{left_with_room}
 use Rattle.lane_tasks.proofs.KeepLemmas.{copy_refused, expunge_refused, keeps_by, keeps_fetching, keeps_purging, keeps_resyncing, keeps_saving, keeps_still, make_refused, move_refused, ops_refused, progress_back}
-use Rattle.lane_tasks.proofs.StepLemmas.{copy_does, counts_does, deliver_does, deliver_ran, expunge_does, fetch_does, logs_files, make_does, make_fewer, lists_same, make_numbered, move_does, ops_asked, ops_does, ops_halted, ops_still, purge_does, ran_before, ready_as, resync_does, rest_files, stays_stopped, use_room}
+use Rattle.lane_tasks.proofs.StepLemmas.{copy_does, counts_does, deliver_does, deliver_ran, expunge_does, fetch_does, logs_files, make_does, make_fewer, lists_same, make_numbered, move_does, ops_asked, ops_does, purge_does, ran_before, ready_as, resync_does, rest_files, stays_stopped, use_room}
 use Rattle.lane_tasks.proofs.task.Task.step.Goals as goal
 
 pub returns-in-Ops-clause-does : goal.returns-in-Ops-clause-does
 returns-in-Ops-clause-does g c =
     subst (λ (t : Task). StepsTask t (task.Ops c.step.new.self) c.args.store.now c.step.new.store (g.D.Disk.history c.args.store.now.disk) (g.D.Disk.history c.step.new.store.disk) (g.D.Disk.faults c.args.store.now.disk) (g.D.Disk.faults c.step.new.store.disk) (ended_by c.step.result)) (sym c.in-Ops.is)
-    (let r = c.step.ensures.replies in ops_does c.in-Ops.task c.step.new.self c.args.store.now c.step.new.store (g.D.Disk.history c.args.store.now.disk) (g.D.Disk.history c.step.new.store.disk) (g.D.Disk.faults c.args.store.now.disk) (g.D.Disk.faults c.step.new.store.disk) (ended_by c.step.result) (ops_asked c.in-Ops.task.request c.args.store.now c.step.new.store r.0 r.2) c.step.ensures.request c.step.ensures.rest c.step.ensures.does)
+    (let r = c.step.ensures.replies in ops_does c.in-Ops.task c.step.new.self c.args.store.now c.step.new.store (g.D.Disk.history c.args.store.now.disk) (g.D.Disk.history c.step.new.store.disk) (g.D.Disk.faults c.args.store.now.disk) (g.D.Disk.faults c.step.new.store.disk) (ended_by c.step.result) (ops_asked c.in-Ops.task.request c.args.store.now c.step.new.store r.0 r.2) c.step.ensures.request c.step.ensures.keeps.rest c.step.ensures.does)
 
 pub returns-in-Counts-clause-does : goal.returns-in-Counts-clause-does
 returns-in-Counts-clause-does g c =
@@ -36,34 +37,101 @@ returns-in-Counts-clause-does g c =
 pub returns-in-Make-clause-does : goal.returns-in-Make-clause-does
 returns-in-Make-clause-does g c =
     subst (λ (t : Task). StepsTask t (task.Make c.step-in-Make.new.self) c.args.store.now c.step-in-Make.new.store (g.D.Disk.history c.args.store.now.disk) (g.D.Disk.history c.step-in-Make.new.store.disk) (g.D.Disk.faults c.args.store.now.disk) (g.D.Disk.faults c.step-in-Make.new.store.disk) (ended_by c.step-in-Make.result)) (sym c.in-Make.is)
-    (make_does c.in-Make.task c.step-in-Make.new.self c.args.store.now c.step-in-Make.new.store (g.D.Disk.history c.args.store.now.disk) (g.D.Disk.history c.step-in-Make.new.store.disk) (g.D.Disk.faults c.args.store.now.disk) (g.D.Disk.faults c.step-in-Make.new.store.disk) (ended_by c.step-in-Make.result) c.step-in-Make.ensures.request c.step-in-Make.ensures.rest c.step-in-Make.ensures.does)
+    (make_does c.in-Make.task c.step-in-Make.new.self c.args.store.now c.step-in-Make.new.store (g.D.Disk.history c.args.store.now.disk) (g.D.Disk.history c.step-in-Make.new.store.disk) (g.D.Disk.faults c.args.store.now.disk) (g.D.Disk.faults c.step-in-Make.new.store.disk) (ended_by c.step-in-Make.result) c.step-in-Make.ensures.request c.step-in-Make.ensures.keeps.rest c.step-in-Make.ensures.does)
 
 pub returns-in-Copy-clause-does : goal.returns-in-Copy-clause-does
 returns-in-Copy-clause-does g c =
     subst (λ (t : Task). StepsTask t (task.Copy c.step-in-Copy.new.self) c.args.store.now c.step-in-Copy.new.store (g.D.Disk.history c.args.store.now.disk) (g.D.Disk.history c.step-in-Copy.new.store.disk) (g.D.Disk.faults c.args.store.now.disk) (g.D.Disk.faults c.step-in-Copy.new.store.disk) (ended_by c.step-in-Copy.result)) (sym c.in-Copy.is)
-    (copy_does c.in-Copy.task c.step-in-Copy.new.self c.args.store.now c.step-in-Copy.new.store (g.D.Disk.history c.args.store.now.disk) (g.D.Disk.history c.step-in-Copy.new.store.disk) (g.D.Disk.faults c.args.store.now.disk) (g.D.Disk.faults c.step-in-Copy.new.store.disk) (ended_by c.step-in-Copy.result) c.step-in-Copy.ensures.request c.step-in-Copy.ensures.rest c.step-in-Copy.ensures.does)
+    (copy_does c.in-Copy.task c.step-in-Copy.new.self c.args.store.now c.step-in-Copy.new.store (g.D.Disk.history c.args.store.now.disk) (g.D.Disk.history c.step-in-Copy.new.store.disk) (g.D.Disk.faults c.args.store.now.disk) (g.D.Disk.faults c.step-in-Copy.new.store.disk) (ended_by c.step-in-Copy.result) c.step-in-Copy.ensures.request c.step-in-Copy.ensures.keeps.rest c.step-in-Copy.ensures.does)
 
 pub returns-in-Move-clause-does : goal.returns-in-Move-clause-does
 returns-in-Move-clause-does g c =
     subst (λ (t : Task). StepsTask t (task.Move c.step-in-Move.new.self) c.args.store.now c.step-in-Move.new.store (g.D.Disk.history c.args.store.now.disk) (g.D.Disk.history c.step-in-Move.new.store.disk) (g.D.Disk.faults c.args.store.now.disk) (g.D.Disk.faults c.step-in-Move.new.store.disk) (ended_by c.step-in-Move.result)) (sym c.in-Move.is)
-    (move_does c.in-Move.task c.step-in-Move.new.self c.args.store.now c.step-in-Move.new.store (g.D.Disk.history c.args.store.now.disk) (g.D.Disk.history c.step-in-Move.new.store.disk) (g.D.Disk.faults c.args.store.now.disk) (g.D.Disk.faults c.step-in-Move.new.store.disk) (ended_by c.step-in-Move.result) c.step-in-Move.ensures.request c.step-in-Move.ensures.rest c.step-in-Move.ensures.does)
+    (move_does c.in-Move.task c.step-in-Move.new.self c.args.store.now c.step-in-Move.new.store (g.D.Disk.history c.args.store.now.disk) (g.D.Disk.history c.step-in-Move.new.store.disk) (g.D.Disk.faults c.args.store.now.disk) (g.D.Disk.faults c.step-in-Move.new.store.disk) (ended_by c.step-in-Move.result) c.step-in-Move.ensures.request c.step-in-Move.ensures.keeps.rest c.step-in-Move.ensures.does)
 
 pub returns-in-Expunge-clause-does : goal.returns-in-Expunge-clause-does
 returns-in-Expunge-clause-does g c =
     subst (λ (t : Task). StepsTask t (task.Expunge c.step-in-Expunge.new.self) c.args.store.now c.step-in-Expunge.new.store (g.D.Disk.history c.args.store.now.disk) (g.D.Disk.history c.step-in-Expunge.new.store.disk) (g.D.Disk.faults c.args.store.now.disk) (g.D.Disk.faults c.step-in-Expunge.new.store.disk) (ended_by c.step-in-Expunge.result)) (sym c.in-Expunge.is)
-    (expunge_does c.in-Expunge.task c.step-in-Expunge.new.self c.args.store.now c.step-in-Expunge.new.store (g.D.Disk.history c.args.store.now.disk) (g.D.Disk.history c.step-in-Expunge.new.store.disk) (g.D.Disk.faults c.args.store.now.disk) (g.D.Disk.faults c.step-in-Expunge.new.store.disk) (ended_by c.step-in-Expunge.result) c.step-in-Expunge.ensures.request c.step-in-Expunge.ensures.rest c.step-in-Expunge.ensures.does)
+    (expunge_does c.in-Expunge.task c.step-in-Expunge.new.self c.args.store.now c.step-in-Expunge.new.store (g.D.Disk.history c.args.store.now.disk) (g.D.Disk.history c.step-in-Expunge.new.store.disk) (g.D.Disk.faults c.args.store.now.disk) (g.D.Disk.faults c.step-in-Expunge.new.store.disk) (ended_by c.step-in-Expunge.result) c.step-in-Expunge.ensures.request c.step-in-Expunge.ensures.keeps.rest c.step-in-Expunge.ensures.does)
 
-pub returns-in-Make-clause-leaves : goal.returns-in-Make-clause-leaves
-returns-in-Make-clause-leaves g c = λ runs.
-    subst (λ (t : Task). LeavesOthers (claims_at t) c.args.store.now c.step-in-Make.new.store (g.D.Disk.history c.args.store.now.disk) (g.D.Disk.history c.step-in-Make.new.store.disk)) (sym c.in-Make.is) (c.step-in-Make.ensures.leaves runs)
+-- ---- what it does with claims
 
-pub returns-in-Move-clause-leaves : goal.returns-in-Move-clause-leaves
-returns-in-Move-clause-leaves g c = λ runs.
-    subst (λ (t : Task). LeavesOthers (claims_at t) c.args.store.now c.step-in-Move.new.store (g.D.Disk.history c.args.store.now.disk) (g.D.Disk.history c.step-in-Move.new.store.disk)) (sym c.in-Move.is) (c.step-in-Move.ensures.leaves runs)
+pub returns-in-Ops-clause-claims : goal.returns-in-Ops-clause-claims
+returns-in-Ops-clause-claims g c = λ runs.
+    subst (λ (t : Task). MovesOwnClaims (claims_at t) (claims_at (task.Ops c.step.new.self)) c.step.result c.args.store.now c.step.new.store (g.D.Disk.history c.args.store.now.disk) (g.D.Disk.history c.step.new.store.disk)) (sym c.in-Ops.is) (c.step.ensures.claims runs)
 
-pub returns-in-Expunge-clause-leaves : goal.returns-in-Expunge-clause-leaves
-returns-in-Expunge-clause-leaves g c = λ runs.
-    subst (λ (t : Task). LeavesOthers (claims_at t) c.args.store.now c.step-in-Expunge.new.store (g.D.Disk.history c.args.store.now.disk) (g.D.Disk.history c.step-in-Expunge.new.store.disk)) (sym c.in-Expunge.is) (c.step-in-Expunge.ensures.leaves runs)
+pub returns-in-Counts-clause-claims : goal.returns-in-Counts-clause-claims
+returns-in-Counts-clause-claims g c = λ runs.
+    let store = c.args.store.now in
+    subst (λ (t : Task). MovesOwnClaims (claims_at t) (claims_at (task.Counts c.step-in-Counts.new.self)) c.step-in-Counts.result store store (g.D.Disk.history store.disk) (g.D.Disk.history store.disk)) (sym c.in-Counts.is)
+    (record { moves = λ thing. refl; leaves = same_leaves g.D.Disk.history no_claims store store refl; ended = λ given is thing. refl })
+
+pub returns-in-Make-clause-claims : goal.returns-in-Make-clause-claims
+returns-in-Make-clause-claims g c = λ runs.
+    subst (λ (t : Task). MovesOwnClaims (claims_at t) (claims_at (task.Make c.step-in-Make.new.self)) c.step-in-Make.result c.args.store.now c.step-in-Make.new.store (g.D.Disk.history c.args.store.now.disk) (g.D.Disk.history c.step-in-Make.new.store.disk)) (sym c.in-Make.is) (c.step-in-Make.ensures.claims runs)
+
+pub returns-in-Copy-clause-claims : goal.returns-in-Copy-clause-claims
+returns-in-Copy-clause-claims g c = λ runs.
+    subst (λ (t : Task). MovesOwnClaims (claims_at t) (claims_at (task.Copy c.step-in-Copy.new.self)) c.step-in-Copy.result c.args.store.now c.step-in-Copy.new.store (g.D.Disk.history c.args.store.now.disk) (g.D.Disk.history c.step-in-Copy.new.store.disk)) (sym c.in-Copy.is) (c.step-in-Copy.ensures.claims runs)
+
+pub returns-in-Move-clause-claims : goal.returns-in-Move-clause-claims
+returns-in-Move-clause-claims g c = λ runs.
+    subst (λ (t : Task). MovesOwnClaims (claims_at t) (claims_at (task.Move c.step-in-Move.new.self)) c.step-in-Move.result c.args.store.now c.step-in-Move.new.store (g.D.Disk.history c.args.store.now.disk) (g.D.Disk.history c.step-in-Move.new.store.disk)) (sym c.in-Move.is) (c.step-in-Move.ensures.claims runs)
+
+pub returns-in-Expunge-clause-claims : goal.returns-in-Expunge-clause-claims
+returns-in-Expunge-clause-claims g c = λ runs.
+    subst (λ (t : Task). MovesOwnClaims (claims_at t) (claims_at (task.Expunge c.step-in-Expunge.new.self)) c.step-in-Expunge.result c.args.store.now c.step-in-Expunge.new.store (g.D.Disk.history c.args.store.now.disk) (g.D.Disk.history c.step-in-Expunge.new.store.disk)) (sym c.in-Expunge.is) (c.step-in-Expunge.ensures.claims runs)
+
+pub returns-in-Fetch-clause-claims : goal.returns-in-Fetch-clause-claims
+returns-in-Fetch-clause-claims g c = λ runs.
+    subst (λ (t : Task). MovesOwnClaims (claims_at t) (claims_at (task.Fetch c.step-in-Fetch.new.self)) c.step-in-Fetch.result c.args.store.now c.step-in-Fetch.new.store (g.D.Disk.history c.args.store.now.disk) (g.D.Disk.history c.step-in-Fetch.new.store.disk)) (sym c.in-Fetch.is) (c.step-in-Fetch.ensures.claims runs)
+
+pub returns-in-Deliver-clause-claims : goal.returns-in-Deliver-clause-claims
+returns-in-Deliver-clause-claims g c = λ runs.
+    subst (λ (t : Task). MovesOwnClaims (claims_at t) (claims_at (task.Deliver c.step-in-Deliver.new.self)) c.step-in-Deliver.result c.args.store.now c.step-in-Deliver.new.store (g.D.Disk.history c.args.store.now.disk) (g.D.Disk.history c.step-in-Deliver.new.store.disk)) (sym c.in-Deliver.is) (c.step-in-Deliver.ensures.claims runs)
+
+pub returns-in-Resync-clause-claims : goal.returns-in-Resync-clause-claims
+returns-in-Resync-clause-claims g c = λ runs.
+    subst (λ (t : Task). MovesOwnClaims (claims_at t) (claims_at (task.Resync c.step-in-Resync.new.self)) c.step-in-Resync.result c.args.store.now c.step-in-Resync.new.store (g.D.Disk.history c.args.store.now.disk) (g.D.Disk.history c.step-in-Resync.new.store.disk)) (sym c.in-Resync.is) (c.step-in-Resync.ensures.claims runs)
+
+pub returns-in-Purge-clause-claims : goal.returns-in-Purge-clause-claims
+returns-in-Purge-clause-claims g c = λ runs.
+    subst (λ (t : Task). MovesOwnClaims (claims_at t) (claims_at (task.Purge c.step-in-Purge.new.self)) c.step-in-Purge.result c.args.store.now c.step-in-Purge.new.store (g.D.Disk.history c.args.store.now.disk) (g.D.Disk.history c.step-in-Purge.new.store.disk)) (sym c.in-Purge.is) (c.step-in-Purge.ensures.step.claims runs)
+
+-- ---- a store that is stopped
+
+pub returns-in-Ops-clause-stopped : goal.returns-in-Ops-clause-stopped
+returns-in-Ops-clause-stopped g c = (c.step.ensures.keeps.stopped.1, stays_stopped c.args.store.now c.step.new.store (λ stopped. (c.step.ensures.keeps.still stopped).0))
+
+pub returns-in-Counts-clause-stopped : goal.returns-in-Counts-clause-stopped
+returns-in-Counts-clause-stopped g c = (c.step-in-Counts.ensures.stopped.1, λ stopped. stopped)
+
+pub returns-in-Make-clause-stopped : goal.returns-in-Make-clause-stopped
+returns-in-Make-clause-stopped g c = (c.step-in-Make.ensures.keeps.stopped.1, stays_stopped c.args.store.now c.step-in-Make.new.store (λ stopped. (c.step-in-Make.ensures.keeps.still stopped).0))
+
+pub returns-in-Copy-clause-stopped : goal.returns-in-Copy-clause-stopped
+returns-in-Copy-clause-stopped g c = (c.step-in-Copy.ensures.keeps.stopped.1, stays_stopped c.args.store.now c.step-in-Copy.new.store (λ stopped. (c.step-in-Copy.ensures.keeps.still stopped).0))
+
+pub returns-in-Move-clause-stopped : goal.returns-in-Move-clause-stopped
+returns-in-Move-clause-stopped g c = (c.step-in-Move.ensures.keeps.stopped.1, stays_stopped c.args.store.now c.step-in-Move.new.store (λ stopped. (c.step-in-Move.ensures.keeps.still stopped).0))
+
+pub returns-in-Expunge-clause-stopped : goal.returns-in-Expunge-clause-stopped
+returns-in-Expunge-clause-stopped g c = (c.step-in-Expunge.ensures.keeps.stopped.1, stays_stopped c.args.store.now c.step-in-Expunge.new.store (λ stopped. (c.step-in-Expunge.ensures.keeps.still stopped).0))
+
+pub returns-in-Fetch-clause-stopped : goal.returns-in-Fetch-clause-stopped
+returns-in-Fetch-clause-stopped g c = (
+  halted_reply c.in-Fetch.task.name c.in-Fetch.task.uid.0 c.in-Fetch.task.stage c.step-in-Fetch.new.self.stage c.step-in-Fetch.new.self.did c.step-in-Fetch.result c.args.store.now c.step-in-Fetch.new.store _ _ _ _ c.step-in-Fetch.ensures.alone,
+  used_halted c.in-Fetch.task.stage c.step-in-Fetch.new.self.stage c.args.store.now c.step-in-Fetch.new.store c.step-in-Fetch.ensures.alone.same,
+)
+
+pub returns-in-Deliver-clause-stopped : goal.returns-in-Deliver-clause-stopped
+returns-in-Deliver-clause-stopped g c = (c.step-in-Deliver.ensures.ended.stopped.1, stays_stopped c.args.store.now c.step-in-Deliver.new.store c.step-in-Deliver.ensures.ended.still)
+
+pub returns-in-Resync-clause-stopped : goal.returns-in-Resync-clause-stopped
+returns-in-Resync-clause-stopped g c = (c.step-in-Resync.ensures.keeps.stopped.1, stays_stopped c.args.store.now c.step-in-Resync.new.store (λ stopped. (c.step-in-Resync.ensures.keeps.still stopped).0))
+
+pub returns-in-Purge-clause-stopped : goal.returns-in-Purge-clause-stopped
+returns-in-Purge-clause-stopped g c = (c.step-in-Purge.ensures.step.stopped.1, stays_stopped c.args.store.now c.step-in-Purge.new.store (λ stopped. (c.step-in-Purge.ensures.still stopped).0))
 
 -- a make that goes on ran in a store that runs
 make_ran : {D : Type 0} → (old new : StoreValue D) (answer : Progress) → ((answer ≡ progress.Done (reply.Refused refusal.Stopped)) ↔ (new.stopped ≡ true)) → (old.stopped ≡ true → new ≡ old) → answer ≡ progress.More → old.stopped ≡ false
@@ -76,13 +144,13 @@ make_ran old new answer halts still more = by_test new.stopped refl
 pub returns-in-Make-clause-ready : goal.returns-in-Make-clause-ready
 returns-in-Make-clause-ready g c = λ more runs.
     let step = c.step-in-Make.ensures in
-    let ran = make_ran c.args.store.now c.step-in-Make.new.store c.step-in-Make.result step.stopped (λ stopped. (step.still stopped).0) more in
+    let ran = make_ran c.args.store.now c.step-in-Make.new.store c.step-in-Make.result step.keeps.stopped (λ stopped. (step.keeps.still stopped).0) more in
     (step.ready runs, make_numbered c.in-Make.task.name c.in-Make.task.stage c.step-in-Make.new.self.stage c.args.store.now c.step-in-Make.new.store _ _ c.step-in-Make.result (step.replies ran) more)
 
 pub returns-in-Make-clause-left : goal.returns-in-Make-clause-left
 returns-in-Make-clause-left g c = λ more.
     let step = c.step-in-Make.ensures in
-    let ran = make_ran c.args.store.now c.step-in-Make.new.store c.step-in-Make.result step.stopped (λ stopped. (step.still stopped).0) more in
+    let ran = make_ran c.args.store.now c.step-in-Make.new.store c.step-in-Make.result step.keeps.stopped (λ stopped. (step.keeps.still stopped).0) more in
     subst (λ (t : Task). work_left (task.Make c.step-in-Make.new.self) c.step-in-Make.new.store < work_left t c.args.store.now) (sym c.in-Make.is)
     (make_fewer c.in-Make.task.name c.in-Make.task c.step-in-Make.new.self c.args.store.now c.step-in-Make.new.store _ _ c.step-in-Make.result (step.replies ran) more (step.left more))
 
@@ -96,39 +164,8 @@ returns-in-Fetch-clause-does g c =
     subst (λ (t : Task). StepsTask t (task.Fetch c.step-in-Fetch.new.self) c.args.store.now c.step-in-Fetch.new.store (g.D.Disk.history c.args.store.now.disk) (g.D.Disk.history c.step-in-Fetch.new.store.disk) (g.D.Disk.faults c.args.store.now.disk) (g.D.Disk.faults c.step-in-Fetch.new.store.disk) (ended_by c.step-in-Fetch.result)) (sym c.in-Fetch.is)
     (fetch_does c.in-Fetch.task c.step-in-Fetch.new.self c.args.store.now c.step-in-Fetch.new.store (g.D.Disk.history c.args.store.now.disk) (g.D.Disk.history c.step-in-Fetch.new.store.disk) (g.D.Disk.faults c.args.store.now.disk) (g.D.Disk.faults c.step-in-Fetch.new.store.disk) (ended_by c.step-in-Fetch.result) c.step-in-Fetch.ensures.request c.step-in-Fetch.ensures.does)
 
-pub returns-in-Fetch-clause-claims : goal.returns-in-Fetch-clause-claims
-returns-in-Fetch-clause-claims g c = λ runs.
-    subst (λ (t : Task). MovesClaims (claims_at t) (claims_at (task.Fetch c.step-in-Fetch.new.self)) c.args.store.now c.step-in-Fetch.new.store) (sym c.in-Fetch.is) (c.step-in-Fetch.ensures.claims runs)
-
-pub returns-in-Fetch-clause-leaves : goal.returns-in-Fetch-clause-leaves
-returns-in-Fetch-clause-leaves g c = λ runs.
-    subst (λ (t : Task). LeavesOthers (claims_at t) c.args.store.now c.step-in-Fetch.new.store (g.D.Disk.history c.args.store.now.disk) (g.D.Disk.history c.step-in-Fetch.new.store.disk)) (sym c.in-Fetch.is) (c.step-in-Fetch.ensures.leaves runs)
-
 pub returns-in-Fetch-clause-ready : goal.returns-in-Fetch-clause-ready
 returns-in-Fetch-clause-ready g c = λ more runs. c.step-in-Fetch.ensures.alone.ready runs
-
--- ---- a store that is stopped
-
-pub returns-in-Ops-clause-halted : goal.returns-in-Ops-clause-halted
-returns-in-Ops-clause-halted g c = let r = c.step.ensures.replies in ops_halted c.in-Ops.task.request c.args.store.now c.step.new.store (ops_asked c.in-Ops.task.request c.args.store.now c.step.new.store r.0 r.2) c.step.ensures.same
-
-pub returns-in-Make-clause-halted : goal.returns-in-Make-clause-halted
-returns-in-Make-clause-halted g c = stays_stopped c.args.store.now c.step-in-Make.new.store (λ stopped. (c.step-in-Make.ensures.still stopped).0)
-
-pub returns-in-Copy-clause-halted : goal.returns-in-Copy-clause-halted
-returns-in-Copy-clause-halted g c = stays_stopped c.args.store.now c.step-in-Copy.new.store (λ stopped. (c.step-in-Copy.ensures.still stopped).0)
-
-pub returns-in-Move-clause-halted : goal.returns-in-Move-clause-halted
-returns-in-Move-clause-halted g c = stays_stopped c.args.store.now c.step-in-Move.new.store (λ stopped. (c.step-in-Move.ensures.still stopped).0)
-
-pub returns-in-Expunge-clause-halted : goal.returns-in-Expunge-clause-halted
-returns-in-Expunge-clause-halted g c = stays_stopped c.args.store.now c.step-in-Expunge.new.store (λ stopped. (c.step-in-Expunge.ensures.still stopped).0)
-
-pub returns-in-Fetch-clause-halted : goal.returns-in-Fetch-clause-halted
-returns-in-Fetch-clause-halted g c = used_halted c.in-Fetch.task.stage c.step-in-Fetch.new.self.stage c.args.store.now c.step-in-Fetch.new.store c.step-in-Fetch.ensures.alone.same
-
-pub returns-in-Fetch-clause-stopped : goal.returns-in-Fetch-clause-stopped
-returns-in-Fetch-clause-stopped g c = halted_reply c.in-Fetch.task.name c.in-Fetch.task.uid.0 c.in-Fetch.task.stage c.step-in-Fetch.new.self.stage c.step-in-Fetch.new.self.did c.step-in-Fetch.result c.args.store.now c.step-in-Fetch.new.store _ _ _ _ c.step-in-Fetch.ensures.alone
 
 -- ---- a delivery
 
@@ -153,23 +190,6 @@ returns-in-Deliver-clause-does g c =
     (let r = c.step-in-Deliver.ensures.request in deliver_does c.in-Deliver.task c.step-in-Deliver.new.self c.args.store.now c.step-in-Deliver.new.store (g.D.Disk.history c.args.store.now.disk) (g.D.Disk.history c.step-in-Deliver.new.store.disk) (g.D.Disk.faults c.args.store.now.disk) (g.D.Disk.faults c.step-in-Deliver.new.store.disk) c.step-in-Deliver.result r (λ runs. (c.step-in-Deliver.ensures.claims runs).moves)
     c.step-in-Deliver.ensures.ready (λ ran. (c.step-in-Deliver.ensures.saves ran).effects) (λ octets pins behind. c.step-in-Deliver.ensures.does octets pins behind))
 
-pub returns-in-Deliver-clause-claims : goal.returns-in-Deliver-clause-claims
-returns-in-Deliver-clause-claims g c = λ runs.
-    subst (λ (t : Task). MovesClaims (claims_at t) (claims_at (task.Deliver c.step-in-Deliver.new.self)) c.args.store.now c.step-in-Deliver.new.store) (sym c.in-Deliver.is) (c.step-in-Deliver.ensures.claims runs).moves
-
-pub returns-in-Deliver-clause-leaves : goal.returns-in-Deliver-clause-leaves
-returns-in-Deliver-clause-leaves g c = λ runs.
-    subst (λ (t : Task). LeavesOthers (claims_at t) c.args.store.now c.step-in-Deliver.new.store (g.D.Disk.history c.args.store.now.disk) (g.D.Disk.history c.step-in-Deliver.new.store.disk)) (sym c.in-Deliver.is) (c.step-in-Deliver.ensures.claims runs).leaves
-
-pub returns-in-Deliver-clause-ended : goal.returns-in-Deliver-clause-ended
-returns-in-Deliver-clause-ended g c = λ given is runs. (c.step-in-Deliver.ensures.claims runs).ended given is
-
-pub returns-in-Deliver-clause-stopped : goal.returns-in-Deliver-clause-stopped
-returns-in-Deliver-clause-stopped g c = c.step-in-Deliver.ensures.ended.stopped.1
-
-pub returns-in-Deliver-clause-halted : goal.returns-in-Deliver-clause-halted
-returns-in-Deliver-clause-halted g c = stays_stopped c.args.store.now c.step-in-Deliver.new.store c.step-in-Deliver.ensures.ended.still
-
 pub returns-in-Deliver-clause-left : goal.returns-in-Deliver-clause-left
 returns-in-Deliver-clause-left g c = λ more.
     subst (λ (t : Task). work_left (task.Deliver c.step-in-Deliver.new.self) c.step-in-Deliver.new.store < work_left t c.args.store.now) (sym c.in-Deliver.is) (c.step-in-Deliver.ensures.left more)
@@ -184,7 +204,7 @@ returns-in-Ops-clause-keeps g c =
     let t = c.in-Ops.task in
     let asks = ops_asked t.request old new s.replies.0 s.replies.2 in
     subst (λ (k : Task). TaskKeeps k (task.Ops c.step.new.self) old new (g.D.Disk.history old.disk) (g.D.Disk.history new.disk) (g.D.Disk.faults old.disk) (g.D.Disk.faults new.disk) (ended_by c.step.result)) (sym c.in-Ops.is)
-    (keeps_by g.D.Disk.history g.D.Disk.faults (task.Ops t) (task.Ops c.step.new.self) old new c.step.result s.request (λ none. none) (rest_files old new s.rest) s.mail s.stopped (ops_still t.request old new asks s.same) s.fault s.unfailed (lists_same t.request old new asks s.same)
+    (keeps_by g.D.Disk.history g.D.Disk.faults (task.Ops t) (task.Ops c.step.new.self) _ _ _ old new c.step.result s.request (λ none. none) (rest_files old new s.keeps.rest) s.keeps (lists_same t.request old new asks s.same)
     (λ why begun ran e step. ops_refused t.request old new s.replies.0 c.step.result why s.replies.1 e step s.replies.2 s.same) (λ synced. synced) (s.replies.0, ap ended_by s.replies.1, s.replies.2) tt)
 
 pub returns-in-Counts-clause-keeps : goal.returns-in-Counts-clause-keeps
@@ -200,7 +220,7 @@ returns-in-Make-clause-keeps g c =
     let new = c.step-in-Make.new.store in
     let t = c.in-Make.task in
     subst (λ (k : Task). TaskKeeps k (task.Make c.step-in-Make.new.self) old new (g.D.Disk.history old.disk) (g.D.Disk.history new.disk) (g.D.Disk.faults old.disk) (g.D.Disk.faults new.disk) (ended_by c.step-in-Make.result)) (sym c.in-Make.is)
-    (keeps_by g.D.Disk.history g.D.Disk.faults (task.Make c.in-Make.task) (task.Make c.step-in-Make.new.self) old new c.step-in-Make.result s.request (λ none. none) (logs_files old new s.rest) s.mail s.stopped (λ stopped. (s.still stopped).0) s.fault s.unfailed (λ reads. absurd reads)
+    (keeps_by g.D.Disk.history g.D.Disk.faults (task.Make c.in-Make.task) (task.Make c.step-in-Make.new.self) _ _ _ old new c.step-in-Make.result s.request (λ none. none) (logs_files old new s.keeps.rest) s.keeps (λ reads. absurd reads)
     (λ why begun ran e step. make_refused c.in-Make.task.name c.in-Make.task.stage c.step-in-Make.new.self.stage old new (g.D.Disk.history old.disk) (g.D.Disk.history new.disk) c.step-in-Make.result why begun e step (s.replies ran)) (λ synced. synced) (λ ran. subst (λ (a : Progress). MakeAnswers t.name t.stage old new (g.D.Disk.history old.disk) (g.D.Disk.history new.disk) c.step-in-Make.new.self.stage a) (sym (progress_back c.step-in-Make.result)) (s.replies ran)) tt)
 
 pub returns-in-Copy-clause-keeps : goal.returns-in-Copy-clause-keeps
@@ -210,7 +230,7 @@ returns-in-Copy-clause-keeps g c =
     let new = c.step-in-Copy.new.store in
     let t = c.in-Copy.task in
     subst (λ (k : Task). TaskKeeps k (task.Copy c.step-in-Copy.new.self) old new (g.D.Disk.history old.disk) (g.D.Disk.history new.disk) (g.D.Disk.faults old.disk) (g.D.Disk.faults new.disk) (ended_by c.step-in-Copy.result)) (sym c.in-Copy.is)
-    (keeps_by g.D.Disk.history g.D.Disk.faults (task.Copy c.in-Copy.task) (task.Copy c.step-in-Copy.new.self) old new c.step-in-Copy.result s.request (λ none. none) (rest_files old new s.rest) s.mail s.stopped (λ stopped. (s.still stopped).0) s.fault s.unfailed (λ reads. absurd reads)
+    (keeps_by g.D.Disk.history g.D.Disk.faults (task.Copy c.in-Copy.task) (task.Copy c.step-in-Copy.new.self) _ _ _ old new c.step-in-Copy.result s.request (λ none. none) (rest_files old new s.keeps.rest) s.keeps (λ reads. absurd reads)
     (λ why begun ran e step. copy_refused c.in-Copy.task.name c.in-Copy.task.uid c.in-Copy.task.target c.in-Copy.task.stage c.step-in-Copy.new.self.stage old new c.step-in-Copy.result why begun e step (s.replies ran)) (λ synced. synced) (λ ran. subst (λ (a : Progress). CopyAnswers t.name t.uid t.target t.stage old new c.step-in-Copy.new.self.stage a) (sym (progress_back c.step-in-Copy.result)) (s.replies ran)) tt)
 
 pub returns-in-Move-clause-keeps : goal.returns-in-Move-clause-keeps
@@ -220,7 +240,7 @@ returns-in-Move-clause-keeps g c =
     let new = c.step-in-Move.new.store in
     let t = c.in-Move.task in
     subst (λ (k : Task). TaskKeeps k (task.Move c.step-in-Move.new.self) old new (g.D.Disk.history old.disk) (g.D.Disk.history new.disk) (g.D.Disk.faults old.disk) (g.D.Disk.faults new.disk) (ended_by c.step-in-Move.result)) (sym c.in-Move.is)
-    (keeps_by g.D.Disk.history g.D.Disk.faults (task.Move c.in-Move.task) (task.Move c.step-in-Move.new.self) old new c.step-in-Move.result s.request (λ none. none) (rest_files old new s.rest) s.mail s.stopped (λ stopped. (s.still stopped).0) s.fault s.unfailed (λ reads. absurd reads)
+    (keeps_by g.D.Disk.history g.D.Disk.faults (task.Move c.in-Move.task) (task.Move c.step-in-Move.new.self) _ _ _ old new c.step-in-Move.result s.request (λ none. none) (rest_files old new s.keeps.rest) s.keeps (λ reads. absurd reads)
     (λ why begun ran e step. move_refused c.in-Move.task.name c.in-Move.task.uid c.in-Move.task.target c.in-Move.task.stage c.step-in-Move.new.self.stage old new c.step-in-Move.result why begun e step (s.replies ran)) (λ synced. synced) (λ ran. subst (λ (a : Progress). MoveAnswers t.name t.uid t.target t.stage old new c.step-in-Move.new.self.stage a) (sym (progress_back c.step-in-Move.result)) (s.replies ran)) tt)
 
 pub returns-in-Expunge-clause-keeps : goal.returns-in-Expunge-clause-keeps
@@ -230,7 +250,7 @@ returns-in-Expunge-clause-keeps g c =
     let new = c.step-in-Expunge.new.store in
     let t = c.in-Expunge.task in
     subst (λ (k : Task). TaskKeeps k (task.Expunge c.step-in-Expunge.new.self) old new (g.D.Disk.history old.disk) (g.D.Disk.history new.disk) (g.D.Disk.faults old.disk) (g.D.Disk.faults new.disk) (ended_by c.step-in-Expunge.result)) (sym c.in-Expunge.is)
-    (keeps_by g.D.Disk.history g.D.Disk.faults (task.Expunge c.in-Expunge.task) (task.Expunge c.step-in-Expunge.new.self) old new c.step-in-Expunge.result s.request (λ none. none) (rest_files old new s.rest) s.mail s.stopped (λ stopped. (s.still stopped).0) s.fault s.unfailed (λ reads. absurd reads)
+    (keeps_by g.D.Disk.history g.D.Disk.faults (task.Expunge c.in-Expunge.task) (task.Expunge c.step-in-Expunge.new.self) _ _ _ old new c.step-in-Expunge.result s.request (λ none. none) (rest_files old new s.keeps.rest) s.keeps (λ reads. absurd reads)
     (λ why begun ran e step. expunge_refused c.in-Expunge.task.name c.in-Expunge.task.uid c.in-Expunge.task.stage c.step-in-Expunge.new.self.stage old new c.step-in-Expunge.result why begun e step (s.replies ran)) (λ synced. synced) (λ ran. subst (λ (a : Progress). ExpungeAnswers t.name t.uid t.stage old new c.step-in-Expunge.new.self.stage a) (sym (progress_back c.step-in-Expunge.result)) (s.replies ran)) tt)
 
 pub returns-in-Fetch-clause-keeps : goal.returns-in-Fetch-clause-keeps
@@ -253,10 +273,7 @@ returns-in-Deliver-clause-keeps g c =
 pub returns-in-Resync-clause-does : goal.returns-in-Resync-clause-does
 returns-in-Resync-clause-does g c =
     subst (λ (t : Task). StepsTask t (task.Resync c.step-in-Resync.new.self) c.args.store.now c.step-in-Resync.new.store (g.D.Disk.history c.args.store.now.disk) (g.D.Disk.history c.step-in-Resync.new.store.disk) (g.D.Disk.faults c.args.store.now.disk) (g.D.Disk.faults c.step-in-Resync.new.store.disk) (ended_by c.step-in-Resync.result)) (sym c.in-Resync.is)
-    (resync_does c.in-Resync.task c.step-in-Resync.new.self c.args.store.now c.step-in-Resync.new.store (g.D.Disk.history c.args.store.now.disk) (g.D.Disk.history c.step-in-Resync.new.store.disk) (g.D.Disk.faults c.args.store.now.disk) (g.D.Disk.faults c.step-in-Resync.new.store.disk) (ended_by c.step-in-Resync.result) c.step-in-Resync.ensures.rest c.step-in-Resync.ensures.does)
-
-pub returns-in-Resync-clause-halted : goal.returns-in-Resync-clause-halted
-returns-in-Resync-clause-halted g c = stays_stopped c.args.store.now c.step-in-Resync.new.store (λ stopped. (c.step-in-Resync.ensures.still stopped).0)
+    (resync_does c.in-Resync.task c.step-in-Resync.new.self c.args.store.now c.step-in-Resync.new.store (g.D.Disk.history c.args.store.now.disk) (g.D.Disk.history c.step-in-Resync.new.store.disk) (g.D.Disk.faults c.args.store.now.disk) (g.D.Disk.faults c.step-in-Resync.new.store.disk) (ended_by c.step-in-Resync.result) c.step-in-Resync.ensures.keeps.rest c.step-in-Resync.ensures.does)
 
 pub returns-in-Resync-clause-keeps : goal.returns-in-Resync-clause-keeps
 returns-in-Resync-clause-keeps g c =
@@ -264,25 +281,14 @@ returns-in-Resync-clause-keeps g c =
     let old = c.args.store.now in
     let new = c.step-in-Resync.new.store in
     subst (λ (k : Task). TaskKeeps k (task.Resync c.step-in-Resync.new.self) old new (g.D.Disk.history old.disk) (g.D.Disk.history new.disk) (g.D.Disk.faults old.disk) (g.D.Disk.faults new.disk) (ended_by c.step-in-Resync.result)) (sym c.in-Resync.is)
-    (keeps_resyncing g.D.Disk.history g.D.Disk.faults c.in-Resync.task c.step-in-Resync.new.self old new c.step-in-Resync.result s.on s.exact s.stopped (λ stopped. (s.still stopped).0) s.fault s.mail s.grows (rest_files old new s.rest))
+    (keeps_resyncing g.D.Disk.history g.D.Disk.faults c.in-Resync.task c.step-in-Resync.new.self old new c.step-in-Resync.result s.on s.exact s.keeps)
 
 -- ---- a purge
 
 pub returns-in-Purge-clause-does : goal.returns-in-Purge-clause-does
 returns-in-Purge-clause-does g c =
     subst (λ (t : Task). StepsTask t (task.Purge c.step-in-Purge.new.self) c.args.store.now c.step-in-Purge.new.store (g.D.Disk.history c.args.store.now.disk) (g.D.Disk.history c.step-in-Purge.new.store.disk) (g.D.Disk.faults c.args.store.now.disk) (g.D.Disk.faults c.step-in-Purge.new.store.disk) (ended_by c.step-in-Purge.result)) (sym c.in-Purge.is)
-    (purge_does c.in-Purge.task c.step-in-Purge.new.self c.args.store.now c.step-in-Purge.new.store (g.D.Disk.history c.args.store.now.disk) (g.D.Disk.history c.step-in-Purge.new.store.disk) (g.D.Disk.faults c.args.store.now.disk) (g.D.Disk.faults c.step-in-Purge.new.store.disk) (ended_by c.step-in-Purge.result) c.facts.ensures.store c.facts.ensures.files c.step-in-Purge.ensures.does)
-
-pub returns-in-Purge-clause-claims : goal.returns-in-Purge-clause-claims
-returns-in-Purge-clause-claims g c = λ runs.
-    subst (λ (t : Task). MovesClaims (claims_at t) (claims_at (task.Purge c.step-in-Purge.new.self)) c.args.store.now c.step-in-Purge.new.store) (sym c.in-Purge.is) (c.step-in-Purge.ensures.claims runs)
-
-pub returns-in-Purge-clause-leaves : goal.returns-in-Purge-clause-leaves
-returns-in-Purge-clause-leaves g c = λ runs.
-    subst (λ (t : Task). LeavesOthers (claims_at t) c.args.store.now c.step-in-Purge.new.store (g.D.Disk.history c.args.store.now.disk) (g.D.Disk.history c.step-in-Purge.new.store.disk)) (sym c.in-Purge.is) (c.step-in-Purge.ensures.leaves runs)
-
-pub returns-in-Purge-clause-halted : goal.returns-in-Purge-clause-halted
-returns-in-Purge-clause-halted g c = stays_stopped c.args.store.now c.step-in-Purge.new.store (λ stopped. (c.step-in-Purge.ensures.still stopped).0)
+    (purge_does c.in-Purge.task c.step-in-Purge.new.self c.args.store.now c.step-in-Purge.new.store (g.D.Disk.history c.args.store.now.disk) (g.D.Disk.history c.step-in-Purge.new.store.disk) (g.D.Disk.faults c.args.store.now.disk) (g.D.Disk.faults c.step-in-Purge.new.store.disk) (ended_by c.step-in-Purge.result) c.facts.ensures.store c.facts.ensures.files c.step-in-Purge.ensures.step.does)
 
 pub returns-in-Purge-clause-left : goal.returns-in-Purge-clause-left
 returns-in-Purge-clause-left g c = λ more.
@@ -294,5 +300,5 @@ returns-in-Purge-clause-keeps g c =
     let old = c.args.store.now in
     let new = c.step-in-Purge.new.store in
     subst (λ (k : Task). TaskKeeps k (task.Purge c.step-in-Purge.new.self) old new (g.D.Disk.history old.disk) (g.D.Disk.history new.disk) (g.D.Disk.faults old.disk) (g.D.Disk.faults new.disk) (ended_by c.step-in-Purge.result)) (sym c.in-Purge.is)
-    (keeps_purging g.D.Disk.history g.D.Disk.faults c.in-Purge.task c.step-in-Purge.new.self old new (ended_by c.step-in-Purge.result) s.grows s.mail s.reads (λ told. s.calm (λ e. told (ap ended_by e))) s.changes s.unfailed s.fell (λ stopped. (s.still stopped).0)
+    (keeps_purging g.D.Disk.history g.D.Disk.faults c.in-Purge.task c.step-in-Purge.new.self old new (ended_by c.step-in-Purge.result) s.step.grows s.step.mail s.step.reads (λ told. s.step.calm (λ e. told (ap ended_by e))) s.step.changes s.step.unfailed s.step.fell (λ stopped. (s.still stopped).0)
     (s.drops, subst (λ (a : Progress). TellsCounts c.in-Purge.task c.step-in-Purge.new.self a) (sym (progress_back c.step-in-Purge.result)) s.counts))

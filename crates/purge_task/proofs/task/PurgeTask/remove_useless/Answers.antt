@@ -42,7 +42,7 @@ returns-in-Ok-clause-step g c =
 pub returns-in-Err-clause-step : goal.returns-in-Err-clause-step
 returns-in-Err-clause-step g c =
     stage_as stage.Instances _ c.args.self.now _ _ c.args.store.now c.remove_instance.new.self _ _ _ _ c.self.view_is
-    (failed_says g.D.Disk.history g.D.Disk.faults _ _ c.args.store.now c.remove_instance.new.self refl c.requires.running c.in-Err.ensures.any_moment c.in-Err.ensures.mail_stays c.in-Err.ensures.err c.in-Err.ensures.grows _ refl c.in-Err.ensures.fault (λ begins. cc begins))
+    (failed_says g.D.Disk.history g.D.Disk.faults _ _ c.args.store.now c.remove_instance.new.self refl c.requires.running c.in-Err.ensures.any_moment c.in-Err.ensures.mail_stays c.in-Err.ensures.err c.in-Err.ensures.grows _ refl c.in-Err.ensures.fault (λ begins. let e : stage.Instances ≡ stage.First = begins in cc e))
 
 pub returns-in-Ok-clause-left : goal.returns-in-Ok-clause-left
 returns-in-Ok-clause-left g c more =
