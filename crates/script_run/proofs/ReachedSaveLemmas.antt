@@ -56,13 +56,15 @@ gives_next name time octets run start journal r n a b first second last =
     adds_behind (r.around (suc n)) (before (suc n) run) name time octets k.0 b.part k.0.refused (ap (λ (x : RunEvent). x.part) same ∙ last) k.2
 
 -- no event stands two or more behind it
-none_later : (name : List ℕ) (time : ℕ) (octets : List ℕ) (run : Run) (start : Lists) (journal : List JournalStep) → IsSaveRun name time octets run start journal → (n k : ℕ) (a b : RunEvent) → slice_get run.events n ≡ Some a → a.part ≡ Last → slice_get run.events (suc (suc (k + n))) ≡ Some b → ⊥
-none_later name time octets run start journal r n zero a b first last at =
-    let k = part_after r.around r.after start (delivering name time octets) run journal r.next (suc n) b at in
+none_later : (name : List ℕ) (time : ℕ) (octets : List ℕ) (run : Run) (start : Lists) (journal : List JournalStep) → IsSaveRun name time octets run start journal → (n k m : ℕ) (a b : RunEvent) → m ≡ suc (suc (k + n)) → slice_get run.events n ≡ Some a → a.part ≡ Last → slice_get run.events m ≡ Some b → ⊥
+none_later name time octets run start journal r n zero m a b far first last at =
+    let two : m ≡ suc (suc n) = omega (arith, far) in
+    let k = part_after r.around r.after start (delivering name time octets) run journal r.next (suc n) b (ap (slice_get run.events) (sym two) ∙ at) in
     gives_behind (r.around (suc (suc n))) (before (suc (suc n)) run) name time octets k.0 b.part k.0.refused (gives_next name time octets run start journal r n a k.0 first k.1 last) k.2
-none_later name time octets run start journal r n (suc k) a b first last at =
-    let c = get_before run.events (suc (suc (k + n))) b at in
-    none_later name time octets run start journal r n k a c.0 first last c.1
+none_later name time octets run start journal r n (suc k) m a b far first last at =
+    let more : m ≡ suc (suc (suc (k + n))) = omega (arith, far) in
+    let c = get_before run.events (suc (suc (k + n))) b (ap (slice_get run.events) (sym more) ∙ at) in
+    none_later name time octets run start journal r n k (suc (suc (k + n))) a c.0 refl first last c.1
 
 none_behind : (name : List ℕ) (time : ℕ) (octets : List ℕ) (run : Run) (start : Lists) (journal : List JournalStep) → IsSaveRun name time octets run start journal → (n m : ℕ) (a b : RunEvent) → slice_get run.events n ≡ Some a → slice_get run.events m ≡ Some b → a.part ≡ Last → b.part ≡ Last → n < m → ⊥
 none_behind name time octets run start journal r n m a b first second last also less = by_far (m - n) refl
@@ -75,7 +77,7 @@ none_behind name time octets run start journal r n m a b first second last also 
         let z : Last ≡ GivesBack = sym also ∙ gives in cc z
     by_far (suc (suc k)) e =
         let here : m ≡ suc (suc (k + n)) = omega (arith, less, e) in
-        none_later name time octets run start journal r n k a b first last (ap (slice_get run.events) (sym here) ∙ second)
+        none_later name time octets run start journal r n k m a b here first last second
 
 nat_order : (n m : ℕ) → (n < m) ⊎ ((n ≡ m) ⊎ (m < n))
 nat_order zero zero = inr (inl refl)
