@@ -63,7 +63,7 @@ use Rattle.resync_task.specs.Clause.{ResyncKeeps}
 use Rattle.resync_task.specs.Correcting.{AreExact}
 use Rattle.resync_task.specs.Stages.{ResyncAt, ToList, ToRead}
 use Rattle.resync_task.specs.Task.{ResyncValue, ResyncsOn}
-use Rattle.lane_tasks.specs.Clause.{DoomsNone, DoomsNothing, IsAtStart, PurgesSo, RemovesNothing, StaysOfRequest, TaskKeeps, TellsStore, OnlyReads, WritesTask, progress_by}
+use Rattle.lane_tasks.specs.Clause.{DoomsNone, DoomsNothing, FetchesSo, IsAtStart, PurgesSo, RemovesNothing, StaysOfRequest, TaskKeeps, TellsStore, OnlyReads, WritesTask, progress_by}
 use Rattle.lane_tasks.specs.declared.task.Task.{Task}
 use Rattle.lane_tasks.specs.declared.task.Task.TheVariants as task
 use Rattle.lane_tasks.proofs.StepLemmas.{ran_before, rest_files, undoomed_by, undoomed_rest}
@@ -85,8 +85,8 @@ syncs_idle (Some h) (Some g) idle = (λ number. inl (ap (λ (disk : DiskState). 
 abbrev Same : {D : Type 0} → (D → Option History) → (D → Faults) → Task → Task → StoreValue D → StoreValue D → Option Reply → Type 0
 Same history faults t next old new ended = TaskKeeps t next old new (history old.disk) (history new.disk) (faults old.disk) (faults new.disk) ended
 
-pub keeps_still : {D : Type 0} → (history : D → Option History) (faults : D → Faults) (t next : Task) (old new : StoreValue D) (ended : Option Reply) → StaysOfRequest t next → (DoomsNone t → DoomsNone next) → (new.stopped ≡ false → SyncsMail (history old.disk) (history old.disk) → WritesTask t next old (history old.disk) (history old.disk)) → TellsStore t next old new (history old.disk) (history old.disk) ended → new ≡ old → Same history faults t next old new ended
-keeps_still history faults t next old new ended kind dooms writes tells same =
+pub keeps_still : {D : Type 0} → (history : D → Option History) (faults : D → Faults) (t next : Task) (old new : StoreValue D) (ended : Option Reply) → StaysOfRequest t next → (DoomsNone t → DoomsNone next) → (new.stopped ≡ false → SyncsMail (history old.disk) (history old.disk) → WritesTask t next old (history old.disk) (history old.disk)) → TellsStore t next old new (history old.disk) (history old.disk) ended → FetchesSo t next old new (history old.disk) (history old.disk) (faults old.disk) (faults old.disk) ended → new ≡ old → Same history faults t next old new ended
+keeps_still history faults t next old new ended kind dooms writes tells fetches same =
     subst (λ (d : _). TaskKeeps t next old new (history old.disk) (history d) (faults old.disk) (faults d) ended) (sym (ap (λ (s : StoreValue _). s.disk) same))
     (record {
       request = kind;
@@ -105,6 +105,7 @@ keeps_still history faults t next old new ended kind dooms writes tells same =
       same = λ back. idle-begins (history old.disk);
       refused = λ why begun e step. idle-begins (history old.disk);
       left = λ runs. writes runs (syncs_idle (history old.disk) (history old.disk) (idle-begins (history old.disk)));
+      fetches = fetches;
     })
 
 -- ---- of a task that changes logs at the most
@@ -118,8 +119,8 @@ IsStoppedReply answer = answer ≡ progress.Done (reply.Refused refusal.Stopped)
 
 pub keeps_by : {D Stage : Type 0} → (history : D → Option History) (faults : D → Faults) (t next : Task) (Rest : Type 0) (now then : Stage) (old new : StoreValue D) (answer : Progress) → StaysOfRequest t next → (DoomsNone t → DoomsNone next) → new.files ≡ old.files → ChangesOnlyLogs Rest now then answer old new (history old.disk) (history new.disk) (faults old.disk) (faults new.disk)
     → (OnlyReads t → new ≡ old) → ((why : Refusal) → IsAtStart t → old.stopped ≡ false → answer ≡ progress.Done (reply.Refused why) → is_step why ≡ true → new ≡ old)
-    → (SyncsMail (history old.disk) (history new.disk) → WritesTask t next old (history old.disk) (history new.disk)) → TellsStore t next old new (history old.disk) (history new.disk) (ended_by answer) → Same history faults t next old new (ended_by answer)
-keeps_by history faults t next Rest now then old new answer kind dooms files k reads refused writes tells = record {
+    → (SyncsMail (history old.disk) (history new.disk) → WritesTask t next old (history old.disk) (history new.disk)) → TellsStore t next old new (history old.disk) (history new.disk) (ended_by answer) → FetchesSo t next old new (history old.disk) (history new.disk) (faults old.disk) (faults new.disk) (ended_by answer) → Same history faults t next old new (ended_by answer)
+keeps_by history faults t next Rest now then old new answer kind dooms files k reads refused writes tells fetches = record {
   request = kind;
   grows = grows_kept old.map (history old.disk) (history new.disk) (k.mail.stays old.map);
   mail = λ m kept. k.mail.stays m;
@@ -140,6 +141,7 @@ keeps_by history faults t next Rest now then old new answer kind dooms files k r
   same = idle_disk;
   refused = λ why begun e step. idle_same (by_stop why begun (answered answer why e) step old.stopped refl);
   left = λ runs. writes (k.mail.left (runs ∙ sym (ran_before old.stopped new.stopped (λ was. ap (λ (s : StoreValue _). s.stopped) (still was) ∙ was) runs)));
+  fetches = fetches;
 }
   where
     still : old.stopped ≡ true → new ≡ old
@@ -255,9 +257,9 @@ fetch_removes name uid (fetch_stage.Unpinning from given) next answer store hist
     by_run false ran = subst RemovesNothing (sym ((said.1 ran).other (ap (λ (b : Bool). b && (pins_in from.file.0 store.files.files == 1)) (nothing ran from.file.0))).1) tt
 fetch_removes name uid (fetch_stage.Removing file given) next answer store history began faults said none nothing = absurd none
 
-pub keeps_fetching : {D : Type 0} → (history : D → Option History) (faults : D → Faults) (t next : FetchValue) (name : List ℕ) (uid : ℕ) (old new : StoreValue D) (answer : Progress) → (next.name ≡ t.name) × (next.uid ≡ t.uid) → FetchesAlone name uid t.stage next.stage next.did answer old new (history old.disk) (history new.disk) (faults old.disk) (faults new.disk)
+pub keeps_fetching : {D : Type 0} → (history : D → Option History) (faults : D → Faults) (t next : FetchValue) (old new : StoreValue D) (answer : Progress) → (next.name ≡ t.name) × (next.uid ≡ t.uid) → FetchesAlone t.name t.uid.0 t.stage next.stage next.did answer old new (history old.disk) (history new.disk) (faults old.disk) (faults new.disk)
     → Same history faults (task.Fetch t) (task.Fetch next) old new (ended_by answer)
-keeps_fetching history faults t next name uid old new answer request alone =
+keeps_fetching history faults t next old new answer request alone =
     let k = fetch_kept t.stage next.stage old new (history old.disk) (history new.disk) (faults old.disk) (faults new.disk) alone.same alone.disk in
     record {
       request = request;
@@ -271,7 +273,7 @@ keeps_fetching history faults t next name uid old new answer request alone =
       calm = λ answers. absurd answers;
       tells = tt;
       undoomed = λ none nothing. (
-        fetch_removes name uid t.stage next.stage answer old (history old.disk) (faults old.disk) (faults new.disk) alone.replies none nothing,
+        fetch_removes t.name t.uid.0 t.stage next.stage answer old (history old.disk) (faults old.disk) (faults new.disk) alone.replies none nothing,
         λ runs file. used_undoomed t.stage next.stage old new file alone.same (nothing (used_runs t.stage next.stage old new alone.same runs) file),
       );
       idle = λ reads none. k.idle none;
@@ -279,6 +281,7 @@ keeps_fetching history faults t next name uid old new answer request alone =
       same = λ back. subst (λ (d : _). IsIdle (history old.disk) (history d)) (sym back) (idle-begins (history old.disk));
       refused = λ why begun e step. (k.idle (subst RemovesNothing (sym begun) tt)).0;
       left = λ runs none. syncs_idle (history old.disk) (history new.disk) (k.idle none).0;
+      fetches = subst (λ (a : Progress). FetchesAlone t.name t.uid.0 t.stage next.stage next.did a old new (history old.disk) (history new.disk) (faults old.disk) (faults new.disk)) (sym (progress_back answer)) alone;
     }
 
 -- ---- of a delivery
@@ -339,10 +342,11 @@ keeps_saving history faults t next old new answer request ends saves = by_run ol
           same = idle_disk;
           refused = λ why begun e step. idle_same (saving_refused begun.0 t.stage next.stage answer why begun.1 e s.effects);
           left = λ runs. s.mail runs;
+          fetches = tt;
         }
 
     by_run : (b : Bool) → old.stopped ≡ b → Same history faults (task.Deliver t) (task.Deliver next) old new (ended_by answer)
-    by_run true was = keeps_still history faults (task.Deliver t) (task.Deliver next) old new (ended_by answer) request (λ none. none) (λ runs synced. absurd (let k : false ≡ true = sym runs ∙ (ap (λ (s : StoreValue _). s.stopped) (ends.still was) ∙ was) in cc k)) (λ runs. absurd (let k : true ≡ false = sym was ∙ runs in cc k)) (ends.still was)
+    by_run true was = keeps_still history faults (task.Deliver t) (task.Deliver next) old new (ended_by answer) request (λ none. none) (λ runs synced. absurd (let k : false ≡ true = sym runs ∙ (ap (λ (s : StoreValue _). s.stopped) (ends.still was) ∙ was) in cc k)) (λ runs. absurd (let k : true ≡ false = sym was ∙ runs in cc k)) tt (ends.still was)
     by_run false r = ran r (saves r)
 
 -- ---- of a resync
@@ -386,6 +390,7 @@ keeps_resyncing history faults t next old new answer on exact k = record {
   same = idle_disk;
   refused = λ why begun e step. idle_same (by_stop why begun (told_so answer (reply.Refused why) e) old.stopped refl);
   left = λ runs. k.mail.left (runs ∙ sym (ran_before old.stopped new.stopped (λ was. ap (λ (s : StoreValue _). s.stopped) (still was) ∙ was) runs));
+  fetches = tt;
 }
   where
     still : old.stopped ≡ true → new ≡ old
@@ -437,6 +442,7 @@ keeps_purging history faults t next old new ended grows mail reads calm changes 
   same = idle_disk;
   refused = λ why begun. absurd begun;
   left = λ runs. tt;
+  fetches = tt;
 }
   where
     idle_disk : new.disk ≡ old.disk → IsIdle (history old.disk) (history new.disk)

@@ -24,7 +24,7 @@ use Rattle.task_claims.specs.Claims.{Claims, Held, Pinned}
 use Rattle.task_claims.specs.Leaving.{SyncsMail}
 use Rattle.task_claims.specs.Stable.{Beside}
 use Rattle.task_steps.specs.Step.{ShowsSeen, HasComeTo, FindsRoom, DidEvent, and_told}
-use Rattle.mail_fetch.specs.Clause.{CanFetch}
+use Rattle.mail_fetch.specs.Clause.{CanFetch, FetchesAlone}
 use Rattle.mail_fetch.specs.Stages.{SparesFile}
 use Rattle.mail_fetch.specs.Task.{seen_in}
 use Rattle.mail_fetch.specs.declared.task.FetchStage.{FetchStage}
@@ -209,6 +209,11 @@ TellsStore (task.Resync t) (task.Resync next) old new before after ended = (old.
 TellsStore (task.Purge t) (task.Purge next) old new before after ended = PurgesSo t next old new before after ended
 TellsStore t next old new before after ended = Unit {0}
 
+-- What an event of a fetch read and answers, and what it did, whatever the disk.
+abbrev pub FetchesSo : {D : Type 0} → Task → Task → StoreValue D → StoreValue D → Option History → Option History → Faults → Faults → Option Reply → Type 0
+FetchesSo (task.Fetch t) (task.Fetch next) old new before after began now ended = FetchesAlone t.name t.uid.0 t.stage next.stage next.did (progress_by ended) old new before after began now
+FetchesSo t next old new before after began now ended = Unit {0}
+
 -- For which maps storage files and instances stay: of a delivery, a purge and a removal for that of its store, of every other event for each.
 abbrev pub IsKeptFor : {D : Type 0} → Task → StoreValue D → MapMeaning → Type 0
 IsKeptFor (task.Deliver t) store m = m ≡ store.map
@@ -255,7 +260,8 @@ StaysOfRequest t next = ⊥
 -- read. A task that reads no octets counts no failed read, and any but a fetch one only if it replies so. One that reads at the
 -- most changes nothing, unless it is a fetch that removes a file which a purge has doomed. A first event changes nothing that is refused,
 -- but for want of memory or by a failed call, nor does any event of a store that was stopped, nor one that leaves the store's disk as it
--- was. It is answered by what the store has (`TellsStore`). It stays the task of its request.
+-- was. It is answered by what the store has (`TellsStore`), and a fetch by what the disk reads (`FetchesSo`). It stays the task of its
+-- request.
 pub record TaskKeeps {D : Type 0} (t next : Task) (old new : StoreValue D) (before after : Option History) (began now : Faults) (ended : Option Reply) : Type 0 where
   pub request : StaysOfRequest t next
   pub grows : Grows before after
@@ -273,3 +279,4 @@ pub record TaskKeeps {D : Type 0} (t next : Task) (old new : StoreValue D) (befo
   pub same : new.disk ≡ old.disk → IsIdle before after
   pub refused : (why : Refusal) → IsAtStart t → ended ≡ Some (reply.Refused why) → is_step why ≡ true → IsIdle before after
   pub left : new.stopped ≡ false → WritesTask t next old before after
+  pub fetches : FetchesSo t next old new before after began now ended

@@ -9,7 +9,6 @@ use Rattle.mdbox_base.specs.declared.ids.Uid.{Uid}
 use Rattle.mdbox_base.specs.declared.replies.Reply.{Reply}
 use Rattle.mdbox_base.specs.declared.requests.Request.{Request}
 use Rattle.mdbox_base.specs.declared.requests.Request.TheVariants as request
-use Rattle.model_store.specs.Settled.{IsSettledFor}
 use Rattle.model_lists.specs.Lists.{Lists}
 use Rattle.list_machine.specs.Run.{Run, RunEvent, own_events}
 use Rattle.journal.specs.Journal.{HasReply, Requests, no_broken}
@@ -31,7 +30,7 @@ use Rattle.mail_fetch.specs.Task.{seen_in}
 use Rattle.lane_tasks.specs.Tasks.{BeginsTask, IsReadyTask, claims_at}
 use Rattle.lane_tasks.specs.declared.task.Task.{Task}
 use Rattle.lane_tasks.proofs.StandLemmas.{begins_ready, begins_standing, begins_unclaimed}
-use Rattle.lanes.specs.Going.{AreFreshRows, AreUndamaged, IsFreshRow, IsGoing, IsUndamaged, stands_in}
+use Rattle.lanes.specs.Going.{AreFreshRows, AreUndamaged, FindsMessages, IsFreshRow, IsGoing, IsUndamaged, stands_in}
 use Rattle.lanes.specs.Rows.{LaneRow, lane_value, lanes_of, queue_in}
 use Rattle.lanes.specs.declared.lane.Queued.{Queued}
 use Rattle.lanes.proofs.GoingLemmas.{queue_is}
@@ -151,14 +150,14 @@ none_undamaged script run empty = record {
     no_reply (asked ∷ script) (suc i) given has = no_reply script i given has
 
 pub all_begin : {D : Type 0} → (start : Lists) (script : Requests) (run : Run) (rows : List LaneRow) (store : StoreValue D) (history : Option History) (faults : Faults) → IsAtOpening run store → HasCome run store.map store.drawn (told_calls history) → HasNoTask store → store.stopped ≡ false → ShowsSeen (seen_in store history faults) start → IsFirmAt start (seen_in store history faults)
-    → AreFreshRows script rows → HaveLanes script (lanes_of rows) → length rows ≤ 64 → ((place lane : ℕ) (name : List ℕ) (uid : Uid) → slice_get script place ≡ Some (lane, request.Fetch name uid) → IsSettledFor start history)
+    → AreFreshRows script rows → HaveLanes script (lanes_of rows) → length rows ≤ 64 → ((place lane : ℕ) (name : List ℕ) (uid : Uid) → slice_get script place ≡ Some (lane, request.Fetch name uid) → FindsMessages start script run history history)
     → IsGoing start script run [] no_broken (unreplied script) (seen_in store history faults) store history faults rows
-all_begin {D} start script run rows store history faults at come none runs shows firm fresh lanes few settled = record {
+all_begin {D} start script run rows store history faults at come none runs shows firm fresh lanes few finds = record {
   serving = serving_begins start script run rows store history faults at.empty (seen_come run store history faults at come none) shows runs firm fresh;
   lanes = lanes;
   few = few;
   waiting = λ k row there. (fresh k row there).behind;
-  fetched = settled;
+  fetched = finds;
   undamaged = none_undamaged script run at.empty;
   quiet = λ still unread. refl;
   accounts = λ still. record {

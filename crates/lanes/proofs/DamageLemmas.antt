@@ -1,4 +1,4 @@
--- No message that a script fetches is damaged, where the disk was settled for the lists from which it is served.
+-- No message that a script fetches is damaged, where the fetch finds the messages of the lists from which it is served.
 use Rattle.std.proofs.Common.{◌≡◌, ◌==◌, ◌+◌, ℕ, Bool, true, false, List, [], ◌∷◌, ◌++◌, map, slice_set, Option, Some, None, refl, sym, ◌∙◌, ap, subst, arith, inl, inr}
 use Rattle.std.specs.Prelude.{◌≢◌, ◌⊎◌, All, slice_get}
 use Rattle.std.specs.Option.{IfSome, option_or}
@@ -43,7 +43,7 @@ all_and_one : {X : Type 0} → (P : X → Type 0) (xs : List X) (x : X) → All 
 all_and_one P [] x all one = All-cons P x [] one (All-nil P)
 all_and_one P (a ∷ xs) x all one = All-cons P a (xs ++ x ∷ []) (All-head P a xs all) (all_and_one P xs x (All-tail P a xs all) one)
 
-not_empty : {X : Type 0} → (xs : List X) (x : X) → xs ++ x ∷ [] ≡ [] → ⊥
+pub not_empty : {X : Type 0} → (xs : List X) (x : X) → xs ++ x ∷ [] ≡ [] → ⊥
 not_empty [] x e = cc e
 not_empty (a ∷ xs) x e = cc e
 

@@ -1,7 +1,10 @@
 -- What a task needs of the run beside: that nobody has taken the storage file in which it finds room, and that the files are safe for
 -- the lists by which it answers.
-use Rattle.std.proofs.Common.{◌≡◌, ◌≤◌, ℕ, Bool, true, false, List, map, Option, Some, None, refl, sym, ◌∙◌, inl, inr}
+use Rattle.std.specs.Prelude.{◌⊎◌, ◌==◌, cond, filter, length, slice_get}
+use Rattle.std.proofs.Common.{◌≡◌, ◌≤◌, ◌<◌, ℕ, Bool, true, false, List, [], ◌∷◌, map, Option, Some, None, refl, sym, ◌∙◌, ap, subst, arith, inl, inr}
 use Rattle.std.specs.Option.{IfSome}
+use Rattle.std.proofs.lemmas.Bool.{eq-eqb}
+use Rattle.std.proofs.lemmas.Option.{slice_get_within}
 use Rattle.disk_model.specs.Disk.{History}
 use Rattle.mdbox_base.specs.declared.ids.Uid.{Uid}
 use Rattle.mdbox_base.specs.declared.replies.Reply.{Reply}
@@ -9,10 +12,12 @@ use Rattle.mdbox_base.specs.declared.requests.Request.{Request}
 use Rattle.mdbox_base.specs.declared.requests.Request.TheVariants as request
 use Rattle.model_lists.specs.Lists.{Lists}
 use Rattle.model_store.specs.Settled.{IsSettledFor}
-use Rattle.list_machine.specs.Run.{Run}
+use Rattle.list_machine.specs.Run.{Run, RunEvent, own_events}
+use Rattle.journal.specs.Events.{Around}
 use Rattle.journal.specs.Found.{is_taken}
-use Rattle.journal.specs.Journal.{Broken, JournalStep, Requests}
+use Rattle.journal.specs.Journal.{AreSteps, Broken, JournalStep, Requests, left_by}
 use Rattle.journal.specs.JournalExamples.{nothing_around}
+use Rattle.journal.specs.Makes.{AreNextEvents}
 use Rattle.storage_files.specs.Files.{AreFilesInOrder}
 use Rattle.store_core.specs.Running.{IsStore}
 use Rattle.store_core.specs.Value.{StoreValue}
@@ -23,15 +28,19 @@ use Rattle.serving.specs.Lanes.{LaneValue}
 use Rattle.serving.specs.Serving.{HaveLanes, IsServing}
 use Rattle.serving.specs.Taken.{IsInUse}
 use Rattle.serving.proofs.TakenLemmas.{taken_in_use}
-use Rattle.mail_fetch.specs.Clause.{ReadsSafe}
+use Rattle.mail_fetch.specs.Clause.{CanFetch, ReadsSafe}
+use Rattle.mail_fetch.specs.Stages.{IsAtFetch}
+use Rattle.mail_fetch.specs.declared.task.FetchStage.{FetchStage}
+use Rattle.mail_fetch.specs.declared.task.FetchStage.TheVariants as stage
+use Rattle.mail_fetch.proofs.StepLemmas.{safe_fetched}
 use Rattle.purge_task.specs.Clause.{TellsUses}
 use Rattle.lane_tasks.specs.Clause.{CanAnswer, IsFreeToTake, TellsRun, around_at}
-use Rattle.lane_tasks.specs.Tasks.{IsTaskOf, claims_at}
+use Rattle.lane_tasks.specs.Tasks.{StandsTask, claims_at}
 use Rattle.lane_tasks.specs.declared.task.Task.{Task}
 use Rattle.lane_tasks.specs.declared.task.Task.TheVariants as task
 use Rattle.lane_tasks.proofs.RoomLemmas.{found_free, safe_answered}
 use Rattle.lane_tasks.proofs.StandLemmas.{task_taken}
-use Rattle.lanes.specs.Going.{stands_in}
+use Rattle.lanes.specs.Going.{FindsMessages, stands_in}
 
 -- ---- room
 
@@ -66,10 +75,46 @@ settled_reads : (lists : Lists) (history : Option History) → IsSettledFor list
 settled_reads lists None settled = settled
 settled_reads lists (Some h) settled = record { store = settled.store; entries = settled.entries; by = settled.safe }
 
+-- where no event of the one request of a script was made, none was, and the journal has no step
+no_events : (around after : ℕ → Around) (script : Requests) (start : Lists) (run : Run) (journal : List JournalStep) (place : ℕ) → length script ≡ 1 → place < length script → AreNextEvents around after script start run journal → own_events place run ≡ [] → run.events ≡ []
+no_events around after script start run journal place one within next none = by_events run.events refl
+  where
+    by_events : (events : List RunEvent) → run.events ≡ events → run.events ≡ []
+    by_events [] e = e
+    by_events (first ∷ rest) e =
+        let n = next 0 first (ap (λ (es : List RunEvent). slice_get es 0) e) in
+        let there = slice_get_within script first.request n.asked n.request_is in
+        let own : (first.request == place) ≡ true = eq-eqb first.request place (omega (arith, one, within, there)) in
+        let kept : first ∷ filter (λ (x : RunEvent). x.request == place) rest ≡ [] =
+        sym (ap (λ (b : Bool). cond b (first ∷ filter (λ (x : RunEvent). x.request == place) rest) (filter (λ (x : RunEvent). x.request == place) rest)) own) ∙ (sym (ap (λ (es : List RunEvent). filter (λ (x : RunEvent). x.request == place) es) e) ∙ none) in
+        absurd (cc kept)
+
+no_steps : (run : Run) (script : Requests) (start : Lists) (journal : List JournalStep) → AreSteps run script start journal → run.events ≡ [] → left_by start journal ≡ start
+no_steps run script start [] steps none = refl
+no_steps run script start (step ∷ journal) steps none = absurd (let k : None ≡ Some steps.0.event = sym (ap (λ (es : List RunEvent). slice_get es step.event) none) ∙ steps.0.event_is in cc k)
+
+-- So before the first event of a fetch the files read as safe for the lists that its script has come to, or the disk is settled for them.
+pub files_found : (around after : ℕ → Around) (script : Requests) (start : Lists) (run : Run) (journal : List JournalStep) (began history : Option History) (place lane : ℕ) (asked : Request) → FindsMessages start script run began history → slice_get script place ≡ Some (lane, asked) → AreNextEvents around after script start run journal → AreSteps run script start journal → (IsSettledFor start began → IsSettledFor (left_by start journal) history)
+    → IsSettledFor (left_by start journal) history ⊎ (own_events place run ≡ [] → ReadsSafe (left_by start journal) history)
+files_found around after script start run journal began history place lane asked (inl settled) there next steps stays = inl (stays settled)
+files_found around after script start run journal began history place lane asked (inr first) there next steps stays = inr (λ none.
+    let empty = no_events around after script start run journal place first.0 (slice_get_within script place (lane, asked) there) next none in
+    subst (λ (ls : Lists). ReadsSafe ls history) (sym (no_steps run script start journal steps empty)) (first.1 empty))
+
+answers_at : {D : Type 0} → (now : FetchStage) (name : List ℕ) (uid : Uid) (lists : Lists) (store : StoreValue D) (history : Option History) (run : Run) (place : ℕ) (said : List Reply) → IsStore history store → store.stopped ≡ false → IsAtFetch now store.stopped history run place said → (own_events place run ≡ [] → ReadsSafe lists history) → CanFetch now name uid lists store.map history
+answers_at stage.First name uid lists store history run place said opened runs at safe = safe_fetched stage.First name uid store history lists opened runs (safe at.0)
+answers_at (stage.Reading region) name uid lists store history run place said opened runs at safe = tt
+answers_at (stage.Unpinning from given) name uid lists store history run place said opened runs at safe = tt
+answers_at (stage.Removing file given) name uid lists store history run place said opened runs at safe = tt
+
 -- Only a fetch answers by the files of messages.
-pub can_answer : {D : Type 0} → (t : Task) (asked : Request) (lists : Lists) (store : StoreValue D) (history : Option History) → IsStore history store → store.stopped ≡ false → IsTaskOf t asked → ((name : List ℕ) (uid : Uid) → asked ≡ request.Fetch name uid → IsSettledFor lists history) → CanAnswer t lists store history
-can_answer (task.Fetch t) asked lists store history opened runs is settled = safe_answered (task.Fetch t) lists store history opened runs (settled_reads lists history (settled t.name t.uid is))
-can_answer t asked lists store history opened runs is settled = tt
+pub can_answer : {D : Type 0} → (t : Task) (asked : Request) (lists : Lists) (store : StoreValue D) (history : Option History) (run : Run) (place : ℕ) (said : List Reply) → IsStore history store → store.stopped ≡ false → StandsTask t store history asked run place said
+    → ((name : List ℕ) (uid : Uid) → asked ≡ request.Fetch name uid → IsSettledFor lists history ⊎ (own_events place run ≡ [] → ReadsSafe lists history)) → CanAnswer t lists store history
+can_answer (task.Fetch t) asked lists store history run place said opened runs stands finds = elim (finds t.name t.uid stands.is_of) [
+  | inl settled ↦ safe_answered (task.Fetch t) lists store history opened runs (settled_reads lists history settled)
+  | inr safe ↦ answers_at t.stage t.name t.uid lists store history run place said opened runs stands.at safe
+]
+can_answer t asked lists store history run place said opened runs stands finds = tt
 
 -- ---- who uses files and instances
 

@@ -44,8 +44,8 @@ use Rattle.lanes.specs.Worlds.{BeginsSome}
 use Rattle.lanes.specs.Rows.{LaneRow, RowGoesOn, lane_value, lanes_of, next_in_turn, queue_in, after_event}
 use Rattle.lanes.specs.declared.lane.LaneEvent.{LaneEvent}
 use Rattle.lanes.specs.declared.lane.Queued.{Queued}
-use Rattle.lanes.proofs.DamageLemmas.{stands_undamaged, undamaged_on}
-use Rattle.lanes.proofs.FindingLemmas.{can_answer, finds_room, tells_run, uses_taken}
+use Rattle.lanes.proofs.DamageLemmas.{not_empty, stands_undamaged, undamaged_on}
+use Rattle.lanes.proofs.FindingLemmas.{can_answer, files_found, finds_room, tells_run, uses_taken}
 use Rattle.lanes.proofs.SparedLemmas.{HasComeBeside, all_last, last_push, passes_in_run, refused_stopped, serves_as, spares_all, stands_then}
 use Rattle.lanes.proofs.TellsUsesLemmas.{tells_uses}
 
@@ -317,7 +317,7 @@ going_on {D} start script run journal broken replies began rows k row now event 
         lanes = subst (λ (n : ℕ). All (λ (asked : ℕ × Request). (0 < asked.0) × (asked.0 ≤ n)) script) (sym (as_many rows k then)) s.lanes;
         waiting = all_waiting script rows k row then there (waiting_behind script (k + 1) (ended_by event.ended) (record g.queued { task = g.next }) row.waiting are) s.waiting;
         accounts = λ runs. accounts_row rows k row now event old new before after first second there (begin_some script (k + 1) row.waiting are) runs g (s.accounts (ran runs));
-        fetched = s.fetched;
+        fetched = λ place lane name uid at. elim (s.fetched place lane name uid at) [ inl settled ↦ inl settled | inr first ↦ inr (first.0, λ none. absurd (not_empty run.events d.0.makes.event none)) ];
         undamaged = undamaged_on found nothing_around script run replies (k + 1) g.queued.place turn.0 (left_by start journal) d.0.makes.event (ended_by event.ended) (and_told (said_by journal g.queued.place) d.0.makes.answer) turn.1.asked turn.1.unanswered d.0.makes.request_is
             d.0.makes.ended_is d.0.makes.is_event d.0.ends.replied (λ more name uid fetch. stands_undamaged g.next new after name uid then_run g.queued.place (and_told (said_by journal g.queued.place) d.0.makes.answer)
             (subst (λ (q : Request). StandsTask g.next new after q then_run g.queued.place (and_told (said_by journal g.queued.place) d.0.makes.answer)) fetch (d.1 more))) s.undamaged;
@@ -338,7 +338,8 @@ going_on {D} start script run journal broken replies began rows k row now event 
     finds runs = finds_room g.queued.task turn.0 old before run g.goes.store g.goes.ordered (uses_taken start script run journal broken replies began (seen_in old before first) old before (lanes_of rows) s.serving s.lanes (s.accounts runs).adds_up)
 
     answers : old.stopped ≡ false → CanAnswer g.queued.task (left_by start journal) old before
-    answers runs = can_answer g.queued.task turn.0 (left_by start journal) old before g.goes.store runs turn.2.is_of (λ name uid is. s.serving.serves.settled runs (s.fetched g.queued.place (k + 1) name uid (turn.1.asked ∙ ap (λ (q : Request). Some (k + 1, q)) is)))
+    answers runs = can_answer g.queued.task turn.0 (left_by start journal) old before run g.queued.place (said_by journal g.queued.place) g.goes.store runs turn.2 (λ name uid is.
+        files_found s.serving.follows.around s.serving.follows.after script start run journal began.history before g.queued.place (k + 1) turn.0 (s.fetched g.queued.place (k + 1) name uid (turn.1.asked ∙ ap (λ (q : Request). Some (k + 1, q)) is)) turn.1.asked s.serving.follows.next s.serving.serves.legal.steps (s.serving.serves.settled runs))
 
     tells : old.stopped ≡ false → TellsRun g.queued.task run old
     tells runs = tells_run g.queued.task run old (tells_uses start script run journal broken replies began (seen_in old before first) (lanes_of rows) old before s.serving s.lanes (s.accounts runs) runs runs)

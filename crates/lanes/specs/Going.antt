@@ -1,5 +1,5 @@
 -- A script that lanes of tasks serve.
-use Rattle.std.specs.Prelude.{◌≡◌, ◌≢◌, ◌≤◌, ◌+◌, ◌∷◌, ℕ, false, List, [], All, length, map, slice_get, Option, Some}
+use Rattle.std.specs.Prelude.{◌≡◌, ◌≢◌, ◌⊎◌, ◌≤◌, ◌+◌, ◌∷◌, ℕ, false, List, [], All, length, map, slice_get, Option, Some}
 use Rattle.disk_model.specs.Disk.{History, Faults, Grows, told_calls}
 use Rattle.disk_model.specs.FaultCounts.{NoFault}
 use Rattle.mdbox_base.specs.Streams.{Rose}
@@ -24,6 +24,7 @@ use Rattle.serving.specs.Serving.{HaveLanes, IsServing}
 use Rattle.store_core.specs.Value.{StoreValue}
 use Rattle.task_steps.specs.Serves.{BreaksBy}
 use Rattle.task_steps.specs.Step.{FaultsGrow, IsFault, Seen, ended_by}
+use Rattle.mail_fetch.specs.Clause.{ReadsSafe}
 use Rattle.mail_fetch.specs.Task.{seen_in}
 use Rattle.lane_tasks.specs.Tasks.{BeginsTask, IsReadyTask, StandsTask, claims_at}
 use Rattle.lane_tasks.specs.declared.task.Task.{Task}
@@ -55,10 +56,16 @@ pub record AreUndamaged (script : Requests) (run : Run) (replies : List (Option 
   pub events : (place lane : ℕ) (name : List ℕ) (uid : Uid) → slice_get script place ≡ Some (lane, request.Fetch name uid) → All IsUndamaged (own_events place run)
   pub none_told : (i : ℕ) (given : Reply) → HasReply replies i given → TellsDamage (refusal_in given) → ⊥
 
+-- A fetch finds that the files store what the lists have: the disk was settled for the lists at the start; or the request is the script's
+-- only one, and the files read as safe for them before its first event.
+abbrev pub FindsMessages : Lists → Requests → Run → Option History → Option History → Type 0
+FindsMessages start script run began history = IsSettledFor start began ⊎ ((length script ≡ 1) × (run.events ≡ [] → ReadsSafe start history))
+
 -- A script is being served by lanes, of which there are 64 at most, from these lists and from a store as it was seen then, by the
 -- events of this run: with this journal, these broken steps and these replies so far, each lane's request in turn stands where its task
 -- does, those behind it begin; and unless the store is stopped, the lanes account for it, and no call of the disk has failed but for those
--- that read faults tell. A script with a fetch is served so from a settled disk alone, and no message that it reads is damaged.
+-- that read faults tell. A script with a fetch is served so only if that finds the messages (`FindsMessages`), and no message that it reads is
+-- damaged.
 pub record IsGoing {D : Type 0} (start : Lists) (script : Requests) (run : Run) (journal : List JournalStep) (broken : Broken) (replies : List (Option Reply)) (began : Seen) (store : StoreValue D) (history : Option History) (faults : Faults) (rows : List LaneRow) : Type 0 where
   pub serving : IsServing (stands_in store history) start script run journal broken replies began (seen_in store history faults) (lanes_of rows)
   pub lanes : HaveLanes script (lanes_of rows)
@@ -66,7 +73,7 @@ pub record IsGoing {D : Type 0} (start : Lists) (script : Requests) (run : Run) 
   pub waiting : (k : ℕ) (row : LaneRow) → slice_get rows k ≡ Some row → AreWaiting script (k + 1) row.waiting
   pub accounts : store.stopped ≡ false → LanesAccount claims_at IsReadyTask store history (lanes_of rows)
   pub quiet : store.stopped ≡ false → All (λ event. event.refused ≢ Some refusal.ReadFault) run.events → NoFault began.faults faults
-  pub fetched : (place lane : ℕ) (name : List ℕ) (uid : Uid) → slice_get script place ≡ Some (lane, request.Fetch name uid) → IsSettledFor start began.history
+  pub fetched : (place lane : ℕ) (name : List ℕ) (uid : Uid) → slice_get script place ≡ Some (lane, request.Fetch name uid) → FindsMessages start script run began.history history
   pub undamaged : AreUndamaged script run replies
 
 -- ---- what an event of a lane adds to the run and to the journal

@@ -5,7 +5,6 @@ ghost use Rattle.mdbox_base.specs.declared.ids.Uid.{Uid};
 ghost use Rattle.mdbox_base.specs.declared.replies.Reply.{Reply};
 ghost use Rattle.mdbox_base.specs.declared.requests.Request.TheVariants as request;
 ghost use Rattle.mdbox_base.specs.declared.script.JournalEntry.{JournalEntry};
-ghost use Rattle.model_store.specs.Settled.{IsSettledFor};
 ghost use Rattle.model_lists.specs.Lists.{Lists};
 ghost use Rattle.list_machine.specs.Run.{Run, RunEvent, and_then, reply_of};
 ghost use Rattle.journal.specs.Journal.{AreEntriesOf, Broken, HasReply, JournalStep, Requests, moment_of, no_broken};
@@ -18,7 +17,7 @@ ghost use Rattle.task_claims.specs.Claims.{HasNoTask};
 ghost use Rattle.task_steps.specs.Step.{IsFirmAt, Seen, ShowsSeen, ended_by};
 ghost use Rattle.mail_fetch.specs.Task.{seen_in};
 ghost use Rattle.purge_task.specs.Clause.{TellsUses};
-ghost use Rattle.lanes.specs.Going.{AddsEvent, AreFreshRows, IsGoing};
+ghost use Rattle.lanes.specs.Going.{AddsEvent, AreFreshRows, FindsMessages, IsGoing};
 ghost use Rattle.lanes.specs.Rows.{LaneRow, RowGoesOn, lanes_of};
 ghost use Rattle.lanes.specs.Worlds.{AreEntriesAt, ArePartsOf, GoesOnBy, IsFreshWorld, IsLaneEvent, IsServedOn, IsSoundWorld, IsWorldOf, KeepsWorld, PartsValue, WorldValue};
 ghost use Rattle.lanes.specs.declared.lane.LaneEvent.{LaneEvent};
@@ -30,7 +29,7 @@ use disk_model::Disk;
 pub fn lanes_begin<D: Disk>()
     ensures { (start : Lists) (script : Requests) (run : Run) (rows : List LaneRow) (store : StoreValue D) (history : Option History) (faults : Faults) → IsAtOpening run store → HasCome run store.map store.drawn (told_calls history) → HasNoTask store → store.stopped ≡ false → ShowsSeen (seen_in store history faults) start → IsFirmAt start (seen_in store history faults)
         → AreFreshRows script rows → HaveLanes script (lanes_of rows) → length rows ≤ 64
-        → ((place lane : ℕ) (name : List ℕ) (uid : Uid) → slice_get script place ≡ Some (lane, request.Fetch name uid) → IsSettledFor start history) → IsGoing start script run [] no_broken (unreplied script) (seen_in store history faults) store history faults rows }
+        → ((place lane : ℕ) (name : List ℕ) (uid : Uid) → slice_get script place ≡ Some (lane, request.Fetch name uid) → FindsMessages start script run history history) → IsGoing start script run [] no_broken (unreplied script) (seen_in store history faults) store history faults rows }
 {}
 
 /// A script that lanes serve is served with an event more of any lane, whatever the other lanes do: the run and the journal go on with

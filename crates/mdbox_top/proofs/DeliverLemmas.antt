@@ -36,7 +36,8 @@ use Rattle.request_text.specs.declared.outcome.StoreRefusal.{StoreRefusal}
 use Rattle.request_text.specs.declared.outcome.Outcome.{Outcome}
 use Rattle.request_text.specs.declared.outcome.Outcome.TheVariants as outcome
 use Rattle.mdbox_top.specs.Alone.{IsDoneAlone}
-use Rattle.script_run.specs.One.{IsAlongOne, OpensUnchanged, RunsAlone, alone, lists_told, saved_lists}
+use Rattle.script_run.specs.One.{IsAlongOne, OpensUnchanged, alone, lists_told, saved_lists}
+use Rattle.mdbox_top.proofs.FetchedLemmas.{SafeAreShown, fetch_done}
 use Rattle.mdbox_top.proofs.SaveLemmas.{IsAlike, IsSaveTold, SavesAlone, StandsSave, StoresAlone, begun_save, keeps_save}
 use Rattle.mdbox_top.proofs.MakeLemmas.{done_alone}
 use Rattle.mdbox_top.proofs.OneStepLemmas.{stopped_one, unfailed_by}
@@ -221,7 +222,7 @@ deliver_settles : {D : Type 0} → (name : List ℕ) (time : ℕ) (octets : List
 deliver_settles name time octets prepared given old new began now w running lists at = elim (read_or_not given) [
   | inl read ↦ subst (λ (r : Reply). IsSettledFor (lists_told (request.Deliver name time octets) r lists) new) (sym read) ((deliver_saves name time octets prepared given old new began now w).settled read lists (w.worked.settled_again lists at))
   | inr unread ↦
-      let s = w.done.done.serves lists (w.done.done.shown lists (settled_safe lists old at)) (may_read (delivering name time octets) tt lists old) in
+      let s = w.done.done.serves lists (w.done.done.shown lists (settled_safe lists old at)) (may_read (delivering name time octets) refl lists old) in
       subst (λ (ls : Lists). IsSettledFor ls new) (told_left lists (delivering name time octets) s.run s.journal given began now s.served.legal (unfailed_by given unread running)) (s.settled (stopped_one given running) at)
 ]
 
@@ -237,7 +238,7 @@ one_safe name time octets lists some image along s = elim (along_save name time 
 
 deliver_leaves : (name : List ℕ) (time : ℕ) (octets : List ℕ) (given : Reply) (old new : Option History) (began now : Faults) → IsRequestDone (delivering name time octets) given old new began now → SaveMoments name time octets old new
 deliver_leaves name time octets given old new began now w = λ lists at.
-    let s = w.done.serves lists (w.done.shown lists (settled_safe lists old at)) (may_read (delivering name time octets) tt lists old) in
+    let s = w.done.serves lists (w.done.shown lists (settled_safe lists old at)) (may_read (delivering name time octets) refl lists old) in
     each_image-map (IsReached lists s.run s.journal s.broken) (λ _ image. Safe image lists ⊎ ((some : Lists) × AreSaved name time octets lists some × Safe image some)) old new
     (λ moment image is. one_safe name time octets lists is.0 image (reached_saved name time octets lists s.run s.journal s.broken (Some given ∷ []) began now _ s.m s.drawn _ s.served moment is.0 is.1) is.2) (s.crash at)
 
@@ -316,7 +317,7 @@ deliver_tells name time octets prepared given old new began now w =
           subst (λ (h : Option History). OpensUnchanged s.map (indexes_of s.boxes) old h) (sym back.1) (opens_again k.opened s k.sound k.running, k.carried, k.swept);
       unsaved = λ why e running. opens_alike name time prepared new s t k.later (deliver_runs name time octets prepared given old new began now w (refused_runs given why e running)) k.drawn (saves.unsaved why e running) (saves.left why e running);
       done = opens_saved name time octets prepared given old new began now w;
-      mail = (k.swept.0, k.opened, k.swept.1, w.done.done.stays (refl, λ delivers. served_some (delivering name time octets) given old new began now w.done tt), mail_left name time octets prepared given k.opened new s t saves);
+      mail = (k.swept.0, k.opened, k.swept.1, w.done.done.stays (refl, λ delivers. served_some (delivering name time octets) given old new began now w.done refl), mail_left name time octets prepared given k.opened new s t saves);
       settled = deliver_settles name time octets prepared given old new began now w;
     }
 
@@ -324,20 +325,27 @@ deliver_tells name time octets prepared given old new began now w =
 
 deliver_done : {D : Type 0} → (name : List ℕ) (time : ℕ) (octets : List ℕ) (prepared : Prepared) (given : Reply) (old new : Option History) (began now : Faults) → IsDelivered D name time octets prepared given old new began now → IsDoneAlone (request.Deliver name time octets) given old new began now
 deliver_done name time octets prepared given old new began now w =
-    let faults = alone_faults (delivering name time octets) given old new began now w.done tt refl in
+    let faults = alone_faults (delivering name time octets) given old new began now w.done refl in
     record {
       tells = deliver_tells name time octets prepared given old new began now w;
-      serves = λ lists safe. serves_one (delivering name time octets) given w.done.entries old new began now w.done.done lists safe (may_read (delivering name time octets) tt lists old);
+      serves = λ lists safe. serves_one (delivering name time octets) given w.done.entries old new began now w.done.done lists safe (may_read (delivering name time octets) refl lists old);
       moments = deliver_leaves name time octets given old new began now w.done;
       rests = λ none lists at. by_reply name time octets given lists new (deliver_settles name time octets prepared given old new began now w (λ e. none e (faults.stopped e)) lists at);
       faults = faults;
     }
 
--- a request of any kind that runs as a script of its own
-pub alone_done : {D : Type 0} → (asked : Request) (prepared : Option Prepared) (given : Reply) (old new : Option History) (began now : Faults) → IsRequestDone asked given old new began now → (entries : List JournalEntry) × IsWorkedOut D (alone asked) 1 (Some given ∷ []) entries old new began now → RunsAlone asked → HasItsMessage asked prepared → ListsAnswer
+-- a request of any kind, as the script of one request that it is
+pub alone_done : {D : Type 0} → (asked : Request) (prepared : Option Prepared) (given : Reply) (old new : Option History) (began now : Faults) → IsRequestDone asked given old new began now → (entries : List JournalEntry) × IsWorkedOut D (alone asked) 1 (Some given ∷ []) entries old new began now → HasItsMessage asked prepared → ListsAnswer → SafeAreShown
     → IsDoneAlone asked given old new began now
-alone_done (request.Deliver name time octets) (Some prepared) given old new began now w k one message answer = deliver_done name time octets prepared given old new began now (record { done = w; entries = k.0; worked = k.1; form = message.1 })
-alone_done (request.Deliver name time octets) None given old new began now w k one message answer = absurd message
-alone_done request.Resync prepared given old new began now w k one message answer = resync_done given old new began now w
-alone_done request.Purge prepared given old new began now w k one message answer = purge_done given old new began now w
-alone_done asked prepared given old new began now w k one message answer = done_alone asked given old new began now w one answer
+alone_done (request.Deliver name time octets) (Some prepared) given old new began now w k message answer show = deliver_done name time octets prepared given old new began now (record { done = w; entries = k.0; worked = k.1; form = message.1 })
+alone_done (request.Deliver name time octets) None given old new began now w k message answer show = absurd message
+alone_done (request.Fetch name uid) prepared given old new began now w k message answer show = fetch_done name uid given k.0 old new began now w k.1 show
+alone_done request.Resync prepared given old new began now w k message answer show = resync_done given old new began now w
+alone_done request.Purge prepared given old new began now w k message answer show = purge_done given old new began now w
+alone_done (request.List name) prepared given old new began now w k message answer show = done_alone (request.List name) given old new began now w tt answer
+alone_done (request.Flag name uid flags) prepared given old new began now w k message answer show = done_alone (request.Flag name uid flags) given old new began now w tt answer
+alone_done (request.Expunge name uid) prepared given old new began now w k message answer show = done_alone (request.Expunge name uid) given old new began now w tt answer
+alone_done (request.Copy name uid target) prepared given old new began now w k message answer show = done_alone (request.Copy name uid target) given old new began now w tt answer
+alone_done (request.Move name uid target) prepared given old new began now w k message answer show = done_alone (request.Move name uid target) given old new began now w tt answer
+alone_done (request.Make name) prepared given old new began now w k message answer show = done_alone (request.Make name) given old new began now w tt answer
+alone_done request.Counts prepared given old new began now w k message answer show = done_alone request.Counts given old new began now w tt answer

@@ -1,11 +1,9 @@
 -- What the events of a fetch alone say together.
-use Rattle.std.specs.Prelude.{length, zero, suc, ◌≡◌, ◌⊎◌, ◌≤◌, ◌<◌, ◌+◌, ◌==◌, ◌&&◌, ℕ, Bool, true, false, cond, not, is_some, if◌then◌else◌, List, [], ◌∷◌, ◌++◌, map, filter, flat_map, count_by, slice_get, Option, Some, None}
+use Rattle.std.specs.Prelude.{length, ◌≡◌, ◌⊎◌, ◌≤◌, ◌<◌, ◌==◌, ◌&&◌, ℕ, Bool, true, false, is_some, if◌then◌else◌, List, [], ◌∷◌, ◌++◌, map, flat_map, Option, Some, None}
 use Rattle.std.proofs.Common.{refl, sym, ◌∙◌, ap, subst, inl, inr, append_assoc, append-nil, arith}
 use Rattle.std.specs.Option.{option_map}
 use Rattle.std.proofs.lemmas.Bool.{cases_lt}
 use Rattle.std.proofs.lemmas.List.Elements.{All-contains}
-use Rattle.std.proofs.lemmas.List.Filters.{sum_by-filter_both}
-use Rattle.std.proofs.lemmas.List.Sums.{sum_by-append, sum_by_push}
 use Rattle.disk_model.specs.Disk.{DiskState, History, Faults, IfTold, IsIdle, reading}
 use Rattle.disk_model.specs.FaultCounts.{NoFault}
 use Rattle.disk_model.specs.declared.name.FileName.TheVariants.{Mail, Inst}
@@ -21,48 +19,40 @@ use Rattle.mdbox_base.specs.declared.replies.Refusal.{Refusal}
 use Rattle.mdbox_base.specs.declared.replies.Refusal.TheVariants as refusal
 use Rattle.mdbox_base.specs.declared.replies.Reply.{Reply}
 use Rattle.mdbox_base.specs.declared.replies.Reply.TheVariants as reply
-use Rattle.mdbox_base.specs.declared.requests.Request.{Request}
 use Rattle.mdbox_base.specs.declared.requests.Request.TheVariants as request
-use Rattle.model_kept.proofs.KeptLemmas.{ReadsImage}
-use Rattle.model_lists.specs.Lists.{ListedMessage, Lists}
 use Rattle.model_meaning.specs.BoxMeaning.{LogRow, BoxMeaning, row_at}
 use Rattle.model_meaning.specs.MapMeaning.{MapRecord, record_at}
 use Rattle.model_meaning.specs.Sound.{IsSoundRecord}
 use Rattle.model_octets.proofs.SearchLemmas.{found_one}
-use Rattle.model_store.specs.Safe.{Safe}
 use Rattle.model_store.specs.Settled.{files_of}
-use Rattle.list_machine.specs.Machine.{Answers, Does, message_at}
-use Rattle.list_machine.specs.Run.{EventPart, First, RunEvent, Run, before, own_events}
-use Rattle.journal.specs.Events.{Around, is_fault, is_faulted}
-use Rattle.journal.specs.Journal.{JournalStep, AreSteps, refusal_in, is_read_fault, steps_of}
-use Rattle.journal.specs.Makes.{StepOf}
 use Rattle.storage_files.specs.Files.{end_in, is_doomed_in, pins_in}
 use Rattle.storage_files.specs.OnDisk.{piece_read}
 use Rattle.store_core.specs.Running.{IsStore}
 use Rattle.store_core.specs.Value.{StoreValue, list_named}
-use Rattle.task_steps.specs.Step.{Seen, StaysFirm, ended_by}
-use Rattle.mail_fetch.specs.Claims.{HasFetchRoom, used_by}
-use Rattle.mail_fetch.specs.Clause.{FetchSteps, FetchesAlone, MakesOfDisk, OnlyReadsDisk, ReadsSafe}
+use Rattle.task_steps.specs.Step.{ended_by}
+use Rattle.mail_ops.specs.Requests.{IsOpsRequest}
+use Rattle.mail_fetch.specs.Claims.{used_by}
+use Rattle.mail_fetch.specs.Clause.{FetchesAlone, MakesOfDisk, OnlyReadsDisk}
 use Rattle.mail_fetch.specs.Events.{fetch_refusal, IsAbsent, IsStoredBy, IsBegun, next_piece, with_piece, IsPieceRead, FetchesNext, NoChangeFault}
 use Rattle.mail_fetch.specs.Failed.{HasFailedRead}
 use Rattle.mail_fetch.specs.Parts.{instance_part, left_after, parts_to_read, parts_read, pieces_left}
 use Rattle.mail_fetch.specs.Region.{stored_at, RegionValue, unread, HoldsWhole, IsReplyFor, damage_at}
-use Rattle.mail_fetch.specs.Stages.{IsAtFetch, IsTrueReply, UnpinsNext}
-use Rattle.mail_fetch.specs.Removal.{is_last_pin}
-use Rattle.mail_fetch.specs.Task.{FetchValue, seen_in}
 use Rattle.mail_fetch.specs.declared.parts.StoredAt.{StoredAt}
 use Rattle.mail_fetch.specs.declared.task.FetchStage.{FetchStage}
 use Rattle.mail_fetch.specs.declared.task.FetchStage.TheVariants as stage
 use Rattle.mail_fetch.proofs.AbsentLemmas.{absent_damaged, nothing_damaged}
-use Rattle.mail_fetch.proofs.StageLemmas.{used_only}
-use Rattle.mail_fetch.proofs.StepLemmas.{absent_unstored, safe_fetched, store_is_sound}
+use Rattle.mail_fetch.proofs.StageLemmas.{used_only, used_undoomed}
+use Rattle.mail_fetch.proofs.StepLemmas.{store_is_sound}
 use Rattle.mail_fetch.proofs.PartLemmas.{reads_after, reads_none, reads_of_parts}
-use Rattle.script_run.specs.One.{alone, missing_cause}
-use Rattle.mdbox_top.specs.FetchEvents.{FetchIsAt, TakesMessage, TakesServed}
+use Rattle.lane_tasks.specs.Clause.{FetchesSo, StaysOfRequest, TellsStore, progress_by}
+use Rattle.lane_tasks.specs.Tasks.{BeginsTask}
+use Rattle.lane_tasks.specs.declared.task.Task.{Task}
+use Rattle.lane_tasks.specs.declared.task.Task.TheVariants as task
+use Rattle.lane_tasks.proofs.StepLemmas.{ops_asked}
+use Rattle.script_run.specs.One.{missing_cause}
+use Rattle.script_run.proofs.OneTaskLemmas.{KeepsCounted}
 use Rattle.mdbox_top.specs.FetchRun.{message_read, IsFetchAnswer}
 use Rattle.mdbox_top.specs.Served.{FaultsByReply}
-use Rattle.mdbox_top.specs.UnderWay.{IsUnderWay}
-use Rattle.mdbox_top.proofs.UnderWayLemmas.{nothing_found, way_shows, way_goes_on, way_ends}
 
 -- ---- a message, piece by piece
 
@@ -86,22 +76,6 @@ region_more entry region piece disk read is =
 
 region_whole : (entry : MapRecord) (region : RegionValue) (disk : DiskState) → pieces_left region.left ≡ 0 → HasRead entry region disk → region.octets ≡ message_read entry disk
 region_whole entry region disk none read = sym (append-nil region.octets) ∙ (ap (λ (xs : List ℕ). region.octets ++ xs) (sym (reads_none (files_of disk) region.left none)) ∙ read)
-
--- ---- counts
-
-count_front : {X : Type 0} → (p : X → Bool) (xs ys : List X) → count_by p xs ≤ count_by p (xs ++ ys)
-count_front {X = X} p xs ys =
-    let a : count_by p (xs ++ ys) ≡ count_by p xs + count_by p ys = sum_by-append (λ (x : X). cond (p x) 1 0) xs ys in omega (arith, a)
-
-count_last : {X : Type 0} → (p : X → Bool) (xs : List X) (x : X) → p x ≡ true → 1 ≤ count_by p (xs ++ x ∷ [])
-count_last {X = X} p xs x e =
-    let a : count_by p (xs ++ x ∷ []) ≡ count_by p xs + cond (p x) 1 0 = sum_by_push (λ (y : X). cond (p y) 1 0) xs x in
-    let b : ◌≡◌ {A = ℕ} (cond (p x) 1 0) 1 = ap (λ (c : Bool). cond c 1 0) e in
-    omega (arith, a, b)
-
-pub count_kept : {X : Type 0} → (p q : X → Bool) (xs : List X) → count_by p (filter q xs) ≤ count_by p xs
-count_kept {X = X} p q xs =
-    let a : count_by p (filter q xs) + count_by p (filter (λ x. not (q x)) xs) ≡ count_by p xs = sum_by-filter_both q (λ (x : X). not (q x)) (λ x. refl) (λ (x : X). cond (p x) 1 0) xs in omega (arith, a)
 
 -- ---- replies
 
@@ -151,12 +125,6 @@ answer_runs : (row : LogRow) (entry : MapRecord) (history : Option History) (giv
 answer_runs row entry history given (inl e) = λ f. let k : reply.Refused refusal.ReadFault ≡ reply.Refused refusal.Stopped = sym e ∙ f in let r : refusal.ReadFault ≡ refusal.Stopped = cc k in cc r
 answer_runs row entry history given (inr (region, told, is)) = (region_calm (stored_at row entry) region given is).1
 
--- a read fault is the only reply of which this holds
-pub read_is : (given : Reply) → is_read_fault (Some given) ≡ true → given ≡ reply.Refused refusal.ReadFault
-read_is (reply.Refused refusal.ReadFault) e = refl
-read_is (reply.Refused other) e = absurd (cc e)
-read_is other e = absurd (cc e)
-
 failed_is : (from : StoredAt) (given : Reply) → HasFailedRead (stage.Unpinning from given) → given ≡ reply.Refused refusal.ReadFault
 failed_is from (reply.Refused refusal.ReadFault) h = refl
 failed_is from (reply.Refused other) h = absurd h
@@ -178,21 +146,11 @@ abbrev pub at_use : {D : Type 0} → StoreValue D → StoreValue D → StoreValu
 at_use first now = record first { disk = now.disk; files = now.files; instances = now.instances }
 
 -- How an event of a fetch alone answers: no file is doomed, so that none is to be removed.
-abbrev pub AloneNext : {D : Type 0} → List ℕ → ℕ → FetchStage → FetchStage → Progress → StoreValue D → Option History → Faults → Faults → Type 0
+abbrev AloneNext : {D : Type 0} → List ℕ → ℕ → FetchStage → FetchStage → Progress → StoreValue D → Option History → Faults → Faults → Type 0
 AloneNext name uid (stage.Unpinning from given) next answer store history old new =
     (store.stopped ≡ true → (answer ≡ progress.Done (reply.Refused refusal.Stopped)) × (next ≡ stage.Unpinning from given)) × (store.stopped ≡ false → (answer ≡ progress.Done given) × (next ≡ stage.First))
 AloneNext name uid (stage.Removing file given) next answer store history old new = ⊥
 AloneNext name uid now next answer store history old new = FetchesNext name uid now next answer store history old new
-
--- What an event of the fetch says, of a store that differs from the first in its disk, its storage files and its instances alone.
-pub record FetchEvent {D : Type 0} (history : D → Option History) (faults : D → Faults) (name : List ℕ) (uid : Uid) (first d e : StoreValue D) (now next : FetchStage) (how : Did) (answer : Progress) : Type 0 where
-  pub does : (around after : Around) → FetchSteps around after name uid now next (at_use first d) (at_use first e) (history d.disk) (history e.disk) (faults d.disk) (faults e.disk) how (ended_by answer)
-  pub replies : AloneNext name uid.0 now next answer (at_use first d) (history d.disk) (faults d.disk) (faults e.disk)
-  pub reads : IfTold (history d.disk) ReadsImage
-  pub firm : (at_use first e).stopped ≡ false → StaysFirm (seen_in (at_use first d) (history d.disk) (faults d.disk)) (seen_in (at_use first e) (history e.disk) (faults e.disk))
-  pub idle : IsIdle (history d.disk) (history e.disk)
-  pub fault : NoChangeFault (faults d.disk) (faults e.disk)
-  pub unfailed : (HasFailedRead next → ⊥) → NoFault (faults d.disk) (faults e.disk)
 
 -- ---- what is known at each stage
 
@@ -244,12 +202,11 @@ piece_knows name uid first old new f g region next idle (row, entry, none, store
         (row, entry, none, stored, from, inr (region.octets ++ piece, if_told-map (HasRead entry (with_piece region piece)) (λ disk. region.octets ++ piece ≡ message_read entry disk) new (λ disk r. region_whole entry (with_piece region piece) disk none_left r) read_now, subst (λ (a : StoredAt). IsReplyFor a (region.octets ++ piece) l.0) from l.2))
 
 -- behind any event that goes on
-knows_on : {D : Type 0} → (history : D → Option History) (faults : D → Faults) (name : List ℕ) (uid : Uid) (first : StoreValue D) (d e : StoreValue D) (now next : FetchStage) → first.stopped ≡ false → IsIdle (history d.disk) (history e.disk) → StageKnows name uid.0 first (history d.disk) now
-    → AloneNext name uid.0 now next progress.More (at_use first d) (history d.disk) (faults d.disk) (faults e.disk) → StageKnows name uid.0 first (history e.disk) next
-knows_on history faults name uid first d e stage.First next running idle k r = begun_knows name uid.0 first d (history e.disk) next (fetch_refusal name uid.0 first) refl r
-knows_on history faults name uid first d e (stage.Reading region) next running idle k r = piece_knows name uid.0 first (history d.disk) (history e.disk) (faults d.disk) (faults e.disk) region next idle k (r.1 running).1
-knows_on history faults name uid first d e (stage.Unpinning from given) next running idle k r = absurd (more_done given (r.1 running).0)
-knows_on history faults name uid first d e (stage.Removing file given) next running idle k r = absurd r
+knows_on : {D : Type 0} → (name : List ℕ) (uid : ℕ) (first old : StoreValue D) (before after : Option History) (f g : Faults) (now next : FetchStage) → first.stopped ≡ false → IsIdle before after → StageKnows name uid first before now → AloneNext name uid now next progress.More (at_use first old) before f g → StageKnows name uid first after next
+knows_on name uid first old before after f g stage.First next running idle k r = begun_knows name uid first old after next (fetch_refusal name uid first) refl r
+knows_on name uid first old before after f g (stage.Reading region) next running idle k r = piece_knows name uid first before after f g region next idle k (r.1 running).1
+knows_on name uid first old before after f g (stage.Unpinning from given) next running idle k r = absurd (more_done given (r.1 running).0)
+knows_on name uid first old before after f g (stage.Removing file given) next running idle k r = absurd r
 
 -- ---- the counts of faults
 
@@ -303,57 +260,82 @@ faults_on name uid now next store old began f g running so r fault unfailed =
       unfailed = λ none. unfailed none ∙ before;
     }
 
+-- ---- from what a step says
+
+-- no file is doomed, so not that which is unpinned
+alone_next : {D : Type 0} → (name : List ℕ) (uid : ℕ) (now next : FetchStage) (answer : Progress) (s : StoreValue D) (first : StoreValue D) (told history : Option History) (f g : Faults) → ((file : ℕ) → is_doomed_in file s.files.files ≡ false) → StageKnows name uid first told now → FetchesNext name uid now next answer s history f g → AloneNext name uid now next answer s history f g
+alone_next name uid stage.First next answer s first told history f g none k r = r
+alone_next name uid (stage.Reading region) next answer s first told history f g none k r = r
+alone_next name uid (stage.Unpinning from given) next answer s first told history f g none k r = (r.0, λ runs. (r.1 runs).other (ap (λ (b : Bool). b && (pins_in from.file.0 s.files.files == 1)) (none from.file.0)))
+alone_next name uid (stage.Removing file given) next answer s first told history f g none k r = absurd k
+
+-- an event of a fetch alone reads at the most
+alone_reads : {D : Type 0} → (name : List ℕ) (uid : ℕ) (now next : FetchStage) (s t first : StoreValue D) (told before later : Option History) (began faults : Faults) → StageKnows name uid first told now → MakesOfDisk now next s t before later began faults → OnlyReadsDisk next before later began faults
+alone_reads name uid stage.First next s t first told before later began faults k made = made
+alone_reads name uid (stage.Reading region) next s t first told before later began faults k made = made
+alone_reads name uid (stage.Unpinning from given) next s t first told before later began faults k made = made
+alone_reads name uid (stage.Removing file given) next s t first told before later began faults k made = absurd k
+
+-- so it doesn't stop the store
+alone_runs : {D : Type 0} → (name : List ℕ) (uid : ℕ) (now next : FetchStage) (s t first : StoreValue D) (told : Option History) → StageKnows name uid first told now → t ≡ record (used_by now next s) { disk = t.disk } → t.stopped ≡ s.stopped
+alone_runs {D = D} name uid now next s t first told k e = ap (λ (v : StoreValue D). v.stopped) e ∙ by_stages now next k
+  where
+    by_stages : (a b : FetchStage) → StageKnows name uid first told a → (used_by a b s).stopped ≡ s.stopped
+    by_stages stage.First stage.First k = refl
+    by_stages stage.First (stage.Reading region) k = refl
+    by_stages stage.First (stage.Unpinning from given) k = refl
+    by_stages stage.First (stage.Removing file given) k = refl
+    by_stages (stage.Reading region) b k = refl
+    by_stages (stage.Unpinning from given) stage.First k = refl
+    by_stages (stage.Unpinning from given) (stage.Reading region) k = refl
+    by_stages (stage.Unpinning from given) (stage.Unpinning other reply) k = refl
+    by_stages (stage.Unpinning from given) (stage.Removing file reply) k = refl
+    by_stages (stage.Removing file given) b k = absurd k
+
+still_first : {D : Type 0} → (name : List ℕ) (uid : ℕ) (first s t : StoreValue D) (now next : FetchStage) (told : Option History) → StageKnows name uid first told now → s ≡ at_use first s → t ≡ record (used_by now next s) { disk = t.disk } → t ≡ at_use first t
+still_first {D = D} name uid first s t now next told k a b =
+    used_only now next s t b
+    ∙ (ap (λ (h : Bool). record s { disk = t.disk; files = t.files; instances = t.instances; stopped = h }) (alone_runs name uid now next s t first told k b) ∙ ap (λ (v : StoreValue D). record v { disk = t.disk; files = t.files; instances = t.instances }) a)
+
+-- it runs still
+runs_on : {D : Type 0} → (first s : StoreValue D) → s ≡ at_use first s → first.stopped ≡ false → s.stopped ≡ false
+runs_on first s same runs = ap (λ (v : StoreValue _). v.stopped) same ∙ runs
+
 -- ---- the whole
 
--- Where a fetch alone is, behind some of its events: what it knows, what failed, and that it is under way from all lists for
--- which the files are safe.
-pub record IsFetching {D : Type 0} (history : D → Option History) (faults : D → Faults) (name : List ℕ) (uid : Uid) (first d : StoreValue D) (now : FetchStage) : Type 0 where
-  pub idle : IsIdle (history first.disk) (history d.disk)
-  pub counted : FaultsSoFar now (faults first.disk) (faults d.disk)
-  pub knows : StageKnows name uid.0 first (history d.disk) now
-  pub served : (lists : Lists) (seen : Seen) → FetchIsAt stage.First name uid lists seen first (history first.disk) (faults first.disk) → ReadsSafe lists (history first.disk) → FetchIsAt now name uid lists seen (at_use first d) (history d.disk) (faults d.disk)
+-- Where a fetch alone is, behind some of its events: of the store that was opened the disk, the files and the instances may be others,
+-- no file is doomed, and nothing of the disk has changed; what it knows, and which calls failed.
+pub record IsFetching {D : Type 0} (name : List ℕ) (uid : ℕ) (first : StoreValue D) (mid : Option History) (began : Faults) (now : FetchStage) (store : StoreValue D) (history : Option History) (counted : Faults) : Type 0 where
+  pub same : store ≡ at_use first store
+  pub undoomed : (file : ℕ) → is_doomed_in file store.files.files ≡ false
+  pub idle : IsIdle mid history
+  pub faults : FaultsSoFar now began counted
+  pub knows : StageKnows name uid first history now
 
-pub fetching_begins : {D : Type 0} → (history : D → Option History) (faults : D → Faults) (name : List ℕ) (uid : Uid) (first : StoreValue D) → IsFetching history faults name uid first first stage.First
-fetching_begins history faults name uid first = record {
-  idle = idle-begins (history first.disk);
-  counted = record { reads = omega arith; changes = refl; failed = λ h. absurd h; unfailed = λ none. refl };
+fetching_begins : {D : Type 0} → (name : List ℕ) (uid : ℕ) (first : StoreValue D) (mid : Option History) (began : Faults) → ((file : ℕ) → is_doomed_in file first.files.files ≡ false) → IsFetching name uid first mid began stage.First first mid began
+fetching_begins name uid first mid began undoomed = record {
+  same = refl;
+  undoomed = undoomed;
+  idle = idle-begins mid;
+  faults = record { reads = omega arith; changes = refl; failed = λ h. absurd h; unfailed = λ none. refl };
   knows = tt;
-  served = λ lists seen u safe. u;
 }
 
--- the files are safe for the same lists
-pub reads_on : (lists : Lists) (old new : Option History) → IsIdle old new → ReadsSafe lists old → ReadsSafe lists new
-reads_on lists None new idle safe = absurd safe
-reads_on lists (Some old) None idle safe = absurd idle.same
-reads_on lists (Some old) (Some new) idle safe = subst (λ (disk : DiskState). Safe (files_of disk) lists) (sym idle.same) safe
-
--- no event of a fetch changes the lists
-does_leaves : (run : Run) (event : RunEvent) (name : List ℕ) (uid : Uid) (lists left : Lists) (part : EventPart) (answer : Reply) → Does run event lists (request.Fetch name uid) part answer left → left ≡ lists
-does_leaves run event name uid lists left First (reply.Fetched octets) d = d.3
-does_leaves run event name uid lists left part answer d = absurd d
-
-fetch_leaves : (run : Run) (event : RunEvent) (name : List ℕ) (uid : Uid) (lists left : Lists) (answer : Option Reply) → StepOf run (request.Fetch name uid) lists event answer left → left ≡ lists
-fetch_leaves run event name uid lists left None made = made
-fetch_leaves run event name uid lists left (Some (reply.Refused why)) made = made.0.1
-fetch_leaves run event name uid lists left (Some other) made = does_leaves run event name uid lists left event.part other made.0.1
-
-kept_lists : (name : List ℕ) (uid : Uid) (lists : Lists) (began now : Seen) (Stands : Run → ℕ → List Reply → Type 0) (left : Lists) → left ≡ lists → IsUnderWay Stands (request.Fetch name uid) lists began now left → IsUnderWay Stands (request.Fetch name uid) lists began now lists
-kept_lists name uid lists began now Stands left e u = subst (λ (ls : Lists). IsUnderWay Stands (request.Fetch name uid) lists began now ls) e u
-
-pub fetching_on : {D : Type 0} → (history : D → Option History) (faults : D → Faults) (name : List ℕ) (uid : Uid) (first : StoreValue D) (d e : StoreValue D) (now next : FetchStage) (how : Did) → first.stopped ≡ false → IsFetching history faults name uid first d now → FetchEvent history faults name uid first d e now next how progress.More
-    → IsStore (history d.disk) (at_use first d) → IsFetching history faults name uid first e next
-fetching_on history faults name uid first d e now next how running so event k = record {
-  idle = idle-then (history first.disk) (history d.disk) (history e.disk) so.idle event.idle;
-  counted = faults_on name uid.0 now next (at_use first d) (history d.disk) (faults first.disk) (faults d.disk) (faults e.disk) running so.counted event.replies event.fault event.unfailed;
-  knows = knows_on history faults name uid first d e now next running event.idle so.knows event.replies;
-  served = λ lists seen u0 safe.
-      let from : Seen = seen_in (at_use first d) (history d.disk) (faults d.disk) in
-      let to : Seen = seen_in (at_use first e) (history e.disk) (faults e.disk) in
-      let u = so.served lists seen u0 safe in
-      let s = event.does nothing_found nothing_found u.run 1 0 u.said lists u.goes.serves.come (way_shows (IsAtFetch now from.stopped from.history) (request.Fetch name uid) lists lists seen from u) (λ runs. safe_fetched now name uid (at_use first d) (history d.disk) lists k running (reads_on lists (history first.disk) (history d.disk) so.idle safe)) u.stands in
-      let v = way_goes_on (IsAtFetch now from.stopped from.history) (IsAtFetch next to.stopped to.history) (request.Fetch name uid) lists lists seen from to nothing_found nothing_found how u s.0 event.reads event.firm (s.1 refl) in
-      kept_lists name uid lists seen to (IsAtFetch next to.stopped to.history) s.0.left (fetch_leaves u.run s.0.makes.event name uid lists s.0.left s.0.makes.answer s.0.makes.made) v;
+fetching_on : {D : Type 0} → (name : List ℕ) (uid : ℕ) (first : StoreValue D) (mid : Option History) (began : Faults) (now next : FetchStage) (how : Did) (old new : StoreValue D) (before after : Option History) (f g : Faults) → first.stopped ≡ false → IsFetching name uid first mid began now old before f
+    → FetchesAlone name uid now next how progress.More old new before after f g → IsFetching name uid first mid began next new after g
+fetching_on {D} name uid first mid began now next how old new before after f g running so event = record {
+  same = still_first name uid first old new now next before so.knows so.same event.same;
+  undoomed = λ file. used_undoomed now next old new file event.same (so.undoomed file);
+  idle = idle-then mid before after so.idle only.idle;
+  faults = faults_on name uid now next old before began f g (runs_on first old so.same running) so.faults replies only.fault only.unfailed;
+  knows = knows_on name uid first old before after f g now next running only.idle so.knows (subst (λ (v : StoreValue D). AloneNext name uid now next progress.More v before f g) so.same replies);
 }
+  where
+    replies : AloneNext name uid now next progress.More old before f g
+    replies = alone_next name uid now next progress.More old first before before f g so.undoomed so.knows event.replies
+
+    only : OnlyReadsDisk next before after f g
+    only = alone_reads name uid now next old new first before before after f g so.knows event.disk
 
 -- ---- the end
 
@@ -402,40 +384,12 @@ first_calm name uid next given store running b = by_cause (fetch_refusal name ui
     by_cause None e = by_other ((first_given name uid next given store b).other e)
 
 -- refused by its cause
-pub refused_ends : {D : Type 0} → (history : D → Option History) (faults : D → Faults) (name : List ℕ) (uid : Uid) (first : StoreValue D) (d e : StoreValue D) (now next : FetchStage) (given : Reply) → first.stopped ≡ false → IsFetching history faults name uid first d now
-    → DoneNow name uid.0 now next given (at_use first d) (history d.disk) (faults d.disk) (faults e.disk) → (why : Refusal) → fetch_refusal name uid.0 first ≡ Some why → given ≡ reply.Refused why
-refused_ends history faults name uid first d e stage.First next given running so r why cause = (first_given name uid.0 next given (at_use first d) r).refused why cause
-refused_ends history faults name uid first d e (stage.Reading region) next given running so r why cause = absurd (more_done given (sym (r.1 running).0))
-refused_ends history faults name uid first d e (stage.Unpinning from other) next given running so r why cause = absurd (let k : None ≡ Some why = sym so.knows.2 ∙ cause in cc k)
-refused_ends history faults name uid first d e (stage.Removing file other) next given running so r why cause = absurd r
-
--- the only request of the script
-one_asked : (q x : ℕ × Request) (n : ℕ) → slice_get (q ∷ []) n ≡ Some x → ((n == 0) ≡ true) × (x ≡ q)
-one_asked q x zero e = (refl, let k : q ≡ x = cc e in sym k)
-one_asked q x (suc n) e = absurd (let k : None ≡ Some x = e in cc k)
-
-steps_all : (request : Request) (run : Run) (lists : Lists) (journal : List JournalStep) → AreSteps run (alone request) lists journal → steps_of 0 journal ≡ journal
-steps_all request run lists [] s = refl
-steps_all request run lists (step ∷ steps) s =
-    ap (λ (b : Bool). cond b (step ∷ steps_of 0 steps) (steps_of 0 steps)) (one_asked (1, request) s.0.asked step.request s.0.request_is).0 ∙ ap (λ (l : List JournalStep). step ∷ l) (steps_all request run step.left steps s.1)
-
-part_text : (run : Run) (event : RunEvent) (name : List ℕ) (uid : Uid) (lists left : Lists) (part : EventPart) (octets : List ℕ) → Does run event lists (request.Fetch name uid) part (reply.Fetched octets) left
-    → (message : ListedMessage) × (message_at name uid.0 lists ≡ Some message) × (octets ≡ message.octets)
-part_text run event name uid lists left First octets d = (d.0, d.1, d.2)
-part_text run event name uid lists left other octets d = absurd d
-
--- the step of a fetch answered the octets of the message as it was listed then
-step_text : (name : List ℕ) (uid : Uid) (run : Run) (lists : Lists) (octets : List ℕ) (journal : List JournalStep) → AreSteps run (alone (request.Fetch name uid)) lists journal → map (λ s. s.answer) (steps_of 0 journal) ≡ reply.Fetched octets ∷ []
-    → (message : ListedMessage) × (message_at name uid.0 lists ≡ Some message) × (octets ≡ message.octets)
-step_text name uid run lists octets [] s e = absurd (cc e)
-step_text name uid run lists octets (step ∷ steps) s e =
-    let all : step.answer ∷ map (λ s. s.answer) steps ≡ reply.Fetched octets ∷ [] = sym (ap (map (λ (s : JournalStep). s.answer)) (steps_all (request.Fetch name uid) run lists (step ∷ steps) s)) ∙ e in
-    let is : step.answer ≡ reply.Fetched octets = cc all in
-    let asked : s.0.asked ≡ (1, request.Fetch name uid) = (one_asked (1, request.Fetch name uid) s.0.asked step.request s.0.request_is).1 in
-    let answers : Answers (before step.event run) lists (request.Fetch name uid) s.0.event (reply.Fetched octets) step.left =
-    subst (λ (r : Reply). Answers (before step.event run) lists (request.Fetch name uid) s.0.event r step.left) is
-    (subst (λ (q : ℕ × Request). Answers (before step.event run) lists q.1 s.0.event step.answer step.left) asked s.0.answers) in
-    part_text (before step.event run) s.0.event name uid lists step.left s.0.event.part octets answers.1
+refused_ends : {D : Type 0} → (name : List ℕ) (uid : ℕ) (first old : StoreValue D) (before : Option History) (f g : Faults) (now next : FetchStage) (given : Reply) → first.stopped ≡ false → StageKnows name uid first before now → DoneNow name uid now next given (at_use first old) before f g
+    → (why : Refusal) → fetch_refusal name uid first ≡ Some why → given ≡ reply.Refused why
+refused_ends name uid first old before f g stage.First next given running k r why cause = (first_given name uid next given (at_use first old) r).refused why cause
+refused_ends name uid first old before f g (stage.Reading region) next given running k r why cause = absurd (more_done given (sym (r.1 running).0))
+refused_ends name uid first old before f g (stage.Unpinning from other) next given running k r why cause = absurd (let e : None ≡ Some why = sym k.2 ∙ cause in cc e)
+refused_ends name uid first old before f g (stage.Removing file other) next given running k r why cause = absurd r
 
 -- a message whose storage file isn't there
 absent_answer : {D : Type 0} → (name : List ℕ) (uid : ℕ) (store : StoreValue D) (row : LogRow) (entry : MapRecord) (history : Option History) → IsStore history store → store.stopped ≡ false → record_at store.map row.map_uid ≡ Some entry → end_in entry.file store.files.files ≡ None
@@ -462,230 +416,130 @@ absent_answer name uid store row entry history is runs stored none = by_history 
       ),
     )
 
-absent_ends : {D : Type 0} → (history : D → Option History) (faults : D → Faults) (name : List ℕ) (uid : Uid) (first d e : StoreValue D) (given : Reply) (why : Refusal) → first.stopped ≡ false → IsFetching history faults name uid first d stage.First → IsIdle (history d.disk) (history e.disk) → IsStore (history d.disk) (at_use first d)
-    → IsAbsent name uid.0 (at_use first d) why → given ≡ reply.Refused why → TakesMessage name uid first (history first.disk) (history e.disk) (faults first.disk) given
-absent_ends history faults name uid first d e given why running so idle k (row, entry, stored, none, why_is) is = record {
+-- The message was read, or a read failed, and this was replied.
+pub record TakesMessage {D : Type 0} (name : List ℕ) (uid : ℕ) (store : StoreValue D) (history : Option History) (given : Reply) : Type 0 where
+  pub row : LogRow
+  pub entry : MapRecord
+  pub record_is : IsStoredBy name uid store row entry
+  pub given_is : IsFetchAnswer row entry history given
+
+absent_ends : {D : Type 0} → (name : List ℕ) (uid : ℕ) (first old : StoreValue D) (before after : Option History) (given : Reply) (why : Refusal) → first.stopped ≡ false → IsIdle before after → IsStore before (at_use first old) → IsAbsent name uid (at_use first old) why → given ≡ reply.Refused why → TakesMessage name uid first after given
+absent_ends name uid first old before after given why running idle k (row, entry, stored, none, why_is) is = record {
   row = row;
   entry = entry;
-  record_is = stored_first name uid.0 first d row entry stored;
-  given_is = subst (λ (g : Reply). IsFetchAnswer row entry (history e.disk) g) (sym (is ∙ ap (λ (r : Refusal). reply.Refused r) why_is))
-      (answer_on row entry (history d.disk) (history e.disk) (damage_at (stored_at row entry)) idle (absent_answer name uid.0 (at_use first d) row entry (history d.disk) k running stored.stored none));
-  text = λ lists seen u0 safe.
-      let u = so.served lists seen u0 safe in
-      let shows = way_shows (IsAtFetch stage.First first.stopped (history d.disk)) (request.Fetch name uid) lists lists seen (seen_in (at_use first d) (history d.disk) (faults d.disk)) u in
-      absurd (absent_unstored name uid (at_use first d) (history d.disk) lists why k running (row, entry, stored, none, why_is) shows.1 (safe_fetched stage.First name uid (at_use first d) (history d.disk) lists k running (reads_on lists (history first.disk) (history d.disk) so.idle safe)));
+  record_is = stored_first name uid first old row entry stored;
+  given_is = subst (λ (g : Reply). IsFetchAnswer row entry after g) (sym (is ∙ ap (λ (r : Refusal). reply.Refused r) why_is))
+      (answer_on row entry before after (damage_at (stored_at row entry)) idle (absent_answer name uid (at_use first old) row entry before k running stored.stored none));
 }
 
 -- a message that was found
-pub taken_ends : {D : Type 0} → (history : D → Option History) (faults : D → Faults) (name : List ℕ) (uid : Uid) (first : StoreValue D) (d e : StoreValue D) (now next : FetchStage) (given : Reply) → first.stopped ≡ false → IsFetching history faults name uid first d now → IsIdle (history d.disk) (history e.disk)
-    → IsStore (history d.disk) (at_use first d) → DoneNow name uid.0 now next given (at_use first d) (history d.disk) (faults d.disk) (faults e.disk) → fetch_refusal name uid.0 first ≡ None → (given ≡ reply.Refused refusal.NoMemory) ⊎ TakesMessage name uid first (history first.disk) (history e.disk) (faults first.disk) given
-taken_ends history faults name uid first d e stage.First next given running so idle k r none = by_other ((first_given name uid.0 next given (at_use first d) r).other none)
+taken_ends : {D : Type 0} → (name : List ℕ) (uid : ℕ) (first old : StoreValue D) (before after : Option History) (f g : Faults) (now next : FetchStage) (given : Reply) → first.stopped ≡ false → StageKnows name uid first before now → IsIdle before after → IsStore before (at_use first old)
+    → DoneNow name uid now next given (at_use first old) before f g → fetch_refusal name uid first ≡ None → (given ≡ reply.Refused refusal.NoMemory) ⊎ TakesMessage name uid first after given
+taken_ends name uid first old before after f g stage.First next given running k idle store r none = by_other ((first_given name uid next given (at_use first old) r).other none)
   where
-    by_other : (given ≡ reply.Refused refusal.NoMemory) ⊎ ((why : Refusal) × IsAbsent name uid.0 (at_use first d) why × (given ≡ reply.Refused why)) → (given ≡ reply.Refused refusal.NoMemory) ⊎ TakesMessage name uid first (history first.disk) (history e.disk) (faults first.disk) given
+    by_other : (given ≡ reply.Refused refusal.NoMemory) ⊎ ((why : Refusal) × IsAbsent name uid (at_use first old) why × (given ≡ reply.Refused why)) → (given ≡ reply.Refused refusal.NoMemory) ⊎ TakesMessage name uid first after given
     by_other (inl memory) = inl memory
-    by_other (inr (why, absent, is)) = inr (absent_ends history faults name uid first d e given why running so idle k absent is)
-taken_ends history faults name uid first d e (stage.Reading region) next given running so idle k r none = absurd (more_done given (sym (r.1 running).0))
-taken_ends history faults name uid first d e (stage.Removing file other) next given running so idle is r none = absurd r
-taken_ends history faults name uid first d e (stage.Unpinning from other) next given running so idle is r none =
+    by_other (inr (why, absent, is)) = inr (absent_ends name uid first old before after given why running idle store absent is)
+taken_ends name uid first old before after f g (stage.Reading region) next given running k idle store r none = absurd (more_done given (sym (r.1 running).0))
+taken_ends name uid first old before after f g (stage.Removing file other) next given running k idle store r none = absurd r
+taken_ends name uid first old before after f g (stage.Unpinning from other) next given running k idle store r none =
     let same : other ≡ given = sym (one_done given other (r.1 running).0) in
-    let k = so.knows in
-    inr (record {
-      row = k.0;
-      entry = k.1;
-      record_is = k.3;
-      given_is = subst (λ (g : Reply). IsFetchAnswer k.0 k.1 (history e.disk) g) same (answer_on k.0 k.1 (history d.disk) (history e.disk) other idle k.5);
-      text = λ lists seen u0 safe.
-          let u = so.served lists seen u0 safe in
-          let s = u.stands.1 in
-          let m = step_text name uid u.run lists s.0 u.journal u.goes.serves.legal.steps (u.said_is ∙ s.1) in (
-            m.0,
-            m.1,
-            subst (λ (g : Reply). IsTrueReply m.0.octets g) same (subst (λ (t : List ℕ). IsTrueReply t other) m.2 s.2),
-          );
-    })
+    inr (record { row = k.0; entry = k.1; record_is = k.3; given_is = subst (λ (r : Reply). IsFetchAnswer k.0 k.1 after r) same (answer_on k.0 k.1 before after other idle k.5) })
 
 -- the counts of faults
-pub faults_end : {D : Type 0} → (history : D → Option History) (faults : D → Faults) (name : List ℕ) (uid : Uid) (first : StoreValue D) (d e : StoreValue D) (now next : FetchStage) (given : Reply) → first.stopped ≡ false → IsFetching history faults name uid first d now
-    → DoneNow name uid.0 now next given (at_use first d) (history d.disk) (faults d.disk) (faults e.disk) → NoChangeFault (faults d.disk) (faults e.disk) → ((HasFailedRead next → ⊥) → NoFault (faults d.disk) (faults e.disk)) → FaultsByReply given (faults first.disk) (faults e.disk)
-faults_end history faults name uid first d e stage.First next given running so r fault unfailed =
-    let calm = first_calm name uid.0 next given (at_use first d) running r in
-    let still : NoFault (faults d.disk) (faults e.disk) = unfailed (λ h. subst HasFailedRead (first_given name uid.0 next given (at_use first d) r).next_is h) in
+faults_end : {D : Type 0} → (name : List ℕ) (uid : ℕ) (first old : StoreValue D) (before : Option History) (began f g : Faults) (now next : FetchStage) (given : Reply) → first.stopped ≡ false → StageKnows name uid first before now → FaultsSoFar now began f → DoneNow name uid now next given (at_use first old) before f g → NoChangeFault f g
+    → ((HasFailedRead next → ⊥) → NoFault f g) → FaultsByReply given began g
+faults_end name uid first old before began f g stage.First next given running k so r fault unfailed =
+    let calm = first_calm name uid next given (at_use first old) running r in
+    let still : NoFault f g = unfailed (λ h. subst HasFailedRead (first_given name uid next given (at_use first old) r).next_is h) in
     record {
-      reads = (let a = so.counted.reads in let b = fault.reads in omega (arith, a, b));
-      changes = (let a = so.counted.changes in let b = fault.changes in omega (arith, a, b));
-      read_fault = λ f. absurd (calm.0 f);
-      read_alone = λ f. fault.changes ∙ so.counted.changes;
-      stopped = λ f. absurd (calm.1 f);
-      change_alone = λ f. absurd (calm.1 f);
-      unfailed = λ unread unstopped. still ∙ so.counted.unfailed (λ h. h);
+      reads = (let a = so.reads in let b = fault.reads in omega (arith, a, b));
+      changes = (let a = so.changes in let b = fault.changes in omega (arith, a, b));
+      read_fault = λ e. absurd (calm.0 e);
+      read_alone = λ e. fault.changes ∙ so.changes;
+      stopped = λ e. absurd (calm.1 e);
+      change_alone = λ e. absurd (calm.1 e);
+      unfailed = λ unread unstopped. still ∙ so.unfailed (λ h. h);
     }
-faults_end history faults name uid first d e (stage.Reading region) next given running so r fault unfailed = absurd (more_done given (sym (r.1 running).0))
-faults_end history faults name uid first d e (stage.Removing file other) next given running so r fault unfailed = absurd r
-faults_end history faults name uid first d e (stage.Unpinning from other) next given running so r fault unfailed =
+faults_end name uid first old before began f g (stage.Reading region) next given running k so r fault unfailed = absurd (more_done given (sym (r.1 running).0))
+faults_end name uid first old before began f g (stage.Removing file other) next given running k so r fault unfailed = absurd r
+faults_end name uid first old before began f g (stage.Unpinning from other) next given running k so r fault unfailed =
     let done = r.1 running in
     let same : given ≡ other = one_done given other done.0 in
-    let still : NoFault (faults d.disk) (faults e.disk) = unfailed (λ h. subst HasFailedRead done.1 h) in
+    let still : NoFault f g = unfailed (λ h. subst HasFailedRead done.1 h) in
     record {
-      reads = (let a = so.counted.reads in let b = fault.reads in omega (arith, a, b));
-      changes = (let a = so.counted.changes in let b = fault.changes in omega (arith, a, b));
-      read_fault = λ f. subst (λ (g : Faults). Rose (faults first.disk).reads g.reads) (sym still) (so.counted.failed (has_failed from other (sym same ∙ f)));
-      read_alone = λ f. fault.changes ∙ so.counted.changes;
-      stopped = λ f. absurd (answer_runs so.knows.0 so.knows.1 (history d.disk) other so.knows.5 (sym same ∙ f));
-      change_alone = λ f. absurd (answer_runs so.knows.0 so.knows.1 (history d.disk) other so.knows.5 (sym same ∙ f));
-      unfailed = λ unread unstopped. still ∙ so.counted.unfailed (λ h. unread (same ∙ failed_is from other h));
+      reads = (let a = so.reads in let b = fault.reads in omega (arith, a, b));
+      changes = (let a = so.changes in let b = fault.changes in omega (arith, a, b));
+      read_fault = λ e. subst (λ (c : Faults). Rose began.reads c.reads) (sym still) (so.failed (has_failed from other (sym same ∙ e)));
+      read_alone = λ e. fault.changes ∙ so.changes;
+      stopped = λ e. absurd (answer_runs k.0 k.1 before other k.5 (sym same ∙ e));
+      change_alone = λ e. absurd (answer_runs k.0 k.1 before other k.5 (sym same ∙ e));
+      unfailed = λ unread unstopped. still ∙ so.unfailed (λ h. unread (same ∙ failed_is from other h));
     }
 
--- a read fault that is replied has its event
-unpin_faulted : (from : StoredAt) (given : Reply) (run : Run) → UnpinsNext from given (own_events 0 run) → given ≡ reply.Refused refusal.ReadFault → 1 ≤ count_by is_faulted run.events
-unpin_faulted from given run (inl u) f = absurd (let k : Some refusal.ReadFault ≡ None = sym (ap refusal_in f) ∙ u.0 in cc k)
-unpin_faulted from given run (inr u) f =
-    let why : Some refusal.ReadFault ≡ Some u.0 = sym (ap refusal_in f) ∙ u.3 in
-    let faulty : is_faulted u.2 ≡ true = ap is_fault (u.7.refused_is ∙ sym why) in
-    let own : 1 ≤ count_by is_faulted (own_events 0 run) = subst (λ (es : List RunEvent). 1 ≤ count_by is_faulted es) (sym u.5.own_are) (count_last is_faulted (u.5.pin ∷ u.1) u.2 faulty) in
-    let kept = count_kept is_faulted (λ (e : RunEvent). e.request == 0) run.events in
-    omega (arith, own, kept)
+-- What the events of a fetch alone say together, once one has answered the request.
+pub record IsFetchTold {D : Type 0} (name : List ℕ) (uid : ℕ) (first : StoreValue D) (mid : Option History) (began : Faults) (given : Reply) (store : StoreValue D) (history : Option History) (counted : Faults) : Type 0 where
+  pub same : store ≡ at_use first store
+  pub refused : (why : Refusal) → fetch_refusal name uid first ≡ Some why → given ≡ reply.Refused why
+  pub found : fetch_refusal name uid first ≡ None → (given ≡ reply.Refused refusal.NoMemory) ⊎ TakesMessage name uid first history given
+  pub idle : IsIdle mid history
+  pub faults : FaultsByReply given began counted
 
-fault_seen : {D : Type 0} → (name : List ℕ) (uid : ℕ) (now next : FetchStage) (given : Reply) (store : StoreValue D) (old : Option History) (f g : Faults) (seen : Seen) (run : Run) (said : List Reply) → store.stopped ≡ false → DoneNow name uid now next given store old f g → IsAtFetch now seen.stopped seen.history run 0 said
-    → is_read_fault (Some given) ≡ true → 1 ≤ count_by is_faulted run.events
-fault_seen name uid stage.First next given store old f g seen run said running r at fault = absurd ((first_calm name uid next given store running r).0 (read_is given fault))
-fault_seen name uid (stage.Reading region) next given store old f g seen run said running r at fault = absurd (more_done given (sym (r.1 running).0))
-fault_seen name uid (stage.Removing file other) next given store old f g seen run said running r at fault = absurd r
-fault_seen name uid (stage.Unpinning from other) next given store old f g seen run said running r at fault = unpin_faulted from other run at.0 (sym (one_done given other (r.1 running).0) ∙ read_is given fault)
-
--- it was served
-pub served_ends : {D : Type 0} → (history : D → Option History) (faults : D → Faults) (name : List ℕ) (uid : Uid) (first : StoreValue D) (d e : StoreValue D) (now next : FetchStage) (how : Did) (given : Reply) → first.stopped ≡ false → IsFetching history faults name uid first d now
-    → FetchEvent history faults name uid first d e now next how (progress.Done given) → IsStore (history d.disk) (at_use first d) → IsStore (history e.disk) (at_use first e) → TakesServed name uid first (history first.disk) (history e.disk) (faults first.disk) (faults e.disk) given
-served_ends history faults name uid first d e now next how given running so event before k = λ lists seen u0 safe.
-    let from : Seen = seen_in (at_use first d) (history d.disk) (faults d.disk) in
-    let to : Seen = seen_in (at_use first e) (history e.disk) (faults e.disk) in
-    let u = so.served lists seen u0 safe in
-    let s = event.does nothing_found nothing_found u.run 1 0 u.said lists u.goes.serves.come (way_shows (IsAtFetch now from.stopped from.history) (request.Fetch name uid) lists lists seen from u) (λ runs. safe_fetched now name uid (at_use first d) (history d.disk) lists before running (reads_on lists (history first.disk) (history d.disk) so.idle safe)) u.stands in
-    way_ends (IsAtFetch now from.stopped from.history) (request.Fetch name uid) lists lists given seen from to nothing_found nothing_found how (at_use first e) u k refl refl s.0 event.reads event.firm
-    (λ fault.
-    let one = fault_seen name uid.0 now next given (at_use first d) (history d.disk) (faults d.disk) (faults e.disk) from u.run u.said running event.replies u.stands fault in
-    let more = count_front is_faulted u.run.events (s.0.makes.event ∷ []) in
-    omega (arith, one, more))
-
--- ---- from what a step says
-
--- no file is doomed, so not that which is unpinned
-alone_next : {D : Type 0} → (name : List ℕ) (uid : ℕ) (now next : FetchStage) (answer : Progress) (s : StoreValue D) (first : StoreValue D) (told history : Option History) (f g : Faults) → ((file : ℕ) → is_doomed_in file s.files.files ≡ false) → StageKnows name uid first told now → FetchesNext name uid now next answer s history f g → AloneNext name uid now next answer s history f g
-alone_next name uid stage.First next answer s first told history f g none k r = r
-alone_next name uid (stage.Reading region) next answer s first told history f g none k r = r
-alone_next name uid (stage.Unpinning from given) next answer s first told history f g none k r = (r.0, λ runs. (r.1 runs).other (ap (λ (b : Bool). b && (pins_in from.file.0 s.files.files == 1)) (none from.file.0)))
-alone_next name uid (stage.Removing file given) next answer s first told history f g none k r = absurd k
-
--- an event of a fetch alone reads at the most
-alone_reads : {D : Type 0} → (name : List ℕ) (uid : ℕ) (now next : FetchStage) (s t first : StoreValue D) (told before later : Option History) (began faults : Faults) → StageKnows name uid first told now → MakesOfDisk now next s t before later began faults → OnlyReadsDisk next before later began faults
-alone_reads name uid stage.First next s t first told before later began faults k made = made
-alone_reads name uid (stage.Reading region) next s t first told before later began faults k made = made
-alone_reads name uid (stage.Unpinning from given) next s t first told before later began faults k made = made
-alone_reads name uid (stage.Removing file given) next s t first told before later began faults k made = absurd k
-
--- so it doesn't stop the store
-alone_runs : {D : Type 0} → (name : List ℕ) (uid : ℕ) (now next : FetchStage) (s t first : StoreValue D) (told : Option History) → StageKnows name uid first told now → t ≡ record (used_by now next s) { disk = t.disk } → t.stopped ≡ s.stopped
-alone_runs {D = D} name uid now next s t first told k e = ap (λ (v : StoreValue D). v.stopped) e ∙ by_stages now next k
-  where
-    by_stages : (a b : FetchStage) → StageKnows name uid first told a → (used_by a b s).stopped ≡ s.stopped
-    by_stages stage.First stage.First k = refl
-    by_stages stage.First (stage.Reading region) k = refl
-    by_stages stage.First (stage.Unpinning from given) k = refl
-    by_stages stage.First (stage.Removing file given) k = refl
-    by_stages (stage.Reading region) b k = refl
-    by_stages (stage.Unpinning from given) stage.First k = refl
-    by_stages (stage.Unpinning from given) (stage.Reading region) k = refl
-    by_stages (stage.Unpinning from given) (stage.Unpinning other reply) k = refl
-    by_stages (stage.Unpinning from given) (stage.Removing file reply) k = refl
-    by_stages (stage.Removing file given) b k = absurd k
-
--- What a step of the task says, of the store as it was and as it is.
-pub record StepSaid {D : Type 0} (history : D → Option History) (faults : D → Faults) (s t : StoreValue D) (task next : FetchValue) (answer : Progress) : Type 0 where
-  pub reads : IfTold (history s.disk) ReadsImage
-  pub firm : t.stopped ≡ false → StaysFirm (seen_in s (history s.disk) (faults s.disk)) (seen_in t (history t.disk) (faults t.disk))
-  pub does : (around after : Around) → FetchSteps around after task.name task.uid task.stage next.stage s t (history s.disk) (history t.disk) (faults s.disk) (faults t.disk) next.did (ended_by answer)
-  pub alone : FetchesAlone task.name task.uid.0 task.stage next.stage next.did answer s t (history s.disk) (history t.disk) (faults s.disk) (faults t.disk)
-
-pub still_first : {D : Type 0} → (name : List ℕ) (uid : ℕ) (first s t : StoreValue D) (now next : FetchStage) (told : Option History) → StageKnows name uid first told now → s ≡ at_use first s → t ≡ record (used_by now next s) { disk = t.disk } → t ≡ at_use first t
-still_first {D = D} name uid first s t now next told k a b =
-    used_only now next s t b
-    ∙ (ap (λ (h : Bool). record s { disk = t.disk; files = t.files; instances = t.instances; stopped = h }) (alone_runs name uid now next s t first told k b) ∙ ap (λ (v : StoreValue D). record v { disk = t.disk; files = t.files; instances = t.instances }) a)
-
--- it runs still, and its map is the same
-pub runs_on : {D : Type 0} → (first s : StoreValue D) → s ≡ at_use first s → first.stopped ≡ false → s.stopped ≡ false
-runs_on first s same runs = ap (λ (v : StoreValue _). v.stopped) same ∙ runs
-
-pub same_map : {D : Type 0} → (now next : FetchStage) (s t : StoreValue D) → t ≡ record (used_by now next s) { disk = t.disk } → s.map ≡ t.map
-same_map now next s t e = sym (ap (λ (v : StoreValue _). v.map) (used_only now next s t e))
-
-pub event_of : {D : Type 0} → (history : D → Option History) (faults : D → Faults) (name : List ℕ) (uid : Uid) (first s t : StoreValue D) (task next : FetchValue) (answer : Progress) → task.name ≡ name → task.uid ≡ uid → s ≡ at_use first s → ((file : ℕ) → is_doomed_in file s.files.files ≡ false) → StageKnows name uid.0 first (history s.disk) task.stage → StepSaid history faults s t task next answer
-    → FetchEvent history faults name uid first s t task.stage next.stage next.did answer
-event_of {D = D} history faults name uid first s t task next answer names uids same none knows step = record {
-  does = λ around after.
-      subst (λ (n : List ℕ). FetchSteps around after n uid task.stage next.stage (at_use first s) (at_use first t) (history s.disk) (history t.disk) (faults s.disk) (faults t.disk) next.did (ended_by answer)) names
-      (subst (λ (u : Uid). FetchSteps around after task.name u task.stage next.stage (at_use first s) (at_use first t) (history s.disk) (history t.disk) (faults s.disk) (faults t.disk) next.did (ended_by answer)) uids
-      (subst (λ (v : StoreValue D). FetchSteps around after task.name task.uid task.stage next.stage (at_use first s) v (history s.disk) (history t.disk) (faults s.disk) (faults t.disk) next.did (ended_by answer)) (still_first name uid.0 first s t task.stage next.stage (history s.disk) knows same step.alone.same)
-      (subst (λ (v : StoreValue D). FetchSteps around after task.name task.uid task.stage next.stage v t (history s.disk) (history t.disk) (faults s.disk) (faults t.disk) next.did (ended_by answer)) same (step.does around after))));
-  replies = alone_next name uid.0 task.stage next.stage answer (at_use first s) first (history s.disk) (history s.disk) (faults s.disk) (faults t.disk) (subst (λ (v : StoreValue D). (file : ℕ) → is_doomed_in file v.files.files ≡ false) same none) knows
-      (subst (λ (n : List ℕ). FetchesNext n uid.0 task.stage next.stage answer (at_use first s) (history s.disk) (faults s.disk) (faults t.disk)) names
-      (subst (λ (u : Uid). FetchesNext task.name u.0 task.stage next.stage answer (at_use first s) (history s.disk) (faults s.disk) (faults t.disk)) uids
-      (subst (λ (v : StoreValue D). FetchesNext task.name task.uid.0 task.stage next.stage answer v (history s.disk) (faults s.disk) (faults t.disk)) same step.alone.replies)));
-  reads = step.reads;
-  firm =
-      subst (λ (v : StoreValue D). v.stopped ≡ false → StaysFirm (seen_in (at_use first s) (history s.disk) (faults s.disk)) (seen_in v (history t.disk) (faults t.disk))) (still_first name uid.0 first s t task.stage next.stage (history s.disk) knows same step.alone.same)
-      (subst (λ (v : StoreValue D). t.stopped ≡ false → StaysFirm (seen_in v (history s.disk) (faults s.disk)) (seen_in t (history t.disk) (faults t.disk))) same step.firm);
-  idle = only.idle;
-  fault = only.fault;
-  unfailed = only.unfailed;
+fetching_ends : {D : Type 0} → (name : List ℕ) (uid : ℕ) (first : StoreValue D) (mid : Option History) (began : Faults) (now next : FetchStage) (how : Did) (given : Reply) (old new : StoreValue D) (before after : Option History) (f g : Faults) → first.stopped ≡ false → IsFetching name uid first mid began now old before f
+    → FetchesAlone name uid now next how (progress.Done given) old new before after f g → IsStore before old → IsFetchTold name uid first mid began given new after g
+fetching_ends {D} name uid first mid began now next how given old new before after f g running so event store = record {
+  same = still_first name uid first old new now next before so.knows so.same event.same;
+  refused = refused_ends name uid first old before f g now next given running so.knows replies;
+  found = taken_ends name uid first old before after f g now next given running so.knows only.idle (subst (λ (v : StoreValue D). IsStore before v) so.same store) replies;
+  idle = idle-then mid before after so.idle only.idle;
+  faults = faults_end name uid first old before began f g now next given running so.knows so.faults replies only.fault only.unfailed;
 }
   where
-    only : OnlyReadsDisk next.stage (history s.disk) (history t.disk) (faults s.disk) (faults t.disk)
-    only = alone_reads name uid.0 task.stage next.stage s t first (history s.disk) (history s.disk) (history t.disk) (faults s.disk) (faults t.disk) knows step.alone.disk
+    replies : DoneNow name uid now next given (at_use first old) before f g
+    replies = subst (λ (v : StoreValue D). DoneNow name uid now next given v before f g) so.same (alone_next name uid now next (progress.Done given) old first before before f g so.undoomed so.knows event.replies)
 
--- behind an event that goes on it isn't the first that is next
-pub room_on : {D : Type 0} → (name : List ℕ) (uid : ℕ) (now next : FetchStage) (s t : StoreValue D) (old : Option History) (f g : Faults) → s.stopped ≡ false → FetchesNext name uid now next progress.More s old f g → HasFetchRoom next t
-room_on name uid stage.First next s t old f g running b = by_cause (fetch_refusal name uid s) refl
-  where
-    by_cause : (cause : Option Refusal) → fetch_refusal name uid s ≡ cause → HasFetchRoom next t
-    by_cause (Some why) e = absurd (more_done (reply.Refused why) (b.refused why e).0)
-    by_cause None e = elim (b.begun e) [
-      | inl p ↦ subst (λ (n : FetchStage). HasFetchRoom n t) (sym p.1.2) tt
-      | inr p ↦ absurd (more_done (reply.Refused p.0) p.2)
-    ]
-room_on name uid (stage.Reading region) next s t old f g running r = by_read (r.1 running).1
-  where
-    by_read : IsPieceRead region next old f g → HasFetchRoom next t
-    by_read (inr (rose, is)) = subst (λ (n : FetchStage). HasFetchRoom n t) (sym is) tt
-    by_read (inl (piece, told, goes)) = by_size (cases_lt 0 (pieces_left (left_after region.left)))
-      where
-        by_size : (0 < pieces_left (left_after region.left)) ⊎ (pieces_left (left_after region.left) ≤ 0) → HasFetchRoom next t
-        by_size (inl more) = subst (λ (n : FetchStage). HasFetchRoom n t) (sym (goes.more more)) tt
-        by_size (inr last) = subst (λ (n : FetchStage). HasFetchRoom n t) (sym (goes.last (omega (arith, last))).1) tt
-room_on name uid (stage.Unpinning from given) next s t old f g running r = by_pin (is_last_pin from.file.0 s) refl
-  where
-    by_pin : (b : Bool) → is_last_pin from.file.0 s ≡ b → HasFetchRoom next t
-    by_pin true last = subst (λ (n : FetchStage). HasFetchRoom n t) (sym ((r.1 running).last last).1) tt
-    by_pin false other = absurd (more_done given ((r.1 running).other other).0)
-room_on name uid (stage.Removing file given) next s t old f g running r = elim (r.1 running) [
-  | inl gone ↦ absurd (more_done given gone.0)
-  | inr failed ↦ absurd (more_done (reply.Refused refusal.Stopped) failed.1)
-]
+    only : OnlyReadsDisk next before after f g
+    only = alone_reads name uid now next old new first before before after f g so.knows event.disk
 
--- What the events say together once one has answered the request.
-pub record SaidAtEnd {D : Type 0} (history : D → Option History) (faults : D → Faults) (name : List ℕ) (uid : Uid) (first e : StoreValue D) (given : Reply) : Type 0 where
-  pub refused : (why : Refusal) → fetch_refusal name uid.0 first ≡ Some why → given ≡ reply.Refused why
-  pub found : fetch_refusal name uid.0 first ≡ None → (given ≡ reply.Refused refusal.NoMemory) ⊎ TakesMessage name uid first (history first.disk) (history e.disk) (faults first.disk) given
-  pub served : TakesServed name uid first (history first.disk) (history e.disk) (faults first.disk) (faults e.disk) given
-  pub idle : IsIdle (history first.disk) (history e.disk)
-  pub faults_are : FaultsByReply given (faults first.disk) (faults e.disk)
+-- ---- its task
 
-pub said_at_end : {D : Type 0} → (history : D → Option History) (faults : D → Faults) (name : List ℕ) (uid : Uid) (first d e : StoreValue D) (now next : FetchStage) (how : Did) (answer : Progress) (given : Reply) → answer ≡ progress.Done given → first.stopped ≡ false → IsFetching history faults name uid first d now
-    → FetchEvent history faults name uid first d e now next how answer → IsStore (history d.disk) (at_use first d) → IsStore (history e.disk) (at_use first e) → SaidAtEnd history faults name uid first e given
-said_at_end history faults name uid first d e now next how answer given done running so event before k =
-    let last = subst (λ (a : Progress). FetchEvent history faults name uid first d e now next how a) done event in
-    record {
-      refused = refused_ends history faults name uid first d e now next given running so last.replies;
-      found = taken_ends history faults name uid first d e now next given running so last.idle before last.replies;
-      served = served_ends history faults name uid first d e now next how given running so last before k;
-      idle = idle-then (history first.disk) (history d.disk) (history e.disk) so.idle last.idle;
-      faults_are = faults_end history faults name uid first d e now next given running so last.replies last.fault last.unfailed;
-    }
+abbrev pub StandsFetch : {D : Type 0} → List ℕ → Uid → StoreValue D → Option History → Faults → Task → StoreValue D → Option History → Faults → Type 0
+StandsFetch name uid first mid began (task.Fetch t) store history counted = (t.name ≡ name) × (t.uid ≡ uid) × IsFetching name uid.0 first mid began t.stage store history counted
+StandsFetch name uid first mid began (task.Ops t) store history counted = request.Fetch name uid ≡ t.request
+StandsFetch name uid first mid began other store history counted = ⊥
+
+fetch_on : {D : Type 0} → (name : List ℕ) (uid : Uid) (first : StoreValue D) (mid : Option History) (began : Faults) → first.stopped ≡ false → (t next : Task) (old new : StoreValue D) (before after : Option History) (f g : Faults) (ended : Option Reply) → StandsFetch name uid first mid began t old before f → StaysOfRequest t next → TellsStore t next old new before after ended → FetchesSo t next old new before after f g ended → IsStore before old
+    → (ended ≡ None → StandsFetch name uid first mid began next new after g) × ((given : Reply) → ended ≡ Some given → IsFetchTold name uid.0 first mid began given new after g)
+fetch_on name uid first mid began running (task.Fetch t) (task.Fetch next) old new before after f g ended is kind tells fetches store =
+    let event = subst (λ (n : List ℕ). FetchesAlone n uid.0 t.stage next.stage next.did (progress_by ended) old new before after f g) is.0
+    (subst (λ (u : Uid). FetchesAlone t.name u.0 t.stage next.stage next.did (progress_by ended) old new before after f g) is.1 fetches) in (
+      λ more. (
+        kind.0 ∙ is.0,
+        kind.1 ∙ is.1,
+        fetching_on name uid.0 first mid began t.stage next.stage next.did old new before after f g running is.2 (subst (λ (o : Option Reply). FetchesAlone name uid.0 t.stage next.stage next.did (progress_by o) old new before after f g) more event),
+      ),
+      λ given e. fetching_ends name uid.0 first mid began t.stage next.stage next.did given old new before after f g running is.2 (subst (λ (o : Option Reply). FetchesAlone name uid.0 t.stage next.stage next.did (progress_by o) old new before after f g) e event) store,
+    )
+fetch_on name uid first mid began running (task.Ops t) next old new before after f g ended is kind tells fetches store = absurd (subst IsOpsRequest (sym is) (ops_asked t.request old new tells.0 tells.2))
+fetch_on name uid first mid began running (task.Fetch t) next old new before after f g ended is kind tells fetches store = absurd kind
+fetch_on name uid first mid began running t next old new before after f g ended is kind tells fetches store = absurd is
+
+pub keeps_fetch : {D : Type 0} → (name : List ℕ) (uid : Uid) (first : StoreValue D) (mid : Option History) (began : Faults) → first.stopped ≡ false → KeepsCounted (StandsFetch name uid first mid began) (IsFetchTold name uid.0 first mid began)
+keeps_fetch name uid first mid began running queued next event old new before after f g is goes =
+    fetch_on name uid first mid began running queued.task next old new before after f g (ended_by event.ended) is goes.keeps.request goes.keeps.tells goes.keeps.fetches goes.store
+
+pub begun_fetch : {D : Type 0} → (name : List ℕ) (uid : Uid) (first : StoreValue D) (mid : Option History) (began : Faults) → ((file : ℕ) → is_doomed_in file first.files.files ≡ false) → (t : Task) → BeginsTask (request.Fetch name uid) t → StandsFetch name uid first mid began t first mid began
+begun_fetch name uid first mid began undoomed (task.Fetch t) b =
+    let k : request.Fetch name uid ≡ request.Fetch t.name t.uid = b.is_of in
+    let names : name ≡ t.name = cc k in
+    let uids : uid ≡ t.uid = cc k in
+    (sym names, sym uids, subst (λ (now : FetchStage). IsFetching name uid.0 first mid began now first mid began) (sym b.at) (fetching_begins name uid.0 first mid began undoomed))
+begun_fetch name uid first mid began undoomed (task.Ops t) b = b.is_of
+begun_fetch name uid first mid began undoomed (task.Counts t) b = absurd (cc b.is_of)
+begun_fetch name uid first mid began undoomed (task.Make t) b = absurd (cc b.is_of)
+begun_fetch name uid first mid began undoomed (task.Copy t) b = absurd (cc b.is_of)
+begun_fetch name uid first mid began undoomed (task.Move t) b = absurd (cc b.is_of)
+begun_fetch name uid first mid began undoomed (task.Expunge t) b = absurd (cc b.is_of)
+begun_fetch name uid first mid began undoomed (task.Purge t) b = absurd (cc b.is_of)
+begun_fetch name uid first mid began undoomed (task.Deliver t) b = absurd b.is_of
+begun_fetch name uid first mid began undoomed (task.Resync t) b = absurd (cc b.is_of)

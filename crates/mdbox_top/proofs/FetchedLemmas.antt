@@ -1,126 +1,122 @@
--- A fetch alone, by its opening and its events.
-use Rattle.std.specs.Prelude.{◌≡◌, ◌⊎◌, ℕ, false, List, Option, Some, None}
+-- A fetch alone, by the script that it is.
+use Rattle.std.specs.Prelude.{◌≡◌, ◌⊎◌, ℕ, true, false, List, [], ◌∷◌, Option, Some}
 use Rattle.std.proofs.Common.{refl, sym, ◌∙◌, ap, subst, inl, inr}
-use Rattle.std.proofs.Math.Path.{fun_ext}
-use Rattle.disk_model.specs.Disk.{History, Faults, IsIdle}
+use Rattle.std.proofs.lemmas.List.Elements.{All-head}
+use Rattle.disk_model.specs.Disk.{History, Faults}
 use Rattle.disk_model.proofs.BetweenLemmas.{between-same}
-use Rattle.disk_model.proofs.IdleLemmas.{idle-then}
-use Rattle.disk_model.proofs.MomentLemmas.{each_image-then, if_told-map}
 use Rattle.mdbox_base.specs.declared.ids.Uid.{Uid}
-use Rattle.mdbox_base.specs.declared.replies.Refusal.{Refusal}
-use Rattle.mdbox_base.specs.declared.replies.Refusal.TheVariants as refusal
 use Rattle.mdbox_base.specs.declared.replies.Reply.{Reply}
 use Rattle.mdbox_base.specs.declared.replies.Reply.TheVariants as reply
+use Rattle.mdbox_base.specs.declared.requests.Request.{Request}
 use Rattle.mdbox_base.specs.declared.requests.Request.TheVariants as request
-use Rattle.model_kept.proofs.KeptLemmas.{kept_idle}
-use Rattle.model_lists.specs.Lists.{Lists}
-use Rattle.model_meaning.specs.MapMeaning.{map_meaning}
-use Rattle.model_store.specs.Carrying.{CarryOver}
-use Rattle.model_store.specs.Safe.{Safe}
-use Rattle.model_store.specs.Settled.{files_of}
-use Rattle.model_store.proofs.OpeningSafeLemmas.{safe_opens}
-use Rattle.model_store.proofs.SettledLemmas.{safe_carried}
-use Rattle.model_store.proofs.StandsLemmas.{root_same}
-use Rattle.store_core.specs.Running.{IsStore}
+use Rattle.mdbox_base.specs.declared.script.JournalEntry.{JournalEntry}
+use Rattle.model_lists.specs.Lists.{ListedMessage, Lists}
+use Rattle.model_meaning.specs.BoxMeaning.{BoxMeaning, LogRow}
+use Rattle.model_meaning.specs.MapMeaning.{MapMeaning, MapRecord}
+use Rattle.list_machine.specs.Machine.{Does, PartAnswers, message_at}
+use Rattle.list_machine.specs.Run.{EventPart, First, Run, RunEvent, before}
+use Rattle.journal.specs.Journal.{AreSteps, IsReplyOf, JournalStep, refusal_in}
 use Rattle.store_core.specs.Value.{StoreValue, indexes_of}
-use Rattle.store_seen.specs.Seeing.{seen_of}
-use Rattle.task_steps.specs.Step.{Seen}
-use Rattle.store_open.specs.Opened.{IsOpenedAs, StoreCarries, IsClosedWell}
-use Rattle.store_open.proofs.SweptStoreLemmas.{idle_settled, idle_safe}
-use Rattle.mail_fetch.specs.Clause.{ReadsSafe}
-use Rattle.mail_fetch.specs.Events.{fetch_refusal}
-use Rattle.mail_fetch.specs.Stages.{IsAtFetch}
-use Rattle.mail_fetch.specs.Task.{seen_in}
-use Rattle.mail_fetch.specs.declared.task.FetchStage.TheVariants as stage
-use Rattle.script_run.specs.Opening.{AreSafeFor, StaysSettled}
-use Rattle.script_run.proofs.RunBeginsLemmas.{OpenedNow, before_opening}
+use Rattle.store_open.specs.Opened.{IsOpenedAs}
+use Rattle.store_open.proofs.SweptStoreLemmas.{idle_settled}
+use Rattle.mail_fetch.proofs.RecordLemmas.{IsShown, shown_by}
+use Rattle.lanes.specs.Going.{TellsDamage}
+use Rattle.script_run.specs.Done.{MayRead}
+use Rattle.script_run.specs.LeftOpen.{IsRequestDone}
+use Rattle.script_run.specs.One.{alone}
+use Rattle.script_run.specs.Opening.{AreSafeFor, LogsShowLists}
+use Rattle.script_run.specs.Worked.{IsWorkedOut}
+use Rattle.script_run.proofs.OpenedLemmas.{none_doomed}
+use Rattle.script_run.proofs.ShownLemmas.{opens_again}
+use Rattle.script_run.proofs.ToldLemmas.{answers_of, replied_one, serves_one, step_answers}
+use Rattle.script_run.proofs.UnchangedLemmas.{closed_since, reads_safe, unchanged_since}
+use Rattle.script_run.proofs.WorkedLemmas.{worked_counted}
 use Rattle.mdbox_top.specs.Alone.{IsDoneAlone}
-use Rattle.mdbox_top.specs.FetchEvents.{FetchIsAt, TakesMessage, TakesServed}
-use Rattle.mdbox_top.specs.FetchRun.{IsFetched, IsFetchReply}
-use Rattle.mdbox_top.specs.Served.{FaultsByReply}
-use Rattle.mdbox_top.proofs.FetchLemmas.{at_use, cause_of}
-use Rattle.script_run.proofs.OpenedLemmas.{none_pinned}
-use Rattle.mdbox_top.proofs.ServedLemmas.{way_opens}
-use Rattle.script_run.proofs.ShownLemmas.{LogsShow, opens_again}
-use Rattle.mdbox_top.specs.UnderWay.{IsUnderWay, seen_alone}
-use Rattle.mdbox_top.proofs.MailLemmas.{opened_stays}
+use Rattle.mdbox_top.specs.FetchRun.{IsFetchAnswer, IsFetchReply, IsFetched, IsTextOf}
+use Rattle.mdbox_top.proofs.FetchLemmas.{IsFetchTold, StandsFetch, TakesMessage, begun_fetch, cause_of, keeps_fetch}
 
--- files that carry over what the store reads are safe for the same lists
-carried_safe : (lists : Lists) (old new : Option History) → StoreCarries old new → AreSafeFor lists old → ReadsSafe lists new
-carried_safe lists None new carry safe = absurd safe
-carried_safe lists (Some h) None carry safe = absurd carry
-carried_safe lists (Some h) (Some g) carry safe =
-    let o = safe_opens (files_of h.now) safe.store safe.entries lists safe.by in
-    let over = carry safe.store safe.entries o.0 o.1 in
-    let same = root_same (files_of h.now) safe.store safe.store o.1.passed.map_log.generation safe.by.stands.map_log.generation o.1.passed.map_log.root safe.by.stands.map_log.root in
-    record {
-      store = safe.store;
-      entries = safe.entries;
-      by = safe_carried (files_of h.now) (files_of g.now) safe.store safe.entries lists safe.by (subst (λ (n : ℕ). CarryOver n (map_meaning safe.store safe.entries) (files_of h.now) (files_of g.now)) same.1 over);
-    }
+-- the law of the lists for which files are safe that open
+abbrev pub SafeAreShown : Type 0
+SafeAreShown = (old : Option History) (m : MapMeaning) (meanings : List BoxMeaning) (lists : Lists) → IsOpenedAs old m meanings → AreSafeFor lists old → LogsShowLists m meanings lists
 
--- a store that was opened pins no file
-opened_seen : {D : Type 0} → (old mid : Option History) (began : Faults) (s : StoreValue D) → OpenedNow old mid s → seen_in s mid began ≡ seen_alone s mid began
-opened_seen old mid began s o = ap (λ (pins : ℕ → ℕ). seen_of pins s mid began) (fun_ext (λ file. none_pinned s old o.files file))
+abbrev fetching : List ℕ → Uid → Request
+fetching name uid = request.Fetch name uid
 
--- a fetch that has not begun is under way, behind the opening
-fetch_opens : {D : Type 0} → (name : List ℕ) (uid : Uid) (lists : Lists) (old mid : Option History) (began : Faults) (s : StoreValue D) → OpenedNow old mid s → LogsShow → AreSafeFor lists old → FetchIsAt stage.First name uid lists (before_opening (seen_alone s mid began) old) s mid began
-fetch_opens name uid lists old mid began s o show safe =
-    subst (λ (now : Seen). IsUnderWay (IsAtFetch stage.First s.stopped mid) (request.Fetch name uid) lists (before_opening (seen_alone s mid began) old) now lists) (sym (opened_seen old mid began s o))
-    (way_opens (IsAtFetch stage.First s.stopped mid) (request.Fetch name uid) lists old mid began s o show safe (refl, refl))
+abbrev FetchDone : List ℕ → Uid → Reply → Option History → Option History → Faults → Faults → Type 0
+FetchDone name uid given old new began now = IsRequestDone (fetching name uid) given old new began now
 
--- What is known of a fetch alone: of the opening of the store, and of the events of its task.
-pub record Fetching {D : Type 0} (name : List ℕ) (uid : Uid) (given : Reply) (old mid new : Option History) (began now : Faults) (s t : StoreValue D) : Type 0 where
-  pub opened : OpenedNow old mid s
-  pub later : IsStore new t
-  pub same : t ≡ at_use s t
-  pub refused : (why : Refusal) → fetch_refusal name uid.0 s ≡ Some why → given ≡ reply.Refused why
-  pub found : fetch_refusal name uid.0 s ≡ None → (given ≡ reply.Refused refusal.NoMemory) ⊎ TakesMessage name uid s mid new began given
-  pub served : TakesServed name uid s mid new began now given
-  pub idle : IsIdle mid new
-  pub faults : FaultsByReply given began now
+-- it may be served from all lists for which the files are safe
+may_fetch : (name : List ℕ) (uid : Uid) (lists : Lists) (old : Option History) → AreSafeFor lists old → MayRead (alone (fetching name uid)) lists old
+may_fetch name uid lists old safe = λ fetches. inr (refl, safe)
 
-fetched : {D : Type 0} → (name : List ℕ) (uid : Uid) (given : Reply) (old mid new : Option History) (began now : Faults) (s t : StoreValue D) → Fetching name uid given old mid new began now s t → LogsShow → TakesMessage name uid s mid new began given → IsFetched name uid.0 s.map (indexes_of s.boxes) old new given
-fetched name uid given old mid new began now s t w show taken =
+-- ---- the octets of the message as it is listed
+
+part_text : (run : Run) (event : RunEvent) (name : List ℕ) (uid : Uid) (lists left : Lists) (part : EventPart) (octets : List ℕ) → Does run event lists (request.Fetch name uid) part (reply.Fetched octets) left
+    → (message : ListedMessage) × (message_at name uid.0 lists ≡ Some message) × (octets ≡ message.octets)
+part_text run event name uid lists left First octets d = (d.0, d.1, d.2)
+part_text run event name uid lists left other octets d = absurd d
+
+-- the step of a fetch answered the octets of the message as it was listed then
+step_text : (name : List ℕ) (uid : Uid) (run : Run) (lists : Lists) (octets : List ℕ) (journal : List JournalStep) → AreSteps run (alone (fetching name uid)) lists journal → answers_of journal ≡ reply.Fetched octets ∷ []
+    → (message : ListedMessage) × (message_at name uid.0 lists ≡ Some message) × (octets ≡ message.octets)
+step_text name uid run lists octets [] s e = absurd (let k : [] ≡ reply.Fetched octets ∷ [] = e in cc k)
+step_text name uid run lists octets (step ∷ steps) s e =
+    let k : step.answer ∷ answers_of steps ≡ reply.Fetched octets ∷ [] = e in
+    let is : step.answer ≡ reply.Fetched octets = cc k in
+    let a = step_answers run (fetching name uid) lists step s.0 in
+    part_text (before step.event run) a.event name uid lists step.left a.event.part octets (subst (λ (r : Reply). PartAnswers (before step.event run) a.event lists (fetching name uid) a.event.part r step.left) is a.answers).1
+
+text_by : (name : List ℕ) (uid : Uid) (given : Reply) (old new : Option History) (began now : Faults) → FetchDone name uid given old new began now → (lists : Lists) → AreSafeFor lists old → (row : LogRow) (entry : MapRecord) → IsShown name uid.0 lists row → IsFetchAnswer row entry new given → IsTextOf name uid.0 lists given
+text_by name uid given old new began now w lists safe row entry shown (inl read) = (shown.message, shown.there, inr read)
+text_by name uid given old new began now w lists safe row entry shown (inr (octets, told, inl (whole, holds, is))) =
+    let s = serves_one (fetching name uid) given w.entries old new began now w.done lists safe (may_fetch name uid lists old safe) in
+    let replied = subst (λ (r : Reply). IsReplyOf (fetching name uid) (answers_of s.journal) r) is (replied_one lists (fetching name uid) s.run s.journal given began now s.served.legal) in
+    let m = step_text name uid s.run lists whole s.journal s.served.legal.steps replied in
+    (m.0, m.1, inl (is ∙ ap reply.Fetched m.2))
+text_by name uid given old new began now w lists safe row entry shown (inr (octets, told, inr (none, is))) =
+    absurd (All-head (λ (one : Reply). TellsDamage (refusal_in one) → ⊥) given [] (w.done.undamaged (lists, may_fetch name uid lists old safe)) (subst (λ (r : Reply). TellsDamage (refusal_in r)) (sym is) tt))
+
+-- ---- it was done
+
+fetched : {D : Type 0} → (name : List ℕ) (uid : Uid) (given : Reply) (old new : Option History) (began now : Faults) (s : StoreValue D) → FetchDone name uid given old new began now → SafeAreShown → IsOpenedAs old s.map (indexes_of s.boxes) → TakesMessage name uid.0 s new given → IsFetched name uid.0 s.map (indexes_of s.boxes) old new given
+fetched name uid given old new began now s w show opens taken =
     let k = taken.record_is in
     record {
       row = taken.row;
       entry = taken.entry;
       record_is = record { mailbox = k.mailbox; named = k.named; listed = k.listed; stored = k.stored; same = k.same };
       given_is = taken.given_is;
-      text = λ lists safe. taken.text lists (before_opening (seen_alone s mid began) old) (fetch_opens name uid lists old mid began s w.opened show safe) (carried_safe lists old mid w.opened.carried safe);
+      text = λ lists safe. text_by name uid given old new began now w lists safe taken.row taken.entry (shown_by s.map.boxes (indexes_of s.boxes) lists name uid.0 k.mailbox taken.row (show old s.map (indexes_of s.boxes) lists opens safe).1 k.named k.listed) taken.given_is;
     }
 
-stays_settled : {D : Type 0} → (old mid new : Option History) (s : StoreValue D) → OpenedNow old mid s → IsIdle mid new → StaysSettled old new
-stays_settled old mid new s o idle = λ lists at. idle_settled lists mid new idle (o.settled_again lists at)
-
-stays_carried : {D : Type 0} → (old mid new : Option History) (s : StoreValue D) → OpenedNow old mid s → IsIdle mid new → StoreCarries old new
-stays_carried old mid new s o idle = between-same _ old mid new o.carried idle.same
-
-fetch_tells : {D : Type 0} → (name : List ℕ) (uid : Uid) (given : Reply) (old mid new : Option History) (began now : Faults) (s t : StoreValue D) → Fetching name uid given old mid new began now s t → LogsShow → IsFetchReply name uid old new given
-fetch_tells name uid given old mid new began now s t w show =
-    let is = cause_of name uid.0 s w.opened.running in
-    record {
-      m = s.map;
-      meanings = indexes_of s.boxes;
-      opened = w.opened.opened;
-      again = subst (λ (v : StoreValue _). IsOpenedAs new v.map (indexes_of v.boxes)) w.same (opens_again new t w.later (subst (λ (v : StoreValue _). v.stopped ≡ false) (sym w.same) w.opened.running));
-      refused = λ why e. w.refused why (is ∙ e);
-      found = λ e. elim (w.found (is ∙ e)) [ inl memory ↦ inl memory | inr taken ↦ inr (fetched name uid given old mid new began now s t w show taken) ];
-      settled = stays_settled old mid new s w.opened w.idle;
-      carried = stays_carried old mid new s w.opened w.idle;
-      swept = (w.opened.swept.0, mid, w.opened.swept.1, w.idle);
-    }
-
-pub fetch_done : {D : Type 0} → (name : List ℕ) (uid : Uid) (given : Reply) (old mid new : Option History) (began now : Faults) (s t : StoreValue D) → Fetching name uid given old mid new began now s t → LogsShow → IsDoneAlone (request.Fetch name uid) given old new began now
-fetch_done name uid given old mid new began now s t w show = record {
-  tells = fetch_tells name uid given old mid new began now s t w show;
-  serves = λ lists safe. w.served lists (before_opening (seen_alone s mid began) old) (fetch_opens name uid lists old mid began s w.opened show safe) (carried_safe lists old mid w.opened.carried safe);
-  moments = record {
-    safe = λ lists at. each_image-then (λ _ image. Safe image lists) old mid new (w.opened.safe lists at) (idle_safe lists mid new w.idle (w.opened.settled_again lists at));
-    stays = opened_stays old mid new w.opened.reads w.opened.stays (λ m. kept_idle m mid new w.idle);
-    closed_well = if_told-map (λ disk. IsClosedWell disk → IsIdle old mid) (λ disk. IsClosedWell disk → IsIdle old new) old (λ disk still well. idle-then old mid new (still well) w.idle) w.opened.closed_well;
+pub fetch_done : {D : Type 0} → (name : List ℕ) (uid : Uid) (given : Reply) (entries : List JournalEntry) (old new : Option History) (began now : Faults) → FetchDone name uid given old new began now → IsWorkedOut D (alone (request.Fetch name uid)) 1 (Some given ∷ []) entries old new began now → SafeAreShown → IsDoneAlone (request.Fetch name uid) given old new began now
+fetch_done {D} name uid given entries old new began now w k show = record {
+  tells = record {
+    m = s.map;
+    meanings = indexes_of s.boxes;
+    opened = k.opens;
+    again = subst (λ (v : StoreValue D). IsOpenedAs new v.map (indexes_of v.boxes)) told.same (opens_again new k.last.store k.later (ap (λ (v : StoreValue D). v.stopped) told.same ∙ k.running));
+    refused = λ why e. told.refused why (cause_of name uid.0 s k.running ∙ e);
+    found = λ e. elim (told.found (cause_of name uid.0 s k.running ∙ e)) [ inl memory ↦ inl memory | inr taken ↦ inr (fetched name uid given old new began now s w show k.opens taken) ];
+    settled = λ lists at. idle_settled lists k.opened new told.idle (k.settled_again lists at);
+    carried = between-same _ old k.opened new k.carried told.idle.same;
+    swept = (k.swept.0, k.opened, k.swept.1, told.idle);
   };
-  rests = λ none. (stays_settled old mid new s w.opened w.idle, stays_carried old mid new s w.opened w.idle);
-  faults = w.faults;
+  serves = λ lists safe. serves_one (fetching name uid) given w.entries old new began now w.done lists safe (may_fetch name uid lists old safe);
+  moments = record {
+    safe = λ lists at. (reads_safe (fetching name uid) given w.entries old new began now w.done refl lists at).0;
+    stays = w.done.stays (refl, λ delivers. absurd (let e : false ≡ true = delivers in cc e));
+    closed_well = closed_since old w.done.leaves.opened new w.done.leaves.closed_well (w.done.leaves.idle refl);
+  };
+  rests = λ none. (
+    λ lists at. (reads_safe (fetching name uid) given w.entries old new began now w.done refl lists at).1,
+    (unchanged_since (fetching name uid) given w.entries old new began now w.done (w.done.leaves.idle refl)).1,
+  );
+  faults = told.faults;
 }
+  where
+    s : StoreValue D
+    s = k.store
+
+    told : IsFetchTold name uid.0 s k.opened began given k.last.store new now
+    told = worked_counted (StandsFetch name uid s k.opened began) (IsFetchTold name uid.0 s k.opened began) (fetching name uid) given entries old new began now k (keeps_fetch name uid s k.opened began k.running) (begun_fetch name uid s k.opened began (λ file. none_doomed s old k.found file))

@@ -10,7 +10,6 @@ pub mod InitLemmas
 pub mod InputLemmas
 pub mod KnownFirstLemmas
 pub mod ListLemmas
-pub mod MailLemmas
 pub mod MakeLemmas
 pub mod NumbersLemmas
 pub mod OneStepLemmas
@@ -23,7 +22,5 @@ pub mod RunLemmas
 pub mod SaveLemmas
 pub mod SavedFormLemmas
 pub mod ServeLemmas
-pub mod ServedLemmas
-pub mod UnderWayLemmas
 pub mod WorkLemmas
 pub mod WroteLemmas

@@ -55,9 +55,9 @@ by_told next name reply.Done lists left told (inr made) = made
 by_told next name given lists left told along = told
 
 make_left : (name : List ℕ) (given : Reply) (old new : Option History) (began now : Faults) → (w : MakeDone name given old new began now) → (given ≡ reply.Refused refusal.Stopped → ⊥) → (lists : Lists) → (shows : LogsShowLists w.done.m w.done.meanings lists)
-    → left_by lists (w.done.serves lists shows (may_read (making name) tt lists old)).journal ≡ lists_by_making (next_mailbox w.done.m) name given lists
+    → left_by lists (w.done.serves lists shows (may_read (making name) refl lists old)).journal ≡ lists_by_making (next_mailbox w.done.m) name given lists
 make_left name given old new began now w running lists shows =
-    let may = may_read (making name) tt lists old in
+    let may = may_read (making name) refl lists old in
     let s = w.done.serves lists shows may in
     by_told (next_mailbox w.done.m) name given lists (left_by lists s.journal)
     (told_left lists (making name) s.run s.journal given began now s.served.legal (unfailed_by given (calm name given old new began now w) running))
@@ -66,7 +66,7 @@ make_left name given old new began now w running lists shows =
 make_settles : (name : List ℕ) (given : Reply) (old new : Option History) (began now : Faults) → (w : MakeDone name given old new began now) → (given ≡ reply.Refused refusal.Stopped → ⊥) → (lists : Lists) → IsSettledFor lists old → IsSettledFor (lists_by_making (next_mailbox w.done.m) name given lists) new
 make_settles name given old new began now w running lists at =
     let shows = w.done.shown lists (settled_safe lists old at) in
-    subst (λ (ls : Lists). IsSettledFor ls new) (make_left name given old new began now w running lists shows) ((w.done.serves lists shows (may_read (making name) tt lists old)).settled (stopped_one given running) at)
+    subst (λ (ls : Lists). IsSettledFor ls new) (make_left name given old new began now w running lists shows) ((w.done.serves lists shows (may_read (making name) refl lists old)).settled (stopped_one given running) at)
 
 -- ---- what it replies
 
@@ -114,7 +114,7 @@ make_tells name given old new began now w =
         opened = w.comes.again (stopped_one given (done_runs given e));
         shows = λ lists formed shows.
             subst (λ (ls : Lists). ShowLists w.later.boxes w.later_meanings ls) (make_left name given old new began now w (done_runs given e) lists (formed, shows) ∙ ap (λ (r : Reply). lists_by_making (next_mailbox m) name r lists) e)
-            (w.comes.shows lists (formed, shows) (may_read asked tt lists old)).1;
+            (w.comes.shows lists (formed, shows) (may_read asked refl lists old)).1;
       };
       named = λ e. opens_later name given old new began now w (done_runs given e) (with_next_named name m) (meanings ++ box_meaning [] ∷ []) (subst (λ (r : Reply). MeansByMake (alone asked) (r ∷ []) m meanings w.later w.later_meanings) e w.comes.made);
       settled = make_settles name given old new began now w;
@@ -128,7 +128,7 @@ SafeForMade name old lists moment image = Safe image lists ⊎ ((some : Lists) �
 
 make_leaves : (name : List ℕ) (given : Reply) (old new : Option History) (began now : Faults) → MakeDone name given old new began now → MakeMoments name old new
 make_leaves name given old new began now w = λ lists at.
-    let may = may_read (making name) tt lists old in
+    let may = may_read (making name) refl lists old in
     let shows = w.done.shown lists (settled_safe lists old at) in
     let s = w.done.serves lists shows may in
     each_image-map (IsReached lists s.run s.journal s.broken) (SafeForMade name old lists) old new
@@ -155,7 +155,7 @@ make_rests name given old new began now w = λ none lists at.
 pub make_done : (name : List ℕ) (given : Reply) (old new : Option History) (began now : Faults) → MakeDone name given old new began now → IsDoneAlone (request.Make name) given old new began now
 make_done name given old new began now w = record {
   tells = make_tells name given old new began now w;
-  serves = λ lists safe. serves_one (making name) given w.entries old new began now w.done lists safe (may_read (making name) tt lists old);
+  serves = λ lists safe. serves_one (making name) given w.entries old new began now w.done lists safe (may_read (making name) refl lists old);
   moments = make_leaves name given old new began now w;
   rests = make_rests name given old new began now w;
   faults = one_faults (making name) given w.entries old new began now w.done tt (calm name given old new began now w);

@@ -18,7 +18,7 @@ use Rattle.script_run.specs.Done.{IsScriptDone, MayBeServed}
 use Rattle.script_run.specs.LeftOpen.{IsRequestDone}
 use Rattle.script_run.specs.One.{AreAlongMove, AreListsTold, IsAnsweredFirst, IsGivenBackAlone, IsUnanswered, IsUndoneAlone, MakesOneStep, MakesSteps, alone, IsFlagAnswer, IsUnfailed, lists_behind, lists_told, missing_cause, moved_lists}
 use Rattle.script_run.specs.Script.{HasStopped, only_reads, has_delivery, has_mail_read, has_purge}
-use Rattle.script_run.proofs.AloneLemmas.{answered_first, makes_alone, may_read, unread, refused_idle}
+use Rattle.script_run.proofs.AloneLemmas.{answered_first, fetches_none, may_read, unread, refused_idle}
 use Rattle.script_run.proofs.CopyTaskLemmas.{memory_runs}
 use Rattle.script_run.proofs.OneTaskLemmas.{one_refusal}
 use Rattle.script_run.proofs.ReachedLemmas.{reached_once}
@@ -62,7 +62,7 @@ one_of given one (zero, l, is) = is
 one_of given one (suc n, l, is) = absurd (omega (arith, l))
 
 pub served_from : (asked : Request) (given : Reply) (entries : List JournalEntry) (old new : Option History) (began now : Faults) → IsDone asked given entries old new began now → MakesSteps asked → MayBeServed (alone asked) old
-served_from asked given entries old new began now done one = let some = some_lists old done.m done.meanings done.opened in (some.0, may_read asked (makes_alone asked one) some.0 old)
+served_from asked given entries old new began now done one = let some = some_lists old done.m done.meanings done.opened in (some.0, may_read asked (fetches_none asked one) some.0 old)
 
 never_stopped : (asked : Request) (given : Reply) (entries : List JournalEntry) (old new : Option History) (began now : Faults) → IsDone asked given entries old new began now → MakesSteps asked → only_reads asked ≡ true → given ≡ reply.Refused refusal.Stopped → ⊥
 never_stopped asked given entries old new began now done one reads e = done.running (served_from asked given entries old new began now done one) (changes_none asked reads) (0, omega arith, e)
@@ -179,9 +179,9 @@ stopped_one given running c = running (one_of given (reply.Refused refusal.Stopp
 
 -- the lists that it leaves, unless the store is stopped
 change_left : (asked : Request) (given : Reply) (entries : List JournalEntry) (old new : Option History) (began now : Faults) → (k : IsOneChange asked given entries old new began now) → (given ≡ reply.Refused refusal.Stopped → ⊥) → (lists : Lists) → (shows : LogsShowLists k.done.m k.done.meanings lists)
-    → left_by lists (k.done.serves lists shows (may_read asked (makes_alone asked k.one) lists old)).journal ≡ lists_told asked given lists
+    → left_by lists (k.done.serves lists shows (may_read asked (fetches_none asked k.one) lists old)).journal ≡ lists_told asked given lists
 change_left asked given entries old new began now k running lists shows =
-    let s = k.done.serves lists shows (may_read asked (makes_alone asked k.one) lists old) in
+    let s = k.done.serves lists shows (may_read asked (fetches_none asked k.one) lists old) in
     k.told given lists (left_by lists s.journal) (told_left lists asked s.run s.journal given began now s.served.legal (unfailed_by given k.calm running))
 
 change_settles : (asked : Request) (given : Reply) (entries : List JournalEntry) (old new : Option History) (began now : Faults) → IsOneChange asked given entries old new began now → (given ≡ reply.Refused refusal.Stopped → ⊥) → (lists : Lists) → IsSettledFor lists old
@@ -189,7 +189,7 @@ change_settles : (asked : Request) (given : Reply) (entries : List JournalEntry)
 change_settles asked given entries old new began now k running lists at =
     let shows = k.done.shown lists (settled_safe lists old at) in
     subst (λ (ls : Lists). IsSettledFor ls new) (change_left asked given entries old new began now k running lists shows)
-    ((k.done.serves lists shows (may_read asked (makes_alone asked k.one) lists old)).settled (stopped_one given running) at)
+    ((k.done.serves lists shows (may_read asked (fetches_none asked k.one) lists old)).settled (stopped_one given running) at)
 
 -- the logs behind it show the lists with the change, where the reply tells it
 change_opens : (asked : Request) (change : Lists → Lists) (given : Reply) (old new : Option History) (began now : Faults) → (w : IsRequestDone asked given old new began now) → IsOneChange asked given w.entries old new began now → (given ≡ reply.Refused refusal.Stopped → ⊥) → ((lists : Lists) → lists_told asked given lists ≡ change lists)
@@ -200,7 +200,7 @@ change_opens asked change given old new began now w k running tells = record {
   opened = w.comes.again (stopped_one given running);
   shows = λ lists formed shows.
       let c : IsOneChange asked given w.entries old new began now = record { done = w.done; one = k.one; calm = k.calm; told = k.told; delivers = k.delivers } in
-      subst (λ (ls : Lists). ShowLists w.later.boxes w.later_meanings ls) (change_left asked given w.entries old new began now c running lists (formed, shows) ∙ tells lists) (w.comes.shows lists (formed, shows) (may_read asked (makes_alone asked k.one) lists old)).1;
+      subst (λ (ls : Lists). ShowLists w.later.boxes w.later_meanings ls) (change_left asked given w.entries old new began now c running lists (formed, shows) ∙ tells lists) (w.comes.shows lists (formed, shows) (may_read asked (fetches_none asked k.one) lists old)).1;
 }
 
 change_mail : (asked : Request) (given : Reply) (entries : List JournalEntry) (old new : Option History) (began now : Faults) → (k : IsOneChange asked given entries old new began now) → LeavesMail k.done.m given old new
@@ -214,7 +214,7 @@ change_mail asked given entries old new began now k = record {
 
 change_leaves : (asked : Request) (change : Lists → Lists) (given : Reply) (entries : List JournalEntry) (old new : Option History) (began now : Faults) → IsOneChange asked given entries old new began now → MakesOneStep asked → ((answer : Reply) (lists : Lists) → (lists_told asked answer lists ≡ lists) ⊎ (lists_told asked answer lists ≡ change lists)) → ChangeMoments change old new
 change_leaves asked change given entries old new began now k one along = λ lists at.
-    let s = k.done.serves lists (k.done.shown lists (settled_safe lists old at)) (may_read asked (makes_alone asked k.one) lists old) in
+    let s = k.done.serves lists (k.done.shown lists (settled_safe lists old at)) (may_read asked (fetches_none asked k.one) lists old) in
     each_image-map (IsReached lists s.run s.journal s.broken) (λ _ image. Safe image lists ⊎ Safe image (change lists)) old new
     (λ m image is.
     let reached = reached_once asked lists s.run s.journal s.broken (Some given ∷ []) began now _ s.m s.drawn _ one s.served m is.0 is.1 in
@@ -406,7 +406,7 @@ move_tells name uid target given old new began now w =
           record { map = w.later; opened = subst (λ (ms : List BoxMeaning). IsOpenedAs new w.later ms) same.indexes (w.comes.again (stopped_one given (unremembered_runs given e))); mailboxes = same.mailboxes; records = same.records };
       done = λ u gone e. change_opens asked (lists_behind name uid target gone) given old new began now w k (moved_runs given u gone e) (λ lists. ap (λ (r : Reply). lists_told asked r lists) e);
       here = λ lists safe moved e.
-          let s = w.done.serves lists (w.done.shown lists safe) (may_read asked tt lists old) in
+          let s = w.done.serves lists (w.done.shown lists safe) (may_read asked refl lists old) in
           never_gone name uid target lists s.run s.journal moved began now (subst (λ (r : Reply). IsLegal lists (alone asked) s.run s.journal (Some r ∷ []) began now) e s.served.legal);
       settled = change_settles asked given w.entries old new began now k;
       mail = change_mail asked given w.entries old new began now k;
@@ -414,7 +414,7 @@ move_tells name uid target given old new began now w =
 
 move_leaves : (name : List ℕ) (uid : Uid) (target : List ℕ) (given : Reply) (entries : List JournalEntry) (old new : Option History) (began now : Faults) → IsOneChange (moving name uid target) given entries old new began now → MoveMoments name uid target old new
 move_leaves name uid target given entries old new began now k = λ lists at.
-    let s = k.done.serves lists (k.done.shown lists (settled_safe lists old at)) (may_read (moving name uid target) tt lists old) in
+    let s = k.done.serves lists (k.done.shown lists (settled_safe lists old at)) (may_read (moving name uid target) refl lists old) in
     each_image-map (IsReached lists s.run s.journal s.broken) (λ _ image. Safe image lists ⊎ (Safe image (copied_lists name uid target lists) ⊎ Safe image (moved_lists name uid target lists))) old new
     (λ m image is. elim (reached_moved name uid target lists s.run s.journal s.broken (Some given ∷ []) began now _ s.m s.drawn _ s.served m is.0 is.1) [
       | inl same ↦ inl (subst (λ (ls : Lists). Safe image ls) same is.2)
@@ -439,14 +439,14 @@ move_rests name uid target given entries old new began now k = λ none lists at.
 pub done_one : (asked : Request) (given : Reply) (old new : Option History) (began now : Faults) → IsRequestDone asked given old new began now → MakesSteps asked → ListsAnswer → ((name : List ℕ) → asked ≡ request.Make name → IsDoneAlone asked given old new began now) → IsDoneAlone asked given old new began now
 done_one (request.List name) given old new began now w one answer make = record {
   tells = list_tells name given w.entries old new began now w.done answer;
-  serves = λ lists safe. serves_one (request.List name) given w.entries old new began now w.done lists safe (may_read (request.List name) one lists old);
+  serves = λ lists safe. serves_one (request.List name) given w.entries old new began now w.done lists safe (may_read (request.List name) refl lists old);
   moments = read_leaves (request.List name) given w.entries old new began now w.done one refl;
   rests = read_rests (request.List name) given w.entries old new began now (given ≡ reply.Refused refusal.Stopped) w.done refl;
   faults = one_faults (request.List name) given w.entries old new began now w.done one (unread (request.List name) given w.entries old new began now w.done one);
 }
 done_one request.Counts given old new began now w one answer make = record {
   tells = counts_tells given w.entries old new began now w.done;
-  serves = λ lists safe. serves_one request.Counts given w.entries old new began now w.done lists safe (may_read request.Counts one lists old);
+  serves = λ lists safe. serves_one request.Counts given w.entries old new began now w.done lists safe (may_read request.Counts refl lists old);
   moments = read_leaves request.Counts given w.entries old new began now w.done one refl;
   rests = read_rests request.Counts given w.entries old new began now (given ≡ reply.Refused refusal.Stopped) w.done refl;
   faults = one_faults request.Counts given w.entries old new began now w.done one (unread request.Counts given w.entries old new began now w.done one);
@@ -455,7 +455,7 @@ done_one (request.Flag name uid flags) given old new began now w one answer make
     let k = flag_change name uid flags given w.entries old new began now w.done in
     record {
       tells = flag_tells name uid flags given old new began now w;
-      serves = λ lists safe. serves_one (flagging name uid flags) given w.entries old new began now w.done lists safe (may_read (flagging name uid flags) tt lists old);
+      serves = λ lists safe. serves_one (flagging name uid flags) given w.entries old new began now w.done lists safe (may_read (flagging name uid flags) refl lists old);
       moments = change_leaves (flagging name uid flags) (λ lists. set_flags name uid.0 flags lists) given w.entries old new began now k tt (along_flag name uid flags);
       rests = change_rests (flagging name uid flags) (λ lists. set_flags name uid.0 flags lists) given w.entries old new began now k (along_flag name uid flags);
       faults = one_faults (flagging name uid flags) given w.entries old new began now w.done tt k.calm;
@@ -464,7 +464,7 @@ done_one (request.Expunge name uid) given old new began now w one answer make =
     let k = expunge_change name uid given old new began now w in
     record {
       tells = expunge_tells name uid given old new began now w;
-      serves = λ lists safe. serves_one (expunging name uid) given w.entries old new began now w.done lists safe (may_read (expunging name uid) tt lists old);
+      serves = λ lists safe. serves_one (expunging name uid) given w.entries old new began now w.done lists safe (may_read (expunging name uid) refl lists old);
       moments = change_leaves (expunging name uid) (lists_without name uid) given w.entries old new began now k tt (along_expunge name uid);
       rests = change_rests (expunging name uid) (lists_without name uid) given w.entries old new began now k (along_expunge name uid);
       faults = one_faults (expunging name uid) given w.entries old new began now w.done tt k.calm;
@@ -473,7 +473,7 @@ done_one (request.Copy name uid target) given old new began now w one answer mak
     let k = copy_change name uid target given old new began now w in
     record {
       tells = copy_tells name uid target given old new began now w;
-      serves = λ lists safe. serves_one (copying name uid target) given w.entries old new began now w.done lists safe (may_read (copying name uid target) tt lists old);
+      serves = λ lists safe. serves_one (copying name uid target) given w.entries old new began now w.done lists safe (may_read (copying name uid target) refl lists old);
       moments = change_leaves (copying name uid target) (copied_lists name uid target) given w.entries old new began now k tt (along_copy name uid target);
       rests = change_rests (copying name uid target) (copied_lists name uid target) given w.entries old new began now k (along_copy name uid target);
       faults = one_faults (copying name uid target) given w.entries old new began now w.done tt k.calm;
@@ -482,7 +482,7 @@ done_one (request.Move name uid target) given old new began now w one answer mak
     let k = move_change name uid target given old new began now w in
     record {
       tells = move_tells name uid target given old new began now w;
-      serves = λ lists safe. serves_one (moving name uid target) given w.entries old new began now w.done lists safe (may_read (moving name uid target) tt lists old);
+      serves = λ lists safe. serves_one (moving name uid target) given w.entries old new began now w.done lists safe (may_read (moving name uid target) refl lists old);
       moments = move_leaves name uid target given w.entries old new began now k;
       rests = move_rests name uid target given w.entries old new began now k;
       faults = one_faults (moving name uid target) given w.entries old new began now w.done tt k.calm;

@@ -84,7 +84,7 @@ reply_kind given answers is by_step = by_step is
 purge_given : (given : Reply) (old new : Option History) (began now : Faults) → PurgeDone given old new began now → MayReplyPurge given
 purge_given given old new began now w =
     let some = some_lists old w.done.m w.done.meanings w.done.opened in
-    let s = w.done.serves some.0 some.1 (may_read request.Purge tt some.0 old) in
+    let s = w.done.serves some.0 some.1 (may_read request.Purge refl some.0 old) in
     reply_kind given (answers_of s.journal) (replied_one some.0 request.Purge s.run s.journal given began now s.served.legal) (λ e. step_kind s.run some.0 s.journal given s.served.legal.steps e)
 
 -- ---- what it leaves
@@ -96,7 +96,7 @@ purge_opens given old new began now w running dropped drops = record {
   opens = w.comes.again (stopped_one given running);
   drops = drops;
   shows = λ lists formed shows.
-      let may = may_read request.Purge tt lists old in
+      let may = may_read request.Purge refl lists old in
       let s = w.done.serves lists (formed, shows) may in
       subst (λ (ls : Lists). ShowLists w.later.boxes w.later_meanings ls) (left_still request.Purge s.run lists s.journal refl s.served.legal.steps) (w.comes.shows lists (formed, shows) may).1;
 }
@@ -141,8 +141,8 @@ purge_tells given old new began now w = record {
 pub purge_done : (given : Reply) (old new : Option History) (began now : Faults) → PurgeDone given old new began now → IsDoneAlone request.Purge given old new began now
 purge_done given old new began now w = record {
   tells = purge_tells given old new began now w;
-  serves = λ lists safe. serves_one request.Purge given w.entries old new began now w.done lists safe (may_read request.Purge tt lists old);
+  serves = λ lists safe. serves_one request.Purge given w.entries old new began now w.done lists safe (may_read request.Purge refl lists old);
   moments = λ lists at. (listed_safe request.Purge given w.entries old new began now w.done refl lists at).0;
-  rests = λ none lists at. (listed_safe request.Purge given w.entries old new began now w.done refl lists at).1 (stopped_one given (λ e. none e ((alone_faults request.Purge given old new began now w tt refl).stopped e)));
-  faults = alone_faults request.Purge given old new began now w tt refl;
+  rests = λ none lists at. (listed_safe request.Purge given w.entries old new began now w.done refl lists at).1 (stopped_one given (λ e. none e ((alone_faults request.Purge given old new began now w refl).stopped e)));
+  faults = alone_faults request.Purge given old new began now w refl;
 }

@@ -17,7 +17,7 @@ use Rattle.request_text.specs.declared.outcome.Outcome.{Outcome}
 use Rattle.script_run.specs.Done.{MayBeServed}
 use Rattle.script_run.specs.Faults.{HasReadFault}
 use Rattle.script_run.specs.LeftOpen.{IsRequestDone}
-use Rattle.script_run.specs.One.{IsUndoneAlone, RunsAlone, alone}
+use Rattle.script_run.specs.One.{IsUndoneAlone, alone}
 use Rattle.script_run.specs.Resynced.{IsResyncAnswer}
 use Rattle.script_run.specs.Script.{has_fetch}
 use Rattle.script_run.proofs.AloneLemmas.{may_read}
@@ -37,8 +37,8 @@ abbrev ResyncDone : Reply → Option History → Option History → Faults → F
 ResyncDone given old new began now = IsRequestDone request.Resync given old new began now
 
 -- it may be served from some lists, whatever the files are
-pub served_some : (asked : Request) (given : Reply) (old new : Option History) (began now : Faults) → IsRequestDone asked given old new began now → RunsAlone asked → MayBeServed (alone asked) old
-served_some asked given old new began now w one = let some = some_lists old w.done.m w.done.meanings w.done.opened in (some.0, may_read asked one some.0 old)
+pub served_some : (asked : Request) (given : Reply) (old new : Option History) (began now : Faults) → IsRequestDone asked given old new began now → has_fetch (alone asked) ≡ false → MayBeServed (alone asked) old
+served_some asked given old new began now w fetches = let some = some_lists old w.done.m w.done.meanings w.done.opened in (some.0, may_read asked fetches some.0 old)
 
 -- ---- its faults
 
@@ -50,9 +50,9 @@ other_refusal : (given : Reply) → given ≡ reply.Refused refusal.Stopped → 
 other_refusal given stopped read = let k : reply.Refused refusal.Stopped ≡ reply.Refused refusal.ReadFault = sym stopped ∙ read in cc k
 
 -- of any request that fetches no message
-pub alone_faults : (asked : Request) (given : Reply) (old new : Option History) (began now : Faults) → IsRequestDone asked given old new began now → RunsAlone asked → has_fetch (alone asked) ≡ false → FaultsByReply given began now
-alone_faults asked given old new began now w one fetches =
-    let f = w.done.faults (served_some asked given old new began now w one) in
+pub alone_faults : (asked : Request) (given : Reply) (old new : Option History) (began now : Faults) → IsRequestDone asked given old new began now → has_fetch (alone asked) ≡ false → FaultsByReply given began now
+alone_faults asked given old new began now w fetches =
+    let f = w.done.faults (served_some asked given old new began now w fetches) in
     record {
       reads = f.counted;
       changes = f.changes;
@@ -87,7 +87,7 @@ resync_tells given old new began now w = record {
     generation = w.done.leaves.generation;
     opened = w.done.leaves.opened;
     swept = w.done.leaves.swept;
-    stays = w.done.stays (refl, λ delivers. served_some request.Resync given old new began now w tt);
+    stays = w.done.stays (refl, λ delivers. served_some request.Resync given old new began now w refl);
     mail = λ running. w.done.leaves.mail refl refl (stopped_one given running);
   };
   done = λ corrected damaged e. record {
@@ -103,10 +103,10 @@ resync_tells given old new began now w = record {
 pub resync_done : (given : Reply) (old new : Option History) (began now : Faults) → ResyncDone given old new began now → IsDoneAlone request.Resync given old new began now
 resync_done given old new began now w = record {
   tells = resync_tells given old new began now w;
-  serves = λ lists safe. serves_one request.Resync given w.entries old new began now w.done lists safe (may_read request.Resync tt lists old);
+  serves = λ lists safe. serves_one request.Resync given w.entries old new began now w.done lists safe (may_read request.Resync refl lists old);
   moments = λ lists at. (listed_safe request.Resync given w.entries old new began now w.done refl lists at).0;
-  rests = λ none lists at. (listed_safe request.Resync given w.entries old new began now w.done refl lists at).1 (stopped_one given (λ e. none e ((alone_faults request.Resync given old new began now w tt refl).stopped e)));
-  faults = alone_faults request.Resync given old new began now w tt refl;
+  rests = λ none lists at. (listed_safe request.Resync given w.entries old new began now w.done refl lists at).1 (stopped_one given (λ e. none e ((alone_faults request.Resync given old new began now w refl).stopped e)));
+  faults = alone_faults request.Resync given old new began now w refl;
 }
 
 -- ---- its status

@@ -1,5 +1,5 @@
 -- A request alone, as it is printed; and one whose store wasn't opened.
-use Rattle.std.specs.Prelude.{◌≡◌, ◌⊎◌, ℕ, true, false, List, Option, Some}
+use Rattle.std.specs.Prelude.{◌≡◌, ◌⊎◌, ℕ, Bool, true, false, if◌then◌else◌, List, Option, Some}
 use Rattle.std.proofs.Common.{refl, sym, ◌∙◌, ap, subst, inl, inr}
 use Rattle.disk_model.specs.Disk.{History, Faults}
 use Rattle.disk_model.specs.FaultCounts.{NoFault, AnyFaultCounted}
@@ -18,13 +18,13 @@ use Rattle.store_open.specs.declared.error.OpenError.{OpenError}
 use Rattle.store_open.specs.declared.error.OpenError.TheVariants as error
 use Rattle.mail_ops.specs.Copy.{copied_lists}
 use Rattle.request_text.specs.Outcomes.{status_of}
-use Rattle.request_text.specs.ReplyText.{reply_text, single_text}
+use Rattle.request_text.specs.ReplyText.{fetched_text, reply_text, single_text}
 use Rattle.request_text.specs.declared.outcome.Outcome.{Outcome}
 use Rattle.request_text.specs.declared.outcome.Outcome.TheVariants as outcome
 use Rattle.script_run.specs.Opening.{IsUnopened}
-use Rattle.script_run.specs.One.{RunsAlone, moved_lists}
+use Rattle.script_run.specs.One.{moved_lists}
+use Rattle.script_run.specs.Script.{is_fetch}
 use Rattle.mdbox_top.specs.DeliverRun.{AreSaved, SaveMoments}
-use Rattle.mdbox_top.specs.FetchRun.{FetchRests}
 use Rattle.mdbox_top.specs.Changed.{ChangeMoments}
 use Rattle.mdbox_top.specs.OpeningOutcome.{opening_outcome}
 use Rattle.mdbox_top.specs.Served.{ShowsReply, RequestOutcome}
@@ -37,21 +37,12 @@ use Rattle.mdbox_top.proofs.MakeLemmas.{SafeForMade}
 
 -- ---- how it is printed
 
-plain_text : (request : Request) (given : Reply) → RunsAlone request → single_text request given ≡ reply_text given
-plain_text (request.List name) given one = refl
-plain_text (request.Flag name uid flags) given one = refl
-plain_text (request.Expunge name uid) given one = refl
-plain_text (request.Copy name uid target) given one = refl
-plain_text (request.Move name uid target) given one = refl
-plain_text (request.Make name) given one = refl
-plain_text request.Counts given one = refl
-plain_text request.Resync given one = refl
-plain_text request.Purge given one = refl
-plain_text (request.Deliver name time octets) given one = refl
-plain_text other given one = absurd one
+single_is : (request : Request) (given : Reply) → (if is_fetch request then fetched_text given else reply_text given) ≡ single_text request given
+single_is (request.Fetch name uid) given = refl
+single_is other given = refl
 
-pub shows_text : (request : Request) (given : Reply) (h k : Option (List ℕ)) (o : Outcome) → RunsAlone request → ShowsReply (reply_text given) given h k o → ShowsReply (single_text request given) given h k o
-shows_text request given h k o one s = subst (λ (text : List ℕ). ShowsReply text given h k o) (sym (plain_text request given one)) s
+pub shows_text : (request : Request) (given : Reply) (octets_alone : Bool) (h k : Option (List ℕ)) (o : Outcome) → octets_alone ≡ is_fetch request → ShowsReply (if octets_alone then fetched_text given else reply_text given) given h k o → ShowsReply (single_text request given) given h k o
+shows_text request given octets_alone h k o is s = subst (λ (text : List ℕ). ShowsReply text given h k o) (ap (λ (b : Bool). if b then fetched_text given else reply_text given) is ∙ single_is request given) s
 
 -- a fault of the disk ends with a status that says so, or may hide it
 may_fail : (request : Request) (text : List ℕ) (given : Reply) (h k : Option (List ℕ)) (old new : Option History) (o : Outcome) → ReplyTells request old new given → ShowsReply text given h k o → (given ≡ reply.Refused refusal.ReadFault) ⊎ (given ≡ reply.Refused refusal.Stopped)
@@ -106,38 +97,32 @@ save_unopened_leaves : (name : List ℕ) (time : ℕ) (octets : List ℕ) (old n
 save_unopened_leaves name time octets old new began now why u = λ lists at.
     each_image-map (λ _ image. Safe image lists) (λ _ image. Safe image lists ⊎ ((some : Lists) × AreSaved name time octets lists some × Safe image some)) old new (λ m image h. inl h) (u.moments lists at)
 
-pub unopened_leaves : (request : Request) (old new : Option History) (began now : Faults) (why : OpenError) → RunsAlone request → IsUnopened why old new began now → RequestMoments request old new
-unopened_leaves (request.List name) old new began now why one u = record { safe = u.moments; stays = u.stays; closed_well = u.closed_well }
-unopened_leaves request.Counts old new began now why one u = record { safe = u.moments; stays = u.stays; closed_well = u.closed_well }
-unopened_leaves request.Resync old new began now why one u = u.moments
-unopened_leaves request.Purge old new began now why one u = u.moments
-unopened_leaves (request.Flag name uid flags) old new began now why one u = change_unopened_leaves (set_flags name uid.0 flags) old new began now why u
-unopened_leaves (request.Expunge name uid) old new began now why one u = change_unopened_leaves (lists_without name uid) old new began now why u
-unopened_leaves (request.Copy name uid target) old new began now why one u = change_unopened_leaves (copied_lists name uid target) old new began now why u
-unopened_leaves (request.Move name uid target) old new began now why one u = λ lists at.
+pub unopened_leaves : (request : Request) (old new : Option History) (began now : Faults) (why : OpenError) → IsUnopened why old new began now → RequestMoments request old new
+unopened_leaves (request.List name) old new began now why u = record { safe = u.moments; stays = u.stays; closed_well = u.closed_well }
+unopened_leaves request.Counts old new began now why u = record { safe = u.moments; stays = u.stays; closed_well = u.closed_well }
+unopened_leaves request.Resync old new began now why u = u.moments
+unopened_leaves request.Purge old new began now why u = u.moments
+unopened_leaves (request.Flag name uid flags) old new began now why u = change_unopened_leaves (set_flags name uid.0 flags) old new began now why u
+unopened_leaves (request.Expunge name uid) old new began now why u = change_unopened_leaves (lists_without name uid) old new began now why u
+unopened_leaves (request.Copy name uid target) old new began now why u = change_unopened_leaves (copied_lists name uid target) old new began now why u
+unopened_leaves (request.Move name uid target) old new began now why u = λ lists at.
     each_image-map (λ _ image. Safe image lists) (λ _ image. Safe image lists ⊎ (Safe image (copied_lists name uid target lists) ⊎ Safe image (moved_lists name uid target lists))) old new (λ m image h. inl h) (u.moments lists at)
-unopened_leaves (request.Make name) old new began now why one u = λ lists at. each_image-map (λ _ image. Safe image lists) (SafeForMade name old lists) old new (λ m image h. inl h) (u.moments lists at)
-unopened_leaves (request.Deliver name time octets) old new began now why one u = save_unopened_leaves name time octets old new began now why u
-unopened_leaves other old new began now why one u = absurd one
+unopened_leaves (request.Make name) old new began now why u = λ lists at. each_image-map (λ _ image. Safe image lists) (SafeForMade name old lists) old new (λ m image h. inl h) (u.moments lists at)
+unopened_leaves (request.Deliver name time octets) old new began now why u = save_unopened_leaves name time octets old new began now why u
+unopened_leaves (request.Fetch name uid) old new began now why u = record { safe = u.moments; stays = u.stays; closed_well = u.closed_well }
 
-pub unopened_rests : (request : Request) (old new : Option History) (began now : Faults) (why : OpenError) → RunsAlone request → IsUnopened why old new began now → RequestRests request (MayFail request (status_of (opening_outcome why))) began now old new
-unopened_rests (request.List name) old new began now why one u = λ none. (u.settled_again (λ f. none (unopened_may (request.List name) why f)), u.carried (λ f. none (unopened_may (request.List name) why f)))
-unopened_rests request.Counts old new began now why one u = λ none. (u.settled_again (λ f. none (unopened_may request.Counts why f)), u.carried (λ f. none (unopened_may request.Counts why f)))
-unopened_rests request.Resync old new began now why one u = λ none. u.settled_again (λ f. none (unopened_may request.Resync why f))
-unopened_rests request.Purge old new began now why one u = λ none. u.settled_again (λ f. none (unopened_may request.Purge why f))
-unopened_rests (request.Flag name uid flags) old new began now why one u = λ none lists at. inl (u.settled_again (λ f. none (unopened_may (request.Flag name uid flags) why f)) lists at)
-unopened_rests (request.Expunge name uid) old new began now why one u = λ none lists at. inl (u.settled_again (λ f. none (unopened_may (request.Expunge name uid) why f)) lists at)
-unopened_rests (request.Copy name uid target) old new began now why one u = λ none lists at. inl (u.settled_again (λ f. none (unopened_may (request.Copy name uid target) why f)) lists at)
-unopened_rests (request.Move name uid target) old new began now why one u = λ none lists at. inl (u.settled_again (λ f. none (unopened_may (request.Move name uid target) why f)) lists at)
-unopened_rests (request.Make name) old new began now why one u = λ none lists at. inl (u.settled_again (λ f. none (unopened_may (request.Make name) why f)) lists at)
-unopened_rests (request.Deliver name time octets) old new began now why one u = λ none lists at. inl (u.settled_again (λ f. none (unopened_may (request.Deliver name time octets) why f)) lists at)
-unopened_rests other old new began now why one u = absurd one
+pub unopened_rests : (request : Request) (old new : Option History) (began now : Faults) (why : OpenError) → IsUnopened why old new began now → RequestRests request (MayFail request (status_of (opening_outcome why))) began now old new
+unopened_rests (request.List name) old new began now why u = λ none. (u.settled_again (λ f. none (unopened_may (request.List name) why f)), u.carried (λ f. none (unopened_may (request.List name) why f)))
+unopened_rests request.Counts old new began now why u = λ none. (u.settled_again (λ f. none (unopened_may request.Counts why f)), u.carried (λ f. none (unopened_may request.Counts why f)))
+unopened_rests request.Resync old new began now why u = λ none. u.settled_again (λ f. none (unopened_may request.Resync why f))
+unopened_rests request.Purge old new began now why u = λ none. u.settled_again (λ f. none (unopened_may request.Purge why f))
+unopened_rests (request.Flag name uid flags) old new began now why u = λ none lists at. inl (u.settled_again (λ f. none (unopened_may (request.Flag name uid flags) why f)) lists at)
+unopened_rests (request.Expunge name uid) old new began now why u = λ none lists at. inl (u.settled_again (λ f. none (unopened_may (request.Expunge name uid) why f)) lists at)
+unopened_rests (request.Copy name uid target) old new began now why u = λ none lists at. inl (u.settled_again (λ f. none (unopened_may (request.Copy name uid target) why f)) lists at)
+unopened_rests (request.Move name uid target) old new began now why u = λ none lists at. inl (u.settled_again (λ f. none (unopened_may (request.Move name uid target) why f)) lists at)
+unopened_rests (request.Make name) old new began now why u = λ none lists at. inl (u.settled_again (λ f. none (unopened_may (request.Make name) why f)) lists at)
+unopened_rests (request.Deliver name time octets) old new began now why u = λ none lists at. inl (u.settled_again (λ f. none (unopened_may (request.Deliver name time octets) why f)) lists at)
+unopened_rests (request.Fetch name uid) old new began now why u = λ none. (u.settled_again (λ f. none (unopened_may (request.Fetch name uid) why f)), u.carried (λ f. none (unopened_may (request.Fetch name uid) why f)))
 
 pub unopened_quiet : (request : Request) (old new : Option History) (began now : Faults) (why : OpenError) → IsUnopened why old new began now → (MayFail request (status_of (opening_outcome why)) → ⊥) → NoFault began now
 unopened_quiet request old new began now why u calls = u.unfailed (λ f. calls (unopened_may request why f))
-
-pub fetch_unopened_rests : (failed : Type 0) (old new : Option History) (began now : Faults) (why : OpenError) → (why ≡ error.DiskFault → failed) → IsUnopened why old new began now → FetchRests failed began now old new
-fetch_unopened_rests failed old new began now why h u = λ none. (u.settled_again (λ f. none (h f)), u.carried (λ f. none (h f)))
-
-pub fetch_unopened_may : (name : List ℕ) (uid : Uid) (why : OpenError) → why ≡ error.DiskFault → MayFail (request.Fetch name uid) (status_of (opening_outcome why))
-fetch_unopened_may name uid why e = unopened_may (request.Fetch name uid) why e

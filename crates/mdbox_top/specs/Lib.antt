@@ -7,7 +7,6 @@ pub mod Changed
 pub mod CopyRun
 pub mod ExerciseRun
 pub mod ExpungeRun
-pub mod FetchEvents
 pub mod FetchRun
 pub mod FlagRun
 pub mod InitRun
@@ -23,4 +22,3 @@ pub mod ResyncRun
 pub mod Run
 pub mod SavedMail
 pub mod Served
-pub mod UnderWay

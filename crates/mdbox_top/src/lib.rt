@@ -11,7 +11,6 @@ mod alone;
 mod batch;
 mod deliver;
 mod exercise;
-mod fetch;
 mod init;
 mod input_commands;
 mod laws;

@@ -16,7 +16,6 @@ use crate::alone::serve;
 use crate::batch::batch;
 use crate::deliver::deliver;
 use crate::exercise::exercise;
-use crate::fetch::fetch;
 use crate::init::init;
 use crate::input_commands::{dump, logdump};
 use crate::rebuild::rebuild;
@@ -152,7 +151,9 @@ fn perform<D: Disk, I: Source, O: Sink, C: Clock>(
         Command::Init { id } => init(alloc, id, disk, output),
         Command::Deliver { name } => deliver(alloc, name, disk, input, output, clock),
         Command::List { name } => serve(alloc, Request::List { name }, None, disk, output),
-        Command::Fetch { name, uid } => fetch(alloc, name, uid, disk, output),
+        Command::Fetch { name, uid } => {
+            serve(alloc, Request::Fetch { name, uid }, None, disk, output)
+        }
         Command::Flag { name, uid, flags } => {
             serve(
                 alloc,

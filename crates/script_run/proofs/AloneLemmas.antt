@@ -26,9 +26,9 @@ use Rattle.journal.proofs.FaultLemmas.{faults_have_events}
 use Rattle.store_core.specs.Value.{StoreValue, indexes_of}
 use Rattle.script_run.specs.Done.{IsScriptDone, MayRead}
 use Rattle.script_run.specs.LeftOpen.{IsRequestDone, IsServedOpen}
-use Rattle.script_run.specs.One.{AreListsTold, HasOneEvent, IsAnsweredFirst, IsUnanswered, MakesSteps, RunsAlone, alone}
+use Rattle.script_run.specs.One.{AreListsTold, HasOneEvent, IsAnsweredFirst, IsUnanswered, MakesSteps, alone}
 use Rattle.script_run.specs.Opening.{LogsShowLists}
-use Rattle.script_run.specs.Script.{only_reads, has_purge, IsRefusedAtOnce}
+use Rattle.script_run.specs.Script.{only_reads, has_fetch, has_purge, IsRefusedAtOnce}
 use Rattle.script_run.proofs.SomeListsLemmas.{some_lists}
 use Rattle.script_run.proofs.ToldLemmas.{IsMove, replied_one, step_answers, step_told}
 
@@ -149,25 +149,13 @@ one_makes (request.Flag name uid flags) one = one
 one_makes request.Counts one = one
 one_makes other one = absurd one
 
-pub makes_alone : (asked : Request) → MakesSteps asked → RunsAlone asked
-makes_alone (request.Deliver name time octets) one = tt
-makes_alone request.Resync one = tt
-makes_alone request.Purge one = tt
-makes_alone asked one = one
+pub fetches_none : (asked : Request) → MakesSteps asked → has_fetch (alone asked) ≡ false
+fetches_none (request.Fetch name uid) one = absurd one
+fetches_none asked one = refl
 
--- they fetch no message
-pub may_read : (asked : Request) → RunsAlone asked → (lists : Lists) (old : Option History) → MayRead (alone asked) lists old
-may_read (request.List name) one lists old = λ f. absurd (let e : false ≡ true = f in cc e)
-may_read (request.Flag name uid flags) one lists old = λ f. absurd (let e : false ≡ true = f in cc e)
-may_read (request.Make name) one lists old = λ f. absurd (let e : false ≡ true = f in cc e)
-may_read (request.Expunge name uid) one lists old = λ f. absurd (let e : false ≡ true = f in cc e)
-may_read (request.Copy name uid target) one lists old = λ f. absurd (let e : false ≡ true = f in cc e)
-may_read (request.Move name uid target) one lists old = λ f. absurd (let e : false ≡ true = f in cc e)
-may_read (request.Deliver name time octets) one lists old = λ f. absurd (let e : false ≡ true = f in cc e)
-may_read request.Resync one lists old = λ f. absurd (let e : false ≡ true = f in cc e)
-may_read request.Purge one lists old = λ f. absurd (let e : false ≡ true = f in cc e)
-may_read request.Counts one lists old = λ f. absurd (let e : false ≡ true = f in cc e)
-may_read other one lists old = absurd one
+-- one that fetches no message
+pub may_read : (asked : Request) → has_fetch (alone asked) ≡ false → (lists : Lists) (old : Option History) → MayRead (alone asked) lists old
+may_read asked none lists old = λ fetches. absurd (let e : true ≡ false = sym fetches ∙ none in cc e)
 
 -- ---- no read fault is replied
 
@@ -190,7 +178,7 @@ unfaulted part asked none (Some why) may = refl
 pub unread : (asked : Request) (given : Reply) (entries : List JournalEntry) (old new : Option History) (began now : Faults) → IsScriptDone (alone asked) (given ∷ []) entries old new began now → MakesSteps asked → given ≡ reply.Refused refusal.ReadFault → ⊥
 unread asked given entries old new began now done one is =
     let some = some_lists old done.m done.meanings done.opened in
-    let s = done.serves some.0 some.1 (may_read asked (makes_alone asked one) some.0 old) in
+    let s = done.serves some.0 some.1 (may_read asked (fetches_none asked one) some.0 old) in
     let few : count_by is_read_fault (Some given ∷ []) ≤ count_by is_faulted s.run.events = faults_have_events s.served.around s.served.after (alone asked) some.0 s.run s.journal (Some given ∷ []) s.served.next s.served.given in
     let none = none_faulted s.run.events (λ n e at.
     let k = (own_event s.served.around s.served.after some.0 asked s.run s.journal s.served.next n e at).1 in
@@ -229,7 +217,7 @@ ends_by other given answers one r = absurd one
 answered : (asked : Request) (given : Reply) (entries : List JournalEntry) (old new : Option History) (began now : Faults) → (done : IsScriptDone (alone asked) (given ∷ []) entries old new began now) → HasOneEvent asked → (lists : Lists) → LogsShowLists done.m done.meanings lists → IsOneStep asked given
     → IsAnsweredFirst asked done.m lists given
 answered asked given entries old new began now done one lists shows step =
-    let may = may_read asked (makes_alone asked (one_makes asked one)) lists old in
+    let may = may_read asked (fetches_none asked (one_makes asked one)) lists old in
     let s = done.serves lists shows may in
     let a = reply_alone lists (1, asked) s.run s.journal given began now s.served.legal step in
     let k = own_event s.served.around s.served.after lists asked s.run s.journal s.served.next a.1.place a.1.event a.1.event_is in
@@ -250,7 +238,7 @@ pub answered_first : (asked : Request) (given : Reply) (entries : List JournalEn
     → IsUnanswered given ⊎ IsAnsweredFirst asked done.m lists given
 unfolding Ends
 answered_first asked given entries old new began now done one lists shows =
-    let s = done.serves lists shows (may_read asked (makes_alone asked (one_makes asked one)) lists old) in
+    let s = done.serves lists shows (may_read asked (fetches_none asked (one_makes asked one)) lists old) in
     by_end (ends_by asked given _ one (replied_one lists asked s.run s.journal given began now s.served.legal))
   where
     by_end : IsUnanswered given ⊎ ((given ≡ reply.Refused refusal.ReadFault) ⊎ IsOneStep asked given) → IsUnanswered given ⊎ IsAnsweredFirst asked done.m lists given
@@ -337,7 +325,7 @@ purges_none asked one = refl
 pub refused_idle : (asked : Request) (given : Reply) (entries : List JournalEntry) (old new : Option History) (began now : Faults) → (done : IsScriptDone (alone asked) (given ∷ []) entries old new began now) → HasOneEvent asked → (why : Refusal) → is_step why ≡ true → given ≡ reply.Refused why → IsIdle done.leaves.opened new
 refused_idle asked given entries old new began now done one why step is =
     let some = some_lists old done.m done.meanings done.opened in
-    let s = done.serves some.0 some.1 (may_read asked (makes_alone asked (one_makes asked one)) some.0 old) in
+    let s = done.serves some.0 some.1 (may_read asked (fetches_none asked (one_makes asked one)) some.0 old) in
     let told : Some (Some given) ≡ Some (reply_of 0 s.run) = s.served.given.1 0 (omega arith) in
     let reply : reply_of 0 s.run ≡ Some given = (let k : Some given ≡ reply_of 0 s.run = cc told in sym k) in
     s.refused (purges_none asked one) (elim (one_at_most s.run.events (first_only s.served.around s.served.after some.0 asked s.run s.journal one s.served.next)) [

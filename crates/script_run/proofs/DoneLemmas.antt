@@ -32,7 +32,7 @@ use Rattle.task_claims.specs.Claims.{HasNoTask}
 use Rattle.task_steps.specs.Step.{IsFirmAt, Seen, ShowsSeen}
 use Rattle.task_steps.proofs.OneEventLemmas.{not_true}
 use Rattle.mail_fetch.specs.Task.{seen_in}
-use Rattle.lanes.specs.Going.{AreFreshRows, IsGoing}
+use Rattle.lanes.specs.Going.{AreFreshRows, FindsMessages, IsGoing}
 use Rattle.lanes.specs.Rows.{LaneRow, lane_value, lanes_of}
 use Rattle.attach_detach.specs.declared.message.Prepared.{Prepared}
 use Rattle.lanes.specs.Worlds.{AreGiven, AreOfLanes, ArePartsOf, GoesOnBy, IsFreshWorld, IsWorldOf, PartsValue, WorldValue, and_events}
@@ -65,7 +65,7 @@ use Rattle.script_run.proofs.ReadFaultLemmas.{TellsFault, faults_are_told}
 use Rattle.script_run.proofs.PurgeTaskLemmas.{IsPurgeTold, StandsPurge, begun_purge, keeps_purge}
 use Rattle.script_run.proofs.ResyncTaskLemmas.{IsResyncTold, StandsResync, begun_resync, keeps_resync}
 use Rattle.script_run.proofs.RunBeginsLemmas.{OpenedNow, at_opening, before_opening, beginning, first_come, opening_begins}
-use Rattle.script_run.proofs.ShownLemmas.{LogsShow, opened_logs_show, opens_again}
+use Rattle.script_run.proofs.ShownLemmas.{LogsShow, carried_safe, opened_logs_show, opens_again}
 use Rattle.script_run.proofs.SomeListsLemmas.{some_lists}
 
 -- ---- a world begins
@@ -123,7 +123,7 @@ begins_from start script lanes parts old mid first s o world law g are shows may
       waiting = g.waiting;
       accounts = g.accounts;
       quiet = g.quiet;
-      fetched = λ place lane name uid at. may (fetches script place lane name uid at);
+      fetched = λ place lane name uid at. elim (may (fetches script place lane name uid at)) [ inl settled ↦ inl settled | inr one ↦ inr (one.0, λ none. carried_safe start old mid o.carried one.1) ];
       undamaged = g.undamaged;
     })
 
@@ -153,7 +153,7 @@ LanesEnd D = (start : Lists) (script : Requests) (run : Run) (journal : List Jou
 abbrev pub LanesBegin : (D : Type 0) → Type 0
 LanesBegin D = (start : Lists) (script : Requests) (run : Run) (rows : List LaneRow) (store : StoreValue D) (history : Option History) (faults : Faults) → IsAtOpening run store → HasCome run store.map store.drawn (told_calls history) → HasNoTask store → store.stopped ≡ false → ShowsSeen (seen_in store history faults) start → IsFirmAt start (seen_in store history faults)
     → AreFreshRows script rows → HaveLanes script (lanes_of rows) → length rows ≤ 64
-    → ((place lane : ℕ) (name : List ℕ) (uid : Uid) → slice_get script place ≡ Some (lane, request.Fetch name uid) → IsSettledFor start history) → IsGoing start script run [] no_broken (unreplied script) (seen_in store history faults) store history faults rows
+    → ((place lane : ℕ) (name : List ℕ) (uid : Uid) → slice_get script place ≡ Some (lane, request.Fetch name uid) → FindsMessages start script run history history) → IsGoing start script run [] no_broken (unreplied script) (seen_in store history faults) store history faults rows
 
 -- What is known of a script's run: the opening, the world that began then, and what it came to.
 pub record ScriptRan {D : Type 0} (script : Requests) (old mid new : Option History) (first last : Faults) (s : StoreValue D) (world ended : WorldValue D) : Type 0 where
@@ -295,7 +295,7 @@ start_of : {D : Type 0} → (script : Requests) (old mid : Option History) (s : 
 start_of script old mid s o show some = by_test (has_fetch script) refl
   where
     by_test : (b : Bool) → has_fetch script ≡ b → (start : Lists) × LogsShowLists s.map (indexes_of s.boxes) start × MayRead script start old
-    by_test true e = (some.0, opened_logs_show some.0 old s.map (indexes_of s.boxes) o.opened show (settled_safe some.0 old (some.1 e)), some.1)
+    by_test true e = (some.0, opened_logs_show some.0 old s.map (indexes_of s.boxes) o.opened show (elim (some.1 e) [ inl settled ↦ settled_safe some.0 old settled | inr one ↦ one.1 ]), some.1)
     by_test false e = let l = some_lists old s.map (indexes_of s.boxes) o.opened in (l.0, l.1, λ f. absurd (let k : true ≡ false = sym f ∙ e in cc k))
 
 -- ---- a setting of flags alone
@@ -315,7 +315,7 @@ flag_answer name uid flags s t given running r =
 alone_told : {D : Type 0} → (Stands : Task → StoreValue D → Option History → Type 0) (Told : Reply → StoreValue D → Option History → Type 0) (at : ℕ) (asked : Request) (one : Reply) (old mid new : Option History) (first last : Faults) (s : StoreValue D) (world ended : WorldValue D) → ScriptRan ((at, asked) ∷ []) old mid new first last s world ended → ended.replies ≡ Some one ∷ []
     → has_fetch ((at, asked) ∷ []) ≡ false → KeepsAlone Stands Told → ((t : Task) → BeginsTask asked t → Stands t s mid) → Told one ended.store new
 alone_told {D} Stands Told at asked one old mid new first last s world ended r are unread keeps begun =
-    (stays_over (IsAloneSo Stands Told at) (alone_on Stands Told at keeps) 0 r.turns (as_finished world) ended mid new first last r.chain
+    (stays_over (IsAloneSo (λ t store history faults. Stands t store history) (λ given store history faults. Told given store history) at) (alone_on (λ t store history faults. Stands t store history) (λ given store history faults. Told given store history) at keeps) 0 r.turns (as_finished world) ended mid new first last r.chain
     (record {
       one = began.0;
       rows = alone_fresh (λ t. Stands t world.store mid) at asked world.rows (λ t b. subst (λ (v : StoreValue D). Stands t v mid) (sym r.store_is) (begun t b)) r.fresh;
@@ -519,7 +519,7 @@ run_done {D} history faults script lanes prepared parts old s world ended turns 
     going : (start : Lists) → MayRead script start old → LogsShowLists s.map (indexes_of s.boxes) start → (run : Run) → IsAtOpening run s → HasCome run s.map s.drawn (told_calls (history s.disk)) → IsGoing start script run [] no_broken (unreplied script) (seen_in s (history s.disk) (faults s.disk)) s (history s.disk) (faults s.disk) parts.rows
     going start may shows run at come =
         begin start script run parts.rows s (history s.disk) (faults s.disk) at come unused o.running shows (λ settled. named_all_firm s (history s.disk) start o.store o.known o.running o.reads o.instances.only settled) are.rows (of_lanes script lanes parts.rows are.many in_lanes) (subst (λ (n : ℕ). n ≤ 64) (sym are.many) few)
-        (λ place lane name uid there. o.settled_again start (may (fetches script place lane name uid there)))
+        (λ place lane name uid there. elim (may (fetches script place lane name uid there)) [ inl settled ↦ inl (o.settled_again start settled) | inr one ↦ inr (one.0, λ none. carried_safe start old (history s.disk) o.carried one.1) ])
 
     went : GoesOnBy turns world ended (history s.disk) (history ended.store.disk) (faults s.disk) (faults ended.store.disk)
     went = subst (λ (t : StoreValue D). GoesOnBy turns world ended (history t.disk) (history ended.store.disk) (faults t.disk) (faults ended.store.disk)) (ap (λ (w : WorldValue D). w.store) begun.2) goes

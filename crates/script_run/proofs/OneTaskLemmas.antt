@@ -45,49 +45,54 @@ some_reply a b e = cc e
 abbrev IsRowAlone : (Task → Type 0) → ℕ → ℕ → LaneRow → Type 0
 IsRowAlone Holds at k row = (queued : Queued) → row.current ≡ Some queued → (row.waiting ≡ []) × (k + 1 ≡ at) × Holds queued.task
 
--- Of the store and its disk: where the task is as long as there is no reply, and what is known of it with a reply.
-pub record IsAloneSo {D : Type 0} (Stands : Task → StoreValue D → Option History → Type 0) (Told : Reply → StoreValue D → Option History → Type 0) (at : ℕ) (world : WorldValue D) (history : Option History) (faults : Faults) : Type 0 where
+-- Of the store, its disk and the counts of its faults: where the task is as long as there is no reply, and what is known of it with a
+-- reply.
+pub record IsAloneSo {D : Type 0} (Stands : Task → StoreValue D → Option History → Faults → Type 0) (Told : Reply → StoreValue D → Option History → Faults → Type 0) (at : ℕ) (world : WorldValue D) (history : Option History) (faults : Faults) : Type 0 where
   pub one : length world.replies ≡ 1
-  pub rows : (k : ℕ) (row : LaneRow) → slice_get world.rows k ≡ Some row → IsRowAlone (λ t. Stands t world.store history) at k row
-  pub told : (given : Reply) → HasReply world.replies 0 given → Told given world.store history
+  pub rows : (k : ℕ) (row : LaneRow) → slice_get world.rows k ≡ Some row → IsRowAlone (λ t. Stands t world.store history faults) at k row
+  pub told : (given : Reply) → HasReply world.replies 0 given → Told given world.store history faults
 
 -- An event of the task leads from the one to the other.
-abbrev pub KeepsAlone : {D : Type 0} → (Task → StoreValue D → Option History → Type 0) → (Reply → StoreValue D → Option History → Type 0) → Type 0
-KeepsAlone Stands Told = (queued : Queued) (next : Task) (event : LaneEvent) (old new : StoreValue _) (before after : Option History) (first second : Faults) → Stands queued.task old before → TaskGoesOn queued next event old new before after first second
-    → (ended_by event.ended ≡ None → Stands next new after) × ((given : Reply) → ended_by event.ended ≡ Some given → Told given new after)
+abbrev pub KeepsCounted : {D : Type 0} → (Task → StoreValue D → Option History → Faults → Type 0) → (Reply → StoreValue D → Option History → Faults → Type 0) → Type 0
+KeepsCounted Stands Told = (queued : Queued) (next : Task) (event : LaneEvent) (old new : StoreValue _) (before after : Option History) (first second : Faults) → Stands queued.task old before first → TaskGoesOn queued next event old new before after first second
+    → (ended_by event.ended ≡ None → Stands next new after second) × ((given : Reply) → ended_by event.ended ≡ Some given → Told given new after second)
 
-pub alone_on : {D : Type 0} → (Stands : Task → StoreValue D → Option History → Type 0) (Told : Reply → StoreValue D → Option History → Type 0) (at : ℕ) → KeepsAlone Stands Told → StaysOver {D = D} (IsAloneSo Stands Told at)
+-- So it does whatever the counts are.
+abbrev pub KeepsAlone : {D : Type 0} → (Task → StoreValue D → Option History → Type 0) → (Reply → StoreValue D → Option History → Type 0) → Type 0
+KeepsAlone {D} Stands Told = KeepsCounted {D = D} (λ t store history faults. Stands t store history) (λ given store history faults. Told given store history)
+
+pub alone_on : {D : Type 0} → (Stands : Task → StoreValue D → Option History → Faults → Type 0) (Told : Reply → StoreValue D → Option History → Faults → Type 0) (at : ℕ) → KeepsCounted Stands Told → StaysOver {D = D} (IsAloneSo Stands Told at)
 alone_on {D} Stands Told at keeps lane old mid before between first counted e is = record {
   one = ap length e.works.replies_are ∙ (replies_many (ended_by e.works.event.ended) e.works.event.place old.replies ∙ is.one);
   rows = rows;
   told = λ given has. told_by (ended_by e.works.event.ended) refl given (subst (λ (rs : List (Option Reply)). HasReply rs 0 given) e.works.replies_are has);
 }
   where
-    own : (e.works.row.waiting ≡ []) × (lane - 1 + 1 ≡ at) × Stands e.works.goes.queued.task old.store before
+    own : (e.works.row.waiting ≡ []) × (lane - 1 + 1 ≡ at) × Stands e.works.goes.queued.task old.store before first
     own = is.rows (lane - 1) e.works.row e.works.there e.works.goes.queued e.works.goes.was
 
-    steps : (ended_by e.works.event.ended ≡ None → Stands e.works.goes.next mid.store between) × ((given : Reply) → ended_by e.works.event.ended ≡ Some given → Told given mid.store between)
+    steps : (ended_by e.works.event.ended ≡ None → Stands e.works.goes.next mid.store between counted) × ((given : Reply) → ended_by e.works.event.ended ≡ Some given → Told given mid.store between counted)
     steps = keeps e.works.goes.queued e.works.goes.next e.works.event old.store mid.store before between first counted own.2 e.works.goes.goes
 
-    behind : (ended : Option Reply) → ended_by e.works.event.ended ≡ ended → (waiting : List Queued) → waiting ≡ [] → IsRowAlone (λ t. Stands t mid.store between) at (lane - 1) (after_event ended (record e.works.goes.queued { task = e.works.goes.next }) waiting)
+    behind : (ended : Option Reply) → ended_by e.works.event.ended ≡ ended → (waiting : List Queued) → waiting ≡ [] → IsRowAlone (λ t. Stands t mid.store between counted) at (lane - 1) (after_event ended (record e.works.goes.queued { task = e.works.goes.next }) waiting)
     behind None ends waiting none queued h =
         let k : Some (record e.works.goes.queued { task = e.works.goes.next }) ≡ Some queued = h in
         let same : record e.works.goes.queued { task = e.works.goes.next } ≡ queued = cc k in
-        (none, own.1, subst (λ (t : Task). Stands t mid.store between) (ap (λ (q : Queued). q.task) same) (steps.0 ends))
+        (none, own.1, subst (λ (t : Task). Stands t mid.store between counted) (ap (λ (q : Queued). q.task) same) (steps.0 ends))
     behind (Some given) ends [] none queued h = absurd (let k : None ≡ Some queued = h in cc k)
     behind (Some given) ends (next ∷ rest) none queued h = absurd (cc none)
 
-    rows : (k : ℕ) (row : LaneRow) → slice_get mid.rows k ≡ Some row → IsRowAlone (λ t. Stands t mid.store between) at k row
+    rows : (k : ℕ) (row : LaneRow) → slice_get mid.rows k ≡ Some row → IsRowAlone (λ t. Stands t mid.store between counted) at k row
     rows k row there = by_lane (nat_cases (lane - 1) k)
       where
         here : slice_get (slice_set old.rows (lane - 1) e.works.now) k ≡ Some row
         here = sym (ap (λ (rows : List LaneRow). slice_get rows k) e.works.rows_are) ∙ there
 
-        by_lane : (lane - 1 ≡ k) ⊎ (lane - 1 ≢ k) → IsRowAlone (λ t. Stands t mid.store between) at k row
+        by_lane : (lane - 1 ≡ k) ⊎ (lane - 1 ≢ k) → IsRowAlone (λ t. Stands t mid.store between counted) at k row
         by_lane (inl same) =
             let now_is : e.works.now ≡ row = one_some e.works.now row (sym (get_set_same old.rows (lane - 1) e.works.now e.works.row e.works.there) ∙ (ap (slice_get (slice_set old.rows (lane - 1) e.works.now)) same ∙ here)) in
-            subst (λ (n : ℕ). IsRowAlone (λ t. Stands t mid.store between) at n row) same
-            (subst (λ (r : LaneRow). IsRowAlone (λ t. Stands t mid.store between) at (lane - 1) r) (sym e.works.goes.now_is ∙ now_is) (behind (ended_by e.works.event.ended) refl e.works.row.waiting own.0))
+            subst (λ (n : ℕ). IsRowAlone (λ t. Stands t mid.store between counted) at n row) same
+            (subst (λ (r : LaneRow). IsRowAlone (λ t. Stands t mid.store between counted) at (lane - 1) r) (sym e.works.goes.now_is ∙ now_is) (behind (ended_by e.works.event.ended) refl e.works.row.waiting own.0))
         by_lane (inr apart) = λ queued h.
             let other = (is.rows k row (sym (get_set_other old.rows (lane - 1) k e.works.now apart) ∙ here) queued h).1 in
             let mine = own.1 in
@@ -96,7 +101,7 @@ alone_on {D} Stands Told at keeps lane old mid before between first counted e is
     place_is : e.works.event.place ≡ 0
     place_is = let within = slice_get_within old.replies e.works.event.place None e.works.unanswered in let one = is.one in omega (arith, within, one)
 
-    told_by : (ended : Option Reply) → ended_by e.works.event.ended ≡ ended → (given : Reply) → HasReply (replies_behind ended e.works.event.place old.replies) 0 given → Told given mid.store between
+    told_by : (ended : Option Reply) → ended_by e.works.event.ended ≡ ended → (given : Reply) → HasReply (replies_behind ended e.works.event.place old.replies) 0 given → Told given mid.store between counted
     told_by None ends given has =
         let k : None ≡ Some given = one_some None (Some given) (sym e.works.unanswered ∙ (ap (slice_get old.replies) place_is ∙ has)) in
         absurd (cc k)

@@ -1,6 +1,6 @@
 -- A store that is as the opening left it, and a request alone that only reads.
 use Rattle.std.specs.Prelude.{◌≡◌, ℕ, Bool, true, false, not, ◌||◌, List, [], ◌∷◌, Option, Some, None}
-use Rattle.std.proofs.Common.{refl, sym, ap, subst}
+use Rattle.std.proofs.Common.{refl, sym, ap, subst, inl}
 use Rattle.disk_model.specs.Disk.{Between, DiskState, EachImage, Faults, History, IfTold, IsIdle, SameState}
 use Rattle.disk_model.proofs.IdleLemmas.{idle-then, same_state-on}
 use Rattle.disk_model.proofs.MomentLemmas.{each_image-map, if_told-map}
@@ -73,7 +73,7 @@ changes_none asked reads = ap (λ (b : Bool). not b || false) reads
 pub listed_safe : (asked : Request) (given : Reply) (entries : List JournalEntry) (old new : Option History) (began now : Faults) → IsScriptDone (alone asked) (given ∷ []) entries old new began now → leaves_lists asked ≡ true → (lists : Lists) → IsSettledFor lists old
     → EachImage (λ _ image. Safe image lists) old new × ((HasStopped (given ∷ []) → ⊥) → IsSettledFor lists new)
 listed_safe asked given entries old new began now done leaves lists at =
-    let s = done.serves lists (done.shown lists (settled_safe lists old at)) (λ fetch. at) in (
+    let s = done.serves lists (done.shown lists (settled_safe lists old at)) (λ fetch. inl at) in (
       each_image-map (IsReached lists s.run s.journal s.broken) (λ _ image. Safe image lists) old new
           (λ m image is. subst (λ (ls : Lists). Safe image ls) (reached_still asked s.run lists s.journal s.broken m is.0 leaves s.served.legal.steps s.served.broken_is is.1) is.2) (s.crash at),
       λ running. subst (λ (ls : Lists). IsSettledFor ls new) (left_still asked s.run lists s.journal leaves s.served.legal.steps) (s.settled running at),
@@ -84,4 +84,4 @@ pub reads_safe : (asked : Request) (given : Reply) (entries : List JournalEntry)
     → EachImage (λ _ image. Safe image lists) old new × IsSettledFor lists new
 reads_safe asked given entries old new began now done reads lists at =
     let safe = listed_safe asked given entries old new began now done (reads_leave asked reads) lists at in
-    (safe.0, safe.1 (done.running (lists, λ fetch. at) (changes_none asked reads)))
+    (safe.0, safe.1 (done.running (lists, λ fetch. inl at) (changes_none asked reads)))

@@ -20,7 +20,7 @@ use Rattle.lanes.specs.Going.{AreFreshRows}
 use Rattle.lanes.proofs.TraceLemmas.{as_finished}
 use Rattle.script_run.proofs.ChainLemmas.{stays_over}
 use Rattle.script_run.proofs.DoneLemmas.{EndedParts}
-use Rattle.script_run.proofs.OneTaskLemmas.{IsAloneSo, KeepsAlone, alone_fresh, alone_on}
+use Rattle.script_run.proofs.OneTaskLemmas.{IsAloneSo, KeepsAlone, KeepsCounted, alone_fresh, alone_on}
 use Rattle.script_run.specs.One.{alone}
 use Rattle.script_run.specs.Opening.{StaysSettled}
 use Rattle.script_run.specs.Worked.{IsWorkedOut}
@@ -78,16 +78,21 @@ worked_alone {D} history faults request script one replies entries old began sto
     )
 
 -- What the one task of a request alone knows, from one event to the next, it knows in the end, with its reply.
-pub worked_told : {D : Type 0} → (Stands : Task → StoreValue D → Option History → Type 0) (Told : Reply → StoreValue D → Option History → Type 0) (asked : Request) (one : Reply) (entries : List JournalEntry) (old new : Option History) (began now : Faults) → (w : IsWorkedOut D (alone asked) 1 (Some one ∷ []) entries old new began now)
-    → KeepsAlone Stands Told → ((t : Task) → BeginsTask asked t → Stands t w.store w.opened) → Told one w.last.store new
-worked_told {D} Stands Told asked one entries old new began now w keeps begun =
+pub worked_counted : {D : Type 0} → (Stands : Task → StoreValue D → Option History → Faults → Type 0) (Told : Reply → StoreValue D → Option History → Faults → Type 0) (asked : Request) (one : Reply) (entries : List JournalEntry) (old new : Option History) (began now : Faults) → (w : IsWorkedOut D (alone asked) 1 (Some one ∷ []) entries old new began now)
+    → KeepsCounted Stands Told → ((t : Task) → BeginsTask asked t → Stands t w.store w.opened began) → Told one w.last.store new now
+worked_counted {D} Stands Told asked one entries old new began now w keeps begun =
     (stays_over (IsAloneSo Stands Told 1) (alone_on Stands Told 1 keeps) 0 w.turns (as_finished w.fresh) w.last w.opened new began now w.goes
     (record {
       one = ap length replies;
-      rows = alone_fresh (λ t. Stands t w.fresh.store w.opened) 1 asked w.fresh.rows (λ t b. subst (λ (v : StoreValue D). Stands t v w.opened) (sym (ap (λ (f : WorldValue D). f.store) w.begins.2)) (begun t b))
+      rows = alone_fresh (λ t. Stands t w.fresh.store w.opened began) 1 asked w.fresh.rows (λ t b. subst (λ (v : StoreValue D). Stands t v w.opened began) (sym (ap (λ (f : WorldValue D). f.store) w.begins.2)) (begun t b))
           (subst (AreFreshRows (alone asked)) (sym (ap (λ (f : WorldValue D). f.rows) w.begins.2)) w.are.rows);
       told = λ given has. let k : Some None ≡ Some (Some given) = sym (ap (λ (rs : List (Option Reply)). slice_get rs 0) replies) ∙ has in absurd (let n : None ≡ Some given = cc k in cc n);
     })).told one (ap (λ (rs : List (Option Reply)). slice_get rs 0) (sym w.replies_are))
   where
     replies : w.fresh.replies ≡ None ∷ []
     replies = ap (λ (f : WorldValue D). f.replies) w.begins.2 ∙ ap (λ (n : ℕ). let none : List (Option Reply) = replicate n None in none) w.are.requests
+
+-- It is so whatever the counts of faults are.
+pub worked_told : {D : Type 0} → (Stands : Task → StoreValue D → Option History → Type 0) (Told : Reply → StoreValue D → Option History → Type 0) (asked : Request) (one : Reply) (entries : List JournalEntry) (old new : Option History) (began now : Faults) → (w : IsWorkedOut D (alone asked) 1 (Some one ∷ []) entries old new began now)
+    → KeepsAlone Stands Told → ((t : Task) → BeginsTask asked t → Stands t w.store w.opened) → Told one w.last.store new
+worked_told Stands Told asked one entries old new began now w keeps begun = worked_counted (λ t store history faults. Stands t store history) (λ given store history faults. Told given store history) asked one entries old new began now w keeps begun

@@ -1,5 +1,5 @@
 -- How the run of a script ends.
-use Rattle.std.specs.Prelude.{◌≡◌, ℕ, true, false, List, All, Option, length}
+use Rattle.std.specs.Prelude.{◌≡◌, ◌⊎◌, ℕ, true, false, List, All, Option, length}
 use Rattle.disk_model.specs.Disk.{History, Faults, Grows, IsIdle}
 use Rattle.mdbox_base.specs.declared.replies.Reply.{Reply}
 use Rattle.mdbox_base.specs.declared.script.JournalEntry.{JournalEntry}
@@ -17,9 +17,10 @@ use Rattle.script_run.specs.Faults.{CountsStay, FaultsByReplies}
 use Rattle.script_run.specs.Opening.{AreSafeFor, BeginsAs, LogsShowLists}
 use Rattle.script_run.specs.Script.{HasStopped, ServesScript, has_change, has_delivery, has_fetch, has_purge}
 
--- If the script reads a message, the disk was settled for these lists.
+-- If the script reads a message, the disk was settled for these lists; of a script of one request it is enough that its files were safe
+-- for them.
 abbrev pub MayRead : Requests → Lists → Option History → Type 0
-MayRead script lists old = has_fetch script ≡ true → IsSettledFor lists old
+MayRead script lists old = has_fetch script ≡ true → IsSettledFor lists old ⊎ ((length script ≡ 1) × AreSafeFor lists old)
 
 -- There are lists from which it may be served; and it may be said of it that storage files and instances stay: a script that delivers
 -- messages and fetches others has to find a settled disk, and one that purges doesn't leave them where they were.
@@ -43,7 +44,7 @@ pub record LeavesStore (script : Requests) (m : MapMeaning) (given : List Reply)
   pub mail : has_delivery script ≡ false → has_purge script ≡ false → (HasStopped given → ⊥) → SyncsMail opened new
 
 -- The store was opened, and each request of the script has its reply. The script was served from any lists that the logs show with
--- which the store opened, if it reads a message only from those for which the disk was settled, by a run that begins with the map that
+-- which the store opened, if it reads a message only from those from which it may (`MayRead`), by a run that begins with the map that
 -- the logs mean; whenever the files are safe for lists, the logs show them. No reply says that a message is damaged, if the script may be
 -- served from any lists; and then no reply to a script that only lists, counts and fetches says that the store is stopped. Which calls of
 -- the disk failed follows from the replies; of a script that can't be served so, how the counts of faults stay. At each moment

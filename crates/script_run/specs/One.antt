@@ -91,14 +91,6 @@ MakesSteps (request.Make name) = Unit {0}
 MakesSteps (request.Move name uid target) = Unit {0}
 MakesSteps asked = MakesOneStep asked
 
--- A request that makes its steps so; or a delivery, a resync or a purge, which make one step too, and read octets. So it is of each but a
--- fetch.
-abbrev pub RunsAlone : Request → Type 0
-RunsAlone (request.Deliver name time octets) = Unit {0}
-RunsAlone request.Resync = Unit {0}
-RunsAlone request.Purge = Unit {0}
-RunsAlone asked = MakesSteps asked
-
 -- It was replied what the machine answers, on these lists, at its first event: of a run whose map is this then.
 pub record IsAnsweredFirst (request : Request) (m : MapMeaning) (lists : Lists) (given : Reply) : Type 0 where
   pub run : Run

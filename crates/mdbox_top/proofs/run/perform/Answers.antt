@@ -8,7 +8,7 @@ pub returns-in-Flag-clause-rests : goal.returns-in-Flag-clause-rests
 returns-in-Flag-clause-rests g c = rw c.in-Flag.is c.serve-in-Flag.ensures.rests
 
 pub returns-in-Fetch-clause-rests : goal.returns-in-Fetch-clause-rests
-returns-in-Fetch-clause-rests g c = rw c.in-Fetch.is c.fetch.ensures.rests
+returns-in-Fetch-clause-rests g c = rw c.in-Fetch.is c.serve-in-Fetch.ensures.rests
 
 pub returns-in-Expunge-clause-rests : goal.returns-in-Expunge-clause-rests
 returns-in-Expunge-clause-rests g c = rw c.in-Expunge.is c.serve-in-Expunge.ensures.rests

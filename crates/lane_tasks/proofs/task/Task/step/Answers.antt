@@ -207,13 +207,13 @@ returns-in-Ops-clause-keeps g c =
     let asks = ops_asked t.request old new s.replies.0 s.replies.2 in
     subst (λ (k : Task). TaskKeeps k (task.Ops c.step.new.self) old new (g.D.Disk.history old.disk) (g.D.Disk.history new.disk) (g.D.Disk.faults old.disk) (g.D.Disk.faults new.disk) (ended_by c.step.result)) (sym c.in-Ops.is)
     (keeps_by g.D.Disk.history g.D.Disk.faults (task.Ops t) (task.Ops c.step.new.self) _ _ _ old new c.step.result s.request (λ none. none) (rest_files old new s.keeps.rest) s.keeps (lists_same t.request old new asks s.same)
-    (λ why begun ran e step. ops_refused t.request old new s.replies.0 c.step.result why s.replies.1 e step s.replies.2 s.same) (λ synced. synced) (s.replies.0, ap ended_by s.replies.1, s.replies.2))
+    (λ why begun ran e step. ops_refused t.request old new s.replies.0 c.step.result why s.replies.1 e step s.replies.2 s.same) (λ synced. synced) (s.replies.0, ap ended_by s.replies.1, s.replies.2) tt)
 
 pub returns-in-Counts-clause-keeps : goal.returns-in-Counts-clause-keeps
 returns-in-Counts-clause-keeps g c =
     let old = c.args.store.now in
     subst (λ (k : Task). TaskKeeps k (task.Counts c.step-in-Counts.new.self) old old (g.D.Disk.history old.disk) (g.D.Disk.history old.disk) (g.D.Disk.faults old.disk) (g.D.Disk.faults old.disk) (ended_by c.step-in-Counts.result)) (sym c.in-Counts.is)
-    (keeps_still g.D.Disk.history g.D.Disk.faults (task.Counts c.in-Counts.task) (task.Counts c.step-in-Counts.new.self) old old (ended_by c.step-in-Counts.result) tt (λ none. none) (λ runs synced. synced) tt refl)
+    (keeps_still g.D.Disk.history g.D.Disk.faults (task.Counts c.in-Counts.task) (task.Counts c.step-in-Counts.new.self) old old (ended_by c.step-in-Counts.result) tt (λ none. none) (λ runs synced. synced) tt tt refl)
 
 pub returns-in-Make-clause-keeps : goal.returns-in-Make-clause-keeps
 returns-in-Make-clause-keeps g c =
@@ -223,7 +223,7 @@ returns-in-Make-clause-keeps g c =
     let t = c.in-Make.task in
     subst (λ (k : Task). TaskKeeps k (task.Make c.step-in-Make.new.self) old new (g.D.Disk.history old.disk) (g.D.Disk.history new.disk) (g.D.Disk.faults old.disk) (g.D.Disk.faults new.disk) (ended_by c.step-in-Make.result)) (sym c.in-Make.is)
     (keeps_by g.D.Disk.history g.D.Disk.faults (task.Make c.in-Make.task) (task.Make c.step-in-Make.new.self) _ _ _ old new c.step-in-Make.result s.request (λ none. none) (logs_files old new s.keeps.rest) s.keeps (λ reads. absurd reads)
-    (λ why begun ran e step. make_refused c.in-Make.task.name c.in-Make.task.stage c.step-in-Make.new.self.stage old new (g.D.Disk.history old.disk) (g.D.Disk.history new.disk) c.step-in-Make.result why begun e step (s.replies ran)) (λ synced. synced) (λ ran. subst (λ (a : Progress). MakeAnswers t.name t.stage old new (g.D.Disk.history old.disk) (g.D.Disk.history new.disk) c.step-in-Make.new.self.stage a) (sym (progress_back c.step-in-Make.result)) (s.replies ran)))
+    (λ why begun ran e step. make_refused c.in-Make.task.name c.in-Make.task.stage c.step-in-Make.new.self.stage old new (g.D.Disk.history old.disk) (g.D.Disk.history new.disk) c.step-in-Make.result why begun e step (s.replies ran)) (λ synced. synced) (λ ran. subst (λ (a : Progress). MakeAnswers t.name t.stage old new (g.D.Disk.history old.disk) (g.D.Disk.history new.disk) c.step-in-Make.new.self.stage a) (sym (progress_back c.step-in-Make.result)) (s.replies ran)) tt)
 
 pub returns-in-Copy-clause-keeps : goal.returns-in-Copy-clause-keeps
 returns-in-Copy-clause-keeps g c =
@@ -233,7 +233,7 @@ returns-in-Copy-clause-keeps g c =
     let t = c.in-Copy.task in
     subst (λ (k : Task). TaskKeeps k (task.Copy c.step-in-Copy.new.self) old new (g.D.Disk.history old.disk) (g.D.Disk.history new.disk) (g.D.Disk.faults old.disk) (g.D.Disk.faults new.disk) (ended_by c.step-in-Copy.result)) (sym c.in-Copy.is)
     (keeps_by g.D.Disk.history g.D.Disk.faults (task.Copy c.in-Copy.task) (task.Copy c.step-in-Copy.new.self) _ _ _ old new c.step-in-Copy.result s.request (λ none. none) (rest_files old new s.keeps.rest) s.keeps (λ reads. absurd reads)
-    (λ why begun ran e step. copy_refused c.in-Copy.task.name c.in-Copy.task.uid c.in-Copy.task.target c.in-Copy.task.stage c.step-in-Copy.new.self.stage old new c.step-in-Copy.result why begun e step (s.replies ran)) (λ synced. synced) (λ ran. subst (λ (a : Progress). CopyAnswers t.name t.uid t.target t.stage old new c.step-in-Copy.new.self.stage a) (sym (progress_back c.step-in-Copy.result)) (s.replies ran)))
+    (λ why begun ran e step. copy_refused c.in-Copy.task.name c.in-Copy.task.uid c.in-Copy.task.target c.in-Copy.task.stage c.step-in-Copy.new.self.stage old new c.step-in-Copy.result why begun e step (s.replies ran)) (λ synced. synced) (λ ran. subst (λ (a : Progress). CopyAnswers t.name t.uid t.target t.stage old new c.step-in-Copy.new.self.stage a) (sym (progress_back c.step-in-Copy.result)) (s.replies ran)) tt)
 
 pub returns-in-Move-clause-keeps : goal.returns-in-Move-clause-keeps
 returns-in-Move-clause-keeps g c =
@@ -243,7 +243,7 @@ returns-in-Move-clause-keeps g c =
     let t = c.in-Move.task in
     subst (λ (k : Task). TaskKeeps k (task.Move c.step-in-Move.new.self) old new (g.D.Disk.history old.disk) (g.D.Disk.history new.disk) (g.D.Disk.faults old.disk) (g.D.Disk.faults new.disk) (ended_by c.step-in-Move.result)) (sym c.in-Move.is)
     (keeps_by g.D.Disk.history g.D.Disk.faults (task.Move c.in-Move.task) (task.Move c.step-in-Move.new.self) _ _ _ old new c.step-in-Move.result s.request (λ none. none) (rest_files old new s.keeps.rest) s.keeps (λ reads. absurd reads)
-    (λ why begun ran e step. move_refused c.in-Move.task.name c.in-Move.task.uid c.in-Move.task.target c.in-Move.task.stage c.step-in-Move.new.self.stage old new c.step-in-Move.result why begun e step (s.replies ran)) (λ synced. synced) (λ ran. subst (λ (a : Progress). MoveAnswers t.name t.uid t.target t.stage old new c.step-in-Move.new.self.stage a) (sym (progress_back c.step-in-Move.result)) (s.replies ran)))
+    (λ why begun ran e step. move_refused c.in-Move.task.name c.in-Move.task.uid c.in-Move.task.target c.in-Move.task.stage c.step-in-Move.new.self.stage old new c.step-in-Move.result why begun e step (s.replies ran)) (λ synced. synced) (λ ran. subst (λ (a : Progress). MoveAnswers t.name t.uid t.target t.stage old new c.step-in-Move.new.self.stage a) (sym (progress_back c.step-in-Move.result)) (s.replies ran)) tt)
 
 pub returns-in-Expunge-clause-keeps : goal.returns-in-Expunge-clause-keeps
 returns-in-Expunge-clause-keeps g c =
@@ -253,7 +253,7 @@ returns-in-Expunge-clause-keeps g c =
     let t = c.in-Expunge.task in
     subst (λ (k : Task). TaskKeeps k (task.Expunge c.step-in-Expunge.new.self) old new (g.D.Disk.history old.disk) (g.D.Disk.history new.disk) (g.D.Disk.faults old.disk) (g.D.Disk.faults new.disk) (ended_by c.step-in-Expunge.result)) (sym c.in-Expunge.is)
     (keeps_by g.D.Disk.history g.D.Disk.faults (task.Expunge c.in-Expunge.task) (task.Expunge c.step-in-Expunge.new.self) _ _ _ old new c.step-in-Expunge.result s.request (λ none. none) (rest_files old new s.keeps.rest) s.keeps (λ reads. absurd reads)
-    (λ why begun ran e step. expunge_refused c.in-Expunge.task.name c.in-Expunge.task.uid c.in-Expunge.task.stage c.step-in-Expunge.new.self.stage old new c.step-in-Expunge.result why begun e step (s.replies ran)) (λ synced. synced) (λ ran. subst (λ (a : Progress). ExpungeAnswers t.name t.uid t.stage old new c.step-in-Expunge.new.self.stage a) (sym (progress_back c.step-in-Expunge.result)) (s.replies ran)))
+    (λ why begun ran e step. expunge_refused c.in-Expunge.task.name c.in-Expunge.task.uid c.in-Expunge.task.stage c.step-in-Expunge.new.self.stage old new c.step-in-Expunge.result why begun e step (s.replies ran)) (λ synced. synced) (λ ran. subst (λ (a : Progress). ExpungeAnswers t.name t.uid t.stage old new c.step-in-Expunge.new.self.stage a) (sym (progress_back c.step-in-Expunge.result)) (s.replies ran)) tt)
 
 pub returns-in-Fetch-clause-keeps : goal.returns-in-Fetch-clause-keeps
 returns-in-Fetch-clause-keeps g c =
@@ -261,7 +261,7 @@ returns-in-Fetch-clause-keeps g c =
     let new = c.step-in-Fetch.new.store in
     let t = c.in-Fetch.task in
     subst (λ (k : Task). TaskKeeps k (task.Fetch c.step-in-Fetch.new.self) old new (g.D.Disk.history old.disk) (g.D.Disk.history new.disk) (g.D.Disk.faults old.disk) (g.D.Disk.faults new.disk) (ended_by c.step-in-Fetch.result)) (sym c.in-Fetch.is)
-    (keeps_fetching g.D.Disk.history g.D.Disk.faults t c.step-in-Fetch.new.self t.name t.uid.0 old new c.step-in-Fetch.result c.step-in-Fetch.ensures.request c.step-in-Fetch.ensures.alone)
+    (keeps_fetching g.D.Disk.history g.D.Disk.faults t c.step-in-Fetch.new.self old new c.step-in-Fetch.result c.step-in-Fetch.ensures.request c.step-in-Fetch.ensures.alone)
 
 pub returns-in-Deliver-clause-keeps : goal.returns-in-Deliver-clause-keeps
 returns-in-Deliver-clause-keeps g c =
