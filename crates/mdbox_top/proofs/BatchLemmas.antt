@@ -251,7 +251,7 @@ pub script_rests : (script : Requests) (text : List ℕ) (given : List Reply) (e
     → ScriptRests script (IsOneOf (5 ∷ 6 ∷ 8 ∷ []) (status_of o)) began now old new
 script_rests script text given entries h k old new began now o d shows = λ none lists s.
     let was = served_from script given entries old new began now lists d s in
-    inr (was, was.served.settled (λ (c : HasStopped given). none (failed_printing text (map Some given) h k o shows (stopped_outcome given c)) ((d.faults (lists, λ reads. s)).stopped c)) s)
+    inr (was, was.served.settled (λ (c : HasStopped given). none (failed_printing text (map Some given) h k o shows (stopped_outcome given c)) ((d.faults (lists, λ reads. inl s)).stopped c)) s)
 
 -- ---- a store that was not opened
 
