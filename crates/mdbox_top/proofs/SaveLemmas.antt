@@ -913,13 +913,13 @@ save_at name time octets prepared first mid t next s u before after one two None
       },
       λ given e. absurd (let k : None ≡ Some given = e in cc k),
     )
-save_at name time octets prepared first mid t next s u before after one two (Some reply) form is kind store said =
-    let says = says_as name time (length octets) t next (progress.Done reply) s u before after one two is.name_is is.time_is is.size_is said in
-    let event = save_event name time octets prepared first mid t next (progress.Done reply) s u before after one two is store says in (
-      λ more. absurd (let k : Some reply ≡ None = more in cc k),
-      λ given e. subst (λ (r : Reply). IsSaveTold name time octets prepared first mid r u after) (some_reply reply given e) (record {
-        saves = λ known. saves_end mid before after name time octets prepared first s u t.stage next.stage reply form is.knows event known;
-        halts = λ stopped. one_done reply (reply.Refused refusal.Stopped) (says.stopped.1 stopped);
+save_at name time octets prepared first mid t next s u before after one two (Some told) form is kind store said =
+    let says = says_as name time (length octets) t next (progress.Done told) s u before after one two is.name_is is.time_is is.size_is said in
+    let event = save_event name time octets prepared first mid t next (progress.Done told) s u before after one two is store says in (
+      λ more. absurd (let k : Some told ≡ None = more in cc k),
+      λ given e. subst (λ (r : Reply). IsSaveTold name time octets prepared first mid r u after) (some_reply told given e) (record {
+        saves = λ known. saves_end mid before after name time octets prepared first s u t.stage next.stage told form is.knows event known;
+        halts = λ stopped. one_done told (reply.Refused refusal.Stopped) (says.stopped.1 stopped);
       }),
     )
 
