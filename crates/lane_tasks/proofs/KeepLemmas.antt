@@ -423,7 +423,7 @@ keeps_resyncing history faults t next old new answer on exact k = record {
 -- ---- of a purge
 
 pub keeps_purging : {D : Type 0} → (history : D → Option History) (faults : D → Faults) (t next : PurgeValue) (old new : StoreValue D) (ended : Option Reply) → Grows (history old.disk) (history new.disk) → MailIsKept old.map (history old.disk) (history new.disk) → (faults old.disk).reads ≤ (faults new.disk).reads → ((ended ≡ Some (reply.Refused refusal.ReadFault) → ⊥) → (faults new.disk).reads ≡ (faults old.disk).reads) → (faults old.disk).changes ≤ (faults new.disk).changes
-    → (new.stopped ≡ false → (faults new.disk).changes ≡ (faults old.disk).changes) → (old.stopped ≡ false → new.stopped ≡ true → Rose (faults old.disk).changes (faults new.disk).changes × ((faults new.disk).reads ≡ (faults old.disk).reads)) → (old.stopped ≡ true → new ≡ old) → PurgesSo t next old new ended
+    → (new.stopped ≡ false → (faults new.disk).changes ≡ (faults old.disk).changes) → (old.stopped ≡ false → new.stopped ≡ true → Rose (faults old.disk).changes (faults new.disk).changes × ((faults new.disk).reads ≡ (faults old.disk).reads)) → (old.stopped ≡ true → new ≡ old) → PurgesSo t next old new (history old.disk) (history new.disk) ended
     → Same history faults (task.Purge t) (task.Purge next) old new ended
 keeps_purging history faults t next old new ended grows mail reads calm changes unfailed fell still tells = record {
   request = tt;

@@ -1,5 +1,5 @@
 -- The clause of a task's step, for tasks of any kind.
-use Rattle.std.specs.Prelude.{◌≡◌, ◌≤◌, ℕ, true, false, List, Option, Some, None}
+use Rattle.std.specs.Prelude.{◌≡◌, ◌≢◌, ◌≤◌, ℕ, true, false, List, Option, Some, None}
 use Rattle.disk_model.specs.Disk.{History, Faults, Grows, IsIdle}
 use Rattle.attach_detach.specs.declared.message.Prepared.{Prepared}
 use Rattle.mdbox_base.specs.declared.progress.Progress.{Progress}
@@ -42,9 +42,11 @@ use Rattle.mail_save.specs.MailFiles.{WritesMail}
 use Rattle.mail_save.specs.SaveSeen.{around_saving}
 use Rattle.mail_save.specs.Task.{SaveValue, Saves}
 use Rattle.mail_save.specs.declared.task.SaveStage.TheVariants as save_stage
-use Rattle.purge_task.specs.Clause.{TellsUses, around_purging}
+use Rattle.purge_task.specs.Clause.{BeginsPurge, KeepsRegions, TellsUses, around_purging}
 use Rattle.purge_task.specs.Dropped.{DropsCounted, TellsCounts}
 use Rattle.purge_task.specs.Keeping.{PurgeValue}
+use Rattle.purge_task.specs.Quiet.{KeepsQuiet}
+use Rattle.purge_task.specs.declared.task.PurgeStage.TheVariants as purge_stage
 use Rattle.resync_task.specs.Clause.{FindsResync}
 use Rattle.resync_task.specs.Correcting.{AreExact}
 use Rattle.resync_task.specs.Stages.{ToList}
@@ -181,14 +183,21 @@ ResyncsSo t next old new before after ended = (began : Faults) × (now : Faults)
 abbrev pub SavesSo : {D : Type 0} → SaveValue → SaveValue → StoreValue D → StoreValue D → Option History → Option History → Option Reply → Type 0
 SavesSo t next old new before after ended = (began : Faults) × (now : Faults) × Saves t.stage next.stage t.name t.time t.size (progress_by ended) next.did old new before after began now
 
--- What an event of a purge did to the map, unless it stopped the store: it dropped as many records as it counts; and what it has counted it
--- replies.
-abbrev pub PurgesSo : {D : Type 0} → PurgeValue → PurgeValue → StoreValue D → StoreValue D → Option Reply → Type 0
-PurgesSo t next old new ended = DropsCounted t next old new × TellsCounts t next (progress_by ended)
+-- What an event of a purge did, unless it stopped the store: it dropped as many records of the map as it counts; what it has counted it
+-- replies; beside no other task it leaves files and map as a quiet purge does; and each record that is still there has the octets that it
+-- had. The first one changes nothing of the disk, takes just the files that aren't clean, and is the only one that is refused but by a
+-- failed call.
+pub record PurgesSo {D : Type 0} (t next : PurgeValue) (old new : StoreValue D) (before after : Option History) (ended : Option Reply) : Type 0 where
+  pub drops : DropsCounted t next old new
+  pub counts : TellsCounts t next (progress_by ended)
+  pub quiet : KeepsQuiet t next (progress_by ended) old new before after
+  pub regions : new.stopped ≡ false → KeepsRegions old.map new.map before after
+  pub first : t.stage ≡ purge_stage.First → BeginsPurge (progress_by ended) next.stage old before after
+  pub refused : (why : Refusal) → ended ≡ Some (reply.Refused why) → why ≢ refusal.ReadFault → why ≢ refusal.Stopped → t.stage ≡ purge_stage.First
 
 -- What a task answers, by what its event found in the store and left of it: of a listing or a setting of flags, and, unless the store
 -- was stopped, of a make, a copy, a move, an expunge, a delivery or a resync, with the stages before and after. A resync that puts counts
--- right leaves each exact. Of a purge it is what its event dropped.
+-- right leaves each exact. Of a purge it is what its event dropped, and what it made of the files.
 abbrev pub TellsStore : {D : Type 0} → Task → Task → StoreValue D → StoreValue D → Option History → Option History → Option Reply → Type 0
 TellsStore (task.Ops t) next old new before after ended = (given : Reply) × (ended ≡ Some given) × Replies t.request old new given
 TellsStore (task.Make t) (task.Make next) old new before after ended = old.stopped ≡ false → MakeAnswers t.name t.stage old new before after next.stage (progress_by ended)
@@ -197,7 +206,7 @@ TellsStore (task.Move t) (task.Move next) old new before after ended = old.stopp
 TellsStore (task.Expunge t) (task.Expunge next) old new before after ended = old.stopped ≡ false → ExpungeAnswers t.name t.uid t.stage old new next.stage (progress_by ended)
 TellsStore (task.Deliver t) (task.Deliver next) old new before after ended = old.stopped ≡ false → SavesSo t next old new before after ended
 TellsStore (task.Resync t) (task.Resync next) old new before after ended = (old.stopped ≡ false → ResyncsSo t next old new before after ended) × ((corrected damaged : ℕ) → ended ≡ Some (reply.Resynced corrected damaged) → AreExact new)
-TellsStore (task.Purge t) (task.Purge next) old new before after ended = PurgesSo t next old new ended
+TellsStore (task.Purge t) (task.Purge next) old new before after ended = PurgesSo t next old new before after ended
 TellsStore t next old new before after ended = Unit {0}
 
 -- What an event of a fetch read and answers, and what it did, whatever the disk.

@@ -38,7 +38,7 @@ use Rattle.request_text.specs.declared.outcome.Outcome.TheVariants as outcome
 use Rattle.mdbox_top.specs.Alone.{IsDoneAlone}
 use Rattle.script_run.specs.One.{IsAlongOne, OpensUnchanged, alone, lists_told, saved_lists}
 use Rattle.mdbox_top.proofs.FetchedLemmas.{SafeAreShown, fetch_done}
-use Rattle.mdbox_top.proofs.SaveLemmas.{IsAlike, IsSaveTold, SavesAlone, StandsSave, StoresAlone, begun_save, keeps_save}
+use Rattle.tasks_alone.proofs.SaveLemmas.{IsAlike, IsSaveTold, SavesAlone, StandsSave, StoresAlone, begun_save, keeps_save}
 use Rattle.mdbox_top.proofs.MakeLemmas.{done_alone}
 use Rattle.mdbox_top.proofs.OneStepLemmas.{stopped_one, unfailed_by}
 use Rattle.mdbox_top.proofs.PurgeLemmas.{purge_done}
@@ -54,16 +54,17 @@ use Rattle.lanes.specs.Worlds.{HasItsMessage}
 use Rattle.mdbox_base.specs.declared.requests.Request.{Request}
 use Rattle.mdbox_base.specs.declared.script.JournalEntry.{JournalEntry}
 use Rattle.task_steps.specs.Serves.{IsReached}
-use Rattle.mdbox_top.specs.DeliverRun.{undelivered_cause, region_length, HasRecordLeft, HasRecordMore, IsDeliverAnswer, OpensAlike, OpensSaved, IsDeliverReply, SaveOutcome, AreSaved, SaveMoments, unread_outcome, IsUnread, DeliverOutcome, DeliverRests, DeliverStatus}
+use Rattle.mdbox_top.specs.DeliverRun.{OpensAlike, OpensSaved, IsDeliverReply, SaveOutcome, AreSaved, SaveMoments, unread_outcome, IsUnread, DeliverOutcome, DeliverRests, DeliverStatus}
+use Rattle.tasks_alone.specs.DeliveryAlone.{undelivered_cause, region_length, HasRecordLeft, HasRecordMore, IsDeliverAnswer}
 use Rattle.mdbox_top.specs.InputRun.{IsOneOf}
 use Rattle.mdbox_top.specs.OpeningOutcome.{opening_outcome}
-use Rattle.mdbox_top.specs.SavedMail.{LeavesDelivery, WroteMail}
+use Rattle.tasks_alone.specs.SavedMail.{LeavesDelivery, WroteMail}
 use Rattle.script_run.proofs.OneTaskLemmas.{one_refusal}
 use Rattle.mdbox_top.proofs.InputLemmas.{long_told}
-use Rattle.mdbox_top.proofs.KnownFirstLemmas.{named_there}
+use Rattle.tasks_alone.proofs.KnownFirstLemmas.{named_there}
 use Rattle.mdbox_top.proofs.RequestLemmas.{opening_number, shown_number, request_status, request_used, request_input, request_damage}
 use Rattle.script_run.proofs.ShownLemmas.{ListsAnswer, opens_again}
-use Rattle.mdbox_top.proofs.WroteLemmas.{wrote_message}
+use Rattle.tasks_alone.proofs.WroteLemmas.{wrote_message}
 
 -- ---- the end of a run
 

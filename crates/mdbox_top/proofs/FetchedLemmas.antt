@@ -32,8 +32,9 @@ use Rattle.script_run.proofs.ToldLemmas.{answers_of, replied_one, serves_one, st
 use Rattle.script_run.proofs.UnchangedLemmas.{closed_since, reads_safe, unchanged_since}
 use Rattle.script_run.proofs.WorkedLemmas.{worked_counted}
 use Rattle.mdbox_top.specs.Alone.{IsDoneAlone}
-use Rattle.mdbox_top.specs.FetchRun.{IsFetchAnswer, IsFetchReply, IsFetched, IsTextOf}
-use Rattle.mdbox_top.proofs.FetchLemmas.{IsFetchTold, StandsFetch, TakesMessage, begun_fetch, cause_of, keeps_fetch}
+use Rattle.mdbox_top.specs.FetchRun.{IsFetchReply, IsFetched, IsTextOf}
+use Rattle.tasks_alone.specs.FetchAlone.{IsFetchAnswer}
+use Rattle.tasks_alone.proofs.FetchLemmas.{IsFetchTold, StandsFetch, TakesMessage, begun_fetch, cause_of, keeps_fetch}
 
 -- the law of the lists for which files are safe that open
 abbrev pub SafeAreShown : Type 0

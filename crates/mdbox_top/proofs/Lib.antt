@@ -2,13 +2,10 @@ pub mod BatchLemmas
 pub mod CountsLemmas
 pub mod DeliverLemmas
 pub mod ExerciseLemmas
-pub mod FetchLemmas
 pub mod FetchedLemmas
-pub mod FirstLemmas
 pub mod InOrderLemmas
 pub mod InitLemmas
 pub mod InputLemmas
-pub mod KnownFirstLemmas
 pub mod ListLemmas
 pub mod MakeLemmas
 pub mod NumbersLemmas
@@ -19,8 +16,5 @@ pub mod RebuildLemmas
 pub mod RequestLemmas
 pub mod ResyncLemmas
 pub mod RunLemmas
-pub mod SaveLemmas
-pub mod SavedFormLemmas
 pub mod ServeLemmas
 pub mod WorkLemmas
-pub mod WroteLemmas

@@ -48,7 +48,7 @@ use Rattle.mdbox_top.specs.MoveRun.{IsMoveReply, MoveMoments, MoveRests}
 use Rattle.mdbox_top.specs.Alone.{IsDoneAlone}
 use Rattle.mdbox_top.specs.CountsRun.{IsCountsReply, counts_of}
 use Rattle.mdbox_top.specs.ListRun.{IsListReply, ListMoments, ListRests}
-use Rattle.mdbox_top.specs.Served.{FaultsByReply}
+use Rattle.tasks_alone.specs.FaultsAlone.{FaultsByReply}
 use Rattle.mdbox_top.proofs.CountsLemmas.{counts_answer}
 
 -- it is the script of this request, on a store that opened

@@ -14,14 +14,15 @@ use Rattle.model_store.specs.Listing.{ShowLists}
 use Rattle.list_machine.specs.Machine.{PartAnswers, TargetFits, NextFiles, first_refusal, part_checks, refusal_at, refused_where}
 use Rattle.list_machine.specs.Run.{EventPart, First, Last, Run, RunEvent, TakenFile, before, drawn_of, map_of, target_length, with_targets}
 use Rattle.journal.specs.Journal.{AreSteps, IsReplyOf, JournalStep}
+use Rattle.purge_task.specs.Clause.{KeepsRegions}
 use Rattle.purge_task.specs.Dropped.{DropsUnwanted}
 use Rattle.script_run.specs.LeftOpen.{IsRequestDone}
-use Rattle.script_run.specs.One.{alone}
-use Rattle.script_run.specs.Purged.{IsPurgeAnswer}
+use Rattle.script_run.specs.One.{IsUndoneAlone, alone}
+use Rattle.script_run.specs.Purged.{HasPurgedQuietly, IsPurgeAnswer}
 use Rattle.script_run.proofs.AloneLemmas.{left_still, may_read}
 use Rattle.script_run.proofs.SomeListsLemmas.{some_lists}
 use Rattle.script_run.proofs.ToldLemmas.{answers_of, replied_one, serves_one, step_answers}
-use Rattle.script_run.proofs.UnchangedLemmas.{listed_safe}
+use Rattle.script_run.proofs.UnchangedLemmas.{listed_safe, unchanged_since}
 use Rattle.mdbox_top.specs.Alone.{IsDoneAlone}
 use Rattle.mdbox_top.specs.PurgeRun.{IsPurgeReply, MayReplyPurge, OpensPurged}
 use Rattle.mdbox_top.proofs.OneStepLemmas.{stopped_one}
@@ -106,11 +107,20 @@ purged_runs given dropped files instances d s = let k : reply.Purged dropped fil
 refusal_stops : (given : Reply) (why : Refusal) → given ≡ reply.Refused why → (why ≡ refusal.Stopped → ⊥) → given ≡ reply.Refused refusal.Stopped → ⊥
 refusal_stops given why e running s = running (let k : reply.Refused why ≡ reply.Refused refusal.Stopped = sym e ∙ s in cc k)
 
-refused_drops : (why : Refusal) (m later : MapMeaning) → (why ≡ refusal.Stopped → ⊥) → IsPurgeAnswer (reply.Refused why) m later → (dropped : ℕ) × DropsUnwanted m later dropped
-refused_drops refusal.Stopped m later running answer = absurd (running refl)
-refused_drops why m later running answer = answer
+refused_drops : (why : Refusal) (read new : Option History) (m later : MapMeaning) → (why ≡ refusal.Stopped → ⊥) → IsPurgeAnswer (reply.Refused why) read new m later → (dropped : ℕ) × DropsUnwanted m later dropped × KeepsRegions m later read new
+refused_drops refusal.Stopped read new m later running answer = absurd (running refl)
+refused_drops why read new m later running answer = answer
+
+-- what its numbers tell
+numbers_told : (given : Reply) (old new : Option History) (began now : Faults) → (w : PurgeDone given old new began now) → (dropped files instances : ℕ) → given ≡ reply.Purged dropped files instances → DropsUnwanted w.done.m w.later dropped × HasPurgedQuietly dropped files instances w.done.leaves.opened new w.done.m w.later
+numbers_told given old new began now w dropped files instances e = subst (λ (r : Reply). IsPurgeAnswer r w.done.leaves.opened new w.done.m w.later) e w.comes.purged
+
+-- what a refusal tells
+refusal_told : (given : Reply) (old new : Option History) (began now : Faults) → (w : PurgeDone given old new began now) → (why : Refusal) → given ≡ reply.Refused why → (why ≡ refusal.Stopped → ⊥) → (dropped : ℕ) × DropsUnwanted w.done.m w.later dropped × KeepsRegions w.done.m w.later w.done.leaves.opened new
+refusal_told given old new began now w why e running = refused_drops why w.done.leaves.opened new w.done.m w.later running (subst (λ (r : Reply). IsPurgeAnswer r w.done.leaves.opened new w.done.m w.later) e w.comes.purged)
 
 purge_tells : (given : Reply) (old new : Option History) (began now : Faults) → PurgeDone given old new began now → IsPurgeReply old new given
+unfolding purge_opens
 purge_tells given old new began now w = record {
   m = w.done.m;
   meanings = w.done.meanings;
@@ -120,10 +130,11 @@ purge_tells given old new began now w = record {
   read = w.done.leaves.opened;
   swept = w.done.leaves.swept;
   done = λ dropped files instances e.
-      purge_opens given old new began now w (purged_runs given dropped files instances e) dropped (subst (λ (r : Reply). IsPurgeAnswer r w.done.m w.later) e w.comes.purged);
-  refused = λ why e running.
-      let some = refused_drops why w.done.m w.later running (subst (λ (r : Reply). IsPurgeAnswer r w.done.m w.later) e w.comes.purged) in
-      (some.0, purge_opens given old new began now w (refusal_stops given why e running) some.0 some.1);
+      purge_opens given old new began now w (purged_runs given dropped files instances e) dropped (numbers_told given old new began now w dropped files instances e).0;
+  quiet = λ dropped files instances e. (numbers_told given old new began now w dropped files instances e).1;
+  refused = λ why e running. let some = refusal_told given old new began now w why e running in (some.0, purge_opens given old new began now w (refusal_stops given why e running) some.0 some.1);
+  kept = λ why e running. (refusal_told given old new began now w why e running).2;
+  undone = λ why e read stopped. unchanged_since request.Purge given w.entries old new began now w.done (w.undone (subst (λ (r : Reply). IsUndoneAlone (alone request.Purge) (r ∷ [])) (sym e) (read, stopped)));
   settled = λ running lists at. (listed_safe request.Purge given w.entries old new began now w.done refl lists at).1 (stopped_one given running);
 }
 

@@ -27,7 +27,7 @@ use Rattle.script_run.proofs.UnchangedLemmas.{listed_safe, unchanged_since}
 use Rattle.mdbox_top.specs.Alone.{IsDoneAlone}
 use Rattle.mdbox_top.specs.InputRun.{IsOneOf}
 use Rattle.mdbox_top.specs.ResyncRun.{IsResyncReply, MayReplyResync, ResyncOutcome}
-use Rattle.mdbox_top.specs.Served.{FaultsByReply}
+use Rattle.tasks_alone.specs.FaultsAlone.{FaultsByReply}
 use Rattle.mdbox_top.proofs.CountsLemmas.{opening_one, others_of, shown_one}
 use Rattle.mdbox_top.proofs.OneStepLemmas.{stopped_one}
 use Rattle.mdbox_top.proofs.RequestLemmas.{opening_number, request_status}

@@ -10,7 +10,7 @@ use Rattle.model_lists.specs.Lists.{Lists}
 use Rattle.script_run.specs.Opening.{AreSafeFor}
 use Rattle.script_run.specs.One.{ServesRequest}
 use Rattle.mdbox_top.specs.InputRun.{IsOneOf}
-use Rattle.mdbox_top.specs.Served.{FaultsByReply}
+use Rattle.tasks_alone.specs.FaultsAlone.{FaultsByReply}
 use Rattle.mdbox_top.specs.ListRun.{IsListReply, ListMoments, ListRests}
 use Rattle.mdbox_top.specs.DeliverRun.{IsDeliverReply, SaveMoments, SaveRests}
 use Rattle.mdbox_top.specs.FetchRun.{IsFetchReply, FetchMoments, FetchRests}

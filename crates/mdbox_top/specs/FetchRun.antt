@@ -1,7 +1,6 @@
 -- How `fetch` ends.
-use Rattle.std.specs.Prelude.{◌≡◌, ◌⊎◌, ◌++◌, ℕ, List, flat_map, Option, Some, None}
-use Rattle.disk_model.specs.Disk.{DiskState, History, Faults, IfTold, IsIdle, reading}
-use Rattle.disk_model.specs.declared.name.FileName.TheVariants.{Mail, Inst}
+use Rattle.std.specs.Prelude.{◌≡◌, ◌⊎◌, ℕ, List, Option, Some, None}
+use Rattle.disk_model.specs.Disk.{History, Faults, IsIdle}
 use Rattle.mdbox_base.specs.declared.ids.Uid.{Uid}
 use Rattle.mdbox_base.specs.declared.replies.Refusal.{Refusal}
 use Rattle.mdbox_base.specs.declared.replies.Refusal.TheVariants as refusal
@@ -13,8 +12,6 @@ use Rattle.list_machine.specs.Machine.{message_at}
 use Rattle.model_meaning.specs.BoxMeaning.{LogRow, BoxMeaning, row_at}
 use Rattle.model_meaning.specs.MapMeaning.{MapRecord, MapMeaning, record_at}
 use Rattle.model_store.specs.Listing.{meaning_named}
-use Rattle.storage_files.specs.OnDisk.{piece_read}
-use Rattle.mail_fetch.specs.Region.{stored_at, IsReplyFor}
 use Rattle.mail_fetch.specs.Stages.{IsTrueReply}
 use Rattle.store_open.specs.Opened.{IsOpenedAs, StoreCarries}
 use Rattle.store_sweep.specs.Swept.{IsSwept}
@@ -23,6 +20,7 @@ use Rattle.script_run.specs.Opening.{AreSafeFor, StaysSettled}
 use Rattle.script_run.specs.One.{missing_cause}
 use Rattle.mdbox_top.specs.Served.{RequestOutcome}
 use Rattle.mdbox_top.specs.ListRun.{ListMoments, ListRests}
+use Rattle.tasks_alone.specs.FetchAlone.{IsFetchAnswer}
 
 -- By what the logs mean the mailbox with this name has this row of this UID, and this is the row's record.
 pub record IsRecordOf (name : List ℕ) (uid : ℕ) (m : MapMeaning) (meanings : List BoxMeaning) (row : LogRow) (entry : MapRecord) : Type 0 where
@@ -31,16 +29,6 @@ pub record IsRecordOf (name : List ℕ) (uid : ℕ) (m : MapMeaning) (meanings :
   pub listed : row_at mailbox uid ≡ Some row
   pub stored : record_at m row.map_uid ≡ Some entry
   pub same : entry.guid ≡ row.guid
-
--- the octets that a disk reads at a record's region, and behind them those of each instance that it names
-abbrev pub message_read : MapRecord → DiskState → List ℕ
-message_read entry disk = piece_read entry.offset entry.size (reading (disk (Mail entry.file))) ++ flat_map (λ row. piece_read 0 row.size (reading (disk (Inst row.hash.0 row.id.0)))) entry.instances
-
--- A read failed, and that is replied; or what the disk reads there is replied: the octets of the message that it is, or that it is
--- damaged if and only if it is none.
-abbrev pub IsFetchAnswer : LogRow → MapRecord → Option History → Reply → Type 0
-IsFetchAnswer row entry history given =
-    (given ≡ reply.Refused refusal.ReadFault) ⊎ ((read : List ℕ) × IfTold history (λ disk. read ≡ message_read entry disk) × IsReplyFor (stored_at row entry) read given)
 
 -- The lists have the message with this UID, and its octets were replied, or that a read failed.
 abbrev pub IsTextOf : List ℕ → ℕ → Lists → Reply → Type 0

@@ -20,5 +20,4 @@ pub mod PurgeRun
 pub mod RebuildRun
 pub mod ResyncRun
 pub mod Run
-pub mod SavedMail
 pub mod Served

@@ -12,12 +12,15 @@ use Rattle.model_meaning.specs.MapMeaning.{MapMeaning}
 use Rattle.model_store.specs.Listing.{ShowLists}
 use Rattle.model_store.specs.Safe.{Safe}
 use Rattle.model_store.specs.Settled.{IsSettledFor}
+use Rattle.purge_task.specs.Clause.{KeepsRegions}
 use Rattle.purge_task.specs.Dropped.{DropsUnwanted}
 use Rattle.store_open.specs.Opened.{IsOpenedAs}
 use Rattle.store_sweep.specs.Moments.{NoFailedChange}
 use Rattle.store_sweep.specs.Swept.{IsSwept}
 use Rattle.request_text.specs.declared.outcome.Outcome.{Outcome}
+use Rattle.script_run.specs.One.{OpensUnchanged}
 use Rattle.script_run.specs.Opening.{StaysSettled}
+use Rattle.script_run.specs.Purged.{HasPurgedQuietly}
 use Rattle.mdbox_top.specs.Served.{RequestOutcome}
 
 -- The files open with logs in which so many records were dropped, none of which was wanted, and each other one keeps all but its place; and
@@ -40,8 +43,10 @@ MayReplyPurge (reply.Refused refusal.Stopped) = Unit {0}
 MayReplyPurge given = ⊥
 
 -- The reply to a purge, by what the logs mean from which the store opened, whether the files are safe for some lists or not. The opening
--- swept the disk. Where it is refused, the files that it has switched by then are purged. Unless the store is stopped, a disk that was
--- settled for lists is settled for them again.
+-- swept the disk. Where its numbers are replied, it did to the files that the opening left just what a quiet purge does, with these numbers.
+-- Where it is refused, the files that it has switched by then are purged, and each record that is there has the octets that it had; and but
+-- for a failed call nothing has changed since the opening. Unless the store is stopped, a disk that was settled for lists is settled for them
+-- again.
 pub record IsPurgeReply (old new : Option History) (given : Reply) : Type 0 where
   pub m : MapMeaning
   pub meanings : List BoxMeaning
@@ -51,7 +56,10 @@ pub record IsPurgeReply (old new : Option History) (given : Reply) : Type 0 wher
   pub read : Option History
   pub swept : IsSwept generation m old read
   pub done : (dropped files instances : ℕ) → given ≡ reply.Purged dropped files instances → OpensPurged dropped m meanings new
+  pub quiet : (dropped files instances : ℕ) (is : given ≡ reply.Purged dropped files instances) → HasPurgedQuietly dropped files instances read new m (done dropped files instances is).map
   pub refused : (why : Refusal) → given ≡ reply.Refused why → (why ≡ refusal.Stopped → ⊥) → (dropped : ℕ) × OpensPurged dropped m meanings new
+  pub kept : (why : Refusal) (is : given ≡ reply.Refused why) (runs : why ≡ refusal.Stopped → ⊥) → KeepsRegions m (refused why is runs).1.map read new
+  pub undone : (why : Refusal) → given ≡ reply.Refused why → (why ≡ refusal.ReadFault → ⊥) → (why ≡ refusal.Stopped → ⊥) → OpensUnchanged m meanings old new
   pub settled : (given ≡ reply.Refused refusal.Stopped → ⊥) → StaysSettled old new
 
 -- How `purge` ends: the reply is printed, which is `OK` and three numbers, or `NO 16 store full`, `NO 17 memory`, `NO 18 read fault` or

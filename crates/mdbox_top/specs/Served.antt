@@ -1,11 +1,9 @@
 -- What a request alone makes of a store, and how it ends.
-use Rattle.std.specs.Prelude.{◌≡◌, ◌≤◌, ◌⊎◌, ℕ, List, [], Option}
+use Rattle.std.specs.Prelude.{◌≡◌, ◌⊎◌, ℕ, List, [], Option}
 use Rattle.disk_model.specs.Disk.{History, Faults, IsIdle}
 use Rattle.disk_model.specs.FaultCounts.{NoFault}
-use Rattle.mdbox_base.specs.Streams.{Appended, Rose}
-use Rattle.mdbox_base.specs.declared.replies.Refusal.TheVariants as refusal
+use Rattle.mdbox_base.specs.Streams.{Appended}
 use Rattle.mdbox_base.specs.declared.replies.Reply.{Reply}
-use Rattle.mdbox_base.specs.declared.replies.Reply.TheVariants as reply
 use Rattle.mdbox_base.specs.declared.requests.Request.{Request}
 use Rattle.model_lists.specs.Lists.{Lists}
 use Rattle.store_open.specs.Making.{IdleUnless}
@@ -20,17 +18,7 @@ use Rattle.request_text.specs.declared.outcome.Outcome.TheVariants as outcome
 use Rattle.script_run.specs.Opening.{AreSafeFor}
 use Rattle.script_run.specs.One.{ServesRequest}
 use Rattle.mdbox_top.specs.OpeningOutcome.{opening_outcome}
-
--- The counts of the disk's faults, by what was replied: they never fall, a read fault is replied only if that of failed reads alone
--- rose, and that the store is stopped only if that of failed changes alone did. With any other reply no call failed.
-pub record FaultsByReply (given : Reply) (began now : Faults) : Type 0 where
-  pub reads : began.reads ≤ now.reads
-  pub changes : began.changes ≤ now.changes
-  pub read_fault : given ≡ reply.Refused refusal.ReadFault → Rose began.reads now.reads
-  pub read_alone : given ≡ reply.Refused refusal.ReadFault → now.changes ≡ began.changes
-  pub stopped : given ≡ reply.Refused refusal.Stopped → Rose began.changes now.changes
-  pub change_alone : given ≡ reply.Refused refusal.Stopped → now.reads ≡ began.reads
-  pub unfailed : (given ≡ reply.Refused refusal.ReadFault → ⊥) → (given ≡ reply.Refused refusal.Stopped → ⊥) → NoFault began now
+use Rattle.tasks_alone.specs.FaultsAlone.{FaultsByReply}
 
 -- How a reply with this text is printed: whole; or a prefix of it, for a fault of the output or out of memory.
 abbrev pub ShowsReply : List ℕ → Reply → Option (List ℕ) → Option (List ℕ) → Outcome → Type 0

@@ -1,6 +1,6 @@
 -- What a purge says that removes a file in which no message lies.
-use Rattle.std.proofs.Common.{◌≡◌, ◌≢◌, ◌≤◌, ◌<◌, ◌+◌, ◌==◌, ◌&&◌, ◌||◌, ◌⊎◌, ℕ, zero, suc, Bool, true, false, cond, List, [], ◌∷◌, length, Option, Some, None, refl, sym, ◌∙◌, ap, subst, arith, inl, inr, All}
-use Rattle.std.specs.Prelude.{◌↔◌, IsSome, count_by, is_some, if◌then◌else◌}
+use Rattle.std.proofs.Common.{◌≡◌, ◌≤◌, ◌<◌, ◌+◌, ◌==◌, ◌&&◌, ◌⊎◌, ℕ, zero, suc, Bool, true, false, cond, List, [], ◌∷◌, length, Option, Some, None, refl, sym, ◌∙◌, ap, subst, arith, inl, inr, All}
+use Rattle.std.specs.Prelude.{IsSome, is_some}
 use Rattle.std.specs.List.{list_any}
 use Rattle.std.specs.Option.{option_and_then, option_map_or}
 use Rattle.std.proofs.lemmas.Bool.{cases_eq, eq-eqb, eqb-true, ne_eqb}
@@ -11,10 +11,8 @@ use Rattle.disk_model.specs.FaultCounts.{NoFault}
 use Rattle.disk_model.specs.declared.name.FileName.TheVariants as file
 use Rattle.mdbox_base.specs.declared.ids.FileNo.{FileNo}
 use Rattle.mdbox_base.specs.declared.progress.Did.TheVariants as did
-use Rattle.mdbox_base.specs.declared.progress.Progress.{Progress}
 use Rattle.mdbox_base.specs.declared.progress.Progress.TheVariants as progress
 use Rattle.mdbox_base.specs.declared.replies.Refusal.TheVariants as refusal
-use Rattle.mdbox_base.specs.declared.replies.Reply.{Reply}
 use Rattle.mdbox_base.specs.declared.replies.Reply.TheVariants as reply
 use Rattle.model_kept.specs.Kept.{MailIsKept}
 use Rattle.model_lists.specs.Lists.{Lists}
@@ -29,7 +27,7 @@ use Rattle.store_core.specs.Removing.{AreElsewhere}
 use Rattle.store_core.specs.Value.{StoreValue}
 use Rattle.store_core.proofs.InstanceKeepingLemmas.{syncs_placed}
 use Rattle.store_core.proofs.KnownInstanceLemmas.{firm_same}
-use Rattle.task_claims.specs.Claims.{Claims, ClaimsNothing, Due, Emptied, Held, Made, MovesClaims, OthersClaim, Pinned, PlacingPieces, Removing, Taken, Thing, amount_in, is_to_remove, one_if}
+use Rattle.task_claims.specs.Claims.{Due, Emptied, Held, Made, MovesClaims, Pinned, PlacingPieces, Removing, Taken, Thing, amount_in, is_to_remove, one_if}
 use Rattle.task_claims.specs.Leaving.{LeavesOthers, MayOnlyGrow, OthersTook}
 use Rattle.purge_task.specs.Claims.{claims_of_sources, purge_claims, sources_left}
 use Rattle.purge_task.specs.Clause.{IsPurgeStep, PurgeSteps}
@@ -43,7 +41,7 @@ use Rattle.purge_task.proofs.BareLemmas.{bare_steps}
 use Rattle.purge_task.proofs.EventLemmas.{fall}
 use Rattle.purge_task.proofs.LeavingLemmas.{removal_leaves}
 use Rattle.purge_task.proofs.RemovalCallLemmas.{next_claims, ready_next, same_in}
-use Rattle.purge_task.proofs.RemovalLemmas.{LeavesSettled, none_in}
+use Rattle.purge_task.proofs.RemovalLemmas.{none_in}
 use Rattle.purge_task.proofs.RemovalSeenLemmas.{without}
 use Rattle.store_core.specs.Running.{IsStore}
 use Rattle.purge_task.proofs.SameRegionLemmas.{regions_but}

@@ -1,5 +1,5 @@
 -- The clause of an event of a purge that removes a storage file in which no message lies.
-use Rattle.std.proofs.Common.{◌≡◌, ◌≤◌, ◌<◌, ◌+◌, ◌==◌, ℕ, Bool, true, false, List, [], ◌∷◌, ◌++◌, Option, Some, None, refl, sym, ◌∙◌, ap, subst, All}
+use Rattle.std.proofs.Common.{◌≡◌, ◌≤◌, ◌<◌, ◌+◌, ◌==◌, ℕ, Bool, false, List, [], ◌∷◌, ◌++◌, Option, Some, None, refl, sym, ◌∙◌, ap, subst}
 use Rattle.std.specs.Prelude.{nat_lt, if◌then◌else◌}
 use Rattle.std.specs.List.{list_any}
 use Rattle.std.specs.Option.{option_map_or}
@@ -8,11 +8,10 @@ use Rattle.disk_model.specs.Disk.{Faults, History, told_calls}
 use Rattle.mdbox_base.specs.declared.ids.FileNo.{FileNo}
 use Rattle.mdbox_base.specs.declared.progress.Did.{Did}
 use Rattle.mdbox_base.specs.declared.progress.Did.TheVariants as did
-use Rattle.mdbox_base.specs.declared.replies.Reply.{Reply}
 use Rattle.mdbox_base.specs.declared.requests.Request.TheVariants as request
 use Rattle.model_meaning.specs.MapMeaning.{MapMeaning}
 use Rattle.model_octets.proofs.PairLemmas.{pairs_head}
-use Rattle.list_machine.specs.Run.{MakesTarget, RemovesFile, Run, RunEvent, Switches, TakenFile, and_then, is_one_of, map_of, own_events}
+use Rattle.list_machine.specs.Run.{MakesTarget, RemovesFile, RunEvent, Switches, TakenFile, and_then, is_one_of, map_of, own_events}
 use Rattle.journal.specs.Events.{Around, is_done, next_part, next_taken, purge_goes_on}
 use Rattle.storage_files.specs.Files.{pins_in}
 use Rattle.store_core.specs.Removing.{AreElsewhere}

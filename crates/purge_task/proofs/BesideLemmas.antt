@@ -1,6 +1,6 @@
 -- Where a purge stands, beside events of other tasks.
-use Rattle.std.proofs.Common.{◌≡◌, ◌≤◌, ◌<◌, ◌+◌, ◌==◌, ℕ, Bool, true, false, List, [], ◌∷◌, ◌++◌, Option, refl, sym, ◌∙◌, ap, subst, arith, All}
-use Rattle.std.specs.Prelude.{◌≢◌, count_by, drop, if◌then◌else◌}
+use Rattle.std.proofs.Common.{◌≡◌, ◌≤◌, ◌==◌, ℕ, Bool, false, List, [], ◌∷◌, ◌++◌, Option, refl, ap, arith, All}
+use Rattle.std.specs.Prelude.{◌≢◌, drop, if◌then◌else◌}
 use Rattle.std.specs.List.{list_any}
 use Rattle.std.proofs.lemmas.Bool.{eq-eqb}
 use Rattle.std.proofs.lemmas.List.Elements.{All-cons, All-head, All-nil, All-tail}
@@ -11,11 +11,11 @@ use Rattle.mdbox_base.specs.declared.replies.Reply.{Reply}
 use Rattle.list_machine.specs.Run.{EventPart, Run, RunEvent, and_then, is_one_of, own_events}
 use Rattle.store_core.specs.Value.{StoreValue}
 use Rattle.task_claims.specs.Claims.{Claims, Emptied}
-use Rattle.task_claims.specs.Leaving.{LeavesFile, records_within}
+use Rattle.task_claims.specs.Leaving.{records_within}
 use Rattle.task_claims.specs.Stable.{Beside}
 use Rattle.task_claims.proofs.LeftLemmas.{emptied_left}
 use Rattle.task_steps.specs.Step.{GivesNew}
-use Rattle.purge_task.specs.Claims.{claims_of_sources, claims_of_switched, claims_of_target, purge_claims, sources_left}
+use Rattle.purge_task.specs.Claims.{claims_of_sources, purge_claims, sources_left}
 use Rattle.purge_task.specs.Keeping.{PurgeValue}
 use Rattle.purge_task.specs.Stages.{CopiesBehind, GoesOnBehind, HaveCopied, IsAtPurge, IsAtPurgeStage, IsAtSwitched, IsPurging, RemovesBehind}
 use Rattle.purge_task.specs.declared.task.PurgeStage.{PurgeStage}

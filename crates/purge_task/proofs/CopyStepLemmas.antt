@@ -1,12 +1,11 @@
 -- The clause of an event of a purge that copies a message.
-use Rattle.std.proofs.Common.{◌≡◌, ◌≤◌, ◌<◌, ◌+◌, ◌==◌, ◌&&◌, ◌||◌, ℕ, suc, zero, Bool, true, false, not, List, [], ◌∷◌, ◌++◌, length, map, Option, Some, None, refl, sym, ◌∙◌, ap, subst, arith, All, inl, inr}
-use Rattle.std.specs.Prelude.{◌≢◌, AllPairs, Contains, filter, flat_map, nat_lt, sum_by, if◌then◌else◌}
+use Rattle.std.proofs.Common.{◌≡◌, ◌≤◌, ◌<◌, ◌==◌, ◌||◌, ℕ, Bool, true, false, List, [], ◌∷◌, ◌++◌, length, map, Option, Some, None, refl, sym, ◌∙◌, ap, subst, arith, All}
+use Rattle.std.specs.Prelude.{◌≢◌, Contains, filter, nat_lt, sum_by, if◌then◌else◌}
 use Rattle.std.specs.List.{list_any}
-use Rattle.std.specs.Option.{option_map_or}
-use Rattle.std.proofs.lemmas.Bool.{cases_eq, eq-eqb, eqb-true, ne_eqb}
+use Rattle.std.proofs.lemmas.Bool.{eq-eqb, ne_eqb}
 use Rattle.std.proofs.lemmas.Grind.{common_steps}
 use Rattle.std.proofs.lemmas.List.{append-nil}
-use Rattle.std.proofs.lemmas.List.Elements.{All-cons, All-contains, All-contains_itself, All-head, All-nil, All-tail, All-weaker}
+use Rattle.std.proofs.lemmas.List.Elements.{All-cons, All-contains_itself, All-head, All-nil, All-tail, All-weaker}
 use Rattle.disk_model.specs.Disk.{Faults, History, told_calls}
 use Rattle.mdbox_base.specs.declared.entries.MapPlace.{MapPlace}
 use Rattle.mdbox_base.specs.declared.progress.Did.{Did}
@@ -17,8 +16,8 @@ use Rattle.model_meaning.specs.MapMeaning.{MapMeaning, MapRecord, record_at}
 use Rattle.model_meaning.specs.Sound.{IsSoundMap}
 use Rattle.model_octets.proofs.PairLemmas.{pairs_head}
 use Rattle.model_store.proofs.OpeningSafeLemmas.{at_uid}
-use Rattle.list_machine.specs.Run.{CopiesMessage, Run, RunEvent, Switches, TakenFile, and_then, dropped_in, event_of, how_many, is_copied_from, is_one_of, map_of, own_events}
-use Rattle.journal.specs.Events.{Around, IsCopiedNext, copies_left, is_done, last_refusal, next_part, next_taken, purge_copies}
+use Rattle.list_machine.specs.Run.{CopiesMessage, Run, RunEvent, Switches, TakenFile, and_then, dropped_in, event_of, how_many, is_one_of, own_events}
+use Rattle.journal.specs.Events.{Around, IsCopiedNext, copies_left, is_done, last_refusal, next_part, next_taken}
 use Rattle.journal.proofs.OwnEventLemmas.{own_more}
 use Rattle.map_rows.specs.declared.rows.MapRow.{MapRow}
 use Rattle.storage_files.specs.Files.{FilesValue}

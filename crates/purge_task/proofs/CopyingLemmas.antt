@@ -28,7 +28,7 @@ use Rattle.purge_task.specs.declared.work.Source.{Source}
 use Rattle.purge_task.specs.declared.work.Work.{Work}
 use Rattle.purge_task.proofs.CopiedMoreLemmas.{copied_more}
 use Rattle.purge_task.proofs.CopyRoomLemmas.{room_for_copy}
-use Rattle.purge_task.proofs.GivenBackLemmas.{IsGivenBack, adding_of, emptying_of, pinned_of, placing_of, removing_of, taken_back, taken_file}
+use Rattle.purge_task.proofs.GivenBackLemmas.{IsGivenBack, adding_of, emptying_of, pinned_of, placing_of, removing_of, taken_back}
 use Rattle.purge_task.proofs.RegionLemmas.{file_as, with_end}
 use Rattle.purge_task.proofs.SameSeenLemmas.{IsGrownOf}
 

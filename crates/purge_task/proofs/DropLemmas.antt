@@ -33,7 +33,7 @@ use Rattle.purge_task.specs.Dropped.{DropsUnwanted, TellsCounts}
 use Rattle.purge_task.specs.Keeping.{PurgeValue}
 use Rattle.purge_task.specs.Stages.{IsNextStage, went_on}
 use Rattle.purge_task.specs.SwitchEvent.{IsBehindSwitch, answer_of_switch, came_by_switch}
-use Rattle.purge_task.specs.Switched.{AreSwitchLists, IsSwitched, target_named}
+use Rattle.purge_task.specs.Switched.{IsSwitched, target_named}
 use Rattle.purge_task.specs.Taken.{source_taken, take_all, taken_to_empty, target_drawn}
 use Rattle.purge_task.specs.declared.switch_event.SwitchedFile.{SwitchedFile}
 use Rattle.purge_task.specs.declared.switching.Switched.{Switched}

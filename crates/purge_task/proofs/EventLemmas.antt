@@ -1,9 +1,8 @@
 -- What an event of a purge is, in a run and on a disk.
-use Rattle.std.proofs.Common.{◌≡◌, ◌≤◌, ◌<◌, ◌+◌, ◌==◌, ℕ, Bool, true, false, List, [], ◌∷◌, ◌++◌, length, map, Option, Some, None, refl, sym, ◌∙◌, ap, subst, arith, inl, inr}
-use Rattle.std.specs.Prelude.{All, ◌↔◌, ◌≢◌, is_some, slice_get}
-use Rattle.std.specs.Option.{option_or}
+use Rattle.std.proofs.Common.{◌≡◌, ◌≤◌, ℕ, Bool, true, false, List, [], ◌∷◌, ◌++◌, length, Option, Some, None, refl, sym, ◌∙◌, ap, subst, arith, inl}
+use Rattle.std.specs.Prelude.{All, slice_get}
 use Rattle.std.proofs.lemmas.List.Elements.{All-nil}
-use Rattle.disk_model.specs.Disk.{Faults, Grows, History, told_calls}
+use Rattle.disk_model.specs.Disk.{Faults, Grows, told_calls}
 use Rattle.disk_model.specs.FaultCounts.{NoFault}
 use Rattle.mdbox_base.specs.Streams.{Rose}
 use Rattle.mdbox_base.specs.declared.entries.Highest.{Highest}
@@ -19,10 +18,10 @@ use Rattle.mdbox_base.specs.declared.script.Half.TheVariants as half
 use Rattle.model_kept.specs.Kept.{MailIsKept}
 use Rattle.model_lists.specs.Lists.{Lists}
 use Rattle.model_meaning.specs.MapFits.{MapFits}
-use Rattle.model_meaning.specs.MapMeaning.{MapMeaning, no_numbers}
-use Rattle.list_machine.specs.Run.{EventPart, First, Last, Run, RunEvent, TakenFile, and_then, event_of, map_of, own_events}
+use Rattle.model_meaning.specs.MapMeaning.{MapMeaning}
+use Rattle.list_machine.specs.Run.{EventPart, First, Last, Run, RunEvent, and_then, event_of, map_of, own_events}
 use Rattle.list_machine.specs.Machine.{ArePurged, checks_of, first_refusal, is_step}
-use Rattle.journal.specs.Journal.{IsReplyOf, halves_of, refusal_in}
+use Rattle.journal.specs.Journal.{IsReplyOf, halves_of}
 use Rattle.journal.specs.Events.{Around, DidPart, Finds, MayMeet, TellsFiles, behind_event, has_memory, is_step_part, last_refusal, next_part}
 use Rattle.journal.specs.Found.{AgreesWithRun}
 use Rattle.journal.specs.Makes.{HasCome, Makes}

@@ -1,8 +1,6 @@
 -- The files that a purge finds are those that its run says it has to take.
-use Rattle.std.proofs.Common.{◌≡◌, ◌≤◌, ◌<◌, ◌+◌, ◌==◌, ◌&&◌, ◌||◌, ◌⊎◌, ℕ, Bool, true, false, List, [], ◌∷◌, Option, Some, None, refl, sym, ◌∙◌, ap, subst, arith, All, inl, inr}
+use Rattle.std.proofs.Common.{◌≡◌, ◌≤◌, ◌<◌, ◌+◌, ◌==◌, ◌||◌, ◌⊎◌, ℕ, Bool, true, false, List, [], ◌∷◌, Option, Some, None, refl, sym, ◌∙◌, ap, subst, arith, All, inl, inr}
 use Rattle.std.specs.Prelude.{◌≢◌, AllPairs, Contains, IsSome, is_some}
-use Rattle.std.specs.List.{list_any}
-use Rattle.std.specs.List.Sorted.{IsStrictlyIncreasing}
 use Rattle.std.specs.Option.{option_and_then, option_map_or}
 use Rattle.std.proofs.lemmas.Bool.{eq-eqb}
 use Rattle.std.proofs.lemmas.List.Elements.{All-cons, All-contains, All-contains_itself, All-head, All-nil, All-tail, All-weaker, Contains-append_right}
@@ -10,17 +8,17 @@ use Rattle.disk_model.specs.Disk.{Faults, History}
 use Rattle.model_meaning.specs.MapMeaning.{MapMeaning, MapRecord, is_sealed}
 use Rattle.model_meaning.specs.Sound.{IsSoundMap, IsSoundRecord}
 use Rattle.model_octets.proofs.SearchLemmas.{among}
-use Rattle.list_machine.specs.Run.{Run, is_doomed, map_of}
-use Rattle.journal.specs.Found.{FindsFiles, HasGap, IsFreeFile, is_named_file, is_taken}
+use Rattle.list_machine.specs.Run.{Run}
+use Rattle.journal.specs.Found.{FindsFiles, HasGap, IsFreeFile, is_named_file}
 use Rattle.journal.specs.QuietPurge.{RunTo}
-use Rattle.storage_files.specs.Files.{end_in, file_in, is_doomed_in, is_emptied_in, is_taken_in}
+use Rattle.storage_files.specs.Files.{file_in, is_emptied_in, is_taken_in}
 use Rattle.storage_files.specs.declared.file.MailFile.{MailFile}
 use Rattle.store_core.specs.Files.{AreFilesKept}
 use Rattle.store_core.specs.Knows.{knows_file}
 use Rattle.store_core.specs.Value.{StoreValue}
 use Rattle.task_steps.specs.Step.{HasComeTo}
 use Rattle.purge_task.specs.Clause.{TellsUses, seen_by_purge}
-use Rattle.purge_task.specs.Found.{AreAllBut, AreInRow, IsFullToEnd, MayBeEmptied}
+use Rattle.purge_task.specs.Found.{AreAllBut, IsFullToEnd, MayBeEmptied}
 use Rattle.purge_task.proofs.EventLemmas.{fall}
 use Rattle.purge_task.proofs.FreeInstanceLemmas.{any_has}
 

@@ -1,14 +1,14 @@
 -- What a purge says at its first event.
-use Rattle.std.proofs.Common.{◌≡◌, ◌≢◌, ◌≤◌, ◌<◌, ◌+◌, ◌*◌, ◌==◌, ◌&&◌, ◌||◌, ◌⊎◌, ℕ, Bool, true, false, cond, List, [], ◌∷◌, ◌++◌, length, map, drop, get_or, Option, Some, None, refl, sym, ◌∙◌, ap, subst, arith, All, inl, inr}
-use Rattle.std.specs.Prelude.{◌↔◌, AllPairs, Contains, Err, IsErrOf, Result, count_by, filter, is_some, sum_by, if◌then◌else◌}
+use Rattle.std.proofs.Common.{◌≡◌, ◌≢◌, ◌≤◌, ◌<◌, ◌+◌, ◌*◌, ◌==◌, ◌&&◌, ◌||◌, ◌⊎◌, ℕ, Bool, true, false, List, [], ◌∷◌, ◌++◌, length, map, get_or, Option, Some, None, refl, sym, ◌∙◌, ap, subst, arith, All, inl, inr}
+use Rattle.std.specs.Prelude.{AllPairs, Contains, Err, IsErrOf, Result, count_by, sum_by, if◌then◌else◌}
 use Rattle.std.specs.List.{AllZip, list_any}
-use Rattle.std.specs.Option.{option_and_then, option_map, option_map_or}
+use Rattle.std.specs.Option.{option_map, option_map_or}
 use Rattle.std.proofs.lemmas.List.{append-nil, length-map}
 use Rattle.std.proofs.lemmas.Bool.{eqb-true}
-use Rattle.std.proofs.lemmas.List.Elements.{All-cons, All-contains, All-head, All-nil, All-tail, All-weaker}
+use Rattle.std.proofs.lemmas.List.Elements.{All-contains, All-head, All-tail, All-weaker}
 use Rattle.std.proofs.lemmas.List.Kept.{AllPairs-from_increasing}
 use Rattle.std.proofs.lemmas.List.Sums.{count_by-le-length, sum_by-cons}
-use Rattle.disk_model.specs.Disk.{DiskState, Faults, Grows, History, IsIdle, reading}
+use Rattle.disk_model.specs.Disk.{DiskState, Faults, History, IsIdle, reading}
 use Rattle.disk_model.specs.FaultCounts.{NoFault, ReadFaultCounted}
 use Rattle.disk_model.specs.declared.name.FileName.TheVariants as file
 use Rattle.disk_model.proofs.BetweenLemmas.{between-map}
@@ -16,7 +16,6 @@ use Rattle.gate_log.specs.State.{LogState}
 use Rattle.mdbox_base.specs.Streams.{Rose}
 use Rattle.mdbox_base.specs.declared.entries.Highest.{Highest}
 use Rattle.mdbox_base.specs.declared.progress.Did.TheVariants as did
-use Rattle.mdbox_base.specs.declared.progress.Progress.{Progress}
 use Rattle.mdbox_base.specs.declared.requests.Request.TheVariants as request
 use Rattle.mdbox_base.specs.declared.script.Half.TheVariants as half
 use Rattle.mdbox_base.specs.declared.progress.Progress.TheVariants as progress
@@ -40,7 +39,7 @@ use Rattle.store_core.specs.Value.{StoreValue}
 use Rattle.store_core.proofs.BoxAppendLemmas.{store_sound}
 use Rattle.store_core.proofs.InstanceKeepingLemmas.{kept_same}
 use Rattle.store_core.proofs.KnownInstanceLemmas.{firm_same}
-use Rattle.task_claims.specs.Claims.{Claims, ClaimsNothing, Due, Emptied, Held, Made, MovesClaims, Pinned, PlacingPieces, Removing, Taken, Thing, amount_in, is_to_remove, no_claims, one_if}
+use Rattle.task_claims.specs.Claims.{Claims, Due, Emptied, Held, Made, MovesClaims, Pinned, PlacingPieces, Removing, Taken, Thing, amount_in, is_to_remove, one_if}
 use Rattle.task_claims.specs.Leaving.{IsSameOrSynced, LeavesOthers, OthersTook, SyncsMail}
 use Rattle.task_claims.proofs.CountedLemmas.{unraised_same}
 use Rattle.task_claims.proofs.RestLemmas.{instance_kept, none_placed, record_kept}
@@ -68,11 +67,11 @@ use Rattle.purge_task.proofs.FullLemmas.{full_steps}
 use Rattle.purge_task.proofs.ReadingLemmas.{idle_grows, idle_leaves, idle_settled}
 use Rattle.purge_task.proofs.RemovalCallLemmas.{no_source}
 use Rattle.purge_task.proofs.RemovalLemmas.{LeavesSettled}
-use Rattle.purge_task.proofs.SameSeenLemmas.{TellsNoLess, tells_same, with_state}
+use Rattle.purge_task.proofs.SameSeenLemmas.{tells_same, with_state}
 use Rattle.purge_task.proofs.TakeableLemmas.{can_take_all, files_drawn, untargeted, zip_count}
 use Rattle.purge_task.proofs.TakenClaimLemmas.{takes_moves}
 use Rattle.purge_task.proofs.TakenLemmas.{given_long}
-use Rattle.purge_task.proofs.TakenStateLemmas.{IsDrawnFor, TargetIsDrawn, are_apart, drawn_all, drawn_file, emptied_all, given_files, kept_all, rest_all}
+use Rattle.purge_task.proofs.TakenStateLemmas.{TargetIsDrawn, are_apart, drawn_all, drawn_file, emptied_all, given_files, kept_all, rest_all}
 use Rattle.purge_task.proofs.WithinLemmas.{mapped_of}
 use Rattle.purge_task.proofs.TakenStoreLemmas.{FitsFound, FitsGiven, IsTakenWith, all_given, begins_with, begun_all, found_fit, highest_all, numbers_told, short_told, targets_told, wanted_told}
 use Rattle.purge_task.specs.Quiet.{files_to_empty}

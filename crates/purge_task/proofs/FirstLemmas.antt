@@ -1,22 +1,20 @@
 -- The first event of a purge, in a run.
-use Rattle.std.proofs.Common.{◌≡◌, ◌≤◌, ◌<◌, ◌+◌, ◌==◌, ◌&&◌, ◌||◌, ℕ, Bool, true, false, not, List, [], ◌∷◌, ◌++◌, length, map, Option, Some, None, refl, sym, ◌∙◌, ap, subst, arith, All, inl, inr}
-use Rattle.std.specs.Prelude.{◌⊎◌, filter, is_some, nat_le, nat_lt, sum_by, if◌then◌else◌}
-use Rattle.std.specs.List.{list_any}
-use Rattle.std.specs.Option.{option_and_then, option_map_or, option_or}
+use Rattle.std.proofs.Common.{◌≡◌, ◌≤◌, ◌+◌, ◌&&◌, ℕ, Bool, true, false, List, [], ◌∷◌, length, map, Option, None, refl, sym, ◌∙◌, ap, arith, All, inl, inr}
+use Rattle.std.specs.Prelude.{◌⊎◌, is_some, nat_le, nat_lt}
+use Rattle.std.specs.Option.{option_and_then, option_or}
 use Rattle.std.proofs.lemmas.Grind.{common_steps}
-use Rattle.std.proofs.lemmas.List.Elements.{All-head, All-nil, All-tail}
+use Rattle.std.proofs.lemmas.List.Elements.{All-head, All-tail}
 use Rattle.disk_model.specs.Disk.{Faults, History, told_calls}
 use Rattle.gate_log.specs.State.{LogState}
-use Rattle.mdbox_base.specs.declared.entries.Highest.{Highest}
 use Rattle.mdbox_base.specs.declared.replies.Refusal.{Refusal}
 use Rattle.mdbox_base.specs.declared.replies.Refusal.TheVariants as refusal
 use Rattle.model_lists.specs.Lists.{Lists}
 use Rattle.model_meaning.specs.MapMeaning.{MapMeaning, is_own, no_numbers, number_at}
-use Rattle.list_machine.specs.Run.{First, Run, RunEvent, TakenFile, and_then, drawn_also, drawn_of, event_of, is_copied_from, is_one_of, map_of, target_length, with_targets}
-use Rattle.list_machine.specs.Machine.{Check, TargetFits, first_refusal, purge_checks, refusal_at, refused_where}
+use Rattle.list_machine.specs.Run.{First, Run, RunEvent, TakenFile, and_then, drawn_of, event_of, is_one_of, target_length, with_targets}
+use Rattle.list_machine.specs.Machine.{TargetFits, first_refusal, purge_checks, refused_where}
 use Rattle.journal.specs.Events.{begun_in, ended_in}
 use Rattle.journal.specs.Makes.{HasCome}
-use Rattle.storage_files.specs.Files.{FilesValue, end_in, file_in, is_doomed_in, pins_in}
+use Rattle.storage_files.specs.Files.{FilesValue, file_in, is_doomed_in, pins_in}
 use Rattle.storage_files.specs.declared.file.MailFile.{MailFile}
 use Rattle.store_core.specs.Value.{StoreValue}
 use Rattle.task_steps.specs.Step.{HasComeTo}

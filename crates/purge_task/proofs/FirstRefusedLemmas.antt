@@ -1,10 +1,10 @@
 -- The first event of a purge that is refused for lack of numbers.
-use Rattle.std.proofs.Common.{◌≡◌, ◌≤◌, ◌<◌, ◌+◌, ◌==◌, ℕ, Bool, true, false, List, [], ◌∷◌, ◌++◌, length, map, Option, Some, None, refl, sym, ◌∙◌, ap, subst, arith, All, inl, inr}
-use Rattle.std.specs.Prelude.{◌⊎◌, AllPairs, Contains, nat_lt, slice_get}
+use Rattle.std.proofs.Common.{◌≡◌, ◌<◌, ◌+◌, ℕ, Bool, true, false, List, [], ◌∷◌, ◌++◌, length, map, Option, Some, refl, sym, ◌∙◌, ap, subst, arith, inl, inr}
+use Rattle.std.specs.Prelude.{◌⊎◌, Contains, nat_lt, slice_get}
 use Rattle.std.specs.Option.{option_or}
 use Rattle.std.proofs.lemmas.Grind.{common_steps}
 use Rattle.std.proofs.lemmas.List.Elements.{All-nil}
-use Rattle.disk_model.specs.Disk.{Faults, Grows, History, told_calls}
+use Rattle.disk_model.specs.Disk.{Faults, Grows, told_calls}
 use Rattle.disk_model.specs.FaultCounts.{NoFault}
 use Rattle.mdbox_base.specs.declared.entries.Highest.{Highest}
 use Rattle.mdbox_base.specs.declared.progress.Did.TheVariants as did
@@ -18,12 +18,12 @@ use Rattle.model_lists.specs.Lists.{Lists}
 use Rattle.model_meaning.specs.MapMeaning.{MapMeaning}
 use Rattle.model_octets.proofs.SearchLemmas.{among}
 use Rattle.list_machine.specs.Run.{First, Run, RunEvent, TakenFile, and_then, drawn_of, event_of, map_of, own_events, target_length, with_targets}
-use Rattle.list_machine.specs.Machine.{Check, TargetFits, first_refusal, purge_checks, refusal_at, refused_where}
+use Rattle.list_machine.specs.Machine.{TargetFits, first_refusal, purge_checks, refused_where}
 use Rattle.journal.specs.Journal.{IsReplyOf, halves_of}
 use Rattle.journal.specs.Events.{Around}
 use Rattle.journal.specs.Found.{AgreesWithRun}
 use Rattle.journal.specs.Makes.{HasCome, Makes}
-use Rattle.task_steps.specs.Step.{DidEvent, HasComeTo, IsFault, Leads, Seen, ShowsSeen}
+use Rattle.task_steps.specs.Step.{DidEvent, HasComeTo, Leads, Seen, ShowsSeen}
 use Rattle.task_steps.proofs.OneEventLemmas.{next_first, refusal_last, some_given, some_refusal, step_may}
 use Rattle.task_steps.proofs.SeenLemmas.{no_guids}
 use Rattle.model_kept.specs.Kept.{MailIsKept}

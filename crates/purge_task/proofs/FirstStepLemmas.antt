@@ -1,11 +1,10 @@
 -- The clause of the first event of a purge.
-use Rattle.std.proofs.Common.{◌≡◌, ◌≤◌, ◌<◌, ◌+◌, ◌==◌, ◌&&◌, ◌||◌, ℕ, Bool, true, false, List, [], ◌∷◌, ◌++◌, length, map, Option, Some, None, refl, sym, ◌∙◌, ap, subst, arith, All, inl, inr}
-use Rattle.std.specs.Prelude.{◌≢◌, ◌⊎◌, AllPairs, flat_map, sum_by}
+use Rattle.std.proofs.Common.{◌≡◌, ◌≤◌, ◌<◌, ◌+◌, ◌==◌, ◌||◌, ℕ, false, List, [], ◌∷◌, ◌++◌, length, map, Option, Some, None, refl, sym, ◌∙◌, ap, subst, arith, All, inl, inr}
+use Rattle.std.specs.Prelude.{AllPairs, flat_map, sum_by}
 use Rattle.std.specs.List.{list_any}
 use Rattle.std.proofs.lemmas.Bool.{eq-eqb}
 use Rattle.std.proofs.lemmas.List.{append-nil}
 use Rattle.std.proofs.lemmas.List.Elements.{All-cons, All-head, All-nil, All-push, All-tail, All-weaker}
-use Rattle.std.proofs.lemmas.List.Sums.{sum_by-cons}
 use Rattle.disk_model.specs.Disk.{Faults, History, told_calls}
 use Rattle.gate_log.specs.State.{LogState}
 use Rattle.mdbox_base.specs.declared.entries.Highest.{Highest}
@@ -17,17 +16,16 @@ use Rattle.mdbox_base.specs.declared.replies.Reply.{Reply}
 use Rattle.mdbox_base.specs.declared.requests.Request.TheVariants as request
 use Rattle.model_meaning.specs.MapMeaning.{MapMeaning, MapRecord, map_meaning, no_numbers}
 use Rattle.model_meaning.specs.Sound.{IsSoundMap}
-use Rattle.list_machine.specs.Run.{First, Run, RunEvent, TakenFile, and_then, drawn_also, drawn_of, dropped_in, entries_of, how_many, is_one_of, map_of, own_events, target_length, with_targets}
+use Rattle.list_machine.specs.Run.{Run, RunEvent, TakenFile, and_then, drawn_also, drawn_of, dropped_in, entries_of, how_many, is_one_of, map_of, own_events, target_length, with_targets}
 use Rattle.list_machine.specs.Machine.{first_refusal, purge_checks}
 use Rattle.journal.specs.Events.{Around, is_done, last_refusal, next_taken, targets_of}
-use Rattle.journal.specs.Found.{FindsFiles}
 use Rattle.journal.specs.Makes.{HasCome}
 use Rattle.journal.proofs.OwnEventLemmas.{own_more}
 use Rattle.journal.proofs.RunLemmas.{drawn_more, entries_more}
 use Rattle.storage_files.specs.Files.{FilesValue}
 use Rattle.store_core.specs.Files.{AreFilesKept}
 use Rattle.store_core.specs.Value.{StoreValue}
-use Rattle.task_steps.specs.Step.{HasComeTo, HasNotBegun}
+use Rattle.task_steps.specs.Step.{HasNotBegun}
 use Rattle.task_steps.proofs.OneEventLemmas.{next_first}
 use Rattle.purge_task.specs.Claims.{sources_left}
 use Rattle.purge_task.specs.Clause.{PurgeSteps, around_purging, seen_by_purge}

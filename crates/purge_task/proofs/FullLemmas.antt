@@ -1,17 +1,16 @@
 -- The clause of a first event of a purge that is refused for lack of numbers.
-use Rattle.std.proofs.Common.{◌≡◌, ◌≤◌, ◌<◌, ◌+◌, ℕ, Bool, true, false, List, [], ◌∷◌, length, map, Option, Some, None, refl, sym, ◌∙◌, ap, subst, arith, inl, inr}
+use Rattle.std.proofs.Common.{◌≡◌, ◌<◌, ◌+◌, ℕ, false, List, length, map, Option, Some, refl, sym, ap, subst}
 use Rattle.std.specs.Prelude.{◌⊎◌, AllPairs, Contains}
 use Rattle.disk_model.specs.Disk.{Faults, History, told_calls}
 use Rattle.mdbox_base.specs.declared.entries.Highest.{Highest}
 use Rattle.mdbox_base.specs.declared.progress.Did.{Did}
 use Rattle.mdbox_base.specs.declared.progress.Did.TheVariants as did
-use Rattle.mdbox_base.specs.declared.replies.Reply.{Reply}
 use Rattle.mdbox_base.specs.declared.replies.Reply.TheVariants as reply
 use Rattle.mdbox_base.specs.declared.requests.Request.TheVariants as request
 use Rattle.mdbox_base.specs.declared.script.Half.TheVariants as half
 use Rattle.model_meaning.specs.MapMeaning.{MapMeaning}
 use Rattle.model_meaning.specs.Sound.{IsSoundMap}
-use Rattle.list_machine.specs.Run.{Run, RunEvent, TakenFile, and_then, drawn_of, map_of, target_length, with_targets}
+use Rattle.list_machine.specs.Run.{RunEvent, TakenFile, drawn_of, map_of, target_length, with_targets}
 use Rattle.list_machine.specs.Machine.{first_refusal, purge_checks}
 use Rattle.journal.specs.Events.{Around}
 use Rattle.storage_files.specs.Files.{FilesValue}

@@ -1,11 +1,11 @@
 -- Each event of a file leaves fewer events, and counts the file where it dooms or removes it.
-use Rattle.std.proofs.Common.{◌≡◌, ◌≢◌, ◌≤◌, ◌<◌, ◌+◌, ◌-◌, ◌*◌, ℕ, List, [], ◌∷◌, drop, length, Option, refl, sym, ◌∙◌, ap, subst, arith, inl, inr}
-use Rattle.std.specs.Prelude.{◌⊎◌, Contains}
+use Rattle.std.proofs.Common.{◌≡◌, ◌≤◌, ◌+◌, ℕ, List, [], ◌∷◌, drop, length, Option, refl, sym, ap, subst, arith, inl, inr}
+use Rattle.std.specs.Prelude.{◌⊎◌}
 use Rattle.std.proofs.lemmas.List.Elements.{All-contains}
 use Rattle.disk_model.specs.Disk.{History}
 use Rattle.mdbox_base.specs.declared.ids.FileNo.{FileNo}
 use Rattle.map_rows.specs.declared.rows.MapRow.{MapRow}
-use Rattle.model_meaning.specs.MapMeaning.{MapMeaning, MapRecord}
+use Rattle.model_meaning.specs.MapMeaning.{MapMeaning}
 use Rattle.model_meaning.specs.Sound.{IsSoundMap, IsSoundRecord}
 use Rattle.store_core.specs.Value.{StoreValue}
 use Rattle.purge_task.specs.Claims.{sources_left}

@@ -1,11 +1,10 @@
 -- What a purge says that removes an instance, or replies.
-use Rattle.std.proofs.Common.{◌≡◌, ◌≢◌, ◌≤◌, ◌<◌, ◌+◌, ◌==◌, ◌&&◌, ◌^◌, ℕ, Bool, true, false, not, List, [], ◌∷◌, length, take, drop, Option, Some, None, refl, sym, ◌∙◌, ap, subst, arith, inl, inr, All}
-use Rattle.std.specs.Prelude.{◌↔◌, ◌⊎◌, IsErr, cond, find, if◌then◌else◌}
+use Rattle.std.proofs.Common.{◌≡◌, ◌≢◌, ◌≤◌, ◌+◌, ◌==◌, ◌&&◌, ℕ, Bool, true, false, not, List, [], ◌∷◌, length, Option, Some, None, refl, sym, ◌∙◌, ap, subst, arith, inl, inr}
+use Rattle.std.specs.Prelude.{◌⊎◌, cond, find}
 use Rattle.std.specs.Option.{option_map, option_map_or}
 use Rattle.std.specs.Str.{bytes_eq}
 use Rattle.std.proofs.lemmas.List.Elements.{All-contains}
-use Rattle.std.specs.Int.{w32, to_be_bytes}
-use Rattle.std.proofs.lemmas.Bool.{cases_Bool, cases_eq, eqb-true}
+use Rattle.std.proofs.lemmas.Bool.{cases_Bool, eqb-true}
 use Rattle.disk_model.specs.Disk.{Faults, Grows, History, SameButFor}
 use Rattle.disk_model.specs.declared.name.FileName.{FileName}
 use Rattle.disk_model.specs.declared.name.FileName.TheVariants as file
@@ -17,7 +16,6 @@ use Rattle.mdbox_base.specs.declared.progress.Did.TheVariants as did
 use Rattle.mdbox_base.specs.declared.progress.Progress.{Progress}
 use Rattle.mdbox_base.specs.declared.progress.Progress.TheVariants as progress
 use Rattle.mdbox_base.specs.declared.replies.Refusal.TheVariants as refusal
-use Rattle.mdbox_base.specs.declared.replies.Reply.{Reply}
 use Rattle.mdbox_base.specs.declared.replies.Reply.TheVariants as reply
 use Rattle.mdbox_base.specs.declared.script.Half.TheVariants as half
 use Rattle.model_kept.specs.Kept.{MailIsKept}
@@ -35,7 +33,7 @@ use Rattle.store_core.specs.StoreInstances.{HasKnownInstances}
 use Rattle.store_core.specs.Value.{StoreValue}
 use Rattle.store_core.proofs.InstanceRemovalLemmas.{names_others}
 use Rattle.mdbox_base.specs.Words.{IsOctets}
-use Rattle.task_claims.specs.Claims.{Claims, ClaimsNothing, Due, Emptied, Held, Made, MovesClaims, Pinned, PlacingPieces, Removing, Taken, Thing, amount_in}
+use Rattle.task_claims.specs.Claims.{Due, Emptied, Held, Made, MovesClaims, Pinned, PlacingPieces, Removing, Taken, Thing, amount_in}
 use Rattle.task_claims.specs.Leaving.{LeavesOthers}
 use Rattle.task_claims.proofs.RestLemmas.{idle_leaves}
 use Rattle.task_steps.proofs.UnmovedLemmas.{mail_still}
@@ -50,7 +48,7 @@ use Rattle.purge_task.proofs.GoneLemmas.{gone_steps, last_steps}
 use Rattle.purge_task.proofs.InstanceSeenLemmas.{none_with, other_with, without_it}
 use Rattle.purge_task.proofs.LeavingLemmas.{gone_leaves}
 use Rattle.purge_task.proofs.NumberLemmas.{drawn_id}
-use Rattle.purge_task.proofs.SameSeenLemmas.{tells_same, with_state}
+use Rattle.purge_task.proofs.SameSeenLemmas.{tells_same}
 use Rattle.store_core.specs.Running.{IsStore}
 use Rattle.purge_task.proofs.SameRegionLemmas.{regions_gone, regions_idle}
 

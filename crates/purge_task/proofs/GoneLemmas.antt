@@ -1,7 +1,6 @@
 -- The events of a purge behind its files: an instance is removed, or the reply is given.
-use Rattle.std.proofs.Common.{◌≡◌, ◌≤◌, ◌<◌, ◌+◌, ◌==◌, ◌&&◌, ◌||◌, ℕ, Bool, true, false, List, [], ◌∷◌, ◌++◌, length, map, Option, Some, None, refl, sym, ◌∙◌, ap, subst, arith, All}
-use Rattle.std.specs.Prelude.{find, flat_map, is_some, sum_by, if◌then◌else◌}
-use Rattle.std.specs.List.{list_any}
+use Rattle.std.proofs.Common.{◌≡◌, ◌≤◌, ◌+◌, ℕ, false, List, [], ◌∷◌, ◌++◌, length, Option, Some, None, refl, sym, ◌∙◌, ap, subst, arith}
+use Rattle.std.specs.Prelude.{find, is_some, sum_by, if◌then◌else◌}
 use Rattle.std.specs.Option.{option_map}
 use Rattle.std.proofs.lemmas.Bool.{eq-eqb}
 use Rattle.std.proofs.lemmas.List.{append-nil}
@@ -14,27 +13,26 @@ use Rattle.mdbox_base.specs.declared.script.Half.TheVariants as half
 use Rattle.mdbox_base.specs.declared.replies.Reply.{Reply}
 use Rattle.mdbox_base.specs.declared.replies.Reply.TheVariants as reply
 use Rattle.mdbox_base.specs.declared.requests.Request.TheVariants as request
-use Rattle.model_lists.specs.Lists.{Lists}
 use Rattle.model_meaning.specs.MapMeaning.{instance_number}
 use Rattle.list_machine.specs.Run.{Last, RemovesInstance, Run, RunEvent, TakenFile, and_then, dropped_in, how_many, own_events}
 use Rattle.journal.specs.Events.{Around, last_refusal, next_part, next_taken, purge_goes_on}
 use Rattle.journal.proofs.OwnEventLemmas.{own_more}
-use Rattle.sis_store.specs.Instances.{AreInstances, instance_in}
+use Rattle.sis_store.specs.Instances.{AreInstances}
 use Rattle.sis_store.specs.declared.instance.KnownInstance.{KnownInstance}
 use Rattle.sis_store.proofs.IdLemmas.{instance-in}
 use Rattle.model_octets.proofs.SearchLemmas.{found_one}
 use Rattle.store_core.specs.Removing.{is_useless}
 use Rattle.store_core.specs.StoreInstances.{HasKnownInstances}
 use Rattle.store_core.specs.Value.{StoreValue}
-use Rattle.task_steps.specs.Step.{DidEvent, HasComeTo, ShowsSeen}
+use Rattle.task_steps.specs.Step.{DidEvent}
 use Rattle.task_steps.proofs.OneEventLemmas.{never_more}
-use Rattle.purge_task.specs.Clause.{PurgeSteps, TellsUses, around_purging, next_useless_of, seen_by_purge}
+use Rattle.purge_task.specs.Clause.{PurgeSteps, around_purging, seen_by_purge}
 use Rattle.purge_task.specs.Keeping.{PurgeValue}
 use Rattle.purge_task.specs.Stages.{GoesOnBehind, HaveTaken, IsAtPurge, IsAtPurgeStage, IsPurging}
 use Rattle.purge_task.specs.declared.task.PurgeStage.{PurgeStage}
 use Rattle.purge_task.specs.declared.task.PurgeStage.TheVariants as stage
 use Rattle.purge_task.specs.declared.work.Source.{Source}
-use Rattle.purge_task.proofs.EventLemmas.{DidSo, did_last, did_part, last_event, stands_so}
+use Rattle.purge_task.proofs.EventLemmas.{DidSo, did_last, did_part, stands_so}
 use Rattle.purge_task.proofs.FreeInstanceLemmas.{finds_none, finds_one}
 use Rattle.purge_task.proofs.InstanceSeenLemmas.{gone_comes, gone_event, without_it}
 use Rattle.purge_task.proofs.PartLemmas.{goes_on_some, last_with, next_goes_on, next_none}

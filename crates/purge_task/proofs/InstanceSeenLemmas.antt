@@ -1,6 +1,6 @@
 -- What is seen of a store without one instance, in a run of which an event removed that.
-use Rattle.std.proofs.Common.{◌≡◌, ◌≤◌, ◌<◌, ◌+◌, ◌==◌, ◌&&◌, ◌||◌, ℕ, Bool, true, false, not, List, [], ◌∷◌, ◌++◌, length, Option, Some, None, All, refl, sym, ◌∙◌, ap, subst, arith, inl, inr}
-use Rattle.std.specs.Prelude.{◌≢◌, ◌⊎◌, filter, find, nat_le, sum_by, if◌then◌else◌}
+use Rattle.std.proofs.Common.{◌≡◌, ◌≤◌, ◌&&◌, ◌||◌, ℕ, Bool, true, false, not, List, [], ◌∷◌, ◌++◌, Option, Some, None, refl, sym, ◌∙◌, ap, subst, arith, inl, inr}
+use Rattle.std.specs.Prelude.{◌≢◌, ◌⊎◌, find, nat_le, if◌then◌else◌}
 use Rattle.std.specs.List.{list_any}
 use Rattle.std.specs.Option.{option_map_or}
 use Rattle.std.specs.Str.{bytes_eq}
@@ -9,23 +9,23 @@ use Rattle.std.proofs.lemmas.Grind.{common_steps}
 use Rattle.disk_model.specs.Disk.{Faults, History, told_calls}
 use Rattle.mdbox_base.specs.declared.entries.InstRow.{InstRow}
 use Rattle.mdbox_base.specs.declared.ids.InstId.{InstId}
-use Rattle.model_meaning.specs.MapMeaning.{MapMeaning, instance_number, named_instances}
+use Rattle.model_meaning.specs.MapMeaning.{instance_number, named_instances}
 use Rattle.model_octets.proofs.SearchLemmas.{text_is, text_yes}
 use Rattle.list_machine.specs.Run.{RemovesInstance, Run, RunEvent, and_then, before, event_of, is_one_of, map_of}
 use Rattle.journal.specs.Events.{begun_in, ended_in}
-use Rattle.journal.specs.Found.{is_known_instance, is_same_instance}
+use Rattle.journal.specs.Found.{is_same_instance}
 use Rattle.journal.specs.Makes.{HasCome}
 use Rattle.journal.proofs.RunLemmas.{comes_on}
 use Rattle.sis_store.specs.Instances.{has_id, instance_in, without_instance}
 use Rattle.sis_store.specs.declared.instance.KnownInstance.{KnownInstance}
-use Rattle.sis_store.proofs.IdLemmas.{find_none, same_id}
-use Rattle.store_core.specs.Knows.{knows_instance, may_be_gone}
+use Rattle.sis_store.proofs.IdLemmas.{same_id}
+use Rattle.store_core.specs.Knows.{knows_instance}
 use Rattle.store_core.specs.Value.{StoreValue}
-use Rattle.task_steps.specs.Step.{HasComeTo, was_gone}
+use Rattle.task_steps.specs.Step.{HasComeTo}
 use Rattle.task_steps.proofs.SeenLemmas.{doomed_still, file_still_known, given_still, pins_still, there_before, used_still}
 use Rattle.purge_task.specs.Clause.{seen_by_purge}
 use Rattle.purge_task.proofs.EventLemmas.{fall}
-use Rattle.purge_task.proofs.RunLemmas.{any_push, any_still, or_none, or_true, sum_push}
+use Rattle.purge_task.proofs.RunLemmas.{any_push, any_still, or_true, sum_push}
 
 abbrev pub gone_event : ℕ → ℕ → InstRow → ℕ → RunEvent
 gone_event lane place row calls = record (event_of lane place RemovesInstance calls) { gone = row ∷ [] }

@@ -1,23 +1,22 @@
 -- The stages of a purge are kept by events of other requests, and lead from one to the next by its own.
-use Rattle.std.proofs.Common.{◌≡◌, ◌≤◌, ◌<◌, ◌+◌, ◌==◌, ◌&&◌, ◌||◌, ℕ, Bool, true, false, not, cond, List, [], ◌∷◌, ◌++◌, length, map, Option, Some, None, refl, sym, ◌∙◌, ap, subst, arith, All}
-use Rattle.std.specs.Prelude.{◌≢◌, filter, flat_map, sum_by, if◌then◌else◌}
+use Rattle.std.proofs.Common.{◌≡◌, ◌==◌, ◌||◌, ℕ, Bool, true, false, cond, List, [], ◌∷◌, ◌++◌, length, refl, sym, ◌∙◌, ap, subst, All}
+use Rattle.std.specs.Prelude.{filter, flat_map, sum_by}
 use Rattle.std.specs.List.{list_any}
 use Rattle.std.proofs.lemmas.Bool.{eq-eqb, ne_eqb}
 use Rattle.std.proofs.lemmas.List.Folds.{list_any-append}
 use Rattle.mdbox_base.specs.declared.replies.Reply.{Reply}
-use Rattle.list_machine.specs.Run.{CopiesMessage, EventPart, First, MakesTarget, RemovesFile, RemovesInstance, Run, RunEvent, Switches, and_then, dropped_in, how_many, is_one_of, own_events}
-use Rattle.journal.specs.Events.{last_refusal, was_pinned}
+use Rattle.list_machine.specs.Run.{EventPart, First, RemovesFile, RemovesInstance, Run, RunEvent, Switches, and_then, dropped_in, how_many, is_one_of, own_events}
+use Rattle.journal.specs.Events.{last_refusal}
 use Rattle.journal.proofs.OwnEventLemmas.{own_other}
 use Rattle.store_core.specs.Value.{StoreValue}
-use Rattle.task_steps.specs.Step.{GivesNew, IsKept}
+use Rattle.task_steps.specs.Step.{IsKept}
 use Rattle.task_steps.proofs.SeenLemmas.{not_begun_stays, was_pinned_still}
 use Rattle.purge_task.specs.Claims.{sources_left}
 use Rattle.purge_task.specs.Keeping.{PurgeValue}
-use Rattle.purge_task.specs.Stages.{CopiesBehind, GoesOnBehind, HaveCopied, HaveTaken, IsAtPurge, IsAtPurgeStage, IsAtSwitched, IsLastOf, IsPurging, RemovesBehind}
+use Rattle.purge_task.specs.Stages.{CopiesBehind, GoesOnBehind, HaveCopied, HaveTaken, IsAtPurge, IsAtPurgeStage, IsAtSwitched, IsPurging, RemovesBehind}
 use Rattle.purge_task.specs.declared.task.PurgeStage.{PurgeStage}
 use Rattle.purge_task.specs.declared.task.PurgeStage.TheVariants as stage
 use Rattle.purge_task.specs.declared.work.Source.{Source}
-use Rattle.purge_task.specs.declared.work.Work.{Work}
 
 -- ---- the last of its own events
 

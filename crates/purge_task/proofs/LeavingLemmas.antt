@@ -1,10 +1,10 @@
 -- A storage file or an instance that is removed leaves to other tasks what is theirs.
-use Rattle.std.proofs.Common.{◌≡◌, ◌≢◌, ◌≤◌, ◌<◌, ◌+◌, ◌==◌, ◌&&◌, ◌⊎◌, ℕ, Bool, true, false, not, List, [], ◌∷◌, ◌++◌, length, Option, Some, None, All, refl, sym, ◌∙◌, ap, subst, arith, inl, inr}
+use Rattle.std.proofs.Common.{◌≡◌, ◌≢◌, ◌≤◌, ◌<◌, ◌+◌, ◌==◌, ◌&&◌, ℕ, Bool, true, false, not, List, [], ◌∷◌, ◌++◌, length, Option, Some, All, refl, sym, ◌∙◌, ap, subst, arith, inl, inr}
 use Rattle.std.specs.Prelude.{filter, if◌then◌else◌}
 use Rattle.std.specs.Option.{option_map, option_and_then}
 use Rattle.std.proofs.lemmas.Bool.{cases_eq, cases_Bool}
 use Rattle.std.proofs.lemmas.List.{append-nil}
-use Rattle.std.proofs.lemmas.List.Elements.{All-cons, All-contains, All-filter, All-head, All-nil, All-tail, All-weaker}
+use Rattle.std.proofs.lemmas.List.Elements.{All-cons, All-contains, All-filter, All-head, All-nil, All-tail}
 use Rattle.disk_model.specs.Disk.{DiskState, History, SameButFor, reading}
 use Rattle.disk_model.specs.declared.name.FileName.{FileName}
 use Rattle.disk_model.specs.declared.name.FileName.TheVariants as file
@@ -16,22 +16,21 @@ use Rattle.mdbox_base.specs.declared.ids.StoreId.{StoreId}
 use Rattle.model_meaning.specs.MapMeaning.{MapRecord, record_at}
 use Rattle.model_octets.proofs.SearchLemmas.{found_one, text_yes}
 use Rattle.model_store.specs.Settled.{files_of}
-use Rattle.sis_store.specs.Comparing.{IsUnlikeCompared, candidates_left}
-use Rattle.sis_store.specs.Instances.{HasDrawnNumber, InstancesValue, has_id, holders_in, instance_in, is_id_past, is_of_kind, without_instance}
+use Rattle.sis_store.specs.Comparing.{IsUnlikeCompared}
+use Rattle.sis_store.specs.Instances.{HasDrawnNumber, has_id, holders_in, is_id_past, is_of_kind, without_instance}
 use Rattle.sis_store.specs.OnDisk.{instance_file}
 use Rattle.sis_store.specs.declared.instance.KnownInstance.{KnownInstance}
 use Rattle.sis_store.proofs.IdLemmas.{same_id}
-use Rattle.storage_files.specs.Files.{FilesValue, end_in, file_in, with_pins, without_file}
+use Rattle.storage_files.specs.Files.{with_pins}
 use Rattle.storage_files.specs.declared.file.MailFile.{MailFile}
 use Rattle.storage_files.proofs.FileListLemmas.{file-without}
-use Rattle.store_core.specs.Dues.{due_at}
 use Rattle.store_core.specs.Keeping.{KeepsFirm, KeepsInstances}
 use Rattle.store_core.specs.Removing.{AreElsewhere, NameOthers}
 use Rattle.store_core.specs.StoreInstances.{IsFirstKnown, IsKnownRow, IsOtherThan}
 use Rattle.store_core.specs.Value.{StoreValue}
 use Rattle.store_core.proofs.InstanceKeepingLemmas.{kept_same, reads_placed}
-use Rattle.task_claims.specs.Claims.{Claims, Emptied, Held, OthersClaim, Pinned, Removing, Taken}
-use Rattle.task_claims.specs.Leaving.{HasRegionOctets, HaveSameInstances, IsSameOrSynced, LeavesFile, LeavesInstance, LeavesOthers, LeavesRecord, MayOnlyGrow, OnlyGrows, OthersTook, PlacesFew, known_but_pins}
+use Rattle.task_claims.specs.Claims.{Claims, Held}
+use Rattle.task_claims.specs.Leaving.{HasRegionOctets, HaveSameInstances, IsSameOrSynced, LeavesFile, LeavesInstance, LeavesOthers, LeavesRecord, MayOnlyGrow, OnlyGrows, OthersTook}
 use Rattle.task_claims.proofs.CountedLemmas.{unraised_same}
 use Rattle.task_claims.proofs.RestLemmas.{instance_kept, none_placed}
 use Rattle.purge_task.proofs.InstanceSeenLemmas.{other_with, without_it}

@@ -1,9 +1,9 @@
 -- What the events of a purge say of a purge beside no other task.
-use Rattle.std.proofs.Common.{◌≡◌, ◌≢◌, ◌≤◌, ◌<◌, ◌+◌, ◌==◌, ◌⊎◌, ◌++◌, ℕ, Bool, true, false, List, [], ◌∷◌, length, map, Option, Some, None, refl, sym, ◌∙◌, ap, subst, arith, inl, inr, All}
-use Rattle.std.specs.Prelude.{AllPairs, Contains, drop, take}
-use Rattle.std.specs.Option.{IfSome, option_map, option_map_or}
+use Rattle.std.proofs.Common.{◌≡◌, ◌≢◌, ◌<◌, ◌+◌, ℕ, Bool, true, false, List, [], ◌∷◌, length, Option, Some, None, refl, sym, ◌∙◌, ap, subst, arith, All}
+use Rattle.std.specs.Prelude.{drop, take}
+use Rattle.std.specs.Option.{option_map, option_map_or}
 use Rattle.std.proofs.lemmas.List.{length-drop, length-take-le}
-use Rattle.std.proofs.lemmas.List.Elements.{All-cons, All-head, All-tail, All-weaker}
+use Rattle.std.proofs.lemmas.List.Elements.{All-cons, All-head, All-weaker}
 use Rattle.disk_model.specs.Disk.{Between, DiskState, Files, History, IfTold, Keeps, SameButFor, named, reading}
 use Rattle.disk_model.specs.declared.name.FileName.{FileName}
 use Rattle.disk_model.specs.declared.name.FileName.TheVariants as file
@@ -11,10 +11,9 @@ use Rattle.disk_model.proofs.BetweenLemmas.{between-both, between-if, between-si
 use Rattle.mdbox_base.specs.declared.ids.FileNo.{FileNo}
 use Rattle.mdbox_base.specs.declared.progress.Did.TheVariants as did
 use Rattle.mdbox_base.specs.declared.progress.Progress.TheVariants as progress
-use Rattle.map_index.specs.Shown.{shown_record}
 use Rattle.map_rows.specs.declared.rows.MapRow.{MapRow}
 use Rattle.model_appends.specs.MapAppending.{AreCopied}
-use Rattle.model_meaning.specs.MapMeaning.{MapMeaning, MapRecord, is_sealed, record_at}
+use Rattle.model_meaning.specs.MapMeaning.{MapMeaning, is_sealed, record_at}
 use Rattle.model_meaning.proofs.MapPlaceLemmas.{equal_yes}
 use Rattle.model_octets.proofs.PairLemmas.{pairs_head}
 use Rattle.model_store.specs.Safe.{LiesInFile}
@@ -33,7 +32,6 @@ use Rattle.task_claims.proofs.OpenedLemmas.{none_claimed}
 use Rattle.purge_task.specs.Claims.{claims_of_switched, claims_of_target, purge_claims, sources_left}
 use Rattle.purge_task.specs.Clause.{at_stage}
 use Rattle.purge_task.specs.Copied.{IsRegionAdded}
-use Rattle.purge_task.specs.Dropped.{DropsUnwanted}
 use Rattle.purge_task.specs.Keeping.{HasPurged, IsBeginningFirst, IsToBegin, PurgeValue, target_header}
 use Rattle.purge_task.specs.Quiet.{HoldsCopied, HoldsCopies, IsAtHand, IsOnlyTask, IsQuietFrom, IsQuietSoFar, KeepsQuiet, StaysQuiet, sources_to_empty}
 use Rattle.purge_task.specs.Stages.{IsNextStage, went_on}

@@ -1,5 +1,5 @@
 -- The events of a purge beside no other task that make a target, copy a message, or remove a storage file.
-use Rattle.std.proofs.Common.{◌≡◌, ◌≢◌, ◌≤◌, ◌<◌, ◌+◌, ◌==◌, ◌&&◌, ◌||◌, ◌⊎◌, ◌++◌, ℕ, Bool, true, false, not, List, [], ◌∷◌, length, map, Option, Some, None, refl, sym, ◌∙◌, ap, subst, arith, inl, inr, All}
+use Rattle.std.proofs.Common.{◌≡◌, ◌≢◌, ◌≤◌, ◌<◌, ◌+◌, ◌==◌, ◌&&◌, ◌||◌, ◌⊎◌, ◌++◌, ℕ, Bool, true, false, not, List, [], ◌∷◌, length, map, Some, None, refl, sym, ◌∙◌, ap, subst, arith, inl, inr, All}
 use Rattle.std.specs.Prelude.{Contains, drop, filter, take}
 use Rattle.std.specs.List.{list_any}
 use Rattle.std.proofs.lemmas.Bool.{eqb-true}
@@ -18,7 +18,7 @@ use Rattle.purge_task.specs.Claims.{sources_left}
 use Rattle.purge_task.specs.Clause.{at_stage}
 use Rattle.purge_task.specs.Copied.{IsSourceWith}
 use Rattle.purge_task.specs.Keeping.{PurgeValue, target_header}
-use Rattle.purge_task.specs.Quiet.{CopiesRunTo, HasEmptied, HaveWanted, HoldsCopied, HoldsCopies, IsAtHand, IsOnlyTask, IsQuietSoFar, but_file, files_to_empty, sources_to_empty, stays_beside, with_file}
+use Rattle.purge_task.specs.Quiet.{CopiesRunTo, HasEmptied, HaveWanted, HoldsCopied, HoldsCopies, IsOnlyTask, IsQuietSoFar, but_file, files_to_empty, sources_to_empty, stays_beside, with_file}
 use Rattle.purge_task.specs.Stages.{IsNextStage, went_on}
 use Rattle.purge_task.specs.Switched.{IsFirst}
 use Rattle.purge_task.specs.declared.task.PurgeStage.{PurgeStage}

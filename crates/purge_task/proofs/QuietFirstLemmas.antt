@@ -1,24 +1,20 @@
 -- The first event of a purge beside no other task, and those that remove an instance.
-use Rattle.std.proofs.Common.{◌≡◌, ◌≢◌, ◌≤◌, ◌+◌, ◌==◌, ◌&&◌, ◌||◌, ◌⊎◌, ◌++◌, ℕ, Bool, true, false, not, List, [], ◌∷◌, length, map, Option, Some, None, refl, sym, ◌∙◌, ap, subst, arith, inl, inr, All}
-use Rattle.std.specs.Prelude.{◌↔◌, AllPairs, Contains, IsSome, drop, take}
-use Rattle.std.specs.List.{list_any}
+use Rattle.std.proofs.Common.{◌≡◌, ◌≢◌, ◌+◌, ◌==◌, ◌&&◌, ◌||◌, ◌⊎◌, ◌++◌, ℕ, Bool, true, false, not, List, [], ◌∷◌, length, Option, Some, None, refl, sym, ◌∙◌, ap, subst, arith, inl, inr, All}
+use Rattle.std.specs.Prelude.{Contains, IsSome}
 use Rattle.std.specs.Option.{option_and_then, option_map, option_map_or}
 use Rattle.std.specs.Str.{bytes_eq}
 use Rattle.std.proofs.lemmas.List.Elements.{All-contains, All-contains_itself, All-weaker, Contains-append_left, Contains-push, Contains-push_cases}
-use Rattle.disk_model.specs.Disk.{DiskState, Files, reading}
+use Rattle.disk_model.specs.Disk.{Files}
 use Rattle.disk_model.specs.declared.name.FileName.{FileName}
 use Rattle.disk_model.specs.declared.name.FileName.TheVariants as file
 use Rattle.journal.specs.QuietPurge.{HasSameOctets, IsClean, IsCleanFile}
-use Rattle.list_machine.specs.Run.{is_copied_from, is_one_of}
-use Rattle.mdbox_base.specs.declared.ids.FileNo.{FileNo}
-use Rattle.mdbox_base.specs.declared.progress.Did.TheVariants as did
+use Rattle.list_machine.specs.Run.{is_one_of}
 use Rattle.model_meaning.specs.MapMeaning.{MapMeaning, MapRecord, is_sealed, record_at}
 use Rattle.model_meaning.specs.Sound.{IsSoundMap}
 use Rattle.model_meaning.proofs.MapPlaceLemmas.{equal_yes}
 use Rattle.model_octets.proofs.PairLemmas.{pairs_nil, pairs_push}
 use Rattle.model_octets.proofs.SearchLemmas.{text_is, text_yes}
 use Rattle.model_store.specs.Safe.{LiesInFile}
-use Rattle.model_store.specs.Settled.{files_of}
 use Rattle.model_store.proofs.OpeningSafeLemmas.{at_uid}
 use Rattle.storage_files.specs.Files.{end_in, file_in, is_doomed_in, is_emptied_in, is_sealed_in, is_taken_in, pins_in}
 use Rattle.storage_files.specs.declared.file.MailFile.{MailFile}

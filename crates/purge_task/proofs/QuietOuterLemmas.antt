@@ -1,21 +1,20 @@
 -- What the first event of a purge beside no other task says of it, those that remove instances, and the last.
-use Rattle.std.proofs.Common.{◌≡◌, ◌≢◌, ◌≤◌, ◌+◌, ◌==◌, ◌⊎◌, ℕ, Bool, true, false, cond, List, [], ◌∷◌, length, map, Option, Some, None, refl, sym, ◌∙◌, ap, subst, arith, inl, inr, All}
-use Rattle.std.specs.Prelude.{AllPairs, Contains}
-use Rattle.std.specs.List.{AllZip, list_any}
+use Rattle.std.proofs.Common.{◌≡◌, ◌≢◌, ◌+◌, ℕ, Bool, true, false, cond, List, [], ◌∷◌, length, map, Option, Some, None, refl, sym, ◌∙◌, ap, subst, All}
+use Rattle.std.specs.Prelude.{Contains}
+use Rattle.std.specs.List.{list_any}
 use Rattle.std.specs.Option.{option_map, option_map_or}
 use Rattle.std.proofs.lemmas.List.Elements.{All-cons, All-contains, All-contains_itself, All-head, All-nil, All-tail, All-weaker}
-use Rattle.disk_model.specs.Disk.{Between, DiskState, Files, History, IfTold, IsIdle, SameButFor, reading}
+use Rattle.disk_model.specs.Disk.{DiskState, Files, History, IfTold, IsIdle, SameButFor, reading}
 use Rattle.disk_model.specs.declared.name.FileName.{FileName}
 use Rattle.disk_model.specs.declared.name.FileName.TheVariants as file
 use Rattle.disk_model.proofs.BetweenLemmas.{between-begins, between-if, between-since}
 use Rattle.journal.specs.QuietPurge.{IsCleanFile, PurgesQuietly}
-use Rattle.list_machine.specs.Run.{TakenFile, is_copied_from}
+use Rattle.list_machine.specs.Run.{is_copied_from}
 use Rattle.mdbox_base.specs.declared.ids.FileNo.{FileNo}
 use Rattle.mdbox_base.specs.declared.ids.InstId.{InstId}
-use Rattle.mdbox_base.specs.declared.progress.Did.TheVariants as did
 use Rattle.mdbox_base.specs.declared.progress.Progress.TheVariants as progress
 use Rattle.mdbox_base.specs.declared.replies.Reply.TheVariants as reply
-use Rattle.model_meaning.specs.MapMeaning.{MapMeaning, MapRecord, greatest}
+use Rattle.model_meaning.specs.MapMeaning.{MapMeaning, greatest}
 use Rattle.model_octets.proofs.SearchLemmas.{found_one}
 use Rattle.model_store.specs.Safe.{IsThereWhole, LiesInFile}
 use Rattle.model_store.specs.Settled.{files_of}
@@ -34,8 +33,7 @@ use Rattle.purge_task.specs.Claims.{purge_claims}
 use Rattle.purge_task.specs.Clause.{at_stage, uncounted}
 use Rattle.purge_task.specs.Found.{AreAllBut, FindsUnclean, found_numbers}
 use Rattle.purge_task.specs.Keeping.{PurgeValue}
-use Rattle.purge_task.specs.Quiet.{HaveWanted, HoldsCopied, IsOnlyTask, IsQuietFrom, IsQuietSoFar, HasBeenQuiet, KeepsQuiet, StaysQuiet, files_to_empty, sources_to_empty}
-use Rattle.purge_task.specs.Reserved.{IsNewSource}
+use Rattle.purge_task.specs.Quiet.{HaveWanted, IsQuietFrom, IsQuietSoFar, HasBeenQuiet, KeepsQuiet, StaysQuiet, files_to_empty, sources_to_empty}
 use Rattle.purge_task.specs.Stages.{IsNextStage, told_taken}
 use Rattle.purge_task.specs.Taken.{targets_given, with_target}
 use Rattle.purge_task.specs.declared.finding.Found.{Found}

@@ -11,7 +11,6 @@ use Rattle.disk_model.specs.Disk.{Files}
 use Rattle.disk_model.specs.declared.name.FileName.TheVariants as file
 use Rattle.journal.specs.QuietPurge.{IsClean}
 use Rattle.list_machine.specs.Run.{is_copied_from, is_one_of}
-use Rattle.mdbox_base.specs.declared.entries.MapEntry.TheVariants as map_entry
 use Rattle.mdbox_base.specs.declared.entries.MapPlace.{MapPlace}
 use Rattle.mdbox_base.specs.declared.ids.FileNo.{FileNo}
 use Rattle.mdbox_base.specs.declared.progress.Did.TheVariants as did
@@ -29,7 +28,7 @@ use Rattle.purge_task.specs.Claims.{sources_left}
 use Rattle.purge_task.specs.Dropped.{DropsUnwanted}
 use Rattle.purge_task.specs.Keeping.{PurgeValue, target_header}
 use Rattle.purge_task.specs.Quiet.{CopiesRunTo, HasEmptied, HaveSameRegions, HaveWanted, HoldsCopies, IsAtHand, IsOnlyTask, IsQuietSoFar, but_file, files_to_empty, sources_to_empty, stays_beside, with_file}
-use Rattle.purge_task.specs.Switched.{AreSwitchLists, IsFirst, IsSwitched, target_named}
+use Rattle.purge_task.specs.Switched.{IsFirst, IsSwitched, target_named}
 use Rattle.purge_task.specs.declared.switching.Switched.{Switched}
 use Rattle.purge_task.specs.declared.task.PurgeStage.TheVariants as stage
 use Rattle.purge_task.specs.declared.work.Source.{Source}
@@ -42,8 +41,8 @@ use Rattle.purge_task.proofs.QuietLemmas.{emptied_more, filter_alike}
 use Rattle.purge_task.proofs.QuietRegionLemmas.{regions_then, switched_regions}
 use Rattle.purge_task.proofs.QuietTargetLemmas.{came_of, target_clean}
 use Rattle.purge_task.proofs.SwitchFitLemmas.{none_moved}
-use Rattle.purge_task.proofs.SwitchRowLemmas.{IsElsewhereMoved, map_switched, moved_elsewhere, within, within_switched}
-use Rattle.purge_task.proofs.WithinLemmas.{mapped_of, of_kept, of_mapped}
+use Rattle.purge_task.proofs.SwitchRowLemmas.{map_switched, moved_elsewhere, within, within_switched}
+use Rattle.purge_task.proofs.WithinLemmas.{of_kept, of_mapped}
 
 -- ---- maps that have the same records in a file
 

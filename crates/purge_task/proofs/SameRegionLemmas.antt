@@ -1,5 +1,5 @@
 -- Records keep the octets of their regions where at most one file changes, in which none of them lies.
-use Rattle.std.proofs.Common.{◌≡◌, ◌≢◌, ℕ, false, List, [], get_or, Option, Some, None, refl, sym, ◌∙◌, ap, subst, All}
+use Rattle.std.proofs.Common.{◌≡◌, ◌≢◌, ℕ, false, List, get_or, Option, Some, None, refl, sym, ◌∙◌, ap, subst, All}
 use Rattle.std.specs.Prelude.{Contains}
 use Rattle.std.proofs.lemmas.List.Elements.{All-contains, All-weaker}
 use Rattle.disk_model.specs.Disk.{Between, DiskState, Files, History, IfTold, IsIdle, SameButFor, named, reading}

@@ -1,6 +1,6 @@
 -- What is seen of a store whose storage files tell no less, in a run of which an event left them.
-use Rattle.std.proofs.Common.{◌≡◌, ◌≤◌, ◌<◌, ◌+◌, ◌==◌, ◌&&◌, ◌||◌, ℕ, Bool, true, false, not, List, [], ◌∷◌, ◌++◌, Option, Some, None, refl, sym, ◌∙◌, ap, subst, arith, inl, inr}
-use Rattle.std.specs.Prelude.{◌≢◌, ◌⊎◌, is_some, is_none, nat_le, nat_lt, sum_by}
+use Rattle.std.proofs.Common.{◌≡◌, ◌≤◌, ◌&&◌, ℕ, Bool, true, false, List, [], Option, Some, refl, sym, ◌∙◌, ap, subst, arith, inl, inr}
+use Rattle.std.specs.Prelude.{◌≢◌, ◌⊎◌, is_some, nat_le, nat_lt}
 use Rattle.std.specs.Option.{option_map_or, option_and_then}
 use Rattle.std.proofs.lemmas.Bool.{cases_eq}
 use Rattle.std.proofs.lemmas.Grind.{common_steps}
@@ -10,12 +10,10 @@ use Rattle.list_machine.specs.Run.{Run, RunEvent, and_then, is_one_of}
 use Rattle.journal.specs.Events.{begun_in, ended_in}
 use Rattle.journal.specs.Makes.{HasCome}
 use Rattle.journal.proofs.RunLemmas.{comes_on}
-use Rattle.storage_files.specs.Files.{FilesValue, end_in, file_in, is_doomed_in, pins_in}
+use Rattle.storage_files.specs.Files.{FilesValue, file_in, is_doomed_in, pins_in}
 use Rattle.storage_files.specs.declared.file.MailFile.{MailFile}
-use Rattle.store_core.specs.Knows.{knows_file, may_have_given}
 use Rattle.store_core.specs.Value.{StoreValue}
-use Rattle.store_seen.specs.Seeing.{may_be_barred, may_be_used}
-use Rattle.task_steps.specs.Step.{HasComeTo, was_given, was_used}
+use Rattle.task_steps.specs.Step.{HasComeTo}
 use Rattle.task_steps.specs.Tells.{LeavesFiles}
 use Rattle.task_steps.proofs.SeenLemmas.{doomed_still, file_still_known, given_still, gone_still, pins_still, placed_still, there_before, used_still}
 use Rattle.purge_task.specs.Clause.{seen_by_purge}

@@ -1,12 +1,12 @@
 -- A purge stays ready for its next event beside every event of every other task.
-use Rattle.std.proofs.Common.{◌≡◌, ◌≢◌, ◌≤◌, ◌<◌, ◌+◌, ◌*◌, ◌==◌, ◌&&◌, ℕ, zero, suc, ◌-◌, Bool, true, false, cond, List, [], ◌∷◌, drop, length, take, get_or, Option, Some, None, refl, sym, ◌∙◌, ap, subst, arith, All, inl, inr}
-use Rattle.std.specs.Prelude.{count_by, nat_le, sum_by, if◌then◌else◌}
+use Rattle.std.proofs.Common.{◌≡◌, ◌≢◌, ◌≤◌, ◌<◌, ◌+◌, ◌==◌, ◌&&◌, ℕ, zero, suc, ◌-◌, Bool, true, false, List, [], ◌∷◌, drop, length, take, get_or, Option, Some, None, refl, sym, ◌∙◌, ap, subst, arith, All, inl, inr}
+use Rattle.std.specs.Prelude.{if◌then◌else◌}
 use Rattle.std.specs.List.{list_any}
 use Rattle.std.specs.Option.{IfSome, option_and_then, option_map, option_map_or}
 use Rattle.std.proofs.lemmas.Bool.{cases_eq, eq-eqb, eqb-true}
-use Rattle.std.proofs.lemmas.List.Elements.{All-cons, All-contains, All-head, All-nil, All-tail, All-weaker}
+use Rattle.std.proofs.lemmas.List.Elements.{All-cons, All-contains, All-head, All-nil, All-tail}
 use Rattle.std.proofs.lemmas.List.Sums.{sum_by-cons}
-use Rattle.disk_model.specs.Disk.{DiskState, FileState, Files, History, IfTold, MayLeave, named, reading}
+use Rattle.disk_model.specs.Disk.{DiskState, FileState, History, MayLeave, reading}
 use Rattle.disk_model.specs.declared.name.FileName.TheVariants.{Mail}
 use Rattle.disk_model.proofs.BetweenLemmas.{between-both, between-on}
 use Rattle.disk_model.proofs.OneFileLemmas.{named-narrows}
@@ -15,24 +15,21 @@ use Rattle.mdbox_base.specs.declared.ids.FileNo.{FileNo}
 use Rattle.model_appends.specs.MapAppending.{AreCopied, IsCopiedTo}
 use Rattle.model_meaning.specs.MapFits.{HasRecord, size_at}
 use Rattle.model_meaning.specs.MapMeaning.{MapMeaning, MapRecord, record_at}
-use Rattle.model_meaning.specs.Sound.{IsSoundMap}
 use Rattle.model_octets.proofs.SearchLemmas.{found_one}
 use Rattle.model_store.specs.Settled.{files_of}
 use Rattle.storage_files.specs.declared.file.MailFile.{MailFile}
-use Rattle.storage_files.specs.Files.{AreFilesInOrder, end_in, file_in, is_emptied_in, is_taken_in, pins_in, place_begun_in, with_pins}
-use Rattle.store_core.specs.Removing.{AreElsewhere}
+use Rattle.storage_files.specs.Files.{AreFilesInOrder, file_in, is_taken_in, pins_in, with_pins}
 use Rattle.store_core.specs.Running.{IsStore}
 use Rattle.store_core.specs.Value.{StoreValue}
 use Rattle.store_core.proofs.BoxAppendLemmas.{store_sound}
 use Rattle.store_core.proofs.MailChangeLemmas.{named_reads}
-use Rattle.task_claims.specs.Claims.{Claims, Emptied, Removing, Taken, is_to_remove, one_if}
-use Rattle.task_claims.specs.Leaving.{IsSameOrSynced, LeavesFile, LeavesOthers, but_count, known_but_pins, records_within}
+use Rattle.task_claims.specs.Claims.{Claims, Emptied, Removing, Taken, one_if}
+use Rattle.task_claims.specs.Leaving.{IsSameOrSynced, LeavesOthers, but_count, known_but_pins, records_within}
 use Rattle.task_claims.specs.Stable.{Beside}
 use Rattle.task_claims.proofs.LeftLemmas.{emptied_left, removing_left, taken_left}
-use Rattle.purge_task.specs.Claims.{claims_of_sources, claims_of_switched, claims_of_target, purge_claims, sources_left}
-use Rattle.purge_task.specs.Found.{messages_in}
-use Rattle.purge_task.specs.Keeping.{AreCopiedUpTo, AreCopiesInRow, HasCountRoom, HasLowCounts, HasPurged, HasSwitchRoom, HasTargetHeader, IsBeginningFirst, IsCopyingFirst, IsCopyingTo, IsReadyToPurge, IsRemovingFirst, IsSourceCopied, IsTargetToMake, IsToBegin, IsToMake, PurgeValue, target_header}
-use Rattle.purge_task.specs.Left.{events_before_instances, purge_left}
+use Rattle.purge_task.specs.Claims.{claims_of_sources, claims_of_switched, purge_claims, sources_left}
+use Rattle.purge_task.specs.Keeping.{AreCopiedUpTo, AreCopiesInRow, HasCountRoom, HasPurged, HasSwitchRoom, HasTargetHeader, IsBeginningFirst, IsCopyingFirst, IsCopyingTo, IsReadyToPurge, IsRemovingFirst, IsTargetToMake, IsToBegin, IsToMake, PurgeValue, target_header}
+use Rattle.purge_task.specs.Left.{purge_left}
 use Rattle.purge_task.specs.declared.task.PurgeStage.{PurgeStage}
 use Rattle.purge_task.specs.declared.task.PurgeStage.TheVariants as stage
 use Rattle.purge_task.specs.declared.work.Source.{Source}

@@ -1,6 +1,6 @@
 -- The stage to which a purge goes on behind a file.
-use Rattle.std.proofs.Common.{◌≡◌, ◌≤◌, ◌+◌, ℕ, zero, suc, List, [], ◌∷◌, ◌++◌, refl, sym, ◌∙◌, ap, subst, arith, inl, inr}
-use Rattle.std.specs.Prelude.{◌≢◌, ◌⊎◌, drop}
+use Rattle.std.proofs.Common.{◌≡◌, ◌+◌, ℕ, zero, suc, List, [], ◌∷◌, sym, ◌∙◌, ap, subst, arith, inl, inr}
+use Rattle.std.specs.Prelude.{drop}
 use Rattle.mdbox_base.specs.declared.replies.Reply.{Reply}
 use Rattle.list_machine.specs.Run.{Run}
 use Rattle.store_core.specs.Value.{StoreValue}
@@ -8,7 +8,6 @@ use Rattle.purge_task.specs.Claims.{sources_left}
 use Rattle.purge_task.specs.Keeping.{PurgeValue}
 use Rattle.purge_task.specs.Stages.{GoesOnBehind, IsAtPurge, IsAtPurgeStage, IsNextStage, IsPurging, went_on}
 use Rattle.purge_task.specs.declared.task.PurgeStage.{PurgeStage}
-use Rattle.purge_task.specs.declared.task.PurgeStage.TheVariants as stage
 use Rattle.purge_task.specs.declared.work.Source.{Source}
 use Rattle.purge_task.specs.declared.work.Work.{Work}
 

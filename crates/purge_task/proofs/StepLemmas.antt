@@ -1,6 +1,6 @@
 -- The parts of a purge's step, put together.
-use Rattle.std.proofs.Common.{◌≡◌, ◌≢◌, ◌≤◌, ◌<◌, ◌+◌, ◌-◌, ◌*◌, ◌==◌, ◌&&◌, ℕ, zero, suc, Bool, true, false, not, List, [], ◌∷◌, ◌++◌, drop, length, filter, Option, Some, None, refl, sym, ◌∙◌, ap, subst, arith, inl, inr, All}
-use Rattle.std.specs.Prelude.{◌||◌, ◌⊎◌, Contains, Err, IfOk, IsSome, Ok, Result, cond, find, is_some}
+use Rattle.std.proofs.Common.{◌≡◌, ◌≢◌, ◌≤◌, ◌<◌, ◌+◌, ◌*◌, ◌==◌, ℕ, zero, suc, Bool, true, false, not, List, [], ◌∷◌, ◌++◌, length, filter, Option, Some, None, refl, sym, ◌∙◌, ap, subst, arith, inl, inr, All}
+use Rattle.std.specs.Prelude.{◌||◌, ◌⊎◌, Contains, Err, IfOk, IsSome, Ok, Result, cond, is_some}
 use Rattle.std.specs.List.{list_any}
 use Rattle.std.specs.Option.{option_map}
 use Rattle.std.proofs.lemmas.Bool.{eq-eqb, ne_eqb}
@@ -31,8 +31,8 @@ use Rattle.purge_task.specs.Claims.{purge_claims, sources_left}
 use Rattle.purge_task.specs.Clause.{IsPurgeStep, PurgeSteps, answer_of, at_stage, came_to, did_of_refusal}
 use Rattle.purge_task.specs.Copied.{AreUnwantedFrom, IsNextWanted, IsNextWantedFirst}
 use Rattle.purge_task.specs.Keeping.{HasLowCounts, HasPurged, IsBareFirst, IsBeginningFirst, IsCopyingFirst, IsReadyToPurge, IsTargetFirst, LeavesLess, PurgeValue}
-use Rattle.purge_task.specs.Left.{IsFurther, events_before_instances, purge_files, purge_left}
-use Rattle.purge_task.specs.Stages.{GoesOnBehind, CopiesBehind, IsAtPurge, IsAtPurgeStage, IsAtSwitched, IsPurging, RemovesBehind}
+use Rattle.purge_task.specs.Left.{IsFurther, events_before_instances, purge_files}
+use Rattle.purge_task.specs.Stages.{GoesOnBehind, CopiesBehind, IsAtPurgeStage, IsAtSwitched, IsPurging, RemovesBehind}
 use Rattle.purge_task.specs.SwitchEvent.{IsCopiedFirst, IsToSwitch, IsUnwantedFirst, answer_of_switch, came_by_switch}
 use Rattle.purge_task.specs.declared.switch_event.SwitchedFile.{SwitchedFile}
 use Rattle.purge_task.specs.declared.task.PurgeStage.{PurgeStage}

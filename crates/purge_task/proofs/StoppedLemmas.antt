@@ -1,5 +1,5 @@
 -- A purge of a store that is stopped.
-use Rattle.std.proofs.Common.{◌≡◌, ℕ, List, [], ◌∷◌, ◌++◌, Some, None, true, refl, sym, ◌∙◌, ap, subst, arith, Option}
+use Rattle.std.proofs.Common.{◌≡◌, ℕ, List, [], ◌∷◌, Some, true, refl, sym, ◌∙◌, subst, arith, Option}
 use Rattle.disk_model.specs.Disk.{Faults, History}
 use Rattle.mdbox_base.specs.declared.progress.Did.{Did}
 use Rattle.mdbox_base.specs.declared.progress.Did.TheVariants as did
@@ -17,11 +17,10 @@ use Rattle.task_steps.proofs.UnmovedLemmas.{mail_still}
 use Rattle.purge_task.specs.Claims.{sources_left}
 use Rattle.purge_task.specs.Clause.{IsPurgeStep, PurgeSteps, around_purging, seen_by_purge}
 use Rattle.purge_task.specs.Keeping.{PurgeValue}
-use Rattle.purge_task.specs.Stages.{IsAtPurge, IsAtPurgeStage, IsAtSwitched}
+use Rattle.purge_task.specs.Stages.{IsAtPurgeStage, IsAtSwitched}
 use Rattle.purge_task.specs.declared.task.PurgeStage.{PurgeStage}
 use Rattle.purge_task.specs.declared.task.PurgeStage.TheVariants as stage
 use Rattle.purge_task.specs.declared.work.Source.{Source}
-use Rattle.purge_task.specs.declared.work.Work.{Work}
 use Rattle.purge_task.proofs.EventLemmas.{did_stopped, fall, same_refusal}
 use Rattle.purge_task.proofs.PartLemmas.{copies_some, goes_on_some, next_copies, next_goes_on, next_removes}
 use Rattle.disk_model.proofs.IdleLemmas.{idle-begins}

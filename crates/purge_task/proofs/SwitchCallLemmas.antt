@@ -1,41 +1,39 @@
 -- What a purge says that switches a storage file.
-use Rattle.std.proofs.Common.{◌≡◌, ◌≢◌, ◌≤◌, ◌<◌, ◌+◌, ◌*◌, ◌==◌, ◌&&◌, ◌||◌, ◌⊎◌, ℕ, Bool, true, false, not, List, [], ◌∷◌, length, Option, Some, None, refl, sym, ◌∙◌, ap, subst, arith, get_or, inl, inr, All}
-use Rattle.std.specs.Prelude.{◌↔◌, AllPairs, Contains, IsSome, drop, filter, is_some, nat_le, nat_lt, take, if◌then◌else◌}
+use Rattle.std.proofs.Common.{◌≡◌, ◌≢◌, ◌≤◌, ◌<◌, ◌+◌, ◌==◌, ◌&&◌, ◌⊎◌, ℕ, Bool, true, false, not, List, [], ◌∷◌, length, Option, Some, None, refl, sym, ◌∙◌, ap, subst, arith, get_or, inl, inr, All}
+use Rattle.std.specs.Prelude.{AllPairs, drop, filter, is_some, nat_le, nat_lt, if◌then◌else◌}
 use Rattle.std.specs.List.{list_any}
 use Rattle.std.specs.Option.{IfSome, option_and_then, option_map_or}
 use Rattle.std.proofs.lemmas.Bool.{cases_Bool, cases_lt, eq-eqb, eqb-true, ne_eqb}
 use Rattle.std.proofs.lemmas.List.{drop_all}
-use Rattle.std.proofs.lemmas.List.Elements.{All-cons, All-contains, All-head, All-nil, All-tail, All-weaker}
+use Rattle.std.proofs.lemmas.List.Elements.{All-cons, All-contains, All-head, All-nil, All-tail}
 use Rattle.std.proofs.lemmas.Grind.{common_steps}
 use Rattle.std.proofs.lemmas.List.Kept.{AllPairs-cons}
 use Rattle.std.proofs.lemmas.List.Sums.{count_by-le-length}
-use Rattle.disk_model.specs.Disk.{Faults, Grows, History, IfTold}
-use Rattle.disk_model.specs.FaultCounts.{ChangeFaultCounted, NoFault}
+use Rattle.disk_model.specs.Disk.{Faults, Grows, History}
+use Rattle.disk_model.specs.FaultCounts.{ChangeFaultCounted}
 use Rattle.gate_log.specs.State.{LogState}
 use Rattle.mdbox_base.specs.declared.entries.MapEntry.TheVariants as map_entry
 use Rattle.mdbox_base.specs.declared.entries.MapPlace.{MapPlace}
 use Rattle.mdbox_base.specs.declared.ids.FileNo.{FileNo}
 use Rattle.mdbox_base.specs.declared.ids.MapUid.{MapUid}
 use Rattle.mdbox_base.specs.declared.progress.Did.TheVariants as did
-use Rattle.mdbox_base.specs.declared.progress.Progress.{Progress}
 use Rattle.mdbox_base.specs.declared.progress.Progress.TheVariants as progress
 use Rattle.mdbox_base.specs.declared.replies.Refusal.TheVariants as refusal
 use Rattle.mdbox_base.specs.declared.replies.Reply.{Reply}
 use Rattle.mdbox_base.specs.declared.replies.Reply.TheVariants as reply
 use Rattle.mdbox_base.specs.declared.requests.Request.TheVariants as request
 use Rattle.map_index.specs.Kept.{IsMapInOrder}
-use Rattle.model_appends.specs.MapAppending.{AreCopied}
 use Rattle.model_kept.specs.Kept.{MailIsKept}
 use Rattle.model_lists.specs.Lists.{Lists}
-use Rattle.model_meaning.specs.MapFits.{HasRecord, MapFits}
+use Rattle.model_meaning.specs.MapFits.{MapFits}
 use Rattle.model_meaning.specs.MapMeaning.{MapMeaning, MapRecord, record_at}
 use Rattle.model_meaning.specs.Sound.{IsSoundMap}
 use Rattle.model_octets.proofs.PairLemmas.{pairs_head, pairs_tail}
 use Rattle.model_octets.proofs.SearchLemmas.{found_one}
-use Rattle.model_store.specs.Settled.{IsSettledFor, Leaves, files_of}
+use Rattle.model_store.specs.Settled.{IsSettledFor, Leaves}
 use Rattle.list_machine.specs.Run.{CopiesMessage, EventPart, MakesTarget, RemovesFile, Run, RunEvent, Switches, TakenFile, is_copied_from, is_one_of, map_of, own_events}
-use Rattle.journal.specs.Events.{copies_left, next_part, next_taken, purge_copies, purge_goes_on}
-use Rattle.storage_files.specs.Files.{AreFilesInOrder, FilesValue, end_in, file_in, is_doomed_in, is_emptied_in, is_taken_in, pins_in, place_begun_in}
+use Rattle.journal.specs.Events.{copies_left, next_part, next_taken, purge_goes_on}
+use Rattle.storage_files.specs.Files.{AreFilesInOrder, FilesValue, file_in, is_doomed_in, is_emptied_in, pins_in}
 use Rattle.storage_files.specs.declared.file.MailFile.{MailFile}
 use Rattle.store_core.specs.Dues.{IsSpared, due_at}
 use Rattle.store_core.specs.Keeping.{KeepsFirm}
@@ -45,16 +43,16 @@ use Rattle.store_core.specs.Value.{StoreValue}
 use Rattle.store_core.proofs.BoxAppendLemmas.{store_sound}
 use Rattle.store_core.proofs.SwitchLemmas.{none_left}
 use Rattle.store_seen.specs.Seeing.{may_be_used}
-use Rattle.task_claims.specs.Claims.{ClaimsNothing, Due, Emptied, Held, Made, MovesClaims, Pinned, PlacingPieces, Removing, Taken, Thing, one_if}
-use Rattle.task_claims.specs.Leaving.{LeavesOthers, records_within}
+use Rattle.task_claims.specs.Claims.{Due, Emptied, Held, Made, Pinned, PlacingPieces, Removing, Taken, Thing, one_if}
+use Rattle.task_claims.specs.Leaving.{records_within}
 use Rattle.task_steps.specs.Step.{HasComeTo}
 use Rattle.purge_task.specs.Claims.{claims_of_sources, claims_of_switched, claims_of_target, purge_claims, sources_left}
 use Rattle.purge_task.specs.Clause.{IsPurgeStep, PurgeSteps, around_purging, seen_by_purge}
-use Rattle.purge_task.specs.Keeping.{AreSourcesApart, HasPurged, HasSwitchRoom, IsBeginningFirst, IsCopyingFirst, IsRemovingFirst, IsTargetToMake, IsToBegin, PurgeValue}
+use Rattle.purge_task.specs.Keeping.{AreSourcesApart, HasPurged, IsBeginningFirst, IsCopyingFirst, IsRemovingFirst, IsTargetToMake, IsToBegin, PurgeValue}
 use Rattle.purge_task.specs.Found.{messages_in}
 use Rattle.purge_task.specs.Left.{IsFurther}
 use Rattle.purge_task.specs.Reserved.{HasListRoom}
-use Rattle.purge_task.specs.Stages.{CopiesBehind, GoesOnBehind, HaveCopied, IsAtPurge, IsAtPurgeStage, IsNextStage, IsPurging, told_taken, went_on}
+use Rattle.purge_task.specs.Stages.{CopiesBehind, GoesOnBehind, HaveCopied, IsAtPurge, IsAtPurgeStage, IsPurging, told_taken, went_on}
 use Rattle.purge_task.specs.SwitchEvent.{IsBehindSwitch, IsCopiedFirst, IsToSwitch, IsUnwantedFirst}
 use Rattle.purge_task.specs.Switched.{AreSwitchLists, IsReadyToSwitch, IsSwitched, IsTargetWritten, KeepsButTarget, ReadsMail, files_switched, target_named, target_synced}
 use Rattle.purge_task.specs.declared.switching.Switched.{Switched}
@@ -73,11 +71,10 @@ use Rattle.purge_task.proofs.RemovalLemmas.{LeavesSettled}
 use Rattle.purge_task.proofs.SameSeenLemmas.{TellsNoLess, tells_same}
 use Rattle.purge_task.proofs.StageLemmas.{left_on}
 use Rattle.purge_task.proofs.SwitchClaimLemmas.{IsOtherWritten, IsSwitchMade, moved_past, not_target, other_there, removal_claims, switch_leaves, switched_amount, target_at, with_switched}
-use Rattle.purge_task.proofs.SwitchFileLemmas.{IsOtherThere, IsWrittenFile, at_target, doomed_of, switched_doomed, switched_ends, switched_other, switched_pins, written_file, written_unemptied}
+use Rattle.purge_task.proofs.SwitchFileLemmas.{IsOtherThere, at_target, doomed_of, switched_doomed, switched_other, switched_pins, written_file, written_unemptied}
 use Rattle.purge_task.proofs.SwitchFitLemmas.{no_more_than, none_moved}
 use Rattle.purge_task.proofs.SwitchReadyLemmas.{copies_as, synced_end, synced_or}
-use Rattle.purge_task.proofs.SwitchRowLemmas.{elsewhere_switched, length_as, map_switched, messages_as, moved_elsewhere, rows_are, unwanted_as, within, within_as, within_switched}
-use Rattle.purge_task.proofs.SwitchSeenLemmas.{with_map}
+use Rattle.purge_task.proofs.SwitchRowLemmas.{elsewhere_switched, length_as, map_switched, messages_as, rows_are, unwanted_as, within, within_as, within_switched}
 use Rattle.purge_task.proofs.SwitchStepLemmas.{CountsSwitch, HasSwitched, IsSpent, switch_steps}
 use Rattle.purge_task.proofs.SwitchedLemmas.{reads_begin}
 use Rattle.purge_task.proofs.SwitchRegionLemmas.{regions_switched}

@@ -1,6 +1,6 @@
 -- What a purge that switches a storage file claims, and what it leaves to other tasks.
-use Rattle.std.proofs.Common.{◌≡◌, ◌≢◌, ◌≤◌, ◌<◌, ◌+◌, ◌==◌, ◌&&◌, ◌||◌, ◌⊎◌, ◌++◌, ℕ, zero, suc, Bool, true, false, cond, List, [], ◌∷◌, length, Option, Some, None, refl, sym, ◌∙◌, ap, subst, arith, inl, inr, All}
-use Rattle.std.specs.Prelude.{Contains, IsSome, count_by, drop, is_some, max, take, if◌then◌else◌}
+use Rattle.std.proofs.Common.{◌≡◌, ◌≢◌, ◌≤◌, ◌<◌, ◌+◌, ◌==◌, ◌&&◌, ◌⊎◌, ◌++◌, ℕ, Bool, true, false, cond, List, [], ◌∷◌, Option, Some, None, refl, sym, ◌∙◌, ap, subst, arith, inl, inr}
+use Rattle.std.specs.Prelude.{Contains, drop, is_some, max, take}
 use Rattle.std.specs.Option.{IfSome, option_and_then, option_map, option_map_or}
 use Rattle.std.proofs.lemmas.Bool.{cases_Bool, cases_eq, eq-eqb, eqb-true, ne_eqb}
 use Rattle.std.proofs.lemmas.Grind.{common_steps}
@@ -41,7 +41,6 @@ use Rattle.purge_task.specs.Claims.{claims_of_sources, claims_of_target}
 use Rattle.purge_task.specs.Switched.{KeepsButTarget, ReadsMail, files_switched, target_named}
 use Rattle.purge_task.specs.declared.work.Source.{Source}
 use Rattle.purge_task.proofs.BareCallLemmas.{IsEmptiedFile, undoomed_in, unplaced_in, untaken_in}
-use Rattle.purge_task.proofs.EventLemmas.{fall}
 use Rattle.purge_task.proofs.SwitchFileLemmas.{IsOtherThere, IsWrittenFile, at_target, switched_at, switched_file, switched_doomed, switched_ends, switched_keeps_other, switched_other, switched_pins, written_undoomed, written_unemptied}
 use Rattle.purge_task.proofs.SwitchRowLemmas.{came_from, count_stays, guids_switched, map_switched, moved_elsewhere, place_alone, within_as, within_switched}
 use Rattle.purge_task.proofs.SwitchSeenLemmas.{with_map}

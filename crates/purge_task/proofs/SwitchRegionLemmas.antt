@@ -8,7 +8,7 @@ use Rattle.mdbox_base.specs.declared.entries.MapPlace.{MapPlace}
 use Rattle.mdbox_base.specs.declared.ids.FileNo.{FileNo}
 use Rattle.mdbox_base.specs.declared.ids.MapUid.{MapUid}
 use Rattle.model_appends.specs.MapAppending.{AreCopied}
-use Rattle.model_meaning.specs.MapMeaning.{MapMeaning, MapRecord}
+use Rattle.model_meaning.specs.MapMeaning.{MapMeaning}
 use Rattle.model_store.specs.Safe.{LiesInFile}
 use Rattle.model_store.specs.Settled.{files_of}
 use Rattle.store_core.specs.Running.{IsStore}

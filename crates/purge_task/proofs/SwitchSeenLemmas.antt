@@ -1,6 +1,6 @@
 -- What is seen of a store in which a storage file was switched, in a run of which an event switched it.
-use Rattle.std.proofs.Common.{◌≡◌, ◌≤◌, ◌<◌, ◌+◌, ◌==◌, ◌&&◌, ◌||◌, ℕ, Bool, true, false, not, List, [], ◌∷◌, ◌++◌, Option, Some, None, refl, sym, ◌∙◌, ap, subst, arith, inl, inr}
-use Rattle.std.specs.Prelude.{◌≢◌, ◌⊎◌, is_none, is_some, nat_le, nat_lt, sum_by}
+use Rattle.std.proofs.Common.{◌≡◌, ◌≤◌, ◌&&◌, ◌||◌, ℕ, Bool, true, false, not, List, [], ◌∷◌, ◌++◌, Option, Some, None, refl, sym, ◌∙◌, ap, subst, arith, inl, inr}
+use Rattle.std.specs.Prelude.{◌≢◌, ◌⊎◌, is_some, nat_le}
 use Rattle.std.specs.List.{list_any}
 use Rattle.std.specs.Option.{option_map_or, option_and_then}
 use Rattle.std.proofs.lemmas.Bool.{cases_eq}
@@ -17,7 +17,7 @@ use Rattle.list_machine.specs.Run.{Run, RunEvent, Switches, and_then, event_of, 
 use Rattle.journal.specs.Events.{begun_in, ended_in}
 use Rattle.journal.specs.Makes.{HasCome}
 use Rattle.journal.proofs.RunLemmas.{comes_on_with, drawn_none}
-use Rattle.storage_files.specs.Files.{FilesValue, end_in, file_in, is_doomed_in, pins_in}
+use Rattle.storage_files.specs.Files.{FilesValue, file_in, is_doomed_in, pins_in}
 use Rattle.storage_files.specs.declared.file.MailFile.{MailFile}
 use Rattle.store_core.specs.Dues.{due_at}
 use Rattle.store_core.specs.Value.{StoreValue}
@@ -26,7 +26,7 @@ use Rattle.task_steps.specs.Step.{HasComeTo, was_used}
 use Rattle.task_steps.proofs.SeenLemmas.{file_still_known, first_doomed, given_still, gone_still, pins_still, placed_still, there_before}
 use Rattle.purge_task.specs.Clause.{seen_by_purge}
 use Rattle.purge_task.proofs.RunLemmas.{any_still, one_itself, one_other, sum_push}
-use Rattle.purge_task.proofs.SameSeenLemmas.{bars, ends, is_before, uses}
+use Rattle.purge_task.proofs.SameSeenLemmas.{bars, is_before, uses}
 
 abbrev pub switch_event : ℕ → ℕ → FileNo → ℕ → List MapPlace → List MapUid → ℕ → RunEvent
 switch_event lane place file target moved dropped calls = record (event_of lane place Switches calls) { map_entries = map_entry.P file target moved dropped ∷ []; doomed = file.0 ∷ [] }

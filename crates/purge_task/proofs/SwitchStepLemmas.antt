@@ -1,11 +1,11 @@
 -- The clause of an event of a purge that switches a storage file.
-use Rattle.std.proofs.Common.{◌≡◌, ◌≤◌, ◌<◌, ◌+◌, ◌==◌, ◌&&◌, ◌||◌, ◌⊎◌, ℕ, suc, zero, Bool, true, false, not, List, [], ◌∷◌, ◌++◌, length, map, Option, Some, None, refl, sym, ◌∙◌, ap, subst, arith, All, inl, inr}
-use Rattle.std.specs.Prelude.{◌≢◌, AllPairs, Contains, flat_map, nat_lt, sum_by, if◌then◌else◌}
+use Rattle.std.proofs.Common.{◌≡◌, ◌≤◌, ◌<◌, ◌+◌, ◌==◌, ℕ, suc, zero, Bool, true, false, not, List, [], ◌∷◌, ◌++◌, length, Option, Some, None, refl, sym, ◌∙◌, ap, subst, arith, All, inl, inr}
+use Rattle.std.specs.Prelude.{◌≢◌, nat_lt, sum_by, if◌then◌else◌}
 use Rattle.std.specs.List.{list_any}
 use Rattle.std.specs.Option.{option_map_or}
-use Rattle.std.proofs.lemmas.Bool.{cases_Bool, eq-eqb, eqb-true, ne_eqb}
+use Rattle.std.proofs.lemmas.Bool.{cases_Bool, eq-eqb}
 use Rattle.std.proofs.lemmas.Grind.{common_steps}
-use Rattle.std.proofs.lemmas.List.Elements.{All-cons, All-contains, All-head, All-nil, All-tail, All-weaker}
+use Rattle.std.proofs.lemmas.List.Elements.{All-cons, All-head, All-nil, All-tail, All-weaker}
 use Rattle.std.proofs.lemmas.List.Sums.{sum_by-cons}
 use Rattle.disk_model.specs.Disk.{Faults, History, told_calls}
 use Rattle.gate_log.specs.State.{LogState}
@@ -17,12 +17,11 @@ use Rattle.mdbox_base.specs.declared.progress.Did.{Did}
 use Rattle.mdbox_base.specs.declared.progress.Did.TheVariants as did
 use Rattle.mdbox_base.specs.declared.replies.Reply.{Reply}
 use Rattle.mdbox_base.specs.declared.requests.Request.TheVariants as request
-use Rattle.model_lists.specs.Lists.{Lists}
 use Rattle.model_meaning.specs.MapFits.{HasRecord, MapFits}
 use Rattle.model_meaning.specs.MapMeaning.{MapBox, MapMeaning, MapRecord, map_applied}
 use Rattle.model_octets.proofs.PairLemmas.{pairs_head}
 use Rattle.model_store.specs.Listing.{ShowLists}
-use Rattle.list_machine.specs.Run.{EventPart, RemovesFile, Run, RunEvent, Switches, TakenFile, and_then, dropped_in, how_many, is_one_of, map_of, own_events}
+use Rattle.list_machine.specs.Run.{EventPart, RemovesFile, Run, RunEvent, Switches, and_then, dropped_in, how_many, is_one_of, map_of, own_events}
 use Rattle.journal.specs.Events.{Around, behind_purge, is_done, last_refusal, next_part, next_taken, purge_goes_on, was_pinned}
 use Rattle.journal.proofs.OwnEventLemmas.{own_more}
 use Rattle.storage_files.specs.Files.{FilesValue, pins_in}
@@ -30,15 +29,14 @@ use Rattle.store_core.specs.Dues.{due_at}
 use Rattle.store_core.specs.Value.{StoreValue, indexes_of}
 use Rattle.store_seen.specs.Seeing.{may_be_used}
 use Rattle.task_claims.specs.Leaving.{records_within}
-use Rattle.task_steps.specs.Step.{DidEvent, HasComeTo, ShowsSeen, and_told, was_used}
+use Rattle.task_steps.specs.Step.{HasComeTo, was_used}
 use Rattle.task_steps.proofs.SeenLemmas.{first_doomed, never_used, pinned_as}
 use Rattle.purge_task.specs.Claims.{sources_left}
 use Rattle.purge_task.specs.Clause.{PurgeSteps, around_purging, seen_by_purge}
 use Rattle.purge_task.specs.Keeping.{AreSourcesApart, PurgeValue}
 use Rattle.purge_task.specs.SwitchEvent.{IsBehindSwitch}
-use Rattle.purge_task.specs.Stages.{CopiesBehind, GoesOnBehind, HaveCopied, HaveTaken, IsAtPurge, IsAtPurgeStage, IsAtSwitched, IsLastOf, IsNextStage, IsPurging, RemovesBehind, told_taken, went_on}
+use Rattle.purge_task.specs.Stages.{GoesOnBehind, HaveCopied, HaveTaken, IsAtPurge, IsAtPurgeStage, IsAtSwitched, IsPurging, RemovesBehind, told_taken}
 use Rattle.purge_task.specs.declared.task.PurgeStage.{PurgeStage}
-use Rattle.purge_task.specs.declared.task.PurgeStage.TheVariants as stage
 use Rattle.purge_task.specs.declared.work.Source.{Source}
 use Rattle.purge_task.specs.declared.work.Work.{Work}
 use Rattle.purge_task.proofs.CopyStepLemmas.{taken_noted}

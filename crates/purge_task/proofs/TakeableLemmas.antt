@@ -1,5 +1,5 @@
 -- What was found can be taken.
-use Rattle.std.proofs.Common.{◌≡◌, ◌==◌, Option, ℕ, ◌+◌, ◌<◌, ◌≤◌, Bool, cond, Some, None, List, [], ◌∷◌, length, get_or, map, All, refl, sym, ap, subst, ◌∙◌, arith}
+use Rattle.std.proofs.Common.{◌≡◌, ◌==◌, Option, ℕ, ◌<◌, ◌≤◌, Bool, cond, None, List, [], ◌∷◌, get_or, All, refl, sym, ap, subst, arith}
 use Rattle.std.specs.Prelude.{AllPairs, count_by}
 use Rattle.std.specs.List.{AllZip}
 use Rattle.std.proofs.lemmas.List.{length-map}
@@ -10,7 +10,6 @@ use Rattle.disk_model.specs.Disk.{History}
 use Rattle.model_octets.proofs.PairLemmas.{found_holds, pairs_head, pairs_nil, pairs_tail}
 use Rattle.model_meaning.proofs.MapPlaceLemmas.{equal_is}
 use Rattle.storage_files.specs.declared.file.MailFile.{MailFile}
-use Rattle.storage_files.specs.Files.{file_in}
 use Rattle.store_core.specs.Value.{StoreValue}
 use Rattle.purge_task.specs.Found.{HasFound, MayBeEmptied, found_numbers}
 use Rattle.purge_task.specs.Reserved.{IsNewSource, IsNewWork}

@@ -1,11 +1,10 @@
 -- What a purge has behind its first event: the sources with their targets, ready to begin, in a store of which nothing else has changed.
-use Rattle.std.proofs.Common.{◌≡◌, ◌≢◌, ◌≤◌, ◌<◌, ◌+◌, ◌*◌, ◌==◌, ◌&&◌, ◌||◌, ◌⊎◌, ℕ, Bool, true, false, cond, List, [], ◌∷◌, ◌++◌, length, map, get_or, fold, Option, Some, None, refl, sym, ◌∙◌, ap, subst, arith, All, inl, inr}
-use Rattle.std.specs.Prelude.{AllPairs, Contains, IfSome, count_by, filter, is_some, max, nat_le, nat_lt, sum_by, if◌then◌else◌, vec_capacity}
+use Rattle.std.proofs.Common.{◌≡◌, ◌≢◌, ◌≤◌, ◌+◌, ◌*◌, ◌&&◌, ◌||◌, ℕ, Bool, true, false, cond, List, [], ◌∷◌, ◌++◌, length, map, fold, Option, Some, None, refl, sym, ◌∙◌, ap, subst, arith, All, inl, inr}
+use Rattle.std.specs.Prelude.{IfSome, count_by, max, nat_lt, if◌then◌else◌}
 use Rattle.std.specs.List.{AllZip, list_any}
 use Rattle.std.specs.Option.{option_and_then, option_map, option_map_or}
-use Rattle.std.proofs.lemmas.Bool.{cases_eq, cases_lt, eq-eqb}
+use Rattle.std.proofs.lemmas.Bool.{cases_eq, eq-eqb}
 use Rattle.std.proofs.lemmas.Bool.Decides.{nat_tests}
-use Rattle.std.proofs.lemmas.List.{length-map}
 use Rattle.std.proofs.lemmas.List.Elements.{All-cons, All-filter, All-head, All-nil, All-tail, All-weaker}
 use Rattle.std.proofs.lemmas.List.Sums.{sum_by-cons}
 use Rattle.list_machine.specs.Run.{TakenFile, is_copied_from, target_length, with_targets}
@@ -13,14 +12,14 @@ use Rattle.journal.specs.Events.{targets_of}
 use Rattle.mdbox_base.specs.declared.ids.FileNo.{FileNo}
 use Rattle.model_meaning.specs.MapMeaning.{MapMeaning, MapRecord, greatest}
 use Rattle.storage_files.specs.declared.file.MailFile.{MailFile}
-use Rattle.storage_files.specs.Files.{changed_in, end_in, file_begun, file_in, is_emptied_in, pins_in, to_empty}
+use Rattle.storage_files.specs.Files.{changed_in, file_begun, file_in, is_emptied_in, to_empty}
 use Rattle.storage_files.proofs.FileListLemmas.{file-here, file-other}
 use Rattle.store_core.specs.Value.{StoreValue}
-use Rattle.purge_task.specs.Found.{FindsUnclean, HasFound, IsFoundFile, found_numbers, messages_in, targets_in}
+use Rattle.purge_task.specs.Found.{IsFoundFile, found_numbers, messages_in}
 use Rattle.purge_task.specs.Keeping.{IsTargetToMake, IsToBegin, IsUnwanted}
-use Rattle.purge_task.specs.Reserved.{HasListRoom, IsNewSource, IsNewWork}
+use Rattle.purge_task.specs.Reserved.{HasListRoom, IsNewSource}
 use Rattle.purge_task.specs.Stages.{told_taken}
-use Rattle.purge_task.specs.Taken.{CanTake, CanTakeAll, source_taken, take_all, taken_to_empty, target_drawn, targets_given, with_target}
+use Rattle.purge_task.specs.Taken.{source_taken, take_all, taken_to_empty, target_drawn, targets_given, with_target}
 use Rattle.purge_task.specs.declared.finding.FoundFile.{FoundFile}
 use Rattle.purge_task.specs.declared.work.Source.{Source}
 use Rattle.purge_task.specs.declared.work.Work.{Work}
@@ -29,7 +28,7 @@ use Rattle.purge_task.proofs.SameSeenLemmas.{bars, is_before, uses}
 use Rattle.purge_task.proofs.TakeableLemmas.{zip_all}
 use Rattle.purge_task.proofs.TakenClaimLemmas.{fresh_none, nothing_there}
 use Rattle.purge_task.proofs.TakenLemmas.{highest_step}
-use Rattle.purge_task.proofs.TakenStateLemmas.{IsDrawnFor, TargetIsDrawn, below_changed, below_step, file_same, found_before, found_last, next_highest}
+use Rattle.purge_task.proofs.TakenStateLemmas.{IsDrawnFor, TargetIsDrawn, below_changed, below_step, file_same, found_before, found_last}
 
 -- ---- files that are as they were, but for being taken
 

@@ -1,6 +1,6 @@
 -- The event of a purge that makes a target.
-use Rattle.std.proofs.Common.{◌≡◌, ◌≤◌, ◌<◌, ◌+◌, ◌==◌, ◌&&◌, ◌||◌, ℕ, Bool, true, false, List, [], ◌∷◌, ◌++◌, length, Option, Some, None, refl, sym, ◌∙◌, ap, subst, arith, All}
-use Rattle.std.specs.Prelude.{flat_map, nat_lt, sum_by, if◌then◌else◌}
+use Rattle.std.proofs.Common.{◌≡◌, ◌≤◌, ◌==◌, ℕ, Bool, true, false, List, [], ◌∷◌, ◌++◌, length, Option, Some, None, refl, sym, ◌∙◌, ap, subst, arith, All}
+use Rattle.std.specs.Prelude.{nat_lt, sum_by, if◌then◌else◌}
 use Rattle.std.specs.List.{list_any}
 use Rattle.std.specs.Option.{option_map_or}
 use Rattle.std.proofs.lemmas.Bool.{eq-eqb}
@@ -14,7 +14,7 @@ use Rattle.mdbox_base.specs.declared.progress.Did.TheVariants as did
 use Rattle.mdbox_base.specs.declared.replies.Reply.{Reply}
 use Rattle.mdbox_base.specs.declared.requests.Request.TheVariants as request
 use Rattle.model_meaning.specs.MapMeaning.{MapRecord, is_own, number_at}
-use Rattle.list_machine.specs.Run.{EventPart, MakesTarget, Run, RunEvent, Switches, RemovesFile, TakenFile, and_then, dropped_in, how_many, is_one_of, map_of, own_events}
+use Rattle.list_machine.specs.Run.{MakesTarget, Run, RunEvent, Switches, RemovesFile, TakenFile, and_then, dropped_in, how_many, is_one_of, map_of, own_events}
 use Rattle.journal.specs.Events.{Around, last_refusal, next_part, next_taken, purge_goes_on}
 use Rattle.journal.proofs.OwnEventLemmas.{own_more}
 use Rattle.storage_files.specs.Files.{FilesValue}

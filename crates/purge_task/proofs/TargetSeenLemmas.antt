@@ -1,27 +1,25 @@
 -- What is seen of a store in which a target was made, in a run of which an event made it.
-use Rattle.std.proofs.Common.{◌≡◌, ◌≤◌, ◌<◌, ◌+◌, ◌==◌, ◌&&◌, ◌||◌, ℕ, Bool, true, false, not, List, [], ◌∷◌, ◌++◌, Option, Some, None, refl, sym, ◌∙◌, ap, subst, arith, inl, inr}
-use Rattle.std.specs.Prelude.{◌≢◌, ◌⊎◌, is_some, is_none, nat_le, nat_lt, sum_by}
+use Rattle.std.proofs.Common.{◌≡◌, ◌≤◌, ◌==◌, ◌&&◌, ◌||◌, ℕ, Bool, true, false, not, List, [], ◌∷◌, ◌++◌, Option, Some, refl, sym, ◌∙◌, ap, subst, arith, inl, inr}
+use Rattle.std.specs.Prelude.{◌≢◌, is_some, nat_le}
 use Rattle.std.specs.List.{list_any}
 use Rattle.std.specs.Option.{option_map_or, option_and_then}
 use Rattle.std.proofs.lemmas.Bool.{cases_eq, eqb-true}
 use Rattle.disk_model.specs.Disk.{Faults, History, told_calls}
 use Rattle.model_meaning.specs.MapMeaning.{is_own, is_sealed, number_at}
-use Rattle.model_meaning.specs.MapMeaning.{MapMeaning}
 use Rattle.list_machine.specs.Run.{MakesTarget, Run, RunEvent, and_then, before, event_of, is_one_of, map_of}
 use Rattle.journal.specs.Events.{begun_in, ended_in}
 use Rattle.journal.specs.Found.{is_known_file}
-use Rattle.journal.specs.Makes.{HasCome}
 use Rattle.journal.proofs.RunLemmas.{comes_on}
-use Rattle.storage_files.specs.Files.{FilesValue, end_in, file_in, is_doomed_in, pins_in}
+use Rattle.storage_files.specs.Files.{FilesValue, file_in}
 use Rattle.storage_files.specs.declared.file.MailFile.{MailFile}
 use Rattle.store_core.specs.Knows.{knows_file, may_have_given}
 use Rattle.store_core.specs.Value.{StoreValue}
-use Rattle.store_seen.specs.Seeing.{may_be_barred, may_be_used}
+use Rattle.store_seen.specs.Seeing.{may_be_barred}
 use Rattle.task_steps.specs.Step.{HasComeTo, was_given, was_used}
 use Rattle.task_steps.proofs.SeenLemmas.{doomed_still, file_still_known, given_still, gone_still, pins_still, placed_still, there_before, used_still}
 use Rattle.purge_task.specs.Clause.{seen_by_purge}
 use Rattle.purge_task.proofs.EventLemmas.{fall}
-use Rattle.purge_task.proofs.RunLemmas.{any_now, any_still, one_alone, one_itself, or_none, or_true, sum_push}
+use Rattle.purge_task.proofs.RunLemmas.{any_now, any_still, one_alone, one_itself, sum_push}
 use Rattle.purge_task.proofs.SameSeenLemmas.{is_before}
 
 abbrev pub target_event : ℕ → ℕ → ℕ → ℕ → RunEvent

@@ -1,8 +1,8 @@
 -- Records in a storage file that stay in it: what holds of their map uids holds still.
-use Rattle.std.proofs.Common.{◌≡◌, ◌≤◌, ◌<◌, ◌+◌, ◌==◌, ◌⊎◌, ℕ, Bool, true, false, List, [], ◌∷◌, ◌++◌, map, refl, sym, ◌∙◌, ap, subst, arith, All, inl, inr}
+use Rattle.std.proofs.Common.{◌≡◌, ◌==◌, ◌⊎◌, ℕ, Bool, true, false, List, [], ◌∷◌, map, refl, ◌∙◌, ap, subst, arith, All, inl, inr}
 use Rattle.std.specs.Prelude.{Contains, filter, if◌then◌else◌}
-use Rattle.std.proofs.lemmas.Bool.{eq-eqb, eqb-true}
-use Rattle.std.proofs.lemmas.List.Elements.{All-cons, All-contains, All-contains_itself, All-head, All-nil, All-tail, All-weaker, Contains-append_right}
+use Rattle.std.proofs.lemmas.Bool.{eq-eqb}
+use Rattle.std.proofs.lemmas.List.Elements.{All-contains, All-contains_itself, All-head, All-weaker, Contains-append_right}
 use Rattle.model_meaning.specs.MapMeaning.{MapMeaning, MapRecord}
 use Rattle.model_octets.proofs.SearchLemmas.{among}
 use Rattle.task_claims.specs.Leaving.{but_count, records_within}

@@ -3,8 +3,7 @@ use Rattle.std.specs.Prelude.{◌≡◌, ◌≢◌, ◌≤◌, ◌<◌, ◌+◌,
 use Rattle.std.specs.List.{list_any}
 use Rattle.std.specs.Option.{option_or, option_to_list}
 use Rattle.std.specs.List.Sorted.{IsStrictlyIncreasing}
-use Rattle.disk_model.specs.Disk.{Files, History, IfTold}
-use Rattle.disk_model.specs.declared.name.FileName.TheVariants.{Mail}
+use Rattle.disk_model.specs.Disk.{History, IfTold}
 use Rattle.journal.specs.QuietPurge.{IsCleanFile, RunTo}
 use Rattle.list_machine.specs.Run.{is_copied_from, target_length}
 use Rattle.mdbox_base.specs.declared.replies.Refusal.{Refusal}

@@ -1,7 +1,6 @@
 -- What a purge beside no other task has made of the map and of the files, from event to event.
 use Rattle.std.specs.Prelude.{◌≡◌, ◌≢◌, ◌≤◌, ◌↔◌, ◌⊎◌, ◌==◌, ◌&&◌, ◌||◌, ◌+◌, ◌++◌, ◌∷◌, [], ℕ, Bool, true, false, not, List, All, AllPairs, Contains, Option, Some, None, drop, filter, length, map, take}
 use Rattle.std.specs.List.{list_any}
-use Rattle.std.specs.Option.{IfSome}
 use Rattle.disk_model.specs.Disk.{Between, DiskState, Files, History}
 use Rattle.disk_model.specs.declared.name.FileName.TheVariants as file
 use Rattle.journal.specs.QuietPurge.{AreAllOf, HasSameOctets, IsClean, IsCleanFile, PurgesQuietly, apart_from_place}

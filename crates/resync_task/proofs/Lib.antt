@@ -1,3 +1,4 @@
+pub mod BodilessLemmas
 pub mod CorrectingLemmas
 pub mod DamageLemmas
 pub mod EndLemmas
@@ -8,6 +9,7 @@ pub mod ListedLemmas
 pub mod OwnResyncLemmas
 pub mod ReadLemmas
 pub mod RefusedResyncLemmas
+pub mod RegionEndLemmas
 pub mod RegionLemmas
 pub mod ResyncEventLemmas
 pub mod RightCountLemmas
@@ -15,4 +17,5 @@ pub mod StepLemmas
 pub mod StoreCountLemmas
 pub mod UnlikeLemmas
 pub mod WalkLemmas
+pub mod WindowLemmas
 pub mod WrongCountLemmas

@@ -38,10 +38,10 @@ header_length header n h =
     let e = h.digits_length in
     omega (arith, a, b, c, d, e)
 
-behind_front : (front rest : List ℕ) (n : ℕ) → length front ≡ n → drop n (front ++ rest) ≡ rest
+pub behind_front : (front rest : List ℕ) (n : ℕ) → length front ≡ n → drop n (front ++ rest) ≡ rest
 behind_front front rest n e = subst (λ (k : ℕ). drop k (front ++ rest) ≡ rest) e (drop-append_seam front rest)
 
-in_front : (front rest : List ℕ) (n : ℕ) → length front ≡ n → take n (front ++ rest) ≡ front
+pub in_front : (front rest : List ℕ) (n : ℕ) → length front ≡ n → take n (front ++ rest) ≡ front
 in_front front rest n e = subst (λ (k : ℕ). take k (front ++ rest) ≡ front) e (take-append_seam front rest)
 
 -- its metadata lines

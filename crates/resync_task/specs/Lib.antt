@@ -5,4 +5,5 @@ pub mod Files
 pub mod Reading
 pub mod Stages
 pub mod Task
+pub mod Window
 pub mod WrongCounts

@@ -27,13 +27,3 @@ fn region_files(alloc: Global, index: &MapIndex) -> Result<Vec<u32>, NoMemory>
     }
     Ok(numbers)
 }
-
-/// The size of the longest region, in octets.
-pub(crate) fn longest_region(index: &MapIndex) -> u32 {
-    let mut longest = 0;
-    for place in 0..index.rows() {
-        let row = index.row_at(place).unwrap();
-        longest = longest.max(row.size);
-    }
-    longest
-}

@@ -11,3 +11,4 @@ mod laws;
 mod reading;
 mod region;
 mod task;
+mod window;

@@ -7,10 +7,12 @@ ghost use Rattle.model_meaning.specs.MapMeaning.{MapRecord};
 ghost use Rattle.resync_task.specs.Damage.{AreDamaged, TellsWhole};
 ghost use Rattle.resync_task.specs.Files.{AreRecordFiles};
 ghost use Rattle.resync_task.specs.Reading.{ReadsStoreOnly};
+ghost use Rattle.resync_task.specs.Window.{IsReadOf};
 ghost use Rattle.resync_task.specs.declared.reading.Unread.TheVariants as unread;
 
-use crate::files::{longest_region, record_files};
-use crate::region::is_message_of;
+use crate::files::record_files;
+use crate::region::{HEADER, tail_of};
+use crate::window::Window;
 use disk_model::Disk;
 use map_index::MapRow;
 use mdbox_base::{FileNo, NoMemory};
@@ -25,7 +27,7 @@ pub struct Reading {
     files: Vec<u32>,
     read: usize,
     damaged: u64,
-    octets: Vec<u8>,
+    window: Window,
 }
 
 impl Model for Reading {
@@ -73,12 +75,12 @@ impl Reading {
     {
         store.facts();
         let files = record_files(store.alloc(), store.map())?;
-        let octets = vec![in store.alloc(); 0; longest_region(store.map()) as usize]?;
+        let window = Window::of(store.alloc())?;
         Ok(Reading {
             files,
             read: 0,
             damaged: 0,
-            octets,
+            window,
         })
     }
 
@@ -107,7 +109,7 @@ impl Reading {
         ensures unfailed { (IsErrOf result Unread.Fault → ⊥) → NoFault (D.faults store.old.disk) (D.faults store.new.disk) }
     {
         let file = FileNo(self.files[self.read]);
-        let found = read_file(store, &mut self.octets, file)?;
+        let found = read_file(store, &mut self.window, file)?;
         self.read += 1;
         self.damaged += u64::from(found);
         Ok(())
@@ -117,7 +119,7 @@ impl Reading {
 /// Reads the regions of a file's records, in order of offset, and answers how many of them are damaged.
 fn read_file<D: Disk>(
     store: &mut Store<D>,
-    octets: &mut Vec<u8>,
+    window: &mut Window,
     file: FileNo,
 ) -> Result<u32, Unread>
     ensures found { IfOk result (λ many. (uids : List ℕ) × (many ≡ length uids) × AreDamaged (D.history store.old.disk) store.old.map file.0 uids) }
@@ -126,10 +128,11 @@ fn read_file<D: Disk>(
     ensures unfailed { (IsErrOf result Unread.Fault → ⊥) → NoFault (D.faults store.old.disk) (D.faults store.new.disk) }
 {
     store.facts();
+    window.clear();
     let mut damaged = 0;
     let mut from = 0;
     while let Some(row) = store.map().in_file(file, from) {
-        if !is_whole(store, octets, row)? {
+        if !is_whole(store, window, row)? {
             damaged += 1;
         }
         from = row.offset + row.size;
@@ -137,48 +140,25 @@ fn read_file<D: Disk>(
     Ok(damaged)
 }
 
-/// Whether the region of a record is its message, as the disk reads it.
-fn is_whole<D: Disk>(
-    store: &mut Store<D>,
-    octets: &mut Vec<u8>,
-    row: MapRow,
-) -> Result<bool, Unread>
+/// Whether the region of a record is its message, as the disk reads it. Of its body nothing is read: any octets are a body.
+fn is_whole<D: Disk>(store: &mut Store<D>, window: &mut Window, row: MapRow) -> Result<bool, Unread>
+    requires { IsReadOf (D.history store.old.disk) row.file.0 window.old }
     ensures tells { IfOk result (λ whole. (own : MapRecord) → row ≡ shown_record own → TellsWhole whole (D.history store.old.disk) own) }
+    ensures has { OnOk result (IsReadOf (D.history store.new.disk) row.file.0 window.new) }
     ensures only { ReadsStoreOnly store.old store.new (D.history store.old.disk) (D.history store.new.disk) }
     ensures fault { ReadFaultCounted (IsErrOf result Unread.Fault) (D.faults store.old.disk) (D.faults store.new.disk) }
     ensures unfailed { (IsErrOf result Unread.Fault → ⊥) → NoFault (D.faults store.old.disk) (D.faults store.new.disk) }
 {
-    let size = row.size as usize;
-    make_room(octets, size)?;
-    reads_whole(store, &mut octets[..size], row)
-}
-
-/// Reads the region of a record into as many octets, and answers whether it is its message.
-fn reads_whole<D: Disk>(
-    store: &mut Store<D>,
-    region: &mut [u8],
-    row: MapRow,
-) -> Result<bool, Unread>
-    requires { length region.old ≡ row.size }
-    ensures tells { IfOk result (λ whole. (own : MapRecord) → row ≡ shown_record own → TellsWhole whole (D.history store.old.disk) own) }
-    ensures only { ReadsStoreOnly store.old store.new (D.history store.old.disk) (D.history store.new.disk) }
-    ensures fault { ReadFaultCounted (IsErrOf result Unread.Fault) (D.faults store.old.disk) (D.faults store.new.disk) }
-    ensures unfailed { (IsErrOf result Unread.Fault → ⊥) → NoFault (D.faults store.old.disk) (D.faults store.new.disk) }
-{
-    let count = store.read_piece(row.file, u64::from(row.offset), region)?;
-    if count < region.len() {
+    let offset = u64::from(row.offset);
+    let Some(header) = window.header(store, row.file, offset)? else {
         return Ok(false);
-    }
-    let is = is_message_of(store.alloc(), region, row.guid)?;
+    };
+    let Some(tail) = tail_of(&header, row.size) else {
+        return Ok(false);
+    };
+    // With the header of the message that may stand behind it.
+    let wanted = tail as usize + HEADER;
+    window.load(store, row.file, offset + u64::from(row.size - tail), wanted)?;
+    let is = window.ends_message(store.alloc(), &header, tail as usize, row.guid)?;
     Ok(is)
-}
-
-/// Has room for so many octets at least.
-fn make_room(octets: &mut Vec<u8>, size: usize) -> Result<(), NoMemory>
-    ensures { OnOk result (size ≤ length octets.new.items) }
-{
-    if octets.len() < size {
-        octets.resize(size, 0)?;
-    }
-    Ok(())
 }

@@ -1,12 +1,44 @@
 // What stands in the region of a record.
-ghost use Rattle.std.specs.Prelude.{◌≡◌, ◌↔◌, ◌+◌, ◌≤◌, IsTrue, IfOk, IfSome, IfNone, length, Some};
+ghost use Rattle.std.specs.Prelude.{◌≡◌, ◌↔◌, ◌+◌, ◌≤◌, ℕ, List, IsTrue, IfOk, IfSome, IfNone, length, take, Some};
 ghost use Rattle.model_storage.specs.StorageFile.{Message, IsMessage};
 ghost use Rattle.resync_task.specs.Damage.{IsMessageWith, IsOneMessage, LinesSay};
+ghost use Rattle.resync_task.specs.Window.{HasTail, bodiless_header};
 
 use dbox_file::{MessageAt, message_at};
 use dbox_metadata::{MetaError, Metadata, read_metadata};
-use mdbox_base::{Guid, NoMemory};
+use mdbox_base::{Guid, NoMemory, read_hex};
 use std::alloc::Global;
+
+/// How many octets a message's header has.
+pub(crate) const HEADER: usize = 30;
+/// The digits of a header that tells a body of no octets.
+const NO_SIZE: &[u8; 16] = b"0000000000000000";
+/// How many octets a block of metadata has at most.
+const MAX_BLOCK: u64 = 1_048_576;
+
+/// How many octets of a region of this size follow the body that its header tells. None if it is no header of a message of this size,
+/// or the block of metadata would be longer than any.
+pub(crate) fn tail_of(header: &[u8; HEADER], size: u32) -> Option<u32>
+    ensures some { IfSome result (HasTail header.now size) }
+    ensures none { IfNone result ((region : List ℕ) (m : Message) → take 30 region ≡ header.now → length region ≡ size → IsMessage region m → ⊥) }
+{
+    let body = read_hex(&header[13..29])?;
+    let behind = u64::from(size).checked_sub(HEADER as u64)?;
+    let tail = behind.checked_sub(body)?;
+    if tail > MAX_BLOCK {
+        return None;
+    }
+    Some(tail as u32)
+}
+
+/// The header, but that it tells a body of no octets.
+pub(crate) fn bodiless(header: &[u8; HEADER]) -> [u8; HEADER]
+    ensures { result ≡ bodiless_header header.now }
+{
+    let mut bare = *header;
+    bare[13..29].copy_from_slice(NO_SIZE);
+    bare
+}
 
 /// Whether a region is one message, whose lines have this GUID.
 pub(crate) fn is_message_of(alloc: Global, region: &[u8], guid: Guid) -> Result<bool, NoMemory>

@@ -158,6 +158,7 @@ LanesBegin D = (start : Lists) (script : Requests) (run : Run) (rows : List Lane
 -- What is known of a script's run: the opening, the world that began then, and what it came to.
 pub record ScriptRan {D : Type 0} (script : Requests) (old mid new : Option History) (first last : Faults) (s : StoreValue D) (world ended : WorldValue D) : Type 0 where
   pub opened : OpenedNow old mid s
+  pub unused : HasNoTask s
   pub show : LogsShow
   pub fresh : AreFreshRows script world.rows
   pub store_is : world.store ≡ s
@@ -357,9 +358,9 @@ resync_told : {D : Type 0} → (at : ℕ) (one : Reply) (old mid new : Option Hi
 resync_told at one old mid new first last s world ended r are =
     alone_told (StandsResync s mid) (IsResyncTold s mid) at request.Resync one old mid new first last s world ended r are refl (keeps_resync s mid r.opened.free) (begun_resync s mid r.opened.running)
 
-purge_told : {D : Type 0} → (at : ℕ) (one : Reply) (old mid new : Option History) (first last : Faults) (s : StoreValue D) (world ended : WorldValue D) → ScriptRan ((at, request.Purge) ∷ []) old mid new first last s world ended → ended.replies ≡ Some one ∷ [] → IsPurgeTold s one ended.store new
+purge_told : {D : Type 0} → (at : ℕ) (one : Reply) (old mid new : Option History) (first last : Faults) (s : StoreValue D) (world ended : WorldValue D) → ScriptRan ((at, request.Purge) ∷ []) old mid new first last s world ended → ended.replies ≡ Some one ∷ [] → IsPurgeTold s mid one ended.store new
 purge_told at one old mid new first last s world ended r are =
-    alone_told (StandsPurge s) (IsPurgeTold s) at request.Purge one old mid new first last s world ended r are refl (keeps_purge s) (begun_purge s mid r.opened.running)
+    alone_told (StandsPurge s mid) (IsPurgeTold s mid) at request.Purge one old mid new first last s world ended r are refl (keeps_purge s mid) (begun_purge s mid r.unused r.opened.running)
 
 told_alone : {D : Type 0} → (script : Requests) (old mid new : Option History) (first last : Faults) (s : StoreValue D) (world ended : WorldValue D) → ScriptRan script old mid new first last s world ended → (given : List Reply) → ended.replies ≡ map Some given → IsToldAlone script s.map (indexes_of s.boxes) given
 told_alone ((at, request.Flag name uid flags) ∷ []) old mid new first last s world ended r (one ∷ []) are = flag_told at name uid flags one old mid new first last s world ended r are
@@ -375,6 +376,7 @@ undone_alone ((at, request.Expunge name uid) ∷ []) old mid new first last s wo
 undone_alone ((at, request.Copy name uid target) ∷ []) old mid new first last s world ended r (reply.Refused why ∷ []) are runs = (copy_told at name uid target (reply.Refused why) old mid new first last s world ended r are).unchanged why refl runs.0 runs.1
 undone_alone ((at, request.Move name uid target) ∷ []) old mid new first last s world ended r (reply.Refused why ∷ []) are runs = (move_told at name uid target (reply.Refused why) old mid new first last s world ended r are).unchanged why refl runs.0 runs.1
 undone_alone ((at, request.Resync) ∷ []) old mid new first last s world ended r (reply.Refused why ∷ []) are running = (resync_told at (reply.Refused why) old mid new first last s world ended r are).unchanged why refl running
+undone_alone ((at, request.Purge) ∷ []) old mid new first last s world ended r (reply.Refused why ∷ []) are calls = (purge_told at (reply.Refused why) old mid new first last s world ended r are).unchanged why refl calls.0 calls.1
 undone_alone script old mid new first last s world ended r given are none = absurd none
 
 alike_alone : {D : Type 0} → (script : Requests) (old mid new : Option History) (first last : Faults) (s : StoreValue D) (world ended : WorldValue D) → ScriptRan script old mid new first last s world ended → (given : List Reply) → ended.replies ≡ map Some given → IsGivenBackAlone script given → MeansAlike s.map (indexes_of s.boxes) ended.store.map (indexes_of ended.store.boxes)
@@ -392,8 +394,8 @@ resynced_alone : {D : Type 0} → (script : Requests) (old mid new : Option Hist
 resynced_alone ((at, request.Resync) ∷ []) old mid new first last s world ended r (one ∷ []) are = (resync_told at one old mid new first last s world ended r are).answer
 resynced_alone script old mid new first last s world ended r given are = tt
 
-purged_alone : {D : Type 0} → (script : Requests) (old mid new : Option History) (first last : Faults) (s : StoreValue D) (world ended : WorldValue D) → ScriptRan script old mid new first last s world ended → (given : List Reply) → ended.replies ≡ map Some given → IsPurgedAlone script given s.map ended.store.map
-purged_alone ((at, request.Purge) ∷ []) old mid new first last s world ended r (one ∷ []) are = purge_told at one old mid new first last s world ended r are
+purged_alone : {D : Type 0} → (script : Requests) (old mid new : Option History) (first last : Faults) (s : StoreValue D) (world ended : WorldValue D) → ScriptRan script old mid new first last s world ended → (given : List Reply) → ended.replies ≡ map Some given → IsPurgedAlone script given mid new s.map ended.store.map
+purged_alone ((at, request.Purge) ∷ []) old mid new first last s world ended r (one ∷ []) are = (purge_told at one old mid new first last s world ended r are).answer
 purged_alone script old mid new first last s world ended r given are = tt
 
 unmade_alone : {D : Type 0} → (script : Requests) (old mid new : Option History) (first last : Faults) (s : StoreValue D) (world ended : WorldValue D) → ScriptRan script old mid new first last s world ended → (given : List Reply) → ended.replies ≡ map Some given → IsUnmadeAlone script given → ReadAlike mid new
@@ -479,11 +481,12 @@ script_done script old mid new first last s world ended r =
     )
 
 -- What a script's run says of the opening, of the world and of its end: so it is done.
-pub script_ran : {D : Type 0} → (script : Requests) (lanes : ℕ) (prepared : List (Option Prepared)) (parts : PartsValue) (old mid new : Option History) (first last : Faults) (s : StoreValue D) (world ended : WorldValue D) (turns : List ℕ) → (o : OpenedNow old mid s) → LogsShow → AreGiven script prepared → ArePartsOf script lanes parts → IsFreshWorld s parts mid world
+pub script_ran : {D : Type 0} → (script : Requests) (lanes : ℕ) (prepared : List (Option Prepared)) (parts : PartsValue) (old mid new : Option History) (first last : Faults) (s : StoreValue D) (world ended : WorldValue D) (turns : List ℕ) → (o : OpenedNow old mid s) → HasNoTask s → LogsShow → AreGiven script prepared → ArePartsOf script lanes parts → IsFreshWorld s parts mid world
     → ((start : Lists) → MayRead script start old → LogsShowLists s.map (indexes_of s.boxes) start → (run : Run) → IsAtOpening run s → HasCome run s.map s.drawn (told_calls mid) → IsGoing start script run [] no_broken (unreplied script) (seen_in s mid first) s mid first parts.rows)
     → GoesOnBy turns world ended mid new first last → (ended.began ≡ world.began) × (length ended.replies ≡ length world.replies) → ((i : ℕ) → i < length ended.replies → (given : Reply) × HasReply ended.replies i given) → AreIdle (lanes_of ended.rows) → IsStore new ended.store → WorldsBegin D → LanesEnd D → ScriptRan script old mid new first last s world ended
-script_ran script lanes prepared parts old mid new first last s world ended turns o show given are begun going goes keeps replied idle later begin law = record {
+script_ran script lanes prepared parts old mid new first last s world ended turns o unused show given are begun going goes keeps replied idle later begin law = record {
   opened = o;
+  unused = unused;
   show = show;
   fresh = subst (λ (rows : List LaneRow). AreFreshRows script rows) (sym (ap (λ (w : WorldValue _). w.rows) begun.2)) are.rows;
   store_is = ap (λ (w : WorldValue _). w.store) begun.2;
@@ -511,7 +514,7 @@ pub run_done : {D : Type 0} → (history : D → Option History) (faults : D →
     → (given : List Reply) × (ended.replies ≡ map Some given) × IsServedOpen script given ended.journal old (history ended.store.disk) (faults s.disk) (faults ended.store.disk) ended.store
 run_done {D} history faults script lanes prepared parts old s world ended turns o show given in_lanes few are unused begin world_begin end begun goes keeps replied idle later =
     script_done script old (history s.disk) (history ended.store.disk) (faults s.disk) (faults ended.store.disk) s world ended
-    (script_ran script lanes prepared parts old (history s.disk) (history ended.store.disk) (faults s.disk) (faults ended.store.disk) s world ended turns o show given are begun going went keeps replied idle later world_begin end)
+    (script_ran script lanes prepared parts old (history s.disk) (history ended.store.disk) (faults s.disk) (faults ended.store.disk) s world ended turns o unused show given are begun going went keeps replied idle later world_begin end)
   where
     going : (start : Lists) → MayRead script start old → LogsShowLists s.map (indexes_of s.boxes) start → (run : Run) → IsAtOpening run s → HasCome run s.map s.drawn (told_calls (history s.disk)) → IsGoing start script run [] no_broken (unreplied script) (seen_in s (history s.disk) (faults s.disk)) s (history s.disk) (faults s.disk) parts.rows
     going start may shows run at come =

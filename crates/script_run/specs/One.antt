@@ -212,14 +212,15 @@ IsToldAlone ((lane, request.Move name uid target) ∷ []) m meanings (given ∷ 
     IsMoveAnswer (uncopied_cause (meaning_named name m.boxes meanings) (meaning_named target m.boxes meanings) m uid.0) (meaning_named target m.boxes meanings) given
 IsToldAlone script m meanings given = Unit {0}
 
--- A make, an expunge, a copy, a move or a resync alone was refused, and the store isn't stopped: nothing has changed since the opening. So
--- it is of an expunge and a resync also for want of memory.
+-- A make, an expunge, a copy, a move, a resync or a purge alone was refused, and the store isn't stopped: nothing has changed since the
+-- opening. So it is of an expunge, a resync and a purge also for want of memory; of a purge not if a read failed.
 abbrev pub IsUndoneAlone : Requests → List Reply → Type 0
 IsUndoneAlone ((lane, request.Make name) ∷ []) (reply.Refused why ∷ []) = (why ≡ refusal.Stopped → ⊥) × (why ≡ refusal.NoMemory → ⊥)
 IsUndoneAlone ((lane, request.Expunge name uid) ∷ []) (reply.Refused why ∷ []) = why ≡ refusal.Stopped → ⊥
 IsUndoneAlone ((lane, request.Copy name uid target) ∷ []) (reply.Refused why ∷ []) = (why ≡ refusal.Stopped → ⊥) × (why ≡ refusal.NoMemory → ⊥)
 IsUndoneAlone ((lane, request.Move name uid target) ∷ []) (reply.Refused why ∷ []) = (why ≡ refusal.Stopped → ⊥) × (why ≡ refusal.NoMemory → ⊥)
 IsUndoneAlone ((lane, request.Resync) ∷ []) (reply.Refused why ∷ []) = why ≡ refusal.Stopped → ⊥
+IsUndoneAlone ((lane, request.Purge) ∷ []) (reply.Refused why ∷ []) = (why ≡ refusal.ReadFault → ⊥) × (why ≡ refusal.Stopped → ⊥)
 IsUndoneAlone script given = ⊥
 
 -- There was no memory for a copy or a move alone, which gives back the count that it may have raised.

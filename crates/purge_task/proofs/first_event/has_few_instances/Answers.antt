@@ -1,4 +1,4 @@
-use Rattle.std.proofs.Common.{◌≡◌, ◌∙◌, length, sym, arith}
+use Rattle.std.proofs.Common.{◌∙◌, length, sym, arith}
 use Rattle.purge_task.proofs.FewInstanceLemmas.{all_passed, le_false, le_true, next_at, none_passed, one_passed}
 use Rattle.purge_task.proofs.first_event.has_few_instances.Goals as goal
 
@@ -29,7 +29,7 @@ returns g c =
     let all = all_passed c.loop-id.last c.loop-id.count c.args.store.now.instances.known c.loop-id.invariant.passed (sym c.next_instance.ensures ∙ c.in_default.is) in
     sym (le_true (length c.args.store.now.instances.known) 9223372036854775808 (omega (arith, few, all)))
 
-pub returns-then-count : goal.returns-then-count-eq
+pub returns-then-count : goal.returns-then-count
 returns-then-count g c =
     let next = next_at c.loop-id.last c.loop-id.count c.args.store.now.instances.known c.in-Some.id c.loop-id.invariant.passed (sym c.next_instance.ensures ∙ c.in-Some.is) in
     let more = next.lt in

@@ -1,12 +1,3 @@
-use Rattle.purge_task.proofs.QuietStepLemmas.{part_so, quiet_did, switch_so}
-use Rattle.purge_task.proofs.QuietRegionLemmas.{regions_same}
-use Rattle.purge_task.proofs.QuietOuterLemmas.{begun_quiet, gone_quiet, last_quiet}
-use Rattle.purge_task.proofs.QuietCallLemmas.{switched_quiet}
-use Rattle.purge_task.proofs.QuietEndLemmas.{quiet_ends}
-use Rattle.purge_task.proofs.QuietEventLemmas.{quiet_bare, quiet_copied, quiet_made, quiet_removed}
-use Rattle.purge_task.proofs.QuietFileLemmas.{quiet_changes}
-use Rattle.purge_task.proofs.QuietFirstLemmas.{quiet_begins, quiet_instance}
-use Rattle.purge_task.proofs.QuietSwitchLemmas.{quiet_switched}
 use Rattle.purge_task.proofs.QuietLemmas.{emptied_dropped, emptied_more, emptied_none, emptied_stay}
 use Rattle.purge_task.proofs.laws.purges_empty.Goals as goal
 

@@ -1,11 +1,19 @@
 use Rattle.std.proofs.Common.{◌+◌, ℕ, refl, sym, ◌∙◌, ap, subst, arith}
 use Rattle.resync_task.proofs.DamageLemmas.{begins, ends, few_so_far, goes_on, many_then, AreSoFar, next_of, none_of, row_ends, store_sound}
 use Rattle.resync_task.proofs.ReadLemmas.{ok_apart, only_none, only_then, tells_before}
+use Rattle.resync_task.proofs.WindowLemmas.{has_none}
+use Rattle.resync_task.specs.Window.{IsReadOf}
+use Rattle.map_index.specs.Shown.{MapRow}
 use Rattle.resync_task.proofs.reading.read_file.Goals as goal
 use Rattle.resync_task.proofs.reading.read_file.Goals.{then-not-branch, else-not-branch}
 
 pub loop-row-init : goal.loop-row-init
-loop-row-init g c = (only_none c.args.store.now (g.D.Disk.history c.args.store.now.disk), refl, begins (g.D.Disk.history c.args.store.now.disk) c.args.store.now.map c.args.file.0)
+loop-row-init g c = (only_none c.args.store.now (g.D.Disk.history c.args.store.now.disk), refl, begins (g.D.Disk.history c.args.store.now.disk) c.args.store.now.map c.args.file.0, has_none (g.D.Disk.history c.args.store.now.disk) c.args.file.0 _ c.clear.ensures)
+
+pub is_whole-requires : goal.is_whole-requires
+is_whole-requires g c =
+    let n = next_of (g.D.Disk.history c.args.store.now.disk) c.args.store.now c.loop-row.store c.map.result.now.meaning c.args.file.0 c.loop-row.from c.in-Some.row c.facts.ensures.store c.loop-row.invariant.0.same c.map.ensures (sym c.in-Some.is ∙ c.in_file.ensures) in
+    subst (λ (number : ℕ). IsReadOf (g.D.Disk.history c.loop-row.store.disk) number c.loop-row.window) (sym (ap (λ (r : MapRow). r.file.0) n.shown ∙ n.of_file)) c.loop-row.invariant.3
 
 pub returns-in_err-is_whole-clause-only : goal.returns-in_err-is_whole-clause-only
 returns-in_err-is_whole-clause-only g c =
@@ -47,6 +55,7 @@ loop-row-preserved g c =
           (tells_before c.in_ok-is_whole.field-0 (g.D.Disk.history c.args.store.now.disk) (g.D.Disk.history c.loop-row.store.disk) n.own c.args.store.now c.loop-row.store c.loop-row.invariant.0 (c.in_ok-is_whole.ensures.tells n.own n.shown))
           c.loop-row.invariant.2
           ),
+      subst (λ (number : ℕ). IsReadOf (g.D.Disk.history c.is_whole.new.store.disk) number c.is_whole.new.window) (ap (λ (r : MapRow). r.file.0) n.shown ∙ n.of_file) c.in_ok-is_whole.ensures.has,
     )
 
 pub returns-clause-found : goal.returns-clause-found

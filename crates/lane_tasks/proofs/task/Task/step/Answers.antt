@@ -8,8 +8,10 @@ use Rattle.store_core.specs.Value.{StoreValue}
 use Rattle.task_claims.specs.Claims.{no_claims}
 use Rattle.task_claims.specs.Stable.{MovesOwnClaims}
 use Rattle.task_steps.specs.Step.{ended_by}
+use Rattle.purge_task.specs.Clause.{BeginsPurge}
 use Rattle.purge_task.specs.Dropped.{TellsCounts}
-use Rattle.lane_tasks.specs.Clause.{TaskKeeps, StepsTask}
+use Rattle.purge_task.specs.Quiet.{KeepsQuiet}
+use Rattle.lane_tasks.specs.Clause.{TaskKeeps, StepsTask, progress_by}
 use Rattle.lane_tasks.specs.Tasks.{IsReadyTask, claims_at, work_left}
 use Rattle.lane_tasks.specs.declared.task.Task.{Task}
 use Rattle.lane_tasks.specs.declared.task.Task.TheVariants as task
@@ -297,8 +299,16 @@ returns-in-Purge-clause-left g c = λ more.
 pub returns-in-Purge-clause-keeps : goal.returns-in-Purge-clause-keeps
 returns-in-Purge-clause-keeps g c =
     let s = c.step-in-Purge.ensures in
+    let p = s.step in
     let old = c.args.store.now in
     let new = c.step-in-Purge.new.store in
     subst (λ (k : Task). TaskKeeps k (task.Purge c.step-in-Purge.new.self) old new (g.D.Disk.history old.disk) (g.D.Disk.history new.disk) (g.D.Disk.faults old.disk) (g.D.Disk.faults new.disk) (ended_by c.step-in-Purge.result)) (sym c.in-Purge.is)
-    (keeps_purging g.D.Disk.history g.D.Disk.faults c.in-Purge.task c.step-in-Purge.new.self old new (ended_by c.step-in-Purge.result) s.step.grows s.step.mail s.step.reads (λ told. s.step.calm (λ e. told (ap ended_by e))) s.step.changes s.step.unfailed s.step.fell (λ stopped. (s.still stopped).0)
-    (s.drops, subst (λ (a : Progress). TellsCounts c.in-Purge.task c.step-in-Purge.new.self a) (sym (progress_back c.step-in-Purge.result)) s.counts))
+    (keeps_purging g.D.Disk.history g.D.Disk.faults c.in-Purge.task c.step-in-Purge.new.self old new (ended_by c.step-in-Purge.result) p.grows p.mail p.reads (λ told. p.calm (λ e. told (ap ended_by e))) p.changes p.unfailed p.fell (λ stopped. (s.still stopped).0)
+    (record {
+      drops = s.drops;
+      counts = subst (λ (a : Progress). TellsCounts c.in-Purge.task c.step-in-Purge.new.self a) (sym (progress_back c.step-in-Purge.result)) s.counts;
+      quiet = subst (λ (a : Progress). KeepsQuiet c.in-Purge.task c.step-in-Purge.new.self a old new (g.D.Disk.history old.disk) (g.D.Disk.history new.disk)) (sym (progress_back c.step-in-Purge.result)) s.quiet;
+      regions = p.regions;
+      first = λ at. subst (λ (a : Progress). BeginsPurge a c.step-in-Purge.new.self.stage old (g.D.Disk.history old.disk) (g.D.Disk.history new.disk)) (sym (progress_back c.step-in-Purge.result)) (p.first at);
+      refused = λ why e. p.refused why (sym (progress_back c.step-in-Purge.result) ∙ ap progress_by e);
+    }))

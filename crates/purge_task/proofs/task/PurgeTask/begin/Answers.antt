@@ -1,7 +1,6 @@
-use Rattle.std.proofs.Common.{◌≡◌, ◌+◌, drop, refl, sym, ◌∙◌, ap, subst, arith}
-use Rattle.mdbox_base.specs.declared.progress.Did.TheVariants as did
-use Rattle.purge_task.specs.Clause.{IsPurgeStep, at_stage, uncounted}
-use Rattle.purge_task.specs.Keeping.{LeavesLess, PurgeValue}
+use Rattle.std.proofs.Common.{refl, ◌∙◌, ap}
+use Rattle.purge_task.specs.Clause.{at_stage, uncounted}
+use Rattle.purge_task.specs.Keeping.{PurgeValue}
 use Rattle.purge_task.specs.declared.task.PurgeStage.TheVariants as stage
 use Rattle.purge_task.proofs.DropLemmas.{part_counts, part_tells}
 use Rattle.purge_task.proofs.StepLemmas.{first_part_low, part_left, part_says}

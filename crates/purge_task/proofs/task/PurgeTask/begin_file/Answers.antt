@@ -1,12 +1,11 @@
 use Rattle.std.proofs.Common.{◌≡◌, ◌+◌, ◌==◌, true, drop, refl, sym, ◌∙◌, ap, subst, arith}
 use Rattle.std.specs.List.{list_any}
 use Rattle.model_meaning.specs.MapMeaning.{MapMeaning}
-use Rattle.purge_task.specs.Clause.{IsPurgeStep, at_stage}
-use Rattle.purge_task.specs.Keeping.{LeavesLess, PurgeValue}
-use Rattle.purge_task.specs.SwitchEvent.{answer_of_switch, came_by_switch}
+use Rattle.purge_task.specs.Clause.{at_stage}
+use Rattle.purge_task.specs.Keeping.{PurgeValue}
 use Rattle.purge_task.specs.declared.task.PurgeStage.TheVariants as stage
 use Rattle.purge_task.proofs.DropLemmas.{part_drops, part_tells, switch_counts, switch_tells}
-use Rattle.purge_task.proofs.StepLemmas.{bare_first, begin_some, files_fit, further_at, part_left, part_low, part_says, some_left, switch_left, switch_part, switched_fits, target_first, unwanted_first}
+use Rattle.purge_task.proofs.StepLemmas.{further_at, part_left, part_low, part_says, switch_left, switch_part, unwanted_first}
 use Rattle.purge_task.specs.Quiet.{KeepsQuiet}
 use Rattle.purge_task.proofs.QuietStepLemmas.{part_so, switch_so}
 use Rattle.purge_task.proofs.task.PurgeTask.begin_file.Goals as goal

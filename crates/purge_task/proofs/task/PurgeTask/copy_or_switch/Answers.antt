@@ -1,14 +1,12 @@
-use Rattle.std.proofs.Common.{◌≡◌, ◌+◌, drop, refl, sym, ◌∙◌, ap, subst, arith}
+use Rattle.std.proofs.Common.{◌+◌, drop, refl, sym, subst, arith}
 use Rattle.model_meaning.specs.MapMeaning.{MapMeaning}
 use Rattle.model_meaning.specs.Sound.{IsSoundMap}
 use Rattle.store_core.proofs.BoxAppendLemmas.{store_sound}
-use Rattle.purge_task.specs.Clause.{IsPurgeStep, at_stage}
+use Rattle.purge_task.specs.Clause.{at_stage}
 use Rattle.purge_task.specs.Copied.{AreUnwantedFrom}
-use Rattle.purge_task.specs.Keeping.{LeavesLess, PurgeValue}
-use Rattle.purge_task.specs.SwitchEvent.{answer_of_switch, came_by_switch}
 use Rattle.purge_task.specs.declared.task.PurgeStage.TheVariants as stage
 use Rattle.purge_task.proofs.DropLemmas.{part_drops, part_tells, switch_counts, switch_tells}
-use Rattle.purge_task.proofs.StepLemmas.{copied_first, copying_some, copying_target, further_at, part_left, part_low, part_says, some_left, switch_left, switch_part, target_first, wanted_first}
+use Rattle.purge_task.proofs.StepLemmas.{copied_first, further_at, part_left, part_low, part_says, switch_left, switch_part}
 use Rattle.purge_task.specs.Quiet.{KeepsQuiet}
 use Rattle.purge_task.proofs.QuietStepLemmas.{part_so, switch_so}
 use Rattle.purge_task.proofs.task.PurgeTask.copy_or_switch.Goals as goal

@@ -24,5 +24,5 @@ returns-in-None-clause-counts g c = ((ap (λ (v : PurgeValue). v.dropped) c.self
 
 pub returns-in-None-clause-quiet : goal.returns-in-None-clause-quiet
 returns-in-None-clause-quiet g c =
-    subst (λ (v : PurgeValue). KeepsQuiet (at_stage stage.Instances v) _ (progress.Done (reply.Purged c.self.inside.done.dropped c.self.inside.done.files c.self.inside.done.instances)) c.args.store.now c.args.store.now (g.D.Disk.history c.args.store.now.disk) (g.D.Disk.history c.args.store.now.disk)) c.self.view_is
-    (last_quiet (at_stage stage.Instances (record { stage = c.self.inside.stage; did = c.self.inside.did; dropped = c.self.inside.done.dropped; files = c.self.inside.done.files; instances = c.self.inside.done.instances })) _ c.args.store.now (g.D.Disk.history c.args.store.now.disk) refl c.requires.running c.facts.ensures.instances c.facts.ensures.ids (sym c.next_useless.ensures ∙ c.in-None.is))
+    subst (λ (v : PurgeValue). KeepsQuiet (at_stage stage.Instances v) c.args.self.now (progress.Done (reply.Purged c.self.inside.done.dropped c.self.inside.done.files c.self.inside.done.instances)) c.args.store.now c.args.store.now (g.D.Disk.history c.args.store.now.disk) (g.D.Disk.history c.args.store.now.disk)) c.self.view_is
+    (last_quiet (at_stage stage.Instances (record { stage = c.self.inside.stage; did = c.self.inside.did; dropped = c.self.inside.done.dropped; files = c.self.inside.done.files; instances = c.self.inside.done.instances })) c.args.self.now c.args.store.now (g.D.Disk.history c.args.store.now.disk) refl c.requires.running c.facts.ensures.instances c.facts.ensures.ids (sym c.next_useless.ensures ∙ c.in-None.is))

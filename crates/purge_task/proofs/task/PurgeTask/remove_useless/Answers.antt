@@ -1,12 +1,10 @@
 use Rattle.std.proofs.Common.{◌≡◌, ◌+◌, false, refl, sym, ◌∙◌, ap, subst}
 use Rattle.mdbox_base.specs.declared.ids.InstId.{InstId}
 use Rattle.mdbox_base.specs.declared.progress.Progress.TheVariants as progress
-use Rattle.mdbox_base.specs.declared.replies.Refusal.TheVariants as refusal
-use Rattle.mdbox_base.specs.declared.replies.Reply.TheVariants as reply
 use Rattle.map_index.specs.Shown.{is_instance_named}
 use Rattle.sis_store.specs.Instances.{holders_in, instance_in}
 use Rattle.std.specs.Prelude.{IsSome}
-use Rattle.purge_task.specs.Clause.{IsPurgeStep, at_stage}
+use Rattle.purge_task.specs.Clause.{at_stage}
 use Rattle.purge_task.specs.Keeping.{PurgeValue}
 use Rattle.purge_task.specs.declared.task.PurgeStage.TheVariants as stage
 use Rattle.store_core.specs.Value.{StoreValue}
@@ -14,6 +12,7 @@ use Rattle.purge_task.proofs.DropLemmas.{same_drops}
 use Rattle.purge_task.proofs.GoneCallLemmas.{failed_says, gone_says, stage_as, useless_one}
 use Rattle.purge_task.proofs.StepLemmas.{gone_low}
 use Rattle.purge_task.specs.Quiet.{KeepsQuiet}
+use Rattle.purge_task.proofs.QuietFirstLemmas.{instance_counted}
 use Rattle.purge_task.proofs.QuietOuterLemmas.{gone_quiet}
 use Rattle.purge_task.proofs.task.PurgeTask.remove_useless.Goals as goal
 
@@ -64,7 +63,7 @@ returns-in-Err-clause-counts g c = tt
 
 pub returns-in-Ok-clause-quiet : goal.returns-in-Ok-clause-quiet
 returns-in-Ok-clause-quiet g c =
-    subst (λ (v : PurgeValue). KeepsQuiet (at_stage stage.Instances v) _ progress.More c.args.store.now c.remove_instance.new.self (g.D.Disk.history c.args.store.now.disk) (g.D.Disk.history c.remove_instance.new.self.disk)) c.self.view_is
+    subst (λ (v : PurgeValue). KeepsQuiet (at_stage stage.Instances v) (at_stage stage.Instances (instance_counted (record { stage = c.self.inside.stage; did = c.self.inside.did; dropped = c.self.inside.done.dropped; files = c.self.inside.done.files; instances = c.self.inside.done.instances }))) progress.More c.args.store.now c.remove_instance.new.self (g.D.Disk.history c.args.store.now.disk) (g.D.Disk.history c.remove_instance.new.self.disk)) c.self.view_is
     (gone_quiet g.D.Disk.history (at_stage stage.Instances (record { stage = c.self.inside.stage; did = c.self.inside.did; dropped = c.self.inside.done.dropped; files = c.self.inside.done.files; instances = c.self.inside.done.instances })) c.args.id c.args.store.now c.remove_instance.new.self refl c.requires.running c.facts.ensures.instances (useless_one c.args.store.now c.args.id c.facts.ensures.ids c.requires.useless) c.in-Ok.ensures.gone c.in-Ok.ensures.others (ap (λ (s : StoreValue _). s.map) c.in-Ok.ensures.ok)
     (λ runs. ((returns-in-Ok-clause-step g c).claims runs).moves))
 

@@ -1,6 +1,5 @@
 use Rattle.std.proofs.Common.{refl, sym, ◌∙◌, ap, subst}
 use Rattle.mdbox_base.specs.declared.progress.Did.TheVariants as did
-use Rattle.purge_task.specs.Clause.{IsPurgeStep}
 use Rattle.purge_task.specs.Keeping.{PurgeValue}
 use Rattle.purge_task.specs.Dropped.{DropsCounted, TellsCounts}
 use Rattle.purge_task.proofs.EventLemmas.{fall}
@@ -28,6 +27,10 @@ run-requires-clause-running g c = sym c.stopped.ensures ∙ c.if-stopped.false
 pub run-requires-clause-ready : goal.run-requires-clause-ready
 run-requires-clause-ready g c = ready_did (record { stage = c.self.inside.stage; did = c.self.inside.did; dropped = c.self.inside.done.dropped; files = c.self.inside.done.files; instances = c.self.inside.done.instances }) c.args.self.now did.Quiet c.args.store.now (g.D.Disk.history c.args.store.now.disk) c.self.view_is (c.requires (sym c.stopped.ensures ∙ c.if-stopped.false))
 
+pub returns-clause-step : goal.returns-clause-step
+returns-clause-step g c =
+    step_of (record { stage = c.self.inside.stage; did = c.self.inside.did; dropped = c.self.inside.done.dropped; files = c.self.inside.done.files; instances = c.self.inside.done.instances }) c.args.self.now c.run.new.self did.Quiet c.run.result c.args.store.now c.run.new.store (g.D.Disk.history c.args.store.now.disk) (g.D.Disk.history c.run.new.store.disk) (g.D.Disk.faults c.args.store.now.disk) (g.D.Disk.faults c.run.new.store.disk) c.self.view_is c.run.ensures.step
+
 pub returns-clause-ready : goal.returns-clause-ready
 returns-clause-ready g c =
     ready_of c.args.self.now c.run.new.self c.run.result c.args.store.now c.run.new.store (g.D.Disk.history c.args.store.now.disk) (g.D.Disk.history c.run.new.store.disk) (g.D.Disk.faults c.args.store.now.disk) (g.D.Disk.faults c.run.new.store.disk) (returns-clause-step g c)
@@ -35,10 +38,6 @@ returns-clause-ready g c =
 
 pub returns-clause-left : goal.returns-clause-left
 returns-clause-left g c more = (left_of (record { stage = c.self.inside.stage; did = c.self.inside.did; dropped = c.self.inside.done.dropped; files = c.self.inside.done.files; instances = c.self.inside.done.instances }) c.args.self.now c.run.new.self did.Quiet c.args.store.now c.run.new.store c.self.view_is (c.run.ensures.left more)).1
-
-pub returns-clause-step : goal.returns-clause-step
-returns-clause-step g c =
-    step_of (record { stage = c.self.inside.stage; did = c.self.inside.did; dropped = c.self.inside.done.dropped; files = c.self.inside.done.files; instances = c.self.inside.done.instances }) c.args.self.now c.run.new.self did.Quiet c.run.result c.args.store.now c.run.new.store (g.D.Disk.history c.args.store.now.disk) (g.D.Disk.history c.run.new.store.disk) (g.D.Disk.faults c.args.store.now.disk) (g.D.Disk.faults c.run.new.store.disk) c.self.view_is c.run.ensures.step
 
 pub returns-clause-still : goal.returns-clause-still
 returns-clause-still g c was = absurd (fall _ was (sym c.stopped.ensures ∙ c.if-stopped.false))

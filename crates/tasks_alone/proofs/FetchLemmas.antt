@@ -51,8 +51,8 @@ use Rattle.lane_tasks.specs.declared.task.Task.TheVariants as task
 use Rattle.lane_tasks.proofs.StepLemmas.{ops_asked}
 use Rattle.script_run.specs.One.{missing_cause}
 use Rattle.script_run.proofs.OneTaskLemmas.{KeepsCounted}
-use Rattle.mdbox_top.specs.FetchRun.{message_read, IsFetchAnswer}
-use Rattle.mdbox_top.specs.Served.{FaultsByReply}
+use Rattle.tasks_alone.specs.FetchAlone.{message_read, IsFetchAnswer}
+use Rattle.tasks_alone.specs.FaultsAlone.{FaultsByReply}
 
 -- ---- a message, piece by piece
 

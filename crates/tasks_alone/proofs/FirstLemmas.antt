@@ -16,7 +16,7 @@ use Rattle.sis_store.specs.declared.instance.KnownInstance.{KnownInstance}
 use Rattle.store_core.specs.StoreInstances.{IsFirstKnown, IsKnownRow, IsOtherThan}
 use Rattle.mail_save.proofs.MailFileLemmas.{synced_reads}
 use Rattle.mail_save.specs.MailFiles.{ReadsSameMail}
-use Rattle.mdbox_top.specs.DeliverRun.{AreFirstNamed}
+use Rattle.tasks_alone.specs.DeliveryAlone.{AreFirstNamed}
 
 -- these instances are the first of their octets among the known ones
 abbrev pub AreFirstKnown : List InstRow → List KnownInstance → Option History → Type 0

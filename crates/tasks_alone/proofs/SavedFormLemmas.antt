@@ -29,7 +29,7 @@ use Rattle.mail_save.specs.Ready.{IsPlacedReady}
 use Rattle.mail_save.specs.SaveEffects.{saved_row}
 use Rattle.mail_save.specs.declared.first.SavedParts.{SavedParts}
 use Rattle.mail_save.specs.declared.place.SavedAt.{SavedAt}
-use Rattle.mdbox_top.specs.DeliverRun.{attachment_octets, region_length}
+use Rattle.tasks_alone.specs.DeliveryAlone.{attachment_octets, region_length}
 
 -- ---- the length of the region
 
@@ -52,7 +52,7 @@ region_long name time p ids guid many =
     ∙ (length-append (before_references name time p guid) (marked 88 (references_naming p.parts ids) ++ after_references p.parts)
     ∙ ap (λ (n : ℕ). length (before_references name time p guid) + n) (length-append (marked 88 (references_naming p.parts ids)) (after_references p.parts)))
 
-laid_sized : (name : List ℕ) (time : ℕ) (p : Prepared) (ids : List InstId) (laid : LaidValue) → IsLaid name time p ids unknown_guid laid → length laid.region ≡ region_length name time p
+pub laid_sized : (name : List ℕ) (time : ℕ) (p : Prepared) (ids : List InstId) (laid : LaidValue) → IsLaid name time p ids unknown_guid laid → length laid.region ≡ region_length name time p
 laid_sized name time p ids laid is =
     let a : length laid.region ≡ length (written_region name time p ids unknown_guid) = ap length is.region in
     let b = region_long name time p ids unknown_guid is.one_each in

@@ -17,7 +17,7 @@ use Rattle.sis_store.specs.declared.instance.KnownInstance.{KnownInstance}
 use Rattle.store_core.specs.StoreInstances.{HasKnownInstances, IsKnownRow}
 use Rattle.store_core.specs.Value.{StoreValue}
 use Rattle.store_instances.specs.FoundInstances.{IsFoundInstances}
-use Rattle.mdbox_top.proofs.WroteLemmas.{IsNamedThere}
+use Rattle.tasks_alone.proofs.WroteLemmas.{IsNamedThere}
 
 -- ---- nobody holds one
 

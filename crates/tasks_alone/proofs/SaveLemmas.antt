@@ -69,13 +69,13 @@ use Rattle.mail_save.specs.declared.place.SavedAt.{SavedAt}
 use Rattle.mail_save.specs.declared.task.SaveStage.{SaveStage}
 use Rattle.mail_save.specs.declared.task.SaveStage.TheVariants as stage
 use Rattle.script_run.specs.One.{saved_lists}
-use Rattle.mdbox_top.specs.DeliverRun.{AreFirstNamed, undelivered_cause, attachment_octets, region_length, IsFileFor, IsSavedAs, IsSavedPlace, IsOutOfFiles, IsOutOfInstances, IsUncompared, IsDeliverAnswer, HasRecordMore, HasRecordLeft}
-use Rattle.mdbox_top.specs.SavedMail.{AddedMail, LeftMail, TookMail, WroteMail}
+use Rattle.tasks_alone.specs.DeliveryAlone.{AreFirstNamed, undelivered_cause, attachment_octets, region_length, IsFileFor, IsSavedAs, IsSavedPlace, IsOutOfFiles, IsOutOfInstances, IsUncompared, IsDeliverAnswer, HasRecordMore, HasRecordLeft}
+use Rattle.tasks_alone.specs.SavedMail.{AddedMail, LeftMail, TookMail, WroteMail}
 use Rattle.script_run.proofs.CopyTaskLemmas.{memory_runs}
 use Rattle.script_run.proofs.OneTaskLemmas.{KeepsAlone, one_refusal, some_reply}
-use Rattle.mdbox_top.proofs.FirstLemmas.{AreFirstKnown, firsts_let_go, firsts_named, firsts_on}
-use Rattle.mdbox_top.proofs.SavedFormLemmas.{AttachedAs, attached_as, attaching_parts, ready_instances}
-use Rattle.mdbox_top.proofs.WroteLemmas.{AreAmong, added_among, added_none, added_on, compares_attachment, instances_on, places_attachment, took_mail, wrote_mail, wrote_on}
+use Rattle.tasks_alone.proofs.FirstLemmas.{AreFirstKnown, firsts_let_go, firsts_named, firsts_on}
+use Rattle.tasks_alone.proofs.SavedFormLemmas.{AttachedAs, attached_as, attaching_parts, ready_instances}
+use Rattle.tasks_alone.proofs.WroteLemmas.{AreAmong, added_among, added_none, added_on, compares_attachment, instances_on, places_attachment, took_mail, wrote_mail, wrote_on}
 use Rattle.lane_tasks.specs.Clause.{StaysOfRequest, TellsStore, progress_by}
 use Rattle.lane_tasks.specs.Tasks.{BeginsTask}
 use Rattle.lane_tasks.specs.declared.task.Task.{Task}

@@ -30,8 +30,8 @@ use Rattle.task_claims.specs.Leaving.{IsSameOrSynced}
 use Rattle.mail_save.proofs.MailFileLemmas.{synced_reads}
 use Rattle.mail_save.specs.MailFiles.{AddsInstance, HasAppended, TakesWithHeader, ReadsSameMail, WritesAttachment}
 use Rattle.mail_save.specs.declared.place.SavedAt.{SavedAt}
-use Rattle.mdbox_top.specs.DeliverRun.{WroteMessage}
-use Rattle.mdbox_top.specs.SavedMail.{AddsAttachments, AddsOnly, IsNewAttachment, ReadsBut, MailTook, MailWrote, AddedMail, TookMail, WroteMail}
+use Rattle.tasks_alone.specs.DeliveryAlone.{WroteMessage}
+use Rattle.tasks_alone.specs.SavedMail.{AddsAttachments, AddsOnly, IsNewAttachment, ReadsBut, MailTook, MailWrote, AddedMail, TookMail, WroteMail}
 
 -- ---- what is written
 

@@ -1,0 +1,4 @@
+pub mod DeliveryAlone
+pub mod FaultsAlone
+pub mod FetchAlone
+pub mod SavedMail
