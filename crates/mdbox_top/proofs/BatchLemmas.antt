@@ -242,7 +242,7 @@ safe_at lists None s = absurd s
 safe_at lists (Some h) s = record { store = s.store; entries = s.entries; by = s.safe }
 
 abbrev pub served_from : (script : Requests) (given : List Reply) (entries : List JournalEntry) (old new : Option History) (began now : Faults) (lists : Lists) → IsScriptDone script given entries old new began now → IsSettledFor lists old → WasServed script lists old new
-served_from script given entries old new began now lists d s = record { given = given; entries = entries; began = began; now = now; opened = d.leaves.opened; served = d.serves lists (d.shown lists (safe_at lists old s)) (λ reads. s) }
+served_from script given entries old new began now lists d s = record { given = given; entries = entries; began = began; now = now; opened = d.leaves.opened; served = d.serves lists (d.shown lists (safe_at lists old s)) (λ reads. inl s) }
 
 pub script_moments : (script : Requests) (given : List Reply) (entries : List JournalEntry) (old new : Option History) (began now : Faults) → IsScriptDone script given entries old new began now → ScriptMoments script old new
 script_moments script given entries old new began now d = λ lists s. inr (served_from script given entries old new began now lists d s)
@@ -251,7 +251,7 @@ pub script_rests : (script : Requests) (text : List ℕ) (given : List Reply) (e
     → ScriptRests script (IsOneOf (5 ∷ 6 ∷ 8 ∷ []) (status_of o)) began now old new
 script_rests script text given entries h k old new began now o d shows = λ none lists s.
     let was = served_from script given entries old new began now lists d s in
-    inr (was, was.served.settled (λ (c : HasStopped given). none (failed_printing text (map Some given) h k o shows (stopped_outcome given c)) ((d.faults (lists, λ reads. s)).stopped c)) s)
+    inr (was, was.served.settled (λ (c : HasStopped given). none (failed_printing text (map Some given) h k o shows (stopped_outcome given c)) ((d.faults (lists, λ reads. inl s)).stopped c)) s)
 
 -- ---- a store that was not opened
 

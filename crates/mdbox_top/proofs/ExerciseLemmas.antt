@@ -116,7 +116,7 @@ stopped_told given replies r same are stopped = ap (λ (rs : List (Option Reply)
 pub counted_rests : (script : Requests) (h k : Option (List ℕ)) (old new : Option History) (f g : Faults) (o : Outcome) → IsCountedUp script h k old new f g o → ScriptRests script (o ≡ outcome.DiskFault) f g old new
 counted_rests script h k old new f g o d = λ none lists s.
     let was = served_from script d.given d.journal old new f g lists d.done s in
-    inr (was, was.served.settled (λ (c : HasStopped d.given). none (d.told (stopped_any d.given c)) ((d.done.faults (lists, λ reads. s)).stopped c)) s)
+    inr (was, was.served.settled (λ (c : HasStopped d.given). none (d.told (stopped_any d.given c)) ((d.done.faults (lists, λ reads. inl s)).stopped c)) s)
 
 pub unopened_made_rests : (script : Requests) (old new : Option History) (f g : Faults) (why : OpenError) → IsUnopened why old new f g → ScriptRests script (opening_outcome why ≡ outcome.DiskFault) f g old new
 unopened_made_rests script old new f g why u = λ none lists s. inl (u.settled_again (λ e. none (ap opening_outcome e)) lists s)
