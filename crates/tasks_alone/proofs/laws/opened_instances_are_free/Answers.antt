@@ -2,4 +2,4 @@ use Rattle.tasks_alone.proofs.KnownFirstLemmas.{none_held}
 use Rattle.tasks_alone.proofs.laws.opened_instances_are_free.Goals as goal
 
 pub returns : goal.returns
-returns c = none_held
+returns g c = none_held
