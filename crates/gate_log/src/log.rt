@@ -117,6 +117,7 @@ impl GateLog {
         ensures unread { (D.faults disk.new).reads ≡ (D.faults disk.old).reads }
         ensures unfailed { OnOk result (NoFault (D.faults disk.old) (D.faults disk.new)) }
         ensures log { IsSameLog self.old self.new }
+        ensures further { OnOk result (self.new.end ≡ self.old.end + (length entry.now + 5)) }
     {
         let size = self.size_of(entry);
         self.append_many(disk, entry, &[size])
@@ -164,6 +165,7 @@ impl GateLog {
         ensures unread { (D.faults disk.new).reads ≡ (D.faults disk.old).reads }
         ensures unfailed { OnOk result (NoFault (D.faults disk.old) (D.faults disk.new)) }
         ensures log { IsSameLog self.old self.new }
+        ensures further { OnOk result (self.new.end ≡ self.old.end + (length octets.now + 5 * length lengths.now)) }
     {
         let size = lay_out(&mut self.buffer, octets, lengths);
         disk.write_at(self.name, self.end + 1, &self.buffer[..size])?;

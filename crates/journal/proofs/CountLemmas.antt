@@ -4,11 +4,13 @@ use Rattle.std.specs.Prelude.{◌≡◌, ◌≤◌, ◌+◌, ◌-◌, ◌==◌, 
 use Rattle.std.specs.Option.{option_map_or}
 use Rattle.std.proofs.Common.{sym, ◌∙◌, ap, arith}
 use Rattle.std.proofs.lemmas.List.Sums.{sum_by-cons, sum_by-append}
+use Rattle.mdbox_base.specs.declared.ids.BoxNo.{BoxNo}
 use Rattle.mdbox_base.specs.declared.ids.MapUid.{MapUid}
+use Rattle.mdbox_base.specs.declared.entries.MapCount.{MapCount}
 use Rattle.mdbox_base.specs.declared.entries.MapEntry.{MapEntry}
 use Rattle.mdbox_base.specs.declared.entries.MapEntry.TheVariants as entry
 use Rattle.model_lists.specs.Lists.{Lists, refs_of}
-use Rattle.model_meaning.specs.MapMeaning.{MapRecord, record_changed}
+use Rattle.model_meaning.specs.MapMeaning.{MapRecord, count_given, record_changed}
 use Rattle.list_machine.specs.Run.{BoxAppend, RunEvent, Run, and_then}
 use Rattle.journal.specs.Events.{uid_raised, begun_in, added_in, lowered_in, ended_in}
 use Rattle.journal.specs.ExactCounts.{IsBalanced, begun_so_far, ended, CountsAddUp}
@@ -82,6 +84,16 @@ removal_balances row event x owed taken e f g none same =
   where
     one : Bool → ℕ
     one t = cond t 1 0
+
+-- A deletion: the count falls by the references that leave.
+pub deletion_balances : (row : MapRecord) (mailbox : BoxNo) (amounts : List MapCount) (event : RunEvent) → event.map_entries ≡ entry.X mailbox amounts ∷ [] → event.box_entries ≡ [] → event.owes ≡ [] → count_given row.uid amounts 0 ≤ row.count
+    → IsBalanced row (record_changed (entry.X mailbox amounts) row) event (count_given row.uid amounts 0) 0
+deletion_balances row mailbox amounts event e f g le =
+    let b = begun_is row.uid event (entry.X mailbox amounts ∷ []) [] e g in
+    let d = ended_is row.uid event (entry.X mailbox amounts ∷ []) [] e f in
+    let p = sum_by-cons (λ (x : MapEntry). cond (raised_in row.uid x) 1 0) (entry.X mailbox amounts) [] in
+    let q = sum_by-cons (lowered_in row.uid) (entry.X mailbox amounts) [] in
+    omega (arith, b, d, p, q, le)
 
 -- ---- over a run
 

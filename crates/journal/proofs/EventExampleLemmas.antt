@@ -157,7 +157,7 @@ expunging = request.Expunge inbox (record { 0 = 1 })
 
 -- a copy whose message is expunged between its two events
 pub raises_count : IsEvent nothing_around nothing_around (before 0 second_run) lists_saved copying raise_event
-raises_count = went_on nothing_around nothing_around (before 0 second_run) lists_saved copying raise_event Last tt refl refl refl refl (_, (_, refl, refl), refl) (one_fits (before 0 second_run) (entry.U (record { 0 = 1 })) (_, refl, (lit≤ tt, lit≤ tt))) refl
+raises_count = went_on nothing_around nothing_around (before 0 second_run) lists_saved copying raise_event Last tt refl refl refl refl (_, _, refl, (_, refl, refl), refl) (one_fits (before 0 second_run) (entry.U (record { 0 = 1 })) (_, refl, (lit≤ tt, lit≤ tt))) refl
 
 pub removes_message : IsEvent nothing_around nothing_around (before 1 second_run) lists_saved expunging remove_event
 removes_message = went_on nothing_around nothing_around (before 1 second_run) lists_saved expunging remove_event GivesBack tt refl refl refl refl (_, _, refl, (_, refl, refl), refl) (All-nil _) refl

@@ -9,7 +9,7 @@ use Rattle.mdbox_base.specs.declared.replies.Refusal.TheVariants as refusal
 use Rattle.mdbox_base.specs.declared.replies.Reply.{Reply}
 use Rattle.mdbox_base.specs.declared.replies.Reply.TheVariants as reply
 use Rattle.model_lists.specs.Lists.{Lists}
-use Rattle.list_machine.specs.Run.{EventPart, First, Compares, PlacesInstance, TakesFile, PlacesMessage, StoresRecord, Last, SecondHalf, GivesBack, StartsOver, ReadsPiece, Unpins, RemovesFile, MakesTarget, CopiesMessage, Switches, RemovesInstance, ReadsFile, RunEvent, Run, and_then, own_events}
+use Rattle.list_machine.specs.Run.{EventPart, First, Compares, PlacesInstance, TakesFile, PlacesMessage, StoresRecord, Last, SecondHalf, GivesBack, StartsOver, RemovesLog, ReadsPiece, Unpins, RemovesFile, MakesTarget, CopiesMessage, Switches, RemovesInstance, ReadsFile, RunEvent, Run, and_then, own_events}
 use Rattle.journal.specs.Journal.{refusal_in}
 use Rattle.journal.specs.Events.{Around, behind_addition, behind_piece, behind_refused, behind_event, last_refusal, IsRepliedBy, IsEvent}
 
@@ -24,6 +24,7 @@ addition_ends Last = refl
 addition_ends SecondHalf = refl
 addition_ends GivesBack = refl
 addition_ends StartsOver = refl
+addition_ends RemovesLog = refl
 addition_ends ReadsPiece = refl
 addition_ends Unpins = refl
 addition_ends RemovesFile = refl
@@ -44,6 +45,7 @@ piece_ends Last = refl
 piece_ends SecondHalf = refl
 piece_ends GivesBack = refl
 piece_ends StartsOver = refl
+piece_ends RemovesLog = refl
 piece_ends ReadsPiece = refl
 piece_ends Unpins = refl
 piece_ends RemovesFile = refl
@@ -62,6 +64,8 @@ refused_ends (request.Copy name uid target) part = addition_ends part
 refused_ends (request.Move name uid target) part = addition_ends part
 refused_ends (request.Expunge name uid) part = refl
 refused_ends (request.Make name) part = refl
+refused_ends (request.Delete name) part = refl
+refused_ends (request.Rename name target) part = refl
 refused_ends request.Counts part = refl
 refused_ends request.Purge part = refl
 refused_ends request.Resync part = refl

@@ -1,6 +1,7 @@
 -- The events of each request: what stands behind what, and what each one does.
 use Rattle.std.specs.Prelude.{◌≡◌, ◌≢◌, ◌≤◌, ◌<◌, ◌↔◌, ◌+◌, ◌-◌, ◌/◌, ◌==◌, ◌&&◌, ◌||◌, nat_lt, nat_le, ℕ, Bool, true, false, not, List, [], ◌∷◌, ◌++◌, length, map, filter, find, flat_map, sum_by, count_by, slice_get, if◌then◌else◌, Option, Some, None, IsTrue, Contains, ◌⊎◌, All, is_some, is_none, option_map}
 use Rattle.std.specs.List.{list_any}
+use Rattle.std.specs.Str.{bytes_eq}
 use Rattle.std.specs.Option.{IfSome, option_map_or, option_or}
 use Rattle.mdbox_base.specs.declared.ids.MapUid.{MapUid}
 use Rattle.mdbox_base.specs.declared.entries.Highest.{Highest}
@@ -17,11 +18,11 @@ use Rattle.mdbox_base.specs.declared.replies.Refusal.{Refusal}
 use Rattle.mdbox_base.specs.declared.replies.Refusal.TheVariants as refusal
 use Rattle.mdbox_base.specs.declared.replies.Reply.{Reply}
 use Rattle.model_lists.specs.Lists.{ListedMessage, Mailbox, Lists, refs_of}
-use Rattle.model_meaning.specs.MapMeaning.{MapMeaning, MapRecord, record_of, no_numbers, guid_file, instance_number, number_at}
+use Rattle.model_meaning.specs.MapMeaning.{MapMeaning, MapRecord, record_of, box_named, count_given, no_numbers, guid_file, instance_number, number_at}
 use Rattle.model_meaning.specs.MapFits.{MapFits, HasRecord}
-use Rattle.list_machine.specs.Run.{EventPart, First, Compares, PlacesInstance, TakesFile, PlacesMessage, StoresRecord, Last, SecondHalf, GivesBack, StartsOver, ReadsPiece, Unpins, RemovesFile, MakesTarget, CopiesMessage, Switches, RemovesInstance, ReadsFile, BoxAppend, TakenFile, RunEvent, event_of, Run, and_then, map_of, drawn_of, own_events, reply_of, with_targets, is_copied_from, first_in, map_uid_in, is_one_of, is_pinned, is_doomed}
+use Rattle.list_machine.specs.Run.{EventPart, First, Compares, PlacesInstance, TakesFile, PlacesMessage, StoresRecord, Last, SecondHalf, GivesBack, StartsOver, RemovesLog, ReadsPiece, Unpins, RemovesFile, MakesTarget, CopiesMessage, Switches, RemovesInstance, ReadsFile, BoxAppend, TakenFile, RunEvent, event_of, Run, and_then, map_of, drawn_of, own_events, reply_of, source_of, uid_copied, with_targets, is_copied_from, first_in, last_in, map_uid_in, is_one_of, is_pinned, is_doomed}
 use Rattle.model_mime.specs.Parts.{parts_in}
-use Rattle.list_machine.specs.Machine.{mailbox_named, message_at, is_step, first_refusal, checks_of}
+use Rattle.list_machine.specs.Machine.{mailbox_named, message_at, message_numbered, is_step, first_refusal, checks_of}
 use Rattle.journal.specs.Journal.{Requests, refusal_in}
 
 -- What an event finds as it begins that stands in no list, in no entry and in no earlier event: in the files, and in what
@@ -61,17 +62,23 @@ behind_make overtaken First = if overtaken then Some StartsOver else Some Last
 behind_make overtaken StartsOver = Some First
 behind_make overtaken part = None
 
--- A copy raises the count and adds the message. A move then removes it from its source, where it is still there, and
--- lowers the count.
-abbrev pub behind_copy : EventPart → Option EventPart
-behind_copy First = Some Last
-behind_copy part = None
+-- A copy raises the count and adds the message. If its source's name names another mailbox by then, it gives the count back
+-- and begins again. A move then removes the message from its source, where it is still there, and lowers the count.
+abbrev pub behind_copy : Bool → Bool → EventPart → Option EventPart
+behind_copy elsewhere ends First = if elsewhere then Some StartsOver else Some Last
+behind_copy elsewhere ends StartsOver = Some GivesBack
+behind_copy elsewhere ends GivesBack = if ends then None else Some First
+behind_copy elsewhere ends part = None
 
-abbrev pub behind_move : RunEvent → EventPart → Option EventPart
-behind_move event First = Some Last
-behind_move event Last = Some SecondHalf
-behind_move event SecondHalf = if nat_lt 0 (length event.box_entries) then Some GivesBack else None
-behind_move event part = None
+abbrev pub behind_move : Bool → Bool → RunEvent → EventPart → Option EventPart
+behind_move elsewhere ends event Last = Some SecondHalf
+behind_move elsewhere ends event SecondHalf = if nat_lt 0 (length event.box_entries) then Some GivesBack else None
+behind_move elsewhere ends event part = behind_copy elsewhere ends part
+
+-- A deletion removes the mailbox from the map, and then its log.
+abbrev pub behind_delete : EventPart → Option EventPart
+behind_delete First = Some RemovesLog
+behind_delete part = None
 
 abbrev pub behind_expunge : EventPart → Option EventPart
 behind_expunge First = Some GivesBack
@@ -158,12 +165,26 @@ number_of run request = number_drawn request 0 run.opened.mailbox run.events
 abbrev pub is_overtaken : Run → ℕ → Bool
 is_overtaken run request = nat_le (number_of run request) (map_of run).highest.mailbox
 
+-- the name of a copy's source names another mailbox than as the copy began last
+abbrev pub is_elsewhere : Run → ℕ → List ℕ → Bool
+is_elsewhere run request name = option_map_or (λ box. not (box.number == source_of request run)) (box_named (map_of run) name) false
+
+-- A reply is a refusal if and only if an event of the request was refused, and then it is the last such refusal.
+abbrev pub last_refusal : List RunEvent → Option Refusal
+last_refusal [] = None
+last_refusal (event ∷ rest) = option_or (last_refusal rest) event.refused
+
+-- A count that is given back ends a copy whose addition was refused, and a move that has added its message.
+abbrev pub ends_with_count : Run → ℕ → Bool
+ends_with_count run request = is_some (uid_copied request run) || is_some (last_refusal (own_events request run))
+
 -- The part behind an event that did its own: none where the request is answered.
 abbrev pub part_behind : Around → Run → Request → RunEvent → Option EventPart
 part_behind around run (request.Deliver name time octets) event = behind_delivery around run event event.part
 part_behind around run (request.Make name) event = behind_make (is_overtaken run event.request) event.part
-part_behind around run (request.Copy name uid target) event = behind_copy event.part
-part_behind around run (request.Move name uid target) event = behind_move event event.part
+part_behind around run (request.Copy name uid target) event = behind_copy (is_elsewhere run event.request name) (ends_with_count run event.request) event.part
+part_behind around run (request.Move name uid target) event = behind_move (is_elsewhere run event.request name) (ends_with_count run event.request) event event.part
+part_behind around run (request.Delete name) event = behind_delete event.part
 part_behind around run (request.Expunge name uid) event = behind_expunge event.part
 part_behind around run (request.Fetch name uid) event = behind_fetch run event event.part
 part_behind around run request.Purge event = behind_purge around run event event.part
@@ -175,6 +196,8 @@ part_behind around run request event = None
 abbrev pub behind_addition : EventPart → Refusal → Option EventPart
 behind_addition Last refusal.Stopped = None
 behind_addition Last refused = Some GivesBack
+behind_addition StartsOver refusal.Stopped = None
+behind_addition StartsOver refused = Some GivesBack
 behind_addition part refused = None
 
 abbrev pub behind_piece : EventPart → Refusal → Option EventPart
@@ -219,14 +242,14 @@ draws run event (request.Deliver name time octets) StoresRecord = record no_numb
 draws run event request.Purge First = record no_numbers { file = length (with_targets (map_of run) event.files) }
 draws run event request part = no_numbers
 
--- the record that a request holds: that whose count it raised, or that it stored
+-- the record that a request holds: that whose count it raised last, or that it stored
 abbrev pub uid_raised : MapEntry → Option ℕ
 uid_raised (entry.U uid) = Some uid.0
 uid_raised (entry.S origin count uid file offset size guid instances) = Some uid.0
 uid_raised other = None
 
 abbrev pub uid_held : ℕ → Run → Option ℕ
-uid_held request run = first_in uid_raised (flat_map (λ e. e.map_entries) (own_events request run))
+uid_held request run = last_in uid_raised (flat_map (λ e. e.map_entries) (own_events request run))
 
 -- the record of a listed message
 abbrev pub IsRecord : Run → Lists → List ℕ → ℕ → MapRecord → Type 0
@@ -245,9 +268,12 @@ Removes run lists name uid event =
     (mailbox : Mailbox) × (row : MapRecord) × (mailbox_named name lists ≡ Some mailbox) × IsRecord run lists name uid row
     × (event ≡ record (plain event) { box_entries = adds_to mailbox (box.R (record { 0 = uid })); owes = row.uid ∷ [] })
 
-abbrev pub RemovesIfThere : Run → Lists → List ℕ → ℕ → RunEvent → Option ListedMessage → Type 0
-RemovesIfThere run lists name uid event None = event ≡ plain event
-RemovesIfThere run lists name uid event (Some message) = Removes run lists name uid event
+-- the message is removed from the mailbox with this number, where it is there
+abbrev pub RemovesIfThere : Run → ℕ → ℕ → RunEvent → Option ListedMessage → Type 0
+RemovesIfThere run number uid event None = event ≡ plain event
+RemovesIfThere run number uid event (Some message) =
+    (row : MapRecord) × (record_of (map_of run) message.guid ≡ Some row)
+    × (event ≡ record (plain event) { box_entries = record { mailbox = number; entry = box.R (record { 0 = uid }) } ∷ []; owes = row.uid ∷ [] })
 
 -- a message is added with the next UID, of the record that the request holds
 abbrev pub Adds : Run → Lists → List ℕ → RunEvent → ListedMessage → Type 0
@@ -267,8 +293,10 @@ owed_by request run = first_in (λ uid. Some uid) (flat_map (λ e. e.owes) (own_
 -- What the events of a copy do, or of the first half of a move.
 abbrev pub DidCopy : Run → Lists → List ℕ → ℕ → List ℕ → RunEvent → EventPart → Type 0
 DidCopy run lists name uid target event First =
-    (row : MapRecord) × IsRecord run lists name uid row × (event ≡ record (plain event) { map_entries = entry.U (record { 0 = row.uid }) ∷ [] })
+    (mailbox : Mailbox) × (row : MapRecord) × (mailbox_named name lists ≡ Some mailbox) × IsRecord run lists name uid row
+    × (event ≡ record (plain event) { map_entries = entry.U (record { 0 = row.uid }) ∷ []; source = mailbox.number })
 DidCopy run lists name uid target event Last = (message : ListedMessage) × (message_at name uid lists ≡ Some message) × Adds run lists target event message
+DidCopy run lists name uid target event StartsOver = event ≡ plain event
 DidCopy run lists name uid target event GivesBack = Lowers (uid_held event.request run) event
 DidCopy run lists name uid target event part = ⊥
 
@@ -398,6 +426,23 @@ DidFetch run lists name uid event RemovesFile =
     × (event ≡ record (plain event) { removed = file ∷ [] })
 DidFetch run lists name uid event part = event ≡ plain event
 
+-- The counts fall, of each record that the mailbox lists, by as much as it lists of it; and of no other, since each amount is 1 at least.
+abbrev pub AreListings : Run → Mailbox → List MapCount → Type 0
+AreListings run mailbox amounts =
+    (row : MapRecord) → Contains (map_of run).records row → count_given row.uid amounts 0 ≡ count_by (λ message. bytes_eq message.guid row.guid) mailbox.messages
+
+-- What the events of a deletion do, and that of a renaming.
+abbrev pub DidDelete : Run → Lists → List ℕ → RunEvent → EventPart → Type 0
+DidDelete run lists name event First =
+    (mailbox : Mailbox) × (amounts : List MapCount) × (mailbox_named name lists ≡ Some mailbox) × AreListings run mailbox amounts
+    × (event ≡ record (plain event) { map_entries = entry.X (record { 0 = mailbox.number }) amounts ∷ [] })
+DidDelete run lists name event part = event ≡ plain event
+
+abbrev pub DidRename : Lists → List ℕ → List ℕ → RunEvent → EventPart → Type 0
+DidRename lists name target event First =
+    (mailbox : Mailbox) × (mailbox_named name lists ≡ Some mailbox) × (event ≡ record (plain event) { map_entries = entry.V (record { 0 = mailbox.number }) target ∷ [] })
+DidRename lists name target event part = event ≡ plain event
+
 -- What an event did that wasn't refused, and that it did nothing else.
 abbrev pub DidPart : Around → Run → Lists → Request → RunEvent → EventPart → Type 0
 DidPart around run lists (request.Deliver name time octets) event part = DidDeliver around run lists name time octets event part
@@ -406,10 +451,12 @@ DidPart around run lists (request.Flag name uid flags) event First =
 DidPart around run lists (request.Expunge name uid) event First = Removes run lists name uid.0 event
 DidPart around run lists (request.Expunge name uid) event GivesBack = Lowers (owed_by event.request run) event
 DidPart around run lists (request.Move name uid target) event SecondHalf =
-    RemovesIfThere run lists name uid.0 event (message_at name uid.0 lists)
+    RemovesIfThere run (source_of event.request run) uid.0 event (message_numbered (source_of event.request run) uid.0 lists)
 DidPart around run lists (request.Move name uid target) event part = DidCopy run lists name uid.0 target event part
 DidPart around run lists (request.Copy name uid target) event part = DidCopy run lists name uid.0 target event part
 DidPart around run lists (request.Make name) event part = DidMake run name event part
+DidPart around run lists (request.Delete name) event part = DidDelete run lists name event part
+DidPart around run lists (request.Rename name target) event part = DidRename lists name target event part
 DidPart around run lists (request.Fetch name uid) event part = DidFetch run lists name uid.0 event part
 DidPart around run lists request.Purge event part = DidPurge around run event part
 DidPart around run lists request.Resync event part = DidResync around run lists event part
@@ -429,6 +476,8 @@ is_step_part (request.Copy name uid target) Last = true
 is_step_part (request.Move name uid target) Last = true
 is_step_part (request.Move name uid target) SecondHalf = true
 is_step_part (request.Make name) Last = true
+is_step_part (request.Delete name) First = true
+is_step_part (request.Rename name target) First = true
 is_step_part request.Purge Last = true
 is_step_part request.Resync Last = true
 is_step_part request part = false
@@ -454,6 +503,7 @@ abbrev pub has_memory : EventPart → Request → Bool
 has_memory SecondHalf request = true
 has_memory GivesBack request = true
 has_memory StartsOver request = true
+has_memory RemovesLog request = true
 has_memory ReadsPiece request = true
 has_memory Unpins request = true
 has_memory RemovesFile request = true
@@ -486,11 +536,6 @@ is_fault refused = false
 
 abbrev pub is_faulted : RunEvent → Bool
 is_faulted event = is_fault event.refused
-
--- A reply is a refusal if and only if an event of the request was refused, and then it is the last such refusal.
-abbrev pub last_refusal : List RunEvent → Option Refusal
-last_refusal [] = None
-last_refusal (event ∷ rest) = option_or (last_refusal rest) event.refused
 
 abbrev pub IsRepliedBy : List RunEvent → Option Reply → Type 0
 IsRepliedBy own None = Unit {0}

@@ -58,7 +58,7 @@ all_added run script old (step ∷ steps) guid s = refs_added old s.0.asked.1 s.
 
 abbrev pub all_taken : (run : Run) (script : Requests) (old : Lists) (steps : List JournalStep) → List ℕ → AreSteps run script old steps → ℕ
 all_taken run script old [] guid s = 0
-all_taken run script old (step ∷ steps) guid s = refs_taken old s.0.asked.1 s.0.event.part step.answer guid + all_taken run script step.left steps guid s.1
+all_taken run script old (step ∷ steps) guid s = refs_taken (before step.event run) s.0.event old s.0.asked.1 s.0.event.part step.answer guid + all_taken run script step.left steps guid s.1
 
 -- What a request alone replies, where it is neither a move nor stopped by memory, a fault or damage, is what the machine
 -- answers on the lists at the start, at an event of the run.

@@ -97,7 +97,7 @@ abbrev pub lists_left : Lists
 lists_left = mailbox 1 inbox 2 [] ∷ []
 
 abbrev pub raise_event : RunEvent
-raise_event = record (event_of 1 0 First 4) { map_entries = map.U (record { 0 = 1 }) ∷ [] }
+raise_event = record (event_of 1 0 First 4) { map_entries = map.U (record { 0 = 1 }) ∷ []; source = 1 }
 
 abbrev pub remove_event : RunEvent
 remove_event = record (event_of 2 1 First 8) { box_entries = record { mailbox = 1; entry = box.R (record { 0 = 1 }) } ∷ []; owes = 1 ∷ [] }
@@ -153,8 +153,8 @@ third_run = record {
   start = example_made ∷ map.B (record { 0 = 2 }) 1 a_box ∷ map.B (record { 0 = 3 }) 1 b_box ∷ stored ∷ [];
   opened = record { file = 1; map = 1; instance = 0; mailbox = 3 };
   barred = [];
-  events = record (event_of 1 0 First 4) { map_entries = map.U (record { 0 = 1 }) ∷ [] }
-      ∷ record (event_of 2 1 First 8) { map_entries = map.U (record { 0 = 1 }) ∷ [] }
+  events = record (event_of 1 0 First 4) { map_entries = map.U (record { 0 = 1 }) ∷ []; source = 1 }
+      ∷ record (event_of 2 1 First 8) { map_entries = map.U (record { 0 = 1 }) ∷ []; source = 1 }
       ∷ added 2 (event_of 1 0 Last 12)
       ∷ added 3 (event_of 2 1 Last 16)
       ∷ record (event_of 1 0 SecondHalf 20) { box_entries = record { mailbox = 1; entry = box.R (record { 0 = 1 }) } ∷ []; owes = 1 ∷ [] }

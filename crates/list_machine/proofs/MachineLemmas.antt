@@ -1,5 +1,5 @@
 -- Laws of the list machine: references, and that a refusal changes nothing.
-use Rattle.std.specs.Prelude.{◌≡◌, ◌+◌, ℕ, Bool, true, false, List, [], ◌∷◌, find, sum_by, cond, if◌then◌else◌, Option, Some, None, is_none, refl}
+use Rattle.std.specs.Prelude.{◌≡◌, ◌+◌, ℕ, Bool, true, false, List, [], ◌∷◌, find, sum_by, cond, if◌then◌else◌, Option, Some, None, is_none, option_and_then, refl}
 use Rattle.std.specs.Option.{option_or}
 use Rattle.std.specs.Str.{bytes_eq}
 use Rattle.std.proofs.Common.{sym, ◌∙◌, ap, arith}
@@ -8,11 +8,11 @@ use Rattle.model_lists.specs.Lists.{ListedMessage, Mailbox, Lists, refs_of, empt
 use Rattle.mdbox_base.specs.declared.requests.Request.{Request}
 use Rattle.mdbox_base.specs.declared.requests.Request.TheVariants as request
 use Rattle.mdbox_base.specs.declared.replies.Refusal.{Refusal}
-use Rattle.mdbox_base.specs.declared.replies.Refusal.TheVariants.{NoMailbox, Exists, NoMessage, TooManyCopies, MailboxFull, TooManyMailboxes, StoreFull}
+use Rattle.mdbox_base.specs.declared.replies.Refusal.TheVariants.{NoMailbox, Inbox, Exists, NoMessage, TooManyCopies, MailboxFull, TooManyMailboxes, StoreFull}
 use Rattle.mdbox_base.specs.declared.replies.Reply.{Reply}
 use Rattle.mdbox_base.specs.declared.replies.Reply.TheVariants as reply
-use Rattle.list_machine.specs.Run.{EventPart, First, Last, SecondHalf, RunEvent, Run}
-use Rattle.list_machine.specs.Machine.{Check, HasMailbox, IsNewName, HasUid, RoomForMailbox, RoomForMessage, NextUid, NextMapUid, NextFiles, TargetFits, NextInstance, NextMailbox, MayBeCopied, refused_where, refusal_at, is_step, Answers, Does, IsCopied, IsDelivered, IsMade, IsSecondHalf, checks_of, first_refusal, refs_added, refs_taken, without_first, has_name, is_message_of_uid, mailbox_named, message_at, set_flags, expunge, add_last, add_message, one_of_guid}
+use Rattle.list_machine.specs.Run.{EventPart, First, Last, SecondHalf, RunEvent, Run, source_of}
+use Rattle.list_machine.specs.Machine.{Check, HasMailbox, IsNotInbox, IsNewName, HasUid, RoomForMailbox, RoomForMessage, NextUid, NextMapUid, NextFiles, TargetFits, NextInstance, NextMailbox, MayBeCopied, refused_where, refusal_at, is_step, Answers, Does, IsCopied, IsDelivered, IsMade, IsSecondHalf, checks_of, first_refusal, refs_added, refs_taken, refs_within, without_first, has_name, is_message_of_uid, mailbox_named, message_at, message_in, message_numbered, set_flags, expunge, expunge_from, delete_mailbox, rename_mailbox, has_number, add_last, add_message, one_of_guid}
 
 -- what a change of the first that passes does to a sum
 sum_change : {X : Type 0} → (f : X → ℕ) (test : X → Bool) (change : X → X) (more less : ℕ) (xs : List X) → ((x : X) → find test xs ≡ Some x → f (change x) + less ≡ f x + more) →
@@ -71,11 +71,26 @@ refs_added_last old name message mailbox guid here =
 one_is_of : (guid : List ℕ) (message : ListedMessage) → one_of_guid guid (Some message) ≡ of_guid guid message
 one_is_of guid message = refl
 
-pub refs_expunged : (old : Lists) (name : List ℕ) (uid : ℕ) (guid : List ℕ) → refs_of (expunge name uid old) guid + one_of_guid guid (message_at name uid old) ≡ refs_of old guid
-refs_expunged old name uid guid =
-    let h = sum_change (refs_in guid) (has_name name) (λ (mailbox : Mailbox). record mailbox { messages = without_first (is_message_of_uid uid) mailbox.messages }) 0 (one_of_guid guid (message_at name uid old)) old
-    (λ m e. let k = sum_without (of_guid guid) (is_message_of_uid uid) (one_of_guid guid (message_at name uid old)) m.messages
+refs_expunged_by : (test : Mailbox → Bool) (old : Lists) (uid : ℕ) (guid : List ℕ)
+    → refs_of (change_first test (λ mailbox. record mailbox { messages = without_first (is_message_of_uid uid) mailbox.messages }) old) guid + one_of_guid guid (option_and_then (message_in uid) (find test old)) ≡ refs_of old guid
+refs_expunged_by test old uid guid =
+    let found : Option ListedMessage = option_and_then (message_in uid) (find test old) in
+    let h = sum_change (refs_in guid) test (λ (mailbox : Mailbox). record mailbox { messages = without_first (is_message_of_uid uid) mailbox.messages }) 0 (one_of_guid guid found) old
+    (λ m e. let k = sum_without (of_guid guid) (is_message_of_uid uid) (one_of_guid guid found) m.messages
     (λ x f. rw (e, f) refl) (λ f. rw (e, f) refl) in omega (arith, k)) (λ e. rw e refl) in
+    omega (arith, h)
+
+pub refs_expunged : (old : Lists) (name : List ℕ) (uid : ℕ) (guid : List ℕ) → refs_of (expunge name uid old) guid + one_of_guid guid (message_at name uid old) ≡ refs_of old guid
+refs_expunged old name uid guid = refs_expunged_by (has_name name) old uid guid
+
+-- a mailbox with all that it lists
+refs_deleted : (old : Lists) (name guid : List ℕ) → refs_of (delete_mailbox name old) guid + refs_within guid (mailbox_named name old) ≡ refs_of old guid
+refs_deleted old name guid = sum_without (refs_in guid) (has_name name) (refs_within guid (mailbox_named name old)) old (λ m e. rw e refl) (λ e. rw e refl)
+
+-- names are no matter
+refs_renamed : (old : Lists) (name target guid : List ℕ) → refs_of (rename_mailbox name target old) guid ≡ refs_of old guid
+refs_renamed old name target guid =
+    let h = sum_change (refs_in guid) (has_name name) (λ (mailbox : Mailbox). record mailbox { name = target }) 0 0 old (λ m e. refl) (λ e. refl) in
     omega (arith, h)
 
 same_lists : (old new : Lists) (guid : List ℕ) → new ≡ old → refs_of new guid + 0 ≡ refs_of old guid + 0
@@ -102,24 +117,24 @@ made_refs run event old new name guid m =
     let n = ap (λ (lists : Lists). refs_of lists guid) m.new_is in
     omega (arith, k, n)
 
-half_refs : (old new : Lists) (name : List ℕ) (uid : ℕ) (gone : Bool) (guid : List ℕ) → IsSecondHalf old name uid gone new →
-    refs_of new guid + one_of_guid guid (message_at name uid old) ≡ refs_of old guid + 0
-half_refs old new name uid true guid h =
-    let e : one_of_guid guid (message_at name uid old) ≡ 0 = by_none (message_at name uid old) h.0 in
+half_refs : (old new : Lists) (number : ℕ) (uid : ℕ) (gone : Bool) (guid : List ℕ) → IsSecondHalf old number uid gone new →
+    refs_of new guid + one_of_guid guid (message_numbered number uid old) ≡ refs_of old guid + 0
+half_refs old new number uid true guid h =
+    let e : one_of_guid guid (message_numbered number uid old) ≡ 0 = by_none (message_numbered number uid old) h.0 in
     let n : refs_of new guid ≡ refs_of old guid = ap (λ (lists : Lists). refs_of lists guid) h.1 in
     omega (arith, e, n)
   where
     by_none : (o : Option ListedMessage) → true ≡ is_none o → one_of_guid guid o ≡ 0
     by_none None e = refl
     by_none (Some m) e = cc e
-half_refs old new name uid false guid h =
-    let k = refs_expunged old name uid guid in
+half_refs old new number uid false guid h =
+    let k = refs_expunged_by (has_number number) old uid guid in
     let n = ap (λ (lists : Lists). refs_of lists guid) h.1 in
     omega (arith, k, n)
 
 -- What a step does to the references of each GUID, where it isn't refused.
 does_refs : (run : Run) (event : RunEvent) (old : Lists) (q : Request) (part : EventPart) (r : Reply) (new : Lists) (guid : List ℕ) → Does run event old q part r new →
-    refs_of new guid + refs_taken old q part r guid ≡ refs_of old guid + refs_added old q part r guid
+    refs_of new guid + refs_taken run event old q part r guid ≡ refs_of old guid + refs_added old q part r guid
 does_refs run event old (request.List name) First (reply.Listed rows) new guid d = same_lists old new guid d.3
 does_refs run event old (request.Fetch name uid) First (reply.Fetched octets) new guid d = same_lists old new guid d.3
 does_refs run event old (request.Flag name uid flags) First reply.Done new guid d =
@@ -128,18 +143,23 @@ does_refs run event old (request.Make name) Last reply.Done new guid d = made_re
 does_refs run event old (request.Deliver name time octets) Last (reply.Saved uid own) new guid d = delivered_refs run event old new name time octets uid.0 own.0 guid d
 does_refs run event old (request.Copy name uid target) Last (reply.Copied given) new guid d = copied_refs old new name uid.0 target given.0 guid d
 does_refs run event old (request.Move name uid target) Last (reply.Copied given) new guid d = copied_refs old new name uid.0 target given.0 guid d
-does_refs run event old (request.Move name uid target) SecondHalf (reply.Moved given gone) new guid d = half_refs old new name uid.0 gone guid d.1
+does_refs run event old (request.Move name uid target) SecondHalf (reply.Moved given gone) new guid d = half_refs old new (source_of event.request run) uid.0 gone guid d.1
 does_refs run event old (request.Expunge name uid) First reply.Done new guid d =
     let k = refs_expunged old name uid.0 guid in let n = ap (λ (lists : Lists). refs_of lists guid) d in omega (arith, k, n)
+does_refs run event old (request.Delete name) First reply.Done new guid d =
+    let k = refs_deleted old name guid in let n = ap (λ (lists : Lists). refs_of lists guid) d in omega (arith, k, n)
+does_refs run event old (request.Rename name target) First reply.Done new guid d =
+    let k = refs_renamed old name target guid in let n = ap (λ (lists : Lists). refs_of lists guid) d in omega (arith, k, n)
 does_refs run event old request.Counts First (reply.Counted records references counts instances) new guid d = same_lists old new guid d.1
 does_refs run event old (request.Purge) Last (reply.Purged dropped files instances) new guid d = same_lists old new guid d.1
 does_refs run event old (request.Resync) Last (reply.Resynced corrected damaged) new guid d = same_lists old new guid d.1
 does_refs run event old q part r new guid d = absurd d
 
-refused_taken : (old : Lists) (q : Request) (part : EventPart) (refusal : Refusal) (guid : List ℕ) → refs_taken old q part (reply.Refused refusal) guid ≡ 0
-refused_taken old (request.Expunge name uid) First refusal guid = refl
-refused_taken old (request.Move name uid target) SecondHalf refusal guid = refl
-refused_taken old q part refusal guid = refl
+refused_taken : (run : Run) (event : RunEvent) (old : Lists) (q : Request) (part : EventPart) (refusal : Refusal) (guid : List ℕ) → refs_taken run event old q part (reply.Refused refusal) guid ≡ 0
+refused_taken run event old (request.Expunge name uid) First refusal guid = refl
+refused_taken run event old (request.Move name uid target) SecondHalf refusal guid = refl
+refused_taken run event old (request.Delete name) First refusal guid = refl
+refused_taken run event old q part refusal guid = refl
 
 refused_added : (old : Lists) (q : Request) (part : EventPart) (refusal : Refusal) (guid : List ℕ) → refs_added old q part (reply.Refused refusal) guid ≡ 0
 refused_added old (request.Deliver name time octets) Last refusal guid = refl
@@ -149,10 +169,10 @@ refused_added old q part refusal guid = refl
 
 -- What a step does to the references of each GUID.
 pub answers_refs : (run : Run) (old : Lists) (q : Request) (event : RunEvent) (r : Reply) (new : Lists) (guid : List ℕ) → Answers run old q event r new →
-    refs_of new guid + refs_taken old q event.part r guid ≡ refs_of old guid + refs_added old q event.part r guid
+    refs_of new guid + refs_taken run event old q event.part r guid ≡ refs_of old guid + refs_added old q event.part r guid
 answers_refs run old q event (reply.Refused refusal) new guid a =
     let same = same_lists old new guid a.1 in
-    rw (refused_taken old q event.part refusal guid, refused_added old q event.part refusal guid) same
+    rw (refused_taken run event old q event.part refusal guid, refused_added old q event.part refusal guid) same
 answers_refs run old q event r new guid a = does_refs run event old q event.part r new guid a.1
 
 -- A refusal changes no list.
@@ -166,6 +186,7 @@ refused_so false x r h e = absurd (let z : None ≡ Some r = e in cc z)
 
 check_refusal : (run : Run) (old : Lists) (check : Check) (refusal : Refusal) → refusal_at run old check ≡ Some refusal → is_step refusal ≡ true
 check_refusal run old (HasMailbox name) r e = refused_so _ NoMailbox r refl e
+check_refusal run old (IsNotInbox name) r e = refused_so _ Inbox r refl e
 check_refusal run old (IsNewName name) r e = refused_so _ Exists r refl e
 check_refusal run old (HasUid name uid) r e = refused_so _ NoMessage r refl e
 check_refusal run old RoomForMailbox r e = refused_so _ (TooManyMailboxes 1024) r refl e

@@ -14,8 +14,8 @@ use Rattle.mdbox_base.specs.declared.replies.Refusal.TheVariants.{Exists, StoreF
 use Rattle.mdbox_base.specs.declared.replies.Reply.{Reply}
 use Rattle.mdbox_base.specs.declared.replies.Reply.TheVariants as reply
 use Rattle.model_lists.specs.Lists.{ListedMessage, Mailbox, Lists, IsMessageInRange, IsMailboxInOrder, AreWellFormed, empty_mailbox, change_first}
-use Rattle.list_machine.specs.Run.{EventPart, First, Last, SecondHalf, RunEvent, Run}
-use Rattle.list_machine.specs.Machine.{HasMailbox, IsNewName, HasUid, RoomForMailbox, RoomForMessage, NextUid, refused_where, refusal_at, first_refusal, part_checks, Answers, Does, RequestInRange, IsCopied, IsDelivered, IsMade, IsSecondHalf, without_first, has_name, is_message_of_uid, mailbox_named, message_in, message_at, set_flags, expunge, add_last, add_message}
+use Rattle.list_machine.specs.Run.{EventPart, First, Last, SecondHalf, RunEvent, Run, source_of}
+use Rattle.list_machine.specs.Machine.{HasMailbox, IsNotInbox, IsNewName, HasUid, RoomForMailbox, RoomForMessage, NextUid, refused_where, refusal_at, first_refusal, part_checks, Answers, Does, RequestInRange, IsCopied, IsDelivered, IsMade, IsSecondHalf, without_first, has_name, has_number, is_message_of_uid, mailbox_named, message_in, message_at, set_flags, expunge, expunge_from, delete_mailbox, rename_mailbox, add_last, add_message}
 use Rattle.list_machine.proofs.MachineLemmas.{some_one}
 use Rattle.model_octets.proofs.PairLemmas.{found_among, pairs_nil, pairs_head, pairs_tail, pairs_push}
 
@@ -150,10 +150,53 @@ flagged_well lists name uid flags le w =
     changed_well lists (has_name name) (λ (mailbox : Mailbox). record mailbox { messages = change_first (is_message_of_uid uid) (λ message. record message { flags = flags }) mailbox.messages })
     (record { name = λ m. refl; number = λ m. refl; order = λ m e o. flagged_in_order m uid flags le o }) w
 
-expunged_well : (lists : Lists) (name : List ℕ) (uid : ℕ) → AreWellFormed lists → AreWellFormed (expunge name uid lists)
-expunged_well lists name uid w =
-    changed_well lists (has_name name) (λ (mailbox : Mailbox). record mailbox { messages = without_first (is_message_of_uid uid) mailbox.messages })
+expunged_well : (lists : Lists) (test : Mailbox → Bool) (uid : ℕ) → AreWellFormed lists → AreWellFormed (change_first test (λ mailbox. record mailbox { messages = without_first (is_message_of_uid uid) mailbox.messages }) lists)
+expunged_well lists test uid w =
+    changed_well lists test (λ (mailbox : Mailbox). record mailbox { messages = without_first (is_message_of_uid uid) mailbox.messages })
     (record { name = λ m. refl; number = λ m. refl; order = λ m e o. expunged_in_order m uid o }) w
+
+deleted_well : (lists : Lists) (name : List ℕ) → AreWellFormed lists → AreWellFormed (delete_mailbox name lists)
+deleted_well lists name w = record {
+  names = pairs_without NamesDiffer (has_name name) lists w.names;
+  numbers = pairs_without NumbersRise (has_name name) lists w.numbers;
+  each = all_without IsMailboxInOrder (has_name name) lists w.each;
+}
+
+-- the mailbox with another name
+abbrev with_name : List ℕ → Mailbox → Mailbox
+with_name target mailbox = record mailbox { name = target }
+
+renamed_in_order : (target : List ℕ) (mailbox : Mailbox) → IsName target → IsMailboxInOrder mailbox → IsMailboxInOrder (with_name target mailbox)
+renamed_in_order target mailbox n o = record {
+  number_some = o.number_some;
+  number_fits = o.number_fits;
+  name = n;
+  next_some = o.next_some;
+  next_fits = o.next_fits;
+  rising = o.rising;
+  below = o.below;
+  in_range = o.in_range;
+}
+
+renamed_names : (target : List ℕ) (test : Mailbox → Bool) (lists : Lists) → All (λ mailbox. mailbox.name ≢ target) lists → AllPairs NamesDiffer lists → AllPairs NamesDiffer (change_first test (with_name target) lists)
+renamed_names target test [] new p = pairs_nil NamesDiffer
+renamed_names target test (x ∷ xs) new p = by_test (test x) (renamed_names target test xs (All-tail IsOther x xs new) (pairs_tail NamesDiffer x xs p))
+  where
+    IsOther : Mailbox → Type 0
+    IsOther mailbox = mailbox.name ≢ target
+
+    by_test : (b : Bool) → AllPairs NamesDiffer (change_first test (with_name target) xs) → AllPairs NamesDiffer (if b then with_name target x ∷ xs else x ∷ change_first test (with_name target) xs)
+    by_test true rest =
+        AllPairs-cons NamesDiffer (with_name target x) xs (All-weaker IsOther (NamesDiffer (with_name target x)) (λ y h e. h (sym e)) xs (All-tail IsOther x xs new)) (pairs_tail NamesDiffer x xs p)
+    by_test false rest =
+        AllPairs-cons NamesDiffer x (change_first test (with_name target) xs) (all_changed (NamesDiffer x) test (with_name target) xs (λ y e h. All-head IsOther x xs new) (pairs_head NamesDiffer x xs p)) rest
+
+renamed_well : (lists : Lists) (name target : List ℕ) → IsName target → All (λ mailbox. mailbox.name ≢ target) lists → AreWellFormed lists → AreWellFormed (rename_mailbox name target lists)
+renamed_well lists name target n new w = record {
+  names = renamed_names target (has_name name) lists new w.names;
+  numbers = pairs_changed NumbersRise (has_name name) (with_name target) (λ a b h. h) (λ a b h. h) lists w.numbers;
+  each = all_changed IsMailboxInOrder (has_name name) (with_name target) lists (λ m e o. renamed_in_order target m n o) w.each;
+}
 
 added_well : (lists : Lists) (name : List ℕ) (message : ListedMessage) (mailbox : Mailbox) → mailbox_named name lists ≡ Some mailbox → mailbox.next_uid ≤ 4294967294 → IsContentInRange message → AreWellFormed lists
     → AreWellFormed (add_message name message lists)
@@ -248,9 +291,17 @@ made_well run event old new name w is_name e m =
       each = All-push IsMailboxInOrder old made w.each (empty_in_order m.number name some m.fits is_name);
     })
 
-half_well : (old new : Lists) (name : List ℕ) (uid : ℕ) (gone : Bool) → AreWellFormed old → IsSecondHalf old name uid gone new → AreWellFormed new
-half_well old new name uid true w h = subst AreWellFormed (sym h.1) w
-half_well old new name uid false w h = subst AreWellFormed (sym h.1) (expunged_well old name uid w)
+half_well : (old new : Lists) (number : ℕ) (uid : ℕ) (gone : Bool) → AreWellFormed old → IsSecondHalf old number uid gone new → AreWellFormed new
+half_well old new number uid true w h = subst AreWellFormed (sym h.1) w
+half_well old new number uid false w h = subst AreWellFormed (sym h.1) (expunged_well old (has_number number) uid w)
+
+-- a name that no mailbox has
+target_well : (run : Run) (old new : Lists) (name target : List ℕ) → AreWellFormed old → IsName target → first_refusal run old (HasMailbox name ∷ IsNotInbox name ∷ IsNewName target ∷ []) ≡ None → new ≡ rename_mailbox name target old → AreWellFormed new
+target_well run old new name target w n e d =
+    let e1 = (or_none (refusal_at run old (HasMailbox name)) _ e).1 in
+    let e2 = (or_none (refusal_at run old (IsNotInbox name)) _ e1).1 in
+    let free = (or_none (refusal_at run old (IsNewName target)) None e2).0 in
+    subst AreWellFormed (sym d) (renamed_well old name target n (name_is_new run old target free) w)
 
 -- Where none of its checks refuses, what a request does keeps well formed lists so.
 does_well : (run : Run) (event : RunEvent) (old : Lists) (q : Request) (part : EventPart) (r : Reply) (new : Lists) → AreWellFormed old → RequestInRange q → first_refusal run old (part_checks run event q part) ≡ None → Does run event old q part r new → AreWellFormed new
@@ -261,8 +312,10 @@ does_well run event old (request.Make name) Last reply.Done new w f e d = made_w
 does_well run event old (request.Deliver name time octets) Last (reply.Saved uid own) new w f e d = delivered_well run event old new name time octets uid.0 own.0 w f e d
 does_well run event old (request.Copy name uid target) Last (reply.Copied given) new w f e d = copied_well run old new name uid.0 target given.0 w e d
 does_well run event old (request.Move name uid target) Last (reply.Copied given) new w f e d = copied_well run old new name uid.0 target given.0 w e d
-does_well run event old (request.Move name uid target) SecondHalf (reply.Moved given gone) new w f e d = half_well old new name uid.0 gone w d.1
-does_well run event old (request.Expunge name uid) First reply.Done new w f e d = subst AreWellFormed (sym d) (expunged_well old name uid.0 w)
+does_well run event old (request.Move name uid target) SecondHalf (reply.Moved given gone) new w f e d = half_well old new (source_of event.request run) uid.0 gone w d.1
+does_well run event old (request.Expunge name uid) First reply.Done new w f e d = subst AreWellFormed (sym d) (expunged_well old (has_name name) uid.0 w)
+does_well run event old (request.Delete name) First reply.Done new w f e d = subst AreWellFormed (sym d) (deleted_well old name w)
+does_well run event old (request.Rename name target) First reply.Done new w f e d = target_well run old new name target w f e d
 does_well run event old request.Counts First (reply.Counted records references counts instances) new w f e d = subst AreWellFormed (sym d.1) w
 does_well run event old request.Purge Last (reply.Purged dropped files instances) new w f e d = subst AreWellFormed (sym d.1) w
 does_well run event old request.Resync Last (reply.Resynced corrected damaged) new w f e d = subst AreWellFormed (sym d.1) w

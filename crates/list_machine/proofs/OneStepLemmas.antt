@@ -9,8 +9,8 @@ use Rattle.mdbox_base.specs.declared.replies.ListRow.{ListRow}
 use Rattle.mdbox_base.specs.declared.replies.Reply.{Reply}
 use Rattle.mdbox_base.specs.declared.replies.Reply.TheVariants as reply
 use Rattle.model_lists.specs.Lists.{ListedMessage, Mailbox, Lists, listing_row, empty_mailbox}
-use Rattle.list_machine.specs.Run.{EventPart, First, Last, SecondHalf, RunEvent, Run}
-use Rattle.list_machine.specs.Machine.{Answers, Does, IsCopied, IsDelivered, IsMade, AreCounts, ArePurged, AreResynced, IsSecondHalf, expunge, add_message}
+use Rattle.list_machine.specs.Run.{EventPart, First, Last, SecondHalf, RunEvent, Run, source_of}
+use Rattle.list_machine.specs.Machine.{Answers, Does, IsCopied, IsDelivered, IsMade, AreCounts, ArePurged, AreResynced, IsSecondHalf, expunge_from, add_message}
 use Rattle.list_machine.proofs.MachineLemmas.{some_one, refused_alone}
 
 abbrev IsOne : Reply → Reply → Lists → Lists → Type 0
@@ -53,12 +53,12 @@ made_one run event old name new other d e =
     let same : d.number ≡ e.number = some_one _ d.number e.number d.number_is e.number_is in
     (d.new_is ∙ ap (λ (n : ℕ). old ++ empty_mailbox n name ∷ []) same) ∙ sym e.new_is
 
-half_one : (run : Run) (event : RunEvent) (old : Lists) (name : List ℕ) (uid : ℕ) (copied : Option ℕ) (u v : Uid) (gone late : Bool) (new other : Lists) →
-    (copied ≡ Some u.0) × IsSecondHalf old name uid gone new → (copied ≡ Some v.0) × IsSecondHalf old name uid late other → IsOne (reply.Moved u gone) (reply.Moved v late) new other
-half_one run event old name uid copied u v gone late new other d e =
+half_one : (run : Run) (event : RunEvent) (old : Lists) (number : ℕ) (uid : ℕ) (copied : Option ℕ) (u v : Uid) (gone late : Bool) (new other : Lists) →
+    (copied ≡ Some u.0) × IsSecondHalf old number uid gone new → (copied ≡ Some v.0) × IsSecondHalf old number uid late other → IsOne (reply.Moved u gone) (reply.Moved v late) new other
+half_one run event old number uid copied u v gone late new other d e =
     let uids : u.0 ≡ v.0 = some_one copied u.0 v.0 d.0 e.0 in
     let both : gone ≡ late = d.1.0 ∙ sym e.1.0 in
-    (moved_reply u v gone late uids both, (d.1.1 ∙ ap (λ (b : Bool). if b then old else expunge name uid old) both) ∙ sym e.1.1)
+    (moved_reply u v gone late uids both, (d.1.1 ∙ ap (λ (b : Bool). if b then old else expunge_from number uid old) both) ∙ sym e.1.1)
 
 counted_one : (run : Run) (old : Lists) (a b c d k l m n : ℕ) → AreCounts run old a b c d → AreCounts run old k l m n → reply.Counted a b c d ≡ reply.Counted k l m n
 counted_one run old a b c d k l m n x y =
@@ -101,10 +101,14 @@ does_one run event old (request.Copy name uid target) Last (reply.Copied u) s ne
 does_one run event old (request.Move name uid target) Last (reply.Copied u) (reply.Copied v) new other d e = copied_one old name uid.0 target u v new other d e
 does_one run event old (request.Move name uid target) Last (reply.Copied u) s new other d e = absurd e
 does_one run event old (request.Move name uid target) SecondHalf (reply.Moved u gone) (reply.Moved v late) new other d e =
-    half_one run event old name uid.0 _ u v gone late new other d e
+    half_one run event old (source_of event.request run) uid.0 _ u v gone late new other d e
 does_one run event old (request.Move name uid target) SecondHalf (reply.Moved u gone) s new other d e = absurd e
 does_one run event old (request.Expunge name uid) First reply.Done reply.Done new other d e = (refl, d ∙ sym e)
 does_one run event old (request.Expunge name uid) First reply.Done s new other d e = absurd e
+does_one run event old (request.Delete name) First reply.Done reply.Done new other d e = (refl, d ∙ sym e)
+does_one run event old (request.Delete name) First reply.Done s new other d e = absurd e
+does_one run event old (request.Rename name target) First reply.Done reply.Done new other d e = (refl, d ∙ sym e)
+does_one run event old (request.Rename name target) First reply.Done s new other d e = absurd e
 does_one run event old request.Counts First (reply.Counted a b c i) (reply.Counted k l m n) new other d e =
     (counted_one run old a b c i k l m n d.0 e.0, of_old old new other d.1 e.1)
 does_one run event old request.Counts First (reply.Counted a b c i) s new other d e = absurd e

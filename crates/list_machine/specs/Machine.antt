@@ -1,6 +1,6 @@
 -- The list machine: which answers a store may give. Mailbox lists are changed one step at a time; a move is a copy and
 -- then an expunge (after RFC 6851, but with two steps that others see).
-use Rattle.std.specs.Prelude.{◌≡◌, ◌≤◌, ◌<◌, ◌+◌, ◌^◌, ◌==◌, ℕ, nat_le, nat_lt, Bool, true, false, List, [], ◌∷◌, ◌++◌, length, map, find, sum_by, if◌then◌else◌, Option, Some, None, option_and_then, is_none, is_some, All, ◌≢◌}
+use Rattle.std.specs.Prelude.{◌≡◌, ◌≤◌, ◌<◌, ◌+◌, ◌^◌, ◌==◌, ℕ, nat_le, nat_lt, Bool, true, false, List, [], ◌∷◌, ◌++◌, length, map, find, sum_by, if◌then◌else◌, Option, Some, None, option_and_then, is_none, is_some, All, ◌≢◌, codes, count_by}
 use Rattle.std.specs.List.{list_any}
 use Rattle.std.specs.Option.{option_map_or, option_or}
 use Rattle.std.specs.Str.{bytes_eq}
@@ -13,7 +13,7 @@ use Rattle.mdbox_base.specs.declared.replies.Reply.{Reply}
 use Rattle.mdbox_base.specs.declared.replies.Reply.TheVariants as reply
 use Rattle.model_lists.specs.Lists.{ListedMessage, Mailbox, Lists, change_first, refs_of, empty_mailbox, listing_row}
 use Rattle.model_meaning.specs.MapMeaning.{MapMeaning, count_of, named_instances}
-use Rattle.list_machine.specs.Run.{EventPart, First, PlacesInstance, TakesFile, StoresRecord, Last, SecondHalf, StartsOver, TakenFile, RunEvent, Run, map_of, drawn_of, given_by_others, guid_added, number_made, uid_copied, corrected_in, dropped_by, files_gone_by, instances_gone_by, damaged_by, with_targets, target_length}
+use Rattle.list_machine.specs.Run.{EventPart, First, PlacesInstance, TakesFile, StoresRecord, Last, SecondHalf, StartsOver, TakenFile, RunEvent, Run, map_of, drawn_of, given_by_others, guid_added, number_made, uid_copied, corrected_in, dropped_by, files_gone_by, instances_gone_by, damaged_by, source_of, with_targets, target_length}
 
 -- ---- lists
 
@@ -33,6 +33,16 @@ message_in uid mailbox = find (is_message_of_uid uid) mailbox.messages
 abbrev pub message_at : List ℕ → ℕ → Lists → Option ListedMessage
 message_at name uid lists = option_and_then (message_in uid) (mailbox_named name lists)
 
+-- the mailbox with this number, and a message of it
+abbrev pub has_number : ℕ → Mailbox → Bool
+has_number number mailbox = mailbox.number == number
+
+abbrev pub mailbox_numbered : ℕ → Lists → Option Mailbox
+mailbox_numbered number lists = find (has_number number) lists
+
+abbrev pub message_numbered : ℕ → ℕ → Lists → Option ListedMessage
+message_numbered number uid lists = option_and_then (message_in uid) (mailbox_numbered number lists)
+
 -- the first that passes leaves
 abbrev pub without_first : {X : Type 0} → (X → Bool) → List X → List X
 without_first test [] = []
@@ -48,6 +58,17 @@ set_flags name uid flags lists = change_messages name (change_first (is_message_
 
 abbrev pub expunge : List ℕ → ℕ → Lists → Lists
 expunge name uid lists = change_messages name (without_first (is_message_of_uid uid)) lists
+
+-- a message leaves the mailbox with this number
+abbrev pub expunge_from : ℕ → ℕ → Lists → Lists
+expunge_from number uid lists = change_first (has_number number) (λ mailbox. record mailbox { messages = without_first (is_message_of_uid uid) mailbox.messages }) lists
+
+-- the mailbox with this name leaves, or has another
+abbrev pub delete_mailbox : List ℕ → Lists → Lists
+delete_mailbox name lists = without_first (has_name name) lists
+
+abbrev pub rename_mailbox : List ℕ → List ℕ → Lists → Lists
+rename_mailbox name target lists = change_first (has_name name) (λ mailbox. record mailbox { name = target }) lists
 
 -- a message is added last to a mailbox, with its next UID
 abbrev pub add_last : ListedMessage → Mailbox → Mailbox
@@ -69,6 +90,7 @@ count_different (text ∷ texts) = if list_any (bytes_eq text) texts then count_
 -- What an event looks at before it does its part.
 pub data Check : Type 0 where
   HasMailbox : (name : List ℕ) → Check
+  IsNotInbox : (name : List ℕ) → Check
   IsNewName : (name : List ℕ) → Check
   HasUid : (name : List ℕ) → (uid : ℕ) → Check
   RoomForMailbox : Check
@@ -88,11 +110,12 @@ refused_where holds refusal = if holds then Some refusal else None
 abbrev pub is_used_up : ℕ → Bool
 is_used_up drawn = nat_le 4294967294 drawn
 
--- What a check refuses: no mailbox has the name; a mailbox has it; no message has the UID; 1,024 mailboxes are there;
+-- What a check refuses: no mailbox has the name; it is INBOX; a mailbox has it; no message has the UID; 1,024 mailboxes are there;
 -- 1,000,000 messages are listed; a number that the event would draw, or the length of a purge's target, would be above
 -- 4,294,967,294; the count that is kept of the message's GUID is 65,535.
 abbrev pub refusal_at : Run → Lists → Check → Option Refusal
 refusal_at run lists (HasMailbox name) = refused_where (is_none (mailbox_named name lists)) refusal.NoMailbox
+refusal_at run lists (IsNotInbox name) = refused_where (bytes_eq name (codes "INBOX")) refusal.Inbox
 refusal_at run lists (IsNewName name) = refused_where (is_some (mailbox_named name lists)) refusal.Exists
 refusal_at run lists (HasUid name uid) = refused_where (is_none (message_at name uid lists)) refusal.NoMessage
 refusal_at run lists RoomForMailbox = refused_where (nat_le 1024 (length lists)) (refusal.TooManyMailboxes 1024)
@@ -113,12 +136,13 @@ abbrev pub first_refusal : Run → Lists → List Check → Option Refusal
 first_refusal run lists [] = None
 first_refusal run lists (check ∷ checks) = option_or (refusal_at run lists check) (first_refusal run lists checks)
 
--- The checks of an event, in their order: mailbox (of a copy the source, then the target), name, message, mailboxes, room,
+-- The checks of an event, in their order: mailbox (of a copy the source, then the target), INBOX, name, message, mailboxes, room,
 -- numbers, copies.
 abbrev pub copy_checks : List ℕ → ℕ → List ℕ → EventPart → List Check
 copy_checks name uid target First =
     HasMailbox name ∷ HasMailbox target ∷ HasUid name uid ∷ RoomForMessage target ∷ NextUid target ∷ MayBeCopied name uid ∷ []
 copy_checks name uid target Last = HasMailbox name ∷ HasMailbox target ∷ HasUid name uid ∷ RoomForMessage target ∷ NextUid target ∷ []
+copy_checks name uid target StartsOver = HasMailbox name ∷ HasMailbox target ∷ HasUid name uid ∷ RoomForMessage target ∷ NextUid target ∷ []
 copy_checks name uid target part = []
 
 abbrev pub deliver_checks : List ℕ → EventPart → List Check
@@ -148,6 +172,8 @@ part_checks run event (request.Copy name uid target) part = copy_checks name uid
 part_checks run event (request.Move name uid target) part = copy_checks name uid.0 target part
 part_checks run event (request.Expunge name uid) First = HasMailbox name ∷ HasUid name uid.0 ∷ []
 part_checks run event (request.Make name) part = make_checks name part
+part_checks run event (request.Delete name) First = HasMailbox name ∷ IsNotInbox name ∷ []
+part_checks run event (request.Rename name target) First = HasMailbox name ∷ IsNotInbox name ∷ IsNewName target ∷ []
 part_checks run event request.Purge First = purge_checks (map_of run) event.files
 part_checks run event request part = []
 
@@ -206,10 +232,11 @@ pub record AreResynced (run : Run) (event : RunEvent) (corrected damaged : ℕ) 
   pub corrected_are : corrected ≡ sum_by (corrected_in (map_of run)) event.map_entries
   pub damaged_are : damaged ≡ damaged_by event.request run
 
--- The second half of a move: where the message is listed it leaves, else nothing changes.
-abbrev pub IsSecondHalf : Lists → List ℕ → ℕ → Bool → Lists → Type 0
-IsSecondHalf old name uid gone new =
-    (gone ≡ is_none (message_at name uid old)) × (new ≡ (if gone then old else expunge name uid old))
+-- The second half of a move: where the mailbox with the number of the copy's source is there and lists the message, it leaves,
+-- else nothing changes.
+abbrev pub IsSecondHalf : Lists → ℕ → ℕ → Bool → Lists → Type 0
+IsSecondHalf old number uid gone new =
+    (gone ≡ is_none (message_numbered number uid old)) × (new ≡ (if gone then old else expunge_from number uid old))
 
 -- From the old lists a part of a request that isn't refused may give this reply and lead to the new lists.
 abbrev pub Does : Run → RunEvent → Lists → Request → EventPart → Reply → Lists → Type 0
@@ -219,11 +246,13 @@ Does run event old (request.Fetch name uid) First (reply.Fetched octets) new =
     (message : ListedMessage) × (message_at name uid.0 old ≡ Some message) × (octets ≡ message.octets) × (new ≡ old)
 Does run event old (request.Flag name uid flags) First reply.Done new = new ≡ set_flags name uid.0 flags old
 Does run event old (request.Make name) Last reply.Done new = IsMade run event old name new
+Does run event old (request.Delete name) First reply.Done new = new ≡ delete_mailbox name old
+Does run event old (request.Rename name target) First reply.Done new = new ≡ rename_mailbox name target old
 Does run event old (request.Deliver name time octets) Last (reply.Saved uid guid) new = IsDelivered run event old name time octets uid.0 guid.0 new
 Does run event old (request.Copy name uid target) Last (reply.Copied given) new = IsCopied old name uid.0 target given.0 new
 Does run event old (request.Move name uid target) Last (reply.Copied given) new = IsCopied old name uid.0 target given.0 new
 Does run event old (request.Move name uid target) SecondHalf (reply.Moved given gone) new =
-    (uid_copied event.request run ≡ Some given.0) × IsSecondHalf old name uid.0 gone new
+    (uid_copied event.request run ≡ Some given.0) × IsSecondHalf old (source_of event.request run) uid.0 gone new
 Does run event old (request.Expunge name uid) First reply.Done new = new ≡ expunge name uid.0 old
 Does run event old request.Counts First (reply.Counted records references counts instances) new =
     AreCounts run old records references counts instances × (new ≡ old)
@@ -251,10 +280,11 @@ is_step refusal = true
 
 -- ---- requests
 
--- A request that can be asked: the name of a new mailbox is one, flags are bits below 32, a delivery's time has 64 bits
+-- A request that can be asked: the new name of a mailbox is one, flags are bits below 32, a delivery's time has 64 bits
 -- and its message at most 67,108,864 octets.
 abbrev pub RequestInRange : Request → Type 0
 RequestInRange (request.Make name) = IsName name
+RequestInRange (request.Rename name target) = IsName target
 RequestInRange (request.Flag name uid flags) = flags ≤ 31
 RequestInRange (request.Deliver name time octets) = (time < 2 ^ 64) × (length octets ≤ 67108864)
 RequestInRange request = Unit {0}
@@ -273,8 +303,14 @@ refs_added old (request.Copy name uid target) Last (reply.Copied given) guid = o
 refs_added old (request.Move name uid target) Last (reply.Copied given) guid = one_of_guid guid (message_at name uid.0 old)
 refs_added old request part reply guid = 0
 
--- How many it takes: an expunge, and the second half of a move, one from that of the message, where it is listed.
-abbrev pub refs_taken : Lists → Request → EventPart → Reply → List ℕ → ℕ
-refs_taken old (request.Expunge name uid) First reply.Done guid = one_of_guid guid (message_at name uid.0 old)
-refs_taken old (request.Move name uid target) SecondHalf (reply.Moved given gone) guid = one_of_guid guid (message_at name uid.0 old)
-refs_taken old request part reply guid = 0
+-- how many messages of the mailbox have this GUID, 0 where there is none
+abbrev pub refs_within : List ℕ → Option Mailbox → ℕ
+refs_within guid mailbox = option_map_or (λ m. count_by (λ message. bytes_eq message.guid guid) m.messages) mailbox 0
+
+-- How many it takes: an expunge, and the second half of a move, one from that of the message, where it is listed; a deletion
+-- those of all that the mailbox lists. The second half of a move finds its mailbox by the number that its run tells.
+abbrev pub refs_taken : Run → RunEvent → Lists → Request → EventPart → Reply → List ℕ → ℕ
+refs_taken run event old (request.Expunge name uid) First reply.Done guid = one_of_guid guid (message_at name uid.0 old)
+refs_taken run event old (request.Move name uid target) SecondHalf (reply.Moved given gone) guid = one_of_guid guid (message_numbered (source_of event.request run) uid.0 old)
+refs_taken run event old (request.Delete name) First reply.Done guid = refs_within guid (mailbox_named name old)
+refs_taken run event old request part reply guid = 0

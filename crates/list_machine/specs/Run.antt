@@ -15,7 +15,9 @@ use Rattle.model_meaning.specs.MapMeaning.{MapRecord, MapMeaning, map_meaning, n
 -- Which part of its request an event did. `First` is the first event of each request, and the only one of most. `Last`
 -- is the event at which a delivery, a copy or the first half of a move adds its message, a make its mailbox, and the one
 -- at which a purge or a resync is answered. `GivesBack` lowers counts, behind a refused `Last` or behind a message that
--- left. `StartsOver` removes the log of a make whose number was overtaken.
+-- left. `StartsOver` is that of a request that is to begin again: of a make whose number was overtaken, whose log it removes,
+-- and of a copy whose source's name names another mailbox than as it began. `RemovesLog` removes the log of a mailbox that was
+-- deleted.
 pub data EventPart : Type 0 where
   First : EventPart
   Compares : EventPart
@@ -27,6 +29,7 @@ pub data EventPart : Type 0 where
   SecondHalf : EventPart
   GivesBack : EventPart
   StartsOver : EventPart
+  RemovesLog : EventPart
   ReadsPiece : EventPart
   Unpins : EventPart
   RemovesFile : EventPart
@@ -54,7 +57,7 @@ pub record Pin : Type 0 where
 
 -- What one event did: a part of a request of a lane, the request by its place in the script. Where it was refused, it
 -- says with what; where its request ended with it, what was replied. Then the entries that it appended, the records of the
--- messages that it removed, how many numbers of each kind it drew, the GUID that it gave, the storage files that it took (a
+-- messages that it removed, the number of the mailbox from which it began to copy, or 0, how many numbers of each kind it drew, the GUID that it gave, the storage files that it took (a
 -- purge: also those that it would have taken), those that a resync listed, the file that it made, the pin that it began, the
 -- record that it copied, the files that it doomed and removed, the instances that it compared with a part of a message, found
 -- equal, placed and removed, the records whose regions it found damaged, and the number of device calls as it ended.
@@ -67,6 +70,7 @@ pub record RunEvent : Type 0 where
   pub map_entries : List MapEntry
   pub box_entries : List BoxAppend
   pub owes : List ℕ
+  pub source : ℕ
   pub drew : Highest
   pub given : List (List ℕ)
   pub files : List TakenFile
@@ -94,6 +98,7 @@ event_of lane request part moment = record {
   map_entries = [];
   box_entries = [];
   owes = [];
+  source = 0;
   drew = no_numbers;
   given = [];
   files = [];
@@ -146,6 +151,11 @@ abbrev pub first_in : {X Y : Type 0} → (X → Option Y) → List X → Option 
 first_in f [] = None
 first_in f (x ∷ xs) = option_or (f x) (first_in f xs)
 
+-- and the last
+abbrev pub last_in : {X Y : Type 0} → (X → Option Y) → List X → Option Y
+last_in f [] = None
+last_in f (x ∷ xs) = option_or (last_in f xs) (f x)
+
 -- the events of one request
 abbrev pub own_events : ℕ → Run → List RunEvent
 own_events request run = filter (λ e. e.request == request) run.events
@@ -189,6 +199,10 @@ number_made entries = first_in number_in entries
 -- the UID that a request's copy got, as far as the run went
 abbrev pub uid_copied : ℕ → Run → Option ℕ
 uid_copied request run = uid_added (flat_map (λ e. e.box_entries) (own_events request run))
+
+-- the number of the mailbox from which a request's copy was begun last, or 0
+abbrev pub source_of : ℕ → Run → ℕ
+source_of request run = fold (λ last e. if nat_lt 0 e.source then e.source else last) 0 (own_events request run)
 
 -- ---- the numbers of a purge and a resync
 

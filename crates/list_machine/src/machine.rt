@@ -8,10 +8,10 @@ ghost use Rattle.model_lists.specs.Lists.{Lists, AreWellFormed, refs_of};
 ghost use Rattle.list_machine.specs.Run.{Run, RunEvent};
 ghost use Rattle.list_machine.specs.Machine.{Answers, RequestInRange, refs_added, refs_taken, is_step};
 
-/// A delivery and a copy add one reference to a GUID, an expunge and the second half of a move take one, and no other step
-/// changes the references of any.
+/// A delivery and a copy add one reference to a GUID, an expunge and the second half of a move take one, a deletion takes those
+/// of all that the mailbox lists, and no other step changes the references of any.
 pub fn steps_change_references()
-    ensures { (run : Run) (old : Lists) (request : Request) (event : RunEvent) (reply : Reply) (new : Lists) (guid : List ℕ) → Answers run old request event reply new → refs_of new guid + refs_taken old request event.part reply guid ≡ refs_of old guid + refs_added old request event.part reply guid }
+    ensures { (run : Run) (old : Lists) (request : Request) (event : RunEvent) (reply : Reply) (new : Lists) (guid : List ℕ) → Answers run old request event reply new → refs_of new guid + refs_taken run event old request event.part reply guid ≡ refs_of old guid + refs_added old request event.part reply guid }
 {}
 
 /// Well formed lists stay so at each step of a request that can be asked.

@@ -4,6 +4,7 @@ use Rattle.std.specs.List.{flat_map, AllByRecursion}
 use Rattle.std.specs.Int.{w16, to_be_bytes}
 use Rattle.std.proofs.lemmas.List.{take_all}
 use Rattle.mdbox_base.specs.declared.ids.Guid.{Guid}
+use Rattle.mdbox_base.specs.declared.ids.BoxNo.{BoxNo}
 use Rattle.mdbox_base.specs.declared.ids.FileNo.{FileNo}
 use Rattle.mdbox_base.specs.declared.ids.MapUid.{MapUid}
 use Rattle.mdbox_base.specs.declared.entries.InstRow.{InstRow}
@@ -38,6 +39,11 @@ pub counted_size : (entry : MapEntry) (cs : List MapCount) → entry ≡ map.T c
 counted_size entry cs e range =
     let r : MapInRange (map.T cs) = subst MapInRange e range in
     ap (λ (m : MapEntry). length (map_text m)) e ∙ omega (arith, counts_size cs r.1)
+
+pub deleted_size : (entry : MapEntry) (mailbox : BoxNo) (cs : List MapCount) → entry ≡ map.X mailbox cs → MapInRange entry → length (map_text entry) ≡ 9 + 6 * length cs
+deleted_size entry mailbox cs e range =
+    let r : MapInRange (map.X mailbox cs) = subst MapInRange e range in
+    ap (λ (m : MapEntry). length (map_text m)) e ∙ omega (arith, counts_size cs r.2)
 
 pub purged_size : (entry : MapEntry) (file : FileNo) (target : ℕ) (ps : List MapPlace) (us : List MapUid) → entry ≡ map.P file target ps us → MapInRange entry → length (map_text entry) ≡ 17 + 8 * length ps + 4 * length us
 purged_size entry file target ps us e range =

@@ -19,6 +19,8 @@ stored_not text fields (map.D us) e refused t = differ 83 68 _ _ (sym e ∙ t.te
 stored_not text fields (map.T cs) e refused t = differ 83 84 _ _ (sym e ∙ t.text) refl
 stored_not text fields (map.P f w ps us) e refused t = differ 83 80 _ _ (sym e ∙ t.text) refl
 stored_not text fields (map.E f) e refused t = differ 83 69 _ _ (sym e ∙ t.text) refl
+stored_not text fields (map.X m cs) e refused t = differ 83 88 _ _ (sym e ∙ t.text) refl
+stored_not text fields (map.V m n) e refused t = differ 83 86 _ _ (sym e ∙ t.text) refl
 
 pub stored_or_not : (text fields : List ℕ) (found : Option MapEntry) → text ≡ 83 ∷ fields → MatchOption found (IsNotStored fields) (IsMapText (83 ∷ fields)) → MatchOption found ((other : MapEntry) → IsMapText text other → ⊥) (IsMapText text)
 stored_or_not text fields found e h =

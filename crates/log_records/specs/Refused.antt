@@ -29,3 +29,10 @@ abbrev pub IsNotPurged : List ℕ → Type 0
 IsNotPurged fields = (file target : ℕ) (moved : List MapPlace) (dropped : List MapUid) → file < 2 ^ 32 → target < 2 ^ 32 → length moved < 2 ^ 32 → length dropped < 2 ^ 32
     → AllByRecursion (λ p. (p.uid.0 < 2 ^ 32) × (p.offset < 2 ^ 32)) moved → AllByRecursion (λ u. u.0 < 2 ^ 32) dropped
     → fields ≡ four file ++ (four target ++ (list_text (λ p. four p.uid.0 ++ four p.offset) moved ++ list_text (λ u. four u.0) dropped)) → ⊥
+
+abbrev pub IsNotDeleted : List ℕ → Type 0
+IsNotDeleted fields = (mailbox : ℕ) (amounts : List MapCount) → mailbox < 2 ^ 32 → length amounts < 2 ^ 32 → AllByRecursion (λ c. (c.uid.0 < 2 ^ 32) × (c.count < 2 ^ 16)) amounts
+    → fields ≡ four mailbox ++ list_text (λ c. four c.uid.0 ++ to_be_bytes w16 c.count) amounts → ⊥
+
+abbrev pub IsNotRenamed : List ℕ → Type 0
+IsNotRenamed fields = (mailbox : ℕ) (name : List ℕ) → mailbox < 2 ^ 32 → IsName name → fields ≡ four mailbox ++ name_text name → ⊥

@@ -2,7 +2,7 @@
 ghost use Rattle.std.specs.Prelude.{◌≡◌, ◌≢◌, ◌<◌, ◌^◌, ◌++◌, ◌∷◌, ℕ, List, length, IfOk, MatchOption};
 ghost use Rattle.mdbox_base.specs.declared.entries.MapEntry.{MapEntry};
 ghost use Rattle.model_logs.specs.Entries.{map_text, MapInRange, IsMapText};
-ghost use Rattle.log_records.specs.Refused.{IsNotMade, IsNotStored, IsNotLowered, IsNotCounted, IsNotPurged};
+ghost use Rattle.log_records.specs.Refused.{IsNotMade, IsNotStored, IsNotLowered, IsNotCounted, IsNotPurged, IsNotDeleted, IsNotRenamed};
 
 use crate::fields::{number_at, octet_at, only_number};
 use crate::lists::{list_at, only_instances, only_list};
@@ -24,6 +24,8 @@ pub fn read_map_entry(alloc: Global, text: &[u8]) -> Result<Option<MapEntry>, No
         [b'T', fields @ ..] => counted(alloc, fields),
         [b'P', fields @ ..] => purged(alloc, fields),
         [b'E', fields @ ..] => Ok(sealed(fields)),
+        [b'X', fields @ ..] => deleted(alloc, fields),
+        [b'V', fields @ ..] => renamed(alloc, fields),
         _ => Ok(None),
     }
 }
@@ -153,4 +155,40 @@ fn sealed(fields: &[u8]) -> Option<MapEntry>
 {
     let file = FileNo(only_number(fields)?);
     Some(MapEntry::E { file })
+}
+
+fn deleted(alloc: Global, fields: &[u8]) -> Result<Option<MapEntry>, NoMemory>
+    ensures { IfOk result (λ entry. MatchOption entry (IsNotDeleted fields.now) (IsMapText (88 ∷ fields.now))) }
+{
+    let Some((mailbox, rest)) = number_at(fields) else {
+        return Ok(None);
+    };
+    let Some(amounts) = only_list(alloc, rest)? else {
+        return Ok(None);
+    };
+    Ok(Some(MapEntry::X {
+        mailbox: BoxNo(mailbox),
+        amounts,
+    }))
+}
+
+fn renamed(alloc: Global, fields: &[u8]) -> Result<Option<MapEntry>, NoMemory>
+    ensures { IfOk result (λ entry. MatchOption entry (IsNotRenamed fields.now) (IsMapText (86 ∷ fields.now))) }
+{
+    let Some((mailbox, rest)) = number_at(fields) else {
+        return Ok(None);
+    };
+    let Some((size, rest)) = octet_at(rest) else {
+        return Ok(None);
+    };
+    if rest.len() != size as usize {
+        return Ok(None);
+    }
+    let Some(name) = name_of(alloc, rest)? else {
+        return Ok(None);
+    };
+    Ok(Some(MapEntry::V {
+        mailbox: BoxNo(mailbox),
+        name,
+    }))
 }

@@ -30,6 +30,8 @@ pub fn map_entry_size(entry: &MapEntry) -> usize
         MapEntry::P { moved, dropped, .. } => {
             17 + MapPlace::SIZE * moved.length() + MapUid::SIZE * dropped.length()
         }
+        MapEntry::X { amounts, .. } => 9 + MapCount::SIZE * amounts.length(),
+        MapEntry::V { name, .. } => 6 + name.as_octets().len(),
     }
 }
 
@@ -61,6 +63,8 @@ pub fn put_map_entry(into: &mut [u8], entry: &MapEntry)
             dropped,
         } => put_purged(into, *file, *target, moved.as_slice(), dropped.as_slice()),
         MapEntry::E { file } => put_number_entry(into, b'E', file.0),
+        MapEntry::X { mailbox, amounts } => put_deleted(into, *mailbox, amounts.as_slice()),
+        MapEntry::V { mailbox, name } => put_renamed(into, *mailbox, name),
     }
 }
 
@@ -177,4 +181,23 @@ fn put_purged(into: &mut [u8], file: FileNo, target: u32, moved: &[MapPlace], dr
     let place = put(into, place, &target.to_be_bytes());
     let place = put_list(into, place, moved);
     put_list(into, place, dropped);
+}
+
+fn put_deleted(into: &mut [u8], mailbox: BoxNo, amounts: &[MapCount])
+    requires count { length amounts.now < 2 ^ 32 }
+    requires size { length into.old ≡ 9 + 6 * length amounts.now }
+    ensures { into.new ≡ map_text (entry.X mailbox amounts.now) }
+{
+    let place = put_front(into, b'X', mailbox.0);
+    put_list(into, place, amounts);
+}
+
+fn put_renamed(into: &mut [u8], mailbox: BoxNo, name: &Name)
+    requires { length into.old ≡ 6 + length name.now }
+    ensures { into.new ≡ map_text (entry.V mailbox name.now) }
+{
+    let name = name.as_octets();
+    let place = put_front(into, b'V', mailbox.0);
+    let place = put(into, place, &[name.len() as u8]);
+    put(into, place, name);
 }

@@ -1,5 +1,5 @@
 -- Look-ups in a list that is made of another one.
-use Rattle.std.proofs.Common.{◌≡◌, ◌||◌, Bool, true, false, cond, Option, Some, List, [], ◌∷◌, map, find, subst, refl, sym, ap, ◌∙◌}
+use Rattle.std.proofs.Common.{filter, ◌≡◌, ◌||◌, Bool, true, false, cond, Option, Some, List, [], ◌∷◌, map, find, subst, refl, sym, ap, ◌∙◌}
 use Rattle.std.specs.Prelude.{flat_map, All, ◌↔◌}
 use Rattle.std.specs.List.{list_any}
 use Rattle.std.specs.Option.{option_map}
@@ -22,6 +22,15 @@ list_any-map p f (x ∷ xs) = ap (λ (b : Bool). p (f x) || b) (list_any-map p f
 pub list_any-flat_map : {X Y : Type 0} → (p : Y → Bool) (f : X → List Y) (xs : List X) → list_any p (flat_map f xs) ≡ list_any (λ x. list_any p (f x)) xs
 list_any-flat_map p f [] = refl
 list_any-flat_map p f (x ∷ xs) = list_any-append p (f x) (flat_map f xs) ∙ ap (λ (b : Bool). list_any p (f x) || b) (list_any-flat_map p f xs)
+
+-- those that pass
+kept_first : {X Y : Type 0} → (f : X → Y) (b : Bool) (x : X) (ys : List X) (zs : List Y) → map f ys ≡ zs → map f (cond b (x ∷ ys) ys) ≡ cond b (f x ∷ zs) zs
+kept_first f true x ys zs e = ap (λ l. f x ∷ l) e
+kept_first f false x ys zs e = e
+
+pub filter-map : {X Y : Type 0} → (p : Y → Bool) (f : X → Y) (xs : List X) → map f (filter (λ x. p (f x)) xs) ≡ filter p (map f xs)
+filter-map p f [] = refl
+filter-map p f (x ∷ xs) = kept_first f (p (f x)) x (filter (λ y. p (f y)) xs) (filter p (map f xs)) (filter-map p f xs)
 
 -- what holds of each, along a list that is made of another
 pub All-unmap : {X Y : Type 0} → (P : Y → Type 0) (f : X → Y) (xs : List X) → All P (map f xs) → All (λ x. P (f x)) xs

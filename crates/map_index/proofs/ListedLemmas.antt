@@ -1,5 +1,5 @@
 -- Records that lists name, changed one after another.
-use Rattle.std.proofs.Common.{◌≡◌, ◌≢◌, ◌+◌, ◌-◌, ◌<◌, ◌≤◌, ◌==◌, ◌||◌, ℕ, zero, suc, Bool, true, false, not, cond, List, [], ◌∷◌, length, get_or, map, filter, fold, find, drop, Some, None, All, refl, sym, ◌∙◌, ap, subst, arith, add-one, drop-cons}
+use Rattle.std.proofs.Common.{◌≡◌, ◌≢◌, ◌+◌, ◌-◌, ◌<◌, ◌≤◌, ◌==◌, ◌||◌, ℕ, zero, suc, Bool, true, false, cond, List, [], ◌∷◌, length, get_or, map, fold, find, drop, Some, None, All, refl, sym, ◌∙◌, ap, arith, add-one, drop-cons}
 use Rattle.std.specs.Prelude.{if◌then◌else◌, AllPairs}
 use Rattle.std.specs.Option.{option_map_or}
 use Rattle.std.proofs.lemmas.Bool.Decides.{nat_tests}
@@ -10,6 +10,7 @@ use Rattle.mdbox_base.specs.declared.entries.MapCount.{MapCount}
 use Rattle.mdbox_base.specs.declared.entries.MapEntry.TheVariants as entry
 use Rattle.model_meaning.specs.MapMeaning.{MapRecord, record_changed, has_map_uid}
 use Rattle.model_meaning.proofs.MapPlaceLemmas.{equal_is}
+use Rattle.map_rows.specs.Lookups.{lowered_by}
 use Rattle.map_rows.specs.TableValue.{TableValue}
 
 -- ---- one item more
@@ -84,6 +85,24 @@ set_each [] rows rise = sym (map_same (record_changed (entry.T [])) (λ row. ref
 set_each (given ∷ counts) rows rise =
     set_each counts (map (record_changed (entry.T (given ∷ []))) rows) (pairs_tail (λ a b. a < b) given.uid.0 (map (λ (c : MapCount). c.uid.0) counts) rise)
     ∙ map_twice (record_changed (entry.T counts)) (record_changed (entry.T (given ∷ []))) (record_changed (entry.T (given ∷ counts))) (λ row. set_step given counts row (given.uid.0 == row.uid) refl (pairs_head (λ a b. a < b) given.uid.0 (map (λ (c : MapCount). c.uid.0) counts) rise)) rows
+
+-- ---- counts that are lowered by amounts
+
+none_off : (row : MapRecord) → lowered_by [] row ≡ row
+none_off row = ap (λ (n : ℕ). record row { count = n }) (let e : row.count - 0 ≡ row.count = omega arith in e)
+
+lower_by_step : (given : MapCount) (counts : List MapCount) (row : MapRecord) (hit : Bool) → (given.uid.0 == row.uid) ≡ hit → All (λ n. given.uid.0 < n) (map (λ (c : MapCount). c.uid.0) counts)
+    → lowered_by counts (record row { count = row.count - option_map_or (λ (c : MapCount). c.count) (cond hit (Some given) None) 0 }) ≡ record row { count = row.count - option_map_or (λ (c : MapCount). c.count) (cond hit (Some given) (find (λ (c : MapCount). c.uid.0 == row.uid) counts)) 0 }
+lower_by_step given counts row true e a =
+    let n = not_given given counts row (sym (equal_is given.uid.0 row.uid e)) a in
+    rw n (ap (λ (k : ℕ). record row { count = k }) (let f : row.count - given.count - 0 ≡ row.count - given.count = omega arith in f))
+lower_by_step given counts row false e a = ap (λ (k : ℕ). record row { count = k - option_map_or (λ (c : MapCount). c.count) (find (λ (c : MapCount). c.uid.0 == row.uid) counts) 0 }) (let f : row.count - 0 ≡ row.count = omega arith in f)
+
+pub lowered_by_each : (counts : List MapCount) (rows : List MapRecord) → AllPairs (λ a b. a < b) (map (λ (c : MapCount). c.uid.0) counts) → fold (λ (rs : List MapRecord) (c : MapCount). map (lowered_by (c ∷ [])) rs) rows counts ≡ map (lowered_by counts) rows
+lowered_by_each [] rows rise = sym (map_same (lowered_by []) none_off rows)
+lowered_by_each (given ∷ counts) rows rise =
+    lowered_by_each counts (map (lowered_by (given ∷ [])) rows) (pairs_tail (λ a b. a < b) given.uid.0 (map (λ (c : MapCount). c.uid.0) counts) rise)
+    ∙ map_twice (lowered_by counts) (lowered_by (given ∷ [])) (lowered_by (given ∷ counts)) (λ row. lower_by_step given counts row (given.uid.0 == row.uid) refl (pairs_head (λ a b. a < b) given.uid.0 (map (λ (c : MapCount). c.uid.0) counts) rise)) rows
 
 -- ---- for the calls
 

@@ -30,27 +30,31 @@ same_parts store rs ss bs cs fs gs h k p q r s = cc (p, q, r, s)
 -- ---- entries that take no memory
 
 pub adds_none : (e : MapEntry) → ((o c : ℕ) (u : MapUid) (file : FileNo) (a z : ℕ) (guid : Guid) (is : List InstRow) → e ≡ entry.S o c u file a z guid is → ⊥)
-    → ((b : BoxNo) (g : ℕ) (n : List ℕ) → e ≡ entry.B b g n → ⊥) → ((file : FileNo) → e ≡ entry.E file → ⊥) → TakesMemory e → ⊥
-adds_none (entry.H x) s b f t = t
-adds_none (entry.B n gen name) s b f t = b n gen name refl
-adds_none (entry.G n gen) s b f t = t
-adds_none (entry.S o c u file a z guid is) s b f t = s o c u file a z guid is refl
-adds_none (entry.U u) s b f t = t
-adds_none (entry.D us) s b f t = t
-adds_none (entry.T cs) s b f t = t
-adds_none (entry.P file t ms us) s b f h = h
-adds_none (entry.E file) s b f t = f file refl
+    → ((b : BoxNo) (g : ℕ) (n : List ℕ) → e ≡ entry.B b g n → ⊥) → ((file : FileNo) → e ≡ entry.E file → ⊥) → ((b : BoxNo) (n : List ℕ) → e ≡ entry.V b n → ⊥) → TakesMemory e → ⊥
+adds_none (entry.H x) s b f v t = t
+adds_none (entry.B n gen name) s b f v t = b n gen name refl
+adds_none (entry.G n gen) s b f v t = t
+adds_none (entry.S o c u file a z guid is) s b f v t = s o c u file a z guid is refl
+adds_none (entry.U u) s b f v t = t
+adds_none (entry.D us) s b f v t = t
+adds_none (entry.T cs) s b f v t = t
+adds_none (entry.P file t ms us) s b f v h = h
+adds_none (entry.E file) s b f v t = f file refl
+adds_none (entry.X n cs) s b f v t = t
+adds_none (entry.V n name) s b f v t = v n name refl
 
-pub boxes_stay : (e : MapEntry) → (TakesMemory e → ⊥) → ((b : BoxNo) (g : ℕ) → e ≡ entry.G b g → ⊥) → (boxes : List MapBox) → rows_by box_rules e boxes ≡ boxes
-boxes_stay (entry.H x) t g boxes = boxes_by_highest x boxes
-boxes_stay (entry.B n gen name) t g boxes = absurd (t tt)
-boxes_stay (entry.G n gen) t g boxes = absurd (g n gen refl)
-boxes_stay (entry.S o c u file a z guid is) t g boxes = boxes_by_stored o c u file a z guid is boxes
-boxes_stay (entry.U u) t g boxes = boxes_by_raised u boxes
-boxes_stay (entry.D us) t g boxes = boxes_by_lowered us boxes
-boxes_stay (entry.T cs) t g boxes = boxes_by_counted cs boxes
-boxes_stay (entry.P file x ms us) t g boxes = boxes_by_purged file x ms us boxes
-boxes_stay (entry.E file) t g boxes = boxes_by_sealed file boxes
+pub boxes_stay : (e : MapEntry) → (TakesMemory e → ⊥) → ((b : BoxNo) (g : ℕ) → e ≡ entry.G b g → ⊥) → ((b : BoxNo) (cs : List MapCount) → e ≡ entry.X b cs → ⊥) → (boxes : List MapBox) → rows_by box_rules e boxes ≡ boxes
+boxes_stay (entry.H h) t g x boxes = boxes_by_highest h boxes
+boxes_stay (entry.B n gen name) t g x boxes = absurd (t tt)
+boxes_stay (entry.G n gen) t g x boxes = absurd (g n gen refl)
+boxes_stay (entry.S o c u file a z guid is) t g x boxes = boxes_by_stored o c u file a z guid is boxes
+boxes_stay (entry.U u) t g x boxes = boxes_by_raised u boxes
+boxes_stay (entry.D us) t g x boxes = boxes_by_lowered us boxes
+boxes_stay (entry.T cs) t g x boxes = boxes_by_counted cs boxes
+boxes_stay (entry.P file y ms us) t g x boxes = boxes_by_purged file y ms us boxes
+boxes_stay (entry.E file) t g x boxes = boxes_by_sealed file boxes
+boxes_stay (entry.X n cs) t g x boxes = absurd (x n cs refl)
+boxes_stay (entry.V n name) t g x boxes = absurd (t tt)
 
 pub files_stay : (e : MapEntry) → (TakesMemory e → ⊥) → (files : List ℕ) → sealed_by e files ≡ files
 files_stay (entry.H x) t files = refl
@@ -62,19 +66,23 @@ files_stay (entry.D us) t files = refl
 files_stay (entry.T cs) t files = refl
 files_stay (entry.P file x ms us) t files = refl
 files_stay (entry.E file) t files = absurd (t tt)
+files_stay (entry.X n cs) t files = refl
+files_stay (entry.V n name) t files = absurd (t tt)
 
 pub records_stay : (e : MapEntry) → (TakesMemory e → ⊥)
-    → ((file : FileNo) (t : ℕ) (ms : List MapPlace) (us : List MapUid) → e ≡ entry.P file t ms us → ⊥) → ((u : MapUid) → e ≡ entry.U u → ⊥) → ((us : List MapUid) → e ≡ entry.D us → ⊥) → ((cs : List MapCount) → e ≡ entry.T cs → ⊥)
+    → ((file : FileNo) (t : ℕ) (ms : List MapPlace) (us : List MapUid) → e ≡ entry.P file t ms us → ⊥) → ((u : MapUid) → e ≡ entry.U u → ⊥) → ((us : List MapUid) → e ≡ entry.D us → ⊥) → ((cs : List MapCount) → e ≡ entry.T cs → ⊥) → ((b : BoxNo) (cs : List MapCount) → e ≡ entry.X b cs → ⊥)
     → (rows : List MapRecord) → rows_by record_rules e rows ≡ rows
-records_stay (entry.H x) s p u d t rows = records_by_highest x rows
-records_stay (entry.B n gen name) s p u d t rows = absurd (s tt)
-records_stay (entry.G n gen) s p u d t rows = records_by_generation n gen rows
-records_stay (entry.S o c v file a z guid is) s p u d t rows = absurd (s tt)
-records_stay (entry.U v) s p u d t rows = absurd (u v refl)
-records_stay (entry.D us) s p u d t rows = absurd (d us refl)
-records_stay (entry.T cs) s p u d t rows = absurd (t cs refl)
-records_stay (entry.P file x ms us) s p u d t rows = absurd (p file x ms us refl)
-records_stay (entry.E file) s p u d t rows = absurd (s tt)
+records_stay (entry.H x) s p u d t q rows = records_by_highest x rows
+records_stay (entry.B n gen name) s p u d t q rows = absurd (s tt)
+records_stay (entry.G n gen) s p u d t q rows = records_by_generation n gen rows
+records_stay (entry.S o c v file a z guid is) s p u d t q rows = absurd (s tt)
+records_stay (entry.U v) s p u d t q rows = absurd (u v refl)
+records_stay (entry.D us) s p u d t q rows = absurd (d us refl)
+records_stay (entry.T cs) s p u d t q rows = absurd (t cs refl)
+records_stay (entry.P file x ms us) s p u d t q rows = absurd (p file x ms us refl)
+records_stay (entry.E file) s p u d t q rows = absurd (s tt)
+records_stay (entry.X n cs) s p u d t q rows = absurd (q n cs refl)
+records_stay (entry.V n name) s p u d t q rows = absurd (s tt)
 
 -- it needs no room
 pub no_room_for : (e : MapEntry) → (TakesMemory e → ⊥) → room_for e ≡ no_room
@@ -87,6 +95,8 @@ no_room_for (entry.D us) t = refl
 no_room_for (entry.T cs) t = refl
 no_room_for (entry.P file x ms us) t = refl
 no_room_for (entry.E file) t = absurd (t tt)
+no_room_for (entry.X n cs) t = refl
+no_room_for (entry.V n name) t = absurd (t tt)
 
 -- ---- room
 

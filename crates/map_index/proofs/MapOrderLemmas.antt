@@ -4,16 +4,18 @@ use Rattle.std.specs.Prelude.{All, AllPairs, nat_lt, if◌then◌else◌, slice_
 use Rattle.std.proofs.lemmas.Grind.{common_steps}
 use Rattle.std.proofs.lemmas.List.Elements.{All-nil, All-cons, All-weaker, All-push}
 use Rattle.std.proofs.lemmas.List.Kept.{AllPairs-cons}
+use Rattle.mdbox_base.specs.declared.ids.BoxNo.{BoxNo}
 use Rattle.mdbox_base.specs.declared.ids.MapUid.{MapUid}
 use Rattle.mdbox_base.specs.declared.entries.MapEntry.{MapEntry}
 use Rattle.mdbox_base.specs.declared.entries.MapEntry.TheVariants as map
-use Rattle.model_meaning.specs.MapMeaning.{MapRecord, MapBox, MapMeaning, map_applied, record_rules, box_changed, box_rules, with_number, sealed_by}
-use Rattle.model_meaning.specs.MapFits.{MapFits}
+use Rattle.model_meaning.specs.MapMeaning.{MapRecord, MapBox, MapMeaning, map_applied, record_rules, box_rules, with_number, sealed_by}
+use Rattle.model_meaning.specs.MapFits.{MapFits, FitsRenamed}
+use Rattle.model_meaning.proofs.MapSoundLemmas.{KeepsNames, box_name, box_number, pair_named, turned_equal}
 use Rattle.mdbox_base.specs.Words.{IsNumber}
 use Rattle.model_meaning.proofs.MapPlaceLemmas.{changed_same, equal_is, equal_yes}
 use Rattle.model_meaning.proofs.SealedLemmas.{all_with}
 use Rattle.model_octets.proofs.PairLemmas.{found_only, pairs_nil, pairs_push, pairs_head, pairs_tail}
-use Rattle.model_meaning.proofs.KeptRowLemmas.{kept_all, kept_length, kept_pairs, kept_rows}
+use Rattle.model_meaning.proofs.KeptRowLemmas.{kept_all, kept_length, kept_pairs, kept_pairs_from, kept_rows}
 use Rattle.map_index.specs.Kept.{AreKeptRecords, AreKeptBoxes, AreKeptFiles, IsMapInOrder}
 use Rattle.map_index.proofs.RisingLemmas.{few_rising}
 
@@ -39,6 +41,8 @@ rows_more m (map.D us) k f = rows_same (map.D us) m.highest.map _ m.records (ome
 rows_more m (map.T cs) k f = rows_same (map.T cs) m.highest.map _ m.records (omega arith) k
 rows_more m (map.P file t ms us) k f = rows_same (map.P file t ms us) m.highest.map _ m.records (omega arith) k
 rows_more m (map.E file) k f = rows_same (map.E file) m.highest.map _ m.records (omega arith) k
+rows_more m (map.X b cs) k f = rows_same (map.X b cs) m.highest.map _ m.records (omega arith) k
+rows_more m (map.V b n) k f = rows_same (map.V b n) m.highest.map _ m.records (omega arith) k
 rows_more m (map.S o c u file a z g is) k f =
     let entry : MapEntry = map.S o c u file a z g is in
     let rows : List MapRecord = kept_rows record_rules entry m.records in
@@ -54,50 +58,46 @@ rows_more m (map.S o c u file a z g is) k f =
 
 -- ---- mailboxes
 
-record IsSameBox (a b : MapBox) : Type 0 where
-  number : b.number ≡ a.number
-  name : b.name ≡ a.name
+abbrev NamesDiffer : MapBox → MapBox → Type 0
+NamesDiffer a b = a.name ≢ b.name
 
-generation_same : (hit : Bool) (g : ℕ) (box : MapBox) → IsSameBox box (if hit then record box { generation = g } else box)
-generation_same true g box = record { number = refl; name = refl }
-generation_same false g box = record { number = refl; name = refl }
+names_kept : (entry : MapEntry) (boxes : List MapBox) → KeepsNames entry → AllPairs NamesDiffer boxes → AllPairs NamesDiffer (kept_rows box_rules entry boxes)
+names_kept entry boxes keeps names = kept_pairs box_rules entry boxes NamesDiffer (λ a b h e. h (sym (box_name entry a keeps) ∙ e ∙ box_name entry b keeps)) names
 
-box_same : (entry : MapEntry) (box : MapBox) → IsSameBox box (box_changed entry box)
-box_same (map.H h) box = record { number = refl; name = refl }
-box_same (map.B m g n) box = record { number = refl; name = refl }
-box_same (map.G m g) box = generation_same (m.0 == box.number) g box
-box_same (map.S o c u f2 a z g is) box = record { number = refl; name = refl }
-box_same (map.U u) box = record { number = refl; name = refl }
-box_same (map.D us) box = record { number = refl; name = refl }
-box_same (map.T cs) box = record { number = refl; name = refl }
-box_same (map.P f2 t ms us) box = record { number = refl; name = refl }
-box_same (map.E f2) box = record { number = refl; name = refl }
+names_renamed : (m : MapMeaning) (mailbox : BoxNo) (name : List ℕ) (high : ℕ) → FitsRenamed m mailbox.0 name → AreKeptBoxes high m.boxes → AllPairs NamesDiffer (kept_rows box_rules (map.V mailbox name) m.boxes)
+names_renamed m mailbox name high f k = kept_pairs_from box_rules (map.V mailbox name) m.boxes NamesDiffer (λ i j d lt le.
+    let a : MapBox = slice_index_or m.boxes i d in
+    let b : MapBox = slice_index_or m.boxes j d in
+    pair_named (mailbox.0 == a.number) (mailbox.0 == b.number) mailbox.0 name a b (turned_equal mailbox.0 a.number _ refl) (turned_equal mailbox.0 b.number _ refl) (k.rising i j d lt le)
+    (f.name_new i d (omega (arith, lt, le))) (f.name_new j d le) (k.names i j d lt le))
 
-boxes_kept : (entry : MapEntry) (low high : ℕ) (boxes : List MapBox) → low ≤ high → AreKeptBoxes low boxes → AreKeptBoxes high (kept_rows box_rules entry boxes)
-boxes_kept entry low high boxes le k = record {
-  rising = kept_pairs box_rules entry boxes (λ a b. a.number < b.number) (λ a b h. let p = (box_same entry a).number in let q = (box_same entry b).number in omega (arith, h, p, q)) k.rising;
-  below = kept_all box_rules entry boxes (λ box. box.number ≤ low) (λ box. box.number ≤ high) (λ box h. let p = (box_same entry box).number in omega (arith, h, p, le)) k.below;
+boxes_kept : (entry : MapEntry) (low high : ℕ) (boxes : List MapBox) → low ≤ high → AllPairs NamesDiffer (kept_rows box_rules entry boxes) → AreKeptBoxes low boxes → AreKeptBoxes high (kept_rows box_rules entry boxes)
+boxes_kept entry low high boxes le names k = record {
+  rising = kept_pairs box_rules entry boxes (λ a b. a.number < b.number) (λ a b h. let p = box_number entry a in let q = box_number entry b in omega (arith, h, p, q)) k.rising;
+  below = kept_all box_rules entry boxes (λ box. box.number ≤ low) (λ box. box.number ≤ high) (λ box h. let p = box_number entry box in omega (arith, h, p, le)) k.below;
   room = (let a = kept_length box_rules entry boxes in let b = k.room in omega (arith, a, b));
-  names = kept_pairs box_rules entry boxes (λ a b. a.name ≢ b.name) (λ a b h e. h (sym (box_same entry a).name ∙ e ∙ (box_same entry b).name)) k.names;
+  names = names;
 }
 
-boxes_same : (entry : MapEntry) (low high : ℕ) (boxes : List MapBox) → low ≤ high → AreKeptBoxes low boxes → AreKeptBoxes high (kept_rows box_rules entry boxes ++ [])
-boxes_same entry low high boxes le k = subst (AreKeptBoxes high) (sym (append-nil (kept_rows box_rules entry boxes))) (boxes_kept entry low high boxes le k)
+boxes_same : (entry : MapEntry) (low high : ℕ) (boxes : List MapBox) → low ≤ high → AllPairs NamesDiffer (kept_rows box_rules entry boxes) → AreKeptBoxes low boxes → AreKeptBoxes high (kept_rows box_rules entry boxes ++ [])
+boxes_same entry low high boxes le names k = subst (AreKeptBoxes high) (sym (append-nil (kept_rows box_rules entry boxes))) (boxes_kept entry low high boxes le names k)
 
 boxes_more : (m : MapMeaning) (entry : MapEntry) → AreKeptBoxes m.highest.mailbox m.boxes → MapFits m entry → AreKeptBoxes (map_applied entry m).highest.mailbox (map_applied entry m).boxes
-boxes_more m (map.H h) k f = boxes_same (map.H h) m.highest.mailbox _ m.boxes (omega arith) k
-boxes_more m (map.G b g) k f = boxes_same (map.G b g) m.highest.mailbox _ m.boxes (omega arith) k
-boxes_more m (map.S o c u file a z g is) k f = boxes_same (map.S o c u file a z g is) m.highest.mailbox _ m.boxes (omega arith) k
-boxes_more m (map.U u) k f = boxes_same (map.U u) m.highest.mailbox _ m.boxes (omega arith) k
-boxes_more m (map.D us) k f = boxes_same (map.D us) m.highest.mailbox _ m.boxes (omega arith) k
-boxes_more m (map.T cs) k f = boxes_same (map.T cs) m.highest.mailbox _ m.boxes (omega arith) k
-boxes_more m (map.P file t ms us) k f = boxes_same (map.P file t ms us) m.highest.mailbox _ m.boxes (omega arith) k
-boxes_more m (map.E file) k f = boxes_same (map.E file) m.highest.mailbox _ m.boxes (omega arith) k
+boxes_more m (map.H h) k f = boxes_same (map.H h) m.highest.mailbox _ m.boxes (omega arith) (names_kept (map.H h) m.boxes tt k.names) k
+boxes_more m (map.G b g) k f = boxes_same (map.G b g) m.highest.mailbox _ m.boxes (omega arith) (names_kept (map.G b g) m.boxes tt k.names) k
+boxes_more m (map.S o c u file a z g is) k f = boxes_same (map.S o c u file a z g is) m.highest.mailbox _ m.boxes (omega arith) (names_kept (map.S o c u file a z g is) m.boxes tt k.names) k
+boxes_more m (map.U u) k f = boxes_same (map.U u) m.highest.mailbox _ m.boxes (omega arith) (names_kept (map.U u) m.boxes tt k.names) k
+boxes_more m (map.D us) k f = boxes_same (map.D us) m.highest.mailbox _ m.boxes (omega arith) (names_kept (map.D us) m.boxes tt k.names) k
+boxes_more m (map.T cs) k f = boxes_same (map.T cs) m.highest.mailbox _ m.boxes (omega arith) (names_kept (map.T cs) m.boxes tt k.names) k
+boxes_more m (map.P file t ms us) k f = boxes_same (map.P file t ms us) m.highest.mailbox _ m.boxes (omega arith) (names_kept (map.P file t ms us) m.boxes tt k.names) k
+boxes_more m (map.E file) k f = boxes_same (map.E file) m.highest.mailbox _ m.boxes (omega arith) (names_kept (map.E file) m.boxes tt k.names) k
+boxes_more m (map.X b cs) k f = boxes_same (map.X b cs) m.highest.mailbox _ m.boxes (omega arith) (names_kept (map.X b cs) m.boxes tt k.names) k
+boxes_more m (map.V b n) k f = boxes_same (map.V b n) m.highest.mailbox _ m.boxes (omega arith) (names_renamed m b n m.highest.mailbox f k) k
 boxes_more m (map.B b g n) k f =
     let entry : MapEntry = map.B b g n in
     let boxes : List MapBox = kept_rows box_rules entry m.boxes in
     let box : MapBox = record { number = b.0; generation = g; name = n } in
-    let old = boxes_kept entry m.highest.mailbox m.highest.mailbox m.boxes (omega arith) k in
+    let old = boxes_kept entry m.highest.mailbox m.highest.mailbox m.boxes (omega arith) (names_kept entry m.boxes tt k.names) k in
     let above = f.box_new in
     let short = kept_length box_rules entry m.boxes in
     record {
@@ -145,6 +145,8 @@ files_more m (map.D us) k f = k
 files_more m (map.T cs) k f = k
 files_more m (map.P file t ms us) k f = k
 files_more m (map.E file) k f = files_with file.0 m.sealed f k
+files_more m (map.X b cs) k f = k
+files_more m (map.V b n) k f = k
 
 -- ---- the whole
 

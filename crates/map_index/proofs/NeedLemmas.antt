@@ -1,5 +1,5 @@
 -- What an entry that fits says of the records.
-use Rattle.std.proofs.Common.{◌≡◌, ◌≢◌, inl, inr, ◌+◌, ◌<◌, ◌≤◌, ◌==◌, ℕ, Bool, true, false, not, cond, List, [], ◌∷◌, map, filter, find, Option, Some, None, All, refl, sym, ◌∙◌, ap, arith}
+use Rattle.std.proofs.Common.{◌≡◌, ◌≢◌, inl, inr, ◌+◌, ◌<◌, ◌≤◌, ◌==◌, ℕ, Bool, true, false, cond, List, [], ◌∷◌, map, find, Option, Some, None, All, refl, sym, ◌∙◌, ap, arith}
 use Rattle.std.specs.Prelude.{AllPairs, ◌⊎◌}
 use Rattle.std.specs.Option.{option_map, option_map_or}
 use Rattle.std.proofs.lemmas.Bool.Decides.{nat_tests}
@@ -155,3 +155,5 @@ fits_table m (entry.D us) k f = f.0
 fits_table m (entry.T cs) k f = f.0
 fits_table m (entry.P file t ms us) k f = (f.moved_rising, f.dropped_rising, target_fits m file.0 t ms k.records.rising (AllPairs-from_increasing _ f.moved_rising) f.target_fits)
 fits_table m (entry.E file) k f = tt
+fits_table m (entry.X b cs) k f = f.rising
+fits_table m (entry.V b n) k f = tt

@@ -14,12 +14,14 @@ FitsTable (entry.S origin count uid file offset size guid instances) rows =
 FitsTable (entry.U uid) rows = All (λ row. uid.0 ≡ row.uid → row.count ≤ 65534) rows
 FitsTable (entry.D uids) rows = IsStrictlyIncreasing (map (λ u. u.0) uids)
 FitsTable (entry.T counts) rows = IsStrictlyIncreasing (map (λ c. c.uid.0) counts)
+FitsTable (entry.X mailbox amounts) rows = IsStrictlyIncreasing (map (λ c. c.uid.0) amounts)
 FitsTable (entry.P file target moved dropped) rows = IsStrictlyIncreasing (map (λ p. p.uid.0) moved) × IsStrictlyIncreasing (map (λ u. u.0) dropped) × CanMoveEach rows target moved
 FitsTable other rows = Unit {0}
 
--- the entry makes a mailbox, stores a message or seals a file
+-- the entry makes a mailbox, gives it another name, stores a message or seals a file
 abbrev pub TakesMemory : MapEntry → Type 0
 TakesMemory (entry.B mailbox generation name) = Unit {0}
 TakesMemory (entry.S origin count uid file offset size guid instances) = Unit {0}
 TakesMemory (entry.E file) = Unit {0}
+TakesMemory (entry.V mailbox name) = Unit {0}
 TakesMemory other = ⊥

@@ -1,5 +1,5 @@
 // What an entry of the map log does to the records, the mailboxes and the sealed files.
-ghost use Rattle.std.specs.Prelude.{◌≡◌, ◌+◌, ◌-◌, ◌<◌, ◌≤◌, map, vec_len, vec_capacity, IsErr, IfOk, MatchOption, AllPairs};
+ghost use Rattle.std.specs.Prelude.{◌≡◌, ◌+◌, ◌-◌, ◌<◌, ◌≤◌, ◌==◌, filter, map, not, vec_len, vec_capacity, IsErr, IfOk, MatchOption, AllPairs};
 ghost use Rattle.model_meaning.specs.Rows.{rows_by};
 ghost use Rattle.model_meaning.specs.MapMeaning.{record_rules, box_changed, box_rules, sealed_by, with_number};
 ghost use Rattle.mdbox_base.specs.declared.entries.MapEntry.TheVariants as entry;
@@ -7,7 +7,7 @@ ghost use Rattle.map_index.specs.Shown.{box_of};
 ghost use Rattle.map_index.specs.Needs.{FitsTable, TakesMemory};
 ghost use Rattle.map_index.specs.Value.{room_for};
 
-use crate::listed::{lower_each, set_counts};
+use crate::listed::{lower_by_each, lower_each, set_counts};
 use crate::rows::{BoxAt, Mailbox, place_with_number};
 use map_rows::{MapRow, Record, Table};
 use mdbox_base::{BoxNo, FileNo, InstRow, MapEntry, Name, NoMemory, Seq, name_of};
@@ -65,6 +65,7 @@ pub fn take_parts(
             name,
         } => boxes.push_reserved(Mailbox::of(mailbox, generation, name)),
         MapEntry::E { file } => seal(files, file),
+        MapEntry::V { mailbox, name } => rename(boxes, mailbox, name),
         other => change_parts(records, boxes, &other),
     }
 }
@@ -76,7 +77,7 @@ pub fn change_parts(records: &mut Table, boxes: &mut Vec<Mailbox>, entry: &MapEn
     requires changes { TakesMemory entry.now → ⊥ }
     ensures records { records.new ≡ record records.old { records = rows_by record_rules entry.now records.old.records } }
     ensures boxes { map box_of boxes.new.items ≡ rows_by box_rules entry.now (map box_of boxes.old.items) }
-    ensures space_boxes { (vec_len boxes.new ≡ vec_len boxes.old) × (vec_capacity boxes.new ≡ vec_capacity boxes.old) }
+    ensures space_boxes { (vec_len boxes.new ≤ vec_len boxes.old) × (vec_capacity boxes.new ≡ vec_capacity boxes.old) }
 {
     change_records(records, entry);
     change_boxes(boxes, entry);
@@ -117,6 +118,10 @@ pub fn copied(alloc: Global, entry: &MapEntry) -> Result<Option<MapEntry>, NoMem
             name: copied_name(alloc, name)?,
         },
         MapEntry::E { file } => MapEntry::E { file: *file },
+        MapEntry::V { mailbox, name } => MapEntry::V {
+            mailbox: *mailbox,
+            name: copied_name(alloc, name)?,
+        },
         _ => return Ok(None),
     };
     Ok(Some(copy))
@@ -145,6 +150,7 @@ fn change_records(records: &mut Table, entry: &MapEntry)
         MapEntry::U { uid } => records.raise(*uid),
         MapEntry::D { uids } => lower_each(records, uids.as_slice()),
         MapEntry::T { counts } => set_counts(records, counts.as_slice()),
+        MapEntry::X { amounts, .. } => lower_by_each(records, amounts.as_slice()),
         _ => {}
     }
 }
@@ -154,13 +160,14 @@ fn change_boxes(boxes: &mut Vec<Mailbox>, entry: &MapEntry)
     requires rising { AllPairs (λ a b. a.at.number.0 < b.at.number.0) boxes.old.items }
     requires changes { TakesMemory entry.now → ⊥ }
     ensures boxes { map box_of boxes.new.items ≡ rows_by box_rules entry.now (map box_of boxes.old.items) }
-    ensures space { (vec_len boxes.new ≡ vec_len boxes.old) × (vec_capacity boxes.new ≡ vec_capacity boxes.old) }
+    ensures space { (vec_len boxes.new ≤ vec_len boxes.old) × (vec_capacity boxes.new ≡ vec_capacity boxes.old) }
 {
     match entry {
         MapEntry::G {
             mailbox,
             generation,
         } => renew(boxes, *mailbox, *generation),
+        MapEntry::X { mailbox, .. } => remove(boxes, *mailbox),
         _ => {}
     }
 }
@@ -181,6 +188,26 @@ fn renew(boxes: &mut Vec<Mailbox>, number: BoxNo, generation: u32)
     let place = place_with_number(boxes, number);
     if place < boxes.len() {
         boxes[place].at = BoxAt { number, generation };
+    }
+}
+
+/// Takes out the mailbox with this number, if there is one.
+fn remove(boxes: &mut Vec<Mailbox>, number: BoxNo)
+    ensures boxes { map box_of boxes.new.items ≡ filter (λ box. not (number.0 == box.number)) (map box_of boxes.old.items) }
+    ensures space { (vec_len boxes.new ≤ vec_len boxes.old) × (vec_capacity boxes.new ≡ vec_capacity boxes.old) }
+{
+    boxes.retain(|mailbox| number.0 != mailbox.at.number.0);
+}
+
+/// Gives the mailbox with this number another name, if there is one.
+fn rename(boxes: &mut Vec<Mailbox>, number: BoxNo, name: Name)
+    requires { AllPairs (λ a b. a.at.number.0 < b.at.number.0) boxes.old.items }
+    ensures boxes { map box_of boxes.new.items ≡ map (box_changed (entry.V number name)) (map box_of boxes.old.items) }
+    ensures space { (vec_len boxes.new ≡ vec_len boxes.old) × (vec_capacity boxes.new ≡ vec_capacity boxes.old) }
+{
+    let place = place_with_number(boxes, number);
+    if place < boxes.len() {
+        boxes[place].name = name;
     }
 }
 

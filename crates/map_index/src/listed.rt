@@ -3,6 +3,7 @@ ghost use Rattle.std.specs.Prelude.{◌≡◌, map};
 ghost use Rattle.std.specs.List.Sorted.{IsStrictlyIncreasing};
 ghost use Rattle.model_meaning.specs.MapMeaning.{record_changed};
 ghost use Rattle.mdbox_base.specs.declared.entries.MapEntry.TheVariants as entry;
+ghost use Rattle.map_rows.specs.Lookups.{lowered_by};
 
 use map_rows::Table;
 use mdbox_base::{MapCount, MapUid};
@@ -24,5 +25,15 @@ pub fn set_counts(records: &mut Table, counts: &[MapCount])
 {
     for given in counts {
         records.set_count(*given);
+    }
+}
+
+/// Lowers the count of each record that the list names, by its amount.
+pub fn lower_by_each(records: &mut Table, amounts: &[MapCount])
+    requires { IsStrictlyIncreasing (map (λ c. c.uid.0) amounts.now) }
+    ensures { records.new ≡ record records.old { records = map (lowered_by amounts.now) records.old.records } }
+{
+    for given in amounts {
+        records.lower_by(*given);
     }
 }

@@ -95,6 +95,15 @@ pub fn numbers_of(store: StoreId, entry: &MapEntry) -> Highest
             file: file.0,
             ..NO_NUMBERS
         },
+        MapEntry::X { mailbox, amounts } => Highest {
+            map: greatest_uid(amounts.as_slice()),
+            mailbox: mailbox.0,
+            ..NO_NUMBERS
+        },
+        MapEntry::V { mailbox, .. } => Highest {
+            mailbox: mailbox.0,
+            ..NO_NUMBERS
+        },
     }
 }
 

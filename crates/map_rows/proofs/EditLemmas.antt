@@ -13,7 +13,7 @@ use Rattle.mdbox_base.specs.declared.entries.MapEntry.TheVariants as entry
 use Rattle.model_meaning.specs.MapMeaning.{MapRecord, record_changed}
 use Rattle.model_meaning.proofs.MapPlaceLemmas.{equal_is}
 use Rattle.map_rows.specs.declared.rows.Record.{Record}
-use Rattle.map_rows.specs.Lookups.{meant_record}
+use Rattle.map_rows.specs.Lookups.{lowered_by, meant_record}
 use Rattle.map_rows.proofs.DerivedListLemmas.{All-unmap}
 
 abbrev pub Rise : List Record → Type 0
@@ -83,6 +83,15 @@ sets_only given row apart = rw (unequal given.uid.0 row.uid (λ e. apart (sym e)
 
 pub given_count : (given : MapCount) (row : MapRecord) → row.uid ≡ given.uid.0 → record_changed (entry.T (given ∷ [])) row ≡ record row { count = given.count }
 given_count given row e = rw (equal given.uid.0 row.uid (sym e)) refl
+
+none_off : (row : MapRecord) → record row { count = row.count - 0 } ≡ row
+none_off row = ap (λ (n : ℕ). record row { count = n }) (let e : row.count - 0 ≡ row.count = omega arith in e)
+
+pub lowers_by_only : (given : MapCount) → ChangesOnly given.uid.0 (lowered_by (given ∷ []))
+lowers_by_only given row apart = rw (unequal given.uid.0 row.uid (λ e. apart (sym e))) (none_off row)
+
+pub lowered_count : (given : MapCount) (row : MapRecord) → row.uid ≡ given.uid.0 → lowered_by (given ∷ []) row ≡ record row { count = row.count - given.count }
+lowered_count given row e = rw (equal given.uid.0 row.uid (sym e)) refl
 
 -- ---- for the calls
 

@@ -14,7 +14,7 @@ use Rattle.model_meaning.specs.MapMeaning.{MapRecord, record_changed, has_map_ui
 use Rattle.model_meaning.specs.MapFits.{IsApart, AgreesOn}
 use Rattle.map_rows.specs.declared.order.OrderKey.{OrderKey}
 use Rattle.map_rows.specs.declared.rows.Record.{Record}
-use Rattle.map_rows.specs.Lookups.{meant_record}
+use Rattle.map_rows.specs.Lookups.{lowered_by, meant_record}
 use Rattle.map_rows.specs.Keys.{guid_number, guid_key, place_number, place_key}
 use Rattle.map_rows.specs.Orders.{times, AreKeysOf, with_key}
 use Rattle.map_rows.specs.TableKept.{IsTableRow, LieApart, NameAlike, AreTableRows, FitsBehind, AreIndexed}
@@ -145,6 +145,9 @@ lowers_count uids r = counts_chosen (has_map_uid r.uid uids) (r.count - 1) r
 
 pub sets_count : (counts : List MapCount) → ChangesCount (record_changed (entry.T counts))
 sets_count counts r = refl
+
+pub lowers_by_count : (counts : List MapCount) → ChangesCount (lowered_by counts)
+lowers_by_count counts r = refl
 
 -- ---- records that are dropped
 

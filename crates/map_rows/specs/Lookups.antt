@@ -1,6 +1,7 @@
 -- Records of the map as the code has them, and look-ups among records.
-use Rattle.std.specs.Prelude.{◌≡◌, ◌≢◌, ◌<◌, ◌+◌, ◌==◌, ◌&&◌, nat_le, find, All, if◌then◌else◌, ℕ, Bool, List, filter, fold, Option, None, Some}
-use Rattle.model_meaning.specs.MapMeaning.{MapRecord}
+use Rattle.std.specs.Prelude.{◌≡◌, ◌≢◌, ◌<◌, ◌+◌, ◌-◌, ◌==◌, ◌&&◌, nat_le, find, All, if◌then◌else◌, ℕ, Bool, List, filter, fold, Option, None, Some}
+use Rattle.mdbox_base.specs.declared.entries.MapCount.{MapCount}
+use Rattle.model_meaning.specs.MapMeaning.{MapRecord, count_given}
 use Rattle.map_rows.specs.declared.rows.Record.{Record}
 
 -- a record as the code has it, as the meaning has it
@@ -15,6 +16,10 @@ meant_record r = record {
   guid = r.row.guid.0;
   instances = r.instances;
 }
+
+-- a record whose count falls by the amount that a list gives for it
+abbrev pub lowered_by : List MapCount → MapRecord → MapRecord
+lowered_by amounts row = record row { count = row.count - count_given row.uid amounts 0 }
 
 -- a record of this file, at this offset or behind it
 abbrev pub is_from : ℕ → ℕ → MapRecord → Bool

@@ -3,7 +3,7 @@ ghost use Rattle.std.specs.Prelude.{◌≡◌, ◌<◌, ◌≤◌, ◌==◌, ◌
 ghost use Rattle.std.specs.List.Sorted.{IsStrictlyIncreasing};
 ghost use Rattle.model_meaning.specs.MapMeaning.{record_changed, has_map_uid, place_given, moved_record};
 ghost use Rattle.mdbox_base.specs.declared.entries.MapEntry.TheVariants as entry;
-ghost use Rattle.map_rows.specs.Lookups.{meant_record};
+ghost use Rattle.map_rows.specs.Lookups.{lowered_by, meant_record};
 
 use crate::listed::{is_listed, place_given};
 use crate::rows::{MapRow, Record, place_with_uid};
@@ -55,6 +55,23 @@ pub fn set_count(records: &mut Vec<Record>, given: MapCount)
         let old = records[place].row;
         let row = MapRow {
             count: given.count,
+            ..old
+        };
+        records[place].row = row;
+    }
+}
+
+/// Lowers the count of a record by an amount, if there is one of this map uid.
+pub fn lower_by(records: &mut Vec<Record>, given: MapCount)
+    requires { AllPairs (λ a b. a.row.uid.0 < b.row.uid.0) records.old.items }
+    ensures records { map meant_record records.new.items ≡ map (lowered_by (given ∷ [])) (map meant_record records.old.items) }
+    ensures space { (vec_len records.new ≡ vec_len records.old) × (vec_capacity records.new ≡ vec_capacity records.old) }
+{
+    let place = place_with_uid(records, given.uid);
+    if place < records.len() {
+        let old = records[place].row;
+        let row = MapRow {
+            count: old.count.saturating_sub(given.count),
             ..old
         };
         records[place].row = row;

@@ -27,7 +27,7 @@ pub struct InstRow {
     pub size: u32,
 }
 
-/// The count that a record gets.
+/// The count that a record gets, or by how much its count falls.
 #[derive(Clone, Copy, Debug, PartialEq, Eq)]
 pub struct MapCount {
     pub uid: MapUid,
@@ -90,6 +90,16 @@ pub enum MapEntry {
     /// The file is sealed: it is never taken, cut, purged or removed.
     E {
         file: FileNo,
+    },
+    /// The mailbox leaves with all that it lists: the count of each record falls by its amount.
+    X {
+        mailbox: BoxNo,
+        amounts: Seq<MapCount>,
+    },
+    /// The mailbox has this name.
+    V {
+        mailbox: BoxNo,
+        name: Name,
     },
 }
 

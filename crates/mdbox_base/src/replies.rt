@@ -18,8 +18,10 @@ pub struct ListRow {
 #[derive(Clone, Copy, Debug, PartialEq, Eq)]
 pub enum Refusal {
     NoMailbox,
+    Inbox,
     Exists,
     NoMessage,
+    Sealed,
     TooManyCopies(u64),
     MailboxFull(u64),
     TooManyMailboxes(u64),
@@ -62,6 +64,11 @@ pub enum Reply {
     Resynced {
         corrected: u64,
         damaged: u64,
+    },
+    /// A storage file is on the second device now: so many messages moved with it, so many records were dropped.
+    AltMoved {
+        moved: u64,
+        dropped: u64,
     },
     Refused(Refusal),
 }

@@ -43,6 +43,15 @@ pub enum Request {
     Make {
         name: Name,
     },
+    /// Removes the mailbox with all that it lists.
+    Delete {
+        name: Name,
+    },
+    /// Gives the mailbox another name.
+    Rename {
+        name: Name,
+        target: Name,
+    },
     Counts,
     Purge,
     Resync,

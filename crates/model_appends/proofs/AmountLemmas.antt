@@ -311,6 +311,8 @@ accounted_each m (map_entry.H h) logs due leak s have only fits may all = unchan
   where
     unchanged : (rows : List MapRecord) → All (IsAccounted due leak logs) rows → All (IsAccounted due leak logs) (map (λ row. row) rows ++ [])
     unchanged rows all = All-append (IsAccounted due leak logs) (map (λ row. row) rows) [] (all_map (IsAccounted due leak logs) (IsAccounted due leak logs) (λ row. row) (λ row a. a) rows all) (All-nil (IsAccounted due leak logs))
+accounted_each m (map_entry.X k cs) logs due leak s have only fits may all = absurd only
+accounted_each m (map_entry.V k n) logs due leak s have only fits may all = absurd only
 accounted_each m (map_entry.E f) logs due leak s have only fits may all = unchanged m.records all
   where
     unchanged : (rows : List MapRecord) → All (IsAccounted due leak logs) rows → All (IsAccounted due leak logs) (map (λ row. row) rows ++ [])
@@ -333,6 +335,8 @@ listed_made (map_entry.U k) logs uid only = ap (λ (ls : List (List BoxEntry)). 
 listed_made (map_entry.D ks) logs uid only = ap (λ (ls : List (List BoxEntry)). listed_of ls uid) (no_logs logs)
 listed_made (map_entry.T cs) logs uid only = ap (λ (ls : List (List BoxEntry)). listed_of ls uid) (no_logs logs)
 listed_made (map_entry.H h) logs uid only = ap (λ (ls : List (List BoxEntry)). listed_of ls uid) (no_logs logs)
+listed_made (map_entry.X k cs) logs uid only = absurd only
+listed_made (map_entry.V k n) logs uid only = absurd only
 listed_made (map_entry.E f) logs uid only = ap (λ (ls : List (List BoxEntry)). listed_of ls uid) (no_logs logs)
 listed_made (map_entry.S o c k f p z g is) logs uid only = ap (λ (ls : List (List BoxEntry)). listed_of ls uid) (no_logs logs)
 listed_made (map_entry.B k g n) logs uid only = made_logs logs uid
@@ -353,3 +357,27 @@ accounted_by_map_entry store entries e logs due leak good only fits may all =
 -- What counts are made of is at least what is listed.
 pub accounted_counted : (due leak : ℕ → ℕ) (logs : List (List BoxEntry)) (rows : List MapRecord) → All (IsAccounted due leak logs) rows → All (IsCounted logs) rows
 accounted_counted due leak logs rows all = All-weaker (IsAccounted due leak logs) (IsCounted logs) (λ row a. omega (arith, a)) rows all
+
+-- Counts that are set to what is listed and held anew: what was due of these records is so no more, and they leak nothing.
+held_row : (due now leak : ℕ → ℕ) (logs : List (List BoxEntry)) (counts : List MapCount) (row : MapRecord) → ((c : MapCount) → find (λ c. c.uid.0 == row.uid) counts ≡ Some c → c.count ≡ listed_of logs row.uid + now row.uid)
+    → (find (λ (c : MapCount). c.uid.0 == row.uid) counts ≡ None → now row.uid ≡ due row.uid) → IsAccounted due leak logs row → IsAccounted now (leak_by (map_entry.T counts) leak) logs (record_changed (map_entry.T counts) row)
+held_row due now leak logs counts row set other a = by_found (find (λ (c : MapCount). c.uid.0 == row.uid) counts) refl
+  where
+    by_found : (o : Option MapCount) → find (λ c. c.uid.0 == row.uid) counts ≡ o → option_map_or (λ (c : MapCount). c.count) o row.count ≡ listed_of logs row.uid + now row.uid + option_map_or (λ (c : MapCount). 0) o (leak row.uid)
+    by_found None is = let s = other is in omega (arith, a, s)
+    by_found (Some c) is = let s = set c is in omega (arith, s)
+
+pub held_by_counts : (store : List ℕ) (entries : List MapEntry) (counts : List MapCount) (logs : List (List BoxEntry)) (due now leak : ℕ → ℕ)
+    → ((uid : ℕ) (c : MapCount) → find (λ c. c.uid.0 == uid) counts ≡ Some c → c.count ≡ listed_of logs uid + now uid) → ((uid : ℕ) → find (λ (c : MapCount). c.uid.0 == uid) counts ≡ None → now uid ≡ due uid)
+    → All (IsAccounted due leak logs) (map_meaning store entries).records → All (IsAccounted now (leak_by (map_entry.T counts) leak) logs) (map_meaning store (entries ++ map_entry.T counts ∷ [])).records
+held_by_counts store entries counts logs due now leak set other all =
+    let m : MapMeaning = map_meaning store entries in
+    subst (λ (rows : List MapRecord). All (IsAccounted now (leak_by (map_entry.T counts) leak) logs) rows) (sym (records_added store entries (map_entry.T counts) tt))
+    (All-append (IsAccounted now (leak_by (map_entry.T counts) leak) logs) (map (record_changed (map_entry.T counts)) m.records) []
+    (all_map (IsAccounted due leak logs) (IsAccounted now (leak_by (map_entry.T counts) leak) logs) (record_changed (map_entry.T counts)) (λ row a. held_row due now leak logs counts row (set row.uid) (other row.uid) a) m.records all)
+    (All-nil (IsAccounted now (leak_by (map_entry.T counts) leak) logs)))
+
+-- The same counts over other logs, where what is listed and what is due come to as much: a mailbox's log is switched, or made with entries.
+pub accounted_switched : (due now leak : ℕ → ℕ) (logs later : List (List BoxEntry)) (rows : List MapRecord) → ((uid : ℕ) → listed_of later uid + now uid ≡ listed_of logs uid + due uid)
+    → All (IsAccounted due leak logs) rows → All (IsAccounted now leak later) rows
+accounted_switched due now leak logs later rows same all = All-weaker (IsAccounted due leak logs) (IsAccounted now leak later) (λ row a. let s = same row.uid in omega (arith, a, s)) rows all

@@ -1,8 +1,8 @@
 -- One entry more in the map log.
 use Rattle.std.specs.Prelude.{◌≡◌, ◌≤◌, ◌==◌, ℕ, count_by, true, false, cond, Bool, List, [], ◌∷◌, ◌++◌, map, find, Option, Some, None, Contains, refl}
-use Rattle.std.proofs.Common.{sym, ◌∙◌, subst, ap, arith, append-nil}
+use Rattle.std.proofs.Common.{sym, ◌∙◌, subst, ap, arith}
 use Rattle.std.specs.Str.{bytes_eq}
-use Rattle.std.proofs.lemmas.List.Sums.{sum_by-cons, sum_by-append}
+use Rattle.std.proofs.lemmas.List.Sums.{sum_by-cons}
 use Rattle.model_octets.proofs.SearchLemmas.{found_one, text_yes}
 use Rattle.model_store.proofs.OpeningSafeLemmas.{count_is}
 use Rattle.std.proofs.lemmas.List.Elements.{All-contains, All-contains_itself}
@@ -104,13 +104,7 @@ mailboxes_on a b m n g (box ∷ boxes) (x ∷ xs) sound s same f c h =
 all_covered : (m : MapMeaning) (xs : Lists) → ((guid : List ℕ) → refs_of xs guid ≤ count_of m guid) → RefsCovered m xs
 all_covered m xs counts = λ guid some. let h = counts guid in omega (arith, h, some)
 
-last_covered : (m : MapMeaning) (xs ys : Lists) → ((guid : List ℕ) → refs_of (xs ++ ys) guid ≤ count_of m guid) → RefsCovered m ys
-last_covered m xs ys counts = λ guid some.
-    let h = counts guid in
-    let a = sum_by-append (λ (o : Mailbox). count_by (λ (y : ListedMessage). bytes_eq y.guid guid) o.messages) xs ys in
-    omega (arith, h, some, a)
-
-mailboxes_append : (b : Files) (n : MapMeaning) (boxes more : List MapBox) (xs ys : Lists) → AreMailboxes b n boxes xs → AreMailboxes b n more ys → AreMailboxes b n (boxes ++ more) (xs ++ ys)
+pub mailboxes_append : (b : Files) (n : MapMeaning) (boxes more : List MapBox) (xs ys : Lists) → AreMailboxes b n boxes xs → AreMailboxes b n more ys → AreMailboxes b n (boxes ++ more) (xs ++ ys)
 mailboxes_append b n [] more [] ys h k = k
 mailboxes_append b n [] more (x ∷ xs) ys h k = absurd h
 mailboxes_append b n (box ∷ boxes) more [] ys h k = absurd h
@@ -119,6 +113,10 @@ mailboxes_append b n (box ∷ boxes) more (x ∷ xs) ys h k = (h.0, mailboxes_ap
 -- a meaning finds its own records
 found_itself : (a : Files) (n : MapMeaning) → FoundIn a n n
 found_itself a n uid row h some = (row, h, (refl, λ octets k. k))
+
+-- mailboxes stand as they stood by a new meaning, which still finds what is referred to
+pub mailboxes_still : (a : Files) (m n : MapMeaning) (boxes : List MapBox) (xs : Lists) → IsSoundMap m → n.store ≡ m.store → IsMapStep a m n → ((guid : List ℕ) → refs_of xs guid ≤ count_of m guid) → AreMailboxes a m boxes xs → AreMailboxes a n boxes xs
+mailboxes_still a m n boxes xs sound store step counts h = mailboxes_on a a m n 0 boxes xs sound (λ name apart. refl) store step.found (all_covered m xs counts) h
 
 -- ---- the map log
 
@@ -135,22 +133,19 @@ map_log_more a b store entries e h in_range fits s more = record {
 
 -- ---- the law, in place and for files that carry over the rest
 
-in_place : (a b : Files) (store : List ℕ) (entries : List MapEntry) (lists added : Lists) (made : List MapBox) (e : MapEntry) → (s : StandsBy a store entries lists) → MapInRange e → MapFits (map_meaning store entries) e
-    → IsMapStep a (map_meaning store entries) (map_meaning store (entries ++ e ∷ [])) made added
-    → ((guid : List ℕ) → refs_of lists guid ≤ count_of (map_meaning store entries) guid) → ((guid : List ℕ) → refs_of (lists ++ added) guid ≤ count_of (map_meaning store (entries ++ e ∷ [])) guid)
+in_place : (a b : Files) (store : List ℕ) (entries : List MapEntry) (lists later : Lists) (e : MapEntry) → (s : StandsBy a store entries lists) → MapInRange e → MapFits (map_meaning store entries) e
+    → IsMapStep a (map_meaning store entries) (map_meaning store (entries ++ e ∷ []))
+    → AreMailboxes a (map_meaning store (entries ++ e ∷ [])) (map_meaning store (entries ++ e ∷ [])).boxes later → ((guid : List ℕ) → refs_of later guid ≤ count_of (map_meaning store (entries ++ e ∷ [])) guid)
     → (same : SameBut (file.Map s.map_log.generation) a b) → HasOneMore (map_text e) (a (file.Map s.map_log.generation)) (b (file.Map s.map_log.generation))
-    → StandsBy b store (entries ++ e ∷ []) (lists ++ added)
-in_place a b store entries lists added made e s in_range fits step before later same more =
-    let m : MapMeaning = map_meaning store entries in
+    → StandsBy b store (entries ++ e ∷ []) later
+in_place a b store entries lists later e s in_range fits step boxes counts same more =
     let n : MapMeaning = map_meaning store (entries ++ e ∷ []) in
     let g : ℕ = s.map_log.generation in
     let has : HasMap b store (entries ++ e ∷ []) = map_log_more a b store entries e s.map_log in_range fits same more in
-    let old : IsSoundMap m = map_sound store entries s.map_log.fit s.map_log.in_range in
     let sound : IsSoundMap n = map_sound store (entries ++ e ∷ []) has.fit has.in_range in
     record {
       map_log = has;
-      mailboxes = subst (λ (boxes : List MapBox). AreMailboxes b n boxes (lists ++ added)) (sym step.boxes)
-          (mailboxes_append b n m.boxes made lists added (mailboxes_on a b m n g m.boxes lists old same refl step.found (all_covered m lists before) s.mailboxes) (mailboxes_on a b n n g made added sound same refl (found_itself a n) (last_covered n lists added later) step.made_there));
+      mailboxes = mailboxes_on a b n n g n.boxes later sound same refl (found_itself a n) (all_covered n later counts) boxes;
       one_record = sound.guids;
       once = once_as a b n (map_stored g a b same) step.once;
       detached = detached_as a b n (map_stored g a b same) step.detached;
@@ -158,19 +153,19 @@ in_place a b store entries lists added made e s in_range fits step before later 
 
 -- Files that carry over what a store reads by the new meaning, but for the map log, which has one entry more, stand for the
 -- lists that the entry gives.
-pub stands_by_map_entry : (a b : Files) (store : List ℕ) (entries : List MapEntry) (lists added : Lists) (made : List MapBox) (e : MapEntry) → (s : StandsBy a store entries lists) → MapInRange e → MapFits (map_meaning store entries) e
-    → IsMapStep a (map_meaning store entries) (map_meaning store (entries ++ e ∷ [])) made added
-    → ((guid : List ℕ) → refs_of lists guid ≤ count_of (map_meaning store entries) guid) → ((guid : List ℕ) → refs_of (lists ++ added) guid ≤ count_of (map_meaning store (entries ++ e ∷ [])) guid)
-    → CarryMore (file.Map s.map_log.generation) (map_text e) s.map_log.generation (map_meaning store (entries ++ e ∷ [])) a b → StandsBy b store (entries ++ e ∷ []) (lists ++ added)
+pub stands_by_map_entry : (a b : Files) (store : List ℕ) (entries : List MapEntry) (lists later : Lists) (e : MapEntry) → (s : StandsBy a store entries lists) → MapInRange e → MapFits (map_meaning store entries) e
+    → IsMapStep a (map_meaning store entries) (map_meaning store (entries ++ e ∷ []))
+    → AreMailboxes a (map_meaning store (entries ++ e ∷ [])) (map_meaning store (entries ++ e ∷ [])).boxes later → ((guid : List ℕ) → refs_of later guid ≤ count_of (map_meaning store (entries ++ e ∷ [])) guid)
+    → CarryMore (file.Map s.map_log.generation) (map_text e) s.map_log.generation (map_meaning store (entries ++ e ∷ [])) a b → StandsBy b store (entries ++ e ∷ []) later
 unfolding in_place map_log_more
-stands_by_map_entry a b store entries lists added made e s in_range fits step before later carry =
+stands_by_map_entry a b store entries lists later e s in_range fits step boxes counts carry =
     let g : ℕ = s.map_log.generation in
     let name : FileName = file.Map g in
     let n : MapMeaning = map_meaning store (entries ++ e ∷ []) in
     let c : Files = mixed name b a in
     let same : SameBut name a c = λ other apart. mixed-other name other b a apart in
-    let t : StandsBy c store (entries ++ e ∷ []) (lists ++ added) = in_place a c store entries lists added made e s in_range fits step before later same (subst (λ (o : Option (List ℕ)). HasOneMore (map_text e) (a name) o) (sym (mixed-here name b a)) carry.more) in
-    stands_carried c b store (entries ++ e ∷ []) (lists ++ added) t (carry_back g g n a b carry.others)
+    let t : StandsBy c store (entries ++ e ∷ []) later = in_place a c store entries lists later e s in_range fits step boxes counts same (subst (λ (o : Option (List ℕ)). HasOneMore (map_text e) (a name) o) (sym (mixed-here name b a)) carry.more) in
+    stands_carried c b store (entries ++ e ∷ []) later t (carry_back g g n a b carry.others)
 
 -- ---- entries that change counts alone
 
@@ -216,13 +211,11 @@ detached_old files m n old h = λ row octets r own kept.
     let o = old row r in
     h o.0 octets o.1 (sym o.2.origin ∙ own) (kept_as files files row o.0 octets (same_stored files) (count_back o.0 row o.2) kept)
 
--- the records are the same but for their counts, and the mailboxes are the same
-pub counts_step : (files : Files) (m n : MapMeaning) (f : MapRecord → MapRecord) → ((row : MapRecord) → SameButCount row (f row)) → n.records ≡ map f m.records → n.boxes ≡ m.boxes → StoredOnce files m → KeepsDetached files m → IsMapStep files m n [] []
-counts_step files m n f same records boxes once detached =
+-- the records are the same but for their counts
+pub counts_step : (files : Files) (m n : MapMeaning) (f : MapRecord → MapRecord) → ((row : MapRecord) → SameButCount row (f row)) → n.records ≡ map f m.records → StoredOnce files m → KeepsDetached files m → IsMapStep files m n
+counts_step files m n f same records once detached =
     let old : AreOld m n = λ row c. let r = contains_map f m.records row (subst (λ (rows : List MapRecord). Contains rows row) records c) in (r.0, r.1, subst (λ (o : MapRecord). SameButCount r.0 o) r.2 (same r.0)) in
     record {
-      boxes = boxes ∙ sym (append-nil m.boxes);
-      made_there = tt;
       found = λ uid row h some. (f row, ap (find (λ (r : MapRecord). r.uid == uid)) records ∙ find_changed f same uid m.records row h, ((same row).guid, λ octets k. kept_as files files row (f row) octets (same_stored files) (same row) k));
       once = once_old files m n old once;
       detached = detached_old files m n old detached;
@@ -238,21 +231,20 @@ find_first p (x ∷ xs) more row h = by_test (p x) (find p xs) (find p (xs ++ mo
     by_test true found later h rest = h
     by_test false found later h rest = rest h
 
-pub stored_step : (files : Files) (m n : MapMeaning) (row : MapRecord) → n.records ≡ m.records ++ row ∷ [] → n.boxes ≡ m.boxes → StoredOnce files n → KeepsDetached files n → IsMapStep files m n [] []
-stored_step files m n row records boxes once detached = record {
-  boxes = boxes ∙ sym (append-nil m.boxes);
-  made_there = tt;
+pub stored_step : (files : Files) (m n : MapMeaning) (row : MapRecord) → n.records ≡ m.records ++ row ∷ [] → StoredOnce files n → KeepsDetached files n → IsMapStep files m n
+stored_step files m n row records once detached = record {
   found = λ uid old h some. (old, ap (find (λ (r : MapRecord). r.uid == uid)) records ∙ find_first (λ (r : MapRecord). r.uid == uid) m.records (row ∷ []) old h, (refl, λ octets k. k));
   once = once;
   detached = detached;
 }
 
-pub made_step : (files : Files) (m n : MapMeaning) (box : MapBox) → n.records ≡ m.records → n.boxes ≡ m.boxes ++ box ∷ [] → n.store ≡ m.store → HasBox files m.store box [] → StoredOnce files m → KeepsDetached files m → IsMapStep files m n (box ∷ []) (empty_mailbox box.number box.name ∷ [])
-made_step files m n box records boxes store log once detached =
+pub made_mailbox : (files : Files) (m : MapMeaning) (box : MapBox) → HasBox files m.store box [] → AreMailboxes files m (box ∷ []) (empty_mailbox box.number box.name ∷ [])
+made_mailbox files m box log = (record { entries = []; log = log; number = refl; name = refl; next = refl; messages = tt }, tt)
+
+pub made_step : (files : Files) (m n : MapMeaning) → n.records ≡ m.records → StoredOnce files m → KeepsDetached files m → IsMapStep files m n
+made_step files m n records once detached =
     let old : AreOld m n = λ row c. (row, subst (λ (rows : List MapRecord). Contains rows row) records c, count_itself row) in
     record {
-      boxes = boxes;
-      made_there = (record { entries = []; log = subst (λ (id : List ℕ). HasBox files id box []) (sym store) log; number = refl; name = refl; next = refl; messages = tt }, tt);
       found = λ uid row h some. (row, ap (find (λ (r : MapRecord). r.uid == uid)) records ∙ h, (refl, λ octets k. k));
       once = once_old files m n old once;
       detached = detached_old files m n old detached;

@@ -2,7 +2,7 @@
 use Rattle.std.specs.Prelude.{◌≡◌, ◌≤◌, ◌<◌, ◌==◌, ℕ, Bool, true, false, not, cond, ◌||◌, List, [], ◌∷◌, ◌++◌, take, drop, map, filter, find, flat_map, Option, Some, None, All, Contains, refl}
 use Rattle.std.specs.Option.{option_map_or}
 use Rattle.std.specs.Str.{bytes_eq}
-use Rattle.std.proofs.Common.{sym, ◌∙◌, subst, ap, arith, append-nil, inl, inr, ◌⊎◌}
+use Rattle.std.proofs.Common.{sym, ◌∙◌, subst, ap, arith, inl, inr, ◌⊎◌}
 use Rattle.std.proofs.lemmas.Bool.{false≢true, cases_lt}
 use Rattle.std.proofs.lemmas.List.Elements.{All-nil, All-cons, All-head, All-tail, All-append, All-contains, All-contains_itself}
 use Rattle.disk_model.specs.Disk.{Files, DiskState}
@@ -30,7 +30,8 @@ use Rattle.model_storage.specs.StorageFile.{IsMessage}
 use Rattle.model_store.proofs.OpeningSafeLemmas.{at_uid, count_is}
 use Rattle.model_store.specs.Safe.{LiesInFile, IsThereWhole, SafeBy}
 use Rattle.model_store.specs.Settled.{files_of, HasSameRegion, HasSameInstance, AreAlike, IsSettled}
-use Rattle.model_store.specs.Stands.{HoldsMessage, StoresMessage, NamesOwn, NamesAny, StoredOnce}
+use Rattle.model_store.specs.Stands.{HoldsMessage, StoresMessage, NamesOwn, NamesAny, StoredOnce, AreMailboxes}
+use Rattle.model_appends.proofs.AppendMapLemmas.{mailboxes_still}
 use Rattle.model_appends.specs.MapAppending.{IsMapStep, IsMapAppend, LeavesAlike, IsCopiedTo, AreCopied, AreCopiesSynced}
 
 some_same : {X : Type 0} → (o : Option X) (a b : X) → o ≡ Some a → o ≡ Some b → a ≡ b
@@ -214,7 +215,7 @@ instances_of P (row ∷ rows) h =
 
 -- The purge is a step, where what it moves stands in its target.
 purged_step : (a : Files) (store : List ℕ) (entries : List MapEntry) (lists : Lists) (file_no : FileNo) (target : ℕ) (moved : List MapPlace) (dropped : List MapUid) → SafeBy a store entries lists → MapFits (map_meaning store entries) (entry.P file_no target moved dropped)
-    → AreCopied a (map_meaning store entries) target moved → IsMapStep a (map_meaning store entries) (map_meaning store (entries ++ entry.P file_no target moved dropped ∷ [])) [] []
+    → AreCopied a (map_meaning store entries) target moved → IsMapStep a (map_meaning store entries) (map_meaning store (entries ++ entry.P file_no target moved dropped ∷ []))
 purged_step a store entries lists file_no target moved dropped s fits copied =
     let e : MapEntry = entry.P file_no target moved dropped in
     let m : MapMeaning = map_meaning store entries in
@@ -223,8 +224,6 @@ purged_step a store entries lists file_no target moved dropped s fits copied =
     let copies : (row : MapRecord) → Contains m.records row → (place : MapPlace) → place_given row.uid moved ≡ Some place → IsCopiedTo a target place.offset row =
     λ row c place given. place_found m (λ p r. IsCopiedTo a target p.offset r) moved row sound c copied place given in
     record {
-      boxes = purged_boxes store entries file_no target moved dropped ∙ sym (append-nil m.boxes);
-      made_there = tt;
       found = λ uid row h some. (
         moved_record row target (place_given row.uid moved),
         found_purged store entries file_no target moved dropped uid row sound fits h some,
@@ -244,12 +243,11 @@ purged_step a store entries lists file_no target moved dropped s fits copied =
 pub purged_append : (a : Files) (store : List ℕ) (entries : List MapEntry) (lists : Lists) (file_no : FileNo) (target : ℕ) (moved : List MapPlace) (dropped : List MapUid) → SafeBy a store entries lists → MapInRange (entry.P file_no target moved dropped)
     → MapFits (map_meaning store entries) (entry.P file_no target moved dropped) → AreCopied a (map_meaning store entries) target moved → IsMapAppend a store entries lists lists (entry.P file_no target moved dropped)
 purged_append a store entries lists file_no target moved dropped s in_range fits copied = record {
-  made = [];
-  added = [];
   in_range = in_range;
   fits = fits;
   step = purged_step a store entries lists file_no target moved dropped s fits copied;
-  is = sym (append-nil lists);
+  mailboxes = subst (λ (bs : List MapBox). AreMailboxes a n bs lists) (sym (purged_boxes store entries file_no target moved dropped))
+      (mailboxes_still a m n m.boxes lists sound refl (purged_step a store entries lists file_no target moved dropped s fits copied) s.has_all.counts s.stands.mailboxes);
   all = record {
     counts = λ guid. by_found guid (record_of m guid) refl (s.has_all.counts guid);
     regions = each_placed store entries file_no target moved dropped (λ row. Contains m.records row × LiesInFile a row) (LiesInFile a)

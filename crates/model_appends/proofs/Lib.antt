@@ -9,4 +9,6 @@ pub mod AppendPurgeLemmas
 pub mod AppendPurgeOpenLemmas
 pub mod AppendSafeLemmas
 pub mod AppendSafeMapLemmas
+pub mod ChangedLogsLemmas
+pub mod DeletedMailboxLemmas
 pub mod HeldLogLemmas

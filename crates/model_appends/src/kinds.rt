@@ -7,8 +7,9 @@ ghost use Rattle.mdbox_base.specs.declared.ids.Guid.{Guid};
 ghost use Rattle.mdbox_base.specs.declared.ids.MapUid.{MapUid};
 ghost use Rattle.mdbox_base.specs.declared.entries.BoxEntry.{BoxEntry};
 ghost use Rattle.mdbox_base.specs.declared.entries.InstRow.{InstRow};
+ghost use Rattle.mdbox_base.specs.declared.entries.MapCount.{MapCount};
 ghost use Rattle.mdbox_base.specs.declared.entries.MapEntry.{MapEntry};
-ghost use Rattle.mdbox_base.specs.declared.entries.MapEntry.TheVariants.{B, S};
+ghost use Rattle.mdbox_base.specs.declared.entries.MapEntry.TheVariants.{B, S, V, X};
 ghost use Rattle.model_lists.specs.Lists.{Lists, refs_of, empty_mailbox};
 ghost use Rattle.model_logs.specs.Entries.{BoxInRange, MapInRange};
 ghost use Rattle.model_meaning.specs.BoxMeaning.{row_made};
@@ -19,7 +20,7 @@ ghost use Rattle.model_store.specs.Safe.{LiesInFile, IsThereWhole, SafeBy};
 ghost use Rattle.model_store.specs.Settled.{IsSettled};
 ghost use Rattle.model_store.specs.Stands.{HasBox, AreListed, StoredOnce, KeepsDetached, StandsBy};
 ghost use Rattle.model_appends.specs.Appending.{message_made, logs_by, FitsIn, IsBoxAppend};
-ghost use Rattle.model_appends.specs.MapAppending.{OnlyAdds, ChangesCounts, stored_row, IsMapAppend, AddsSynced, LeavesAlike};
+ghost use Rattle.model_appends.specs.MapAppending.{OnlyAdds, ChangesCounts, lists_changed, stored_row, IsMapAppend, AddsSynced, LeavesAlike};
 
 /// An entry can be appended to the log of a mailbox where it fits behind it, a message that it adds is listed, and each count
 /// is at least what the logs list with the entry.
@@ -50,6 +51,12 @@ pub fn map_entries_can_be_appended()
         → MapInRange (B mailbox generation name) → MapFits (map_meaning store entries) (B mailbox generation name)
         → HasBox files store (record { number = mailbox.0; generation = generation; name = name }) []
         → IsMapAppend files store entries lists (lists ++ empty_mailbox mailbox.0 name ∷ []) (B mailbox generation name) }
+    ensures deleted { (files : Files) (store : List ℕ) (entries : List MapEntry) (lists : Lists) (mailbox : BoxNo) (amounts : List MapCount) → SafeBy files store entries lists
+        → MapInRange (X mailbox amounts) → MapFits (map_meaning store entries) (X mailbox amounts)
+        → ((guid : List ℕ) → refs_of (lists_changed (X mailbox amounts) lists) guid ≤ count_of (map_meaning store (entries ++ X mailbox amounts ∷ [])) guid)
+        → IsMapAppend files store entries lists (lists_changed (X mailbox amounts) lists) (X mailbox amounts) }
+    ensures renamed { (files : Files) (store : List ℕ) (entries : List MapEntry) (lists : Lists) (mailbox : BoxNo) (name : List ℕ) → SafeBy files store entries lists
+        → MapInRange (V mailbox name) → MapFits (map_meaning store entries) (V mailbox name) → IsMapAppend files store entries lists (lists_changed (V mailbox name) lists) (V mailbox name) }
 {}
 
 /// Whatever a crash leaves of a settled disk agrees by the new meaning too, where what the entry adds is synced. An entry that
@@ -58,4 +65,6 @@ pub fn what_entries_add_is_synced()
     ensures agrees { (disk : DiskState) (lists : Lists) (e : MapEntry) → (s : IsSettled disk lists) → OnlyAdds e → AddsSynced disk e
         → LeavesAlike s.safe.stands.map_log.generation (map_meaning s.store (s.entries ++ e ∷ [])) disk }
     ensures counts { (disk : DiskState) (e : MapEntry) → ChangesCounts e → AddsSynced disk e }
+    ensures deleted { (disk : DiskState) (lists : Lists) (mailbox : BoxNo) (amounts : List MapCount) → (s : IsSettled disk lists) → LeavesAlike s.safe.stands.map_log.generation (map_meaning s.store (s.entries ++ X mailbox amounts ∷ [])) disk }
+    ensures renamed { (disk : DiskState) (lists : Lists) (mailbox : BoxNo) (name : List ℕ) → (s : IsSettled disk lists) → LeavesAlike s.safe.stands.map_log.generation (map_meaning s.store (s.entries ++ V mailbox name ∷ [])) disk }
 {}

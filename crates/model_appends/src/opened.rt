@@ -13,7 +13,7 @@ ghost use Rattle.model_store.specs.Opening.{HasItsRecord, IsCounted, Opens};
 ghost use Rattle.model_store.specs.Safe.{LiesInFile, IsThereWhole};
 ghost use Rattle.model_store.specs.Stands.{HasBox};
 ghost use Rattle.model_appends.specs.Appending.{HasOneMore, SameBut, logs_by, meanings_by, FitsIn};
-ghost use Rattle.model_appends.specs.MapAppending.{OnlyAdds, logs_made};
+ghost use Rattle.model_appends.specs.MapAppending.{OnlyAdds, ChangesMailbox, beside_changed, logs_made};
 
 /// Good logs are good with one entry more that fits, where the counts are enough, and mean what the indexes make of it.
 pub fn appends_keep_logs_good()
@@ -24,6 +24,9 @@ pub fn appends_keep_logs_good()
     ensures map_entry { (store : List ℕ) (entries : List MapEntry) (logs : List (List BoxEntry)) (e : MapEntry) → AreGoodLogs store entries logs → OnlyAdds e → MapInRange e
         → MapFits (map_meaning store entries) e → All (IsCounted (logs_made e logs)) (map_meaning store (entries ++ e ∷ [])).records
         → AreGoodLogs store (entries ++ e ∷ []) (logs_made e logs) }
+    ensures changed { (store : List ℕ) (entries : List MapEntry) (logs : List (List BoxEntry)) (e : MapEntry) → AreGoodLogs store entries logs → ChangesMailbox e → MapInRange e
+        → MapFits (map_meaning store entries) e → All (IsCounted (beside_changed e (map_meaning store entries).boxes logs)) (map_meaning store (entries ++ e ∷ [])).records
+        → AreGoodLogs store (entries ++ e ∷ []) (beside_changed e (map_meaning store entries).boxes logs) }
     ensures means { (number : ℕ) (e : BoxEntry) (boxes : List MapBox) (logs : List (List BoxEntry)) → map box_meaning (logs_by number e boxes logs) ≡ meanings_by number e boxes (map box_meaning logs) }
 {}
 
@@ -43,4 +46,8 @@ pub fn appends_open()
         → SameBut (Map o.passed.map_log.generation) a b
         → HasOneMore (map_text e) (a (Map o.passed.map_log.generation)) (b (Map o.passed.map_log.generation))
         → Opens b store (entries ++ e ∷ []) (logs_made e logs) }
+    ensures changed { (a b : Files) (store : List ℕ) (entries : List MapEntry) (logs : List (List BoxEntry)) (e : MapEntry) → (o : Opens a store entries logs) → ChangesMailbox e → MapInRange e
+        → MapFits (map_meaning store entries) e → All (IsCounted (beside_changed e (map_meaning store entries).boxes logs)) (map_meaning store (entries ++ e ∷ [])).records
+        → SameBut (Map o.passed.map_log.generation) a b → HasOneMore (map_text e) (a (Map o.passed.map_log.generation)) (b (Map o.passed.map_log.generation))
+        → Opens b store (entries ++ e ∷ []) (beside_changed e (map_meaning store entries).boxes logs) }
 {}

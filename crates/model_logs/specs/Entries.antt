@@ -53,6 +53,8 @@ map_text (map.T counts) = 84 ∷ list_text (λ c. four c.uid.0 ++ to_be_bytes w1
 map_text (map.P file target moved dropped) =
     80 ∷ (four file.0 ++ (four target ++ (list_text (λ p. four p.uid.0 ++ four p.offset) moved ++ list_text (λ u. four u.0) dropped)))
 map_text (map.E file) = 69 ∷ four file.0
+map_text (map.X mailbox amounts) = 88 ∷ (four mailbox.0 ++ list_text (λ c. four c.uid.0 ++ to_be_bytes w16 c.count) amounts)
+map_text (map.V mailbox name) = 86 ∷ (four mailbox.0 ++ name_text name)
 
 -- The numbers of an entry fit their widths, its lists and ids have the lengths that their widths allow, its name is one.
 abbrev pub RootInRange : RootEntry → Type 0
@@ -80,6 +82,8 @@ MapInRange (map.T counts) = (length counts < 2 ^ 32) × AllByRecursion (λ c. (c
 MapInRange (map.P file target moved dropped) = (file.0 < 2 ^ 32) × (target < 2 ^ 32) × (length moved < 2 ^ 32) × (length dropped < 2 ^ 32)
     × AllByRecursion (λ p. (p.uid.0 < 2 ^ 32) × (p.offset < 2 ^ 32)) moved × AllByRecursion (λ u. u.0 < 2 ^ 32) dropped
 MapInRange (map.E file) = file.0 < 2 ^ 32
+MapInRange (map.X mailbox amounts) = (mailbox.0 < 2 ^ 32) × (length amounts < 2 ^ 32) × AllByRecursion (λ c. (c.uid.0 < 2 ^ 32) × (c.count < 2 ^ 16)) amounts
+MapInRange (map.V mailbox name) = (mailbox.0 < 2 ^ 32) × IsName name
 
 -- The octets are one entry.
 pub record IsRootText (octets : List ℕ) (entry : RootEntry) : Type 0 where

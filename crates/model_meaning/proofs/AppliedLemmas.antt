@@ -82,6 +82,12 @@ records_by_purged file target moved dropped rows = append-nil _
 pub records_by_sealed : (file : FileNo) (rows : List MapRecord) → rows_by record_rules (map_entry.E file) rows ≡ rows
 records_by_sealed file rows = leaves rows
 
+pub records_by_deleted : (m : BoxNo) (amounts : List MapCount) (rows : List MapRecord) → rows_by record_rules (map_entry.X m amounts) rows ≡ map (record_changed (map_entry.X m amounts)) rows
+records_by_deleted m amounts rows = only_changes (record_changed (map_entry.X m amounts)) rows
+
+pub records_by_renamed : (m : BoxNo) (name : List ℕ) (rows : List MapRecord) → rows_by record_rules (map_entry.V m name) rows ≡ rows
+records_by_renamed m name rows = leaves rows
+
 -- ---- the mailboxes of the map
 
 pub boxes_by_mailbox : (m : BoxNo) (g : ℕ) (name : List ℕ) (boxes : List MapBox) → rows_by box_rules (map_entry.B m g name) boxes ≡ boxes ++ record { number = m.0; generation = g; name = name } ∷ []
@@ -110,3 +116,9 @@ boxes_by_purged file target moved dropped boxes = leaves boxes
 
 pub boxes_by_sealed : (file : FileNo) (boxes : List MapBox) → rows_by box_rules (map_entry.E file) boxes ≡ boxes
 boxes_by_sealed file boxes = leaves boxes
+
+pub boxes_by_deleted : (m : BoxNo) (amounts : List MapCount) (boxes : List MapBox) → rows_by box_rules (map_entry.X m amounts) boxes ≡ filter (λ box. not (m.0 == box.number)) boxes
+boxes_by_deleted m amounts boxes = append-nil _ ∙ unchanged (filter (λ box. not (m.0 == box.number)) boxes)
+
+pub boxes_by_renamed : (m : BoxNo) (name : List ℕ) (boxes : List MapBox) → rows_by box_rules (map_entry.V m name) boxes ≡ map (box_changed (map_entry.V m name)) boxes
+boxes_by_renamed m name boxes = only_changes (box_changed (map_entry.V m name)) boxes

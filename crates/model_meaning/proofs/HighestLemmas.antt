@@ -118,6 +118,8 @@ others_more m (map.P file target ms us) a f r o =
     let x = f.file_number.high in
     let y = target_fits m file.0 target ms f.target_fits in
     raised _ _ (max file.0 target) a.file a.instance (omega (arith, x, y))
+others_more m (map.X b cs) a f r o = raised _ _ 0 a.file a.instance (omega arith)
+others_more m (map.V b n) a f r o = raised _ _ 0 a.file a.instance (omega arith)
 others_more m (map.E file) a f r o = raised _ _ file.0 a.file a.instance f.high
 
 -- One entry more that fits, and whose text is octets, keeps the highest numbers in range.

@@ -56,6 +56,8 @@ changed_same (map.D us) row = counted (has_map_uid row.uid us) (row.count - 1) r
 changed_same (map.T cs) row = record { uid = refl; origin = refl; size = refl; guid = refl; instances = refl }
 changed_same (map.P f t ms us) row = placed_same row t (place_given row.uid ms)
 changed_same (map.E f) row = is_itself row
+changed_same (map.X m cs) row = record { uid = refl; origin = refl; size = refl; guid = refl; instances = refl }
+changed_same (map.V m n) row = is_itself row
 
 -- a region's place, up to this file, and the count of its record are in range
 pub record IsPlaced (most : ℕ) (row : MapRecord) : Type 0 where
@@ -226,6 +228,14 @@ given_places m most counts le s fit = λ k d lt.
     with_count most (count_given row.uid counts row.count) row
     (count_fits (find (λ (c : MapCount). c.uid.0 == row.uid) counts) row.count (s.records k d lt).count (λ c e. found_among (λ (x : MapCount). x.uid.0 == row.uid) counts c (λ x. x.count ≤ 65535) e fit))
     (all_places m most le s k d lt)
+
+-- those that an `X` names have so much less
+pub taken_places : (m : MapMeaning) (most : ℕ) (amounts : List MapCount) → m.highest.file ≤ most → IsSoundMap m
+    → All (λ row. IsPlaced most (record row { count = row.count - count_given row.uid amounts 0 })) m.records
+taken_places m most amounts le s = λ k d lt.
+    let row : MapRecord = slice_index_or m.records k d in
+    let fits = (s.records k d lt).count in
+    with_count most (row.count - count_given row.uid amounts 0) row (omega (arith, fits)) (all_places m most le s k d lt)
 
 -- ---- moved regions apart
 

@@ -1,22 +1,23 @@
 -- The meaning of a map log whose entries fit is sound.
-use Rattle.std.specs.Prelude.{◌≡◌, ◌≢◌, ◌<◌, ◌≤◌, ◌==◌, ◌^◌, ℕ, max, Bool, true, false, List, [], ◌∷◌, ◌++◌, length, fold, Some, All, AllPairs, refl, if◌then◌else◌}
+use Rattle.std.specs.Prelude.{◌≡◌, ◌≢◌, ◌<◌, ◌≤◌, ◌==◌, ◌^◌, ℕ, max, Bool, true, false, List, [], ◌∷◌, ◌++◌, length, fold, slice_index_or, Some, All, AllPairs, refl, if◌then◌else◌}
 use Rattle.std.specs.List.{AllByRecursion}
 use Rattle.std.proofs.Common.{◌∙◌, append-nil, append_assoc, arith, length-append, subst, sym}
 use Rattle.std.proofs.lemmas.List.Elements.{All-nil, All-head, All-tail, All-weaker, All-push, All-from_recursion}
+use Rattle.mdbox_base.specs.declared.ids.BoxNo.{BoxNo}
 use Rattle.mdbox_base.specs.declared.ids.MapUid.{MapUid}
 use Rattle.mdbox_base.specs.declared.entries.MapCount.{MapCount}
 use Rattle.mdbox_base.specs.declared.entries.MapPlace.{MapPlace}
 use Rattle.mdbox_base.specs.declared.entries.MapEntry.{MapEntry}
 use Rattle.mdbox_base.specs.declared.entries.MapEntry.TheVariants as map
-use Rattle.model_meaning.specs.MapMeaning.{MapRecord, MapBox, MapMeaning, map_meaning, map_applied, record_at, record_made, record_changed, record_rules, box_made, box_changed, box_rules, greatest, guid_file}
-use Rattle.model_meaning.specs.MapFits.{AgreesOn, AllMapFit, HasRecord, IsApart, IsKnown, MapFits}
-use Rattle.mdbox_base.specs.Words.{IsNumber}
+use Rattle.model_meaning.specs.MapMeaning.{MapRecord, MapBox, MapMeaning, map_meaning, map_applied, record_at, record_made, record_changed, record_rules, box_at, box_made, box_changed, box_rules, greatest, guid_file}
+use Rattle.model_meaning.specs.MapFits.{AgreesOn, AllMapFit, FitsRenamed, HasRecord, IsApart, IsKnown, MapFits}
+use Rattle.mdbox_base.specs.Words.{IsName, IsNumber}
 use Rattle.model_meaning.proofs.MapLemmas.{map_more}
 use Rattle.model_logs.specs.Entries.{MapInRange, RowInRange}
 use Rattle.model_octets.proofs.PairLemmas.{found_holds, pairs_nil, pairs_push}
 use Rattle.model_meaning.proofs.KeptRowLemmas.{kept_all, kept_length, kept_pairs, kept_pairs_from, kept_rows}
 use Rattle.model_meaning.specs.Sound.{AreApart, IsSoundRecord, AgreeOnInstances, IsSoundMapBox, IsSoundMap}
-use Rattle.model_meaning.proofs.MapPlaceLemmas.{GuidsDiffer, IsPlaced, Rises, all_places, counted_region, equal_is, given_places, kept_agree, kept_apart, kept_files, kept_guids, kept_rising, kept_sound, lowered_places, raised_places, region_itself, target_apart, target_places, turned}
+use Rattle.model_meaning.proofs.MapPlaceLemmas.{GuidsDiffer, IsPlaced, Rises, all_places, counted_region, equal_is, equal_yes, given_places, kept_agree, kept_apart, kept_files, kept_guids, kept_rising, kept_sound, lowered_places, raised_places, region_itself, taken_places, target_apart, target_places, turned}
 use Rattle.model_meaning.proofs.SealedLemmas.{all_with}
 
 -- ---- mailboxes
@@ -25,12 +26,17 @@ with_generation : (hit : Bool) (high g : ℕ) (box : MapBox) → IsNumber g → 
 with_generation true high g box n b = record { number = b.number; below = b.below; generation = n; name = b.name }
 with_generation false high g box n b = b
 
--- what an entry that names a generation needs
-abbrev GenerationFits : MapEntry → Type 0
-GenerationFits (map.G mailbox generation) = IsNumber generation
-GenerationFits entry = Unit {0}
+with_name : (hit : Bool) (high : ℕ) (name : List ℕ) (box : MapBox) → IsName name → IsSoundMapBox high box → IsSoundMapBox high (if hit then record box { name = name } else box)
+with_name true high name box n b = record { number = b.number; below = b.below; generation = b.generation; name = n }
+with_name false high name box n b = b
 
-box_stays : (entry : MapEntry) (high : ℕ) (box : MapBox) → GenerationFits entry → IsSoundMapBox high box → IsSoundMapBox high (box_changed entry box)
+-- what an entry that gives a mailbox a generation or a name needs
+abbrev ChangeFits : MapEntry → Type 0
+ChangeFits (map.G mailbox generation) = IsNumber generation
+ChangeFits (map.V mailbox name) = IsName name
+ChangeFits entry = Unit {0}
+
+box_stays : (entry : MapEntry) (high : ℕ) (box : MapBox) → ChangeFits entry → IsSoundMapBox high box → IsSoundMapBox high (box_changed entry box)
 box_stays (map.H h) high box f b = b
 box_stays (map.B m g n) high box f b = b
 box_stays (map.G m g) high box f b = with_generation (m.0 == box.number) high g box f b
@@ -40,26 +46,48 @@ box_stays (map.D us) high box f b = b
 box_stays (map.T cs) high box f b = b
 box_stays (map.P f2 t ms us) high box f b = b
 box_stays (map.E f2) high box f b = b
+box_stays (map.X m cs) high box f b = b
+box_stays (map.V m n) high box f b = with_name (m.0 == box.number) high n box f b
 
--- a mailbox keeps its number and its name
-record IsSameBox (a b : MapBox) : Type 0 where
-  number : b.number ≡ a.number
-  name : b.name ≡ a.name
+-- a mailbox keeps its number
+number_same : (hit : Bool) (box other : MapBox) → other.number ≡ box.number → (if hit then other else box).number ≡ box.number
+number_same true box other e = e
+number_same false box other e = refl
 
-generation_same : (hit : Bool) (g : ℕ) (box : MapBox) → IsSameBox box (if hit then record box { generation = g } else box)
-generation_same true g box = record { number = refl; name = refl }
-generation_same false g box = record { number = refl; name = refl }
+pub box_number : (entry : MapEntry) (box : MapBox) → (box_changed entry box).number ≡ box.number
+box_number (map.G m g) box = number_same (m.0 == box.number) box (record box { generation = g }) refl
+box_number (map.V m n) box = number_same (m.0 == box.number) box (record box { name = n }) refl
+box_number (map.H h) box = refl
+box_number (map.B m g n) box = refl
+box_number (map.S o c u f2 a z g is) box = refl
+box_number (map.U u) box = refl
+box_number (map.D us) box = refl
+box_number (map.T cs) box = refl
+box_number (map.P f2 t ms us) box = refl
+box_number (map.E f2) box = refl
+box_number (map.X m cs) box = refl
 
-box_same : (entry : MapEntry) (box : MapBox) → IsSameBox box (box_changed entry box)
-box_same (map.H h) box = record { number = refl; name = refl }
-box_same (map.B m g n) box = record { number = refl; name = refl }
-box_same (map.G m g) box = generation_same (m.0 == box.number) g box
-box_same (map.S o c u f2 a z g is) box = record { number = refl; name = refl }
-box_same (map.U u) box = record { number = refl; name = refl }
-box_same (map.D us) box = record { number = refl; name = refl }
-box_same (map.T cs) box = record { number = refl; name = refl }
-box_same (map.P f2 t ms us) box = record { number = refl; name = refl }
-box_same (map.E f2) box = record { number = refl; name = refl }
+-- and its name, but of an entry that gives it another
+abbrev pub KeepsNames : MapEntry → Type 0
+KeepsNames (map.V mailbox name) = ⊥
+KeepsNames entry = Unit {0}
+
+generation_named : (hit : Bool) (g : ℕ) (box : MapBox) → (if hit then record box { generation = g } else box).name ≡ box.name
+generation_named true g box = refl
+generation_named false g box = refl
+
+pub box_name : (entry : MapEntry) (box : MapBox) → KeepsNames entry → (box_changed entry box).name ≡ box.name
+box_name (map.G m g) box k = generation_named (m.0 == box.number) g box
+box_name (map.H h) box k = refl
+box_name (map.B m g n) box k = refl
+box_name (map.S o c u f2 a z g is) box k = refl
+box_name (map.U u) box k = refl
+box_name (map.D us) box k = refl
+box_name (map.T cs) box k = refl
+box_name (map.P f2 t ms us) box k = refl
+box_name (map.E f2) box k = refl
+box_name (map.X m cs) box k = refl
+box_name (map.V m n) box k = absurd k
 
 abbrev BoxRises : MapBox → MapBox → Type 0
 BoxRises a b = a.number < b.number
@@ -70,14 +98,37 @@ NamesDiffer a b = a.name ≢ b.name
 box_higher : (low high : ℕ) → low ≤ high → (box : MapBox) → IsSoundMapBox low box → IsSoundMapBox high box
 box_higher low high le box b = record { number = b.number; below = (let h = b.below in omega (arith, h, le)); generation = b.generation; name = b.name }
 
-kept_boxes : (m : MapMeaning) (entry : MapEntry) (high : ℕ) → m.highest.mailbox ≤ high → GenerationFits entry → IsSoundMap m → All (IsSoundMapBox high) (kept_rows box_rules entry m.boxes)
+kept_boxes : (m : MapMeaning) (entry : MapEntry) (high : ℕ) → m.highest.mailbox ≤ high → ChangeFits entry → IsSoundMap m → All (IsSoundMapBox high) (kept_rows box_rules entry m.boxes)
 kept_boxes m entry high le f s = kept_all box_rules entry m.boxes (IsSoundMapBox m.highest.mailbox) (IsSoundMapBox high) (λ box b. box_higher m.highest.mailbox high le _ (box_stays entry m.highest.mailbox box f b)) s.boxes
 
 kept_box_rising : (m : MapMeaning) (entry : MapEntry) → IsSoundMap m → AllPairs BoxRises (kept_rows box_rules entry m.boxes)
-kept_box_rising m entry s = kept_pairs box_rules entry m.boxes BoxRises (λ a b h. let p = (box_same entry a).number in let q = (box_same entry b).number in omega (arith, h, p, q)) s.boxes_rising
+kept_box_rising m entry s = kept_pairs box_rules entry m.boxes BoxRises (λ a b h. let p = box_number entry a in let q = box_number entry b in omega (arith, h, p, q)) s.boxes_rising
 
-kept_names : (m : MapMeaning) (entry : MapEntry) → IsSoundMap m → AllPairs NamesDiffer (kept_rows box_rules entry m.boxes)
-kept_names m entry s = kept_pairs box_rules entry m.boxes NamesDiffer (λ a b h e. h (sym (box_same entry a).name ∙ e ∙ (box_same entry b).name)) s.names
+kept_names : (m : MapMeaning) (entry : MapEntry) → KeepsNames entry → IsSoundMap m → AllPairs NamesDiffer (kept_rows box_rules entry m.boxes)
+kept_names m entry k s = kept_pairs box_rules entry m.boxes NamesDiffer (λ a b h e. h (sym (box_name entry a k) ∙ e ∙ box_name entry b k)) s.names
+
+-- two mailboxes, one of which may have another name
+pub pair_named : (p q : Bool) (number : ℕ) (name : List ℕ) (a b : MapBox) → (a.number == number) ≡ p → (b.number == number) ≡ q → a.number < b.number → a.name ≢ name → b.name ≢ name → a.name ≢ b.name
+    → (if p then record a { name = name } else a).name ≢ (if q then record b { name = name } else b).name
+pair_named true true number name a b p q lt x y h = λ e. absurd (let u = equal_is a.number number p in let v = equal_is b.number number q in omega (arith, u, v, lt))
+pair_named true false number name a b p q lt x y h = λ e. y (sym e)
+pair_named false true number name a b p q lt x y h = λ e. x e
+pair_named false false number name a b p q lt x y h = h
+
+pub turned_equal : (a b : ℕ) (p : Bool) → (a == b) ≡ p → (b == a) ≡ p
+turned_equal a b true e = equal_yes b a (sym (equal_is a b e))
+turned_equal a b false e = by_test (b == a) refl
+  where
+    by_test : (t : Bool) → (b == a) ≡ t → t ≡ false
+    by_test true k = absurd (let z : true ≡ false = sym (equal_yes a b (sym (equal_is b a k))) ∙ e in cc z)
+    by_test false k = refl
+
+renamed_names : (m : MapMeaning) (mailbox : BoxNo) (name : List ℕ) → FitsRenamed m mailbox.0 name → IsSoundMap m → AllPairs NamesDiffer (kept_rows box_rules (map.V mailbox name) m.boxes)
+renamed_names m mailbox name f s = kept_pairs_from box_rules (map.V mailbox name) m.boxes NamesDiffer (λ i j d lt le.
+    let a : MapBox = slice_index_or m.boxes i d in
+    let b : MapBox = slice_index_or m.boxes j d in
+    pair_named (mailbox.0 == a.number) (mailbox.0 == b.number) mailbox.0 name a b (turned_equal mailbox.0 a.number _ refl) (turned_equal mailbox.0 b.number _ refl) (s.boxes_rising i j d lt le)
+    (f.name_new i d (omega (arith, lt, le))) (f.name_new j d le) (s.names i j d lt le))
 
 -- ---- one entry more
 
@@ -107,11 +158,11 @@ records_kept m entry high most le s p a = record {
   apart = a;
 }
 
-boxes_kept : (m : MapMeaning) (entry : MapEntry) (high : ℕ) → m.highest.mailbox ≤ high → GenerationFits entry → IsSoundMap m → AreSoundBoxes high (kept_rows box_rules entry m.boxes)
-boxes_kept m entry high le f s = record {
+boxes_kept : (m : MapMeaning) (entry : MapEntry) (high : ℕ) → m.highest.mailbox ≤ high → ChangeFits entry → AllPairs NamesDiffer (kept_rows box_rules entry m.boxes) → IsSoundMap m → AreSoundBoxes high (kept_rows box_rules entry m.boxes)
+boxes_kept m entry high le f names s = record {
   rising = kept_box_rising m entry s;
   each = kept_boxes m entry high le f s;
-  names = kept_names m entry s;
+  names = names;
   room = (let h = kept_length box_rules entry m.boxes in let k = s.room in omega (arith, h, k));
 }
 
@@ -163,11 +214,11 @@ joined m entry r b sealed h = record {
 }
 
 -- an entry that makes no record and no mailbox
-changed : (m : MapMeaning) (entry : MapEntry) → record_made entry ≡ [] → box_made entry ≡ [] → GenerationFits entry → IsSoundMap m → All (λ row. IsPlaced (map_applied entry m).highest.file (record_changed entry row)) m.records
+changed : (m : MapMeaning) (entry : MapEntry) → record_made entry ≡ [] → box_made entry ≡ [] → ChangeFits entry → AllPairs NamesDiffer (kept_rows box_rules entry m.boxes) → IsSoundMap m → All (λ row. IsPlaced (map_applied entry m).highest.file (record_changed entry row)) m.records
     → AllPairs AreApart (kept_rows record_rules entry m.records) → All IsNumber (map_applied entry m).sealed → AreHighest (map_applied entry m).highest.map (map_applied entry m).highest.mailbox → IsSoundMap (map_applied entry m)
-changed m entry none no_box g s p a sealed h =
+changed m entry none no_box g names s p a sealed h =
     let records = records_nil _ _ _ (records_kept m entry (map_applied entry m).highest.map (map_applied entry m).highest.file (omega arith) s p a) in
-    let boxes = boxes_nil _ _ (boxes_kept m entry (map_applied entry m).highest.mailbox (omega arith) g s) in
+    let boxes = boxes_nil _ _ (boxes_kept m entry (map_applied entry m).highest.mailbox (omega arith) g names s) in
     joined m entry
     (subst (λ (made : List MapRecord). AreSoundRecords (map_applied entry m).highest.map (map_applied entry m).highest.file (kept_rows record_rules entry m.records ++ made)) (sym none) records)
     (subst (λ (made : List MapBox). AreSoundBoxes (map_applied entry m).highest.mailbox (kept_rows box_rules entry m.boxes ++ made)) (sym no_box) boxes) sealed h
@@ -176,37 +227,58 @@ changed m entry none no_box g s p a sealed h =
 as_high : (m : MapMeaning) (n : ℕ) → IsSoundMap m → n ≤ 4294967294 → AreHighest (max m.highest.map n) (max m.highest.mailbox 0)
 as_high m n s h = let a = s.map_high in let b = s.mailbox_high in record { map_uid = omega (arith, a, h); mailbox = omega (arith, b) }
 
+-- and where it names a mailbox too
+both_high : (m : MapMeaning) (number n : ℕ) → IsSoundMap m → n ≤ 4294967294 → number ≤ 4294967294 → AreHighest (max m.highest.map n) (max m.highest.mailbox number)
+both_high m number n s h k = let a = s.map_high in let b = s.mailbox_high in record { map_uid = omega (arith, a, h); mailbox = omega (arith, b, k) }
+
+-- the number of a mailbox is in range
+box_fits : (m : MapMeaning) (number : ℕ) (box : MapBox) → IsSoundMap m → box_at m number ≡ Some box → number ≤ 4294967294
+box_fits m number box s e =
+    let r = found_holds (λ (x : MapBox). x.number == number) m.boxes box (IsSoundMapBox m.highest.mailbox) e s.boxes in
+    let same : box.number ≡ number = equal_is box.number number r.1 in
+    let high = r.0.number.high in
+    omega (arith, same, high)
+
 -- One entry more that fits keeps the meaning sound.
 pub map_sound_more : (m : MapMeaning) (entry : MapEntry) → IsSoundMap m → MapFits m entry → MapInRange entry → IsSoundMap (map_applied entry m)
 map_sound_more m (map.H h) s f r =
-    changed m (map.H h) refl refl tt s (all_places m _ (omega arith) s) (kept_apart m (map.H h) (λ row. region_itself row) s) s.sealed
+    changed m (map.H h) refl refl tt (kept_names m (map.H h) tt s) s (all_places m _ (omega arith) s) (kept_apart m (map.H h) (λ row. region_itself row) s) s.sealed
     (let a = s.map_high in let b = s.mailbox_high in let c = f.1.high in let d = f.3.high in record { map_uid = omega (arith, a, c); mailbox = omega (arith, b, d) })
 map_sound_more m (map.G b g) s f r =
-    changed m (map.G b g) refl refl f.1 s (all_places m _ (omega arith) s) (kept_apart m (map.G b g) (λ row. region_itself row) s) s.sealed
+    changed m (map.G b g) refl refl f.1 (kept_names m (map.G b g) tt s) s (all_places m _ (omega arith) s) (kept_apart m (map.G b g) (λ row. region_itself row) s) s.sealed
     (let a = s.map_high in let c = s.mailbox_high in let d = f.0.high in record { map_uid = omega (arith, a); mailbox = omega (arith, c, d) })
 map_sound_more m (map.U u) s f r =
-    changed m (map.U u) refl refl tt s (raised_places m _ u.0 (omega arith) s f) (kept_apart m (map.U u) (λ row. counted_region _ _ row) s) s.sealed
+    changed m (map.U u) refl refl tt (kept_names m (map.U u) tt s) s (raised_places m _ u.0 (omega arith) s f) (kept_apart m (map.U u) (λ row. counted_region _ _ row) s) s.sealed
     (as_high m u.0 s (known_fits m u.0 f.0 s f.1))
 map_sound_more m (map.D us) s f r =
-    changed m (map.D us) refl refl tt s (lowered_places m _ us (omega arith) s) (kept_apart m (map.D us) (λ row. counted_region _ _ row) s) s.sealed
+    changed m (map.D us) refl refl tt (kept_names m (map.D us) tt s) s (lowered_places m _ us (omega arith) s) (kept_apart m (map.D us) (λ row. counted_region _ _ row) s) s.sealed
     (as_high m _ s (greatest_fits (λ (u : MapUid). u.0) 4294967294 us (All-weaker (λ (u : MapUid). HasRecord m u.0 (λ row. 1 ≤ row.count)) (λ (u : MapUid). u.0 ≤ 4294967294) (λ u k. known_fits m u.0 k.0 s k.1) us f.1)))
 map_sound_more m (map.T cs) s f r =
-    changed m (map.T cs) refl refl tt s
+    changed m (map.T cs) refl refl tt (kept_names m (map.T cs) tt s) s
     (given_places m _ cs (omega arith) s (All-weaker (λ (c : MapCount). (c.uid.0 < 2 ^ 32) × (c.count < 2 ^ 16)) (λ (c : MapCount). c.count ≤ 65535) (λ c k. let h = k.1 in omega (arith, h)) cs (All-from_recursion (λ (c : MapCount). (c.uid.0 < 2 ^ 32) × (c.count < 2 ^ 16)) cs r.1)))
     (kept_apart m (map.T cs) (λ row. record { file = refl; offset = refl; size = refl }) s) s.sealed
     (as_high m _ s (greatest_fits (λ (c : MapCount). c.uid.0) 4294967294 cs (All-weaker (λ (c : MapCount). IsKnown m c.uid.0) (λ (c : MapCount). c.uid.0 ≤ 4294967294) (λ c k. known_fits m c.uid.0 k.0 s k.1) cs f.1)))
 map_sound_more m (map.P file t ms us) s f r =
     let moved = greatest_fits (λ (p : MapPlace). p.uid.0) 4294967294 ms (All-weaker (λ (p : MapPlace). HasRecord m p.uid.0 (λ row. row.file ≡ file.0)) (λ (p : MapPlace). p.uid.0 ≤ 4294967294) (λ p k. known_fits m p.uid.0 k.0 s k.1) ms f.moved_here) in
     let dropped = greatest_fits (λ (u : MapUid). u.0) 4294967294 us (All-weaker (λ (u : MapUid). HasRecord m u.0 (λ row. (row.file ≡ file.0) × (row.count ≡ 0))) (λ (u : MapUid). u.0 ≤ 4294967294) (λ u k. known_fits m u.0 k.0 s k.1) us f.dropped_here) in
-    changed m (map.P file t ms us) refl refl tt s (target_places m file.0 t _ ms (omega arith) (omega arith) s f.target_fits)
+    changed m (map.P file t ms us) refl refl tt (kept_names m (map.P file t ms us) tt s) s (target_places m file.0 t _ ms (omega arith) (omega arith) s f.target_fits)
     (kept_pairs_from record_rules (map.P file t ms us) m.records AreApart (target_apart m file.0 t ms s f.target_fits)) s.sealed
     (as_high m _ s (omega (arith, moved, dropped)))
 map_sound_more m (map.E file) s f r =
-    changed m (map.E file) refl refl tt s (all_places m _ (omega arith) s) (kept_apart m (map.E file) (λ row. region_itself row) s) (all_with IsNumber file.0 m.sealed f s.sealed)
+    changed m (map.E file) refl refl tt (kept_names m (map.E file) tt s) s (all_places m _ (omega arith) s) (kept_apart m (map.E file) (λ row. region_itself row) s) (all_with IsNumber file.0 m.sealed f s.sealed)
     (as_high m 0 s (omega arith))
+map_sound_more m (map.X b cs) s f r =
+    changed m (map.X b cs) refl refl tt (kept_names m (map.X b cs) tt s) s (taken_places m _ cs (omega arith) s)
+    (kept_apart m (map.X b cs) (λ row. record { file = refl; offset = refl; size = refl }) s) s.sealed
+    (both_high m b.0 _ s
+    (greatest_fits (λ (c : MapCount). c.uid.0) 4294967294 cs (All-weaker (λ (c : MapCount). HasRecord m c.uid.0 (λ row. (1 ≤ c.count) × (c.count ≤ row.count))) (λ (c : MapCount). c.uid.0 ≤ 4294967294) (λ c k. known_fits m c.uid.0 k.0 s k.1) cs f.counts))
+    (box_fits m b.0 f.there.0 s f.there.1))
+map_sound_more m (map.V b n) s f r =
+    changed m (map.V b n) refl refl r.1 (renamed_names m b n f s) s (all_places m _ (omega arith) s) (kept_apart m (map.V b n) (λ row. region_itself row) s) s.sealed
+    (both_high m b.0 0 s (omega arith) (box_fits m b.0 f.there.0 s f.there.1))
 map_sound_more m (map.B b g n) s f r =
     let entry : MapEntry = map.B b g n in
-    let kept = boxes_kept m entry (max m.highest.mailbox b.0) (omega arith) tt s in
+    let kept = boxes_kept m entry (max m.highest.mailbox b.0) (omega arith) tt (kept_names m entry tt s) s in
     let boxes : List MapBox = kept_rows box_rules entry m.boxes in
     let box : MapBox = record { number = b.0; generation = g; name = n } in
     let high = f.box_new in
@@ -250,7 +322,7 @@ map_sound_more m (map.S o c u file a z g is) s f r =
       agree = pairs_push AgreeOnInstances rows row kept.agree (kept_all record_rules entry m.records (λ (x : MapRecord). All (λ i. All (AgreesOn i) x.instances) is) (λ (x : MapRecord). All (λ i. All (AgreesOn i) x.instances) is) (λ x h. h) f.known);
       apart = pairs_push AreApart rows row kept.apart (kept_all record_rules entry m.records (λ (x : MapRecord). x.file ≡ file.0 → IsApart a z x) (λ (x : MapRecord). AreApart x row) (λ x h e. turned _ _ _ _ (h e)) f.region.free);
     })
-    (boxes_nil _ _ (boxes_kept m entry _ (omega arith) tt s))
+    (boxes_nil _ _ (boxes_kept m entry _ (omega arith) tt (kept_names m entry tt s) s))
     s.sealed
     (as_high m u.0 s f.uid_number.high)
 

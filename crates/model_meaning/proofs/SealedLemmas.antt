@@ -54,6 +54,8 @@ sealed_from files (map.U u ∷ es) a = sealed_from files es a
 sealed_from files (map.D us ∷ es) a = sealed_from files es a
 sealed_from files (map.T cs ∷ es) a = sealed_from files es a
 sealed_from files (map.P f t ms us ∷ es) a = sealed_from files es a
+sealed_from files (map.X m cs ∷ es) a = sealed_from files es a
+sealed_from files (map.V m n ∷ es) a = sealed_from files es a
 sealed_from files (map.E f ∷ es) a = sealed_from (with_number f.0 files) es (rises_with f.0 files a)
 
 -- each sealed file stands once, in order of number
@@ -95,6 +97,8 @@ has_from file files (map.U u ∷ es) = has_from file files es
 has_from file files (map.D us ∷ es) = has_from file files es
 has_from file files (map.T cs ∷ es) = has_from file files es
 has_from file files (map.P f t ms us ∷ es) = has_from file files es
+has_from file files (map.X m cs ∷ es) = has_from file files es
+has_from file files (map.V m n ∷ es) = has_from file files es
 has_from file files (map.E f ∷ es) =
     has_from file (with_number f.0 files) es ∙ ap (λ (x : Bool). list_any (seals file) es || x) (has_with file f.0 files) ∙ moved (list_any (seals file) es) (f.0 == file) (has file files)
   where

@@ -1,11 +1,12 @@
 -- Which entry of the map log fits behind which.
 use Rattle.mdbox_base.specs.Words.{IsNumber}
-use Rattle.std.specs.Prelude.{◌≡◌, ◌≢◌, ◌<◌, ◌≤◌, ◌+◌, ◌==◌, ℕ, not, List, [], ◌∷◌, ◌++◌, length, map, Some, ◌⊎◌, All, AllPairs}
+use Rattle.std.specs.Prelude.{◌≡◌, ◌≢◌, ◌<◌, ◌≤◌, ◌+◌, ◌==◌, ℕ, not, List, [], ◌∷◌, ◌++◌, length, map, Some, ◌⊎◌, All, AllPairs, codes}
 use Rattle.std.specs.List.{list_any}
 use Rattle.std.specs.List.Sorted.{IsStrictlyIncreasing}
 use Rattle.std.specs.Option.{option_map_or}
 use Rattle.mdbox_base.specs.declared.ids.MapUid.{MapUid}
 use Rattle.mdbox_base.specs.declared.entries.InstRow.{InstRow}
+use Rattle.mdbox_base.specs.declared.entries.MapCount.{MapCount}
 use Rattle.mdbox_base.specs.declared.entries.MapPlace.{MapPlace}
 use Rattle.mdbox_base.specs.declared.entries.MapEntry.{MapEntry}
 use Rattle.mdbox_base.specs.declared.entries.MapEntry.TheVariants as entry
@@ -62,6 +63,21 @@ pub record FitsMade (m : MapMeaning) (number generation : ℕ) (name : List ℕ)
   pub name_new : All (λ box. box.name ≢ name) m.boxes
   pub room : length m.boxes < 1024
 
+-- the map has a mailbox with this number, and this holds of it
+abbrev pub HasMapBox : MapMeaning → ℕ → (MapBox → Type 0) → Type 0
+HasMapBox m number Holds = (box : MapBox) × (box_at m number ≡ Some box) × Holds box
+
+-- A mailbox can leave: it is there, and of each record whose count falls with it, the count is as much at least.
+pub record FitsDeleted (m : MapMeaning) (number : ℕ) (amounts : List MapCount) : Type 0 where
+  pub there : HasMapBox m number (λ box. Unit {0})
+  pub rising : IsStrictlyIncreasing (map (λ c. c.uid.0) amounts)
+  pub counts : All (λ c. HasRecord m c.uid.0 (λ row. (1 ≤ c.count) × (c.count ≤ row.count))) amounts
+
+-- A mailbox can have another name: it is there, it isn't INBOX, and no mailbox has the name.
+pub record FitsRenamed (m : MapMeaning) (number : ℕ) (name : List ℕ) : Type 0 where
+  pub there : HasMapBox m number (λ box. box.name ≢ codes "INBOX")
+  pub name_new : All (λ box. box.name ≢ name) m.boxes
+
 -- a record of the file is moved or dropped, and not both
 abbrev pub IsMovedOrDropped : List MapPlace → List MapUid → MapRecord → Type 0
 IsMovedOrDropped moved dropped row = list_any (λ p. p.uid.0 == row.uid) moved ≡ not (has_map_uid row.uid dropped)
@@ -107,6 +123,8 @@ MapFits m (entry.D uids) = IsStrictlyIncreasing (map (λ u. u.0) uids) × All (�
 MapFits m (entry.T counts) = IsStrictlyIncreasing (map (λ c. c.uid.0) counts) × All (λ c. IsKnown m c.uid.0) counts
 MapFits m (entry.P file target moved dropped) = FitsPurged m file.0 target moved dropped
 MapFits m (entry.E file) = IsNumber file.0
+MapFits m (entry.X mailbox amounts) = FitsDeleted m mailbox.0 amounts
+MapFits m (entry.V mailbox name) = FitsRenamed m mailbox.0 name
 
 -- each entry fits behind those before it
 abbrev pub AllMapFit : List ℕ → List MapEntry → List MapEntry → Type 0

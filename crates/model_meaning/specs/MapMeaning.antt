@@ -41,7 +41,7 @@ abbrev pub moved_record : MapRecord → ℕ → Option MapPlace → MapRecord
 moved_record row target None = row
 moved_record row target (Some place) = record row { file = target; offset = place.offset }
 
--- An `S` makes a record, a `P` drops or moves it, `T`, `U` and `D` change its count.
+-- An `S` makes a record, a `P` drops or moves it, `T`, `U`, `D` and `X` change its count.
 abbrev pub record_made : MapEntry → List MapRecord
 record_made (map.S origin count uid file offset size guid instances) =
     record { uid = uid.0; origin = origin; count = count; file = file.0; offset = offset; size = size; guid = guid.0; instances = instances } ∷ []
@@ -56,6 +56,7 @@ record_changed (map.U uid) row = if uid.0 == row.uid then record row { count = r
 record_changed (map.D uids) row = if has_map_uid row.uid uids then record row { count = row.count - 1 } else row
 record_changed (map.T counts) row = record row { count = count_given row.uid counts row.count }
 record_changed (map.P file target moved dropped) row = moved_record row target (place_given row.uid moved)
+record_changed (map.X mailbox amounts) row = record row { count = row.count - count_given row.uid amounts 0 }
 record_changed entry row = row
 
 abbrev pub record_rules : Rules MapEntry MapRecord
@@ -75,15 +76,20 @@ abbrev pub box_made : MapEntry → List MapBox
 box_made (map.B mailbox generation name) = record { number = mailbox.0; generation = generation; name = name } ∷ []
 box_made entry = []
 
+abbrev pub box_removed : MapEntry → MapBox → Bool
+box_removed (map.X mailbox amounts) box = mailbox.0 == box.number
+box_removed entry box = false
+
 abbrev pub box_changed : MapEntry → MapBox → MapBox
 box_changed (map.G mailbox generation) box = if mailbox.0 == box.number then record box { generation = generation } else box
+box_changed (map.V mailbox name) box = if mailbox.0 == box.number then record box { name = name } else box
 box_changed entry box = box
 
 abbrev pub box_rules : Rules MapEntry MapBox
-box_rules = record { made = box_made; removes = λ entry box. false; changed = box_changed }
+box_rules = record { made = box_made; removes = box_removed; changed = box_changed }
 
--- The mailboxes, in the order in which they were made: each with the name of its `B` and the generation of the last `B`
--- or `G` that names it.
+-- The mailboxes, in the order in which they were made: one for each `B` that no later `X` names, with the name of the last
+-- `B` or `V` and the generation of the last `B` or `G` that names it.
 abbrev pub boxes_after : List MapEntry → List MapBox
 boxes_after entries = rows_of box_rules entries
 
@@ -144,6 +150,8 @@ numbers_of store (map.T counts) = record no_numbers { map = greatest (λ c. c.ui
 numbers_of store (map.P file target moved dropped) =
     record no_numbers { file = max file.0 target; map = max (greatest (λ p. p.uid.0) moved) (greatest (λ u. u.0) dropped) }
 numbers_of store (map.E file) = record no_numbers { file = file.0 }
+numbers_of store (map.X mailbox amounts) = record no_numbers { map = greatest (λ c. c.uid.0) amounts; mailbox = mailbox.0 }
+numbers_of store (map.V mailbox name) = record no_numbers { mailbox = mailbox.0 }
 
 -- the greater of each two
 abbrev pub higher : Highest → Highest → Highest
@@ -194,6 +202,10 @@ count_of m guid = option_map_or (λ row. row.count) (record_of m guid) 0
 -- the mailbox of a number
 abbrev pub box_at : MapMeaning → ℕ → Option MapBox
 box_at m number = find (λ box. box.number == number) m.boxes
+
+-- and the one of a name
+abbrev pub box_named : MapMeaning → List ℕ → Option MapBox
+box_named m name = find (λ box. bytes_eq box.name name) m.boxes
 
 -- the instances that records name, once for each naming
 abbrev pub named_instances : MapMeaning → List InstRow

@@ -1,7 +1,6 @@
 -- Meanings of map logs that differ at most in the generations of mailbox logs.
-use Rattle.std.specs.Prelude.{◌≡◌, ℕ, List, map}
-use Rattle.mdbox_base.specs.declared.entries.Highest.{Highest}
-use Rattle.model_meaning.specs.MapMeaning.{MapRecord, MapBox, MapMeaning}
+use Rattle.std.specs.Prelude.{◌≡◌, map}
+use Rattle.model_meaning.specs.MapMeaning.{MapMeaning}
 
 -- The same store, records, sealed files and highest numbers, and mailboxes with the same numbers and names in the same
 -- order. The generations of their logs may differ: a new snapshot of a log changes nothing else.

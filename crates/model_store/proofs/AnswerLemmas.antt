@@ -51,10 +51,16 @@ made_numbers (map_entry.D us) r = All-nil HasNumbers
 made_numbers (map_entry.T cs) r = All-nil HasNumbers
 made_numbers (map_entry.P f t ms us) r = All-nil HasNumbers
 made_numbers (map_entry.E f) r = All-nil HasNumbers
+made_numbers (map_entry.X m cs) r = All-nil HasNumbers
+made_numbers (map_entry.V m n) r = All-nil HasNumbers
 
 with_generation : (hit : Bool) (g : ℕ) (box : MapBox) → g < 2 ^ 32 → HasNumbers box → HasNumbers (if hit then record box { generation = g } else box)
 with_generation true g box fits h = record { number = h.number; generation = fits }
 with_generation false g box fits h = h
+
+renamed_numbers : (hit : Bool) (name : List ℕ) (box : MapBox) → HasNumbers box → HasNumbers (if hit then record box { name = name } else box)
+renamed_numbers true name box h = record { number = h.number; generation = h.generation }
+renamed_numbers false name box h = h
 
 changed_numbers : (entry : MapEntry) (box : MapBox) → MapInRange entry → HasNumbers box → HasNumbers (box_changed entry box)
 changed_numbers (map_entry.G m g) box r h = with_generation (m.0 == box.number) g box r.1 h
@@ -66,6 +72,8 @@ changed_numbers (map_entry.D us) box r h = h
 changed_numbers (map_entry.T cs) box r h = h
 changed_numbers (map_entry.P f t ms us) box r h = h
 changed_numbers (map_entry.E f) box r h = h
+changed_numbers (map_entry.X m cs) box r h = h
+changed_numbers (map_entry.V m n) box r h = renamed_numbers (m.0 == box.number) n box h
 
 all_numbers : (entries : List MapEntry) → AllByRecursion MapInRange entries → All HasNumbers (boxes_after entries)
 all_numbers entries r = rows_all box_rules MapInRange HasNumbers made_numbers changed_numbers entries r

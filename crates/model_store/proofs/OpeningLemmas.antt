@@ -44,6 +44,8 @@ made_in_range (map_entry.D us) r = All-nil HasInRange
 made_in_range (map_entry.T cs) r = All-nil HasInRange
 made_in_range (map_entry.P f t ms us) r = All-nil HasInRange
 made_in_range (map_entry.E f) r = All-nil HasInRange
+made_in_range (map_entry.X m cs) r = All-nil HasInRange
+made_in_range (map_entry.V m n) r = All-nil HasInRange
 
 -- each instance that a record names is in range
 named_in_range : (store : List ℕ) (entries : List MapEntry) → AllByRecursion MapInRange entries → All RowInRange (named_instances (map_meaning store entries))

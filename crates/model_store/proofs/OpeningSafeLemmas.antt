@@ -30,14 +30,14 @@ some_same o a b p q = let h : Some a ≡ Some b = sym p ∙ q in cc h
 -- ---- mailboxes with their logs
 
 -- a mailbox of the map has a log with these entries and is this one of the lists
-record IsBy (image : Files) (m : MapMeaning) (box : MapBox) (entries : List BoxEntry) (mailbox : Mailbox) : Type 0 where
+pub record IsBy (image : Files) (m : MapMeaning) (box : MapBox) (entries : List BoxEntry) (mailbox : Mailbox) : Type 0 where
   log : HasBox image m.store box entries
   number : mailbox.number ≡ box.number
   name : mailbox.name ≡ box.name
   next : mailbox.next_uid ≡ next_after entries
   messages : AreListed image m (rows_after entries) mailbox.messages
 
-abbrev AreBy : Files → MapMeaning → List MapBox → List (List BoxEntry) → Lists → Type 0
+abbrev pub AreBy : Files → MapMeaning → List MapBox → List (List BoxEntry) → Lists → Type 0
 AreBy image m [] [] [] = Unit {0}
 AreBy image m (box ∷ boxes) (entries ∷ logs) (mailbox ∷ lists) = IsBy image m box entries mailbox × AreBy image m boxes logs lists
 AreBy image m boxes logs lists = ⊥
@@ -63,7 +63,7 @@ by_log image m box entries x log h =
       messages = subst (λ (o : List BoxEntry). AreListed image m (rows_after o) x.messages) e h.messages;
     }
 
-passed_by : (image : Files) (m : MapMeaning) (boxes : List MapBox) (logs : List (List BoxEntry)) (lists : Lists) → PassBoxes image m boxes logs → AreMailboxes image m boxes lists → AreBy image m boxes logs lists
+pub passed_by : (image : Files) (m : MapMeaning) (boxes : List MapBox) (logs : List (List BoxEntry)) (lists : Lists) → PassBoxes image m boxes logs → AreMailboxes image m boxes lists → AreBy image m boxes logs lists
 passed_by image m [] [] [] p h = tt
 passed_by image m [] [] (x ∷ xs) p h = absurd h
 passed_by image m [] (es ∷ logs) lists p h = absurd p
@@ -163,7 +163,7 @@ rows_counted image m (row ∷ rows) (x ∷ xs) r s c l =
     added a b c d p q = cc (p, q)
 
 -- a record has as many listed messages as its GUID has
-counted : (image : Files) (m : MapMeaning) (boxes : List MapBox) (logs : List (List BoxEntry)) (lists : Lists) (r : MapRecord) → IsSoundMap m → Contains m.records r → AreBy image m boxes logs lists
+pub counted : (image : Files) (m : MapMeaning) (boxes : List MapBox) (logs : List (List BoxEntry)) (lists : Lists) (r : MapRecord) → IsSoundMap m → Contains m.records r → AreBy image m boxes logs lists
     → listed_of logs r.uid ≡ refs_of lists r.guid
 counted image m [] [] [] r s c h = refl
 counted image m [] [] (x ∷ xs) r s c h = absurd h

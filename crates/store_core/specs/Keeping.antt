@@ -6,13 +6,14 @@ use Rattle.disk_model.specs.declared.name.FileName.TheVariants as file
 use Rattle.mdbox_base.specs.declared.entries.InstRow.{InstRow}
 use Rattle.mdbox_base.specs.declared.ids.Hash.{Hash}
 use Rattle.mdbox_base.specs.declared.ids.InstId.{InstId}
-use Rattle.model_meaning.specs.BoxMeaning.{LogRow, BoxMeaning, row_at}
+use Rattle.model_meaning.specs.BoxMeaning.{LogRow, row_at}
 use Rattle.model_meaning.specs.MapMeaning.{MapMeaning, MapRecord}
 use Rattle.sis_store.specs.Comparing.{IsUnlikeCompared}
 use Rattle.sis_store.specs.Instances.{holders_in}
 use Rattle.sis_store.specs.OnDisk.{instance_file}
 use Rattle.store_core.specs.StoreInstances.{AreInstancesFirm, IsKnownRow, IsFirstKnown}
-use Rattle.store_core.specs.Value.{StoreValue, list_named}
+use Rattle.std.specs.Option.{IfSome}
+use Rattle.store_core.specs.Value.{StoreValue, list_numbered}
 
 -- each storage file and each instance is as it was
 abbrev pub KeepsMail : Option History → Option History → Type 0
@@ -23,17 +24,16 @@ KeepsMail = Between (λ a b. ((number : ℕ) → b (file.Mail number) ≡ a (fil
 abbrev pub KeepsRest : {D : Type 0} → StoreValue D → StoreValue D → Type 0
 KeepsRest old new = new ≡ record old { disk = new.disk; map_log = new.map_log; map = new.map; boxes = new.boxes; drawn = new.drawn; dues = new.dues; stopped = new.stopped }
 
--- The mailbox with this name lists no other message with this UID than one of this record, and will list none: the UID lies below
--- its next one.
-pub record KeepsUid {D : Type 0} (name : List ℕ) (uid : ℕ) (held : ℕ) (store : StoreValue D) : Type 0 where
-  pub m : BoxMeaning
-  pub named : list_named store name ≡ Some m
-  pub below : uid < m.next
-  pub same : (row : LogRow) → row_at m uid ≡ Some row → row.map_uid ≡ held
+-- The mailbox with this number, if it is there, lists no other message with this UID than one of this record, and will list none:
+-- the UID lies below its next one. The number was given, so that no mailbox which is made later has it.
+pub record KeepsUid {D : Type 0} (number uid held : ℕ) (store : StoreValue D) : Type 0 where
+  pub given : number ≤ store.map.highest.mailbox
+  pub below : IfSome (list_numbered store number) (λ m. uid < m.next)
+  pub same : IfSome (list_numbered store number) (λ m. (row : LogRow) → row_at m uid ≡ Some row → row.map_uid ≡ held)
 
 -- Of whatever message another task copies or moves: if its mailbox lists no other message with its UID, it lists none afterwards.
 abbrev pub KeepsUids : {D : Type 0} → StoreValue D → StoreValue D → Type 0
-KeepsUids old new = (name : List ℕ) (uid held : ℕ) → KeepsUid name uid held old → KeepsUid name uid held new
+KeepsUids old new = (number uid held : ℕ) → KeepsUid number uid held old → KeepsUid number uid held new
 
 -- ---- instances
 

@@ -1,9 +1,9 @@
 // Which entry fits behind those so far.
-ghost use Rattle.std.specs.Prelude.{◌≡◌, ◌≢◌, ◌<◌, ◌≤◌, ◌↔◌, map, IsTrue, Some, All, AllPairs};
+ghost use Rattle.std.specs.Prelude.{codes, ◌≡◌, ◌≢◌, ◌<◌, ◌≤◌, ◌↔◌, map, IsTrue, Some, All, AllPairs};
 ghost use Rattle.std.specs.List.Sorted.{IsStrictlyIncreasing};
 ghost use Rattle.model_meaning.specs.MapMeaning.{MapBox, box_at};
-ghost use Rattle.map_index.specs.Has.{HasRow, HasCount};
-ghost use Rattle.model_meaning.specs.MapFits.{MapFits, IsRaised, IsKnown, HasRecord, FitsMade, FitsRegion, IsFree, AgreesOn};
+ghost use Rattle.map_index.specs.Has.{HasAmount, HasBox, HasRow, HasCount};
+ghost use Rattle.model_meaning.specs.MapFits.{MapFits, FitsDeleted, FitsRenamed, HasMapBox, IsRaised, IsKnown, HasRecord, FitsMade, FitsRegion, IsFree, AgreesOn};
 ghost use Rattle.mdbox_base.specs.Words.{IsNumber};
 
 use super::MapIndex;
@@ -58,6 +58,8 @@ impl MapIndex {
                 dropped,
             } => self.can_purge(*file, *target, moved.as_slice(), dropped.as_slice()),
             MapEntry::E { file } => is_number(file.0),
+            MapEntry::X { mailbox, amounts } => self.can_delete(*mailbox, amounts.as_slice()),
+            MapEntry::V { mailbox, name } => self.can_rename(*mailbox, name),
         }
     }
 
@@ -89,6 +91,57 @@ impl MapIndex {
                 Some(mailbox) => mailbox.at.generation < generation,
                 None => false,
             }
+    }
+
+    fn can_delete(&self, number: BoxNo, amounts: &[MapCount]) -> bool
+        ensures { IsTrue result ↔ FitsDeleted self.now.meaning number.0 amounts.now }
+    {
+        self.has_box(number) && self.can_lower(amounts)
+    }
+
+    fn can_rename(&self, number: BoxNo, name: &Name) -> bool
+        ensures { IsTrue result ↔ FitsRenamed self.now.meaning number.0 name.now }
+    {
+        self.can_be_renamed(number) && self.is_new_name(name)
+    }
+
+    #[tactic(auto, unfolding(crate::specs::Has::HasBox))]
+    fn has_box(&self, number: BoxNo) -> bool
+        ensures { IsTrue result ↔ HasBox self.now.meaning number.0 }
+    {
+        self.find_box(number).is_some()
+    }
+
+    /// Whether there is a mailbox with this number that isn't INBOX.
+    fn can_be_renamed(&self, number: BoxNo) -> bool
+        ensures { IsTrue result ↔ HasMapBox self.now.meaning number.0 (λ box. box.name ≢ codes "INBOX") }
+    {
+        match self.find_box(number) {
+            Some(mailbox) => mailbox.name.as_octets() != b"INBOX".as_slice(),
+            None => false,
+        }
+    }
+
+    fn can_lower(&self, amounts: &[MapCount]) -> bool
+        ensures { IsTrue result ↔ (IsStrictlyIncreasing (map (λ c. c.uid.0) amounts.now) × All (λ c. HasAmount self.now.meaning c) amounts.now) }
+    {
+        rise(amounts) && self.have_amounts(amounts)
+    }
+
+    fn have_amounts(&self, amounts: &[MapCount]) -> bool
+        ensures { IsTrue result ↔ All (λ c. HasAmount self.now.meaning c) amounts.now }
+    {
+        amounts.iter().all(|given| self.has_amount(*given))
+    }
+
+    #[tactic(auto, unfolding(crate::specs::Has::HasAmount))]
+    fn has_amount(&self, given: MapCount) -> bool
+        ensures { IsTrue result ↔ HasAmount self.now.meaning given }
+    {
+        match self.find(given.uid) {
+            Some(record) => 1 <= given.count && given.count <= record.row.count,
+            None => false,
+        }
     }
 
     fn has_room(&self, file: FileNo, offset: u32, size: u32) -> bool

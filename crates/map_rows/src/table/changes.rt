@@ -4,7 +4,7 @@ ghost use Rattle.std.specs.List.Sorted.{IsStrictlyIncreasing};
 ghost use Rattle.model_meaning.specs.Rows.{rows_by};
 ghost use Rattle.model_meaning.specs.MapMeaning.{record_changed, record_rules};
 ghost use Rattle.mdbox_base.specs.declared.entries.MapEntry.TheVariants as entry;
-ghost use Rattle.map_rows.specs.Lookups.{meant_record};
+ghost use Rattle.map_rows.specs.Lookups.{lowered_by, meant_record};
 
 use super::Table;
 use crate::edits;
@@ -50,6 +50,13 @@ impl Table {
         ensures { self.new ≡ record self.old { records = map (record_changed (entry.T (given ∷ []))) self.old.records } }
     {
         edits::set_count(&mut self.records, given);
+    }
+
+    /// Lowers the count of a record by an amount, if there is one of this map uid.
+    pub fn lower_by(&mut self, given: MapCount)
+        ensures { self.new ≡ record self.old { records = map (lowered_by (given ∷ [])) self.old.records } }
+    {
+        edits::lower_by(&mut self.records, given);
     }
 
     /// Moves the records that one list names to their new places in the target, and removes those that the other names,

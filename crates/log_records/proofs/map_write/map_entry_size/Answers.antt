@@ -1,5 +1,5 @@
 use Rattle.std.proofs.Common.{arith}
-use Rattle.log_records.proofs.EntrySizeLemmas.{stored_size, lowered_size, counted_size, purged_size}
+use Rattle.log_records.proofs.EntrySizeLemmas.{stored_size, lowered_size, counted_size, deleted_size, purged_size}
 use Rattle.log_records.proofs.map_write.map_entry_size.Goals as goal
 
 pub returns-in-S : goal.returns-in-S
@@ -13,3 +13,6 @@ returns-in-T c = omega (arith, c.length-in-T.ensures, counted_size c.args.entry.
 
 pub returns-in-P : goal.returns-in-P
 returns-in-P c = omega (arith, c.length-in-P.ensures, c.length-in-P-2.ensures, purged_size c.args.entry.now _ _ _ _ c.in-P.is c.requires)
+
+pub returns-in-X : goal.returns-in-X
+returns-in-X c = omega (arith, c.length-in-X.ensures, deleted_size c.args.entry.now _ _ c.in-X.is c.requires)

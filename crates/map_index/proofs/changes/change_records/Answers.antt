@@ -1,7 +1,6 @@
-use Rattle.std.proofs.Common.{◌≡◌, ◌∙◌, sym, ap, List, map, filter, not}
-use Rattle.model_meaning.specs.MapMeaning.{MapRecord, has_map_uid, moved_record, place_given}
-use Rattle.model_meaning.proofs.AppliedLemmas.{records_by_raised, records_by_lowered, records_by_counted}
-use Rattle.map_rows.specs.TableValue.{TableValue}
+use Rattle.std.proofs.Common.{◌∙◌, sym, ap, List}
+use Rattle.model_meaning.specs.MapMeaning.{MapRecord}
+use Rattle.model_meaning.proofs.AppliedLemmas.{records_by_raised, records_by_lowered, records_by_counted, records_by_deleted}
 use Rattle.map_index.proofs.MapAppliedLemmas.{records_stay}
 use Rattle.map_index.proofs.changes.change_records.Goals as goal
 
@@ -36,4 +35,10 @@ pub returns-in-T : goal.returns-in-T
 returns-in-T c = rw c.in-T.is ((rw c.as_slice-in-T.ensures at c.set_counts.ensures) ∙ ap (λ (rs : List MapRecord). record c.args.records.now { records = rs }) (sym (records_by_counted c.in-T.counts c.args.records.now.records)))
 
 pub returns-in_default : goal.returns-in_default
-returns-in_default c = ap (λ (rs : List MapRecord). record c.args.records.now { records = rs }) (sym (records_stay c.args.entry.now c.requires.changes c.in_default.not-P c.in_default.not-U c.in_default.not-D c.in_default.not-T c.args.records.now.records))
+returns-in_default c = ap (λ (rs : List MapRecord). record c.args.records.now { records = rs }) (sym (records_stay c.args.entry.now c.requires.changes c.in_default.not-P c.in_default.not-U c.in_default.not-D c.in_default.not-T c.in_default.not-X c.args.records.now.records))
+
+pub lower_by_each-requires : goal.lower_by_each-requires
+lower_by_each-requires c = rw (c.in-X.is, ← c.as_slice-in-X.ensures) at c.requires.fits
+
+pub returns-in-X : goal.returns-in-X
+returns-in-X c = rw c.in-X.is ((rw c.as_slice-in-X.ensures at c.lower_by_each.ensures) ∙ ap (λ (rs : List MapRecord). record c.args.records.now { records = rs }) (sym (records_by_deleted c.in-X.mailbox c.in-X.amounts c.args.records.now.records)))

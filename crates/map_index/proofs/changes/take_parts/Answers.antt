@@ -1,6 +1,6 @@
 use Rattle.std.proofs.Common.{◌++◌, ◌∷◌, [], ◌∙◌, sym, ap, map, arith}
 use Rattle.std.proofs.lemmas.List.{map_push}
-use Rattle.model_meaning.proofs.AppliedLemmas.{records_by_stored, records_by_mailbox, records_by_sealed, boxes_by_stored, boxes_by_mailbox, boxes_by_sealed}
+use Rattle.model_meaning.proofs.AppliedLemmas.{records_by_stored, records_by_mailbox, records_by_sealed, records_by_renamed, boxes_by_stored, boxes_by_mailbox, boxes_by_sealed, boxes_by_renamed}
 use Rattle.map_rows.specs.TableValue.{TableValue}
 use Rattle.map_index.specs.Shown.{box_of}
 use Rattle.map_index.specs.declared.rows.Mailbox.{Mailbox}
@@ -42,7 +42,13 @@ pub returns-in-E-clause-files : goal.returns-in-E-clause-files
 returns-in-E-clause-files c = rw c.in-E.is c.seal.ensures.files
 
 pub change_parts-requires : goal.change_parts-requires
-change_parts-requires c = record { fits = c.requires.fits; boxes_rising = c.requires.boxes_rising; changes = adds_none c.args.entry c.in_default.not-S c.in_default.not-B c.in_default.not-E }
+change_parts-requires c = record { fits = c.requires.fits; boxes_rising = c.requires.boxes_rising; changes = adds_none c.args.entry c.in_default.not-S c.in_default.not-B c.in_default.not-E c.in_default.not-V }
 
 pub returns-in_default-clause-records : goal.returns-in_default-clause-records
-returns-in_default-clause-records c = c.change_parts.ensures.records ∙ room_stays c.args.entry c.args.records.now _ (adds_none c.args.entry c.in_default.not-S c.in_default.not-B c.in_default.not-E)
+returns-in_default-clause-records c = c.change_parts.ensures.records ∙ room_stays c.args.entry c.args.records.now _ (adds_none c.args.entry c.in_default.not-S c.in_default.not-B c.in_default.not-E c.in_default.not-V)
+
+pub returns-in-V-clause-records : goal.returns-in-V-clause-records
+returns-in-V-clause-records c = rw c.in-V.is (table_is c.args.records.now _ _ _ (sym (records_by_renamed c.in-V.mailbox c.in-V.name c.args.records.now.records)) (omega arith) (omega arith))
+
+pub returns-in-V-clause-boxes : goal.returns-in-V-clause-boxes
+returns-in-V-clause-boxes c = rw c.in-V.is (c.rename.ensures.boxes ∙ sym (boxes_by_renamed c.in-V.mailbox c.in-V.name (map box_of c.args.boxes.now.items)))

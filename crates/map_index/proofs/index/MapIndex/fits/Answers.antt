@@ -27,3 +27,6 @@ returns-in-D c = rw c.in-D.is (rw c.as_slice-in-D.ensures at c.can_count_down.en
 
 pub returns-in-T : goal.returns-in-T
 returns-in-T c = rw c.in-T.is (rw c.as_slice-in-T.ensures at c.can_count.ensures)
+
+pub returns-in-X : goal.returns-in-X
+returns-in-X c = rw c.in-X.is (rw c.as_slice-in-X.ensures at c.can_delete.ensures)
