@@ -1,12 +1,12 @@
 -- What an event of a task leaves to the other tasks.
-use Rattle.std.specs.Prelude.{◌≡◌, ◌≢◌, ◌≤◌, ◌<◌, ◌+◌, ◌==◌, ◌⊎◌, ◌++◌, ℕ, List, length, take, drop, All, map, filter, Option, Some, IsSome}
+use Rattle.std.specs.Prelude.{◌≡◌, ◌≢◌, ◌≤◌, ◌+◌, ◌==◌, ◌⊎◌, ◌++◌, ℕ, List, length, take, drop, All, map, filter, Option, Some, IsSome}
 use Rattle.std.specs.Option.{option_map}
 use Rattle.disk_model.specs.Disk.{Files, FileState, History, Between, named, reading}
 use Rattle.disk_model.specs.declared.name.FileName.TheVariants as file
 use Rattle.mdbox_base.specs.declared.entries.InstRow.{InstRow}
 use Rattle.mdbox_base.specs.declared.ids.Hash.{Hash}
 use Rattle.mdbox_base.specs.declared.ids.InstId.{InstId}
-use Rattle.model_meaning.specs.MapMeaning.{MapRecord, MapBox, MapMeaning, record_at, number_at}
+use Rattle.model_meaning.specs.MapMeaning.{MapRecord, MapMeaning, box_named, record_at, number_at}
 use Rattle.model_store.specs.Settled.{files_of}
 use Rattle.sis_store.specs.Comparing.{IsUnlikeCompared, candidates_left}
 use Rattle.sis_store.specs.Instances.{InstancesValue}
@@ -107,12 +107,13 @@ pub record PlacesFew (old new : InstancesValue) : Type 0 where
   pub candidates : new.highest ≡ old.highest → (hash : Hash) (size : ℕ) (after : Option InstId) → candidates_left hash size after new.known ≤ candidates_left hash size after old.known
   pub last : new.highest ≢ old.highest → new.highest ≤ 4294967294
 
--- the mailboxes have the same numbers and names
-abbrev pub number_and_name : MapBox → ℕ × List ℕ
-number_and_name box = (box.number, box.name)
+-- the number of the mailbox with this name
+abbrev pub number_named : MapMeaning → List ℕ → Option ℕ
+number_named m name = option_map (λ box. box.number) (box_named m name)
 
-abbrev pub HasSameNames : MapMeaning → MapMeaning → Type 0
-HasSameNames m n = map number_and_name n.boxes ≡ map number_and_name m.boxes
+-- each name names the mailbox that it named
+abbrev pub KeepsNames : MapMeaning → MapMeaning → Type 0
+KeepsNames m n = (name : List ℕ) (number : ℕ) → number_named m name ≡ Some number → number_named n name ≡ Some number
 
 -- ---- all of it
 
@@ -126,8 +127,8 @@ KeepsCompared old new before after = (hash : Hash) (size : ℕ) (octets : List �
     → IsUnlikeCompared old.instances.store hash size octets last drawn old.instances.known before → IsUnlikeCompared old.instances.store hash size octets last drawn new.instances.known after
 
 -- An event of a task that had these claims as it began, and that didn't stop the store, leaves to the other tasks what is theirs, and
--- every storage file that it doesn't claim to empty or to remove. The last eleven are of no claim: no count of 0 rises; the store of the
--- instances, whose numbers rise; the numbers of mailboxes; the end of the map log, which rises if a mailbox is made, removed or renamed; what was compared; which instances a record that is made may name; the
+-- every storage file that it doesn't claim to empty or to remove. The last ten are of no claim: no count of 0 rises; the store of the
+-- instances, whose numbers rise; the numbers of mailboxes, and which name names which; what was compared; which instances a record that is made may name; the
 -- message with a UID; the room for an entry of the map log; and a disk that is modelled stays so. What grows here is what a task's work left is counted by, so that no event of another task adds to it.
 pub record LeavesOthers {D : Type 0} (mine : Claims) (old new : StoreValue D) (before after : Option History) : Type 0 where
   pub records : (uid : ℕ) (row : MapRecord) → OthersClaim mine old (Due uid) → record_at old.map uid ≡ Some row → LeavesRecord uid row new before after
@@ -139,8 +140,7 @@ pub record LeavesOthers {D : Type 0} (mine : Claims) (old new : StoreValue D) (b
   pub store : new.instances.store ≡ old.instances.store
   pub numbers : PlacesFew old.instances new.instances
   pub mailboxes : old.map.highest.mailbox ≤ new.map.highest.mailbox
-  pub end : old.map_log.end ≤ new.map_log.end
-  pub names : HasSameNames old.map new.map ⊎ (old.map_log.end < new.map_log.end)
+  pub names : KeepsNames old.map new.map
   pub compared : KeepsCompared old new before after
   pub firm : KeepsFirm old new before after
   pub uids : KeepsUids old new
