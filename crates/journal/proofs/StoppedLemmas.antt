@@ -91,6 +91,7 @@ the_refusal (reply.Moved uid gone) r e = absurd (no_refusal r e)
 the_refusal (reply.Counted records references counts instances) r e = absurd (no_refusal r e)
 the_refusal (reply.Purged dropped files instances) r e = absurd (no_refusal r e)
 the_refusal (reply.Resynced corrected damaged) r e = absurd (no_refusal r e)
+the_refusal (reply.AltMoved moved dropped) r e = absurd (no_refusal r e)
 
 pub stopped_is_replied : (around after : Around) (run : Run) (lists : Lists) (q : Request) (event : RunEvent) → IsEvent around after run lists q event → event.refused ≡ Some refusal.Stopped → event.reply ≡ Some (reply.Refused refusal.Stopped)
 stopped_is_replied around after run lists q event is why = by_reply event.reply refl

@@ -254,9 +254,10 @@ mailboxes_renamed : (a : Files) (m : MapMeaning) (k : BoxNo) (name : List ℕ) (
 mailboxes_renamed a m k name [] [] h = tt
 mailboxes_renamed a m k name [] (x ∷ xs) h = absurd h
 mailboxes_renamed a m k name (box ∷ boxes) [] h = absurd h
-mailboxes_renamed a m k name (box ∷ boxes) (x ∷ xs) h =
-    (subst (λ (n : ℕ). IsMailbox a m (if k.0 == box.number then record box { name = name } else box) (if k.0 == n then record x { name = name } else x)) (sym h.0.number) (renamed_mailbox a m k.0 name (k.0 == box.number) box x h.0),
-      mailboxes_renamed a m k name boxes xs h.1)
+mailboxes_renamed a m k name (box ∷ boxes) (x ∷ xs) h = (
+  subst (λ (n : ℕ). IsMailbox a m (if k.0 == box.number then record box { name = name } else box) (if k.0 == n then record x { name = name } else x)) (sym h.0.number) (renamed_mailbox a m k.0 name (k.0 == box.number) box x h.0),
+  mailboxes_renamed a m k name boxes xs h.1,
+)
 
 pub renamed_refs : (k : ℕ) (name guid : List ℕ) (xs : Lists) → refs_of (map (named_anew k name) xs) guid ≡ refs_of xs guid
 renamed_refs k name guid [] = refl
