@@ -1,0 +1,2 @@
+pub mod SnapshotBoxLemmas
+pub mod SnapshotMapLemmas
