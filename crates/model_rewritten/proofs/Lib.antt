@@ -1,2 +1,3 @@
 pub mod SnapshotBoxLemmas
 pub mod SnapshotMapLemmas
+pub mod NamedLemmas

@@ -1,6 +1,6 @@
 //! Logs of a store that are written anew.
 #![tactic(auto)]
 
-pub use rewritten::rewritten_logs_mean_the_same;
+pub use rewritten::{highest_numbers_are_named, rewritten_logs_mean_the_same};
 
 mod rewritten;
