@@ -1,3 +1,4 @@
 pub mod SnapshotBoxLemmas
 pub mod SnapshotMapLemmas
 pub mod NamedLemmas
+pub mod UnneededLemmas

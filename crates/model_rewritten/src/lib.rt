@@ -2,5 +2,7 @@
 #![tactic(auto)]
 
 pub use rewritten::{highest_numbers_are_named, rewritten_logs_mean_the_same};
+pub use unneeded::unneeded_files_are_free;
 
 mod rewritten;
+mod unneeded;

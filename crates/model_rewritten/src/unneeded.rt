@@ -1,0 +1,24 @@
+// Logs that are not in force.
+ghost use Rattle.std.specs.Prelude.{ℕ, List};
+ghost use Rattle.disk_model.specs.Disk.{Files, DiskState, IsImage};
+ghost use Rattle.disk_model.specs.declared.name.FileName.{FileName};
+ghost use Rattle.mdbox_base.specs.declared.entries.BoxEntry.{BoxEntry};
+ghost use Rattle.mdbox_base.specs.declared.entries.MapEntry.{MapEntry};
+ghost use Rattle.model_lists.specs.Lists.{Lists};
+ghost use Rattle.model_meaning.specs.MapMeaning.{map_meaning};
+ghost use Rattle.model_store.specs.Opening.{Opens};
+ghost use Rattle.model_store.specs.Safe.{Safe};
+ghost use Rattle.model_store.specs.Settled.{files_of, IsSettled};
+ghost use Rattle.model_appends.specs.Appending.{LeftBut, SameBut};
+ghost use Rattle.model_rewritten.specs.Unneeded.{IsUnneeded, IsBeside};
+
+/// Where the store doesn't need a log, whatever stands there is of no account: for what a crash leaves, for a disk afterwards,
+/// and for opening.
+pub fn unneeded_files_are_free()
+    ensures image { (disk : DiskState) (lists : Lists) (name : FileName) (image : Files) → (s : IsSettled disk lists) → IsImage disk (files_of disk)
+        → IsUnneeded s.safe.stands.map_log.generation (map_meaning s.store s.entries) name → LeftBut name disk image → Safe image lists }
+    ensures settled { (a b : DiskState) (lists : Lists) (name : FileName) → (s : IsSettled a lists) → IsImage a (files_of a)
+        → IsUnneeded s.safe.stands.map_log.generation (map_meaning s.store s.entries) name → IsBeside name a b → IsSettled b lists }
+    ensures opens { (a b : Files) (store : List ℕ) (entries : List MapEntry) (logs : List (List BoxEntry)) (name : FileName) → (o : Opens a store entries logs)
+        → IsUnneeded o.passed.map_log.generation (map_meaning store entries) name → SameBut name a b → Opens b store entries logs }
+{}
