@@ -2,3 +2,4 @@ pub mod SnapshotBoxLemmas
 pub mod SnapshotMapLemmas
 pub mod NamedLemmas
 pub mod UnneededLemmas
+pub mod SwitchLemmas
