@@ -3,3 +3,4 @@ pub mod SnapshotMapLemmas
 pub mod NamedLemmas
 pub mod UnneededLemmas
 pub mod SwitchLemmas
+pub mod SwitchOpenLemmas
