@@ -4,3 +4,5 @@ pub mod NamedLemmas
 pub mod UnneededLemmas
 pub mod SwitchLemmas
 pub mod SwitchOpenLemmas
+pub mod KeptMailLemmas
+pub mod RootLemmas

@@ -114,7 +114,7 @@ unneeded_settled a b lists name s own u beside =
 
 -- ---- files that open
 
-passes_beside : (a b : Files) (m : MapMeaning) (name : FileName) (boxes : List MapBox) (logs : List (List BoxEntry)) → SameBut name a b → All (λ (box : MapBox). file.Box box.number box.generation ≢ name) boxes → PassBoxes a m boxes logs → PassBoxes b m boxes logs
+pub passes_beside : (a b : Files) (m : MapMeaning) (name : FileName) (boxes : List MapBox) (logs : List (List BoxEntry)) → SameBut name a b → All (λ (box : MapBox). file.Box box.number box.generation ≢ name) boxes → PassBoxes a m boxes logs → PassBoxes b m boxes logs
 passes_beside a b m name [] [] same apart h = tt
 passes_beside a b m name [] (log ∷ logs) same apart h = absurd h
 passes_beside a b m name (box ∷ boxes) [] same apart h = absurd h

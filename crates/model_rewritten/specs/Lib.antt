@@ -1,3 +1,4 @@
+pub mod OtherMap
 pub mod Rewriting
 pub mod Switched
 pub mod Unneeded

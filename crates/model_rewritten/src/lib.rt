@@ -2,9 +2,11 @@
 #![tactic(auto)]
 
 pub use rewritten::{highest_numbers_are_named, rewritten_logs_mean_the_same};
+pub use root::root_entries_can_be_appended;
 pub use switched::{generations_can_be_appended, generations_keep_stores_open};
 pub use unneeded::unneeded_files_are_free;
 
 mod rewritten;
+mod root;
 mod switched;
 mod unneeded;
