@@ -6,3 +6,4 @@ pub mod SwitchLemmas
 pub mod SwitchOpenLemmas
 pub mod KeptMailLemmas
 pub mod RootLemmas
+pub mod CarriedLemmas

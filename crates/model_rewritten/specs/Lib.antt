@@ -1,3 +1,4 @@
+pub mod CarriedStore
 pub mod OtherMap
 pub mod Rewriting
 pub mod Switched

@@ -1,11 +1,13 @@
-//! Logs of a store that are written anew.
+//! Logs of a store that are written anew: what they mean, that the store may go over to them, and what a crash within leaves.
 #![tactic(auto)]
 
+pub use carried::rewritten_stores_are_safe;
 pub use rewritten::{highest_numbers_are_named, rewritten_logs_mean_the_same};
 pub use root::root_entries_can_be_appended;
 pub use switched::{generations_can_be_appended, generations_keep_stores_open};
 pub use unneeded::unneeded_files_are_free;
 
+mod carried;
 mod rewritten;
 mod root;
 mod switched;
