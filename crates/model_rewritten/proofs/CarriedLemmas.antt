@@ -1,6 +1,6 @@
 -- Files that open again, with logs that mean the same and the same mail, are safe for the same lists.
-use Rattle.std.specs.Prelude.{◌≡◌, ◌≢◌, ◌≤◌, ◌+◌, ℕ, List, [], ◌∷◌, length, take, drop, map, Option, Some, All, AllPairs, refl}
-use Rattle.std.proofs.Common.{sym, ◌∙◌, ap, subst, arith}
+use Rattle.std.specs.Prelude.{◌≡◌, ◌≢◌, ℕ, List, [], ◌∷◌, take, drop, map, Some, All, AllPairs, refl}
+use Rattle.std.proofs.Common.{sym, ◌∙◌, ap, subst}
 use Rattle.std.proofs.lemmas.List.Elements.{All-nil, All-cons, All-weaker}
 use Rattle.disk_model.specs.Disk.{Files}
 use Rattle.disk_model.specs.declared.name.FileName.TheVariants as file
@@ -11,7 +11,7 @@ use Rattle.model_lists.specs.Lists.{Mailbox, Lists}
 use Rattle.model_logs.proofs.EntryLemmas.{box_one}
 use Rattle.model_logs.specs.Entries.{box_text, BoxInRange}
 use Rattle.model_meaning.proofs.SameMeaningLemmas.{means_itself, means_along}
-use Rattle.model_meaning.specs.BoxMeaning.{BoxMeaning, rows_after, next_after, box_meaning}
+use Rattle.model_meaning.specs.BoxMeaning.{BoxMeaning, rows_after, box_meaning}
 use Rattle.model_meaning.specs.MapMeaning.{MapRecord, MapBox, MapMeaning, map_meaning}
 use Rattle.model_store.proofs.OpeningSafeLemmas.{opens_safe}
 use Rattle.model_store.proofs.SettledLemmas.{all_listed_along, stands_carried}

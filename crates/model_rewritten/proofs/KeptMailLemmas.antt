@@ -3,10 +3,10 @@ use Rattle.std.specs.Prelude.{◌≡◌, ◌==◌, ℕ, List, [], ◌∷◌, fin
 use Rattle.std.proofs.Common.{◌∙◌, ap}
 use Rattle.disk_model.specs.Disk.{Files}
 use Rattle.disk_model.specs.declared.name.FileName.TheVariants as file
-use Rattle.model_lists.specs.Lists.{ListedMessage, Mailbox, Lists}
+use Rattle.model_lists.specs.Lists.{ListedMessage, Lists}
 use Rattle.model_meaning.specs.BoxMeaning.{LogRow}
 use Rattle.model_meaning.specs.MapMeaning.{MapRecord, MapBox, MapMeaning}
-use Rattle.model_store.specs.Stands.{IsListed, AreListed, IsMailbox, AreMailboxes}
+use Rattle.model_store.specs.Stands.{IsListed, AreListed, AreMailboxes}
 use Rattle.model_appends.proofs.AppendBoxLemmas.{box_log_as}
 use Rattle.model_appends.proofs.AppendFileLemmas.{SameStored, count_itself, kept_as}
 

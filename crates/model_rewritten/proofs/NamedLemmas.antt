@@ -1,9 +1,8 @@
 -- No record, instance or sealed file names a number above the highest.
-use Rattle.std.specs.Prelude.{◌≡◌, ◌≤◌, ℕ, max, List, [], ◌∷◌, ◌++◌, All, refl}
+use Rattle.std.specs.Prelude.{◌≤◌, ℕ, max, List, [], ◌∷◌, ◌++◌, All}
 use Rattle.std.specs.List.{AllByRecursion}
 use Rattle.std.proofs.Common.{sym, ap, arith, subst, append-nil, append_assoc}
 use Rattle.std.proofs.lemmas.List.Elements.{All-nil, All-cons, All-append, All-weaker}
-use Rattle.mdbox_base.specs.declared.entries.Highest.{Highest}
 use Rattle.mdbox_base.specs.declared.entries.InstRow.{InstRow}
 use Rattle.mdbox_base.specs.declared.entries.MapEntry.{MapEntry}
 use Rattle.mdbox_base.specs.declared.entries.MapEntry.TheVariants as map
@@ -13,7 +12,7 @@ use Rattle.model_meaning.proofs.MapLemmas.{map_more}
 use Rattle.model_meaning.proofs.MapPlaceLemmas.{changed_same}
 use Rattle.model_meaning.proofs.RowLemmas.{rows_all}
 use Rattle.model_meaning.proofs.SealedLemmas.{all_with, sealed_rises}
-use Rattle.model_meaning.specs.MapMeaning.{MapRecord, MapMeaning, map_meaning, map_applied, record_made, record_changed, record_rules, numbers_of, sealed_by, guid_file, instance_number, greatest}
+use Rattle.model_meaning.specs.MapMeaning.{MapRecord, MapMeaning, map_meaning, map_applied, record_made, record_rules, numbers_of, sealed_by, guid_file, instance_number, greatest}
 use Rattle.model_rewritten.specs.Rewriting.{NamesUpTo, HasFew}
 
 -- ---- one entry more

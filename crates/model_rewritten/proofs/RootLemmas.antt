@@ -10,7 +10,6 @@ use Rattle.disk_model.specs.declared.name.FileName.{FileName}
 use Rattle.disk_model.specs.declared.name.FileName.TheVariants as file
 use Rattle.mdbox_base.specs.declared.entries.BoxEntry.{BoxEntry}
 use Rattle.mdbox_base.specs.declared.entries.MapEntry.{MapEntry}
-use Rattle.mdbox_base.specs.declared.entries.RootEntry.{RootEntry}
 use Rattle.mdbox_base.specs.declared.entries.RootEntry.TheVariants as root
 use Rattle.model_lists.specs.Lists.{Lists}
 use Rattle.model_logs.specs.Entries.{root_text, RootInRange}
@@ -18,7 +17,7 @@ use Rattle.model_logs.specs.declared.log_head.LogKind.TheVariants as kind
 use Rattle.model_meaning.proofs.FitLemmas.{each_more}
 use Rattle.model_meaning.proofs.MapSoundLemmas.{map_sound}
 use Rattle.model_meaning.specs.BoxMeaning.{rows_after}
-use Rattle.model_meaning.specs.MapMeaning.{MapRecord, MapBox, MapMeaning, map_meaning, named_instances}
+use Rattle.model_meaning.specs.MapMeaning.{MapBox, MapMeaning, map_meaning, named_instances}
 use Rattle.model_store.proofs.CarryingLemmas.{each_name}
 use Rattle.model_store.proofs.SettledLemmas.{has_all_carried, stands_carried}
 use Rattle.model_store.proofs.StandsLemmas.{root_same}

@@ -1,5 +1,5 @@
 -- A map log that is written anew means what it meant.
-use Rattle.std.specs.Prelude.{◌≡◌, ◌≢◌, ◌<◌, ◌≤◌, ◌+◌, ◌==◌, nat_lt, ◌⊎◌, ℕ, max, Bool, true, false, if◌then◌else◌, List, [], ◌∷◌, ◌++◌, length, map, All, AllPairs, refl}
+use Rattle.std.specs.Prelude.{◌≡◌, ◌≢◌, ◌<◌, ◌≤◌, ◌+◌, ◌==◌, nat_lt, ◌⊎◌, ℕ, max, Bool, false, if◌then◌else◌, List, [], ◌∷◌, ◌++◌, length, map, All, AllPairs, refl}
 use Rattle.std.specs.List.{AllByRecursion}
 use Rattle.std.proofs.Common.{inl, inr, sym, ◌∙◌, ap, arith, subst, append-nil, append_assoc, length-append}
 use Rattle.std.proofs.lemmas.List.{length-map}
@@ -12,7 +12,6 @@ use Rattle.mdbox_base.specs.declared.entries.MapEntry.TheVariants as map_entry
 use Rattle.model_logs.specs.Entries.{MapInRange, RowInRange}
 use Rattle.model_meaning.proofs.AppliedLemmas.{records_by_mailbox, records_by_stored, records_by_sealed, records_by_highest, boxes_by_mailbox, boxes_by_stored, boxes_by_sealed, boxes_by_highest}
 use Rattle.model_meaning.proofs.MapLemmas.{map_more}
-use Rattle.model_meaning.proofs.MapPlaceLemmas.{equal_is}
 use Rattle.model_meaning.specs.MapFits.{IsApart, AgreesOn, FitsMade, FitsStored, MapFits, AllMapFit}
 use Rattle.model_meaning.specs.MapMeaning.{MapRecord, MapBox, MapMeaning, map_meaning, map_applied, higher, numbers_of, no_numbers, with_number, guid_file, instance_number, greatest}
 use Rattle.model_meaning.specs.Sound.{IsSoundRecord, IsSoundMapBox, IsSoundMap, AreInRange, AreApart, AgreeOnInstances}
@@ -237,6 +236,18 @@ highest_same h most up = of_four (max h.file most.file) (max h.map most.map) (ma
     of_four : (f m i b : ℕ) → f ≡ most.file → m ≡ most.map → i ≡ most.instance → b ≡ most.mailbox → made f m i b ≡ made most.file most.map most.instance most.mailbox
     of_four f m i b p q r s = cc (p, q, r, s)
 
+-- the last entry
+ends_with : (store : List ℕ) (before : List MapEntry) (records : List MapRecord) (boxes : List MapBox) (sealed : List ℕ) (h most : Highest) → map_meaning store before ≡ meant store records boxes sealed h → IsUpTo most h → AreInRange most
+    → (map_meaning store (before ++ map_entry.H most ∷ []) ≡ meant store records boxes sealed most) × AllMapFit store before (map_entry.H most ∷ [])
+ends_with store before records boxes sealed h most m up in_range =
+    let e : MapEntry = map_entry.H most in
+    let fits : MapFits (meant store records boxes sealed h) e = (
+      record { no_less = up.file; high = in_range.file }, record { no_less = up.map; high = in_range.map }, record { no_less = up.instance; high = in_range.instance }, record { no_less = up.mailbox; high = in_range.mailbox }
+    ) in
+    let end : map_meaning store (before ++ e ∷ []) ≡ meant store records boxes sealed most =
+    map_more store before e ∙ ap (map_applied e) m ∙ meant_same store _ records _ boxes sealed sealed _ most (records_by_highest most records) (boxes_by_highest most boxes) refl (highest_same h most up) in
+    (end, (subst (λ (n : MapMeaning). MapFits n e) (sym m) fits, tt))
+
 -- ---- whole
 
 record Means (m : MapMeaning) (entries : List MapEntry) : Type 0 where
@@ -253,7 +264,7 @@ map_means m s in_range named =
     let ones : List MapEntry = map made_entry m.boxes in
     let twos : List MapEntry = map stored_again m.records in
     let threes : List MapEntry = map seal_entry m.sealed in
-    let last : MapEntry = map_entry.H most in
+    let last : List MapEntry = map_entry.H most ∷ [] in
     let a = boxes_lead store most [] [] m.boxes no_numbers refl (omega arith) (record { file = omega arith; map = omega arith; instance = omega arith; mailbox = omega arith })
     (All-weaker (IsSoundMapBox most.mailbox) (λ (b : MapBox). 0 < b.number) (λ b h. let l = h.number.low in omega (arith, l)) m.boxes s.boxes) s.boxes_rising s.boxes s.names (let r = s.room in omega (arith, r)) in
     let low = a.low_map in
@@ -261,17 +272,10 @@ map_means m s in_range named =
     (All-weaker (IsSoundRecord most.map) (λ (r : MapRecord). a.highest.map < r.uid) (λ r h. let l = h.uid.low in omega (arith, l, low)) m.records s.records) s.rising s.records
     (λ k d lt. record { file = s.files k d lt; guid = named.guids k d lt; instances = named.instances k d lt }) (together m s) in
     let c = sealed_lead store most (ones ++ twos) m.records m.boxes [] m.sealed b.highest b.means b.up_to named.rising s.sealed named.sealed in
-    let up = c.up_to in
-    let all : List MapEntry = (ones ++ twos) ++ threes in
-    let fits : MapFits (meant store m.records m.boxes m.sealed c.highest) last = (
-      record { no_less = up.file; high = in_range.file }, record { no_less = up.map; high = in_range.map }, record { no_less = up.instance; high = in_range.instance }, record { no_less = up.mailbox; high = in_range.mailbox }
-    ) in
-    let end : map_meaning store (all ++ last ∷ []) ≡ m =
-    map_more store all last ∙ ap (map_applied last) c.means ∙ meant_same store _ m.records _ m.boxes m.sealed m.sealed _ most (records_by_highest most m.records) (boxes_by_highest most m.boxes) refl (highest_same c.highest most up) in
+    let d = ends_with store ((ones ++ twos) ++ threes) m.records m.boxes m.sealed c.highest most c.means c.up_to in_range in
     record {
-      means = ap (map_meaning store) (sym (append_assoc (ones ++ twos) threes (last ∷ []) ∙ append_assoc ones twos (threes ++ last ∷ []))) ∙ end;
-      fit = fit_append store [] ones (twos ++ (threes ++ last ∷ [])) a.fit (fit_append store ones twos (threes ++ last ∷ []) b.fit
-          (fit_append store (ones ++ twos) threes (last ∷ []) c.fit (subst (λ (n : MapMeaning). MapFits n last) (sym c.means) fits, tt)));
+      means = ap (map_meaning store) (sym (append_assoc (ones ++ twos) threes last ∙ append_assoc ones twos (threes ++ last))) ∙ d.0;
+      fit = fit_append store [] ones (twos ++ (threes ++ last)) a.fit (fit_append store ones twos (threes ++ last) b.fit (fit_append store (ones ++ twos) threes last c.fit d.1));
     }
 
 -- ---- in range
