@@ -7,3 +7,4 @@ pub mod SwitchOpenLemmas
 pub mod KeptMailLemmas
 pub mod RootLemmas
 pub mod CarriedLemmas
+pub mod OutOfForceLemmas

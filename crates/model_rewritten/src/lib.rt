@@ -5,7 +5,7 @@ pub use carried::rewritten_stores_are_safe;
 pub use rewritten::{highest_numbers_are_named, rewritten_logs_mean_the_same};
 pub use root::root_entries_can_be_appended;
 pub use switched::{generations_can_be_appended, generations_keep_stores_open};
-pub use unneeded::unneeded_files_are_free;
+pub use unneeded::{other_generations_are_unneeded, unneeded_files_are_free};
 
 mod carried;
 mod rewritten;
