@@ -72,8 +72,11 @@ leads before rows next last (row ∷ rest) m le some fits above rising sound roo
     (pairs_tail Rises row rest rising) (All-tail (IsSoundRow last) row rest sound) (omega (arith, l, room)) in
     record {
       means = ap box_meaning (sym (append_assoc before (e ∷ []) (map row_entry rest ++ end_with (next_from (row.uid + 1) rest == last) last))) ∙ r.means ∙ meant_same _ (rows ++ row ∷ rest) last last (append_assoc rows (row ∷ []) rest) refl;
-      fit = (subst (λ (k : BoxMeaning). (k.next ≤ row.uid) × (row.uid ≤ 4294967294) × (row.flags ≤ 31) × (row.size ≤ 67108864) × (length k.rows < 1000000)) (sym m)
-          (low, omega (arith, below, fits), flags, size, omega (arith, room)), r.fit);
+      fit = (
+        subst (λ (k : BoxMeaning). (k.next ≤ row.uid) × (row.uid ≤ 4294967294) × (row.flags ≤ 31) × (row.size ≤ 67108864) × (length k.rows < 1000000)) (sym m)
+            (low, omega (arith, below, fits), flags, size, omega (arith, room)),
+        r.fit,
+      );
       in_range = ((omega (arith, below, fits), omega (arith, flags), here.time, omega (arith, size), map_uid, here.guid), r.in_range);
     }
 

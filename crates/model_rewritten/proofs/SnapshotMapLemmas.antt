@@ -242,7 +242,10 @@ ends_with : (store : List ℕ) (before : List MapEntry) (records : List MapRecor
 ends_with store before records boxes sealed h most m up in_range =
     let e : MapEntry = map_entry.H most in
     let fits : MapFits (meant store records boxes sealed h) e = (
-      record { no_less = up.file; high = in_range.file }, record { no_less = up.map; high = in_range.map }, record { no_less = up.instance; high = in_range.instance }, record { no_less = up.mailbox; high = in_range.mailbox }
+      record { no_less = up.file; high = in_range.file },
+      record { no_less = up.map; high = in_range.map },
+      record { no_less = up.instance; high = in_range.instance },
+      record { no_less = up.mailbox; high = in_range.mailbox },
     ) in
     let end : map_meaning store (before ++ e ∷ []) ≡ meant store records boxes sealed most =
     map_more store before e ∙ ap (map_applied e) m ∙ meant_same store _ records _ boxes sealed sealed _ most (records_by_highest most records) (boxes_by_highest most boxes) refl (highest_same h most up) in

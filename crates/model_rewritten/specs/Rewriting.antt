@@ -1,4 +1,4 @@
--- The entries of logs that are written anew: as few as mean what the log means.
+-- The entries of logs that are written anew.
 use Rattle.std.specs.Prelude.{◌≡◌, ◌<◌, ◌≤◌, ◌+◌, ◌^◌, ◌==◌, ℕ, List, [], ◌∷◌, ◌++◌, length, map, fold, if◌then◌else◌, All, AllPairs}
 use Rattle.std.specs.List.{AllByRecursion}
 use Rattle.mdbox_base.specs.declared.entries.BoxEntry.{BoxEntry}
