@@ -68,15 +68,15 @@ box_number (map.E f2) box = refl
 box_number (map.X m cs) box = refl
 
 -- and its name, but of an entry that gives it another
-abbrev pub NamesStay : MapEntry → Type 0
-NamesStay (map.V mailbox name) = ⊥
-NamesStay entry = Unit {0}
+abbrev pub KeepsNames : MapEntry → Type 0
+KeepsNames (map.V mailbox name) = ⊥
+KeepsNames entry = Unit {0}
 
 generation_named : (hit : Bool) (g : ℕ) (box : MapBox) → (if hit then record box { generation = g } else box).name ≡ box.name
 generation_named true g box = refl
 generation_named false g box = refl
 
-pub box_name : (entry : MapEntry) (box : MapBox) → NamesStay entry → (box_changed entry box).name ≡ box.name
+pub box_name : (entry : MapEntry) (box : MapBox) → KeepsNames entry → (box_changed entry box).name ≡ box.name
 box_name (map.G m g) box k = generation_named (m.0 == box.number) g box
 box_name (map.H h) box k = refl
 box_name (map.B m g n) box k = refl
@@ -104,7 +104,7 @@ kept_boxes m entry high le f s = kept_all box_rules entry m.boxes (IsSoundMapBox
 kept_box_rising : (m : MapMeaning) (entry : MapEntry) → IsSoundMap m → AllPairs BoxRises (kept_rows box_rules entry m.boxes)
 kept_box_rising m entry s = kept_pairs box_rules entry m.boxes BoxRises (λ a b h. let p = box_number entry a in let q = box_number entry b in omega (arith, h, p, q)) s.boxes_rising
 
-kept_names : (m : MapMeaning) (entry : MapEntry) → NamesStay entry → IsSoundMap m → AllPairs NamesDiffer (kept_rows box_rules entry m.boxes)
+kept_names : (m : MapMeaning) (entry : MapEntry) → KeepsNames entry → IsSoundMap m → AllPairs NamesDiffer (kept_rows box_rules entry m.boxes)
 kept_names m entry k s = kept_pairs box_rules entry m.boxes NamesDiffer (λ a b h e. h (sym (box_name entry a k) ∙ e ∙ box_name entry b k)) s.names
 
 -- two mailboxes, one of which may have another name
