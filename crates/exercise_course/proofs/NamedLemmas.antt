@@ -229,9 +229,9 @@ mapped_later lanes count number around after start run journal next name k n (su
 
 agree_later : (lanes count number : ℕ) (around after : ℕ → Around) (start : Lists) (run : Run) (journal : List JournalStep) → Follow lanes count number around after start run journal → (name : List ℕ) (lists : Lists) (k n : ℕ) → k ≤ n → n ≤ length run.events
     → Agree name lists (map_of (before k run)) → Agree name lists (map_of (before n run))
-agree_later lanes count number around after start run journal next name lists k n le within a number listed =
+agree_later lanes count number around after start run journal next name lists k n le within a found listed =
     let is : k + (n - k) ≡ n = omega (arith, le) in
-    subst (λ (i : ℕ). MappedAs name number (map_of (before i run))) is (mapped_later lanes count number around after start run journal next name number k (n - k) (omega (arith, le, within)) (a number listed))
+    subst (λ (i : ℕ). MappedAs name found (map_of (before i run))) is (mapped_later lanes count number around after start run journal next name found k (n - k) (omega (arith, le, within)) (a found listed))
 
 none_kept : (n : ℕ) (journal : List JournalStep) → All (λ s. n ≤ s.event) journal → filter (λ s. nat_lt s.event n) journal ≡ []
 none_kept n [] a = refl
@@ -247,7 +247,9 @@ agree_along : (lanes count number : ℕ) (around after : ℕ → Around) (start 
     → (steps : List JournalStep) (old : Lists) (k : ℕ) → k ≤ n → AreSteps run (script_of lanes count number) old steps → All (λ s. k ≤ s.event) steps → AllPairs (λ a b. a.event < b.event) steps → Agree name old (map_of (before k run))
     → Agree name (left_by old (filter (λ s. nat_lt s.event n) steps)) (map_of (before n run))
 agree_along lanes count number around after start run journal next name n within [] old k le steps above rise a = agree_later lanes count number around after start run journal next name old k n le within a
-agree_along lanes count number around after start run journal next name n within (step ∷ rest) old k le steps above rise a = by_test (nat_lt step.event n) refl
+agree_along lanes count number around after start run journal next name n within (step ∷ rest) old k le steps above rise a =
+    by_test (nat_lt step.event n) refl (λ lt. agree_along lanes count number around after start run journal next name n within rest step.left (suc step.event) (omega (arith, lt)) steps.1
+    (All-weaker (λ (b : JournalStep). step.event < b.event) (λ (b : JournalStep). suc step.event ≤ b.event) (λ b h. omega (arith, h)) rest behind) (pairs_tail (λ (a b : JournalStep). a.event < b.event) step rest rise) (with_step lt))
   where
     s : IsStep run (script_of lanes count number) old step
     s = steps.0
@@ -267,12 +269,10 @@ agree_along lanes count number around after start run journal next name n within
         subst (λ (r : Run). Agree name step.left (map_of r)) (sym after_is)
         (step_agrees (around step.event) (after step.event) (before step.event run) (lists_before start journal step.event) old step.left name (made_request lanes number s.event.request).1 s.event step.answer (round_simple number s.event.request (s.event.request % lanes + 1) (s.event.request / lanes)) ev s.says answers was)
 
-    by_test : (b : Bool) → nat_lt step.event n ≡ b → Agree name (left_by old (if b then step ∷ filter (λ s. nat_lt s.event n) rest else filter (λ s. nat_lt s.event n) rest)) (map_of (before n run))
-    by_test true t =
-        let lt = ltb-true step.event n t in
-        agree_along lanes count number around after start run journal next name n within rest step.left (suc step.event) (omega (arith, lt)) steps.1
-        (All-weaker (λ (b : JournalStep). step.event < b.event) (λ (b : JournalStep). suc step.event ≤ b.event) (λ b h. omega (arith, h)) rest behind) (pairs_tail (λ (a b : JournalStep). a.event < b.event) step rest rise) (with_step lt)
-    by_test false t =
+    by_test : (b : Bool) → nat_lt step.event n ≡ b → (step.event < n → Agree name (left_by step.left (filter (λ s. nat_lt s.event n) rest)) (map_of (before n run)))
+        → Agree name (left_by old (if b then step ∷ filter (λ s. nat_lt s.event n) rest else filter (λ s. nat_lt s.event n) rest)) (map_of (before n run))
+    by_test true t goes = goes (ltb-true step.event n t)
+    by_test false t goes =
         let ge = ltb-false step.event n t in
         let none = none_kept n rest (All-weaker (λ (b : JournalStep). step.event < b.event) (λ (b : JournalStep). n ≤ b.event) (λ b h. omega (arith, h, ge)) rest behind) in
         subst (λ (l : List JournalStep). Agree name (left_by old l) (map_of (before n run))) (sym none) (agree_later lanes count number around after start run journal next name old k n le within a)
@@ -325,15 +325,12 @@ refused_last (x ∷ more ∷ rest) e why is r = or_some (last_refusal (more ∷ 
 
 refused_more : (own : List RunEvent) (e : RunEvent) → is_some (last_refusal own) ≡ true → is_some (last_refusal (own ++ e ∷ [])) ≡ true
 refused_more [] e h = absurd (cc h)
-refused_more (x ∷ own) e h = by_rest (last_refusal own) refl h
+refused_more (x ∷ own) e h = by_rest (last_refusal own) x.refused (λ k. refused_more own e k) h
   where
-    by_rest : (o : Option Refusal) → last_refusal own ≡ o → is_some (option_or o x.refused) ≡ true → is_some (option_or (last_refusal (own ++ e ∷ [])) x.refused) ≡ true
-    by_rest None is k = with_own x.refused k
-      where
-        with_own : (r : Option Refusal) → is_some (option_or None r) ≡ true → is_some (option_or (last_refusal (own ++ e ∷ [])) r) ≡ true
-        with_own None z = absurd (cc z)
-        with_own (Some why) z = or_last (last_refusal (own ++ e ∷ [])) why
-    by_rest (Some why) is k = or_some (last_refusal (own ++ e ∷ [])) x.refused (refused_more own e (ap is_some is))
+    by_rest : (o r : Option Refusal) → (is_some o ≡ true → is_some (last_refusal (own ++ e ∷ [])) ≡ true) → is_some (option_or o r) ≡ true → is_some (option_or (last_refusal (own ++ e ∷ [])) r) ≡ true
+    by_rest None None next k = absurd (cc k)
+    by_rest None (Some why) next k = or_last (last_refusal (own ++ e ∷ [])) why
+    by_rest (Some why) r next k = or_some (last_refusal (own ++ e ∷ [])) r (next refl)
 
 -- the name of its source names the mailbox from which it began
 stays_here : (run : Run) (place : ℕ) (name : List ℕ) (e : RunEvent) → own_events place run ≡ e ∷ [] → MappedAs name e.source (map_of run) → is_elsewhere run place name ≡ false
@@ -490,15 +487,11 @@ are_straight lanes count number around after start run journal one begins next s
         come_own lanes (around n) (after n) (before n run) (lists_before start journal n) (made_request lanes number event.request).1 event (request_of_lane lanes number event.request one)
         (own_event lanes count number around after start run journal next n event is) (agree n (let l = slice_get_within run.events n event is in omega (arith, l))) (come event.request)
 
-    come_to : (n : ℕ) → n ≤ length run.events → AllCome n
-    come_to zero le i = come_none (made_request lanes number i).1 i (before 0 run) refl
-    come_to (suc n) le i = by_place (e.0.request == i) refl
+    come_more : (n : ℕ) → n < length run.events → AllCome n → AllCome (suc n)
+    come_more n le was i = by_place (e.0.request == i) refl
       where
         e : (event : RunEvent) × (slice_get run.events n ≡ Some event) × (before (suc n) run ≡ and_then (before n run) event)
-        e = event_at run n (omega (arith, le))
-
-        was : AllCome n
-        was = come_to n (omega (arith, le))
+        e = event_at run n le
 
         short : IsShort e.0.map_entries
         short = short_event (around n) (after n) (before n run) (lists_before start journal n) (made_request lanes number e.0.request).1 e.0 (round_simple number e.0.request (e.0.request % lanes + 1) (e.0.request / lanes)) (own_event lanes count number around after start run journal next n e.0 e.1)
@@ -507,3 +500,7 @@ are_straight lanes count number around after start run journal one begins next s
         by_place true k = subst (HasComeTo (made_request lanes number i).1 i) (sym e.2)
             (subst (λ (j : ℕ). HasComeTo (made_request lanes number j).1 j (and_then (before n run) e.0)) (eqb-true e.0.request i k) (own_one n e.0 e.1 was).1)
         by_place false k = subst (HasComeTo (made_request lanes number i).1 i) (sym e.2) (come_beside (made_request lanes number i).1 i (before n run) e.0 short (own_other i (before n run) e.0 k) (was i))
+
+    come_to : (n : ℕ) → n ≤ length run.events → AllCome n
+    come_to zero le = λ i. come_none (made_request lanes number i).1 i (before 0 run) refl
+    come_to (suc n) le = come_more n (omega (arith, le)) (come_to n (omega (arith, le)))
