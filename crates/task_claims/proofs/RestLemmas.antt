@@ -19,7 +19,7 @@ use Rattle.store_core.proofs.InstanceKeepingLemmas.{kept_same}
 use Rattle.store_core.proofs.KnownInstanceLemmas.{firm_same}
 use Rattle.store_core.proofs.MailChangeLemmas.{named_reads}
 use Rattle.task_claims.specs.Claims.{Claims, ClaimsNothing, Due, Emptied, Held, Made, MovesClaims, Pinned, PlacingPieces, Removing, Taken, Thing, amount_in, claims_of_dues}
-use Rattle.task_claims.specs.Leaving.{HasRegionOctets, HaveSameInstances, LeavesRecord, LeavesFile, LeavesInstance, OnlyGrows, IsSameOrSynced, KeepsNames, LeavesOthers, LeavesUnlisted, PlacesFew, RaisesNone, SameButCounts, SyncsMail, but_count}
+use Rattle.task_claims.specs.Leaving.{HasRegionOctets, HaveSameInstances, LeavesRecord, LeavesFile, LeavesInstance, OnlyGrows, IsSameOrSynced, NamesStay, LeavesOthers, LeavesUnlisted, PlacesFew, RaisesNone, SameButCounts, SyncsMail, but_count}
 use Rattle.task_claims.proofs.CountedLemmas.{all_same, found_same, rows_same, unraised_same}
 
 -- ---- records
@@ -99,7 +99,7 @@ counts_name (row ∷ rows) = ap (λ (ps : List (ℕ × List InstRow)). origin_an
 pub counts_name_same : (m n : MapMeaning) → SameButCounts m n → NameTheSame m n
 counts_name_same m n same = sym (counts_name n.records) ∙ ap (map origin_and_names) same ∙ counts_name m.records
 
-pub rest_leaves : {D : Type 0} → (mine : Claims) (old new : StoreValue D) (before after : Option History) → new.files ≡ old.files → new.instances ≡ old.instances → SyncsMail before after → SameButCounts old.map new.map → RaisesNone old.map new.map → old.map.highest.mailbox ≤ new.map.highest.mailbox → KeepsNames old.map new.map → KeepsUids old new → old.map_log.room ≤ new.map_log.room → LeavesUnlisted mine old new
+pub rest_leaves : {D : Type 0} → (mine : Claims) (old new : StoreValue D) (before after : Option History) → new.files ≡ old.files → new.instances ≡ old.instances → SyncsMail before after → SameButCounts old.map new.map → RaisesNone old.map new.map → old.map.highest.mailbox ≤ new.map.highest.mailbox → NamesStay old.map new.map → KeepsUids old new → old.map_log.room ≤ new.map_log.room → LeavesUnlisted mine old new
     → LeavesOthers mine old new before after
 rest_leaves mine old new before after files instances mail same unraised mailboxes names uids room unlisted =
     let firm = firm_same old new before after instances (counts_name_same old.map new.map same) (between-map Mails SyncsInstances before after (λ a b m. m.1) mail) in
