@@ -10,7 +10,7 @@ use Rattle.mdbox_base.specs.declared.entries.MapEntry.{MapEntry}
 use Rattle.mdbox_base.specs.declared.entries.MapEntry.TheVariants as map
 use Rattle.model_meaning.specs.MapMeaning.{MapRecord, MapBox, MapMeaning, map_applied, record_rules, box_rules, with_number, sealed_by}
 use Rattle.model_meaning.specs.MapFits.{MapFits, FitsRenamed}
-use Rattle.model_meaning.proofs.MapSoundLemmas.{NamesStay, box_name, box_number, pair_named, turned_equal}
+use Rattle.model_meaning.proofs.MapSoundLemmas.{KeepsNames, box_name, box_number, pair_named, turned_equal}
 use Rattle.mdbox_base.specs.Words.{IsNumber}
 use Rattle.model_meaning.proofs.MapPlaceLemmas.{changed_same, equal_is, equal_yes}
 use Rattle.model_meaning.proofs.SealedLemmas.{all_with}
@@ -61,7 +61,7 @@ rows_more m (map.S o c u file a z g is) k f =
 abbrev NamesDiffer : MapBox → MapBox → Type 0
 NamesDiffer a b = a.name ≢ b.name
 
-names_kept : (entry : MapEntry) (boxes : List MapBox) → NamesStay entry → AllPairs NamesDiffer boxes → AllPairs NamesDiffer (kept_rows box_rules entry boxes)
+names_kept : (entry : MapEntry) (boxes : List MapBox) → KeepsNames entry → AllPairs NamesDiffer boxes → AllPairs NamesDiffer (kept_rows box_rules entry boxes)
 names_kept entry boxes keeps names = kept_pairs box_rules entry boxes NamesDiffer (λ a b h e. h (sym (box_name entry a keeps) ∙ e ∙ box_name entry b keeps)) names
 
 names_renamed : (m : MapMeaning) (mailbox : BoxNo) (name : List ℕ) (high : ℕ) → FitsRenamed m mailbox.0 name → AreKeptBoxes high m.boxes → AllPairs NamesDiffer (kept_rows box_rules (map.V mailbox name) m.boxes)
