@@ -1,7 +1,7 @@
 -- Events of requests that have several, by the clause of a step.
 use Rattle.std.proofs.Common.{◌≡◌, ◌≤◌, ◌+◌, ℕ, Bool, true, false, List, [], ◌∷◌, Option, Some, None, refl, sym, ap, ◌∙◌, subst, arith, inl}
 use Rattle.std.specs.Prelude.{All, length, slice_get, is_some, ◌↔◌, ◌++◌, ◌≢◌}
-use Rattle.std.specs.Option.{IfSome, option_or}
+use Rattle.std.specs.Option.{IfSome}
 use Rattle.std.proofs.lemmas.List.Elements.{All-nil, All-cons}
 use Rattle.disk_model.specs.Disk.{Faults, told_calls, Grows}
 use Rattle.mdbox_base.specs.Streams.{Rose}
@@ -21,7 +21,7 @@ use Rattle.model_meaning.specs.MapMeaning.{MapMeaning, no_numbers}
 use Rattle.list_machine.specs.Run.{EventPart, RunEvent, event_of, Run, and_then, map_of, own_events}
 use Rattle.list_machine.specs.Machine.{is_step, first_refusal, part_checks, checks_of}
 use Rattle.journal.specs.Journal.{half_of, halves_of, refusal_in, IsReplyOf}
-use Rattle.journal.specs.Events.{Around, Finds, DidPart, MayMeet, has_memory, next_part, behind_event, behind_refused, makes_step, last_refusal, IsRepliedBy, begun_in, ended_in}
+use Rattle.journal.specs.Events.{Around, Finds, DidPart, MayMeet, has_memory, next_part, behind_event, behind_refused, makes_step, IsRepliedBy, begun_in, ended_in}
 use Rattle.journal.specs.Found.{AgreesWithRun}
 use Rattle.journal.specs.Makes.{HasCome, StepOf}
 use Rattle.journal.proofs.RunLemmas.{comes_on}
@@ -32,6 +32,7 @@ use Rattle.task_steps.specs.Step.{FaultsGrow, Seen, ShowsSeen, HasComeTo, Went, 
 use Rattle.task_steps.specs.Tells.{LeavesFiles, TellsSame}
 use Rattle.task_steps.proofs.SeenLemmas.{comes_to_on, no_guids, tells_itself}
 use Rattle.task_steps.proofs.OneEventLemmas.{one_refusal, some_refusal, step_may, nothing}
+use Rattle.mail_ops.proofs.LastEventLemmas.{last_with}
 
 -- ---- what an event did, and where its task stands then
 
@@ -63,11 +64,6 @@ some_reply r e = cc e
 
 pub one_reply : (a b : Reply) → Some a ≡ Some b → a ≡ b
 one_reply a b e = cc e
-
--- the last refusal is that of the last event, if it was refused
-pub last_with : (own : List RunEvent) (event : RunEvent) (why : Refusal) → event.refused ≡ Some why → last_refusal (own ++ event ∷ []) ≡ Some why
-last_with [] event why e = ap (λ (r : Option Refusal). option_or None r) e
-last_with (x ∷ xs) event why e = ap (λ (r : Option Refusal). option_or r x.refused) (last_with xs event why e)
 
 replied_by : (own : List RunEvent) (event : RunEvent) (why : Refusal) (ended : Option Reply) → event.refused ≡ Some why → ((given : Reply) → ended ≡ Some given → refusal_in given ≡ Some why) → IsRepliedBy (own ++ event ∷ []) ended
 replied_by own event why None e h = tt

@@ -98,16 +98,7 @@ known_broken name uid old new before after began then is ran r = record {
 -- nothing has changed
 same_answers : {D : Type 0} → (name : List ℕ) (uid : Uid) (why : Refusal) (store : StoreValue D) → (why ≡ refusal.Stopped → ⊥) → (missing_message name uid.0 store ≡ Some why) ⊎ ((missing_message name uid.0 store ≡ None) × (why ≡ refusal.NoMemory)) → ExpungeAnswers name uid stage.First store store stage.First (progress.Done (reply.Refused why))
 same_answers name uid refusal.Stopped store running h = absurd (running refl)
-same_answers name uid refusal.NoMailbox store running h = (refl, h)
-same_answers name uid refusal.Exists store running h = (refl, h)
-same_answers name uid refusal.NoMessage store running h = (refl, h)
-same_answers name uid (refusal.TooManyCopies n) store running h = (refl, h)
-same_answers name uid (refusal.MailboxFull n) store running h = (refl, h)
-same_answers name uid (refusal.TooManyMailboxes n) store running h = (refl, h)
-same_answers name uid (refusal.StoreFull n) store running h = (refl, h)
-same_answers name uid refusal.NoMemory store running h = (refl, h)
-same_answers name uid refusal.ReadFault store running h = (refl, h)
-same_answers name uid (refusal.Damaged file offset) store running h = (refl, h)
+same_answers name uid why store running h = (refl, h)
 
 known_same : {D : Type 0} → (name : List ℕ) (uid : Uid) (why : Refusal) (how : Did) (store : StoreValue D) (history : Option History) (faults : Faults) → store.stopped ≡ false → (why ≡ refusal.Stopped → ⊥) → (missing_message name uid.0 store ≡ Some why) ⊎ ((missing_message name uid.0 store ≡ None) × (why ≡ refusal.NoMemory))
     → ExpungeClause name uid stage.First stage.First store store history history faults faults how (Some (reply.Refused why)) → ExpungeKnown name uid stage.First stage.First (progress.Done (reply.Refused why)) how store store history history faults faults

@@ -75,29 +75,26 @@ shows_by number octets u flags (b ∷ bs) (m ∷ ms) (l ∷ ls) h = by_test (b.n
 
 -- ---- what is found
 
--- the mailbox that is found by name has the number that the map gives it
+-- the mailbox that the map finds by name is found in the lists, with the number that the map gives it
+pub shown_number : (name : List ℕ) (number : ℕ) (boxes : List MapBox) (meanings : List BoxMeaning) (lists : Lists) → ShowLists boxes meanings lists → option_map (λ b. b.number) (find (λ b. bytes_eq b.name name) boxes) ≡ Some number
+    → (x : Mailbox) × (mailbox_named name lists ≡ Some x) × (x.number ≡ number)
+shown_number name number [] [] [] h is = absurd (let k : None ≡ Some number = is in cc k)
+shown_number name number (b ∷ bs) (m ∷ ms) (l ∷ ls) h is = by_test (bytes_eq b.name name) (bytes_eq l.name name) (ap (λ (n : List ℕ). bytes_eq n name) (sym h.0.name)) is (shown_number name number bs ms ls h.1)
+  where
+    by_test : (t s : Bool) → t ≡ s → option_map (λ (o : MapBox). o.number) (cond t (Some b) (find (λ (o : MapBox). bytes_eq o.name name) bs)) ≡ Some number
+        → (option_map (λ (o : MapBox). o.number) (find (λ (o : MapBox). bytes_eq o.name name) bs) ≡ Some number → (x : Mailbox) × (mailbox_named name ls ≡ Some x) × (x.number ≡ number)) → (x : Mailbox) × (cond s (Some l) (mailbox_named name ls) ≡ Some x) × (x.number ≡ number)
+    by_test true true p i rest = let e : Some b.number ≡ Some number = i in let r : b.number ≡ number = cc e in (l, refl, h.0.number ∙ r)
+    by_test false false p i rest = rest i
+    by_test true false p i rest = absurd (cc p)
+    by_test false true p i rest = absurd (cc p)
+shown_number name number boxes meanings lists h is = absurd h
+
 pub numbered : (name : List ℕ) (number : ℕ) (boxes : List MapBox) (meanings : List BoxMeaning) (lists : Lists) (x : Mailbox) → ShowLists boxes meanings lists → option_map (λ b. b.number) (find (λ b. bytes_eq b.name name) boxes) ≡ Some number
     → mailbox_named name lists ≡ Some x → x.number ≡ number
-numbered name number [] [] [] x h is there = absurd (cc (let k : None ≡ Some x = there in k))
-numbered name number [] [] (l ∷ ls) x h is there = absurd h
-numbered name number [] (m ∷ ms) [] x h is there = absurd h
-numbered name number [] (m ∷ ms) (l ∷ ls) x h is there = absurd h
-numbered name number (b ∷ bs) [] [] x h is there = absurd h
-numbered name number (b ∷ bs) [] (l ∷ ls) x h is there = absurd h
-numbered name number (b ∷ bs) (m ∷ ms) [] x h is there = absurd h
-numbered name number (b ∷ bs) (m ∷ ms) (l ∷ ls) x h is there = by_test (bytes_eq b.name name) (bytes_eq l.name name) (ap (λ (n : List ℕ). bytes_eq n name) (sym h.0.name)) is there (numbered name number bs ms ls x h.1)
-  where
-    by_test : (t s : Bool) → t ≡ s → option_map (λ (o : MapBox). o.number) (cond t (Some b) (find (λ (o : MapBox). bytes_eq o.name name) bs)) ≡ Some number → cond s (Some l) (mailbox_named name ls) ≡ Some x
-        → (option_map (λ (o : MapBox). o.number) (find (λ (o : MapBox). bytes_eq o.name name) bs) ≡ Some number → mailbox_named name ls ≡ Some x → x.number ≡ number) → x.number ≡ number
-    by_test true true p i t rest =
-        let e : Some b.number ≡ Some number = i in
-        let f : Some l ≡ Some x = t in
-        let q : l ≡ x = cc f in
-        let r : b.number ≡ number = cc e in
-        ap (λ (o : Mailbox). o.number) (sym q) ∙ h.0.number ∙ r
-    by_test false false p i t rest = rest i t
-    by_test true false p i t rest = absurd (cc p)
-    by_test false true p i t rest = absurd (cc p)
+numbered name number boxes meanings lists x h is there =
+    let y = shown_number name number boxes meanings lists h is in
+    let e : y.0 ≡ x = (let k : Some y.0 ≡ Some x = sym y.1 ∙ there in cc k) in
+    sym (ap (λ (o : Mailbox). o.number) e) ∙ y.2
 
 -- a row is found where its message is
 pub found_row : (uid : ℕ) (rows : List LogRow) (xs : List ListedMessage) → map listed_row rows ≡ map listing_row xs → option_map listed_row (find (λ r. r.uid == uid) rows) ≡ option_map listing_row (find (λ x. x.uid == uid) xs)

@@ -14,6 +14,7 @@ pub mod FlagEventLemmas
 pub mod FlagListLemmas
 pub mod KeptRowLemmas
 pub mod KeptUidLemmas
+pub mod LastEventLemmas
 pub mod LeavingLemmas
 pub mod ListEventLemmas
 pub mod LoweringLemmas

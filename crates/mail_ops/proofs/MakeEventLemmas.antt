@@ -39,9 +39,10 @@ use Rattle.mail_ops.specs.Making.{IsAtMake, naming_refusal, making_refusal, with
 use Rattle.store_seen.specs.Seeing.{seen_of}
 use Rattle.mail_ops.specs.declared.making.MakeStage.{MakeStage}
 use Rattle.mail_ops.specs.declared.making.MakeStage.TheVariants as stage
-use Rattle.mail_ops.proofs.EventLemmas.{DidBy, stands_by, fall, no_refusal, no_reply, some_reply, one_reply, last_with, StaysSo, comes_along, memory_calm, CanRefuse, did_refused, did_unstepped, did_stop, did_fall, did_check, did_part, ends_well}
+use Rattle.mail_ops.proofs.EventLemmas.{DidBy, stands_by, fall, no_refusal, no_reply, some_reply, one_reply, StaysSo, comes_along, memory_calm, CanRefuse, did_refused, did_unstepped, did_stop, did_fall, did_check, did_part, ends_well}
 use Rattle.store_seen.proofs.SeeingLemmas.{due_as_before, tells_as_before}
 use Rattle.mail_ops.proofs.FlagEventLemmas.{shown_on}
+use Rattle.mail_ops.proofs.LastEventLemmas.{last_with}
 use Rattle.mail_ops.proofs.MakeCheckLemmas.{naming_checked, making_checked, naming_steps, making_steps}
 use Rattle.mail_ops.proofs.MakeStageLemmas.{first_next, naming_part, naming_next, makes_log_then, starts_over_then}
 use Rattle.mail_ops.proofs.RemovalLemmas.{store_tells}
@@ -90,17 +91,11 @@ step_why why s = (s, λ e. not_stopped why s (let k : reply.Refused why ≡ repl
     not_stopped w t e = let k : true ≡ false = sym t ∙ ap is_step e in cc k
 
 step_replied : (name : List ℕ) (why : Refusal) → is_step why ≡ true → IsReplyOf (request.Make name) (reply.Refused why ∷ []) (reply.Refused why)
-step_replied name refusal.NoMailbox s = refl
-step_replied name refusal.Exists s = refl
-step_replied name refusal.NoMessage s = refl
-step_replied name (refusal.TooManyCopies n) s = refl
-step_replied name (refusal.MailboxFull n) s = refl
-step_replied name (refusal.TooManyMailboxes n) s = refl
-step_replied name (refusal.StoreFull n) s = refl
 step_replied name refusal.NoMemory s = absurd (cc s)
 step_replied name refusal.ReadFault s = absurd (cc s)
 step_replied name refusal.Stopped s = absurd (cc s)
 step_replied name (refusal.Damaged file offset) s = absurd (cc s)
+step_replied name why s = refl
 
 -- of a request that hasn't answered anything before
 why_replied : (name : List ℕ) (said : List Reply) (why : Refusal) → said ≡ [] → is_step why ≡ true → (given : Reply) → Some (reply.Refused why) ≡ Some given → IsReplyOf (request.Make name) (said ++ reply.Refused why ∷ []) given

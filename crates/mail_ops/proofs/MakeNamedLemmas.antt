@@ -39,7 +39,8 @@ use Rattle.mail_ops.proofs.EventLemmas.{one_fits, some_reply, one_reply, did_fal
 use Rattle.mail_ops.proofs.LoweringLemmas.{comes_with}
 use Rattle.mail_ops.proofs.MakeCheckLemmas.{naming_checked}
 use Rattle.mail_ops.proofs.MakeEventLemmas.{MakeClause, naming_refuses, stops_memory, in_turn, above_not, stopped_stays, stopped_shows}
-use Rattle.mail_ops.proofs.MakeStageLemmas.{none_with, naming_part, naming_next}
+use Rattle.mail_ops.proofs.LastEventLemmas.{last_before}
+use Rattle.mail_ops.proofs.MakeStageLemmas.{naming_part, naming_next}
 use Rattle.mail_ops.proofs.MessageLemmas.{store_is_sound}
 use Rattle.mail_ops.proofs.RemovalLemmas.{store_tells}
 
@@ -142,7 +143,7 @@ naming_done name number next old new before after began then is ran n named d = 
             fits = one_fits run seen (map_entry.B (record { 0 = number_of run place }) 1 name) come (subst (λ (k : ℕ). MapFits old.map (map_entry.B (record { 0 = k }) 1 name)) (sym stood.2) (naming_fits before name number.0 old is n.can.free n.is_number n.can.above));
             did = refl;
             ends = record { 0 = λ h. refl; 1 = λ h e. some_reply reply.Done e };
-            replied = none_with (own_events place run) event stood.0.unrefused refl;
+            replied = last_before (own_events place run) event refl ∙ stood.0.unrefused;
           }) come
           (comes_with run event (map_entry.B (record { 0 = number_of run place }) 1 name) seen later come (subst (λ (k : ℕ). new.map ≡ map_applied (map_entry.B (record { 0 = k }) 1 name) old.map) (sym stood.2) named.map) (ap (λ (s : StoreValue _). s.drawn) named.same) d.change.grows refl refl refl)
           (λ uid. let e = named_due old new number name uid named in omega (arith, e))

@@ -93,7 +93,7 @@ known_made name number old new before after began then b m = record {
   does = making_done name number old new before after began then b.runs m;
   keeps = done_keeps (KeepsAllButLogs old new) _ _ _ old new before after began then b.runs (ap (λ (s : StoreValue _). s.stopped) m.log.same ∙ b.runs) (more_is (reply.Refused refusal.Stopped)) m.disk.unfailed (rest_of m.log.same) (record { stays = m.disk.change.stays; left = λ same. mail_named number.0 before after m.others });
   moves = moves_as no_amounts (amounts_in old) (amounts_in new) (λ uid. due_as_before old new uid map_is (ap (λ (s : StoreValue _). s.dues) m.log.same));
-  uids = logs_keep old new (ap (λ (s : StoreValue _). s.map.boxes) m.log.same) (ap (λ (s : StoreValue _). indexes_of s.boxes) m.log.same);
+  uids = logs_keep old new map_is (ap (λ (s : StoreValue _). indexes_of s.boxes) m.log.same);
   replies = (m.free, m.log, m.others);
   left = λ e. one_left (nat_lt new.map.highest.mailbox number.0) (ap (λ (s : StoreValue _). nat_lt s.map.highest.mailbox number.0) m.log.same ∙ high_number old.map.highest.mailbox old.drawn.mailbox number.0 b.store_is.drawn.mailbox m.log.next);
 }
@@ -138,7 +138,7 @@ known_fell name old new before after began then b n f = record {
   does = making_fell name stage.First old new before after began then b.runs n.0 f;
   keeps = fell_keeps (KeepsAllButLogs old new) _ _ old new before after began then b.runs stops f.change.reads f.change.changes f.rose (rest_of n.0) f.change.stays;
   moves = moves_as no_amounts (amounts_in old) (amounts_in new) (λ uid. due_as_before old new uid (ap (λ (s : StoreValue _). s.map) n.0) (ap (λ (s : StoreValue _). s.dues) n.0));
-  uids = logs_keep old new (ap (λ (s : StoreValue _). s.map.boxes) n.0) (ap (λ (s : StoreValue _). indexes_of s.boxes) n.0);
+  uids = logs_keep old new (ap (λ (s : StoreValue _). s.map) n.0) (ap (λ (s : StoreValue _). indexes_of s.boxes) n.0);
   replies = (not_done.Stopped, refl, n);
   left = λ e. absurd (done_more (reply.Refused refusal.Stopped) e);
 }
@@ -172,7 +172,7 @@ known_named name number old new before after began then b can n mail d = record 
   does = naming_done name number stage.First old new before after began then b.store_is b.runs (named_so name number old before b can) n d;
   keeps = done_keeps (KeepsAllButLogs old new) _ _ _ old new before after began then b.runs (ap (λ (s : StoreValue _). s.stopped) n.same ∙ b.runs) made_stopped d.unfailed (rest_of n.same) (took_spares (new.stopped ≡ old.stopped) before after d.change.stays mail);
   moves = moves_as no_amounts (amounts_in old) (amounts_in new) (λ uid. named_due old new number name uid n);
-  uids = naming_keeps number name old new n;
+  uids = naming_keeps before number name old new b.store_is can.above n;
   replies = (can.free, can.above, n, mail);
   left = λ e. absurd (done_more reply.Done e);
 }
@@ -191,7 +191,7 @@ pub record RemovedKnown {D : Type 0} (now : MakeStage) (old new : StoreValue D) 
 removed_known : {D : Type 0} → (number : BoxNo) (old new : StoreValue D) (before after : Option History) (began then : Faults) → RemovesLog number.0 old new before after → HasChangedDisk same_lists before after began then → RemovedKnown (stage.Naming number) old new before after
 removed_known number old new before after began then r d = record {
   moves = moves_as no_amounts (amounts_in old) (amounts_in new) (λ uid. due_as_before old new uid map_is (ap (λ (s : StoreValue _). s.dues) r.same));
-  uids = logs_keep old new (ap (λ (s : StoreValue _). s.map.boxes) r.same) (ap (λ (s : StoreValue _). indexes_of s.boxes) r.same);
+  uids = logs_keep old new map_is (ap (λ (s : StoreValue _). indexes_of s.boxes) r.same);
   rest = rest_of r.same;
   mail = mail_named number.0 before after r.others;
   runs = ap (λ (s : StoreValue _). s.stopped) r.same;
@@ -248,7 +248,7 @@ known_stopped name number how left old new before after began then b same f does
   does = does;
   keeps = fell_keeps (KeepsAllButLogs old new) _ _ old new before after began then b.runs stops f.change.reads f.change.changes f.rose (rest_of same) f.change.stays;
   moves = moves_as no_amounts (amounts_in old) (amounts_in new) (λ uid. due_as_before old new uid (ap (λ (s : StoreValue _). s.map) same) (ap (λ (s : StoreValue _). s.dues) same));
-  uids = logs_keep old new (ap (λ (s : StoreValue _). s.map.boxes) same) (ap (λ (s : StoreValue _). indexes_of s.boxes) same);
+  uids = logs_keep old new (ap (λ (s : StoreValue _). s.map) same) (ap (λ (s : StoreValue _). indexes_of s.boxes) same);
   replies = (refl, refl, same);
   left = λ e. absurd (done_more (reply.Refused refusal.Stopped) e);
 }

@@ -1,16 +1,17 @@
 -- The message of a row, in the lists that a store shows, and the record that stores it.
-use Rattle.std.proofs.Common.{◌≡◌, ◌==◌, ℕ, Bool, true, false, cond, List, [], ◌∷◌, map, Option, Some, None, refl, sym, ◌∙◌, ap, subst, All, inl, inr}
+use Rattle.std.proofs.Common.{◌≡◌, ◌==◌, ℕ, Bool, true, false, cond, List, [], ◌∷◌, map, Option, Some, None, refl, sym, ◌∙◌, ap, subst, All, arith, inl, inr}
 use Rattle.std.specs.Prelude.{find, option_and_then, ◌⊎◌, is_some, if◌then◌else◌}
 use Rattle.std.specs.List.{AllByRecursion}
 use Rattle.std.specs.Option.{option_map, option_map_or}
 use Rattle.std.specs.Str.{bytes_eq}
+use Rattle.std.proofs.lemmas.Bool.{eq-eqb}
 use Rattle.std.proofs.lemmas.List.Elements.{All-contains}
 use Rattle.disk_model.specs.Disk.{Files, History}
 use Rattle.mdbox_base.specs.declared.entries.BoxEntry.{BoxEntry}
 use Rattle.mdbox_base.specs.declared.replies.ListRow.{ListRow}
 use Rattle.mdbox_base.specs.declared.replies.Refusal.{Refusal}
 use Rattle.mdbox_base.specs.declared.replies.Refusal.TheVariants as refusal
-use Rattle.model_lists.specs.Lists.{ListedMessage, Mailbox, Lists, listing_row}
+use Rattle.model_lists.specs.Lists.{ListedMessage, Mailbox, Lists, AreWellFormed, listing_row}
 use Rattle.model_meaning.specs.BoxMeaning.{LogRow, BoxMeaning, box_meaning, rows_after, row_at}
 use Rattle.model_meaning.specs.MapMeaning.{MapRecord, MapBox, MapMeaning, map_meaning, record_at, record_of}
 use Rattle.model_meaning.specs.Sound.{IsSoundMap}
@@ -21,9 +22,10 @@ use Rattle.model_store.specs.Listing.{listed_row, ShowLists, meaning_named}
 use Rattle.model_store.specs.Opening.{HasItsRecord}
 use Rattle.model_store.specs.Stands.{StoresMessage, IsListed, AreListed, IsMailbox, AreMailboxes}
 use Rattle.list_machine.specs.Run.{Run}
-use Rattle.list_machine.specs.Machine.{HasMailbox, HasUid, first_refusal, mailbox_named, message_in, message_at}
+use Rattle.list_machine.specs.Machine.{HasMailbox, HasUid, first_refusal, has_name, has_number, mailbox_named, message_in, message_at, message_numbered}
 use Rattle.store_core.specs.Running.{IsStore}
 use Rattle.store_core.specs.Value.{StoreValue, indexes_of, list_named}
+use Rattle.task_claims.specs.Leaving.{number_named}
 use Rattle.mail_ops.specs.Messages.{missing_message, IsRowOf}
 use Rattle.mail_ops.proofs.FlagListLemmas.{numbered, found_row, none_there, some_there}
 use Rattle.mail_ops.proofs.NamedListLemmas.{IsFound, Finds, found_by_name}
@@ -52,6 +54,15 @@ shown_row store name uid number row lists at h =
       there = rw f.there n.1;
       same = n.2;
     }
+
+-- The number that a name names is that of the mailbox which has the name.
+pub by_number : (name : List ℕ) (number uid : ℕ) (lists : Lists) (x : Mailbox) → AreWellFormed lists → mailbox_named name lists ≡ Some x → x.number ≡ number → message_numbered number uid lists ≡ message_at name uid lists
+by_number name number uid lists x well named is =
+    ap (option_and_then (message_in uid)) (found_is (has_number number) lists x (found_one (has_name name) lists x named).0 (eq-eqb x.number number is)
+    (λ i j d lt le p q. let less = well.numbers i j d lt le in omega (arith, less, equal_is _ number p, equal_is _ number q)) ∙ sym named)
+
+pub from_source : {D : Type 0} → (name : List ℕ) (source number at : ℕ) (store : StoreValue D) → number_named store.map name ≡ Some source → number_named store.map name ≡ Some number → at ≡ source → at ≡ number
+from_source name source number at store named known is = is ∙ (let k : Some source ≡ Some number = sym named ∙ known in cc k)
 
 -- ---- why there is none
 
