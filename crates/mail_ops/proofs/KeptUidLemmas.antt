@@ -16,7 +16,7 @@ use Rattle.model_meaning.specs.MapMeaning.{MapBox, MapMeaning, map_applied, numb
 use Rattle.model_store.specs.Listing.{meaning_numbered}
 use Rattle.store_core.specs.Keeping.{KeepsUid, KeepsUids}
 use Rattle.store_core.specs.Value.{StoreValue, indexes_of, list_numbered}
-use Rattle.task_claims.specs.Leaving.{KeepsNames}
+use Rattle.task_claims.specs.Leaving.{NamesStay}
 use Rattle.task_claims.proofs.NameLemmas.{names_stay, names_stay_same}
 use Rattle.mail_ops.specs.Appends.{MapTook}
 use Rattle.mail_ops.specs.Copying.{AddsRow, RaisesRow, added_copy, raising_of}
@@ -98,7 +98,7 @@ same_keeps old new same = subst (KeepsUids old) (sym same) (λ number uid held k
 
 -- ---- of the mailbox with a name
 
-pub named_keeps : {D : Type 0} → (name : List ℕ) (source uid held : ℕ) (old new : StoreValue D) → KeepsNames old.map new.map → KeepsUids old new → KeepsNamed name source uid held old → KeepsNamed name source uid held new
+pub named_keeps : {D : Type 0} → (name : List ℕ) (source uid held : ℕ) (old new : StoreValue D) → NamesStay old.map new.map → KeepsUids old new → KeepsNamed name source uid held old → KeepsNamed name source uid held new
 named_keeps name source uid held old new names uids k = record { named = names name source k.named; keeps = uids source uid held k.keeps }
 
 -- an append to a mailbox's log that failed

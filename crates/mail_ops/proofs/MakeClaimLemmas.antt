@@ -22,7 +22,7 @@ use Rattle.store_core.specs.MadeLogs.{has_made_log, without_box}
 use Rattle.store_core.specs.Value.{StoreValue, indexes_of, references_to}
 use Rattle.store_core.specs.declared.store.OpenBox.{OpenBox}
 use Rattle.task_claims.specs.Claims.{ClaimsNothing, Due, Emptied, Held, Made, MovesClaims, Pinned, PlacingPieces, Removing, Taken, amount_in, one_if}
-use Rattle.task_claims.specs.Leaving.{KeepsNames, LeavesOthers, RaisesNone, SameButCounts, SyncsMail, but_count}
+use Rattle.task_claims.specs.Leaving.{NamesStay, LeavesOthers, RaisesNone, SameButCounts, SyncsMail, but_count}
 use Rattle.task_claims.proofs.CountedLemmas.{same_map, unraised_same}
 use Rattle.task_claims.proofs.RestLemmas.{rest_leaves}
 use Rattle.mdbox_base.specs.declared.entries.MapEntry.TheVariants as map_entry
@@ -116,7 +116,7 @@ pub record MakeChanges {D : Type 0} (now next : MakeStage) (old new : StoreValue
   pub same : SameButCounts old.map new.map
   pub unraised : RaisesNone old.map new.map
   pub mailboxes : old.map.highest.mailbox ≤ new.map.highest.mailbox
-  pub names : KeepsNames old.map new.map
+  pub names : NamesStay old.map new.map
   pub room : old.map_log.room ≤ new.map_log.room
   pub refs : (guid : List ℕ) → references_to new guid ≡ references_to old guid
   pub logs : (number : ℕ) → one_if (has_made_log number new) + own_log_of now number ≡ one_if (has_made_log number old) + own_log_of next number
