@@ -68,9 +68,6 @@ counted_once (r ∷ rs) uid row e = by_test (r.uid == uid) e (λ k. counted_once
     by_test false k rest = let later = rest k in let split = sum_by-cons (λ (x : LogRow). cond (x.map_uid == row.map_uid) 1 0) r rs in let m = more (r.map_uid == row.map_uid) (count_by (λ x. x.map_uid == row.map_uid) rs) later in omega (arith, split, m)
 
 log_of_row : (name : List ℕ) (uid : ℕ) (boxes : List MapBox) (logs : List (List BoxEntry)) (m : BoxMeaning) (row : LogRow) → AllByRecursion AreBoxEntries logs → meaning_named name boxes (map box_meaning logs) ≡ Some m → row_at m uid ≡ Some row → LogOfRow m row logs
-log_of_row name uid [] [] m row each is found = absurd (cc (let k : None ≡ Some m = is in k))
-log_of_row name uid [] (log ∷ logs) m row each is found = absurd (cc (let k : None ≡ Some m = is in k))
-log_of_row name uid (b ∷ bs) [] m row each is found = absurd (cc (let k : None ≡ Some m = is in k))
 log_of_row name uid (b ∷ bs) (log ∷ logs) m row each is found = by_test (bytes_eq b.name name) is (λ e. log_of_row name uid bs logs m row each.1 e found)
   where
     split : listed_of (log ∷ logs) row.map_uid ≡ count_by (λ r. r.map_uid == row.map_uid) (rows_after log) + listed_of logs row.map_uid
@@ -83,6 +80,7 @@ log_of_row name uid (b ∷ bs) (log ∷ logs) m row each is found = by_test (byt
         let one : 1 ≤ count_by (λ r. r.map_uid == row.map_uid) (rows_after log) = counted_once (rows_after log) uid row (ap (λ (k : BoxMeaning). row_at k uid) same ∙ found) in
         record { log = log; is = same; good = each.0; listed = omega (arith, split, one) }
     by_test false e rest = let r = rest e in record { log = r.log; is = r.is; good = r.good; listed = (let l = r.listed in omega (arith, split, l)) }
+log_of_row name uid boxes logs m row each is found = absurd (let k : None ≡ Some m = is in cc k)
 
 pub store_log : {D : Type 0} → (history : Option History) (store : StoreValue D) (name : List ℕ) (uid number : ℕ) (row : LogRow) → (s : IsStore history store) → (at : IsRowOf name uid store number row) → LogOfRow at.m row s.logs
 store_log history store name uid number row s at = log_of_row name uid store.map.boxes s.logs at.m row s.good.box_entries (sym (ap (λ (ms : List BoxMeaning). meaning_named name store.map.boxes ms) s.boxes_are) ∙ at.box.named) at.listed

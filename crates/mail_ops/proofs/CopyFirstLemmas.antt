@@ -1,7 +1,7 @@
 -- The first event of a copy or a move, by the clause of a step: the count is raised, or it is refused.
 use Rattle.model_meaning.specs.MapFits.{MapFits}
 use Rattle.std.proofs.Common.{◌≡◌, ◌≤◌, ◌<◌, ◌+◌, ℕ, Bool, true, false, List, [], ◌∷◌, ◌++◌, Option, Some, None, refl, sym, ◌∙◌, ap, subst, arith, inl, inr}
-use Rattle.std.specs.Prelude.{flat_map, nat_le, length, slice_get, is_some, if◌then◌else◌}
+use Rattle.std.specs.Prelude.{◌⊎◌, flat_map, nat_le, length, slice_get, is_some, if◌then◌else◌}
 use Rattle.std.specs.Option.{option_map_or, option_or}
 use Rattle.std.proofs.lemmas.Grind.{common_steps}
 use Rattle.disk_model.specs.Disk.{History, Faults, told_calls}
@@ -37,11 +37,12 @@ use Rattle.mail_ops.specs.Copying.{CopyPlace, copy_refusal, room_refusal, raisin
 use Rattle.store_seen.specs.Seeing.{seen_of}
 use Rattle.mail_ops.proofs.CopyPartLemmas.{IsCopying, first_goes_on}
 use Rattle.mail_ops.proofs.CopyPlaceLemmas.{place_checked}
-use Rattle.mail_ops.proofs.EventLemmas.{one_fits, stands_by, some_reply, one_reply, no_reply, stays_itself, memory_calm, CanRefuse, did_unstepped, did_stop, did_fall, did_check, did_part, ends_well}
+use Rattle.mail_ops.proofs.EventLemmas.{one_fits, stands_by, some_reply, one_reply, no_reply, stays_itself, memory_calm, CanRefuse, did_unstepped, did_stop, did_fall, did_check, did_part, ends_well, own_event}
 use Rattle.mail_ops.proofs.LastEventLemmas.{copied_new, ends_in, held_new, source_first, unrefused_more}
 use Rattle.mail_ops.proofs.LoweringLemmas.{comes_with, shows_still, leads_still}
 use Rattle.mail_ops.proofs.MessageLemmas.{shown_row, shown_guid, record_of_row}
 use Rattle.mail_ops.proofs.RemovalLemmas.{took_tells, map_fell_stays}
+use Rattle.mail_ops.proofs.ToldLemmas.{memory_runs, step_runs}
 
 -- the clause of a step of a request that copies
 abbrev pub CopyingClause : {D : Type 0} → Request → (Run → ℕ → List Reply → Type 0) → (Run → ℕ → List Reply → Type 0) → StoreValue D → StoreValue D → Option History → Option History → Faults → Faults → Did → Option Reply → Type 0
@@ -146,6 +147,10 @@ copy_steps name uid target store why e = by_source (list_named store name) e
     by_source None k = named k
     by_source (Some from) k = by_target from (list_named store target) k
 
+pub back_runs : {D : Type 0} → (name : List ℕ) (uid : Uid) (target : List ℕ) (why : Refusal) (store : StoreValue D) → (copy_refusal name uid.0 target store ≡ Some why) ⊎ (why ≡ refusal.NoMemory) → why ≡ refusal.Stopped → ⊥
+back_runs name uid target why store (inl e) stops = step_runs why (copy_steps name uid.0 target store why e) stops
+back_runs name uid target why store (inr m) stops = memory_runs (sym m ∙ stops)
+
 pub raise_steps : {D : Type 0} → (name : List ℕ) (uid : ℕ) (target : List ℕ) (store : StoreValue D) (why : Refusal) → IsRaiseRefusal name uid target store why → is_step why ≡ true
 raise_steps name uid target store why (inl e) = copy_steps name uid target store why e
 raise_steps name uid target store why (inr many) = ap is_step many.1
@@ -218,13 +223,7 @@ raise_done q name uid target half held source old new before after began faulted
     stands_by around behind run lane place said q lists seen later did.Quiet None event None (IsHolding held source.0)
     (did_part around behind run lane place said q lists lists seen later did.Quiet None None event
     (record {
-      lane_is = refl;
-      request_is = refl;
-      moment_is = refl;
-      ended_is = refl;
-      unrefused = refl;
-      undrawn = refl;
-      leaves = record { made = refl; pins = refl; unpins = refl; doomed = refl; removed = refl; given = refl; placed = refl; gone = refl };
+      own = own_event _ _ _ _ _ _ _ _ _;
       finds = c.finds around event;
       found = c.found around run event First;
       part_is = ap (λ (es : List RunEvent). next_part around run q es) stood.0;

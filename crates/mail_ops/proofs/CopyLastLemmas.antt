@@ -48,16 +48,18 @@ use Rattle.mail_ops.specs.CopyStages.{IsHolding, IsGivingBack, answered_by}
 use Rattle.mail_ops.specs.Copying.{CopyPlace, copy_refusal, added_copy, AddsRow, FellAdding}
 use Rattle.store_seen.specs.Seeing.{seen_of}
 use Rattle.mail_ops.proofs.CopyFirstLemmas.{CopyingClause, place_free, step_why, copy_steps}
-use Rattle.mail_ops.proofs.CopyPartLemmas.{IsCopying, adding_part, adds_next, back_ends, copy_copies, gives_back_next, holding_next, some_part}
-use Rattle.mail_ops.proofs.CopyPlaceLemmas.{ShownBox, shows_box, ShowsBox, place_checked}
-use Rattle.mail_ops.proofs.EventLemmas.{one_fits, stands_by, fall, some_reply, one_reply, no_reply, stays_itself, memory_calm, comes_along, refusal_event, CanRefuse, did_unstepped, did_stop, did_fall, did_check, did_part, ends_well}
+use Rattle.mail_ops.proofs.CopyPartLemmas.{IsCopying, adding_part, adds_next, back_ends, copy_copies, gives_back_next, holding_next}
+use Rattle.mail_ops.proofs.CopyPlaceLemmas.{place_checked}
+use Rattle.mail_ops.proofs.EventLemmas.{one_fits, stands_by, fall, some_reply, one_reply, no_reply, stays_itself, memory_calm, comes_along, refusal_event, CanRefuse, did_unstepped, did_stop, did_fall, did_check, did_part, ends_well, own_event}
 use Rattle.mail_ops.proofs.FlagEventLemmas.{shown_on}
 use Rattle.mail_ops.proofs.FlagListLemmas.{numbered}
 use Rattle.mail_ops.proofs.LastEventLemmas.{copied_by, ends_in, ends_still, held_by, held_same, last_before, last_with, source_by, unrefused_still}
 use Rattle.mail_ops.proofs.LoweringLemmas.{comes_with, lowered_due, shows_still, leads_still}
 use Rattle.mail_ops.proofs.MessageLemmas.{ShownRow, shown_row, shown_guid, record_of_row, store_is_sound, stored_by}
+use Rattle.mail_ops.proofs.NamedListLemmas.{ShownBox, ShowsBox, shows_box}
 use Rattle.mail_ops.proofs.RemovalLemmas.{took_tells, box_tells, box_fell_stays, map_fell_stays}
 use Rattle.mail_ops.proofs.ShownEntryLemmas.{shown_entry}
+use Rattle.mail_ops.proofs.ToldLemmas.{memory_runs, some_part}
 
 -- ---- the message that is added
 
@@ -194,16 +196,13 @@ add_refused q name uid target half held source store history faults why c runs n
     (ap (λ (s : List Reply). slice_get (halves_of q) (length s)) none ∙ (c.halves ∙ ap Some (sym c.half_last))) (place_refuses run q name uid target half store lists (Some why) c shows.1 refuses) (λ given e. absurd (no_reply given e)) (λ e. no_reply (reply.Refused refusal.Stopped) e))
     (λ goes_on. gives_back_then run event place said (said ++ reply.Refused why ∷ []) held source why stood refl refl refl refl (ap (λ (s : List Reply). s ++ reply.Refused why ∷ []) none ∙ sym (ap (λ (b : Bool). if b then reply.Refused why ∷ [] else []) w.0)) (inl w.0))
 
-memory_differs : refusal.NoMemory ≡ refusal.Stopped → ⊥
-memory_differs e = cc e
-
 pub add_unremembered : {D : Type 0} → (q : Request) (name : List ℕ) (uid : Uid) (target : List ℕ) (half : Half) (held : MapUid) (source : ℕ) (store : StoreValue D) (history : Option History) (faults : Faults) → IsCopying q name uid target half → store.stopped ≡ false → number_named store.map name ≡ Some source
     → CopyingClause q (IsHolding held source) (IsGivingBack held refusal.NoMemory) store store history history faults faults did.Quiet None
 add_unremembered q name uid target half held source store history faults c runs named = λ around behind pins run lane place said lists come shows stood.
     let seen = seen_of pins store history faults in
     let event : RunEvent = refusal_event lane place Last refusal.NoMemory None (told_calls history) in
     stands_by around behind run lane place said q lists seen seen did.Quiet None event None (IsGivingBack held refusal.NoMemory)
-    (did_unstepped around behind run lane place said q Last lists seen seen refusal.NoMemory None did.Quiet (add_goes_on around run place said q name uid target half held source refusal.NoMemory c stood (named_in pins run name source store history faults come named) memory_differs) come (stays_itself seen) shows refl tt memory_calm (refl, refl, nothing lists seen)
+    (did_unstepped around behind run lane place said q Last lists seen seen refusal.NoMemory None did.Quiet (add_goes_on around run place said q name uid target half held source refusal.NoMemory c stood (named_in pins run name source store history faults come named) memory_runs) come (stays_itself seen) shows refl tt memory_calm (refl, refl, nothing lists seen)
     (λ given e. absurd (no_reply given e)) (record { 0 = λ e. absurd (no_reply (reply.Refused refusal.Stopped) e); 1 = λ e. absurd (fall store.stopped e runs) }) (λ e. refl) (λ x. absurd x))
     (λ goes_on. gives_back_then run event place said said held source refusal.NoMemory stood refl refl refl refl stood.calm.unanswered (inr refl))
 
@@ -252,13 +251,7 @@ copy_added name uid target held source given Stands old new before after began f
     let copied = is_copied old name uid target r.row r.number given lists k in (
       (did_part around behind run lane place said q lists (add_message target k.shown.message lists) seen later (did.Step half_is.Whole) ended ended event
           (record {
-            lane_is = refl;
-            request_is = refl;
-            moment_is = refl;
-            ended_is = refl;
-            unrefused = refl;
-            undrawn = refl;
-            leaves = record { made = refl; pins = refl; unpins = refl; doomed = refl; removed = refl; given = refl; placed = refl; gone = refl };
+            own = own_event _ _ _ _ _ _ _ _ _;
             finds = tt;
             found = tt;
             part_is = adds_next around run q name uid target half_is.Whole held source place said c stood (named_in pins run name source old before began come named);
@@ -373,13 +366,7 @@ given_back q name uid target half held why Stands old new before after began fau
     let refused = last_before (own_events place run) event refl ∙ (ap last_refusal stood.last.own_is ∙ last_with stood.last.earlier stood.last.last why stood.refused) in (
       (did_part around behind run lane place said q lists lists seen later did.Quiet (Some (reply.Refused why)) None event
           (record {
-            lane_is = refl;
-            request_is = refl;
-            moment_is = refl;
-            ended_is = refl;
-            unrefused = refl;
-            undrawn = refl;
-            leaves = record { made = refl; pins = refl; unpins = refl; doomed = refl; removed = refl; given = refl; placed = refl; gone = refl };
+            own = own_event _ _ _ _ _ _ _ _ _;
             finds = c.finds around event;
             found = c.found around run event GivesBack;
             part_is = gives_back_next around run q name uid target half held why place said c other stood;

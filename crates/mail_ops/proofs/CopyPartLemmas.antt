@@ -23,6 +23,7 @@ use Rattle.journal.specs.Found.{AgreesWithRun}
 use Rattle.task_claims.specs.Leaving.{number_named}
 use Rattle.mail_ops.specs.CopyStages.{IsHolding, IsGivingBack}
 use Rattle.mail_ops.proofs.LastEventLemmas.{last_own, next_behind, next_last}
+use Rattle.mail_ops.proofs.ToldLemmas.{some_part}
 
 -- the part behind the first: a copy begins again if its source's name names another mailbox by then
 abbrev pub adding_part : Bool → EventPart
@@ -129,9 +130,6 @@ gives_back_next around run q name uid target how held why place said c other b =
     ∙ (ap (λ (p : EventPart). behind_refused q p why) b.last.part_is ∙ c.refused_last why other)
 
 -- ---- the part behind an event
-
-pub some_part : (p : EventPart) → Some p ≡ None → ⊥
-some_part p e = cc e
 
 pub first_goes_on : (around : Around) (run : Run) (q : Request) (name : List ℕ) (uid : Uid) (target : List ℕ) (how : Half) (event : RunEvent) → IsCopying q name uid target how → event.part ≡ First → part_behind around run q event ≡ None → ⊥
 first_goes_on around run q name uid target how event c is none =

@@ -35,7 +35,8 @@ use Rattle.task_steps.specs.Step.{Seen, ShowsSeen, HasComeTo, DidEvent, HasNotBe
 use Rattle.task_steps.specs.Tells.{TellsSame}
 use Rattle.task_steps.proofs.SeenLemmas.{comes_to_on, no_guids}
 use Rattle.task_steps.proofs.OneEventLemmas.{IsPlain, refused_event, refused_leaves, unmade, next_first, refusal_last, some_given, first_reply, first_turn}
-use Rattle.mail_ops.proofs.FlagListLemmas.{is_flagged, shows_by}
+use Rattle.mail_ops.proofs.FlagListLemmas.{is_flagged}
+use Rattle.mail_ops.proofs.ShownEntryLemmas.{shown_entry}
 
 pub flag_is_plain : (name : List ℕ) (uid : Uid) (flags : ℕ) → IsPlain (request.Flag name uid flags)
 flag_is_plain name uid flags = record { found = λ around run event. tt; finds = λ around event. tt; memory = refl; reads = refl; behind = λ after run event why. refl; half_is = refl; halves_are = refl }
@@ -58,7 +59,7 @@ flags_known run boxes meanings lists name number uid flags bits m row well h is 
       by = by;
       answers = λ event. (r event).1;
       well = answers_well run lists (request.Flag name uid flags) one reply.Done (set_flags name uid.0 flags lists) well (omega (arith, few, same)) (r one).1;
-      shown = subst (λ (ls : Lists). ShowLists boxes (meanings_by number (entry.F uid bits) boxes meanings) ls) by (shows_by number [] uid bits boxes meanings lists h);
+      shown = subst (λ (ls : Lists). ShowLists boxes (meanings_by number (entry.F uid bits) boxes meanings) ls) by (shown_entry number [] (entry.F uid bits) boxes meanings lists refl h);
     }
 
 -- a flag adds no message, so it brings any octets

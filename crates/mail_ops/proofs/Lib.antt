@@ -39,4 +39,5 @@ pub mod RowLemmas
 pub mod ShownEntryLemmas
 pub mod StableLemmas
 pub mod StageLemmas
+pub mod ToldLemmas
 pub mod UnlistedLemmas

@@ -44,6 +44,18 @@ less_one false old new e l = let f : new ≡ old - 0 = e in omega (arith, f)
 pub lowered_due : {D : Type 0} → (owed : MapUid) (old new : StoreValue D) (uid : ℕ) → one_due owed.0 uid ≤ due_at uid old → due_at uid new ≡ due_by (lowering_of owed) (λ other. due_at other old) uid → due_at uid new + one_due owed.0 uid ≡ due_at uid old
 lowered_due owed old new uid some due = less_one (owed.0 == uid) (due_at uid old) (due_at uid new) due some
 
+pub raised_moves : (old new held uid : ℕ) → new ≡ old + one_due held uid → new + 0 ≡ old + one_due held uid
+raised_moves old new held uid e = omega (arith, e)
+
+pub raised_covers : (old new held uid : ℕ) → new ≡ old + one_due held uid → one_due held uid ≤ new
+raised_covers old new held uid e = omega (arith, e)
+
+pub ended_moves : (old new held uid : ℕ) → new + one_due held uid ≡ old → new + one_due held uid ≡ old + 0
+ended_moves old new held uid e = omega (arith, e)
+
+pub held_still : {D : Type 0} → (held : MapUid) (old new : StoreValue D) → ((other : ℕ) → one_due held.0 other ≤ due_at other old) → ((other : ℕ) → due_at other new ≡ due_at other old) → (other : ℕ) → one_due held.0 other ≤ due_at other new
+held_still held old new due same other = subst (λ (n : ℕ). one_due held.0 other ≤ n) (sym (same other)) (due other)
+
 -- it is due of its own record
 pub one_of_own : (uid : ℕ) → one_due uid uid ≡ 1
 one_of_own uid = ap (λ (b : Bool). cond b 1 0) (eq-eqb uid uid refl)

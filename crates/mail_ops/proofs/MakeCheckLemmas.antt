@@ -17,23 +17,18 @@ use Rattle.task_steps.specs.Step.{HasComeTo}
 use Rattle.mail_ops.specs.Making.{naming_refusal, making_refusal}
 use Rattle.store_seen.specs.Seeing.{seen_of}
 use Rattle.mail_ops.proofs.MakeStageLemmas.{naming_part}
-use Rattle.mail_ops.proofs.NamedListLemmas.{Finds, found_by_name}
+use Rattle.mail_ops.proofs.NamedListLemmas.{ShowsBox, shows_box}
 
 -- ---- what is shown
 
-name_there : (name : List ℕ) (lists : Lists) (o : Option BoxMeaning) → Finds name lists o → is_some (mailbox_named name lists) ≡ is_some o
+name_there : (name : List ℕ) (lists : Lists) (o : Option BoxMeaning) → ShowsBox name lists o → is_some (mailbox_named name lists) ≡ is_some o
 name_there name lists None f = ap is_some f
-name_there name lists (Some m) f = ap is_some f.there
+name_there name lists (Some m) f = ap is_some f.named
 
 as_many : (boxes : List MapBox) (meanings : List BoxMeaning) (lists : Lists) → ShowLists boxes meanings lists → length lists ≡ length boxes
 as_many [] [] [] h = refl
-as_many [] [] (l ∷ ls) h = absurd h
-as_many [] (m ∷ ms) [] h = absurd h
-as_many [] (m ∷ ms) (l ∷ ls) h = absurd h
-as_many (b ∷ bs) [] [] h = absurd h
-as_many (b ∷ bs) [] (l ∷ ls) h = absurd h
-as_many (b ∷ bs) (m ∷ ms) [] h = absurd h
 as_many (b ∷ bs) (m ∷ ms) (l ∷ ls) h = ap (λ (n : ℕ). suc n) (as_many bs ms ls h.1)
+as_many boxes meanings lists h = absurd h
 
 -- ---- the checks
 
@@ -58,7 +53,7 @@ used_up drawn = refused_where (nat_le 4294967294 drawn) (refusal.StoreFull 42949
 checked_then : {D : Type 0} → (run : Run) (name : List ℕ) (store : StoreValue D) (lists : Lists) (rest : List Check) → ShowLists store.map.boxes (indexes_of store.boxes) lists
     → first_refusal run lists (IsNewName name ∷ RoomForMailbox ∷ rest) ≡ option_or (naming_refusal name store) (first_refusal run lists rest)
 checked_then run name store lists rest h =
-    ap (λ (b : Bool). option_or (taken_name b) (option_or (full_store (length lists)) (first_refusal run lists rest))) (name_there name lists (list_named store name) (found_by_name name store.map.boxes (indexes_of store.boxes) lists h))
+    ap (λ (b : Bool). option_or (taken_name b) (option_or (full_store (length lists)) (first_refusal run lists rest))) (name_there name lists (list_named store name) (shows_box name store.map.boxes (indexes_of store.boxes) lists h))
     ∙ (ap (λ (n : ℕ). option_or (taken_name (is_some (list_named store name))) (option_or (full_store n) (first_refusal run lists rest))) (as_many store.map.boxes (indexes_of store.boxes) lists h)
     ∙ or_both (taken_name (is_some (list_named store name))) (full_store (length store.map.boxes)) (first_refusal run lists rest))
 

@@ -39,13 +39,14 @@ use Rattle.mail_ops.specs.Making.{IsAtMake, naming_refusal, making_refusal, with
 use Rattle.store_seen.specs.Seeing.{seen_of}
 use Rattle.mail_ops.specs.declared.making.MakeStage.{MakeStage}
 use Rattle.mail_ops.specs.declared.making.MakeStage.TheVariants as stage
-use Rattle.mail_ops.proofs.EventLemmas.{DidBy, stands_by, fall, no_refusal, no_reply, some_reply, one_reply, StaysSo, comes_along, memory_calm, CanRefuse, did_refused, did_unstepped, did_stop, did_fall, did_check, did_part, ends_well}
+use Rattle.mail_ops.proofs.EventLemmas.{DidBy, stands_by, fall, no_refusal, no_reply, some_reply, one_reply, StaysSo, comes_along, memory_calm, CanRefuse, did_refused, did_unstepped, did_stop, did_fall, did_check, did_part, ends_well, own_event}
 use Rattle.store_seen.proofs.SeeingLemmas.{due_as_before, tells_as_before}
 use Rattle.mail_ops.proofs.FlagEventLemmas.{shown_on}
 use Rattle.mail_ops.proofs.LastEventLemmas.{last_with}
 use Rattle.mail_ops.proofs.MakeCheckLemmas.{naming_checked, making_checked, naming_steps, making_steps}
 use Rattle.mail_ops.proofs.MakeStageLemmas.{first_next, naming_part, naming_next, makes_log_then, starts_over_then}
 use Rattle.mail_ops.proofs.RemovalLemmas.{store_tells}
+use Rattle.mail_ops.proofs.ToldLemmas.{some_part}
 
 -- the clause of a step of a make
 abbrev pub MakeClause : {D : Type 0} → List ℕ → MakeStage → MakeStage → StoreValue D → StoreValue D → Option History → Option History → Faults → Faults → Did → Option Reply → Type 0
@@ -330,9 +331,6 @@ making_fell name next old new before after began then ran same f = λ around beh
       λ e. absurd (never_more _ e),
     )
 
-some_part : (p : EventPart) → Some p ≡ None → ⊥
-some_part p e = cc e
-
 makes_on : (overtaken : Bool) → behind_make overtaken First ≡ None → ⊥
 makes_on true e = some_part StartsOver e
 makes_on false e = some_part Last e
@@ -459,13 +457,7 @@ naming_overtaken name number old new before after began then ran free behind_it 
     stands_by around behind run lane place said (request.Make name) lists seen later did.Quiet None event None (IsAtMake stage.First)
     (did_part around behind run lane place said (request.Make name) lists lists seen later did.Quiet None None event
     (record {
-      lane_is = refl;
-      request_is = refl;
-      moment_is = refl;
-      ended_is = refl;
-      unrefused = refl;
-      undrawn = refl;
-      leaves = record { made = refl; pins = refl; unpins = refl; doomed = refl; removed = refl; given = refl; placed = refl; gone = refl };
+      own = own_event _ _ _ _ _ _ _ _ _;
       finds = tt;
       found = tt;
       part_is = naming_next around run name place said number.0 old.map stood come.come.map_is ∙ ap (λ (b : Bool). Some (naming_part b)) (overtaken_is number.0 old.map.highest.mailbox behind_it);

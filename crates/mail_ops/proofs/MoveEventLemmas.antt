@@ -46,17 +46,17 @@ use Rattle.mail_ops.specs.MoveStages.{HasCopied, HasMoved}
 use Rattle.store_seen.specs.Seeing.{seen_of}
 use Rattle.mail_ops.proofs.CopyFirstLemmas.{CopyingClause, place_free}
 use Rattle.mail_ops.proofs.CopyLastLemmas.{copy_known, adding, added_due, ended_due, is_copied, brings_copy, named_in, place_refuses, lowered_ends}
-use Rattle.mail_ops.proofs.CopyPartLemmas.{adds_next, some_part}
-use Rattle.mail_ops.proofs.EventLemmas.{one_fits, stands_by, some_reply, one_reply, no_reply, comes_along, CanRefuse, did_stop, did_fall, did_part, ends_well}
+use Rattle.mail_ops.proofs.CopyPartLemmas.{adds_next}
+use Rattle.mail_ops.proofs.EventLemmas.{one_fits, stands_by, some_reply, one_reply, no_reply, comes_along, CanRefuse, did_stop, did_fall, did_part, ends_well, own_event}
 use Rattle.mail_ops.proofs.FlagEventLemmas.{shown_on}
-use Rattle.mail_ops.proofs.FlagListLemmas.{none_there, found_row, shown_number}
+use Rattle.mail_ops.proofs.FlagListLemmas.{shown_number}
 use Rattle.mail_ops.proofs.LastEventLemmas.{copied_by, copied_new, copied_still, ends_in, ends_still, held_by, held_same, last_before, source_by, source_same, unrefused_then}
 use Rattle.mail_ops.proofs.LoweringLemmas.{comes_with, lowered_due, shows_still, leads_still}
-use Rattle.mail_ops.proofs.MessageLemmas.{RecordOfRow, by_number, from_source, shown_guid}
+use Rattle.mail_ops.proofs.MessageLemmas.{RecordOfRow, by_number, from_source, missing_none, shown_guid}
 use Rattle.mail_ops.proofs.MovePartLemmas.{copied_ends, move_copies, removes_next, lowers_next}
-use Rattle.mail_ops.proofs.NamedListLemmas.{IsFound, Finds, found_by_name}
 use Rattle.mail_ops.proofs.RemovalLemmas.{took_tells, brings_removal, box_tells, removal_due, box_fell_stays, map_fell_stays, removal_known}
 use Rattle.mail_ops.proofs.ShownEntryLemmas.{shown_entry}
+use Rattle.mail_ops.proofs.ToldLemmas.{some_part}
 
 moved_runs : (copied : Uid) (gone : Bool) → Some (reply.Moved copied gone) ≡ Some (reply.Refused refusal.Stopped) → ⊥
 moved_runs copied gone e = let k : reply.Moved copied gone ≡ reply.Refused refusal.Stopped = cc e in cc k
@@ -78,13 +78,7 @@ move_added name uid target held copied source old new before after began faulted
     stands_by around behind run lane place said q lists seen later (did.Step half.CopyHalf) None event (Some (reply.Copied copied)) (HasCopied held copied source)
     (did_part around behind run lane place said q lists (add_message target k.shown.message lists) seen later (did.Step half.CopyHalf) None (Some (reply.Copied copied)) event
     (record {
-      lane_is = refl;
-      request_is = refl;
-      moment_is = refl;
-      ended_is = refl;
-      unrefused = refl;
-      undrawn = refl;
-      leaves = record { made = refl; pins = refl; unpins = refl; doomed = refl; removed = refl; given = refl; placed = refl; gone = refl };
+      own = own_event _ _ _ _ _ _ _ _ _;
       finds = tt;
       found = tt;
       part_is = adds_next around run q name uid target half.CopyHalf held source place said c stood (named_in pins run name source old before began come named);
@@ -140,21 +134,7 @@ removal_stopped name uid target held copied source Stands store history faults s
 
 -- ---- the message has gone
 
-missing_none : {D : Type 0} → (name : List ℕ) (uid : ℕ) (store : StoreValue D) (why : Refusal) (lists : Lists) → ShowLists store.map.boxes (indexes_of store.boxes) lists → missing_message name uid store ≡ Some why → message_at name uid lists ≡ None
-missing_none name uid store why lists h e = by_box (list_named store name) refl e
-  where
-    by_box : (o : Option BoxMeaning) → list_named store name ≡ o → option_map_or (λ m. if is_some (row_at m uid) then None else Some refusal.NoMessage) o (Some refusal.NoMailbox) ≡ Some why → message_at name uid lists ≡ None
-    by_box None is k = let f : mailbox_named name lists ≡ None = subst (Finds name lists) is (found_by_name name store.map.boxes (indexes_of store.boxes) lists h) in ap (λ (o : Option Mailbox). option_and_then (message_in uid) o) f
-    by_box (Some m) is k = by_row (row_at m uid) refl k
-      where
-        by_row : (o : Option LogRow) → row_at m uid ≡ o → (if is_some o then None else Some refusal.NoMessage) ≡ Some why → message_at name uid lists ≡ None
-        by_row (Some row) there k = absurd (let f : None ≡ Some why = k in cc f)
-        by_row None none k =
-            let f : IsFound name lists m = subst (Finds name lists) is (found_by_name name store.map.boxes (indexes_of store.boxes) lists h) in
-            let n : message_in uid f.mailbox ≡ None = none_there listing_row (message_in uid f.mailbox) (sym (ap (option_map listed_row) none) ∙ found_row uid m.rows f.mailbox.messages f.rows) in
-            ap (λ (o : Option Mailbox). option_and_then (message_in uid) o) f.there ∙ n
-
--- nor has the mailbox with the number that the name names
+-- the mailbox with the number that the name names doesn't have it either
 gone_from : {D : Type 0} → (name : List ℕ) (uid source at : ℕ) (store : StoreValue D) (why : Refusal) (lists : Lists) → AreWellFormed lists → ShowLists store.map.boxes (indexes_of store.boxes) lists → number_named store.map name ≡ Some source → at ≡ source → missing_message name uid store ≡ Some why → message_numbered at uid lists ≡ None
 gone_from name uid source at store why lists well h named is missing =
     let x = shown_number name source store.map.boxes (indexes_of store.boxes) lists h named in
@@ -173,13 +153,7 @@ move_gone name uid target held copied source Stands store history faults why run
     let ended = Some (reply.Moved copied true) in (
       (did_part around behind run lane place said q lists lists seen seen (did.Step half.ExpungeHalf) ended ended event
           (record {
-            lane_is = refl;
-            request_is = refl;
-            moment_is = refl;
-            ended_is = refl;
-            unrefused = refl;
-            undrawn = refl;
-            leaves = record { made = refl; pins = refl; unpins = refl; doomed = refl; removed = refl; given = refl; placed = refl; gone = refl };
+            own = own_event _ _ _ _ _ _ _ _ _;
             finds = tt;
             found = tt;
             part_is = removes_next around run name uid target held copied source place said stood;
@@ -240,13 +214,7 @@ move_removed name uid target held copied source old new before after began fault
     stands_by around behind run lane place said q lists seen later (did.Step half.ExpungeHalf) None event (Some (reply.Moved copied false)) (HasMoved uid held copied)
     (did_part around behind run lane place said q lists (expunge_from at uid.0 lists) seen later (did.Step half.ExpungeHalf) None (Some (reply.Moved copied false)) event
     (record {
-      lane_is = refl;
-      request_is = refl;
-      moment_is = refl;
-      ended_is = refl;
-      unrefused = refl;
-      undrawn = refl;
-      leaves = record { made = refl; pins = refl; unpins = refl; doomed = refl; removed = refl; given = refl; placed = refl; gone = refl };
+      own = own_event _ _ _ _ _ _ _ _ _;
       finds = tt;
       found = tt;
       part_is = removes_next around run name uid target held copied source place said stood;
@@ -355,13 +323,7 @@ move_lowered name uid target owed copied Stands old new before after began fault
     let later = seen_of pins new after faulted in (
       (did_part around behind run lane place said q lists lists seen later did.Quiet ended None event
           (record {
-            lane_is = refl;
-            request_is = refl;
-            moment_is = refl;
-            ended_is = refl;
-            unrefused = refl;
-            undrawn = refl;
-            leaves = record { made = refl; pins = refl; unpins = refl; doomed = refl; removed = refl; given = refl; placed = refl; gone = refl };
+            own = own_event _ _ _ _ _ _ _ _ _;
             finds = tt;
             found = tt;
             part_is = lowers_next around run name uid target owed copied place said stood;

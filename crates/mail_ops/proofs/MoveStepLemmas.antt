@@ -36,64 +36,22 @@ KnownBy history faults name uid target now next answer how old new = MoveKnown n
 
 known_by : {D : Type 0} → (history : D → Option History) (faults : D → Faults) (name : List ℕ) (uid : Uid) (target : List ℕ) (now next : MoveStage) (answer : Progress) (how : Did) (old new : StoreValue D) → IsStore (history old.disk) old → old.stopped ≡ false → IsReadyToMove name uid now old
     → MovesOn name uid target now next answer how old new (history old.disk) (history new.disk) (faults old.disk) (faults new.disk) → KnownBy history faults name uid target now next answer how old new
-known_by history faults name uid target stage.First (stage.Adding held source) progress.More how old new is ran ready on =
-    subst (λ (h : Did). KnownBy history faults name uid target stage.First (stage.Adding held source) progress.More h old new) (sym on.0) (known_raised name uid target held source old new (history old.disk) (history new.disk) (faults old.disk) (faults new.disk) is ran on.1)
-known_by history faults name uid target stage.First stage.First (progress.Done (reply.Refused why)) how old new is ran ready on =
-    subst (λ (h : Did). KnownBy history faults name uid target stage.First stage.First (progress.Done (reply.Refused why)) h old new) (sym on.2)
-    (subst (λ (w : Refusal). KnownBy history faults name uid target stage.First stage.First (progress.Done (reply.Refused w)) (told_as half.CopyHalf did.Failed on.0) old new) (sym on.1) (known_refused history faults name uid target on.0 old new ran on.3))
-known_by history faults name uid target (stage.Adding held source) (stage.Removing still copied from) progress.More how old new is ran ready on =
-    subst (λ (h : Did). KnownBy history faults name uid target (stage.Adding held source) (stage.Removing still copied from) progress.More h old new) (sym on.1)
-    (subst (λ (s : MapUid). KnownBy history faults name uid target (stage.Adding held source) (stage.Removing s copied from) progress.More (did.Step half.CopyHalf) old new) (sym on.0)
-    (subst (λ (n : BoxNo). KnownBy history faults name uid target (stage.Adding held source) (stage.Removing held copied n) progress.More (did.Step half.CopyHalf) old new) (sym on.3) (known_added name uid target held source copied old new (history old.disk) (history new.disk) (faults old.disk) (faults new.disk) is ran ready on.2)))
-known_by history faults name uid target (stage.Adding held source) (stage.Adding still same) (progress.Done (reply.Refused why)) how old new is ran ready on =
-    subst (λ (h : Did). KnownBy history faults name uid target (stage.Adding held source) (stage.Adding still same) (progress.Done (reply.Refused why)) h old new) (sym on.2)
-    (subst (λ (w : Refusal). KnownBy history faults name uid target (stage.Adding held source) (stage.Adding still same) (progress.Done (reply.Refused w)) (did.Broken half.CopyHalf) old new) (sym on.1)
-    (subst (λ (s : MapUid). KnownBy history faults name uid target (stage.Adding held source) (stage.Adding s same) (progress.Done (reply.Refused refusal.Stopped)) (did.Broken half.CopyHalf) old new) (sym on.0)
-    (subst (λ (n : BoxNo). KnownBy history faults name uid target (stage.Adding held source) (stage.Adding held n) (progress.Done (reply.Refused refusal.Stopped)) (did.Broken half.CopyHalf) old new) (sym on.4) (known_unadded name uid target held source old new (history old.disk) (history new.disk) (faults old.disk) (faults new.disk) is ran ready on.3))))
-known_by history faults name uid target (stage.Adding held source) (stage.GivingBack still why) progress.More how old new is ran ready on =
-    subst (λ (s : MapUid). KnownBy history faults name uid target (stage.Adding held source) (stage.GivingBack s why) progress.More how old new) (sym on.0)
-    (subst (λ (s : StoreValue _). KnownBy history faults name uid target (stage.Adding held source) (stage.GivingBack held why) progress.More how old s) (sym on.1) (by_cause on.2))
+known_by history faults name uid target stage.First (stage.Adding held source) progress.More how old new is ran ready on = rw on.0 (known_raised name uid target held source old new (history old.disk) (history new.disk) (faults old.disk) (faults new.disk) is ran on.1)
+known_by history faults name uid target stage.First stage.First (progress.Done (reply.Refused why)) how old new is ran ready on = rw (on.2, on.1) (known_refused history faults name uid target on.0 old new ran on.3)
+known_by history faults name uid target (stage.Adding held source) (stage.Removing still copied from) progress.More how old new is ran ready on = rw (on.1, on.0, on.3) (known_added name uid target held source copied old new (history old.disk) (history new.disk) (faults old.disk) (faults new.disk) is ran ready on.2)
+known_by history faults name uid target (stage.Adding held source) (stage.Adding still same) (progress.Done (reply.Refused why)) how old new is ran ready on = rw (on.2, on.1, on.0, on.4) (known_unadded name uid target held source old new (history old.disk) (history new.disk) (faults old.disk) (faults new.disk) is ran ready on.3)
+known_by history faults name uid target (stage.Adding held source) (stage.GivingBack still why) progress.More how old new is ran ready on = rw (on.0, on.1) (by_cause on.2)
   where
     by_cause : ((how ≡ did.Step half.CopyHalf) × (copy_refusal name uid.0 target old ≡ Some why)) ⊎ ((how ≡ did.Quiet) × (why ≡ refusal.NoMemory)) → KnownBy history faults name uid target (stage.Adding held source) (stage.GivingBack held why) progress.More how old old
-    by_cause (inl e) =
-        subst (λ (h : Did). KnownBy history faults name uid target (stage.Adding held source) (stage.GivingBack held why) progress.More h old old) (sym e.0)
-        (known_back name uid target held source why (did.Step half.CopyHalf) old (history old.disk) (faults old.disk) ran ready (inl e.1) (add_refused (request.Move name uid target) name uid target half.CopyHalf held source.0 old (history old.disk) (faults old.disk) why (move_copies name uid target) ran ready.source.named e.1))
-    by_cause (inr e) =
-        subst (λ (h : Did). KnownBy history faults name uid target (stage.Adding held source) (stage.GivingBack held why) progress.More h old old) (sym e.0)
-        (subst (λ (w : Refusal). KnownBy history faults name uid target (stage.Adding held source) (stage.GivingBack held w) progress.More did.Quiet old old) (sym e.1)
-        (known_back name uid target held source refusal.NoMemory did.Quiet old (history old.disk) (faults old.disk) ran ready (inr refl) (add_unremembered (request.Move name uid target) name uid target half.CopyHalf held source.0 old (history old.disk) (faults old.disk) (move_copies name uid target) ran ready.source.named)))
-known_by history faults name uid target (stage.GivingBack held why) stage.First (progress.Done (reply.Refused given)) how old new is ran ready on =
-    subst (λ (h : Did). KnownBy history faults name uid target (stage.GivingBack held why) stage.First (progress.Done (reply.Refused given)) h old new) (sym on.1)
-    (subst (λ (w : Refusal). KnownBy history faults name uid target (stage.GivingBack held why) stage.First (progress.Done (reply.Refused w)) did.Quiet old new) (sym on.0) (known_given name uid target held why old new (history old.disk) (history new.disk) (faults old.disk) (faults new.disk) ran ready ready.source on.2))
-known_by history faults name uid target (stage.GivingBack held why) (stage.GivingBack still cause) (progress.Done (reply.Refused given)) how old new is ran ready on =
-    subst (λ (h : Did). KnownBy history faults name uid target (stage.GivingBack held why) (stage.GivingBack still cause) (progress.Done (reply.Refused given)) h old new) (sym on.3)
-    (subst (λ (w : Refusal). KnownBy history faults name uid target (stage.GivingBack held why) (stage.GivingBack still cause) (progress.Done (reply.Refused w)) did.Failed old new) (sym on.2)
-    (subst (λ (w : Refusal). KnownBy history faults name uid target (stage.GivingBack held why) (stage.GivingBack still w) (progress.Done (reply.Refused refusal.Stopped)) did.Failed old new) (sym on.1)
-    (subst (λ (s : MapUid). KnownBy history faults name uid target (stage.GivingBack held why) (stage.GivingBack s why) (progress.Done (reply.Refused refusal.Stopped)) did.Failed old new) (sym on.0) (known_ungiven name uid target held why old new (history old.disk) (history new.disk) (faults old.disk) (faults new.disk) ran ready on.4))))
-known_by history faults name uid target (stage.Removing held copied source) (stage.Owing owed same) progress.More how old new is ran ready on =
-    subst (λ (h : Did). KnownBy history faults name uid target (stage.Removing held copied source) (stage.Owing owed same) progress.More h old new) (sym on.2)
-    (subst (λ (u : Uid). KnownBy history faults name uid target (stage.Removing held copied source) (stage.Owing owed u) progress.More (did.Step half.ExpungeHalf) old new) (sym on.1)
-    (subst (λ (s : MapUid). KnownBy history faults name uid target (stage.Removing held copied source) (stage.Owing s copied) progress.More (did.Step half.ExpungeHalf) old new) (sym on.0) (known_removed name uid target held copied source old new (history old.disk) (history new.disk) (faults old.disk) (faults new.disk) is ran ready on.3)))
-known_by history faults name uid target (stage.Removing held copied source) stage.First (progress.Done (reply.Moved given gone)) how old new is ran ready on =
-    subst (λ (h : Did). KnownBy history faults name uid target (stage.Removing held copied source) stage.First (progress.Done (reply.Moved given gone)) h old new) (sym on.2)
-    (subst (λ (b : Bool). KnownBy history faults name uid target (stage.Removing held copied source) stage.First (progress.Done (reply.Moved given b)) (did.Step half.ExpungeHalf) old new) (sym on.1)
-    (subst (λ (u : Uid). KnownBy history faults name uid target (stage.Removing held copied source) stage.First (progress.Done (reply.Moved u true)) (did.Step half.ExpungeHalf) old new) (sym on.0)
-    (subst (λ (s : StoreValue _). KnownBy history faults name uid target (stage.Removing held copied source) stage.First (progress.Done (reply.Moved copied true)) (did.Step half.ExpungeHalf) old s) (sym on.3) (known_gone name uid target held copied source on.4.0 old (history old.disk) (faults old.disk) ran ready on.4.1))))
-known_by history faults name uid target (stage.Removing held copied source) (stage.Removing still same from) (progress.Done (reply.Refused why)) how old new is ran ready on =
-    subst (λ (h : Did). KnownBy history faults name uid target (stage.Removing held copied source) (stage.Removing still same from) (progress.Done (reply.Refused why)) h old new) (sym on.3)
-    (subst (λ (w : Refusal). KnownBy history faults name uid target (stage.Removing held copied source) (stage.Removing still same from) (progress.Done (reply.Refused w)) (did.Broken half.ExpungeHalf) old new) (sym on.2)
-    (subst (λ (u : Uid). KnownBy history faults name uid target (stage.Removing held copied source) (stage.Removing still u from) (progress.Done (reply.Refused refusal.Stopped)) (did.Broken half.ExpungeHalf) old new) (sym on.1)
-    (subst (λ (s : MapUid). KnownBy history faults name uid target (stage.Removing held copied source) (stage.Removing s copied from) (progress.Done (reply.Refused refusal.Stopped)) (did.Broken half.ExpungeHalf) old new) (sym on.0)
-    (subst (λ (n : BoxNo). KnownBy history faults name uid target (stage.Removing held copied source) (stage.Removing held copied n) (progress.Done (reply.Refused refusal.Stopped)) (did.Broken half.ExpungeHalf) old new) (sym on.5) (known_broken name uid target held copied source old new (history old.disk) (history new.disk) (faults old.disk) (faults new.disk) is ran ready on.4)))))
-known_by history faults name uid target (stage.Owing owed copied) stage.First (progress.Done (reply.Moved given gone)) how old new is ran ready on =
-    subst (λ (h : Did). KnownBy history faults name uid target (stage.Owing owed copied) stage.First (progress.Done (reply.Moved given gone)) h old new) (sym on.2)
-    (subst (λ (b : Bool). KnownBy history faults name uid target (stage.Owing owed copied) stage.First (progress.Done (reply.Moved given b)) did.Quiet old new) (sym on.1)
-    (subst (λ (u : Uid). KnownBy history faults name uid target (stage.Owing owed copied) stage.First (progress.Done (reply.Moved u false)) did.Quiet old new) (sym on.0) (known_lowered name uid target owed copied old new (history old.disk) (history new.disk) (faults old.disk) (faults new.disk) ran ready on.3)))
-known_by history faults name uid target (stage.Owing owed copied) (stage.Owing still same) (progress.Done (reply.Refused why)) how old new is ran ready on =
-    subst (λ (h : Did). KnownBy history faults name uid target (stage.Owing owed copied) (stage.Owing still same) (progress.Done (reply.Refused why)) h old new) (sym on.3)
-    (subst (λ (w : Refusal). KnownBy history faults name uid target (stage.Owing owed copied) (stage.Owing still same) (progress.Done (reply.Refused w)) did.Failed old new) (sym on.2)
-    (subst (λ (u : Uid). KnownBy history faults name uid target (stage.Owing owed copied) (stage.Owing still u) (progress.Done (reply.Refused refusal.Stopped)) did.Failed old new) (sym on.1)
-    (subst (λ (s : MapUid). KnownBy history faults name uid target (stage.Owing owed copied) (stage.Owing s copied) (progress.Done (reply.Refused refusal.Stopped)) did.Failed old new) (sym on.0) (known_unlowered name uid target owed copied old new (history old.disk) (history new.disk) (faults old.disk) (faults new.disk) ran ready on.4))))
+    by_cause (inl e) = rw e.0 (known_back name uid target held source why (did.Step half.CopyHalf) old (history old.disk) (faults old.disk) ran ready (inl e.1) (add_refused (request.Move name uid target) name uid target half.CopyHalf held source.0 old (history old.disk) (faults old.disk) why (move_copies name uid target) ran ready.source.named e.1))
+    by_cause (inr e) = rw (e.0, e.1) (known_back name uid target held source refusal.NoMemory did.Quiet old (history old.disk) (faults old.disk) ran ready (inr refl) (add_unremembered (request.Move name uid target) name uid target half.CopyHalf held source.0 old (history old.disk) (faults old.disk) (move_copies name uid target) ran ready.source.named))
+known_by history faults name uid target (stage.GivingBack held why) stage.First (progress.Done (reply.Refused given)) how old new is ran ready on = rw (on.1, on.0) (known_given name uid target held why old new (history old.disk) (history new.disk) (faults old.disk) (faults new.disk) ran ready ready.source on.2)
+known_by history faults name uid target (stage.GivingBack held why) (stage.GivingBack still cause) (progress.Done (reply.Refused given)) how old new is ran ready on = rw (on.3, on.2, on.1, on.0) (known_ungiven name uid target held why old new (history old.disk) (history new.disk) (faults old.disk) (faults new.disk) ran ready on.4)
+known_by history faults name uid target (stage.Removing held copied source) (stage.Owing owed same) progress.More how old new is ran ready on = rw (on.2, on.1, on.0) (known_removed name uid target held copied source old new (history old.disk) (history new.disk) (faults old.disk) (faults new.disk) is ran ready on.3)
+known_by history faults name uid target (stage.Removing held copied source) stage.First (progress.Done (reply.Moved given gone)) how old new is ran ready on = rw (on.2, on.1, on.0, on.3) (known_gone name uid target held copied source on.4.0 old (history old.disk) (faults old.disk) ran ready on.4.1)
+known_by history faults name uid target (stage.Removing held copied source) (stage.Removing still same from) (progress.Done (reply.Refused why)) how old new is ran ready on = rw (on.3, on.2, on.1, on.0, on.5) (known_broken name uid target held copied source old new (history old.disk) (history new.disk) (faults old.disk) (faults new.disk) is ran ready on.4)
+known_by history faults name uid target (stage.Owing owed copied) stage.First (progress.Done (reply.Moved given gone)) how old new is ran ready on = rw (on.2, on.1, on.0) (known_lowered name uid target owed copied old new (history old.disk) (history new.disk) (faults old.disk) (faults new.disk) ran ready on.3)
+known_by history faults name uid target (stage.Owing owed copied) (stage.Owing still same) (progress.Done (reply.Refused why)) how old new is ran ready on = rw (on.3, on.2, on.1, on.0) (known_unlowered name uid target owed copied old new (history old.disk) (history new.disk) (faults old.disk) (faults new.disk) ran ready on.4)
 known_by history faults name uid target now next answer how old new is ran ready on = absurd on
 
 -- Of a task that is seen as this.
