@@ -1,5 +1,6 @@
 -- The first event of a copy or a move, by the clause of a step: the count is raised, or it is refused.
 use Rattle.model_meaning.specs.MapFits.{MapFits}
+use Rattle.std.proofs.lemmas.Bool.Decides.{nat_tests}
 use Rattle.std.proofs.Common.{◌≡◌, ◌≤◌, ◌<◌, ◌+◌, ℕ, Bool, true, false, List, [], ◌∷◌, ◌++◌, Option, Some, None, refl, sym, ◌∙◌, ap, subst, arith, inl, inr}
 use Rattle.std.specs.Prelude.{◌⊎◌, flat_map, nat_le, length, slice_get, is_some, if◌then◌else◌}
 use Rattle.std.specs.Option.{option_map_or, option_or}
@@ -116,36 +117,16 @@ abbrev pub IsCopyWhy : Refusal → Type 0
 IsCopyWhy why = (is_step why ≡ true) × (Some (reply.Refused why) ≡ Some (reply.Refused refusal.Stopped) → ⊥) × (why ≡ refusal.Stopped → ⊥)
 
 pub step_why : (why : Refusal) → is_step why ≡ true → IsCopyWhy why
-step_why why s = (s, λ e. not_stopped why s (let k : reply.Refused why ≡ reply.Refused refusal.Stopped = cc e in cc k), not_stopped why s)
-  where
-    not_stopped : (w : Refusal) → is_step w ≡ true → w ≡ refusal.Stopped → ⊥
-    not_stopped w t e = let k : true ≡ false = sym t ∙ ap is_step e in cc k
+step_why why s = grind (arith, common_steps, nat_tests)
 
 room_steps : (m : BoxMeaning) (why : Refusal) → room_refusal m ≡ Some why → is_step why ≡ true
-room_steps m why e = by_tests (nat_le 1000000 (length m.rows)) (nat_le 4294967295 m.next) e
-  where
-    by_tests : (a b : Bool) → option_or (refused_where a (refusal.MailboxFull 1000000)) (refused_where b (refusal.StoreFull 4294967294)) ≡ Some why → is_step why ≡ true
-    by_tests true b k = let f : Some (refusal.MailboxFull 1000000) ≡ Some why = k in let g : refusal.MailboxFull 1000000 ≡ why = cc f in ap is_step (sym g)
-    by_tests false true k = let f : Some (refusal.StoreFull 4294967294) ≡ Some why = k in let g : refusal.StoreFull 4294967294 ≡ why = cc f in ap is_step (sym g)
-    by_tests false false k = absurd (let f : None ≡ Some why = k in cc f)
+room_steps m why e = grind (arith, common_steps, nat_tests)
+
+steps_by : (uid : ℕ) (from to : Option BoxMeaning) (why : Refusal) → option_map_or (λ f. option_map_or (λ t. if is_some (row_at f uid) then room_refusal t else Some refusal.NoMessage) to (Some refusal.NoMailbox)) from (Some refusal.NoMailbox) ≡ Some why → is_step why ≡ true
+steps_by uid from to why e = grind (arith, common_steps, nat_tests, room_steps)
 
 pub copy_steps : {D : Type 0} → (name : List ℕ) (uid : ℕ) (target : List ℕ) (store : StoreValue D) (why : Refusal) → copy_refusal name uid target store ≡ Some why → is_step why ≡ true
-copy_steps name uid target store why e = by_source (list_named store name) e
-  where
-    named : Some refusal.NoMailbox ≡ Some why → is_step why ≡ true
-    named k = let g : refusal.NoMailbox ≡ why = cc k in ap is_step (sym g)
-
-    by_row : (to : BoxMeaning) (o : Option LogRow) → (if is_some o then room_refusal to else Some refusal.NoMessage) ≡ Some why → is_step why ≡ true
-    by_row to None k = let f : Some refusal.NoMessage ≡ Some why = k in let g : refusal.NoMessage ≡ why = cc f in ap is_step (sym g)
-    by_row to (Some row) k = room_steps to why k
-
-    by_target : (from : BoxMeaning) (o : Option BoxMeaning) → option_map_or (λ to. if is_some (row_at from uid) then room_refusal to else Some refusal.NoMessage) o (Some refusal.NoMailbox) ≡ Some why → is_step why ≡ true
-    by_target from None k = named k
-    by_target from (Some to) k = by_row to (row_at from uid) k
-
-    by_source : (o : Option BoxMeaning) → option_map_or (λ from. option_map_or (λ to. if is_some (row_at from uid) then room_refusal to else Some refusal.NoMessage) (list_named store target) (Some refusal.NoMailbox)) o (Some refusal.NoMailbox) ≡ Some why → is_step why ≡ true
-    by_source None k = named k
-    by_source (Some from) k = by_target from (list_named store target) k
+copy_steps name uid target store why e = steps_by uid (list_named store name) (list_named store target) why e
 
 pub back_runs : {D : Type 0} → (name : List ℕ) (uid : Uid) (target : List ℕ) (why : Refusal) (store : StoreValue D) → (copy_refusal name uid.0 target store ≡ Some why) ⊎ (why ≡ refusal.NoMemory) → why ≡ refusal.Stopped → ⊥
 back_runs name uid target why store (inl e) stops = step_runs why (copy_steps name uid.0 target store why e) stops
@@ -223,7 +204,7 @@ raise_done q name uid target half held source old new before after began faulted
     stands_by around behind run lane place said q lists seen later did.Quiet None event None (IsHolding held source.0)
     (did_part around behind run lane place said q lists lists seen later did.Quiet None None event
     (record {
-      own = own_event _ _ _ _ _ _ _ _ _;
+      own = own_event _ _ _ _ _ _ _ _ _ refl;
       finds = c.finds around event;
       found = c.found around run event First;
       part_is = ap (λ (es : List RunEvent). next_part around run q es) stood.0;

@@ -1,5 +1,7 @@
 -- The second event of a copy or a move, by the clause of a step: the message is added, or it is refused, and the count given back.
 use Rattle.std.proofs.lemmas.List.Elements.{All-nil}
+use Rattle.std.proofs.lemmas.Grind.{common_steps}
+use Rattle.std.proofs.lemmas.Bool.Decides.{nat_tests}
 use Rattle.std.proofs.Common.{◌≡◌, ◌≤◌, ◌+◌, ℕ, Bool, true, false, List, [], ◌∷◌, ◌++◌, map, Option, Some, None, refl, sym, ◌∙◌, ap, subst, arith, inl, inr}
 use Rattle.std.specs.Prelude.{◌⊎◌, length, slice_get, if◌then◌else◌}
 use Rattle.std.specs.Option.{option_or}
@@ -251,7 +253,7 @@ copy_added name uid target held source given Stands old new before after began f
     let copied = is_copied old name uid target r.row r.number given lists k in (
       (did_part around behind run lane place said q lists (add_message target k.shown.message lists) seen later (did.Step half_is.Whole) ended ended event
           (record {
-            own = own_event _ _ _ _ _ _ _ _ _;
+            own = own_event _ _ _ _ _ _ _ _ _ refl;
             finds = tt;
             found = tt;
             part_is = adds_next around run q name uid target half_is.Whole held source place said c stood (named_in pins run name source old before began come named);
@@ -316,8 +318,7 @@ abbrev pub giving_back : ℕ → ℕ → ℕ → Refusal → ℕ → RunEvent
 giving_back lane place uid why calls = record (event_of lane place GivesBack calls) { reply = Some (reply.Refused why); map_entries = lowers uid }
 
 given_for : (why : Refusal) → (is_step why ≡ true) ⊎ (why ≡ refusal.NoMemory) → why ≡ refusal.Stopped → ⊥
-given_for why (inl s) e = let k : true ≡ false = sym s ∙ ap is_step e in cc k
-given_for why (inr m) e = let k : refusal.NoMemory ≡ refusal.Stopped = sym m ∙ e in cc k
+given_for why cause e = grind (arith, common_steps, nat_tests)
 
 given_reply : (q : Request) (name : List ℕ) (uid : Uid) (target : List ℕ) (half : Half) (said : List Reply) (why : Refusal) → IsCopying q name uid target half → said ≡ answered_by why → (is_step why ≡ true) ⊎ (why ≡ refusal.NoMemory) → IsReplyOf q said (reply.Refused why)
 given_reply q name uid target half said why c is (inl s) = subst (λ (l : List Reply). IsReplyOf q l (reply.Refused why)) (sym (is ∙ ap (λ (b : Bool). if b then reply.Refused why ∷ [] else []) s)) (c.replied why s)
@@ -366,7 +367,7 @@ given_back q name uid target half held why Stands old new before after began fau
     let refused = last_before (own_events place run) event refl ∙ (ap last_refusal stood.last.own_is ∙ last_with stood.last.earlier stood.last.last why stood.refused) in (
       (did_part around behind run lane place said q lists lists seen later did.Quiet (Some (reply.Refused why)) None event
           (record {
-            own = own_event _ _ _ _ _ _ _ _ _;
+            own = own_event _ _ _ _ _ _ _ _ _ refl;
             finds = c.finds around event;
             found = c.found around run event GivesBack;
             part_is = gives_back_next around run q name uid target half held why place said c other stood;

@@ -1,5 +1,7 @@
 -- What the events of copies and of moves have in common.
-use Rattle.std.proofs.Common.{◌≡◌, ◌==◌, ◌||◌, ℕ, Bool, true, false, not, cond, List, [], ◌∷◌, Option, Some, None, refl, sym, ◌∙◌, ap}
+use Rattle.std.proofs.Common.{◌≡◌, ◌==◌, ◌||◌, ℕ, Bool, true, false, not, cond, List, [], ◌∷◌, Option, Some, None, refl, sym, ◌∙◌, ap, arith}
+use Rattle.std.proofs.lemmas.Grind.{common_steps}
+use Rattle.std.proofs.lemmas.Bool.Decides.{nat_tests}
 use Rattle.std.specs.Prelude.{is_some, slice_get}
 use Rattle.std.specs.Option.{option_map, option_map_or}
 use Rattle.std.proofs.lemmas.Bool.{eq-eqb}
@@ -56,19 +58,13 @@ pub record IsCopying (q : Request) (name : List ℕ) (uid : Uid) (target : List 
   pub replied : (why : Refusal) → is_step why ≡ true → IsReplyOf q (reply.Refused why ∷ []) (reply.Refused why)
 
 copy_back : (name : List ℕ) (uid : Uid) (target : List ℕ) (why : Refusal) → (why ≡ refusal.Stopped → ⊥) → behind_refused (request.Copy name uid target) Last why ≡ Some GivesBack
-copy_back name uid target refusal.Stopped other = absurd (other refl)
-copy_back name uid target why other = refl
+copy_back name uid target why other = grind (arith, common_steps, nat_tests)
 
 copy_replied : (name : List ℕ) (uid : Uid) (target : List ℕ) (why : Refusal) → is_step why ≡ true → IsReplyOf (request.Copy name uid target) (reply.Refused why ∷ []) (reply.Refused why)
-copy_replied name uid target refusal.NoMemory s = absurd (cc s)
-copy_replied name uid target refusal.ReadFault s = absurd (cc s)
-copy_replied name uid target refusal.Stopped s = absurd (cc s)
-copy_replied name uid target (refusal.Damaged file offset) s = absurd (cc s)
-copy_replied name uid target why s = refl
+copy_replied name uid target why s = grind (arith, common_steps, nat_tests)
 
 copy_stopped : (name : List ℕ) (uid : Uid) (target : List ℕ) (elsewhere : Bool) → behind_refused (request.Copy name uid target) (adding_part elsewhere) refusal.Stopped ≡ None
-copy_stopped name uid target true = refl
-copy_stopped name uid target false = refl
+copy_stopped name uid target elsewhere = grind (arith, common_steps, nat_tests)
 
 pub copy_copies : (name : List ℕ) (uid : Uid) (target : List ℕ) → IsCopying (request.Copy name uid target) name uid target half.Whole
 copy_copies name uid target = record {
@@ -108,8 +104,7 @@ not_elsewhere run place name source named is = by_box (box_named (map_of run) na
     by_box (Some box) k = let f : Some box.number ≡ Some source = k in let e : box.number ≡ source = cc f in ap not (eq-eqb box.number (source_of place run) (e ∙ sym is))
 
 goes_on : (elsewhere ends : Bool) → behind_copy elsewhere ends First ≡ Some (adding_part elsewhere)
-goes_on true ends = refl
-goes_on false ends = refl
+goes_on elsewhere ends = grind (arith, common_steps, nat_tests)
 
 pub holding_next : (around : Around) (run : Run) (q : Request) (name : List ℕ) (uid : Uid) (target : List ℕ) (how : Half) (held : MapUid) (source place : ℕ) (said : List Reply) → IsCopying q name uid target how → IsHolding held source run place said
     → next_part around run q (own_events place run) ≡ Some (adding_part (is_elsewhere run place name))
@@ -135,11 +130,10 @@ pub first_goes_on : (around : Around) (run : Run) (q : Request) (name : List ℕ
 first_goes_on around run q name uid target how event c is none =
     some_part (adding_part (is_elsewhere run event.request name)) (sym (c.behind_first around run event is ∙ goes_on (is_elsewhere run event.request name) (ends_with_count run event.request)) ∙ none)
 
+ends : (elsewhere copied : Bool) → behind_copy elsewhere (copied || true) GivesBack ≡ None
+ends elsewhere copied = grind (arith, common_steps, nat_tests)
+
 -- a count that is given back ends a request that was refused
 pub back_ends : (around : Around) (run : Run) (q : Request) (name : List ℕ) (uid : Uid) (target : List ℕ) (how : Half) (event : RunEvent) (why : Refusal) → IsCopying q name uid target how → event.part ≡ GivesBack → last_refusal (own_events event.request run) ≡ Some why → part_behind around run q event ≡ None
 back_ends around run q name uid target how event why c is refused =
     c.behind_back around run event is ∙ (ap (λ (r : Option Refusal). behind_copy (is_elsewhere run event.request name) (is_some (uid_copied event.request run) || is_some r) GivesBack) refused ∙ ends (is_elsewhere run event.request name) (is_some (uid_copied event.request run)))
-  where
-    ends : (elsewhere copied : Bool) → behind_copy elsewhere (copied || true) GivesBack ≡ None
-    ends elsewhere true = refl
-    ends elsewhere false = refl

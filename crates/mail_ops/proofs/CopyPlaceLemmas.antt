@@ -1,5 +1,7 @@
 -- A message that can be copied, in the lists that a store shows.
-use Rattle.std.proofs.Common.{◌≡◌, ℕ, List, [], ◌∷◌, map, length, Option, Some, None, refl, sym, ◌∙◌, ap, subst}
+use Rattle.std.proofs.Common.{◌≡◌, ℕ, List, [], ◌∷◌, map, length, Option, Some, None, refl, sym, ◌∙◌, ap, subst, arith}
+use Rattle.std.proofs.lemmas.Grind.{common_steps}
+use Rattle.std.proofs.lemmas.Bool.Decides.{nat_tests}
 use Rattle.std.specs.Prelude.{nat_le, is_some, if◌then◌else◌}
 use Rattle.std.proofs.lemmas.List.{length-map}
 use Rattle.std.specs.Option.{option_map, option_map_or, option_or}
@@ -25,8 +27,7 @@ abbrev pub place_checks : List ℕ → ℕ → List ℕ → List Check → List 
 place_checks name uid target rest = HasMailbox name ∷ HasMailbox target ∷ HasUid name uid ∷ RoomForMessage target ∷ NextUid target ∷ rest
 
 or_or : (a b c : Option Refusal) → option_or (option_or a b) c ≡ option_or a (option_or b c)
-or_or None b c = refl
-or_or (Some r) b c = refl
+or_or a b c = grind (arith, common_steps, nat_tests)
 
 -- They refuse just what the store does.
 pub place_checked : {D : Type 0} → (run : Run) (name : List ℕ) (uid : ℕ) (target : List ℕ) (store : StoreValue D) (lists : Lists) (rest : List Check) → ShowLists store.map.boxes (indexes_of store.boxes) lists

@@ -65,7 +65,7 @@ counts_done store history faults a b c d runs records listed counts ids = λ aro
     } in (
       (did_part around behind run lane place said q lists lists seen seen (did.Step half.Whole) (Some given) (Some given) event
           (record {
-            own = own_event _ _ _ _ _ _ _ _ _;
+            own = own_event _ _ _ _ _ _ _ _ _ refl;
             finds = tt;
             found = tt;
             part_is = ap (λ (es : List RunEvent). next_part around run q es) stood.0;

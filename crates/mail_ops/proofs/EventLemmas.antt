@@ -18,7 +18,7 @@ use Rattle.model_lists.specs.Lists.{Lists}
 use Rattle.mdbox_base.specs.declared.entries.MapEntry.{MapEntry}
 use Rattle.model_meaning.specs.MapFits.{MapFits}
 use Rattle.model_meaning.specs.MapMeaning.{MapMeaning, no_numbers}
-use Rattle.list_machine.specs.Run.{BoxAppend, EventPart, RunEvent, event_of, Run, and_then, map_of, own_events}
+use Rattle.list_machine.specs.Run.{BoxAppend, EventPart, RunEvent, is_unpinning_part, event_of, Run, and_then, map_of, own_events}
 use Rattle.list_machine.specs.Machine.{is_step, first_refusal, part_checks, checks_of}
 use Rattle.journal.specs.Journal.{half_of, halves_of, refusal_in, IsReplyOf}
 use Rattle.journal.specs.Events.{Around, Finds, DidPart, MayMeet, has_memory, next_part, behind_event, behind_refused, makes_step, IsRepliedBy, begun_in, ended_in}
@@ -253,15 +253,15 @@ pub record IsOwnEvent (lane place calls : ℕ) (ended : Option Reply) (event : R
 abbrev part_event : ℕ → ℕ → EventPart → Option Reply → List MapEntry → List BoxAppend → List ℕ → ℕ → ℕ → RunEvent
 part_event lane place part ended entries appends owes source calls = record (event_of lane place part calls) { reply = ended; map_entries = entries; box_entries = appends; owes = owes; source = source }
 
-pub own_event : (lane place : ℕ) (part : EventPart) (ended : Option Reply) (entries : List MapEntry) (appends : List BoxAppend) (owes : List ℕ) (source calls : ℕ) → IsOwnEvent lane place calls ended (part_event lane place part ended entries appends owes source calls)
-own_event lane place part ended entries appends owes source calls = record {
+pub own_event : (lane place : ℕ) (part : EventPart) (ended : Option Reply) (entries : List MapEntry) (appends : List BoxAppend) (owes : List ℕ) (source calls : ℕ) → is_unpinning_part part ≡ false → IsOwnEvent lane place calls ended (part_event lane place part ended entries appends owes source calls)
+own_event lane place part ended entries appends owes source calls pinned = record {
   lane_is = refl;
   request_is = refl;
   moment_is = refl;
   ended_is = refl;
   unrefused = refl;
   undrawn = refl;
-  leaves = record { made = refl; pins = refl; unpins = refl; doomed = refl; removed = refl; given = refl; placed = refl; gone = refl };
+  leaves = record { made = refl; pins = refl; unpins = pinned; doomed = refl; removed = refl; given = refl; placed = refl; gone = refl };
 }
 
 -- It does its part.

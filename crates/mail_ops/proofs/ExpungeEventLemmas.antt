@@ -105,7 +105,7 @@ expunge_removed name uid owed old new before after began then is ran r = λ arou
     stands_by around behind run lane place said q lists seen later (did.Step half.Whole) None event (Some reply.Done) (IsAtExpunge (stage.Owing owed))
     (did_part around behind run lane place said q lists (expunge name uid.0 lists) seen later (did.Step half.Whole) None (Some reply.Done) event
     (record {
-      own = own_event _ _ _ _ _ _ _ _ _;
+      own = own_event _ _ _ _ _ _ _ _ _ refl;
       finds = tt;
       found = tt;
       part_is = ap (λ (es : List RunEvent). next_part around run q es) stood.0;
@@ -214,7 +214,7 @@ expunge_lowered name uid owed old new before after began then ran due t = λ aro
     let at = stood.0 in (
       (did_part around behind run lane place said q lists lists seen later did.Quiet (Some reply.Done) None event
           (record {
-            own = own_event _ _ _ _ _ _ _ _ _;
+            own = own_event _ _ _ _ _ _ _ _ _ refl;
             finds = tt;
             found = tt;
             part_is = next_is around run name uid (own_events place run) at.0 at.1 at.2 at.3;

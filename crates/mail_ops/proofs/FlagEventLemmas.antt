@@ -1,5 +1,7 @@
 -- A flag as an event, which appends one entry.
 use Rattle.std.proofs.lemmas.List.Elements.{All-nil}
+use Rattle.std.proofs.lemmas.Grind.{common_steps}
+use Rattle.std.proofs.lemmas.Bool.Decides.{nat_tests}
 use Rattle.std.proofs.Common.{◌≡◌, ◌≤◌, ◌<◌, ℕ, Bool, true, false, List, [], Option, Some, None, refl, sym, ◌∙◌, ap, subst, arith}
 use Rattle.std.specs.Option.{option_map, option_or}
 use Rattle.std.specs.Prelude.{find, is_some, is_none}
@@ -238,9 +240,7 @@ flag_broken around after run lane place said lists name number uid flags bits ol
 -- ---- what was looked up
 
 pub none_of : {R S : Type 0} → (f : R → S) (o : Option R) (r : Option S) → is_some o ≡ false → option_map f o ≡ r → r ≡ None
-none_of f None r gone is = sym is
-none_of f (Some x) r gone is = absurd (cc gone)
+none_of f o r gone is = grind (arith, common_steps, nat_tests)
 
 pub some_of : {R S : Type 0} → (f : R → S) (o : Option R) (r : Option S) → is_some o ≡ true → option_map f o ≡ r → (s : S) × (r ≡ Some s)
-some_of f None r there is = absurd (cc there)
-some_of f (Some x) r there is = (f x, sym is)
+some_of f o r there is = grind (arith, common_steps, nat_tests)

@@ -1,5 +1,7 @@
 -- Lists that are shown, with flags set, and a flag by the list machine.
-use Rattle.std.proofs.Common.{◌≡◌, ◌==◌, ℕ, Bool, true, false, cond, List, [], ◌∷◌, map, find, Option, Some, None, refl, sym, ◌∙◌, ap, subst}
+use Rattle.std.proofs.Common.{◌≡◌, ◌==◌, ℕ, Bool, true, false, cond, List, [], ◌∷◌, map, find, Option, Some, None, refl, sym, ◌∙◌, ap, subst, arith}
+use Rattle.std.proofs.lemmas.Grind.{common_steps}
+use Rattle.std.proofs.lemmas.Bool.Decides.{nat_tests}
 use Rattle.std.specs.Prelude.{if◌then◌else◌}
 use Rattle.std.specs.Option.{option_map}
 use Rattle.std.specs.Str.{bytes_eq}
@@ -77,12 +79,10 @@ found_row uid (r ∷ rs) (x ∷ xs) e =
     by_test false true p first rest = absurd (cc p)
 
 pub none_there : {X Y : Type 0} → (f : X → Y) (o : Option X) → None ≡ option_map f o → o ≡ None
-none_there f None e = refl
-none_there f (Some x) e = absurd (cc (let h : None ≡ Some (f x) = e in h))
+none_there f o e = grind (arith, common_steps, nat_tests)
 
 pub some_there : {X Y : Type 0} → (f : X → Y) (o : Option X) (y : Y) → Some y ≡ option_map f o → (x : X) × (o ≡ Some x) × (y ≡ f x)
-some_there f None y e = absurd (cc (let h : Some y ≡ None = e in h))
-some_there f (Some x) y e = (x, refl, let h : Some y ≡ Some (f x) = e in cc h)
+some_there f o y e = grind (arith, common_steps, nat_tests)
 
 -- ---- by the list machine
 

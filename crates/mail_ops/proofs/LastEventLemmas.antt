@@ -22,8 +22,7 @@ use Rattle.mail_ops.specs.MakeStages.{EndsInPart, WasNotRefused}
 -- ---- refusals
 
 left_none : (a b : Option Refusal) → option_or a b ≡ None → a ≡ None
-left_none None b e = refl
-left_none (Some r) b e = absurd (let k : Some r ≡ None = e in cc k)
+left_none a b e = grind (arith, common_steps, nat_tests)
 
 last_unrefused : (earlier : List RunEvent) (last : RunEvent) → last_refusal (earlier ++ last ∷ []) ≡ None → last.refused ≡ None
 last_unrefused [] last e = e
@@ -79,7 +78,7 @@ next_behind around run q place part unrefused e =
     ∙ ap (λ (r : Option Refusal). behind_event around run q e.last r) (last_unrefused e.earlier e.last (sym (ap last_refusal e.own_is) ∙ unrefused))
 
 -- an event more, of this part
-pub ends_in : (place : ℕ) (run : Run) (event : RunEvent) (part : EventPart) → event.request ≡ place → event.part ≡ part → EndsInPart part (own_events place (and_then run event))
+abbrev pub ends_in : (place : ℕ) (run : Run) (event : RunEvent) (part : EventPart) → event.request ≡ place → event.part ≡ part → EndsInPart part (own_events place (and_then run event))
 ends_in place run event part own is = record { earlier = own_events place run; last = event; own_is = own_more place run event (eq-eqb event.request place own); part_is = is }
 
 pub unrefused_then : (place : ℕ) (run : Run) (event : RunEvent) → event.request ≡ place → event.refused ≡ None → last_refusal (own_events place run) ≡ None → last_refusal (own_events place (and_then run event)) ≡ None
@@ -92,7 +91,7 @@ unrefused_more run event place said own is w = record { unrefused = unrefused_th
 pub unrefused_still : (run : Run) (event : RunEvent) (place : ℕ) (said : List Reply) → own_events place (and_then run event) ≡ own_events place run → WasNotRefused run place said → WasNotRefused (and_then run event) place said
 unrefused_still run event place said same w = record { unrefused = ap last_refusal same ∙ w.unrefused; unanswered = w.unanswered }
 
-pub ends_still : (own now : List RunEvent) (part : EventPart) → now ≡ own → EndsInPart part own → EndsInPart part now
+abbrev pub ends_still : (own now : List RunEvent) (part : EventPart) → now ≡ own → EndsInPart part own → EndsInPart part now
 ends_still own now part same e = record { earlier = e.earlier; last = e.last; own_is = same ∙ e.own_is; part_is = e.part_is }
 
 -- ---- what the events tell

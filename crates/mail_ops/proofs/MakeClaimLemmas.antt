@@ -1,5 +1,7 @@
 -- What a make claims, and what its events leave to the tasks beside it.
 use Rattle.std.proofs.Common.{◌≡◌, ◌≤◌, ◌+◌, ◌==◌, ◌||◌, ℕ, Bool, true, false, not, cond, List, [], ◌∷◌, ◌++◌, map, Option, refl, sym, ◌∙◌, ap, subst, arith}
+use Rattle.std.proofs.lemmas.Grind.{common_steps}
+use Rattle.std.proofs.lemmas.Bool.Decides.{nat_tests}
 use Rattle.std.specs.Prelude.{count_by}
 use Rattle.std.specs.List.{list_any}
 use Rattle.std.specs.Str.{bytes_eq}
@@ -38,12 +40,10 @@ use Rattle.mail_ops.proofs.EventLemmas.{fall}
 -- ---- logs that were made
 
 first_or : (a : Bool) → (a || false) ≡ a
-first_or true = refl
-first_or false = refl
+first_or a = grind (arith, common_steps, nat_tests)
 
 last_or : (a b : Bool) → b ≡ true → (a || b) ≡ true
-last_or true b e = refl
-last_or false b e = e
+last_or a b e = grind (arith, common_steps, nat_tests)
 
 -- one more, which is the task's own
 log_more : {D : Type 0} → (number : ℕ) (old new : StoreValue D) → MakesLog number old new → (other : ℕ) → one_if (has_made_log other new) + 0 ≡ one_if (has_made_log other old) + one_if (number == other)

@@ -1,5 +1,6 @@
 -- The events of a make that name no mailbox, by the clause of a step.
 use Rattle.std.proofs.lemmas.List.Elements.{All-nil}
+use Rattle.std.proofs.lemmas.Bool.Decides.{nat_tests}
 use Rattle.std.proofs.Common.{◌≡◌, ◌≤◌, ◌<◌, ◌+◌, ◌&&◌, ℕ, Bool, true, false, List, [], ◌∷◌, ◌++◌, Option, Some, None, refl, sym, ◌∙◌, ap, subst, arith, inr}
 use Rattle.std.specs.Prelude.{◌≢◌, ◌↔◌, nat_le, length, slice_get, is_none}
 use Rattle.std.specs.Option.{IfSome}
@@ -71,8 +72,7 @@ first_refuses around run place said name why stood = can_refuse around run place
 
 -- the second event, whichever part it is; out of memory only if it isn't overtaken
 naming_memory : (name : List ℕ) (overtaken : Bool) → overtaken ≡ false → has_memory (naming_part overtaken) (request.Make name) ≡ false
-naming_memory name true e = absurd (let k : true ≡ false = e in cc k)
-naming_memory name false e = refl
+naming_memory name overtaken e = grind (arith, common_steps, nat_tests)
 
 pub naming_refuses : (around : Around) (run : Run) (place : ℕ) (said : List Reply) (name : List ℕ) (number : ℕ) (m : MapMeaning) (overtaken : Bool) (why : Refusal) → nat_le number m.highest.mailbox ≡ overtaken → HasMadeLog number run place said → map_of run ≡ m → (why ≡ refusal.NoMemory → overtaken ≡ false)
     → CanRefuse around run place (request.Make name) (naming_part overtaken) why (Some (reply.Refused why))
@@ -86,17 +86,10 @@ abbrev pub IsMakeWhy : Refusal → Type 0
 IsMakeWhy why = (is_step why ≡ true) × (Some (reply.Refused why) ≡ Some (reply.Refused refusal.Stopped) → ⊥)
 
 pub step_why : (why : Refusal) → is_step why ≡ true → IsMakeWhy why
-step_why why s = (s, λ e. not_stopped why s (let k : reply.Refused why ≡ reply.Refused refusal.Stopped = cc e in cc k))
-  where
-    not_stopped : (w : Refusal) → is_step w ≡ true → w ≡ refusal.Stopped → ⊥
-    not_stopped w t e = let k : true ≡ false = sym t ∙ ap is_step e in cc k
+step_why why s = grind (arith, common_steps, nat_tests)
 
 step_replied : (name : List ℕ) (why : Refusal) → is_step why ≡ true → IsReplyOf (request.Make name) (reply.Refused why ∷ []) (reply.Refused why)
-step_replied name refusal.NoMemory s = absurd (cc s)
-step_replied name refusal.ReadFault s = absurd (cc s)
-step_replied name refusal.Stopped s = absurd (cc s)
-step_replied name (refusal.Damaged file offset) s = absurd (cc s)
-step_replied name why s = refl
+step_replied name why s = grind (arith, common_steps, nat_tests)
 
 -- of a request that hasn't answered anything before
 why_replied : (name : List ℕ) (said : List Reply) (why : Refusal) → said ≡ [] → is_step why ≡ true → (given : Reply) → Some (reply.Refused why) ≡ Some given → IsReplyOf (request.Make name) (said ++ reply.Refused why ∷ []) given
@@ -457,7 +450,7 @@ naming_overtaken name number old new before after began then ran free behind_it 
     stands_by around behind run lane place said (request.Make name) lists seen later did.Quiet None event None (IsAtMake stage.First)
     (did_part around behind run lane place said (request.Make name) lists lists seen later did.Quiet None None event
     (record {
-      own = own_event _ _ _ _ _ _ _ _ _;
+      own = own_event _ _ _ _ _ _ _ _ _ refl;
       finds = tt;
       found = tt;
       part_is = naming_next around run name place said number.0 old.map stood come.come.map_is ∙ ap (λ (b : Bool). Some (naming_part b)) (overtaken_is number.0 old.map.highest.mailbox behind_it);

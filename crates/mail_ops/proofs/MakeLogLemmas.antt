@@ -1,5 +1,7 @@
 -- What the events of a make leave to other tasks, and the log that it has made.
 use Rattle.std.proofs.Common.{◌≡◌, ◌≤◌, ◌<◌, ◌==◌, ◌||◌, ℕ, Bool, true, false, cond, List, [], ◌∷◌, ◌++◌, length, Option, Some, refl, sym, ◌∙◌, ap, subst, arith}
+use Rattle.std.proofs.lemmas.Grind.{common_steps}
+use Rattle.std.proofs.lemmas.Bool.Decides.{nat_tests}
 use Rattle.std.proofs.lemmas.Bool.{eq-eqb, ne_eqb}
 use Rattle.disk_model.specs.Disk.{History}
 use Rattle.mdbox_base.specs.declared.entries.MapEntry.TheVariants as map_entry
@@ -21,8 +23,7 @@ use Rattle.mail_ops.specs.declared.making.MakeStage.TheVariants as stage
 
 -- the log that was made is there
 either_last : (a b : Bool) → b ≡ true → (a || b) ≡ true
-either_last true b e = refl
-either_last false b e = e
+either_last a b e = grind (arith, common_steps, nat_tests)
 
 pub made_there : {D : Type 0} → (number : BoxNo) (old new : StoreValue D) → MakesLog number.0 old new → IsReadyToMake (stage.Naming number) new
 made_there number old new m = m.made number.0 ∙ either_last (has_made_log number.0 old) (number.0 == number.0) (eq-eqb number.0 number.0 refl)

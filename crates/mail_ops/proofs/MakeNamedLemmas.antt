@@ -119,7 +119,7 @@ naming_done name number next old new before after began then is ran n named d = 
     ) in (
       (did_part around behind run lane place said (request.Make name) lists left seen later (did.Step half.Whole) (Some reply.Done) (Some reply.Done) event
           (record {
-            own = own_event _ _ _ _ _ _ _ _ _;
+            own = own_event _ _ _ _ _ _ _ _ _ refl;
             finds = tt;
             found = tt;
             part_is = naming_next around run name place said number.0 old.map stood come.come.map_is ∙ ap (λ (b : Bool). Some (naming_part b)) (above_not number.0 old.map.highest.mailbox n.can.above);

@@ -1,5 +1,7 @@
 -- Where a make stands, and the part that comes next.
-use Rattle.std.proofs.Common.{◌≡◌, ◌+◌, ◌==◌, ℕ, Bool, true, false, cond, List, [], ◌∷◌, ◌++◌, Option, Some, None, refl, sym, ◌∙◌, ap, subst, inl, inr}
+use Rattle.std.proofs.Common.{◌≡◌, ◌+◌, ◌==◌, ℕ, Bool, true, false, cond, List, [], ◌∷◌, ◌++◌, Option, Some, None, refl, sym, ◌∙◌, ap, subst, inl, inr, arith}
+use Rattle.std.proofs.lemmas.Grind.{common_steps}
+use Rattle.std.proofs.lemmas.Bool.Decides.{nat_tests}
 use Rattle.std.specs.Prelude.{◌⊎◌, fold, filter, nat_le}
 use Rattle.std.proofs.lemmas.Bool.{eq-eqb, ne_eqb}
 use Rattle.mdbox_base.specs.declared.entries.Highest.{Highest}
@@ -34,14 +36,13 @@ first_next around run name place said stood = by_case stood.1
 abbrev pub naming_part : Bool → EventPart
 naming_part overtaken = cond overtaken StartsOver Last
 
+makes_on : (b : Bool) → behind_make b First ≡ Some (naming_part b)
+makes_on b = grind (arith, common_steps, nat_tests)
+
 pub naming_next : (around : Around) (run : Run) (name : List ℕ) (place : ℕ) (said : List Reply) (number : ℕ) (m : MapMeaning) → HasMadeLog number run place said → map_of run ≡ m → next_part around run (request.Make name) (own_events place run) ≡ Some (naming_part (nat_le number m.highest.mailbox))
 naming_next around run name place said number m stood is =
     made_behind around run name place said First stood.0 stood.1
-    ∙ (ap (λ (n : ℕ). behind_make (nat_le n (map_of run).highest.mailbox) First) stood.2 ∙ (ap (λ (k : MapMeaning). behind_make (nat_le number k.highest.mailbox) First) is ∙ by_test (nat_le number m.highest.mailbox)))
-  where
-    by_test : (b : Bool) → behind_make b First ≡ Some (naming_part b)
-    by_test true = refl
-    by_test false = refl
+    ∙ (ap (λ (n : ℕ). behind_make (nat_le n (map_of run).highest.mailbox) First) stood.2 ∙ (ap (λ (k : MapMeaning). behind_make (nat_le number k.highest.mailbox) First) is ∙ makes_on (nat_le number m.highest.mailbox)))
 
 -- ---- the number
 

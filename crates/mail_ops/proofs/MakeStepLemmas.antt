@@ -1,5 +1,6 @@
 -- What the step of a make says, event by event.
 use Rattle.std.proofs.Common.{◌≡◌, ◌≤◌, ◌<◌, ◌+◌, ℕ, Bool, true, false, cond, List, Option, Some, None, refl, sym, ◌∙◌, ap, subst, arith, inl, inr}
+use Rattle.std.proofs.lemmas.Bool.Decides.{nat_tests}
 use Rattle.std.specs.Prelude.{◌⊎◌, nat_lt}
 use Rattle.std.proofs.lemmas.Grind.{common_steps}
 use Rattle.disk_model.specs.Disk.{History, Faults}
@@ -69,8 +70,7 @@ high_number : (highest drawn number : ℕ) → highest ≤ drawn → number ≡ 
 high_number highest drawn number l e = let k : highest < number = omega (arith, l, e) in grind (arith, common_steps, k)
 
 one_left : (b : Bool) → b ≡ true → cond b 1 3 < 2
-one_left true e = omega arith
-one_left false e = absurd (let k : false ≡ true = e in cc k)
+one_left b e = grind (arith, common_steps, nat_tests)
 
 known_made : {D : Type 0} → (name : List ℕ) (number : BoxNo) (old new : StoreValue D) (before after : Option History) (began then : Faults) → MakeBegins name stage.First old before → MadeLogSo name number.0 old new before after began then
     → MakeKnown name stage.First (stage.Naming number) progress.More did.Quiet old new before after began then
@@ -206,8 +206,7 @@ not_above : (highest number : ℕ) → number ≤ highest → nat_lt highest num
 not_above highest number l = grind (arith, common_steps, l)
 
 two_left : (b : Bool) → b ≡ false → 2 < cond b 1 3
-two_left true e = absurd (let k : true ≡ false = e in cc k)
-two_left false e = omega arith
+two_left b e = grind (arith, common_steps, nat_tests)
 
 -- the request begins anew
 known_overtaken : {D : Type 0} → (name : List ℕ) (number : BoxNo) (old new : StoreValue D) (before after : Option History) (began then : Faults) → MakeBegins name (stage.Naming number) old before → naming_refusal name old ≡ None → number.0 ≤ old.map.highest.mailbox → RemovesLog number.0 old new before after

@@ -1,5 +1,7 @@
 -- The message of a row, in the lists that a store shows, and the record that stores it.
 use Rattle.std.proofs.Common.{◌≡◌, ◌==◌, ℕ, Bool, true, false, cond, List, [], ◌∷◌, map, Option, Some, None, refl, sym, ◌∙◌, ap, subst, All, arith, inl, inr}
+use Rattle.std.proofs.lemmas.Grind.{common_steps}
+use Rattle.std.proofs.lemmas.Bool.Decides.{nat_tests}
 use Rattle.std.specs.Prelude.{find, option_and_then, ◌⊎◌, is_some, if◌then◌else◌}
 use Rattle.std.specs.List.{AllByRecursion}
 use Rattle.std.specs.Option.{option_map, option_map_or}
@@ -66,16 +68,11 @@ from_source name source number at store named known is = is ∙ (let k : Some so
 
 -- ---- why there is none
 
-pub missing_is : {D : Type 0} → (name : List ℕ) (uid : ℕ) (store : StoreValue D) (why : Refusal) → missing_message name uid store ≡ Some why → (why ≡ refusal.NoMailbox) ⊎ (why ≡ refusal.NoMessage)
-missing_is name uid store why e = by_box (list_named store name) e
-  where
-    by_row : (o : Option LogRow) → (if is_some o then None else Some refusal.NoMessage) ≡ Some why → (why ≡ refusal.NoMailbox) ⊎ (why ≡ refusal.NoMessage)
-    by_row None k = inr (let f : Some refusal.NoMessage ≡ Some why = k in sym (cc f))
-    by_row (Some row) k = absurd (let f : None ≡ Some why = k in cc f)
+missing_by : (uid : ℕ) (o : Option BoxMeaning) (why : Refusal) → option_map_or (λ m. if is_some (row_at m uid) then None else Some refusal.NoMessage) o (Some refusal.NoMailbox) ≡ Some why → (why ≡ refusal.NoMailbox) ⊎ (why ≡ refusal.NoMessage)
+missing_by uid o why e = grind (arith, common_steps, nat_tests)
 
-    by_box : (o : Option BoxMeaning) → option_map_or (λ m. if is_some (row_at m uid) then None else Some refusal.NoMessage) o (Some refusal.NoMailbox) ≡ Some why → (why ≡ refusal.NoMailbox) ⊎ (why ≡ refusal.NoMessage)
-    by_box None k = inl (let f : Some refusal.NoMailbox ≡ Some why = k in sym (cc f))
-    by_box (Some m) k = by_row (row_at m uid) k
+pub missing_is : {D : Type 0} → (name : List ℕ) (uid : ℕ) (store : StoreValue D) (why : Refusal) → missing_message name uid store ≡ Some why → (why ≡ refusal.NoMailbox) ⊎ (why ≡ refusal.NoMessage)
+missing_is name uid store why e = missing_by uid (list_named store name) why e
 
 -- one that is listed is there
 pub not_missing : {D : Type 0} → (name : List ℕ) (uid : ℕ) (store : StoreValue D) (number : ℕ) (row : LogRow) → IsRowOf name uid store number row → missing_message name uid store ≡ None

@@ -78,7 +78,7 @@ move_added name uid target held copied source old new before after began faulted
     stands_by around behind run lane place said q lists seen later (did.Step half.CopyHalf) None event (Some (reply.Copied copied)) (HasCopied held copied source)
     (did_part around behind run lane place said q lists (add_message target k.shown.message lists) seen later (did.Step half.CopyHalf) None (Some (reply.Copied copied)) event
     (record {
-      own = own_event _ _ _ _ _ _ _ _ _;
+      own = own_event _ _ _ _ _ _ _ _ _ refl;
       finds = tt;
       found = tt;
       part_is = adds_next around run q name uid target half.CopyHalf held source place said c stood (named_in pins run name source old before began come named);
@@ -153,7 +153,7 @@ move_gone name uid target held copied source Stands store history faults why run
     let ended = Some (reply.Moved copied true) in (
       (did_part around behind run lane place said q lists lists seen seen (did.Step half.ExpungeHalf) ended ended event
           (record {
-            own = own_event _ _ _ _ _ _ _ _ _;
+            own = own_event _ _ _ _ _ _ _ _ _ refl;
             finds = tt;
             found = tt;
             part_is = removes_next around run name uid target held copied source place said stood;
@@ -214,7 +214,7 @@ move_removed name uid target held copied source old new before after began fault
     stands_by around behind run lane place said q lists seen later (did.Step half.ExpungeHalf) None event (Some (reply.Moved copied false)) (HasMoved uid held copied)
     (did_part around behind run lane place said q lists (expunge_from at uid.0 lists) seen later (did.Step half.ExpungeHalf) None (Some (reply.Moved copied false)) event
     (record {
-      own = own_event _ _ _ _ _ _ _ _ _;
+      own = own_event _ _ _ _ _ _ _ _ _ refl;
       finds = tt;
       found = tt;
       part_is = removes_next around run name uid target held copied source place said stood;
@@ -323,7 +323,7 @@ move_lowered name uid target owed copied Stands old new before after began fault
     let later = seen_of pins new after faulted in (
       (did_part around behind run lane place said q lists lists seen later did.Quiet ended None event
           (record {
-            own = own_event _ _ _ _ _ _ _ _ _;
+            own = own_event _ _ _ _ _ _ _ _ _ refl;
             finds = tt;
             found = tt;
             part_is = lowers_next around run name uid target owed copied place said stood;

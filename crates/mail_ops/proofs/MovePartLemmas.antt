@@ -1,5 +1,7 @@
 -- The parts of a move: its first half is that of a request that copies, and what stands behind it.
-use Rattle.std.proofs.Common.{◌≡◌, ◌||◌, ℕ, Bool, true, false, List, [], ◌∷◌, Option, Some, None, refl, ◌∙◌, ap}
+use Rattle.std.proofs.Common.{◌≡◌, ◌||◌, ℕ, Bool, true, false, List, [], ◌∷◌, Option, Some, None, refl, ◌∙◌, ap, arith}
+use Rattle.std.proofs.lemmas.Grind.{common_steps}
+use Rattle.std.proofs.lemmas.Bool.Decides.{nat_tests}
 use Rattle.std.specs.Prelude.{is_some, nat_lt, length, if◌then◌else◌}
 use Rattle.mdbox_base.specs.declared.ids.MapUid.{MapUid}
 use Rattle.mdbox_base.specs.declared.ids.Uid.{Uid}
@@ -19,19 +21,13 @@ use Rattle.mail_ops.proofs.CopyPartLemmas.{IsCopying, adding_part}
 use Rattle.mail_ops.proofs.LastEventLemmas.{next_behind}
 
 move_back : (name : List ℕ) (uid : Uid) (target : List ℕ) (why : Refusal) → (why ≡ refusal.Stopped → ⊥) → behind_refused (request.Move name uid target) Last why ≡ Some GivesBack
-move_back name uid target refusal.Stopped other = absurd (other refl)
-move_back name uid target why other = refl
+move_back name uid target why other = grind (arith, common_steps, nat_tests)
 
 move_replied : (name : List ℕ) (uid : Uid) (target : List ℕ) (why : Refusal) → is_step why ≡ true → IsReplyOf (request.Move name uid target) (reply.Refused why ∷ []) (reply.Refused why)
-move_replied name uid target refusal.NoMemory s = absurd (cc s)
-move_replied name uid target refusal.ReadFault s = absurd (cc s)
-move_replied name uid target refusal.Stopped s = absurd (cc s)
-move_replied name uid target (refusal.Damaged file offset) s = absurd (cc s)
-move_replied name uid target why s = refl
+move_replied name uid target why s = grind (arith, common_steps, nat_tests)
 
 move_stopped : (name : List ℕ) (uid : Uid) (target : List ℕ) (elsewhere : Bool) → behind_refused (request.Move name uid target) (adding_part elsewhere) refusal.Stopped ≡ None
-move_stopped name uid target true = refl
-move_stopped name uid target false = refl
+move_stopped name uid target elsewhere = grind (arith, common_steps, nat_tests)
 
 pub move_copies : (name : List ℕ) (uid : Uid) (target : List ℕ) → IsCopying (request.Move name uid target) name uid target half.CopyHalf
 move_copies name uid target = record {

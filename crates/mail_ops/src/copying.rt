@@ -39,6 +39,7 @@ fn find_copy<D: Disk>(
     target: &Name,
 ) -> Result<CopyAt, Refusal>
     ensures found { IfOk result (λ at. CopyPlace name.now uid.0 target.now store.now (row_of at.row) at.target.0 at.next.0) }
+    ensures source { IfOk result (λ at. number_named store.now.map name.now ≡ Some at.source.0) }
     ensures refused { IfErr result (λ why. copy_refusal name.now uid.0 target.now store.now ≡ Some why) }
 {
     let Some(from) = store.list_of(name) else {
