@@ -130,7 +130,7 @@ keeps_row history store name uid number held row s at holds = record {
       let sound = (row_sound history store name uid number row s at).below in
       let same = equal_is row.uid uid (found_one (λ (r : LogRow). r.uid == uid) at.m.rows row at.listed).1 in
       omega (arith, sound, same)
-  );
+      );
   same = subst (λ (o : Option BoxMeaning). IfSome o (λ m. (r : LogRow) → row_at m uid ≡ Some r → r.map_uid ≡ held)) (sym at.box.numbered) (λ other there. ap (λ (r : LogRow). r.map_uid) (some_row other row (sym there ∙ at.listed)) ∙ sym holds);
 }
 

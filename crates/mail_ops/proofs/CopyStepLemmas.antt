@@ -1,5 +1,5 @@
 -- What the step of a copy says, event by event.
-use Rattle.std.proofs.Common.{◌≡◌, ◌≤◌, ◌<◌, ◌+◌, ℕ, true, false, List, Option, Some, None, refl, sym, ◌∙◌, ap, subst, arith, inl, inr}
+use Rattle.std.proofs.Common.{◌≡◌, ◌<◌, ℕ, true, false, List, Option, Some, None, refl, sym, subst, arith, inl, inr}
 use Rattle.std.specs.Prelude.{◌⊎◌}
 use Rattle.disk_model.specs.Disk.{History, Faults}
 use Rattle.mdbox_base.specs.declared.ids.BoxNo.{BoxNo}
@@ -11,17 +11,14 @@ use Rattle.mdbox_base.specs.declared.progress.Progress.{Progress}
 use Rattle.mdbox_base.specs.declared.progress.Progress.TheVariants as progress
 use Rattle.mdbox_base.specs.declared.replies.Refusal.{Refusal}
 use Rattle.mdbox_base.specs.declared.replies.Refusal.TheVariants as refusal
-use Rattle.mdbox_base.specs.declared.replies.Reply.{Reply}
 use Rattle.mdbox_base.specs.declared.replies.Reply.TheVariants as reply
 use Rattle.mdbox_base.specs.declared.requests.Request.TheVariants as request
 use Rattle.mdbox_base.specs.declared.script.Half.TheVariants as half
-use Rattle.list_machine.specs.Machine.{is_step}
 use Rattle.store_core.specs.Dues.{due_at, Moves, amounts_in}
 use Rattle.store_core.specs.Keeping.{KeepsRest}
 use Rattle.store_core.specs.Running.{IsStore}
 use Rattle.store_core.specs.Value.{StoreValue}
 use Rattle.store_core.proofs.DueLemmas.{moves_as}
-use Rattle.task_steps.specs.ExpungeStages.{one_due}
 use Rattle.task_steps.specs.Step.{IsKept, ended_by}
 use Rattle.task_steps.proofs.SeenLemmas.{not_begun_stays}
 use Rattle.mail_ops.specs.Appends.{MapTook, MapFell, lowering_of}
@@ -33,7 +30,7 @@ use Rattle.mail_ops.specs.declared.copy.CopyStage.{CopyStage}
 use Rattle.mail_ops.specs.declared.copy.CopyStage.TheVariants as stage
 use Rattle.mail_ops.specs.declared.event.NotDone.{NotDone}
 use Rattle.mail_ops.specs.declared.event.NotDone.TheVariants as not_done
-use Rattle.mail_ops.proofs.CopyFirstLemmas.{CopyingClause, back_runs, copy_steps, raise_done, raise_fell, raise_refused, raise_steps, raise_stopped, raise_unremembered}
+use Rattle.mail_ops.proofs.CopyFirstLemmas.{CopyingClause, back_runs, raise_done, raise_fell, raise_refused, raise_steps, raise_stopped, raise_unremembered}
 use Rattle.mail_ops.proofs.CopyLastLemmas.{added_due, add_stopped, add_refused, add_unremembered, add_fell, copy_added, back_stopped, back_fell, given_back, holding_kept, giving_back_kept}
 use Rattle.mail_ops.proofs.CopyPartLemmas.{copy_copies}
 use Rattle.mail_ops.proofs.KeptUidLemmas.{fallen_keeps, raised_source}

@@ -18,7 +18,7 @@ use Rattle.mdbox_base.specs.declared.requests.Request.TheVariants as request
 use Rattle.mdbox_base.specs.declared.script.Half.TheVariants as half
 use Rattle.model_lists.specs.Lists.{Lists}
 use Rattle.model_store.specs.Settled.{IsSettledFor, Leaves}
-use Rattle.list_machine.specs.Run.{EventPart, First, GivesBack, RunEvent, Run, own_events}
+use Rattle.list_machine.specs.Run.{First, GivesBack, RunEvent, Run, own_events}
 use Rattle.list_machine.specs.Machine.{expunge, is_step}
 use Rattle.list_machine.proofs.MachineOrderLemmas.{answers_well}
 use Rattle.journal.specs.Journal.{halves_of, refusal_in, IsReplyOf}

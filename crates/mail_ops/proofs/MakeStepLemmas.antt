@@ -12,11 +12,9 @@ use Rattle.mdbox_base.specs.declared.progress.Progress.{Progress}
 use Rattle.mdbox_base.specs.declared.progress.Progress.TheVariants as progress
 use Rattle.mdbox_base.specs.declared.replies.Refusal.{Refusal}
 use Rattle.mdbox_base.specs.declared.replies.Refusal.TheVariants as refusal
-use Rattle.mdbox_base.specs.declared.replies.Reply.{Reply}
 use Rattle.mdbox_base.specs.declared.replies.Reply.TheVariants as reply
 use Rattle.mdbox_base.specs.declared.script.Half.TheVariants as half
 use Rattle.model_lists.specs.Lists.{Lists}
-use Rattle.list_machine.specs.Machine.{is_step}
 use Rattle.store_core.specs.Dues.{Moves, no_amounts, amounts_in}
 use Rattle.store_core.specs.Keeping.{KeepsMail, KeepsUids}
 use Rattle.store_core.specs.MadeLogs.{IsUnnamed, has_made_log, without_box}

@@ -1,9 +1,8 @@
 -- The events of a move that a copy doesn't have, by the clause of a step.
 use Rattle.std.proofs.lemmas.List.Elements.{All-nil}
 use Rattle.std.proofs.Common.{◌≡◌, ◌≤◌, ◌+◌, ℕ, Bool, true, false, List, [], ◌∷◌, ◌++◌, Option, Some, None, refl, sym, ◌∙◌, ap, subst, arith}
-use Rattle.std.specs.Prelude.{length, slice_get, is_some, is_none, option_and_then, if◌then◌else◌}
-use Rattle.std.specs.Option.{option_map, option_map_or}
-use Rattle.std.proofs.lemmas.Bool.{eq-eqb, ne_eqb}
+use Rattle.std.specs.Prelude.{length, slice_get, is_none}
+use Rattle.std.proofs.lemmas.Bool.{ne_eqb}
 use Rattle.disk_model.specs.Disk.{History, Faults, told_calls}
 use Rattle.mdbox_base.specs.declared.entries.BoxEntry.TheVariants as box_entry
 use Rattle.mdbox_base.specs.declared.ids.MapUid.{MapUid}
@@ -15,14 +14,14 @@ use Rattle.mdbox_base.specs.declared.replies.Reply.{Reply}
 use Rattle.mdbox_base.specs.declared.replies.Reply.TheVariants as reply
 use Rattle.mdbox_base.specs.declared.requests.Request.TheVariants as request
 use Rattle.mdbox_base.specs.declared.script.Half.TheVariants as half
-use Rattle.model_lists.specs.Lists.{ListedMessage, Mailbox, Lists, AreWellFormed, listing_row}
+use Rattle.model_lists.specs.Lists.{ListedMessage, Lists, AreWellFormed}
 use Rattle.model_appends.specs.Appending.{lists_by, meanings_by}
-use Rattle.model_meaning.specs.BoxMeaning.{LogRow, BoxMeaning, row_at}
+use Rattle.model_meaning.specs.BoxMeaning.{LogRow}
 use Rattle.model_meaning.specs.MapMeaning.{MapMeaning, record_of}
-use Rattle.model_store.specs.Listing.{listed_row, ShowLists}
+use Rattle.model_store.specs.Listing.{ShowLists}
 use Rattle.model_store.specs.Settled.{IsSettledFor, Leaves}
 use Rattle.list_machine.specs.Run.{Last, SecondHalf, GivesBack, RunEvent, event_of, Run, and_then, map_of, own_events, source_of}
-use Rattle.list_machine.specs.Machine.{add_message, expunge_from, mailbox_named, message_in, message_at, message_numbered}
+use Rattle.list_machine.specs.Machine.{add_message, expunge_from, message_numbered}
 use Rattle.list_machine.proofs.MachineOrderLemmas.{answers_well}
 use Rattle.journal.specs.Journal.{halves_of, refusal_in, IsReplyOf}
 use Rattle.journal.specs.Events.{Around, RemovesIfThere, is_elsewhere, last_refusal, lowers}
@@ -30,7 +29,7 @@ use Rattle.journal.proofs.OwnEventLemmas.{own_other}
 use Rattle.entry_steps.proofs.AppendListLemmas.{removed_from}
 use Rattle.store_core.specs.Dues.{due_at}
 use Rattle.store_core.specs.Running.{IsStore}
-use Rattle.store_core.specs.Value.{StoreValue, indexes_of, list_named}
+use Rattle.store_core.specs.Value.{StoreValue, indexes_of}
 use Rattle.task_steps.proofs.UnmovedLemmas.{mail_still}
 use Rattle.task_steps.specs.ExpungeStages.{one_due}
 use Rattle.task_claims.specs.Leaving.{number_named}

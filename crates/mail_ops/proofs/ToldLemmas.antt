@@ -1,8 +1,7 @@
 -- Answers, refusals and parts that are told apart.
-use Rattle.std.proofs.Common.{◌≡◌, true, Option, Some, None, arith}
+use Rattle.std.proofs.Common.{◌≡◌, true, Some, None, arith}
 use Rattle.std.proofs.lemmas.Bool.Decides.{nat_tests}
 use Rattle.std.proofs.lemmas.Grind.{common_steps}
-use Rattle.mdbox_base.specs.declared.progress.Progress.{Progress}
 use Rattle.mdbox_base.specs.declared.progress.Progress.TheVariants as progress
 use Rattle.mdbox_base.specs.declared.replies.Refusal.{Refusal}
 use Rattle.mdbox_base.specs.declared.replies.Refusal.TheVariants as refusal

@@ -30,13 +30,26 @@ pub enum MoveStage {
     /// The first, which raises the count of the message's record. So it is too behind the last.
     First,
     /// The second, which adds the message to the target. The move began from the mailbox with this number.
-    Adding { held: Lowering, source: BoxNo },
+    Adding {
+        held: Lowering,
+        source: BoxNo,
+    },
     /// Behind a second that was refused: it gives the count back, and this reply.
-    GivingBack { held: Lowering, why: Refusal },
+    GivingBack {
+        held: Lowering,
+        why: Refusal,
+    },
     /// The third, which removes the message from its source, the mailbox with this number. The copy has this UID.
-    Removing { held: Lowering, copied: Uid, source: BoxNo },
+    Removing {
+        held: Lowering,
+        copied: Uid,
+        source: BoxNo,
+    },
     /// The last, behind a third that removed it, which lowers the count of its record.
-    Owing { owed: Lowering, copied: Uid },
+    Owing {
+        owed: Lowering,
+        copied: Uid,
+    },
 }
 
 /// The task of a move: its events, one at a step.
@@ -143,9 +156,7 @@ fn next_event<D: Disk>(
                 error.did(Half::CopyHalf, Did::Failed),
             ),
         },
-        MoveStage::Adding { held, source } => add_event(
-            store, name, uid, target, held, source,
-        ),
+        MoveStage::Adding { held, source } => add_event(store, name, uid, target, held, source),
         MoveStage::GivingBack { held, why } => match held.append(store) {
             Ok(()) => (
                 MoveStage::First,
@@ -158,9 +169,11 @@ fn next_event<D: Disk>(
                 Did::Failed,
             ),
         },
-        MoveStage::Removing { held, copied, source } => remove_event(
-            store, name, uid, target, held, copied, source,
-        ),
+        MoveStage::Removing {
+            held,
+            copied,
+            source,
+        } => remove_event(store, name, uid, target, held, copied, source),
         MoveStage::Owing { owed, copied } => match owed.append(store) {
             Ok(()) => (
                 MoveStage::First,
@@ -194,7 +207,11 @@ fn add_event<D: Disk>(
 {
     match add(store, name, uid, target, held.uid()) {
         Ok(copied) => (
-            MoveStage::Removing { held, copied, source },
+            MoveStage::Removing {
+                held,
+                copied,
+                source,
+            },
             Progress::More,
             Did::Step(Half::CopyHalf),
         ),
@@ -244,7 +261,11 @@ fn remove_event<D: Disk>(
             Did::Step(Half::ExpungeHalf),
         ),
         Err(Stopped) => (
-            MoveStage::Removing { held, copied, source },
+            MoveStage::Removing {
+                held,
+                copied,
+                source,
+            },
             Progress::Done(Reply::Refused(Refusal::Stopped)),
             Did::Broken(Half::ExpungeHalf),
         ),
