@@ -166,10 +166,12 @@ impl Followed {
 
     /// The second half of a move, from the mailbox that its copy found.
     fn second_half(&mut self, uid: Uid, so_far: &Option<Wanted>) -> Option<Wanted> {
-        let Some(Wanted {
-            reply: Reply::Copied { uid: copied },
-            source: Some(source),
-        }) = so_far
+        let Some(
+            Wanted {
+                reply: Reply::Copied { uid: copied },
+                source: Some(source),
+            },
+        ) = so_far
         else {
             return None;
         };
