@@ -34,16 +34,17 @@ cases:
 index:
 	tools/index
 
-# Puts the program that `make` left here below PREFIX, with a man page that is made of what `mdbox --help` prints; `make uninstall`
-# removes both. DESTDIR stands before PREFIX, for packages.
+# Puts the program that `make` left here below PREFIX, with mdbox-lda, which delivers for a mail server, and a man page that is made of
+# what `mdbox --help` prints; `make uninstall` removes all three. DESTDIR stands before PREFIX, for packages.
 install:
 	@test -x mdbox || { echo "make install: run make first, which proves and builds the program" >&2; exit 1; }
 	install -d $(DESTDIR)$(PREFIX)/bin $(DESTDIR)$(PREFIX)/share/man/man1
 	./mdbox --help | tools/manual "$$(./mdbox --version)" > $(DESTDIR)$(PREFIX)/share/man/man1/mdbox.1
+	install -m 755 tools/mdbox-lda $(DESTDIR)$(PREFIX)/bin/mdbox-lda
 	install -m 755 mdbox $(DESTDIR)$(PREFIX)/bin/mdbox
 
 uninstall:
-	rm -f $(DESTDIR)$(PREFIX)/bin/mdbox $(DESTDIR)$(PREFIX)/share/man/man1/mdbox.1
+	rm -f $(DESTDIR)$(PREFIX)/bin/mdbox $(DESTDIR)$(PREFIX)/bin/mdbox-lda $(DESTDIR)$(PREFIX)/share/man/man1/mdbox.1
 
 # Times the program on a storage file of 200 MB, a log of 100 MB and stores of up to 100,000 messages, taking messages apart,
 # and appends to a log.
