@@ -20,8 +20,8 @@ IsUnused m file uid = HasRecord m uid (λ row. (row.file ≡ file) × (row.count
 unfoldable pub HasRoom : MapMeaning → ℕ → MapPlace → Type 0
 HasRoom m target place = FitsPlace m target place
 
-unfoldable pub HasBox : MapMeaning → ℕ → Type 0
-HasBox m number = HasMapBox m number (λ box. Unit {0})
+unfoldable pub KnowsBox : MapMeaning → ℕ → Type 0
+KnowsBox m number = HasMapBox m number (λ box. Unit {0})
 
 unfoldable pub HasAmount : MapMeaning → MapCount → Type 0
 HasAmount m given = HasRecord m given.uid.0 (λ row. (1 ≤ given.count) × (given.count ≤ row.count))

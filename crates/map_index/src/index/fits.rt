@@ -2,7 +2,7 @@
 ghost use Rattle.std.specs.Prelude.{codes, ◌≡◌, ◌≢◌, ◌<◌, ◌≤◌, ◌↔◌, map, IsTrue, Some, All, AllPairs};
 ghost use Rattle.std.specs.List.Sorted.{IsStrictlyIncreasing};
 ghost use Rattle.model_meaning.specs.MapMeaning.{MapBox, box_at};
-ghost use Rattle.map_index.specs.Has.{HasAmount, HasBox, HasRow, HasCount};
+ghost use Rattle.map_index.specs.Has.{HasAmount, KnowsBox, HasRow, HasCount};
 ghost use Rattle.model_meaning.specs.MapFits.{MapFits, FitsDeleted, FitsRenamed, HasMapBox, IsRaised, IsKnown, HasRecord, FitsMade, FitsRegion, IsFree, AgreesOn};
 ghost use Rattle.mdbox_base.specs.Words.{IsNumber};
 
@@ -105,9 +105,9 @@ impl MapIndex {
         self.can_be_renamed(number) && self.is_new_name(name)
     }
 
-    #[tactic(auto, unfolding(crate::specs::Has::HasBox))]
+    #[tactic(auto, unfolding(crate::specs::Has::KnowsBox))]
     fn has_box(&self, number: BoxNo) -> bool
-        ensures { IsTrue result ↔ HasBox self.now.meaning number.0 }
+        ensures { IsTrue result ↔ KnowsBox self.now.meaning number.0 }
     {
         self.find_box(number).is_some()
     }
