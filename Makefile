@@ -30,7 +30,7 @@ check:
 cases:
 	tools/cases
 
-# Writes the lists of files in the crates' READMEs, and the index of definitions in docs/model.md.
+# Writes the lists of files in the crates' READMEs. `tools/index NAME` prints where a name is defined, and who uses it.
 index:
 	tools/index
 
