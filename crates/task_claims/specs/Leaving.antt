@@ -112,8 +112,8 @@ abbrev pub number_named : MapMeaning → List ℕ → Option ℕ
 number_named m name = option_map (λ box. box.number) (box_named m name)
 
 -- each name names the mailbox that it named
-abbrev pub KeepsNames : MapMeaning → MapMeaning → Type 0
-KeepsNames m n = (name : List ℕ) (number : ℕ) → number_named m name ≡ Some number → number_named n name ≡ Some number
+abbrev pub NamesStay : MapMeaning → MapMeaning → Type 0
+NamesStay m n = (name : List ℕ) (number : ℕ) → number_named m name ≡ Some number → number_named n name ≡ Some number
 
 -- ---- all of it
 
@@ -140,7 +140,7 @@ pub record LeavesOthers {D : Type 0} (mine : Claims) (old new : StoreValue D) (b
   pub store : new.instances.store ≡ old.instances.store
   pub numbers : PlacesFew old.instances new.instances
   pub mailboxes : old.map.highest.mailbox ≤ new.map.highest.mailbox
-  pub names : KeepsNames old.map new.map
+  pub names : NamesStay old.map new.map
   pub compared : KeepsCompared old new before after
   pub firm : KeepsFirm old new before after
   pub uids : KeepsUids old new
