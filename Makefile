@@ -38,6 +38,7 @@ index:
 # what `mdbox --help` prints; `make uninstall` removes all three. DESTDIR stands before PREFIX, for packages.
 install:
 	@test -x mdbox || { echo "make install: run make first, which proves and builds the program" >&2; exit 1; }
+	@./mdbox --version 2>&1 | grep -q '^proved by ' || { echo "make install: ./mdbox isn't proved" >&2; exit 1; }
 	install -d $(DESTDIR)$(PREFIX)/bin $(DESTDIR)$(PREFIX)/share/man/man1
 	./mdbox --help | tools/manual "$$(./mdbox --version)" > $(DESTDIR)$(PREFIX)/share/man/man1/mdbox.1
 	install -m 755 tools/mdbox-lda $(DESTDIR)$(PREFIX)/bin/mdbox-lda
