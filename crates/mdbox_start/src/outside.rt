@@ -36,7 +36,10 @@ pub fn start(rt: HostRuntime) -> ExitCode
     let words = words_of(rt.alloc(), env::args(&rt));
     let asked = asked_by(rt.alloc(), &words);
     if asked == Asked::Rebuild && is_dovecots(&rt) {
-        let _ = give_all(&mut errors, b"mdbox: Dovecot's index is here: copy storage/m.* and attachments into a new folder first\n");
+        let _ = give_all(
+            &mut errors,
+            b"mdbox: Dovecot's index is here: copy storage/m.* and attachments into a new folder first\n",
+        );
         return exit_of(Status(3));
     }
     let mut input = StdSource::of(rt.stdin());

@@ -62,7 +62,10 @@ pub(crate) fn tell_more(rt: HostRuntime, errors: &mut StdSink<Stderr>, asked: As
     match asked {
         Asked::Version => tell(errors, format!(in rt.alloc(); "{}\n", proof())),
         Asked::Rebuild if !has_mail_file(&rt) => {
-            let _ = give_all(errors, b"mdbox: there is no storage file here: the store is empty\n");
+            let _ = give_all(
+                errors,
+                b"mdbox: there is no storage file here: the store is empty\n",
+            );
         }
         Asked::Rebuild | Asked::Another => {}
     }

@@ -50,10 +50,7 @@ pub(crate) fn kind_told(answer: io::Result<Metadata>) -> io::Result<Kind>
 }
 
 /// The paths in a folder: none where there is no such folder.
-pub(crate) fn paths_told(
-    alloc: Global,
-    answer: io::Result<Vec<String>>,
-) -> io::Result<Vec<String>>
+pub(crate) fn paths_told(alloc: Global, answer: io::Result<Vec<String>>) -> io::Result<Vec<String>>
     ensures ok { IfOk answer (λ paths. result ≡ Ok paths) }
     ensures nothing { IfErr answer (λ error. IsNoSuchPath (error_kind error) → IfOk result (λ paths. paths.items ≡ [])) }
     ensures err { IfErr answer (λ error. (IsNoSuchPath (error_kind error) → ⊥) → result ≡ Err error) }

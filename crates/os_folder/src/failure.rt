@@ -1,6 +1,5 @@
 // A call that failed.
-use std::fmt;
-use std::io;
+use std::{fmt, io};
 
 /// Why a call failed, or why a disk went no further.
 #[derive(Clone, Copy)]

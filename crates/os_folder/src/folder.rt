@@ -111,7 +111,13 @@ impl OsFolder {
     fn forget_look(&mut self)
         ensures held { self.new.lock ≡ self.old.lock }
     {
-        if let Some(Failure { cause: Cause::Link | Cause::Other, .. }) = &self.failure {
+        if let Some(
+            Failure {
+                cause: Cause::Link | Cause::Other,
+                ..
+            },
+        ) = &self.failure
+        {
             self.failure = None;
         }
     }

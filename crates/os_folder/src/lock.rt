@@ -53,7 +53,12 @@ pub(crate) fn lock_file(rt: &HostRuntime) -> io::Result<LockFile> {
 
 /// Makes the lock's file.
 fn new_lock_file(rt: &HostRuntime) -> io::Result<LockFile> {
-    match OpenOptions::new().write(true).create(true).mode(FILE_MODE).open(rt, LOCK) {
+    match OpenOptions::new()
+        .write(true)
+        .create(true)
+        .mode(FILE_MODE)
+        .open(rt, LOCK)
+    {
         Ok(file) => Ok(LockFile {
             file,
             is_new: true,
@@ -70,7 +75,10 @@ fn new_lock_file(rt: &HostRuntime) -> io::Result<LockFile> {
 
 /// Whether an error says that a file may not be written.
 fn is_not_to_be_written(kind: ErrorKind) -> bool {
-    matches!(kind, ErrorKind::PermissionDenied | ErrorKind::ReadOnlyFilesystem)
+    matches!(
+        kind,
+        ErrorKind::PermissionDenied | ErrorKind::ReadOnlyFilesystem
+    )
 }
 
 /// Whether what was opened still stands at its path. Who has the lock may have removed the lock's file since it was opened.
