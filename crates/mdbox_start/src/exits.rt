@@ -48,7 +48,18 @@ pub fn run<D: Disk, I: Source, O: Sink, E: Sink, C: Clock>(
     ensures untouched { IsErr words → (input.new ≡ input.old) × (output.new ≡ output.old) × (clock.new ≡ clock.old) × (result.1 ≡ disk) }
 {
     match words {
-        Ok(words) => { mdbox_run(alloc, words.as_slice(), disk, input, output, errors, clock) }
+        Ok(words) => {
+            let (status, disk) = mdbox_run(
+                alloc,
+                words.as_slice(),
+                disk,
+                input,
+                output,
+                errors,
+                clock,
+            );
+            (status, disk)
+        }
         Err(NoMemory) => (report(alloc, errors, Outcome::NoMemory), disk),
     }
 }
