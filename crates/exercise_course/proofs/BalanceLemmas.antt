@@ -26,10 +26,11 @@ use Rattle.journal.proofs.OwnEventLemmas.{own_more, own_other}
 use Rattle.script_text.specs.MadeScript.{below, made_request, made_round, made_turn}
 use Rattle.exercise_course.specs.Hindered.{BeginsFree, is_hindered, is_ok}
 use Rattle.exercise_course.specs.InOrder.{message_total}
-use Rattle.exercise_course.proofs.CountingLemmas.{Counted, IsCountable, IsShort, OwnCounted, counted_none, counted_on, counts_of_map, down_by, down_last, down_part, run_counts, up_by, up_last, up_part}
+use Rattle.exercise_course.proofs.CountingLemmas.{AreStraight, Counted, GoesStraight, IsCountable, IsShort, OwnCounted, counted_none, counted_on, counts_of_map, down_by, down_last, down_part, run_counts, up_by, up_last, up_part}
 use Rattle.exercise_course.proofs.CourseLemmas.{adds, left_of, place_of, sizes_of, sum_of_all, takes}
-use Rattle.exercise_course.proofs.DeliveredLemmas.{AreOwn, IsAnswered, last_unrefused, looking_none, round_simple, same_below, sum_by_requests, up_to}
+use Rattle.exercise_course.proofs.DeliveredLemmas.{AreOwn, IsAnswered, event_at, last_unrefused, looking_none, round_simple, same_below, sum_by_requests, up_to}
 use Rattle.exercise_course.proofs.LegalLemmas.{all_ok, asked_is, left_are, legal_course, messages_weigh, script_length, script_of, turn_of}
+use Rattle.exercise_course.proofs.NamedLemmas.{are_straight}
 use Rattle.exercise_course.proofs.RoundLemmas.{round_adds, round_takes, turn_adds, turn_takes}
 use Rattle.exercise_course.proofs.StoringLemmas.{IsSimple, last_of}
 
@@ -107,9 +108,9 @@ own_whole q own given s o a r ok =
 abbrev pub AreCounted : ℕ → ℕ → Run → Type 0
 AreCounted lanes number run = (i : ℕ) → OwnCounted (made_request lanes number i).1 (own_events i run)
 
-counted_event : (lanes count number : ℕ) (around after : Around) (run : Run) (lists : Lists) (event : RunEvent) → AreCounted lanes number run → IsCountable (map_of run) → IsNextEvent around after (script_of lanes count number) run lists event
+counted_event : (lanes count number : ℕ) (around after : Around) (run : Run) (lists : Lists) (event : RunEvent) → AreCounted lanes number run → IsCountable (map_of run) → GoesStraight (made_request lanes number event.request).1 (own_events event.request run) event.part → IsNextEvent around after (script_of lanes count number) run lists event
     → AreCounted lanes number (and_then run event) × Counted (up_by event) (down_by event) (map_of run) (map_of (and_then run event))
-counted_event lanes count number around after run lists event own countable next = (each, run_counts run event goes.0 ev.fits countable)
+counted_event lanes count number around after run lists event own countable straight next = (each, run_counts run event goes.0 ev.fits countable)
   where
     lt : event.request < count
     lt = let l = script_length lanes count number in let w = slice_get_within (script_of lanes count number) event.request next.asked next.request_is in omega (arith, l, w)
@@ -121,7 +122,7 @@ counted_event lanes count number around after run lists event own countable next
     ev = subst (λ (asked : ℕ × Request). IsEvent around after run lists asked.1 event) is next.is_event
 
     goes : IsShort event.map_entries × OwnCounted (made_request lanes number event.request).1 (own_events event.request run ++ event ∷ [])
-    goes = counted_on around after run lists (made_request lanes number event.request).1 event (round_simple number event.request (event.request % lanes + 1) (event.request / lanes)) ev (own event.request)
+    goes = counted_on around after run lists (made_request lanes number event.request).1 event (round_simple number event.request (event.request % lanes + 1) (event.request / lanes)) straight ev (own event.request)
 
     here : OwnCounted (made_request lanes number event.request).1 (own_events event.request (and_then run event))
     here = subst (OwnCounted (made_request lanes number event.request).1) (sym (own_more event.request run event (eq-eqb event.request event.request refl))) goes.1
@@ -138,20 +139,19 @@ pub record CountedTo (lanes number : ℕ) (run : Run) (n : ℕ) : Type 0 where
   pub own : AreCounted lanes number (before n run)
   pub counted : Counted (sum_by up_by (take n run.events)) (sum_by down_by (take n run.events)) (map_of (before 0 run)) (map_of (before n run))
 
-pub counted_to : (lanes count number : ℕ) (around after : ℕ → Around) (start : Lists) (run : Run) (journal : List JournalStep) → IsCountable (map_of (before 0 run)) → AreNextEvents around after (script_of lanes count number) start run journal → (n : ℕ) → n ≤ length run.events → CountedTo lanes number run n
-counted_to lanes count number around after start run journal c next zero le = record {
+pub counted_to : (lanes count number : ℕ) (around after : ℕ → Around) (start : Lists) (run : Run) (journal : List JournalStep) → IsCountable (map_of (before 0 run)) → AreStraight lanes number run → AreNextEvents around after (script_of lanes count number) start run journal → (n : ℕ) → n ≤ length run.events → CountedTo lanes number run n
+counted_to lanes count number around after start run journal c straight next zero le = record {
   own = λ i. counted_none (made_request lanes number i).1;
   counted = record { counts = refl; countable = c };
 }
-counted_to lanes count number around after start run journal c next (suc n) le = one_more (counted_to lanes count number around after start run journal c next n (omega (arith, le)))
+counted_to lanes count number around after start run journal c straight next (suc n) le = with_event e.0 e.1 (ap (λ (r : Run). r.events) e.2) (counted_to lanes count number around after start run journal c straight next n (omega (arith, le)))
   where
-    with_first : (xs : List RunEvent) → n < length xs → RunEvent
-    with_first [] lt = absurd (omega (arith, lt))
-    with_first (x ∷ xs) lt = x
+    e : (event : RunEvent) × (slice_get run.events n ≡ Some event) × (before (suc n) run ≡ and_then (before n run) event)
+    e = event_at run n (omega (arith, le))
 
     with_event : (e : RunEvent) → slice_get run.events n ≡ Some e → take (suc n) run.events ≡ take n run.events ++ e ∷ [] → CountedTo lanes number run n → CountedTo lanes number run (suc n)
     with_event e is taken u =
-        let on = counted_event lanes count number (around n) (after n) (before n run) (lists_before start journal n) e u.own u.counted.countable (next n e is) in
+        let on = counted_event lanes count number (around n) (after n) (before n run) (lists_before start journal n) e u.own u.counted.countable (straight n e is) (next n e is) in
         let same : before (suc n) run ≡ and_then (before n run) e = ap (λ (es : List RunEvent). record run { events = es }) taken in
         let up : sum_by up_by (take (suc n) run.events) ≡ sum_by up_by (take n run.events) + up_by e = ap (sum_by up_by) taken ∙ sum_by_push up_by (take n run.events) e in
         let down : sum_by down_by (take (suc n) run.events) ≡ sum_by down_by (take n run.events) + down_by e = ap (sum_by down_by) taken ∙ sum_by_push down_by (take n run.events) e in
@@ -162,13 +162,6 @@ counted_to lanes count number around after start run journal c next (suc n) le =
           counted = subst (λ (r : Run). Counted (sum_by up_by (take (suc n) run.events)) (sum_by down_by (take (suc n) run.events)) (map_of (before 0 run)) (map_of r)) (sym same)
               (record { counts = omega (arith, up, down, a, b); countable = on.1.countable });
         }
-
-    one_more : CountedTo lanes number run n → CountedTo lanes number run (suc n)
-    one_more u =
-        let lt : n < length run.events = omega (arith, le) in
-        let d = with_first run.events lt in
-        let plus : n + 1 ≡ suc n = omega arith in
-        with_event (slice_index_or run.events n d) (slice_get-get_or run.events n d lt) (ap (λ (k : ℕ). take k run.events) (sym plus) ∙ take_more run.events n d lt) u
 
 -- ---- messages
 
@@ -185,12 +178,12 @@ round_raises sizes number i lane (suc s) = turn_raises number i lane (s / 4) (s 
 -- ---- a script that was served
 
 -- what the counts of the map have come to
-counts_raised : (lanes count number : ℕ) (start : Lists) (run : Run) (journal : List JournalStep) (broken : Broken) (given : List Reply) (old new : Faults) (first m : MapMeaning) (drawn : Highest) (calls : ℕ) → IsCountable first → length given ≡ count → All (λ one. is_ok one ≡ true) given
+counts_raised : (lanes count number : ℕ) (start : Lists) (run : Run) (journal : List JournalStep) (broken : Broken) (given : List Reply) (old new : Faults) (first m : MapMeaning) (drawn : Highest) (calls : ℕ) → IsCountable first → AreStraight lanes number run → length given ≡ count → All (λ one. is_ok one ≡ true) given
     → IsServed start (script_of lanes count number) run journal broken (map Some given) old new first m drawn calls
     → counts_of_map m + sum_by (λ i. lowered_by (made_request lanes number i).1) (below count) ≡ counts_of_map first + sum_by (λ i. raised_by (made_request lanes number i).1) (below count)
-counts_raised lanes count number start run journal broken given old new first m drawn calls countable many ok served =
+counts_raised lanes count number start run journal broken given old new first m drawn calls countable straight many ok served =
     let u = up_to lanes count number served.around served.after start run journal served.next (length run.events) (omega arith) in
-    let k = counted_to lanes count number served.around served.after start run journal (subst IsCountable (sym served.begins.map_is) countable) served.next (length run.events) (omega arith) in
+    let k = counted_to lanes count number served.around served.after start run journal (subst IsCountable (sym served.begins.map_is) countable) straight served.next (length run.events) (omega arith) in
     let all : take (length run.events) run.events ≡ run.events = take-length run.events in
     let whole : before (length run.events) run ≡ run = ap (λ (es : List RunEvent). record run { events = es }) all in
     let own : AreOwn lanes number run = subst (AreOwn lanes number) whole u.own in
@@ -221,7 +214,8 @@ pub counts_grow : (lanes count number : ℕ) (start : Lists) (run : Run) (journa
     → IsServed start (script_of lanes count number) run journal broken (map Some given) old new first m drawn calls → counts_of_map m + message_total start ≡ counts_of_map first + message_total (left_by start journal)
 counts_grow lanes count number start run journal broken given old new first m drawn calls countable one most few begins many free served =
     let ok = all_ok lanes count number start run journal given old new one most few begins many free served.legal in
-    let counts = counts_raised lanes count number start run journal broken given old new first m drawn calls countable many ok served in
+    let straight = are_straight lanes count number served.around served.after start run journal one begins served.next served.legal.steps served.legal.order.events in
+    let counts = counts_raised lanes count number start run journal broken given old new first m drawn calls countable straight many ok served in
     let c = legal_course lanes count number start run journal given old new one most few begins many free served.legal in
     let w = c.whole.weighs (λ size. 1) in
     let a = sum_of_all (adds (λ size. 1) lanes number) count (map place_of (map turn_of journal)) c.all in

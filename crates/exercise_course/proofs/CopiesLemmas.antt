@@ -3,7 +3,6 @@ use Rattle.std.specs.Prelude.{◌≡◌, ◌≤◌, ◌<◌, ◌+◌, ◌/◌, �
 use Rattle.std.specs.List.{AllByRecursion}
 use Rattle.std.specs.Option.{option_and_then, option_map_or, option_or}
 use Rattle.std.proofs.Common.{sym, ◌∙◌, ap, arith, subst, inl, inr}
-use Rattle.std.proofs.Math.Nat.{mod-lt}
 use Rattle.std.proofs.lemmas.Grind.{common_steps}
 use Rattle.std.proofs.lemmas.List.{length-map}
 use Rattle.std.proofs.lemmas.Option.{slice_get-get_or, slice_get_within}
@@ -19,16 +18,17 @@ use Rattle.model_lists.specs.Lists.{ListedMessage, Mailbox, Lists, change_first,
 use Rattle.model_meaning.specs.MapMeaning.{MapMeaning, MapRecord, count_of}
 use Rattle.model_octets.proofs.SearchLemmas.{text_is, text_yes}
 use Rattle.list_machine.specs.Run.{EventPart, First, PlacesInstance, TakesFile, StoresRecord, Last, StartsOver, Run, RunEvent, before, guid_added, map_of}
-use Rattle.list_machine.specs.Machine.{Answers, Check, Does, HasMailbox, IsNewName, HasUid, RoomForMailbox, RoomForMessage, NextUid, NextMapUid, NextFiles, TargetFits, NextInstance, NextMailbox, MayBeCopied, add_last, add_message, expunge, first_refusal, has_name, is_message_of_uid, mailbox_named, message_at, message_in, part_checks, refusal_at, refused_where, set_flags, without_first}
+use Rattle.list_machine.specs.Machine.{Answers, Check, Does, HasMailbox, IsNotInbox, IsNewName, HasUid, RoomForMailbox, RoomForMessage, NextUid, NextMapUid, NextFiles, TargetFits, NextInstance, NextMailbox, MayBeCopied, add_last, add_message, expunge, first_refusal, has_name, is_message_of_uid, mailbox_named, message_at, message_in, part_checks, refusal_at, refused_where, set_flags, without_first}
 use Rattle.journal.specs.Journal.{AreSteps, Broken, IsStep, JournalStep, refusal_in, steps_of}
 use Rattle.journal.specs.Makes.{IsServed}
-use Rattle.script_text.specs.MadeScript.{lane_name, made_request, made_round, made_turn}
+use Rattle.script_text.specs.MadeScript.{lane_name, made_request}
 use Rattle.exercise_course.specs.Hindered.{BeginsFree, is_hindered, is_ok, is_stopped}
 use Rattle.exercise_course.proofs.CountingLemmas.{IsCountable}
 use Rattle.exercise_course.proofs.CourseLemmas.{AreAllPlaces, AreTurns, Turn, all_are_whole, place_of}
 use Rattle.exercise_course.proofs.FreshLemmas.{delivered_new, new_few}
 use Rattle.exercise_course.proofs.GrownLemmas.{IsNew}
 use Rattle.exercise_course.proofs.LegalLemmas.{answer_holds, answer_of, as_steps, each_of_given, filtered, is_of, of_each, one_answer, places_are, request_of, rises, round_plain, script_of, step_asked, times_are, turn_of, within, IsPlain, plain_each}
+use Rattle.exercise_course.proofs.NamedLemmas.{IsOfLane, are_straight, request_of_lane}
 use Rattle.exercise_course.proofs.PlaceLemmas.{RiseInLanes, times}
 use Rattle.exercise_course.proofs.ReadyLemmas.{IsDone, ready_answers}
 
@@ -93,15 +93,6 @@ flagged_new first lanes name uid flags lists a =
     all_changed (HasNew first lanes) (has_name name) (λ (mailbox : Mailbox). record mailbox { messages = change_first (is_message_of_uid uid) (λ message. record message { flags = flags }) mailbox.messages })
     (λ box h lane some few is. all_changed (λ (x : ListedMessage). IsNew first x.guid) (is_message_of_uid uid) (λ (message : ListedMessage). record message { flags = flags }) (λ x k. k) box.messages (h lane some few is)) lists a
 
--- a request of one of these lanes
-abbrev IsOfLane : ℕ → Request → Type 0
-IsOfLane lanes (request.Make name) = Unit {0}
-IsOfLane lanes (request.Deliver name time octets) = Unit {0}
-IsOfLane lanes (request.Copy name uid target) = (lane : ℕ) × (1 ≤ lane) × (lane ≤ lanes) × (name ≡ lane_name lane)
-IsOfLane lanes (request.Expunge name uid) = Unit {0}
-IsOfLane lanes (request.Flag name uid flags) = Unit {0}
-IsOfLane lanes other = ⊥
-
 -- a delivery that is done has a new GUID
 abbrev GivesNew : List MapRecord → RunEvent → Request → EventPart → Reply → Type 0
 GivesNew first event (request.Deliver name time octets) part r = part ≡ Last → refusal_in r ≡ None → (guid : List ℕ) → guid_added event.box_entries ≡ Some guid → IsNew first guid
@@ -118,6 +109,8 @@ does_new first lanes run event old (request.Expunge name uid) First reply.Done n
 does_new first lanes run event old (request.List name) part r new l g a d = absurd l
 does_new first lanes run event old (request.Fetch name uid) part r new l g a d = absurd l
 does_new first lanes run event old (request.Move name uid target) part r new l g a d = absurd l
+does_new first lanes run event old (request.Delete name) part r new l g a d = absurd l
+does_new first lanes run event old (request.Rename name target) part r new l g a d = absurd l
 does_new first lanes run event old request.Counts part r new l g a d = absurd l
 does_new first lanes run event old (request.Purge) part r new l g a d = absurd l
 does_new first lanes run event old (request.Resync) part r new l g a d = absurd l
@@ -143,6 +136,7 @@ above_is a b lt = grind (arith, common_steps, lt)
 
 no_copy : (run : Run) (old : Lists) (check : Check) (most : ℕ) → MayCopy run old check → refusal_at run old check ≡ Some (refusal.TooManyCopies most) → ⊥
 no_copy run old (HasMailbox name) most may e = let k = refused_as _ refusal.NoMailbox _ e in cc k
+no_copy run old (IsNotInbox name) most may e = let k = refused_as _ refusal.Inbox _ e in cc k
 no_copy run old (IsNewName name) most may e = let k = refused_as _ refusal.Exists _ e in cc k
 no_copy run old (HasUid name uid) most may e = let k = refused_as _ refusal.NoMessage _ e in cc k
 no_copy run old RoomForMailbox most may e = let k = refused_as _ (refusal.TooManyMailboxes 1024) _ e in cc k
@@ -188,6 +182,7 @@ checks_copy run event old (request.Deliver name time octets) Last p c = (tt, (tt
 checks_copy run event old (request.Deliver name time octets) part p c = tt
 checks_copy run event old (request.Copy name uid target) First p c = (tt, (tt, (tt, (tt, (tt, (c, tt))))))
 checks_copy run event old (request.Copy name uid target) Last p c = (tt, (tt, (tt, (tt, (tt, tt)))))
+checks_copy run event old (request.Copy name uid target) StartsOver p c = (tt, (tt, (tt, (tt, (tt, tt)))))
 checks_copy run event old (request.Copy name uid target) part p c = tt
 checks_copy run event old (request.Expunge name uid) First p c = (tt, (tt, tt))
 checks_copy run event old (request.Expunge name uid) part p c = tt
@@ -201,16 +196,6 @@ hindered_stops run old q event (reply.Refused (refusal.TooManyCopies most)) new 
 hindered_stops run old q event r new p c a h = h
 
 -- ---- the steps of a journal
-
-turn_of_lane : (lanes number i lane round turn : ℕ) → 1 ≤ lane → lane ≤ lanes → IsOfLane lanes (made_turn number i lane round turn)
-turn_of_lane lanes number i lane round zero some few = tt
-turn_of_lane lanes number i lane round (suc zero) some few = (lane, some, few, refl)
-turn_of_lane lanes number i lane round (suc (suc zero)) some few = tt
-turn_of_lane lanes number i lane round (suc (suc (suc turn))) some few = tt
-
-round_of_lane : (lanes number i lane s : ℕ) → 1 ≤ lane → lane ≤ lanes → IsOfLane lanes (made_round number i lane s)
-round_of_lane lanes number i lane zero some few = tt
-round_of_lane lanes number i lane (suc s) some few = turn_of_lane lanes number i lane (s / 4) (s % 4) some few
 
 can_copy : (first : List MapRecord) (lanes : ℕ) (run : Run) (old : Lists) (q : Request) → IsOfLane lanes q → HaveNew first lanes old → ((guid : List ℕ) → IsNew first guid → count_of (map_of run) guid ≤ 50064) → CanCopy run old q
 can_copy first lanes run old (request.Copy name uid target) l a few = λ m e. let k = few m.guid (message_new first lanes l.0 uid.0 old m l.1 l.2 a (subst (λ (n : List ℕ). message_at n uid.0 old ≡ Some m) l.3 e)) in omega (arith, k)
@@ -239,7 +224,7 @@ turns_stop first lanes count number run old (step ∷ journal) one facts steps =
     answers = subst (λ (asked : ℕ × Request). Answers (before step.event run) old asked.1 s.event step.answer step.left) (step_asked lanes count number run old step s) s.answers
 
     of_lane : IsOfLane lanes (made_request lanes number step.request).1
-    of_lane = let rest = mod-lt step.request one in round_of_lane lanes number step.request (step.request % lanes + 1) (step.request / lanes) (omega arith) (omega (arith, rest))
+    of_lane = request_of_lane lanes number step.request one
 
     plain : IsPlain (made_request lanes number step.request).1
     plain = round_plain number step.request (step.request % lanes + 1) (step.request / lanes)
@@ -279,9 +264,10 @@ pub never_full : (lanes count number : ℕ) (start : Lists) (run : Run) (journal
 never_full lanes count number start run journal broken given old new first m drawn calls countable one most few begins many free served i d lt =
     let begun : IsCountable (map_of (before 0 run)) = subst IsCountable (sym served.begins.map_is) countable in
     let rows = (map_of (before 0 run)).records in
+    let straight = are_straight lanes count number served.around served.after start run journal one begins served.next served.legal.steps served.legal.order.events in
     let facts : RunFacts rows lanes number run = record {
-      few = new_few lanes count number served.around served.after start run journal one most few begun served.next;
-      new = delivered_new lanes count number served.around served.after start run journal begun served.next;
+      few = new_few lanes count number served.around served.after start run journal one most few begun straight served.next;
+      new = delivered_new lanes count number served.around served.after start run journal begun straight served.next;
     } in
     let each = plain_each lanes count number journal given many free served.legal.replied in
     let w = within lanes count number run start journal served.legal.steps in

@@ -1,5 +1,5 @@
 -- What the requests of a made script do to the counts that are kept: a delivery and a copy add one, and an expunge takes one.
-use Rattle.std.specs.Prelude.{◌≡◌, ◌≤◌, ◌<◌, ◌+◌, ◌-◌, ◌==◌, ◌||◌, max, ℕ, Bool, true, false, not, cond, if◌then◌else◌, All, AllPairs, List, [], ◌∷◌, ◌++◌, filter, find, length, map, sum_by, Option, Some, None, refl}
+use Rattle.std.specs.Prelude.{◌≡◌, ◌≤◌, ◌<◌, ◌+◌, ◌-◌, ◌==◌, ◌||◌, max, ℕ, Bool, true, false, not, cond, if◌then◌else◌, All, AllPairs, List, [], ◌∷◌, ◌++◌, filter, find, length, map, slice_get, sum_by, Option, Some, None, is_some, refl}
 use Rattle.std.specs.Option.{option_or}
 use Rattle.std.proofs.Common.{sym, ◌∙◌, ap, arith, subst}
 use Rattle.std.proofs.lemmas.Bool.{eq-eqb, eqb-true, eqb-false}
@@ -18,9 +18,10 @@ use Rattle.model_meaning.specs.MapFits.{HasRecord, MapFits}
 use Rattle.model_meaning.specs.MapMeaning.{MapMeaning, MapRecord, map_applied, map_meaning, record_at, record_changed}
 use Rattle.model_meaning.proofs.MapLemmas.{map_more}
 use Rattle.model_octets.proofs.PairLemmas.{all_map, pairs_head, pairs_map, pairs_push, pairs_tail}
-use Rattle.list_machine.specs.Run.{EventPart, First, Compares, PlacesInstance, TakesFile, PlacesMessage, StoresRecord, Last, GivesBack, Run, RunEvent, and_then, entries_of, map_of, own_events}
-use Rattle.journal.specs.Events.{Around, DidNothing, DidPart, IsEvent, behind_copy, behind_delivery, behind_event, behind_expunge, last_refusal, part_behind}
+use Rattle.list_machine.specs.Run.{EventPart, First, Compares, PlacesInstance, TakesFile, PlacesMessage, StoresRecord, Last, GivesBack, StartsOver, Run, RunEvent, and_then, before, entries_of, map_of, own_events}
+use Rattle.journal.specs.Events.{Around, DidNothing, DidPart, IsEvent, behind_delivery, behind_event, behind_expunge, last_refusal, part_behind}
 use Rattle.journal.proofs.RunLemmas.{entries_more}
+use Rattle.script_text.specs.MadeScript.{made_request}
 use Rattle.exercise_course.proofs.DeliveredLemmas.{last_unrefused}
 use Rattle.exercise_course.proofs.StoringLemmas.{IsSimple, last_of, last_push, next_is, part_after}
 
@@ -50,11 +51,13 @@ abbrev pub down_in : MapEntry → ℕ
 down_in (entry.D uids) = length uids
 down_in other = 0
 
--- an entry that lowers one count at the most, and neither drops nor corrects any
+-- an entry that lowers one count at the most, neither drops nor corrects any, and neither deletes a mailbox nor renames one
 abbrev pub IsStep : MapEntry → Type 0
 IsStep (entry.D uids) = (uid : MapUid) × (uids ≡ uid ∷ [])
 IsStep (entry.T counts) = ⊥
 IsStep (entry.P file target moved dropped) = ⊥
+IsStep (entry.X mailbox amounts) = ⊥
+IsStep (entry.V mailbox name) = ⊥
 IsStep other = Unit {0}
 
 pub all_kept : (rows : List MapRecord) → filter (λ row. not false) rows ≡ rows
@@ -223,6 +226,8 @@ applied_counts m (entry.D uids) s fits c = by_one uids s.1 fits
         subst (λ (l : List MapUid). Counted 0 (length l) m (map_applied (entry.D l) m)) (sym e) (lowered m s.0 (subst (λ (l : List MapUid). MapFits m (entry.D l)) e f) c)
 applied_counts m (entry.T counts) s fits c = absurd s
 applied_counts m (entry.P file target moved dropped) s fits c = absurd s
+applied_counts m (entry.X mailbox amounts) s fits c = absurd s
+applied_counts m (entry.V mailbox name) s fits c = absurd s
 
 -- ---- events
 
@@ -286,8 +291,9 @@ did_counts around run lists (request.Deliver name time octets) event StoresRecor
 did_counts around run lists (request.Deliver name time octets) event Last s d = counts_as 0 0 event _ d.2.4 (record { up_is = refl; down_is = refl; short = tt })
 did_counts around run lists (request.Deliver name time octets) event GivesBack s d = counts_as 0 1 event _ d.2 (record { up_is = refl; down_is = refl; short = (record { 0 = d.0 }, refl) })
 did_counts around run lists (request.Deliver name time octets) event part s d = absurd d
-did_counts around run lists (request.Copy name uid target) event First s d = counts_as 1 0 event _ d.2 (record { up_is = refl; down_is = refl; short = tt })
+did_counts around run lists (request.Copy name uid target) event First s d = counts_as 1 0 event _ d.4 (record { up_is = refl; down_is = refl; short = tt })
 did_counts around run lists (request.Copy name uid target) event Last s d = counts_as 0 0 event _ d.2.4 (record { up_is = refl; down_is = refl; short = tt })
+did_counts around run lists (request.Copy name uid target) event StartsOver s d = counts_as 0 0 event _ d (record { up_is = refl; down_is = refl; short = tt })
 did_counts around run lists (request.Copy name uid target) event GivesBack s d = counts_as 0 1 event _ d.2 (record { up_is = refl; down_is = refl; short = (record { 0 = d.0 }, refl) })
 did_counts around run lists (request.Copy name uid target) event part s d = absurd d
 did_counts around run lists (request.Expunge name uid) event First s d = counts_as 0 0 event _ d.4 (record { up_is = refl; down_is = refl; short = tt })
@@ -353,24 +359,42 @@ delivery_balanced around run name time octets e Last p is = absurd (cc is)
 delivery_balanced around run name time octets e GivesBack p is = absurd (cc is)
 delivery_balanced around run name time octets e part p is = looking_balanced name time octets _ _ _ p is
 
-copy_balanced : (name target : List ℕ) (uid : Uid) (part p : EventPart) → behind_copy part ≡ Some p → Balanced (request.Copy name uid target) 1 0 p
+-- A copy goes straight: it begins once, and gives its count back only if its addition was refused.
+abbrev pub GoesStraight : Request → List RunEvent → EventPart → Type 0
+GoesStraight (request.Copy name uid target) own First = own ≡ []
+GoesStraight (request.Copy name uid target) own Last = Unit {0}
+GoesStraight (request.Copy name uid target) own GivesBack = is_some (last_refusal own) ≡ true
+GoesStraight (request.Copy name uid target) own part = ⊥
+GoesStraight other own part = Unit {0}
+
+abbrev pub AreStraight : ℕ → ℕ → Run → Type 0
+AreStraight lanes number run = (n : ℕ) (event : RunEvent) → slice_get run.events n ≡ Some event → GoesStraight (made_request lanes number event.request).1 (own_events event.request (before n run)) event.part
+
+-- it has begun
+pub begun_own : (own : List RunEvent) (e : RunEvent) → last_of own ≡ Some e → own ≡ [] → ⊥
+unfolding last_of
+begun_own own e last none = let k : None ≡ Some e = sym (ap last_of none) ∙ last in cc k
+
+copy_balanced : (name target : List ℕ) (uid : Uid) (own : List RunEvent) (e : RunEvent) (p : EventPart) → last_of own ≡ Some e → last_refusal own ≡ None → GoesStraight (request.Copy name uid target) own p → Balanced (request.Copy name uid target) 1 0 p
 unfolding up_at down_at up_part down_part
-copy_balanced name target uid First p is = subst (Balanced (request.Copy name uid target) 1 0) (some_is Last p is) (refl, refl)
-copy_balanced name target uid part p is = absurd (cc is)
+copy_balanced name target uid own e First last none g = absurd (begun_own own e last g)
+copy_balanced name target uid own e Last last none g = (refl, refl)
+copy_balanced name target uid own e GivesBack last none g = absurd (let k : false ≡ true = sym (ap is_some none) ∙ g in cc k)
+copy_balanced name target uid own e part last none g = absurd g
 
 expunge_balanced : (name : List ℕ) (uid : Uid) (part p : EventPart) → behind_expunge part ≡ Some p → Balanced (request.Expunge name uid) 0 (down_part (request.Expunge name uid) part) p
 unfolding up_at down_at up_part down_part
 expunge_balanced name uid First p is = subst (Balanced (request.Expunge name uid) 0 0) (some_is GivesBack p is) (refl, refl)
 expunge_balanced name uid part p is = absurd (cc is)
 
-behind_balanced : (around : Around) (run : Run) (q : Request) (e : RunEvent) (p : EventPart) → IsSimple q → part_behind around run q e ≡ Some p → Balanced q (up_part q e.part) (down_part q e.part) p
+behind_balanced : (around : Around) (run : Run) (q : Request) (own : List RunEvent) (e : RunEvent) (p : EventPart) → IsSimple q → last_of own ≡ Some e → last_refusal own ≡ None → GoesStraight q own p → part_behind around run q e ≡ Some p → Balanced q (up_part q e.part) (down_part q e.part) p
 unfolding up_at down_at up_part down_part
-behind_balanced around run (request.Make name) e p s is = (refl, refl)
-behind_balanced around run (request.Deliver name time octets) e p s is = delivery_balanced around run name time octets e e.part p is
-behind_balanced around run (request.Copy name uid target) e p s is = copy_balanced name target uid e.part p is
-behind_balanced around run (request.Expunge name uid) e p s is = expunge_balanced name uid e.part p is
-behind_balanced around run (request.Flag name uid flags) e p s is = (refl, refl)
-behind_balanced around run q e p s is = absurd s
+behind_balanced around run (request.Make name) own e p s last none g is = (refl, refl)
+behind_balanced around run (request.Deliver name time octets) own e p s last none g is = delivery_balanced around run name time octets e e.part p is
+behind_balanced around run (request.Copy name uid target) own e p s last none g is = copy_balanced name target uid own e p last none g
+behind_balanced around run (request.Expunge name uid) own e p s last none g is = expunge_balanced name uid e.part p is
+behind_balanced around run (request.Flag name uid flags) own e p s last none g is = (refl, refl)
+behind_balanced around run q own e p s last none g is = absurd s
 
 -- What the events of a request have raised and lowered, if none was refused.
 abbrev pub OwnCounted : Request → List RunEvent → Type 0
@@ -391,17 +415,17 @@ unrefused_push (x ∷ own) e none =
     let rest = unrefused_push own e both.0 in
     (ap (λ (o : Option Refusal). option_or o x.refused) rest.0 ∙ both.1, rest.1)
 
-last_balanced : (around : Around) (run : Run) (q : Request) (own : List RunEvent) (last : Option RunEvent) (p : EventPart) → IsSimple q → last_of own ≡ last → last_refusal own ≡ None → part_after around run q last ≡ Some p → Balanced q (up_last q last) (down_last q last) p
+last_balanced : (around : Around) (run : Run) (q : Request) (own : List RunEvent) (last : Option RunEvent) (p : EventPart) → IsSimple q → last_of own ≡ last → last_refusal own ≡ None → GoesStraight q own p → part_after around run q last ≡ Some p → Balanced q (up_last q last) (down_last q last) p
 unfolding part_after up_last down_last
-last_balanced around run q own None p s is none next = begins_balanced q p s next
-last_balanced around run q own (Some e) p s is none next =
-    behind_balanced around run q e p s (sym (ap (behind_event around run q e) (last_unrefused own e is none)) ∙ next)
+last_balanced around run q own None p s is none g next = begins_balanced q p s next
+last_balanced around run q own (Some e) p s is none g next =
+    behind_balanced around run q own e p s is none g (sym (ap (behind_event around run q e) (last_unrefused own e is none)) ∙ next)
 
 -- An event more.
-pub counted_on : (around after : Around) (run : Run) (lists : Lists) (q : Request) (event : RunEvent) → IsSimple q → IsEvent around after run lists q event → OwnCounted q (own_events event.request run)
+pub counted_on : (around after : Around) (run : Run) (lists : Lists) (q : Request) (event : RunEvent) → IsSimple q → GoesStraight q (own_events event.request run) event.part → IsEvent around after run lists q event → OwnCounted q (own_events event.request run)
     → IsShort event.map_entries × OwnCounted q (own_events event.request run ++ event ∷ [])
 unfolding up_last down_last
-counted_on around after run lists q event s ev o = (short event.refused refl, own)
+counted_on around after run lists q event s g ev o = (short event.refused refl, own)
   where
     short : (r : Option Refusal) → event.refused ≡ r → IsShort event.map_entries
     short None is = (did_counts around run lists q event event.part s (ev.did is)).short
@@ -412,7 +436,7 @@ counted_on around after run lists q event s ev o = (short event.refused refl, ow
         let both = unrefused_push (own_events event.request run) event none in
         let before = o both.0 in
         let did = did_counts around run lists q event event.part s (ev.did both.1) in
-        let balance = last_balanced around run q (own_events event.request run) (last_of (own_events event.request run)) event.part s refl both.0 (sym (next_is around run q (own_events event.request run)) ∙ ev.part_is) in
+        let balance = last_balanced around run q (own_events event.request run) (last_of (own_events event.request run)) event.part s refl both.0 g (sym (next_is around run q (own_events event.request run)) ∙ ev.part_is) in
         let up = sum_by_push up_by (own_events event.request run) event in
         let down = sum_by_push down_by (own_events event.request run) event in
         let last = last_push (own_events event.request run) event in

@@ -190,6 +190,20 @@ pub record UpTo (lanes count number : ℕ) (run : Run) (n : ℕ) : Type 0 where
   pub more : HasMore (sum_by stored_in (take n run.events)) (map_of (before 0 run)) (map_of (before n run))
   pub within : AllByRecursion (λ e. e.request < count) (take n run.events)
 
+-- an event of the run, and the run with it
+pub event_at : (run : Run) (n : ℕ) → n < length run.events → (event : RunEvent) × (slice_get run.events n ≡ Some event) × (before (suc n) run ≡ and_then (before n run) event)
+event_at run n lt =
+    let d = with_first run.events lt in
+    let plus : n + 1 ≡ suc n = omega arith in (
+      slice_index_or run.events n d,
+      slice_get-get_or run.events n d lt,
+      ap (λ (es : List RunEvent). record run { events = es }) (ap (λ (k : ℕ). take k run.events) (sym plus) ∙ take_more run.events n d lt),
+    )
+  where
+    with_first : (xs : List RunEvent) → n < length xs → RunEvent
+    with_first [] lt = absurd (omega (arith, lt))
+    with_first (x ∷ xs) lt = x
+
 pub all_push : (P : RunEvent → Type 0) (xs : List RunEvent) (y : RunEvent) → AllByRecursion P xs → P y → AllByRecursion P (xs ++ y ∷ [])
 all_push P [] y a h = (h, tt)
 all_push P (x ∷ xs) y a h = (a.0, all_push P xs y a.1 h)
@@ -200,11 +214,10 @@ up_to lanes count number around after start run journal next zero le = record {
   more = no_more (map_of (before 0 run));
   within = tt;
 }
-up_to lanes count number around after start run journal next (suc n) le = one_more (up_to lanes count number around after start run journal next n (omega (arith, le)))
+up_to lanes count number around after start run journal next (suc n) le = with_event e.0 e.1 (ap (λ (r : Run). r.events) e.2) (up_to lanes count number around after start run journal next n (omega (arith, le)))
   where
-    with_first : (xs : List RunEvent) → n < length xs → RunEvent
-    with_first [] lt = absurd (omega (arith, lt))
-    with_first (x ∷ xs) lt = x
+    e : (event : RunEvent) × (slice_get run.events n ≡ Some event) × (before (suc n) run ≡ and_then (before n run) event)
+    e = event_at run n (omega (arith, le))
 
     with_event : (e : RunEvent) → slice_get run.events n ≡ Some e → take (suc n) run.events ≡ take n run.events ++ e ∷ [] → UpTo lanes count number run n → UpTo lanes count number run (suc n)
     with_event e is taken u =
@@ -217,13 +230,6 @@ up_to lanes count number around after start run journal next (suc n) le = one_mo
           more = subst (λ (r : Run). HasMore (sum_by stored_in (take (suc n) run.events)) (map_of (before 0 run)) (map_of r)) (sym same) (subst (λ (k : ℕ). HasMore k (map_of (before 0 run)) (map_of (and_then (before n run) e))) (sym sum) more);
           within = subst (AllByRecursion (λ (x : RunEvent). x.request < count)) (sym taken) (all_push (λ x. x.request < count) (take n run.events) e u.within on.2);
         }
-
-    one_more : UpTo lanes count number run n → UpTo lanes count number run (suc n)
-    one_more u =
-        let lt : n < length run.events = omega (arith, le) in
-        let d = with_first run.events lt in
-        let plus : n + 1 ≡ suc n = omega arith in
-        with_event (slice_index_or run.events n d) (slice_get-get_or run.events n d lt) (ap (λ (k : ℕ). take k run.events) (sym plus) ∙ take_more run.events n d lt) u
 
 -- ---- by requests
 

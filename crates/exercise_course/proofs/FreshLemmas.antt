@@ -15,15 +15,15 @@ use Rattle.mdbox_base.specs.declared.replies.Refusal.TheVariants as refusal
 use Rattle.model_lists.specs.Lists.{Lists}
 use Rattle.model_meaning.specs.MapFits.{MapFits}
 use Rattle.model_meaning.specs.MapMeaning.{MapRecord, count_of}
-use Rattle.list_machine.specs.Run.{EventPart, First, StoresRecord, Last, GivesBack, Run, RunEvent, and_then, before, first_in, guid_added, map_of, own_events}
+use Rattle.list_machine.specs.Run.{EventPart, First, StoresRecord, Last, GivesBack, StartsOver, Run, RunEvent, and_then, before, first_in, guid_added, map_of, own_events}
 use Rattle.journal.specs.Journal.{JournalStep}
-use Rattle.journal.specs.Events.{Around, DidNothing, DidPart, IsEvent, IsNextEvent, behind_addition, behind_copy, behind_event, guid_given}
+use Rattle.journal.specs.Events.{Around, DidNothing, DidPart, IsEvent, IsNextEvent, guid_given}
 use Rattle.journal.specs.Makes.{AreNextEvents, lists_before}
 use Rattle.journal.proofs.OwnEventLemmas.{own_more, own_other}
 use Rattle.script_text.specs.MadeScript.{below, made_request}
 use Rattle.exercise_course.proofs.BalanceLemmas.{counted_to, raised_by}
-use Rattle.exercise_course.proofs.CountingLemmas.{IsCountable, IsShort, did_counts, nothing_counts, up_at, up_by}
-use Rattle.exercise_course.proofs.DeliveredLemmas.{round_simple, sum_by_requests, up_to}
+use Rattle.exercise_course.proofs.CountingLemmas.{AreStraight, GoesStraight, IsCountable, IsShort, begun_own, did_counts, nothing_counts, up_at, up_by}
+use Rattle.exercise_course.proofs.DeliveredLemmas.{event_at, round_simple, sum_by_requests, up_to}
 use Rattle.exercise_course.proofs.GrownLemmas.{Grown, IsNew, new_count, run_grown, unseen_new}
 use Rattle.exercise_course.proofs.HalfLemmas.{each_less, raises_few}
 use Rattle.exercise_course.proofs.LegalLemmas.{asked_is, script_length, script_of}
@@ -74,22 +74,13 @@ stores_new first most around run lists name time octets event g fits d guid is =
     let same : d.0 ≡ guid = (let k : Some d.0 ≡ Some guid = sym d.2 ∙ is in cc k) in
     subst (IsNew first) same (unseen_new first (map_of run).records most d.0 g fit.guid_new)
 
-copy_behind : (around : Around) (run : Run) (name target : List ℕ) (uid : Uid) (e : RunEvent) (p : EventPart) → part_after around run (request.Copy name uid target) (Some e) ≡ Some p → up_at (request.Copy name uid target) p ≡ 0
-unfolding part_after up_at
-copy_behind around run name target uid e p is = by_refused e.refused is
-  where
-    by_part : (part : EventPart) → behind_copy part ≡ Some p → up_at (request.Copy name uid target) p ≡ 0
-    by_part First h = let k : Last ≡ p = cc h in subst (λ (q : EventPart). up_at (request.Copy name uid target) q ≡ 0) k refl
-    by_part part h = absurd (cc h)
-
-    by_addition : (part : EventPart) (why : Refusal) → behind_addition part why ≡ Some p → up_at (request.Copy name uid target) p ≡ 0
-    by_addition Last refusal.Stopped h = absurd (cc h)
-    by_addition Last why h = let k : GivesBack ≡ p = cc h in subst (λ (q : EventPart). up_at (request.Copy name uid target) q ≡ 0) k refl
-    by_addition part why h = absurd (cc h)
-
-    by_refused : (r : Option Refusal) → behind_event around run (request.Copy name uid target) e r ≡ Some p → up_at (request.Copy name uid target) p ≡ 0
-    by_refused None h = by_part e.part h
-    by_refused (Some why) h = by_addition e.part why h
+-- a copy that has begun raises nothing more
+copy_behind : (name target : List ℕ) (uid : Uid) (own : List RunEvent) (e : RunEvent) (p : EventPart) → last_of own ≡ Some e → GoesStraight (request.Copy name uid target) own p → up_at (request.Copy name uid target) p ≡ 0
+unfolding up_at
+copy_behind name target uid own e First last g = absurd (begun_own own e last g)
+copy_behind name target uid own e Last last g = refl
+copy_behind name target uid own e GivesBack last g = refl
+copy_behind name target uid own e part last g = absurd g
 
 -- what an event raises
 up_now : Request → EventPart → Option Refusal → ℕ
@@ -118,6 +109,7 @@ stored_when before StoresRecord None b one = inl (refl, refl)
 stored_when before StoresRecord (Some why) b one = absurd (let k : ◌≡◌ {A = ℕ} 0 1 = one in omega (arith, k))
 stored_when before Last r b one = inr (let k : before + 0 ≡ 1 = b in omega (arith, k))
 stored_when before GivesBack r b one = inr (let k : before + 0 ≡ 1 = b in omega (arith, k))
+stored_when before StartsOver (Some why) b one = inr (let k : before + 0 ≡ 1 = b in omega (arith, k))
 stored_when before part r b one = absurd (let k : ◌≡◌ {A = ℕ} 0 1 = one in omega (arith, k))
 
 delivery_fresh : (first : List MapRecord) (most : ℕ) (around after : Around) (run : Run) (lists : Lists) (name : List ℕ) (time : ℕ) (octets : List ℕ) (event : RunEvent) → Grown first most (map_of run).records → IsSimple (request.Deliver name time octets) → IsEvent around after run lists (request.Deliver name time octets) event
@@ -154,10 +146,10 @@ delivery_fresh first most around after run lists name time octets event g s ev o
         let same = same_guid (own_events event.request run) event (given_none event.refused refl now) in
         by_when guid (sym same ∙ e) (stored_when (stored_last (last_of (own_events event.request run))) event.part event.refused (behind.0 event.refused) now)
 
-copy_fresh : (first : List MapRecord) (around after : Around) (run : Run) (lists : Lists) (name target : List ℕ) (uid : Uid) (event : RunEvent) → IsEvent around after run lists (request.Copy name uid target) event
+copy_fresh : (first : List MapRecord) (around after : Around) (run : Run) (lists : Lists) (name target : List ℕ) (uid : Uid) (event : RunEvent) → GoesStraight (request.Copy name uid target) (own_events event.request run) event.part → IsEvent around after run lists (request.Copy name uid target) event
     → OwnUp first (request.Copy name uid target) (own_events event.request run) → OwnUp first (request.Copy name uid target) (own_events event.request run ++ event ∷ [])
 unfolding OwnUp begun up_now up_at
-copy_fresh first around after run lists name target uid event ev o = by_last (last_of (own_events event.request run)) refl
+copy_fresh first around after run lists name target uid event g ev o = by_last (last_of (own_events event.request run)) refl
   where
     p : sum_by up_by (own_events event.request run ++ event ∷ []) ≡ sum_by up_by (own_events event.request run) + up_by event
     p = sum_by_push up_by (own_events event.request run) event
@@ -184,8 +176,7 @@ copy_fresh first around after run lists name target uid event ev o = by_last (la
         omega (arith, p, u, now, z, m, o)
     by_last (Some e) is =
         let z : begun (last_of (own_events event.request run)) ≡ 1 = ap begun is in
-        let next : part_after around run (request.Copy name uid target) (Some e) ≡ Some event.part = ap (part_after around run (request.Copy name uid target)) (sym is) ∙ sym (next_is around run (request.Copy name uid target) (own_events event.request run)) ∙ ev.part_is in
-        let m = none_now event.part event.refused (copy_behind around run name target uid e event.part next) in
+        let m = none_now event.part event.refused (copy_behind name target uid (own_events event.request run) e event.part is g) in
         omega (arith, p, u, now, z, m, o)
 
 -- a request that raises nothing
@@ -201,15 +192,15 @@ still_fresh around after run lists q event s zero_at ev o =
     none None = zero_at event.part
     none (Some why) = refl
 
-own_fresh : (first : List MapRecord) (most : ℕ) (around after : Around) (run : Run) (lists : Lists) (q : Request) (event : RunEvent) → Grown first most (map_of run).records → IsSimple q → IsEvent around after run lists q event
+own_fresh : (first : List MapRecord) (most : ℕ) (around after : Around) (run : Run) (lists : Lists) (q : Request) (event : RunEvent) → Grown first most (map_of run).records → IsSimple q → GoesStraight q (own_events event.request run) event.part → IsEvent around after run lists q event
     → OwnUp first q (own_events event.request run) → OwnUp first q (own_events event.request run ++ event ∷ [])
 unfolding OwnUp up_at
-own_fresh first most around after run lists (request.Make name) event g s ev o = still_fresh around after run lists (request.Make name) event s (λ part. refl) ev o
-own_fresh first most around after run lists (request.Deliver name time octets) event g s ev o = delivery_fresh first most around after run lists name time octets event g s ev o
-own_fresh first most around after run lists (request.Copy name uid target) event g s ev o = copy_fresh first around after run lists name target uid event ev o
-own_fresh first most around after run lists (request.Expunge name uid) event g s ev o = still_fresh around after run lists (request.Expunge name uid) event s (λ part. refl) ev o
-own_fresh first most around after run lists (request.Flag name uid flags) event g s ev o = still_fresh around after run lists (request.Flag name uid flags) event s (λ part. refl) ev o
-own_fresh first most around after run lists q event g s ev o = absurd s
+own_fresh first most around after run lists (request.Make name) event g s straight ev o = still_fresh around after run lists (request.Make name) event s (λ part. refl) ev o
+own_fresh first most around after run lists (request.Deliver name time octets) event g s straight ev o = delivery_fresh first most around after run lists name time octets event g s ev o
+own_fresh first most around after run lists (request.Copy name uid target) event g s straight ev o = copy_fresh first around after run lists name target uid event straight ev o
+own_fresh first most around after run lists (request.Expunge name uid) event g s straight ev o = still_fresh around after run lists (request.Expunge name uid) event s (λ part. refl) ev o
+own_fresh first most around after run lists (request.Flag name uid flags) event g s straight ev o = still_fresh around after run lists (request.Flag name uid flags) event s (λ part. refl) ev o
+own_fresh first most around after run lists q event g s straight ev o = absurd s
 
 -- a request raises one count at the most
 own_few : (first : List MapRecord) (q : Request) (own : List RunEvent) → IsSimple q → OwnUp first q own → sum_by up_by own ≤ raised_by q
@@ -222,6 +213,7 @@ own_few first (request.Deliver name time octets) own s o = let m = most (last_of
     by_part StoresRecord (Some why) = omega arith
     by_part Last r = omega arith
     by_part GivesBack r = omega arith
+    by_part StartsOver (Some why) = omega arith
     by_part part r = omega arith
 
     most : (last : Option RunEvent) → stored_last last ≤ 1
@@ -241,9 +233,9 @@ own_few first q own s o = absurd s
 abbrev AreUp : List MapRecord → ℕ → ℕ → Run → Type 0
 AreUp first lanes number run = (i : ℕ) → OwnUp first (made_request lanes number i).1 (own_events i run)
 
-up_event : (first : List MapRecord) (most lanes count number : ℕ) (around after : Around) (run : Run) (lists : Lists) (event : RunEvent) → AreUp first lanes number run → Grown first most (map_of run).records → IsCountable (map_of run) → IsNextEvent around after (script_of lanes count number) run lists event
+up_event : (first : List MapRecord) (most lanes count number : ℕ) (around after : Around) (run : Run) (lists : Lists) (event : RunEvent) → AreUp first lanes number run → Grown first most (map_of run).records → IsCountable (map_of run) → GoesStraight (made_request lanes number event.request).1 (own_events event.request run) event.part → IsNextEvent around after (script_of lanes count number) run lists event
     → AreUp first lanes number (and_then run event) × Grown first (most + up_by event) (map_of (and_then run event)).records
-up_event first most lanes count number around after run lists event own g countable next = (each, run_grown first run event most (event_up around after run lists (made_request lanes number event.request).1 event simple ev).1 countable g)
+up_event first most lanes count number around after run lists event own g countable straight next = (each, run_grown first run event most (event_up around after run lists (made_request lanes number event.request).1 event simple ev).1 countable g)
   where
     lt : event.request < count
     lt = let l = script_length lanes count number in let w = slice_get_within (script_of lanes count number) event.request next.asked next.request_is in omega (arith, l, w)
@@ -258,7 +250,7 @@ up_event first most lanes count number around after run lists event own g counta
     simple = round_simple number event.request (event.request % lanes + 1) (event.request / lanes)
 
     here : OwnUp first (made_request lanes number event.request).1 (own_events event.request (and_then run event))
-    here = subst (OwnUp first (made_request lanes number event.request).1) (sym (own_more event.request run event (eq-eqb event.request event.request refl))) (own_fresh first most around after run lists (made_request lanes number event.request).1 event g simple ev (own event.request))
+    here = subst (OwnUp first (made_request lanes number event.request).1) (sym (own_more event.request run event (eq-eqb event.request event.request refl))) (own_fresh first most around after run lists (made_request lanes number event.request).1 event g simple straight ev (own event.request))
 
     each : AreUp first lanes number (and_then run event)
     each i = by_place (event.request == i) refl
@@ -272,21 +264,20 @@ record FreshTo (first : List MapRecord) (lanes number : ℕ) (run : Run) (n : �
   own : AreUp first lanes number (before n run)
   grown : Grown first (sum_by up_by (take n run.events)) (map_of (before n run)).records
 
-fresh_to : (lanes count number : ℕ) (around after : ℕ → Around) (start : Lists) (run : Run) (journal : List JournalStep) → IsCountable (map_of (before 0 run)) → AreNextEvents around after (script_of lanes count number) start run journal → (n : ℕ) → n ≤ length run.events → FreshTo (map_of (before 0 run)).records lanes number run n
-fresh_to lanes count number around after start run journal c next zero le = record {
+fresh_to : (lanes count number : ℕ) (around after : ℕ → Around) (start : Lists) (run : Run) (journal : List JournalStep) → IsCountable (map_of (before 0 run)) → AreStraight lanes number run → AreNextEvents around after (script_of lanes count number) start run journal → (n : ℕ) → n ≤ length run.events → FreshTo (map_of (before 0 run)).records lanes number run n
+fresh_to lanes count number around after start run journal c straight next zero le = record {
   own = λ i. up_none (map_of (before 0 run)).records (made_request lanes number i).1;
   grown = record { was = (map_of (before 0 run)).records; new = []; rows_are = sym (append-nil (map_of (before 0 run)).records); guids = refl; few = omega arith };
 }
-fresh_to lanes count number around after start run journal c next (suc n) le = one_more (fresh_to lanes count number around after start run journal c next n (omega (arith, le)))
+fresh_to lanes count number around after start run journal c straight next (suc n) le = with_event e.0 e.1 (ap (λ (r : Run). r.events) e.2) (fresh_to lanes count number around after start run journal c straight next n (omega (arith, le)))
   where
-    with_first : (xs : List RunEvent) → n < length xs → RunEvent
-    with_first [] lt = absurd (omega (arith, lt))
-    with_first (x ∷ xs) lt = x
+    e : (event : RunEvent) × (slice_get run.events n ≡ Some event) × (before (suc n) run ≡ and_then (before n run) event)
+    e = event_at run n (omega (arith, le))
 
     with_event : (e : RunEvent) → slice_get run.events n ≡ Some e → take (suc n) run.events ≡ take n run.events ++ e ∷ [] → FreshTo (map_of (before 0 run)).records lanes number run n → FreshTo (map_of (before 0 run)).records lanes number run (suc n)
     with_event e is taken u =
-        let countable = (counted_to lanes count number around after start run journal c next n (omega (arith, le))).counted.countable in
-        let on = up_event (map_of (before 0 run)).records (sum_by up_by (take n run.events)) lanes count number (around n) (after n) (before n run) (lists_before start journal n) e u.own u.grown countable (next n e is) in
+        let countable = (counted_to lanes count number around after start run journal c straight next n (omega (arith, le))).counted.countable in
+        let on = up_event (map_of (before 0 run)).records (sum_by up_by (take n run.events)) lanes count number (around n) (after n) (before n run) (lists_before start journal n) e u.own u.grown countable (straight n e is) (next n e is) in
         let same : before (suc n) run ≡ and_then (before n run) e = ap (λ (es : List RunEvent). record run { events = es }) taken in
         let up : sum_by up_by (take (suc n) run.events) ≡ sum_by up_by (take n run.events) + up_by e = ap (sum_by up_by) taken ∙ sum_by_push up_by (take n run.events) e in
         record {
@@ -295,18 +286,11 @@ fresh_to lanes count number around after start run journal c next (suc n) le = o
               (subst (λ (k : ℕ). Grown (map_of (before 0 run)).records k (map_of (and_then (before n run) e)).records) (sym up) on.1);
         }
 
-    one_more : FreshTo (map_of (before 0 run)).records lanes number run n → FreshTo (map_of (before 0 run)).records lanes number run (suc n)
-    one_more u =
-        let lt : n < length run.events = omega (arith, le) in
-        let d = with_first run.events lt in
-        let plus : n + 1 ≡ suc n = omega arith in
-        with_event (slice_index_or run.events n d) (slice_get-get_or run.events n d lt) (ap (λ (k : ℕ). take k run.events) (sym plus) ∙ take_more run.events n d lt) u
-
 -- At any time few counts are kept of a new GUID.
-pub new_few : (lanes count number : ℕ) (around after : ℕ → Around) (start : Lists) (run : Run) (journal : List JournalStep) → 1 ≤ lanes → lanes ≤ 64 → count ≤ 100000 → IsCountable (map_of (before 0 run)) → AreNextEvents around after (script_of lanes count number) start run journal → (n : ℕ) → n ≤ length run.events
+pub new_few : (lanes count number : ℕ) (around after : ℕ → Around) (start : Lists) (run : Run) (journal : List JournalStep) → 1 ≤ lanes → lanes ≤ 64 → count ≤ 100000 → IsCountable (map_of (before 0 run)) → AreStraight lanes number run → AreNextEvents around after (script_of lanes count number) start run journal → (n : ℕ) → n ≤ length run.events
     → (guid : List ℕ) → IsNew (map_of (before 0 run)).records guid → count_of (map_of (before n run)) guid ≤ 50064
-new_few lanes count number around after start run journal one most few c next n le guid new =
-    let u = fresh_to lanes count number around after start run journal c next n le in
+new_few lanes count number around after start run journal one most few c straight next n le guid new =
+    let u = fresh_to lanes count number around after start run journal c straight next n le in
     let w = (up_to lanes count number around after start run journal next n le).within in
     let k = new_count (map_of (before 0 run)).records (map_of (before n run)) (sum_by up_by (take n run.events)) guid u.grown new in
     let parts = sum_by_requests count up_by (take n run.events) w in
@@ -318,16 +302,16 @@ new_few lanes count number around after start run journal one most few c next n 
     less_below f g n e = each_less f g e n
 
 -- A message that is delivered has a new GUID.
-pub delivered_new : (lanes count number : ℕ) (around after : ℕ → Around) (start : Lists) (run : Run) (journal : List JournalStep) → IsCountable (map_of (before 0 run)) → AreNextEvents around after (script_of lanes count number) start run journal → (n : ℕ) (event : RunEvent) → slice_get run.events n ≡ Some event
+pub delivered_new : (lanes count number : ℕ) (around after : ℕ → Around) (start : Lists) (run : Run) (journal : List JournalStep) → IsCountable (map_of (before 0 run)) → AreStraight lanes number run → AreNextEvents around after (script_of lanes count number) start run journal → (n : ℕ) (event : RunEvent) → slice_get run.events n ≡ Some event
     → (name : List ℕ) (time : ℕ) (octets : List ℕ) → (made_request lanes number event.request).1 ≡ request.Deliver name time octets → event.part ≡ Last → event.refused ≡ None → (guid : List ℕ) → guid_added event.box_entries ≡ Some guid → IsNew (map_of (before 0 run)).records guid
 unfolding OwnUp GoesBehind stored_at stored_by
-delivered_new lanes count number around after start run journal c next n event is name time octets asked part none guid added = o.1 was guid given
+delivered_new lanes count number around after start run journal c straight next n event is name time octets asked part none guid added = o.1 was guid given
   where
     le : n < length run.events
     le = slice_get_within run.events n event is
 
     u : FreshTo (map_of (before 0 run)).records lanes number run n
-    u = fresh_to lanes count number around after start run journal c next n (let l = slice_get_within run.events n event is in omega (arith, l))
+    u = fresh_to lanes count number around after start run journal c straight next n (let l = slice_get_within run.events n event is in omega (arith, l))
 
     nx : IsNextEvent (around n) (after n) (script_of lanes count number) (before n run) (lists_before start journal n) event
     nx = next n event is

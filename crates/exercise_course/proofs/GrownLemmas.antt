@@ -118,6 +118,8 @@ grown_on first m (entry.S origin count uid file offset size guid instances) most
     }
 grown_on first m (entry.T counts) most s c g = absurd s
 grown_on first m (entry.P file target moved dropped) most s c g = absurd s
+grown_on first m (entry.X mailbox amounts) most s c g = absurd s
+grown_on first m (entry.V mailbox name) most s c g = absurd s
 
 pub run_grown : (first : List MapRecord) (run : Run) (event : RunEvent) (most : ℕ) → IsShort event.map_entries → IsCountable (map_of run) → Grown first most (map_of run).records → Grown first (most + up_by event) (map_of (and_then run event)).records
 run_grown first run event most short c g = subst (λ (l : List MapEntry). Grown first (most + up_by event) (map_meaning run.store l).records) (sym (entries_more run event)) (by_entries event.map_entries short)

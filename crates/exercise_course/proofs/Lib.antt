@@ -8,6 +8,7 @@ pub mod FreshLemmas
 pub mod GrownLemmas
 pub mod HalfLemmas
 pub mod LegalLemmas
+pub mod NamedLemmas
 pub mod PlaceLemmas
 pub mod ReadyLemmas
 pub mod RoundLemmas

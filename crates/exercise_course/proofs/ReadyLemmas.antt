@@ -120,6 +120,8 @@ ready_checks run event old (request.Copy name uid target) First h =
     (named_mild run old name h.0.box h.0.here, (named_mild run old target h.1.box h.1.here, (uid_mild run old name uid.0 h.0.message h.0.there, (room_mild run old target h.1.box h.1.here h.1.few, (next_mild run old target, (copied_mild run old name uid.0, tt))))))
 ready_checks run event old (request.Copy name uid target) Last h =
     (named_mild run old name h.0.box h.0.here, (named_mild run old target h.1.box h.1.here, (uid_mild run old name uid.0 h.0.message h.0.there, (room_mild run old target h.1.box h.1.here h.1.few, (next_mild run old target, tt)))))
+ready_checks run event old (request.Copy name uid target) StartsOver h =
+    (named_mild run old name h.0.box h.0.here, (named_mild run old target h.1.box h.1.here, (uid_mild run old name uid.0 h.0.message h.0.there, (room_mild run old target h.1.box h.1.here h.1.few, (next_mild run old target, tt)))))
 ready_checks run event old (request.Copy name uid target) part h = tt
 ready_checks run event old (request.Expunge name uid) First h = (named_mild run old name h.box h.here, (uid_mild run old name uid.0 h.message h.there, tt))
 ready_checks run event old (request.Expunge name uid) part h = tt
@@ -141,6 +143,8 @@ does_so run event old (request.List name) First (reply.Listed rows) new d = (ref
 does_so run event old (request.Fetch name uid) First (reply.Fetched octets) new d = (refl, tt)
 does_so run event old (request.Flag name uid flags) First reply.Done new d = (refl, d)
 does_so run event old (request.Make name) Last reply.Done new d = (refl, (d.number, d.new_is))
+does_so run event old (request.Delete name) First reply.Done new d = (refl, tt)
+does_so run event old (request.Rename name target) First reply.Done new d = (refl, tt)
 does_so run event old (request.Deliver name time octets) Last (reply.Saved uid own) new d = (refl, (record { uid = uid.0; flags = 0; time = time; guid = own.0; octets = octets }, refl, d.new_is))
 does_so run event old (request.Copy name uid target) Last (reply.Copied given) new d = (refl, (d.message, d.source_is, d.new_is))
 does_so run event old (request.Move name uid target) Last (reply.Copied given) new d = (refl, tt)

@@ -17,7 +17,7 @@ use Rattle.model_lists.specs.Lists.{Lists}
 use Rattle.model_mime.specs.Parts.{parts_in}
 use Rattle.model_meaning.specs.MapMeaning.{MapMeaning, MapRecord, has_map_uid, map_applied, map_meaning, record_changed, record_made}
 use Rattle.model_meaning.proofs.MapLemmas.{map_more}
-use Rattle.list_machine.specs.Run.{EventPart, First, Compares, PlacesInstance, TakesFile, PlacesMessage, StoresRecord, Last, GivesBack, Run, RunEvent, and_then, entries_of, map_of, own_events}
+use Rattle.list_machine.specs.Run.{EventPart, First, Compares, PlacesInstance, TakesFile, PlacesMessage, StoresRecord, Last, GivesBack, StartsOver, Run, RunEvent, and_then, entries_of, map_of, own_events}
 use Rattle.journal.specs.Events.{Around, DidNothing, DidPart, IsEvent, behind_addition, behind_delivery, behind_event, instances_found, next_part}
 use Rattle.journal.proofs.RunLemmas.{entries_more}
 use Rattle.exercise_course.specs.InOrder.{delivered_by}
@@ -72,6 +72,7 @@ applied_small : (m : MapMeaning) (e : MapEntry) → IsSmall e → HasMore (made_
 applied_small m (entry.H h) s = let w = with_made m.records _ [] 0 refl refl (kept_rows (λ row. row) (λ row. refl) m.records) in record { records = w.0; instances = w.1 }
 applied_small m (entry.B mailbox generation name) s = let w = with_made m.records _ [] 0 refl refl (kept_rows (λ row. row) (λ row. refl) m.records) in record { records = w.0; instances = w.1 }
 applied_small m (entry.G mailbox generation) s = let w = with_made m.records _ [] 0 refl refl (kept_rows (λ row. row) (λ row. refl) m.records) in record { records = w.0; instances = w.1 }
+applied_small m (entry.V mailbox name) s = let w = with_made m.records _ [] 0 refl refl (kept_rows (λ row. row) (λ row. refl) m.records) in record { records = w.0; instances = w.1 }
 applied_small m (entry.E file) s = let w = with_made m.records _ [] 0 refl refl (kept_rows (λ row. row) (λ row. refl) m.records) in record { records = w.0; instances = w.1 }
 applied_small m (entry.S origin count uid file offset size guid instances) s =
     let made : List MapRecord = record_made (entry.S origin count uid file offset size guid instances) in
@@ -85,6 +86,9 @@ applied_small m (entry.D uids) s =
     record { records = w.0; instances = w.1 }
 applied_small m (entry.T counts) s =
     let w = with_made m.records _ [] 0 refl refl (kept_rows (record_changed (entry.T counts)) (λ row. refl) m.records) in
+    record { records = w.0; instances = w.1 }
+applied_small m (entry.X mailbox amounts) s =
+    let w = with_made m.records _ [] 0 refl refl (kept_rows (record_changed (entry.X mailbox amounts)) (λ row. refl) m.records) in
     record { records = w.0; instances = w.1 }
 applied_small m (entry.P file target moved dropped) s = absurd s
 
@@ -139,11 +143,12 @@ unfoldable pub stored_at : EventPart → Option Refusal → ℕ
 stored_at StoresRecord None = 1
 stored_at part refused = 0
 
--- its record is stored
+-- its record is stored, as far as its parts tell: it never starts over
 unfoldable pub stored_by : EventPart → Option Refusal → ℕ
 stored_by StoresRecord None = 1
 stored_by Last refused = 1
 stored_by GivesBack refused = 1
+stored_by StartsOver (Some why) = 1
 stored_by part refused = 0
 
 -- it looks for no instance
@@ -174,8 +179,9 @@ other_adds around run lists (request.Make name) event First s z d = adds_as 0 ev
 other_adds around run lists (request.Make name) event Last s z d = adds_as 0 event _ d (record { stored = refl; small = (tt, tt) })
 other_adds around run lists (request.Make name) event part s z d = adds_as 0 event _ d (record { stored = refl; small = tt })
 other_adds around run lists (request.Deliver name time octets) event part s z d = absurd (let k : ◌≡◌ {A = ℕ} 1 0 = z in omega (arith, k))
-other_adds around run lists (request.Copy name uid target) event First s z d = adds_as 0 event _ d.2 (record { stored = refl; small = (tt, tt) })
+other_adds around run lists (request.Copy name uid target) event First s z d = adds_as 0 event _ d.4 (record { stored = refl; small = (tt, tt) })
 other_adds around run lists (request.Copy name uid target) event Last s z d = adds_as 0 event _ d.2.4 (record { stored = refl; small = tt })
+other_adds around run lists (request.Copy name uid target) event StartsOver s z d = adds_as 0 event _ d (record { stored = refl; small = tt })
 other_adds around run lists (request.Copy name uid target) event GivesBack s z d = adds_as 0 event _ d.2 (record { stored = refl; small = (tt, tt) })
 other_adds around run lists (request.Copy name uid target) event part s z d = absurd d
 other_adds around run lists (request.Expunge name uid) event First s z d = adds_as 0 event _ d.4 (record { stored = refl; small = tt })
@@ -248,6 +254,8 @@ addition_behind : (part p : EventPart) (why : Refusal) → behind_addition part 
 unfolding GoesBehind stored_at stored_by LooksForNone
 addition_behind Last p refusal.Stopped is = absurd (cc is)
 addition_behind Last p why is = subst (GoesBehind 1) (some_is GivesBack p is) (λ refused. refl, tt)
+addition_behind StartsOver p refusal.Stopped is = absurd (cc is)
+addition_behind StartsOver p why is = subst (GoesBehind 1) (some_is GivesBack p is) (λ refused. refl, tt)
 addition_behind part p why is = absurd (cc is)
 
 pub delivery_next : (around : Around) (run : Run) (name : List ℕ) (time : ℕ) (octets : List ℕ) (last : Option RunEvent) (p : EventPart) → around.parts ≡ 0 → part_after around run (request.Deliver name time octets) last ≡ Some p → GoesBehind (stored_last last) p

@@ -4,7 +4,7 @@ use Rattle.std.specs.Option.{option_map_or}
 use Rattle.mdbox_base.specs.declared.requests.Request.{Request}
 use Rattle.mdbox_base.specs.declared.requests.Request.TheVariants as request
 use Rattle.model_lists.specs.Lists.{Lists, empty_mailbox}
-use Rattle.list_machine.specs.Machine.{add_message, expunge, message_at, set_flags}
+use Rattle.list_machine.specs.Machine.{add_message, delete_mailbox, expunge, message_at, rename_mailbox, set_flags}
 use Rattle.journal.specs.Journal.{Requests}
 
 -- the lists with the copy of a message, if it is there
@@ -14,6 +14,8 @@ with_copy name uid target lists = option_map_or (λ message. add_message target 
 -- The lists that a request leaves which is done: a mailbox that it makes has the number 0, and a message that it delivers no GUID.
 abbrev pub lists_done : Request → Lists → Lists
 lists_done (request.Make name) lists = lists ++ empty_mailbox 0 name ∷ []
+lists_done (request.Delete name) lists = delete_mailbox name lists
+lists_done (request.Rename name target) lists = rename_mailbox name target lists
 lists_done (request.Deliver name time octets) lists = add_message name (record { uid = 0; flags = 0; time = time; guid = []; octets = octets }) lists
 lists_done (request.Copy name uid target) lists = with_copy name uid.0 target lists
 lists_done (request.Move name uid target) lists = expunge name uid.0 (with_copy name uid.0 target lists)

@@ -1,5 +1,5 @@
 // One order of the events of two lanes, beside lists that do the same steps.
-use crate::plain::{Followed, is_answer};
+use crate::plain::{Followed, Wanted, is_answer};
 use crate::two_lanes::{LANES, Lane, TwoLanes, Wrong};
 use disk_model::Disk;
 use lanes::{Turn, Turned};
@@ -20,7 +20,7 @@ pub struct Choice {
 #[derive(Drop)]
 pub struct Course {
     requests: Seq<(u32, Request)>,
-    wanted: Vec<Option<Reply>>,
+    wanted: Vec<Option<Wanted>>,
     /// How many requests of other lanes may have begun beside one.
     beside: u64,
     /// How many requests are answered.
@@ -178,7 +178,7 @@ impl Course {
     /// Whether a reply is the one that lists answer to the request at this place.
     fn is_wanted(&self, place: usize, given: &Reply) -> bool {
         match self.wanted.get(place) {
-            Some(Some(wanted)) => is_answer(given, wanted, self.beside),
+            Some(Some(wanted)) => is_answer(given, &wanted.reply, self.beside),
             _ => false,
         }
     }

@@ -1,16 +1,24 @@
 // Mailbox lists that follow a journal, a step at a time.
 use mdbox_base::{
-    Guid, Half, Name, NoMemory, Octets, Refusal, Reply, Request, Seq, Uid, flags_of, name_of,
+    BoxNo, Guid, Half, Name, NoMemory, Octets, Refusal, Reply, Request, Seq, Uid, flags_of, name_of,
 };
 use plain_lists::{PlainLists, PlainMailbox, PlainMessage};
 use std::alloc::Global;
 use std::mem;
 
-/// Mailbox lists that follow a journal.
+/// What lists answer to a request so far, and the number of the mailbox from which they copied for a move.
+#[derive(Drop)]
+pub struct Wanted {
+    pub reply: Reply,
+    source: Option<BoxNo>,
+}
+
+/// Mailbox lists that follow a journal, and the highest number that a mailbox was ever given.
 #[derive(Drop)]
 pub struct Followed {
     alloc: Global,
     mailboxes: Vec<PlainMailbox>,
+    highest: u32,
 }
 
 impl Followed {
@@ -19,6 +27,7 @@ impl Followed {
         let mut followed = Followed {
             alloc,
             mailboxes: Vec::new(alloc),
+            highest: 0,
         };
         if let Some(name) = name_of(alloc, b"INBOX")? {
             followed.make(name)?;
@@ -32,21 +41,24 @@ impl Followed {
         &mut self,
         request: &Request,
         half: Half,
-        so_far: &Option<Reply>,
+        so_far: &Option<Wanted>,
         given: Option<&Reply>,
-    ) -> Result<Option<Reply>, NoMemory> {
+    ) -> Result<Option<Wanted>, NoMemory> {
         match (request, half) {
             (Request::Move { name, uid, target }, Half::CopyHalf) => {
-                Ok(Some(self.copy(name, *uid, target)?))
+                let source = self.number(name);
+                let reply = self.copy(name, *uid, target)?;
+                Ok(Some(Wanted { reply, source }))
             }
-            (Request::Move { name, uid, target }, Half::ExpungeHalf) => match so_far {
-                Some(Reply::Copied { uid: copied }) => {
-                    Ok(Some(self.second_half(name, *uid, target, *copied)))
-                }
-                _ => Ok(None),
-            },
+            (Request::Move { uid, .. }, Half::ExpungeHalf) => Ok(self.second_half(*uid, so_far)),
             (Request::Move { .. }, Half::Whole) => Ok(None),
-            (_, Half::Whole) => self.whole(request, given),
+            (_, Half::Whole) => match self.whole(request, given)? {
+                Some(reply) => Ok(Some(Wanted {
+                    reply,
+                    source: None,
+                })),
+                None => Ok(None),
+            },
             _ => Ok(None),
         }
     }
@@ -72,18 +84,28 @@ impl Followed {
             Request::Flag { name, uid, flags } => {
                 let mut lists = self.lists();
                 let reply = lists.flag(name, *uid, *flags);
-                self.mailboxes = lists.into_mailboxes();
+                self.put_back(lists);
                 Ok(Some(reply))
             }
             Request::Copy { name, uid, target } => Ok(Some(self.copy(name, *uid, target)?)),
             Request::Expunge { name, uid } => {
                 let mut lists = self.lists();
                 let reply = lists.expunge(name, *uid);
-                self.mailboxes = lists.into_mailboxes();
+                self.put_back(lists);
                 Ok(Some(reply))
             }
             Request::Make { name } => match name_of(alloc, name.as_octets())? {
                 Some(name) => Ok(Some(self.make(name)?)),
+                None => Ok(None),
+            },
+            Request::Delete { name } => {
+                let mut lists = self.lists();
+                let reply = lists.delete(name);
+                self.put_back(lists);
+                Ok(Some(reply))
+            }
+            Request::Rename { name, target } => match name_of(alloc, target.as_octets())? {
+                Some(target) => Ok(Some(self.rename(name, target))),
                 None => Ok(None),
             },
             Request::Move { .. } => Ok(None),
@@ -102,35 +124,62 @@ impl Followed {
 
     /// The lists, which are to be put back.
     fn lists(&mut self) -> PlainLists {
-        PlainLists::of(mem::replace(&mut self.mailboxes, Vec::new(self.alloc)))
+        PlainLists::of(
+            mem::replace(&mut self.mailboxes, Vec::new(self.alloc)),
+            self.highest,
+        )
+    }
+
+    fn put_back(&mut self, lists: PlainLists) {
+        let (mailboxes, highest) = lists.into_parts();
+        self.mailboxes = mailboxes;
+        self.highest = highest;
     }
 
     fn list(&mut self, name: &Name) -> Result<Reply, NoMemory> {
         let lists = self.lists();
         let reply = lists.list(self.alloc, name);
-        self.mailboxes = lists.into_mailboxes();
+        self.put_back(lists);
         reply
     }
 
     fn make(&mut self, name: Name) -> Result<Reply, NoMemory> {
         let mut lists = self.lists();
         let reply = lists.make(self.alloc, name);
-        self.mailboxes = lists.into_mailboxes();
+        self.put_back(lists);
         reply
     }
 
     fn copy(&mut self, name: &Name, uid: Uid, target: &Name) -> Result<Reply, NoMemory> {
         let mut lists = self.lists();
         let reply = lists.copy(self.alloc, name, uid, target);
-        self.mailboxes = lists.into_mailboxes();
+        self.put_back(lists);
         reply
     }
 
-    fn second_half(&mut self, name: &Name, uid: Uid, target: &Name, copied: Uid) -> Reply {
+    fn rename(&mut self, name: &Name, target: Name) -> Reply {
         let mut lists = self.lists();
-        let reply = lists.second_half(name, uid, target, copied);
-        self.mailboxes = lists.into_mailboxes();
+        let reply = lists.rename(name, target);
+        self.put_back(lists);
         reply
+    }
+
+    /// The second half of a move, from the mailbox that its copy found.
+    fn second_half(&mut self, uid: Uid, so_far: &Option<Wanted>) -> Option<Wanted> {
+        let Some(Wanted {
+            reply: Reply::Copied { uid: copied },
+            source: Some(source),
+        }) = so_far
+        else {
+            return None;
+        };
+        let mut lists = self.lists();
+        let reply = lists.second_half(*source, uid, *copied);
+        self.put_back(lists);
+        Some(Wanted {
+            reply,
+            source: None,
+        })
     }
 
     /// Adds a message with this GUID. None if the GUID is another's, or the lists have no room.
@@ -179,6 +228,11 @@ impl Followed {
             }
         }
         None
+    }
+
+    /// The number of a mailbox.
+    fn number(&self, name: &Name) -> Option<BoxNo> {
+        Some(self.mailbox(name)?.number)
     }
 
     fn has_guid(&self, guid: Guid) -> bool {

@@ -9,8 +9,8 @@ use Rattle.mdbox_base.specs.declared.replies.Refusal.{Refusal}
 use Rattle.mdbox_base.specs.declared.requests.Request.{Request}
 use Rattle.mdbox_base.specs.declared.requests.Request.TheVariants as request
 use Rattle.model_lists.specs.Lists.{ListedMessage, Lists}
-use Rattle.list_machine.specs.Machine.{message_at}
-use Rattle.list_machine.specs.Run.{EventPart, First, Last, SecondHalf, GivesBack, ReadsFile, RemovesFile, RunEvent, Run, TakenFile, and_then, own_events}
+use Rattle.list_machine.specs.Machine.{message_numbered}
+use Rattle.list_machine.specs.Run.{EventPart, First, Last, SecondHalf, GivesBack, StartsOver, ReadsFile, RemovesFile, RunEvent, Run, TakenFile, and_then, own_events, source_of}
 use Rattle.journal.specs.Events.{Around, DidCopy, DidPart, RemovesIfThere}
 use Rattle.journal.specs.Found.{took_file}
 use Rattle.journal.proofs.OwnEventLemmas.{own_more, own_other}
@@ -41,20 +41,21 @@ expunge_takes_none name uid around run lists event GivesBack d = files_of event 
 expunge_takes_none name uid around run lists event part d = files_of event _ d
 
 copied_none : (run : Run) (lists : Lists) (name : List ℕ) (uid : ℕ) (target : List ℕ) (event : RunEvent) (part : EventPart) → DidCopy run lists name uid target event part → event.files ≡ []
-copied_none run lists name uid target event First d = files_of event _ d.2
+copied_none run lists name uid target event First d = files_of event _ d.4
 copied_none run lists name uid target event Last d = files_of event _ d.2.4
+copied_none run lists name uid target event StartsOver d = files_of event _ d
 copied_none run lists name uid target event GivesBack d = files_of event _ d.2
 copied_none run lists name uid target event part d = absurd d
 
 pub copy_takes_none : (name : List ℕ) (uid : Uid) (target : List ℕ) → TakesNone (request.Copy name uid target)
 copy_takes_none name uid target around run lists event part d = copied_none run lists name uid.0 target event part d
 
-removed_none : (run : Run) (lists : Lists) (name : List ℕ) (uid : ℕ) (event : RunEvent) (there : Option ListedMessage) → RemovesIfThere run lists name uid event there → event.files ≡ []
-removed_none run lists name uid event None d = files_of event _ d
-removed_none run lists name uid event (Some message) d = files_of event _ d.4
+removed_none : (run : Run) (number uid : ℕ) (event : RunEvent) (there : Option ListedMessage) → RemovesIfThere run number uid event there → event.files ≡ []
+removed_none run number uid event None d = files_of event _ d
+removed_none run number uid event (Some message) d = files_of event _ d.2
 
 pub move_takes_none : (name : List ℕ) (uid : Uid) (target : List ℕ) → TakesNone (request.Move name uid target)
-move_takes_none name uid target around run lists event SecondHalf d = removed_none run lists name uid.0 event (message_at name uid.0 lists) d
+move_takes_none name uid target around run lists event SecondHalf d = removed_none run (source_of event.request run) uid.0 event (message_numbered (source_of event.request run) uid.0 lists) d
 move_takes_none name uid target around run lists event part d = copied_none run lists name uid.0 target event part d
 
 pub make_takes_none : (name : List ℕ) → TakesNone (request.Make name)

@@ -460,7 +460,7 @@ copy_refused name uid target now next old new answer why is e step said = by_nex
     by_next : (next : CopyStage) → CopyAnswers name uid target copy_stage.First old new next (progress.Done (reply.Refused why)) → new ≡ old
     by_next copy_stage.First (inl s) = absurd (not_a_step why refusal.Stopped s.0 refl step)
     by_next copy_stage.First (inr s) = s.0
-    by_next (copy_stage.Adding held) s = absurd s
+    by_next (copy_stage.Adding held source) s = absurd s
     by_next (copy_stage.GivingBack held cause) s = absurd s
 
 pub move_refused : {D : Type 0} → (name : List ℕ) (uid : Uid) (target : List ℕ) (now next : MoveStage) (old new : StoreValue D) (answer : Progress) (why : Refusal) → now ≡ move_stage.First → answer ≡ progress.Done (reply.Refused why) → is_step why ≡ true → MoveAnswers name uid target now old new next answer → new ≡ old

@@ -48,9 +48,12 @@ use Rattle.lane_tasks.specs.declared.task.Task.TheVariants as task
 
 -- ---- its request
 
--- the requests that have a task as they are: a delivery's message is prepared first
+-- The requests that have a task as they are. A delivery's message is prepared first. A deletion and a renaming of a mailbox have no
+-- task yet, so that no script may ask them.
 abbrev pub HasTask : Request → Type 0
 HasTask (request.Deliver name time octets) = ⊥
+HasTask (request.Delete name) = ⊥
+HasTask (request.Rename name target) = ⊥
 HasTask other = Unit {0}
 
 -- A delivery's request is of its mailbox and time. Of the message the task keeps no octets, so these may be any.

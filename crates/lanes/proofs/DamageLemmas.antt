@@ -14,7 +14,7 @@ use Rattle.mdbox_base.specs.declared.replies.Reply.TheVariants as reply
 use Rattle.mdbox_base.specs.declared.requests.Request.{Request}
 use Rattle.mdbox_base.specs.declared.requests.Request.TheVariants as request
 use Rattle.model_lists.specs.Lists.{Lists}
-use Rattle.list_machine.specs.Run.{EventPart, Run, RunEvent, and_then, own_events, First, Compares, PlacesInstance, TakesFile, PlacesMessage, StoresRecord, Last, SecondHalf, GivesBack, StartsOver, ReadsPiece, Unpins, RemovesFile, MakesTarget, CopiesMessage, Switches, RemovesInstance, ReadsFile}
+use Rattle.list_machine.specs.Run.{EventPart, Run, RunEvent, and_then, own_events, First, Compares, PlacesInstance, TakesFile, PlacesMessage, StoresRecord, Last, SecondHalf, GivesBack, StartsOver, RemovesLog, ReadsPiece, Unpins, RemovesFile, MakesTarget, CopiesMessage, Switches, RemovesInstance, ReadsFile}
 use Rattle.journal.specs.Events.{Around, IsEvent, IsRepliedBy, MayMeet, behind_event, is_piece, last_refusal}
 use Rattle.journal.specs.Journal.{HasReply, IsReplyOf, Requests, refusal_in}
 use Rattle.journal.proofs.OwnEventLemmas.{own_more, own_other}
@@ -115,6 +115,7 @@ piece_of Last is = absurd (let z : false ≡ true = is in cc z)
 piece_of SecondHalf is = absurd (let z : false ≡ true = is in cc z)
 piece_of GivesBack is = absurd (let z : false ≡ true = is in cc z)
 piece_of StartsOver is = absurd (let z : false ≡ true = is in cc z)
+piece_of RemovesLog is = absurd (let z : false ≡ true = is in cc z)
 piece_of ReadsPiece is = refl
 piece_of Unpins is = absurd (let z : false ≡ true = is in cc z)
 piece_of RemovesFile is = absurd (let z : false ≡ true = is in cc z)
@@ -148,6 +149,8 @@ damaged_fetch (request.Fetch name uid) steps file offset is = (name, uid, refl)
 damaged_fetch (request.List name) steps file offset is = absurd is
 damaged_fetch (request.Flag name uid flags) steps file offset is = absurd is
 damaged_fetch (request.Make name) steps file offset is = absurd is
+damaged_fetch (request.Delete name) steps file offset is = absurd is
+damaged_fetch (request.Rename name target) steps file offset is = absurd is
 damaged_fetch (request.Deliver name time octets) steps file offset is = absurd is
 damaged_fetch (request.Copy name uid target) steps file offset is = absurd is
 damaged_fetch (request.Move name uid target) steps file offset is = absurd is

@@ -7,8 +7,8 @@ use Rattle.mdbox_base.specs.declared.replies.Refusal.{Refusal}
 use Rattle.mdbox_base.specs.declared.requests.Request.{Request}
 use Rattle.mdbox_base.specs.declared.requests.Request.TheVariants as request
 use Rattle.model_lists.specs.Lists.{ListedMessage, Lists}
-use Rattle.list_machine.specs.Machine.{message_at}
-use Rattle.list_machine.specs.Run.{Compares, CopiesMessage, EventPart, First, GivesBack, Last, MakesTarget, Pin, PlacesInstance, PlacesMessage, ReadsFile, RemovesFile, RemovesInstance, RunEvent, Run, SecondHalf, StoresRecord, Switches, TakesFile}
+use Rattle.list_machine.specs.Machine.{message_numbered}
+use Rattle.list_machine.specs.Run.{Compares, CopiesMessage, EventPart, First, GivesBack, Last, MakesTarget, Pin, PlacesInstance, PlacesMessage, ReadsFile, RemovesFile, RemovesInstance, RunEvent, Run, SecondHalf, StartsOver, StoresRecord, Switches, TakesFile, source_of}
 use Rattle.journal.specs.Events.{Around, DidCopy, DidDeliver, DidFetch, DidNothing, DidPart, DidPurge, IsEvent, RemovesIfThere}
 use Rattle.journal.specs.Found.{is_same_instance}
 use Rattle.lane_tasks.specs.Uses.{finds_instance, pins_instance}
@@ -38,14 +38,15 @@ uses_as a b e = (finds_as a b e, pins_as a b e)
 -- ---- each kind, where it wasn't refused
 
 copied_none : (run : Run) (lists : Lists) (name : List ℕ) (uid : ℕ) (target : List ℕ) (event : RunEvent) (part : EventPart) → DidCopy run lists name uid target event part → UsesNone event
-copied_none run lists name uid target event First d = uses_as event _ d.2
+copied_none run lists name uid target event First d = uses_as event _ d.4
 copied_none run lists name uid target event Last d = uses_as event _ d.2.4
+copied_none run lists name uid target event StartsOver d = uses_as event _ d
 copied_none run lists name uid target event GivesBack d = uses_as event _ d.2
 copied_none run lists name uid target event part d = absurd d
 
-removed_none : (run : Run) (lists : Lists) (name : List ℕ) (uid : ℕ) (event : RunEvent) (there : Option ListedMessage) → RemovesIfThere run lists name uid event there → UsesNone event
-removed_none run lists name uid event None d = uses_as event _ d
-removed_none run lists name uid event (Some message) d = uses_as event _ d.4
+removed_none : (run : Run) (number uid : ℕ) (event : RunEvent) (there : Option ListedMessage) → RemovesIfThere run number uid event there → UsesNone event
+removed_none run number uid event None d = uses_as event _ d
+removed_none run number uid event (Some message) d = uses_as event _ d.2
 
 purged_none : (around : Around) (run : Run) (event : RunEvent) (part : EventPart) → DidPurge around run event part → UsesNone event
 purged_none around run event First d = uses_as event _ d.2
@@ -92,13 +93,21 @@ expunged_none name uid around run lists event GivesBack d = uses_as event _ d.2
 expunged_none name uid around run lists event part d = uses_as event _ d
 
 moved_none : (name : List ℕ) (uid : Uid) (target : List ℕ) → DidOther (request.Move name uid target)
-moved_none name uid target around run lists event SecondHalf d = removed_none run lists name uid.0 event (message_at name uid.0 lists) d
+moved_none name uid target around run lists event SecondHalf d = removed_none run (source_of event.request run) uid.0 event (message_numbered (source_of event.request run) uid.0 lists) d
 moved_none name uid target around run lists event part d = copied_none run lists name uid.0 target event part d
 
 made_none : (name : List ℕ) → DidOther (request.Make name)
 made_none name around run lists event First d = uses_as event _ d
 made_none name around run lists event Last d = uses_as event _ d
 made_none name around run lists event part d = uses_as event _ d
+
+deleted_none : (name : List ℕ) → DidOther (request.Delete name)
+deleted_none name around run lists event First d = uses_as event _ d.4
+deleted_none name around run lists event part d = uses_as event _ d
+
+renamed_none : (name target : List ℕ) → DidOther (request.Rename name target)
+renamed_none name target around run lists event First d = uses_as event _ d.2
+renamed_none name target around run lists event part d = uses_as event _ d
 
 resynced_none : DidOther request.Resync
 resynced_none around run lists event First d = uses_as event _ d
@@ -128,6 +137,8 @@ did_uses (request.Copy name uid target) around run lists event part d = copied_n
 did_uses (request.Move name uid target) around run lists event part d = moved_none name uid target around run lists event part d
 did_uses (request.Expunge name uid) around run lists event part d = expunged_none name uid around run lists event part d
 did_uses (request.Make name) around run lists event part d = made_none name around run lists event part d
+did_uses (request.Delete name) around run lists event part d = deleted_none name around run lists event part d
+did_uses (request.Rename name target) around run lists event part d = renamed_none name target around run lists event part d
 did_uses request.Counts around run lists event part d = counted_none around run lists event part d
 did_uses request.Purge around run lists event part d = purged_none around run event part d
 did_uses request.Resync around run lists event part d = resynced_none around run lists event part d

@@ -42,7 +42,7 @@ idle_syncs before after idle =
 pub reading_leaves : {D : Type 0} → (old new : StoreValue D) (before after : Option History) → new ≡ record old { disk = new.disk } → IsIdle before after → (mine : Claims) → LeavesOthers mine old new before after
 reading_leaves old new before after same idle mine =
     subst (λ (s : StoreValue _). LeavesOthers mine old s before after) (sym same)
-    (rest_leaves mine old (record old { disk = new.disk }) before after refl refl (idle_syncs before after idle) refl (unraised_same old.map old.map refl) (omega arith) (λ name uid held k. record { m = k.m; named = k.named; below = k.below; same = k.same }) (omega arith) (λ uid row none found listed. (listed, refl)))
+    (rest_leaves mine old (record old { disk = new.disk }) before after refl refl (idle_syncs before after idle) refl (unraised_same old.map old.map refl) (omega arith) (λ name number is. is) (λ number uid held k. record { given = k.given; below = k.below; same = k.same }) (omega arith) (λ uid row none found listed. (listed, refl)))
 
 pub first_claims : (now : FetchStage) → now ≡ stage.First → ClaimsNothing (fetch_claims now)
 first_claims now is = subst (λ (s : FetchStage). ClaimsNothing (fetch_claims s)) (sym is) (λ thing. refl)

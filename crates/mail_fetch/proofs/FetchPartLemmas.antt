@@ -171,8 +171,10 @@ next_unpins around name uid run place from given (inr (why, front, last, given_i
     by_refusal refusal.ReadFault m = ap (λ (p : EventPart). behind_refused (request.Fetch name uid) p refusal.ReadFault) refused.part
     by_refusal (refusal.Damaged file offset) m = ap (λ (p : EventPart). behind_refused (request.Fetch name uid) p (refusal.Damaged file offset)) refused.part
     by_refusal refusal.NoMailbox m = absurd m
+    by_refusal refusal.Inbox m = absurd m
     by_refusal refusal.Exists m = absurd m
     by_refusal refusal.NoMessage m = absurd m
+    by_refusal refusal.Sealed m = absurd m
     by_refusal (refusal.TooManyCopies n) m = absurd m
     by_refusal (refusal.MailboxFull n) m = absurd m
     by_refusal (refusal.TooManyMailboxes n) m = absurd m

@@ -304,8 +304,10 @@ piece_late None h = tt
 piece_late (Some refusal.ReadFault) h = (refl, λ e. let k : refusal.ReadFault ≡ refusal.NoMemory = e in cc k)
 piece_late (Some (refusal.Damaged file offset)) h = (refl, λ e. let k : refusal.Damaged file offset ≡ refusal.NoMemory = e in cc k)
 piece_late (Some refusal.NoMailbox) h = absurd h
+piece_late (Some refusal.Inbox) h = absurd h
 piece_late (Some refusal.Exists) h = absurd h
 piece_late (Some refusal.NoMessage) h = absurd h
+piece_late (Some refusal.Sealed) h = absurd h
 piece_late (Some (refusal.TooManyCopies n)) h = absurd h
 piece_late (Some (refusal.MailboxFull n)) h = absurd h
 piece_late (Some (refusal.TooManyMailboxes n)) h = absurd h
@@ -318,8 +320,10 @@ piece_may name uid None h = tt
 piece_may name uid (Some refusal.ReadFault) h = refl
 piece_may name uid (Some (refusal.Damaged file offset)) h = refl
 piece_may name uid (Some refusal.NoMailbox) h = absurd h
+piece_may name uid (Some refusal.Inbox) h = absurd h
 piece_may name uid (Some refusal.Exists) h = absurd h
 piece_may name uid (Some refusal.NoMessage) h = absurd h
+piece_may name uid (Some refusal.Sealed) h = absurd h
 piece_may name uid (Some (refusal.TooManyCopies n)) h = absurd h
 piece_may name uid (Some (refusal.MailboxFull n)) h = absurd h
 piece_may name uid (Some (refusal.TooManyMailboxes n)) h = absurd h
@@ -337,8 +341,10 @@ goes_on_behind after run name uid lane place None calls h e = never_none (piece_
 goes_on_behind after run name uid lane place (Some refusal.ReadFault) calls h e = let k : Some Unpins ≡ None = e in cc k
 goes_on_behind after run name uid lane place (Some (refusal.Damaged file offset)) calls h e = let k : Some Unpins ≡ None = e in cc k
 goes_on_behind after run name uid lane place (Some refusal.NoMailbox) calls h e = absurd h
+goes_on_behind after run name uid lane place (Some refusal.Inbox) calls h e = absurd h
 goes_on_behind after run name uid lane place (Some refusal.Exists) calls h e = absurd h
 goes_on_behind after run name uid lane place (Some refusal.NoMessage) calls h e = absurd h
+goes_on_behind after run name uid lane place (Some refusal.Sealed) calls h e = absurd h
 goes_on_behind after run name uid lane place (Some (refusal.TooManyCopies n)) calls h e = absurd h
 goes_on_behind after run name uid lane place (Some (refusal.MailboxFull n)) calls h e = absurd h
 goes_on_behind after run name uid lane place (Some (refusal.TooManyMailboxes n)) calls h e = absurd h

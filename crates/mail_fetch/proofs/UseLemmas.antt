@@ -278,9 +278,10 @@ use_leaves_at mine from pins known store history rows keeps = record {
   store = keeps.store;
   numbers = none_placed store.instances known rows;
   mailboxes = omega arith;
+  names = λ name number is. is;
   compared = keeps.compared;
   firm = keeps.firm;
-  uids = λ name uid held k. record { m = k.m; named = k.named; below = k.below; same = k.same };
+  uids = λ number uid held k. record { given = k.given; below = k.below; same = k.same };
   room = omega arith;
   told = between-begins (λ a b. Unit {0}) history (λ disk. tt);
 }

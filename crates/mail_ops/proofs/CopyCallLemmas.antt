@@ -2,7 +2,7 @@
 use Rattle.std.proofs.Common.{◌≡◌, ◌≤◌, ◌<◌, ◌+◌, ◌==◌, ℕ, Bool, true, false, cond, List, [], ◌∷◌, map, Option, Some, None, refl, sym, ◌∙◌, ap, subst, arith}
 use Rattle.std.specs.Prelude.{find, is_some, count_by, if◌then◌else◌}
 use Rattle.std.specs.List.{AllByRecursion}
-use Rattle.std.specs.Option.{option_map_or}
+use Rattle.std.specs.Option.{IfSome, option_map_or}
 use Rattle.std.specs.Str.{bytes_eq}
 use Rattle.std.proofs.lemmas.Bool.{eq-eqb}
 use Rattle.std.proofs.lemmas.List.Elements.{All-contains}
@@ -12,9 +12,9 @@ use Rattle.mdbox_base.specs.declared.entries.BoxEntry.{BoxEntry}
 use Rattle.mdbox_base.specs.declared.replies.Refusal.{Refusal}
 use Rattle.mdbox_base.specs.declared.replies.Refusal.TheVariants as refusal
 use Rattle.model_meaning.specs.BoxMeaning.{LogRow, BoxMeaning, box_meaning, rows_after, row_at}
-use Rattle.model_meaning.specs.MapMeaning.{MapRecord, MapBox, MapMeaning, map_meaning, record_at, count_of}
+use Rattle.model_meaning.specs.MapMeaning.{MapRecord, MapBox, MapMeaning, map_meaning, record_at, box_named, count_of}
 use Rattle.model_meaning.specs.MapFits.{HasRecord}
-use Rattle.model_meaning.specs.Sound.{IsSoundRow}
+use Rattle.model_meaning.specs.Sound.{IsSoundMap, IsSoundMapBox, IsSoundRow}
 use Rattle.model_meaning.proofs.BoxSoundLemmas.{box_sound}
 use Rattle.model_meaning.proofs.MapPlaceLemmas.{equal_is}
 use Rattle.model_octets.proofs.SearchLemmas.{found_one}
@@ -23,9 +23,11 @@ use Rattle.model_store.specs.Opening.{AreBoxEntries, listed_of, IsCounted}
 use Rattle.store_core.specs.Keeping.{KeepsUid}
 use Rattle.store_core.specs.Running.{IsStore}
 use Rattle.store_core.specs.Value.{StoreValue, list_named}
+use Rattle.task_claims.specs.Leaving.{number_named}
 use Rattle.mail_ops.specs.Copying.{room_refusal, copy_refusal}
 use Rattle.mail_ops.specs.Messages.{IsRowOf}
-use Rattle.mail_ops.proofs.MessageLemmas.{RecordOfRow, record_of_row}
+use Rattle.mail_ops.proofs.FlagListLemmas.{some_there}
+use Rattle.mail_ops.proofs.MessageLemmas.{RecordOfRow, record_of_row, store_is_sound}
 
 -- ---- why a message isn't copied
 
@@ -66,9 +68,6 @@ counted_once (r ∷ rs) uid row e = by_test (r.uid == uid) e (λ k. counted_once
     by_test false k rest = let later = rest k in let split = sum_by-cons (λ (x : LogRow). cond (x.map_uid == row.map_uid) 1 0) r rs in let m = more (r.map_uid == row.map_uid) (count_by (λ x. x.map_uid == row.map_uid) rs) later in omega (arith, split, m)
 
 log_of_row : (name : List ℕ) (uid : ℕ) (boxes : List MapBox) (logs : List (List BoxEntry)) (m : BoxMeaning) (row : LogRow) → AllByRecursion AreBoxEntries logs → meaning_named name boxes (map box_meaning logs) ≡ Some m → row_at m uid ≡ Some row → LogOfRow m row logs
-log_of_row name uid [] [] m row each is found = absurd (cc (let k : None ≡ Some m = is in k))
-log_of_row name uid [] (log ∷ logs) m row each is found = absurd (cc (let k : None ≡ Some m = is in k))
-log_of_row name uid (b ∷ bs) [] m row each is found = absurd (cc (let k : None ≡ Some m = is in k))
 log_of_row name uid (b ∷ bs) (log ∷ logs) m row each is found = by_test (bytes_eq b.name name) is (λ e. log_of_row name uid bs logs m row each.1 e found)
   where
     split : listed_of (log ∷ logs) row.map_uid ≡ count_by (λ r. r.map_uid == row.map_uid) (rows_after log) + listed_of logs row.map_uid
@@ -81,6 +80,7 @@ log_of_row name uid (b ∷ bs) (log ∷ logs) m row each is found = by_test (byt
         let one : 1 ≤ count_by (λ r. r.map_uid == row.map_uid) (rows_after log) = counted_once (rows_after log) uid row (ap (λ (k : BoxMeaning). row_at k uid) same ∙ found) in
         record { log = log; is = same; good = each.0; listed = omega (arith, split, one) }
     by_test false e rest = let r = rest e in record { log = r.log; is = r.is; good = r.good; listed = (let l = r.listed in omega (arith, split, l)) }
+log_of_row name uid boxes logs m row each is found = absurd (let k : None ≡ Some m = is in cc k)
 
 pub store_log : {D : Type 0} → (history : Option History) (store : StoreValue D) (name : List ℕ) (uid number : ℕ) (row : LogRow) → (s : IsStore history store) → (at : IsRowOf name uid store number row) → LogOfRow at.m row s.logs
 store_log history store name uid number row s at = log_of_row name uid store.map.boxes s.logs at.m row s.good.box_entries (sym (ap (λ (ms : List BoxMeaning). meaning_named name store.map.boxes ms) s.boxes_are) ∙ at.box.named) at.listed
@@ -115,19 +115,27 @@ raise_fits history store name uid number row s at few =
 some_row : (a b : LogRow) → Some a ≡ Some b → a ≡ b
 some_row a b e = cc e
 
-some_box : (a b : BoxMeaning) → Some a ≡ Some b → a ≡ b
-some_box a b e = cc e
+-- a number that a name names was given
+number_given : (m : MapMeaning) (name : List ℕ) (number : ℕ) → IsSoundMap m → number_named m name ≡ Some number → number ≤ m.highest.mailbox
+number_given m name number s is =
+    let b = some_there (λ (box : MapBox). box.number) (box_named m name) number (sym is) in
+    let below = (All-contains (IsSoundMapBox m.highest.mailbox) m.boxes b.0 s.boxes (found_one (λ (box : MapBox). bytes_eq box.name name) m.boxes b.0 b.1).0).below in
+    let same : number ≡ b.0.number = b.2 in
+    omega (arith, below, same)
 
-pub keeps_row : {D : Type 0} → (history : Option History) (store : StoreValue D) (name : List ℕ) (uid number held : ℕ) (row : LogRow) → IsStore history store → IsRowOf name uid store number row → held ≡ row.map_uid → KeepsUid name uid held store
+pub keeps_row : {D : Type 0} → (history : Option History) (store : StoreValue D) (name : List ℕ) (uid number held : ℕ) (row : LogRow) → IsStore history store → IsRowOf name uid store number row → held ≡ row.map_uid → KeepsUid number uid held store
 keeps_row history store name uid number held row s at holds = record {
-  m = at.m;
-  named = at.box.named;
-  below =
+  given = number_given store.map name number (store_is_sound history store s) at.box.number_is;
+  below = subst (λ (o : Option BoxMeaning). IfSome o (λ m. uid < m.next)) (sym at.box.numbered) (
       let sound = (row_sound history store name uid number row s at).below in
       let same = equal_is row.uid uid (found_one (λ (r : LogRow). r.uid == uid) at.m.rows row at.listed).1 in
-      omega (arith, sound, same);
-  same = λ other there. ap (λ (r : LogRow). r.map_uid) (some_row other row (sym there ∙ at.listed)) ∙ sym holds;
+      omega (arith, sound, same)
+  );
+  same = subst (λ (o : Option BoxMeaning). IfSome o (λ m. (r : LogRow) → row_at m uid ≡ Some r → r.map_uid ≡ held)) (sym at.box.numbered) (λ other there. ap (λ (r : LogRow). r.map_uid) (some_row other row (sym there ∙ at.listed)) ∙ sym holds);
 }
 
-pub held_row : {D : Type 0} → (store : StoreValue D) (name : List ℕ) (uid number held : ℕ) (row : LogRow) → KeepsUid name uid held store → IsRowOf name uid store number row → held ≡ row.map_uid
-held_row store name uid number held row k at = sym (k.same row (ap (λ (m : BoxMeaning). row_at m uid) (some_box k.m at.m (sym k.named ∙ at.box.named)) ∙ at.listed))
+pub held_row : {D : Type 0} → (store : StoreValue D) (name : List ℕ) (uid number held : ℕ) (row : LogRow) → IfSome (number_named store.map name) (λ source. KeepsUid source uid held store) → IsRowOf name uid store number row → held ≡ row.map_uid
+held_row store name uid number held row keeps at =
+    let k : KeepsUid number uid held store = subst (λ (o : Option ℕ). IfSome o (λ n. KeepsUid n uid held store)) at.box.number_is keeps in
+    let same : (r : LogRow) → row_at at.m uid ≡ Some r → r.map_uid ≡ held = subst (λ (o : Option BoxMeaning). IfSome o (λ m. (r : LogRow) → row_at m uid ≡ Some r → r.map_uid ≡ held)) at.box.numbered k.same in
+    sym (same row at.listed)

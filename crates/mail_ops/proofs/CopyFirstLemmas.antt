@@ -1,12 +1,13 @@
 -- The first event of a copy or a move, by the clause of a step: the count is raised, or it is refused.
 use Rattle.model_meaning.specs.MapFits.{MapFits}
+use Rattle.std.proofs.lemmas.Bool.Decides.{nat_tests}
 use Rattle.std.proofs.Common.{◌≡◌, ◌≤◌, ◌<◌, ◌+◌, ℕ, Bool, true, false, List, [], ◌∷◌, ◌++◌, Option, Some, None, refl, sym, ◌∙◌, ap, subst, arith, inl, inr}
-use Rattle.std.specs.Prelude.{nat_le, length, slice_get, is_some, if◌then◌else◌}
+use Rattle.std.specs.Prelude.{◌⊎◌, flat_map, nat_le, length, slice_get, is_some, if◌then◌else◌}
 use Rattle.std.specs.Option.{option_map_or, option_or}
-use Rattle.std.proofs.lemmas.Bool.{eq-eqb}
 use Rattle.std.proofs.lemmas.Grind.{common_steps}
 use Rattle.disk_model.specs.Disk.{History, Faults, told_calls}
 use Rattle.mdbox_base.specs.declared.entries.MapEntry.TheVariants as map_entry
+use Rattle.mdbox_base.specs.declared.ids.BoxNo.{BoxNo}
 use Rattle.mdbox_base.specs.declared.ids.MapUid.{MapUid}
 use Rattle.mdbox_base.specs.declared.ids.Uid.{Uid}
 use Rattle.mdbox_base.specs.declared.progress.Did.{Did}
@@ -21,11 +22,10 @@ use Rattle.model_lists.specs.Lists.{ListedMessage, Lists}
 use Rattle.model_meaning.specs.BoxMeaning.{LogRow, BoxMeaning, row_at}
 use Rattle.model_meaning.specs.MapMeaning.{MapMeaning, record_of, count_of, map_applied}
 use Rattle.model_store.specs.Listing.{ShowLists}
-use Rattle.list_machine.specs.Run.{EventPart, First, Last, RunEvent, event_of, Run, and_then, own_events, map_of}
+use Rattle.list_machine.specs.Run.{First, RunEvent, event_of, Run, and_then, own_events, map_of, uid_added}
 use Rattle.list_machine.specs.Machine.{MayBeCopied, first_refusal, refused_where, part_checks, is_step}
 use Rattle.journal.specs.Journal.{halves_of, refusal_in, IsReplyOf}
-use Rattle.journal.specs.Events.{Around, next_part}
-use Rattle.journal.proofs.OwnEventLemmas.{own_more}
+use Rattle.journal.specs.Events.{Around, last_refusal, next_part}
 use Rattle.store_core.specs.Dues.{due_at}
 use Rattle.store_core.specs.Running.{IsStore}
 use Rattle.store_core.specs.Value.{StoreValue, indexes_of, list_named}
@@ -36,19 +36,18 @@ use Rattle.mail_ops.specs.Appends.{MapFell}
 use Rattle.mail_ops.specs.CopyStages.{IsHolding}
 use Rattle.mail_ops.specs.Copying.{CopyPlace, copy_refusal, room_refusal, raising_of, RaisesRow, IsRaiseRefusal}
 use Rattle.store_seen.specs.Seeing.{seen_of}
-use Rattle.mail_ops.proofs.CopyPartLemmas.{IsCopying}
+use Rattle.mail_ops.proofs.CopyPartLemmas.{IsCopying, first_goes_on}
 use Rattle.mail_ops.proofs.CopyPlaceLemmas.{place_checked}
-use Rattle.mail_ops.proofs.EventLemmas.{one_fits, stands_by, some_reply, one_reply, no_reply, stays_itself, memory_calm, CanRefuse, did_unstepped, did_stop, did_fall, did_check, did_part, ends_well}
+use Rattle.mail_ops.proofs.EventLemmas.{one_fits, stands_by, some_reply, one_reply, no_reply, stays_itself, memory_calm, CanRefuse, did_unstepped, did_stop, did_fall, did_check, did_part, ends_well, own_event}
+use Rattle.mail_ops.proofs.LastEventLemmas.{copied_new, ends_in, held_new, source_first, unrefused_more}
 use Rattle.mail_ops.proofs.LoweringLemmas.{comes_with, shows_still, leads_still}
 use Rattle.mail_ops.proofs.MessageLemmas.{shown_row, shown_guid, record_of_row}
 use Rattle.mail_ops.proofs.RemovalLemmas.{took_tells, map_fell_stays}
+use Rattle.mail_ops.proofs.ToldLemmas.{memory_runs, step_runs}
 
 -- the clause of a step of a request that copies
 abbrev pub CopyingClause : {D : Type 0} → Request → (Run → ℕ → List Reply → Type 0) → (Run → ℕ → List Reply → Type 0) → StoreValue D → StoreValue D → Option History → Option History → Faults → Faults → Did → Option Reply → Type 0
 CopyingClause q Stood Stands old new before after began faulted how ended = (around behind : Around) (pins : ℕ → ℕ) → Steps Stood Stands around behind q (seen_of pins old before began) (seen_of pins new after faulted) how ended
-
-some_part : (p : EventPart) → Some p ≡ None → ⊥
-some_part p e = cc e
 
 pub raise_refuses : (around : Around) (run : Run) (place : ℕ) (q : Request) (name : List ℕ) (uid : Uid) (target : List ℕ) (half : Half) (why : Refusal) → IsCopying q name uid target half → own_events place run ≡ [] → CanRefuse around run place q First why (Some (reply.Refused why))
 raise_refuses around run place q name uid target half why c own = record {
@@ -118,36 +117,20 @@ abbrev pub IsCopyWhy : Refusal → Type 0
 IsCopyWhy why = (is_step why ≡ true) × (Some (reply.Refused why) ≡ Some (reply.Refused refusal.Stopped) → ⊥) × (why ≡ refusal.Stopped → ⊥)
 
 pub step_why : (why : Refusal) → is_step why ≡ true → IsCopyWhy why
-step_why why s = (s, λ e. not_stopped why s (let k : reply.Refused why ≡ reply.Refused refusal.Stopped = cc e in cc k), not_stopped why s)
-  where
-    not_stopped : (w : Refusal) → is_step w ≡ true → w ≡ refusal.Stopped → ⊥
-    not_stopped w t e = let k : true ≡ false = sym t ∙ ap is_step e in cc k
+step_why why s = grind (arith, common_steps, nat_tests)
 
 room_steps : (m : BoxMeaning) (why : Refusal) → room_refusal m ≡ Some why → is_step why ≡ true
-room_steps m why e = by_tests (nat_le 1000000 (length m.rows)) (nat_le 4294967295 m.next) e
-  where
-    by_tests : (a b : Bool) → option_or (refused_where a (refusal.MailboxFull 1000000)) (refused_where b (refusal.StoreFull 4294967294)) ≡ Some why → is_step why ≡ true
-    by_tests true b k = let f : Some (refusal.MailboxFull 1000000) ≡ Some why = k in let g : refusal.MailboxFull 1000000 ≡ why = cc f in ap is_step (sym g)
-    by_tests false true k = let f : Some (refusal.StoreFull 4294967294) ≡ Some why = k in let g : refusal.StoreFull 4294967294 ≡ why = cc f in ap is_step (sym g)
-    by_tests false false k = absurd (let f : None ≡ Some why = k in cc f)
+room_steps m why e = grind (arith, common_steps, nat_tests)
+
+steps_by : (uid : ℕ) (from to : Option BoxMeaning) (why : Refusal) → option_map_or (λ f. option_map_or (λ t. if is_some (row_at f uid) then room_refusal t else Some refusal.NoMessage) to (Some refusal.NoMailbox)) from (Some refusal.NoMailbox) ≡ Some why → is_step why ≡ true
+steps_by uid from to why e = grind (arith, common_steps, nat_tests, room_steps)
 
 pub copy_steps : {D : Type 0} → (name : List ℕ) (uid : ℕ) (target : List ℕ) (store : StoreValue D) (why : Refusal) → copy_refusal name uid target store ≡ Some why → is_step why ≡ true
-copy_steps name uid target store why e = by_source (list_named store name) e
-  where
-    named : Some refusal.NoMailbox ≡ Some why → is_step why ≡ true
-    named k = let g : refusal.NoMailbox ≡ why = cc k in ap is_step (sym g)
+copy_steps name uid target store why e = steps_by uid (list_named store name) (list_named store target) why e
 
-    by_row : (to : BoxMeaning) (o : Option LogRow) → (if is_some o then room_refusal to else Some refusal.NoMessage) ≡ Some why → is_step why ≡ true
-    by_row to None k = let f : Some refusal.NoMessage ≡ Some why = k in let g : refusal.NoMessage ≡ why = cc f in ap is_step (sym g)
-    by_row to (Some row) k = room_steps to why k
-
-    by_target : (from : BoxMeaning) (o : Option BoxMeaning) → option_map_or (λ to. if is_some (row_at from uid) then room_refusal to else Some refusal.NoMessage) o (Some refusal.NoMailbox) ≡ Some why → is_step why ≡ true
-    by_target from None k = named k
-    by_target from (Some to) k = by_row to (row_at from uid) k
-
-    by_source : (o : Option BoxMeaning) → option_map_or (λ from. option_map_or (λ to. if is_some (row_at from uid) then room_refusal to else Some refusal.NoMessage) (list_named store target) (Some refusal.NoMailbox)) o (Some refusal.NoMailbox) ≡ Some why → is_step why ≡ true
-    by_source None k = named k
-    by_source (Some from) k = by_target from (list_named store target) k
+pub back_runs : {D : Type 0} → (name : List ℕ) (uid : Uid) (target : List ℕ) (why : Refusal) (store : StoreValue D) → (copy_refusal name uid.0 target store ≡ Some why) ⊎ (why ≡ refusal.NoMemory) → why ≡ refusal.Stopped → ⊥
+back_runs name uid target why store (inl e) stops = step_runs why (copy_steps name uid.0 target store why e) stops
+back_runs name uid target why store (inr m) stops = memory_runs (sym m ∙ stops)
 
 pub raise_steps : {D : Type 0} → (name : List ℕ) (uid : ℕ) (target : List ℕ) (store : StoreValue D) (why : Refusal) → IsRaiseRefusal name uid target store why → is_step why ≡ true
 raise_steps name uid target store why (inl e) = copy_steps name uid target store why e
@@ -191,49 +174,47 @@ raise_fell q name uid target half Stands old new before after began faulted c ra
 
 -- ---- it is raised
 
-abbrev pub raising : ℕ → ℕ → ℕ → ℕ → RunEvent
-raising lane place uid calls = record (event_of lane place First calls) { map_entries = map_entry.U (record { 0 = uid }) ∷ [] }
+abbrev pub raising : ℕ → ℕ → ℕ → ℕ → ℕ → RunEvent
+raising lane place uid source calls = record (event_of lane place First calls) { map_entries = map_entry.U (record { 0 = uid }) ∷ []; source = source }
 
 raised_due : (old new held uid : ℕ) → new ≡ old + one_due held uid → new + 0 ≡ old + ((0 + one_due held uid) + 0)
 raised_due old new held uid e = omega (arith, e)
 
-pub raise_done : {D : Type 0} → (q : Request) (name : List ℕ) (uid : Uid) (target : List ℕ) (half : Half) (held : MapUid) (old new : StoreValue D) (before after : Option History) (began faulted : Faults) → IsCopying q name uid target half → IsStore before old → old.stopped ≡ false → RaisesRow name uid target held old new before after began faulted
-    → CopyingClause q HasNotBegun (IsHolding held) old new before after began faulted did.Quiet None
-raise_done q name uid target half held old new before after began faulted c is ran r = λ around behind pins run lane place said lists come shows stood.
+-- the request holds the record behind such an event
+holds_then : (run : Run) (event : RunEvent) (place : ℕ) (said : List Reply) (held : MapUid) (source : ℕ) → HasNotBegun run place said → event.request ≡ place → event.part ≡ First → event.refused ≡ None → event.map_entries ≡ map_entry.U held ∷ [] → event.box_entries ≡ [] → event.source ≡ source
+    → IsHolding held source (and_then run event) place said
+holds_then run event place said held source stood own part unrefused raised unlisted from = record {
+  calm = unrefused_more run event place said own unrefused (record { unrefused = ap last_refusal stood.0; unanswered = stood.1 });
+  last = ends_in place run event First own part;
+  held_is = held_new place run event held own raised;
+  source_is = source_first place run event own stood.0 ∙ from;
+  uncopied = copied_new place run event own (ap (λ (es : List RunEvent). uid_added (flat_map (λ (e : RunEvent). e.box_entries) es)) stood.0) ∙ ap uid_added unlisted;
+}
+
+pub raise_done : {D : Type 0} → (q : Request) (name : List ℕ) (uid : Uid) (target : List ℕ) (half : Half) (held : MapUid) (source : BoxNo) (old new : StoreValue D) (before after : Option History) (began faulted : Faults) → IsCopying q name uid target half → IsStore before old → old.stopped ≡ false → RaisesRow name uid target held source old new before after began faulted
+    → CopyingClause q HasNotBegun (IsHolding held source.0) old new before after began faulted did.Quiet None
+raise_done q name uid target half held source old new before after began faulted c is ran r = λ around behind pins run lane place said lists come shows stood.
     let s = shown_row old name uid.0 r.at.source r.row lists r.at.from shows.1 in
     let k = record_of_row before old name uid.0 r.at.source r.row is r.at.from in
     let own : k.entry.uid ≡ held.0 = k.uid_is ∙ sym r.holds in
-    let event : RunEvent = raising lane place k.entry.uid (told_calls after) in
+    let event : RunEvent = raising lane place k.entry.uid s.mailbox.number (told_calls after) in
     let a = r.took.appends in
     let seen = seen_of pins old before began in
     let later = seen_of pins new after faulted in
-    stands_by around behind run lane place said q lists seen later did.Quiet None event None (IsHolding held)
+    stands_by around behind run lane place said q lists seen later did.Quiet None event None (IsHolding held source.0)
     (did_part around behind run lane place said q lists lists seen later did.Quiet None None event
     (record {
-      lane_is = refl;
-      request_is = refl;
-      moment_is = refl;
-      ended_is = refl;
-      unrefused = refl;
-      undrawn = refl;
-      leaves = record { made = refl; pins = refl; unpins = refl; doomed = refl; removed = refl; given = refl; placed = refl; gone = refl };
+      own = own_event _ _ _ _ _ _ _ _ _ refl;
       finds = c.finds around event;
       found = c.found around run event First;
       part_is = ap (λ (es : List RunEvent). next_part around run q es) stood.0;
       allowed = raise_allowed pins before began run q name uid target half old r.row r.number r.next lists c r.at r.few shows.1 come event;
       fits = one_fits run seen (map_entry.U (record { 0 = k.entry.uid })) come (subst (λ (u : ℕ). MapFits old.map (map_entry.U (record { 0 = u }))) (sym own) r.took.fits);
-      did = c.did_first around run lists event (k.entry, (s.message, s.there, ap (λ (m : MapMeaning). record_of m s.message.guid) come.come.map_is ∙ k.by_guid s.message.guid (shown_guid name uid.0 r.at.source lists r.row s)), refl);
-      ends = record { 0 = λ h. absurd (h refl); 1 = λ h. absurd (some_part Last (sym (c.behind_first behind (and_then run event) event refl) ∙ h)) };
+      did = c.did_first around run lists event (s.mailbox, k.entry, s.named, (s.message, s.there, ap (λ (m : MapMeaning). record_of m s.message.guid) come.come.map_is ∙ k.by_guid s.message.guid (shown_guid name uid.0 r.at.source lists r.row s)), refl);
+      ends = record { 0 = λ h. absurd (h refl); 1 = λ h. absurd (first_goes_on behind (and_then run event) q name uid target half event c refl h) };
       replied = tt;
     }) come (comes_with run event (map_entry.U (record { 0 = k.entry.uid })) seen later come (subst (λ (u : ℕ). new.map ≡ map_applied (map_entry.U (record { 0 = u })) old.map) (sym own) r.took.taken) a.drawn a.grows refl refl refl)
     (λ other. subst (λ (u : ℕ). due_at other new + 0 ≡ due_at other old + ((0 + one_due u other) + 0)) (sym own) (raised_due (due_at other old) (due_at other new) held.0 other (r.took.due other)))
     (took_tells pins (raising_of held) old new before after began faulted ran r.took) (shows_still pins old new before after began faulted lists a shows) a.grows (a.stays old.map) (sym c.steps_first) refl (refl, r.took.runs ∙ sym ran, leads_still pins (raising_of held) old new before after began faulted lists r.took)
     (ends_well q said event None None did.Quiet seen later refl ran r.took.runs r.took.unfailed (λ x. x) (λ e. no_reply (reply.Refused refusal.Stopped) e) (λ some. absurd (let f : false ≡ true = some in cc f)) (λ given e. absurd (no_reply given e))))
-    (λ goes_on. (
-      (
-        event,
-        own_more place run event (eq-eqb place place refl) ∙ ap (λ (es : List RunEvent). es ++ event ∷ []) stood.0,
-        record { part = refl; unrefused = refl; raised = ap (λ (u : ℕ). map_entry.U (record { 0 = u }) ∷ []) own; unlisted = refl },
-      ),
-      stood.1,
-    ))
+    (λ goes_on. holds_then run event place said held source.0 stood refl refl refl (ap (λ (u : ℕ). map_entry.U (record { 0 = u }) ∷ []) own) refl (s.number_is ∙ r.source_is))

@@ -1,5 +1,7 @@
 -- The second event of a copy or a move, by the clause of a step: the message is added, or it is refused, and the count given back.
 use Rattle.std.proofs.lemmas.List.Elements.{All-nil}
+use Rattle.std.proofs.lemmas.Grind.{common_steps}
+use Rattle.std.proofs.lemmas.Bool.Decides.{nat_tests}
 use Rattle.std.proofs.Common.{◌≡◌, ◌≤◌, ◌+◌, ℕ, Bool, true, false, List, [], ◌∷◌, ◌++◌, map, Option, Some, None, refl, sym, ◌∙◌, ap, subst, arith, inl, inr}
 use Rattle.std.specs.Prelude.{◌⊎◌, length, slice_get, if◌then◌else◌}
 use Rattle.std.specs.Option.{option_or}
@@ -28,11 +30,11 @@ use Rattle.model_store.specs.Listing.{listed_row, ShowLists}
 use Rattle.model_store.specs.Settled.{files_of, IsSettledFor, Leaves}
 use Rattle.model_store.specs.Stands.{AreMailboxes}
 use Rattle.model_store.proofs.StandsLemmas.{map_same}
-use Rattle.list_machine.specs.Run.{EventPart, Last, GivesBack, RunEvent, event_of, Run, and_then, own_events}
+use Rattle.list_machine.specs.Run.{First, Last, GivesBack, RunEvent, event_of, Run, and_then, map_of, own_events}
 use Rattle.list_machine.specs.Machine.{IsCopied, add_message, first_refusal, part_checks, is_step, mailbox_named}
 use Rattle.list_machine.proofs.MachineOrderLemmas.{answers_well}
 use Rattle.journal.specs.Journal.{halves_of, refusal_in, IsReplyOf}
-use Rattle.journal.specs.Events.{Around, adds_to, lowers, last_refusal}
+use Rattle.journal.specs.Events.{Around, adds_to, is_elsewhere, last_refusal, lowers, next_part}
 use Rattle.journal.proofs.OwnEventLemmas.{own_more, own_other}
 use Rattle.entry_steps.proofs.AppendListLemmas.{added_by}
 use Rattle.store_core.specs.Append.{Brings}
@@ -40,34 +42,26 @@ use Rattle.store_core.specs.Dues.{due_at}
 use Rattle.store_core.specs.Running.{IsStore}
 use Rattle.store_core.specs.Value.{StoreValue, indexes_of}
 use Rattle.task_steps.specs.ExpungeStages.{one_due}
-use Rattle.task_steps.specs.Step.{IsKept}
+use Rattle.task_claims.specs.Leaving.{number_named}
+use Rattle.task_steps.specs.Step.{HasComeTo, IsKept}
 use Rattle.task_steps.proofs.OneEventLemmas.{never_more, nothing}
 use Rattle.mail_ops.specs.Appends.{MapTook, MapFell, lowering_of}
-use Rattle.mail_ops.specs.CopyStages.{HasRaised, WasRefused, IsHolding, IsGivingBack, answered_by}
+use Rattle.mail_ops.specs.CopyStages.{IsHolding, IsGivingBack, answered_by}
 use Rattle.mail_ops.specs.Copying.{CopyPlace, copy_refusal, added_copy, AddsRow, FellAdding}
 use Rattle.store_seen.specs.Seeing.{seen_of}
 use Rattle.mail_ops.proofs.CopyFirstLemmas.{CopyingClause, place_free, step_why, copy_steps}
-use Rattle.mail_ops.proofs.CopyPartLemmas.{IsCopying, copy_copies, adds_next, gives_back_next, held_first, held_second}
-use Rattle.mail_ops.proofs.CopyPlaceLemmas.{ShownBox, shows_box, ShowsBox, place_checked}
-use Rattle.mail_ops.proofs.EventLemmas.{one_fits, stands_by, fall, some_reply, one_reply, no_reply, stays_itself, memory_calm, comes_along, refusal_event, CanRefuse, did_unstepped, did_stop, did_fall, did_check, did_part, ends_well}
+use Rattle.mail_ops.proofs.CopyPartLemmas.{IsCopying, adding_part, adds_next, back_ends, copy_copies, gives_back_next, holding_next}
+use Rattle.mail_ops.proofs.CopyPlaceLemmas.{place_checked}
+use Rattle.mail_ops.proofs.EventLemmas.{one_fits, stands_by, fall, some_reply, one_reply, no_reply, stays_itself, memory_calm, comes_along, refusal_event, CanRefuse, did_unstepped, did_stop, did_fall, did_check, did_part, ends_well, own_event}
 use Rattle.mail_ops.proofs.FlagEventLemmas.{shown_on}
 use Rattle.mail_ops.proofs.FlagListLemmas.{numbered}
+use Rattle.mail_ops.proofs.LastEventLemmas.{copied_by, ends_in, ends_still, held_by, held_same, last_before, last_with, source_by, unrefused_still}
 use Rattle.mail_ops.proofs.LoweringLemmas.{comes_with, lowered_due, shows_still, leads_still}
 use Rattle.mail_ops.proofs.MessageLemmas.{ShownRow, shown_row, shown_guid, record_of_row, store_is_sound, stored_by}
+use Rattle.mail_ops.proofs.NamedListLemmas.{ShownBox, ShowsBox, shows_box}
 use Rattle.mail_ops.proofs.RemovalLemmas.{took_tells, box_tells, box_fell_stays, map_fell_stays}
 use Rattle.mail_ops.proofs.ShownEntryLemmas.{shown_entry}
-
-some_part : (p : EventPart) → Some p ≡ None → ⊥
-some_part p e = cc e
-
--- the last refusal of a request's events
-replied_once : (own : List RunEvent) (first event : RunEvent) → own ≡ first ∷ [] → first.refused ≡ None → last_refusal (own ++ event ∷ []) ≡ option_or (option_or None event.refused) None
-replied_once own first event one free = ap (λ (es : List RunEvent). last_refusal (es ++ event ∷ [])) one ∙ ap (λ (r : Option Refusal). option_or (option_or None event.refused) r) free
-
-replied_back : (own : List RunEvent) (first second event : RunEvent) (why : Refusal) → own ≡ first ∷ second ∷ [] → second.refused ≡ Some why → event.refused ≡ None → last_refusal (own ++ event ∷ []) ≡ Some why
-replied_back own first second event why two r free =
-    ap (λ (es : List RunEvent). last_refusal (es ++ event ∷ [])) two
-    ∙ (ap (λ (w : Option Refusal). option_or (option_or (option_or None w) second.refused) first.refused) free ∙ ap (λ (w : Option Refusal). option_or (option_or (option_or None None) w) first.refused) r)
+use Rattle.mail_ops.proofs.ToldLemmas.{memory_runs, some_part}
 
 -- ---- the message that is added
 
@@ -151,70 +145,74 @@ brings_copy (Some h) store name uid target row number given lists is runs at k s
 
 -- ---- it is refused, and goes on
 
-add_goes_on : (around : Around) (run : Run) (place : ℕ) (q : Request) (name : List ℕ) (uid : Uid) (target : List ℕ) (half : Half) (held : MapUid) (why : Refusal) (first : RunEvent) → IsCopying q name uid target half → own_events place run ≡ first ∷ [] → HasRaised held first → (why ≡ refusal.Stopped → ⊥) → CanRefuse around run place q Last why None
-add_goes_on around run place q name uid target half held why first c one r other = record {
+-- the name of its source, in the run
+pub named_in : {D : Type 0} → (pins : ℕ → ℕ) (run : Run) (name : List ℕ) (source : ℕ) (store : StoreValue D) (history : Option History) (faults : Faults) → HasComeTo run (seen_of pins store history faults) → number_named store.map name ≡ Some source → number_named (map_of run) name ≡ Some source
+named_in pins run name source store history faults come named = ap (λ (m : MapMeaning). number_named m name) come.come.map_is ∙ named
+
+add_goes_on : (around : Around) (run : Run) (place : ℕ) (said : List Reply) (q : Request) (name : List ℕ) (uid : Uid) (target : List ℕ) (half : Half) (held : MapUid) (source : ℕ) (why : Refusal) → IsCopying q name uid target half → IsHolding held source run place said → number_named (map_of run) name ≡ Some source → (why ≡ refusal.Stopped → ⊥)
+    → CanRefuse around run place q Last why None
+add_goes_on around run place said q name uid target half held source why c h named other = record {
   finds = c.finds around;
   found = λ event. c.found around run event Last;
-  part_is = adds_next around run q name uid target half held (own_events place run) first c one r;
+  part_is = adds_next around run q name uid target half held source place said c h named;
   memory = λ e. c.memory_last;
   ends = record { 0 = λ h. absurd (h refl); 1 = λ h. absurd (some_part GivesBack (sym (c.refused_last why other) ∙ h)) };
   replied = λ given e. absurd (no_reply given e);
 }
 
-add_stops : (around : Around) (run : Run) (place : ℕ) (q : Request) (name : List ℕ) (uid : Uid) (target : List ℕ) (half : Half) (held : MapUid) (first : RunEvent) → IsCopying q name uid target half → own_events place run ≡ first ∷ [] → HasRaised held first → CanRefuse around run place q Last refusal.Stopped (Some (reply.Refused refusal.Stopped))
-add_stops around run place q name uid target half held first c one r = record {
+-- The store is stopped, or stops. In one that was stopped before, the name of the source may name another mailbox.
+add_stops : (around : Around) (run : Run) (place : ℕ) (q : Request) (name : List ℕ) (uid : Uid) (target : List ℕ) (half : Half) (elsewhere : Bool) → IsCopying q name uid target half → next_part around run q (own_events place run) ≡ Some (adding_part elsewhere)
+    → CanRefuse around run place q (adding_part elsewhere) refusal.Stopped (Some (reply.Refused refusal.Stopped))
+add_stops around run place q name uid target half elsewhere c next = record {
   finds = c.finds around;
-  found = λ event. c.found around run event Last;
-  part_is = adds_next around run q name uid target half held (own_events place run) first c one r;
+  found = λ event. c.found around run event (adding_part elsewhere);
+  part_is = next;
   memory = λ e. absurd (let k : refusal.Stopped ≡ refusal.NoMemory = e in cc k);
-  ends = record { 0 = λ e. c.stopped_last; 1 = λ e f. some_reply (reply.Refused refusal.Stopped) f };
+  ends = record { 0 = λ e. c.stopped_last elsewhere; 1 = λ e f. some_reply (reply.Refused refusal.Stopped) f };
   replied = λ given e. subst (λ (r : Reply). refusal_in r ≡ Some refusal.Stopped) (one_reply (reply.Refused refusal.Stopped) given e) refl;
 }
 
-pub held_twice : (place : ℕ) (run : Run) (event : RunEvent) (first : RunEvent) → event.request ≡ place → own_events place run ≡ first ∷ [] → own_events place (and_then run event) ≡ first ∷ event ∷ []
-held_twice place run event first own one = own_more place run event (eq-eqb event.request place own) ∙ ap (λ (es : List RunEvent). es ++ event ∷ []) one
+-- the request gives the count back behind such an event
+gives_back_then : (run : Run) (event : RunEvent) (place : ℕ) (said now : List Reply) (held : MapUid) (source : ℕ) (why : Refusal) → IsHolding held source run place said → event.request ≡ place → event.part ≡ Last → event.refused ≡ Some why → event.map_entries ≡ [] → now ≡ answered_by why → (is_step why ≡ true) ⊎ (why ≡ refusal.NoMemory)
+    → IsGivingBack held why (and_then run event) place now
+gives_back_then run event place said now held source why h own part refused bare is cause = record {
+  last = ends_in place run event Last own part;
+  refused = refused;
+  held_is = held_same place run event own bare ∙ h.held_is;
+  said_is = is;
+  cause = cause;
+}
 
 pub place_refuses : {D : Type 0} → (run : Run) (q : Request) (name : List ℕ) (uid : Uid) (target : List ℕ) (half : Half) (store : StoreValue D) (lists : Lists) (why : Option Refusal) → IsCopying q name uid target half → ShowLists store.map.boxes (indexes_of store.boxes) lists → copy_refusal name uid.0 target store ≡ why
     → (event : RunEvent) → first_refusal run lists (part_checks run event q Last) ≡ option_or why None
 place_refuses run q name uid target half store lists why c h e = λ event. ap (first_refusal run lists) (c.checks run event Last) ∙ (place_checked run name uid.0 target store lists [] h ∙ ap (λ (r : Option Refusal). option_or r None) e)
 
-pub add_refused : {D : Type 0} → (q : Request) (name : List ℕ) (uid : Uid) (target : List ℕ) (half : Half) (held : MapUid) (store : StoreValue D) (history : Option History) (faults : Faults) (why : Refusal) → IsCopying q name uid target half → store.stopped ≡ false → copy_refusal name uid.0 target store ≡ Some why
-    → CopyingClause q (IsHolding held) (IsGivingBack held why) store store history history faults faults (did.Step half) None
-add_refused q name uid target half held store history faults why c runs refuses = λ around behind pins run lane place said lists come shows stood.
+pub add_refused : {D : Type 0} → (q : Request) (name : List ℕ) (uid : Uid) (target : List ℕ) (half : Half) (held : MapUid) (source : ℕ) (store : StoreValue D) (history : Option History) (faults : Faults) (why : Refusal) → IsCopying q name uid target half → store.stopped ≡ false → number_named store.map name ≡ Some source → copy_refusal name uid.0 target store ≡ Some why
+    → CopyingClause q (IsHolding held source) (IsGivingBack held why) store store history history faults faults (did.Step half) None
+add_refused q name uid target half held source store history faults why c runs named refuses = λ around behind pins run lane place said lists come shows stood.
     let w = step_why why (copy_steps name uid.0 target store why refuses) in
-    let first = stood.0.0 in
-    let one = stood.0.1 in
-    let r = stood.0.2 in
+    let none = stood.calm.unanswered in
     let event : RunEvent = refusal_event lane place Last why None (told_calls history) in
     stands_by around behind run lane place said q lists (seen_of pins store history faults) (seen_of pins store history faults) (did.Step half) None event (Some (reply.Refused why)) (IsGivingBack held why)
-    (did_check around behind run lane place said q Last lists (seen_of pins store history faults) why None half (add_goes_on around run place q name uid target half held why first c one r w.2) come shows runs w.0 c.half_last
-    (ap (λ (s : List Reply). slice_get (halves_of q) (length s)) stood.1 ∙ (c.halves ∙ ap Some (sym c.half_last))) (place_refuses run q name uid target half store lists (Some why) c shows.1 refuses) (λ given e. absurd (no_reply given e)) (λ e. no_reply (reply.Refused refusal.Stopped) e))
-    (λ goes_on. (
-      (first, event, held_twice place run event first refl one, r, record { part = refl; refused = refl; bare = refl }),
-      ap (λ (s : List Reply). s ++ reply.Refused why ∷ []) stood.1 ∙ sym (ap (λ (b : Bool). if b then reply.Refused why ∷ [] else []) w.0),
-      inl w.0,
-    ))
+    (did_check around behind run lane place said q Last lists (seen_of pins store history faults) why None half (add_goes_on around run place said q name uid target half held source why c stood (named_in pins run name source store history faults come named) w.2) come shows runs w.0 c.half_last
+    (ap (λ (s : List Reply). slice_get (halves_of q) (length s)) none ∙ (c.halves ∙ ap Some (sym c.half_last))) (place_refuses run q name uid target half store lists (Some why) c shows.1 refuses) (λ given e. absurd (no_reply given e)) (λ e. no_reply (reply.Refused refusal.Stopped) e))
+    (λ goes_on. gives_back_then run event place said (said ++ reply.Refused why ∷ []) held source why stood refl refl refl refl (ap (λ (s : List Reply). s ++ reply.Refused why ∷ []) none ∙ sym (ap (λ (b : Bool). if b then reply.Refused why ∷ [] else []) w.0)) (inl w.0))
 
-memory_differs : refusal.NoMemory ≡ refusal.Stopped → ⊥
-memory_differs e = cc e
-
-pub add_unremembered : {D : Type 0} → (q : Request) (name : List ℕ) (uid : Uid) (target : List ℕ) (half : Half) (held : MapUid) (store : StoreValue D) (history : Option History) (faults : Faults) → IsCopying q name uid target half → store.stopped ≡ false
-    → CopyingClause q (IsHolding held) (IsGivingBack held refusal.NoMemory) store store history history faults faults did.Quiet None
-add_unremembered q name uid target half held store history faults c runs = λ around behind pins run lane place said lists come shows stood.
-    let first = stood.0.0 in
-    let one = stood.0.1 in
-    let r = stood.0.2 in
+pub add_unremembered : {D : Type 0} → (q : Request) (name : List ℕ) (uid : Uid) (target : List ℕ) (half : Half) (held : MapUid) (source : ℕ) (store : StoreValue D) (history : Option History) (faults : Faults) → IsCopying q name uid target half → store.stopped ≡ false → number_named store.map name ≡ Some source
+    → CopyingClause q (IsHolding held source) (IsGivingBack held refusal.NoMemory) store store history history faults faults did.Quiet None
+add_unremembered q name uid target half held source store history faults c runs named = λ around behind pins run lane place said lists come shows stood.
     let seen = seen_of pins store history faults in
     let event : RunEvent = refusal_event lane place Last refusal.NoMemory None (told_calls history) in
     stands_by around behind run lane place said q lists seen seen did.Quiet None event None (IsGivingBack held refusal.NoMemory)
-    (did_unstepped around behind run lane place said q Last lists seen seen refusal.NoMemory None did.Quiet (add_goes_on around run place q name uid target half held refusal.NoMemory first c one r memory_differs) come (stays_itself seen) shows refl tt memory_calm (refl, refl, nothing lists seen)
+    (did_unstepped around behind run lane place said q Last lists seen seen refusal.NoMemory None did.Quiet (add_goes_on around run place said q name uid target half held source refusal.NoMemory c stood (named_in pins run name source store history faults come named) memory_runs) come (stays_itself seen) shows refl tt memory_calm (refl, refl, nothing lists seen)
     (λ given e. absurd (no_reply given e)) (record { 0 = λ e. absurd (no_reply (reply.Refused refusal.Stopped) e); 1 = λ e. absurd (fall store.stopped e runs) }) (λ e. refl) (λ x. absurd x))
-    (λ goes_on. ((first, event, held_twice place run event first refl one, r, record { part = refl; refused = refl; bare = refl }), stood.1, inr refl))
+    (λ goes_on. gives_back_then run event place said said held source refusal.NoMemory stood refl refl refl refl stood.calm.unanswered (inr refl))
 
-pub add_stopped : {D : Type 0} → (q : Request) (name : List ℕ) (uid : Uid) (target : List ℕ) (half : Half) (held : MapUid) (Stands : Run → ℕ → List Reply → Type 0) (store : StoreValue D) (history : Option History) (faults : Faults) → IsCopying q name uid target half → store.stopped ≡ true
-    → CopyingClause q (IsHolding held) Stands store store history history faults faults did.Quiet (Some (reply.Refused refusal.Stopped))
-add_stopped q name uid target half held Stands store history faults c stopped = λ around behind pins run lane place said lists come shows stood. (
-  (did_stop around behind run lane place said q Last lists (seen_of pins store history faults) (add_stops around run place q name uid target half held stood.0.0 c stood.0.1 stood.0.2) come shows tt stopped).so,
+pub add_stopped : {D : Type 0} → (q : Request) (name : List ℕ) (uid : Uid) (target : List ℕ) (half : Half) (held : MapUid) (source : ℕ) (Stands : Run → ℕ → List Reply → Type 0) (store : StoreValue D) (history : Option History) (faults : Faults) → IsCopying q name uid target half → store.stopped ≡ true
+    → CopyingClause q (IsHolding held source) Stands store store history history faults faults did.Quiet (Some (reply.Refused refusal.Stopped))
+add_stopped q name uid target half held source Stands store history faults c stopped = λ around behind pins run lane place said lists come shows stood. (
+  (did_stop around behind run lane place said q (adding_part (is_elsewhere run place name)) lists (seen_of pins store history faults)
+      (add_stops around run place q name uid target half (is_elsewhere run place name) c (holding_next around run q name uid target half held source place said c stood)) come shows tt stopped).so,
   λ e. absurd (never_more _ e),
 )
 
@@ -240,9 +238,9 @@ copied_runs given e = let k : reply.Copied given ≡ reply.Refused refusal.Stopp
 pub is_copied : {D : Type 0} → (store : StoreValue D) (name : List ℕ) (uid : Uid) (target : List ℕ) (row : LogRow) (number : ℕ) (given : Uid) (lists : Lists) → (k : CopyKnown store name uid target row number given lists) → IsCopied lists name uid.0 target given.0 (add_message target k.shown.message lists)
 is_copied store name uid target row number given lists k = record { message = k.shown.message; mailbox = k.mailbox; source_is = k.shown.there; target_is = k.named; given_is = k.given_is; new_is = refl }
 
-pub copy_added : {D : Type 0} → (name : List ℕ) (uid : Uid) (target : List ℕ) (held : MapUid) (given : Uid) (Stands : Run → ℕ → List Reply → Type 0) (old new : StoreValue D) (before after : Option History) (began faulted : Faults) → IsStore before old → old.stopped ≡ false → ((other : ℕ) → one_due held.0 other ≤ due_at other old)
-    → AddsRow name uid target held given old new before after began faulted → CopyingClause (request.Copy name uid target) (IsHolding held) Stands old new before after began faulted (did.Step half_is.Whole) (Some (reply.Copied given))
-copy_added name uid target held given Stands old new before after began faulted is ran due r = λ around behind pins run lane place said lists come shows stood.
+pub copy_added : {D : Type 0} → (name : List ℕ) (uid : Uid) (target : List ℕ) (held : MapUid) (source : ℕ) (given : Uid) (Stands : Run → ℕ → List Reply → Type 0) (old new : StoreValue D) (before after : Option History) (began faulted : Faults) → IsStore before old → old.stopped ≡ false → ((other : ℕ) → one_due held.0 other ≤ due_at other old) → number_named old.map name ≡ Some source
+    → AddsRow name uid target held given old new before after began faulted → CopyingClause (request.Copy name uid target) (IsHolding held source) Stands old new before after began faulted (did.Step half_is.Whole) (Some (reply.Copied given))
+copy_added name uid target held source given Stands old new before after began faulted is ran due named r = λ around behind pins run lane place said lists come shows stood.
     let q = request.Copy name uid target in
     let c = copy_copies name uid target in
     let k = copy_known old name uid target r.row r.number given lists r.at shows.0 shows.1 in
@@ -251,28 +249,19 @@ copy_added name uid target held given Stands old new before after began faulted 
     let a = r.took.appends in
     let seen = seen_of pins old before began in
     let later = seen_of pins new after faulted in
-    let first = stood.0.0 in
-    let one = stood.0.1 in
-    let h = stood.0.2 in
     let allowed = place_refuses run q name uid target half_is.Whole old lists None c shows.1 (place_free name uid.0 target old r.row r.number given.0 r.at) event in
     let copied = is_copied old name uid target r.row r.number given lists k in (
       (did_part around behind run lane place said q lists (add_message target k.shown.message lists) seen later (did.Step half_is.Whole) ended ended event
           (record {
-            lane_is = refl;
-            request_is = refl;
-            moment_is = refl;
-            ended_is = refl;
-            unrefused = refl;
-            undrawn = refl;
-            leaves = record { made = refl; pins = refl; unpins = refl; doomed = refl; removed = refl; given = refl; placed = refl; gone = refl };
+            own = own_event _ _ _ _ _ _ _ _ _ refl;
             finds = tt;
             found = tt;
-            part_is = adds_next around run q name uid target half_is.Whole held (own_events place run) first c one h;
+            part_is = adds_next around run q name uid target half_is.Whole held source place said c stood (named_in pins run name source old before began come named);
             allowed = allowed;
             fits = All-nil _;
-            did = (k.shown.message, k.shown.there, (k.mailbox, held.0, k.named, held_first place run held first one h, refl));
+            did = (k.shown.message, k.shown.there, (k.mailbox, held.0, k.named, stood.held_is, refl));
             ends = record { 0 = λ e. refl; 1 = λ e f. some_reply (reply.Copied given) f };
-            replied = replied_once (own_events place run) first event one h.unrefused;
+            replied = last_before (own_events place run) event refl ∙ stood.calm.unrefused;
           }) come (comes_along run event seen later come a.map a.drawn a.grows refl refl refl)
           (λ other. ended_due (due_at other old) (due_at other new) held.0 other (added_due held given r.row r.at.m old new other r.holds (due other) (r.took.due r.at.m other r.at.to.numbered)))
           (box_tells pins r.number (added_copy given r.row) old new before after began faulted (λ runs. ran) a) (
@@ -287,25 +276,22 @@ copy_added name uid target held given Stands old new before after began faulted 
               settled = λ s. subst (λ (ls : Lists). IsSettledFor ls after) k.by (r.took.settled lists k.shown.message.octets (brings_copy before old name uid target r.row r.number given lists is ran r.at k s.0) s.0);
             },
           )
-          (ends_well q said event ended ended (did.Step half_is.Whole) seen later refl ran r.took.runs r.took.unfailed (λ x. x) (copied_runs given) (λ some. ap (λ (s : List Reply). slice_get (halves_of q) (length s)) stood.1)
-          (λ x e. subst (λ (y : Reply). IsReplyOf q (said ++ reply.Copied given ∷ []) y) (one_reply (reply.Copied given) x e) (subst (λ (s : List Reply). IsReplyOf q (s ++ reply.Copied given ∷ []) (reply.Copied given)) (sym stood.1) refl)))).so,
+          (ends_well q said event ended ended (did.Step half_is.Whole) seen later refl ran r.took.runs r.took.unfailed (λ x. x) (copied_runs given) (λ some. ap (λ (s : List Reply). slice_get (halves_of q) (length s)) stood.calm.unanswered)
+          (λ x e. subst (λ (y : Reply). IsReplyOf q (said ++ reply.Copied given ∷ []) y) (one_reply (reply.Copied given) x e) (subst (λ (s : List Reply). IsReplyOf q (s ++ reply.Copied given ∷ []) (reply.Copied given)) (sym stood.calm.unanswered) refl)))).so,
       λ e. absurd (never_more _ e),
     )
 
 -- ---- it fell
 
-pub add_fell : {D : Type 0} → (q : Request) (name : List ℕ) (uid : Uid) (target : List ℕ) (half : Half) (held : MapUid) (Stands : Run → ℕ → List Reply → Type 0) (old new : StoreValue D) (before after : Option History) (began faulted : Faults) → IsCopying q name uid target half → IsStore before old → old.stopped ≡ false
-    → FellAdding name uid target held old new before after began faulted → CopyingClause q (IsHolding held) Stands old new before after began faulted (did.Broken half) (Some (reply.Refused refusal.Stopped))
-add_fell q name uid target half held Stands old new before after began faulted c is ran r = λ around behind pins run lane place said lists come shows stood.
+pub add_fell : {D : Type 0} → (q : Request) (name : List ℕ) (uid : Uid) (target : List ℕ) (half : Half) (held : MapUid) (source : ℕ) (Stands : Run → ℕ → List Reply → Type 0) (old new : StoreValue D) (before after : Option History) (began faulted : Faults) → IsCopying q name uid target half → IsStore before old → old.stopped ≡ false
+    → number_named old.map name ≡ Some source → FellAdding name uid target held old new before after began faulted → CopyingClause q (IsHolding held source) Stands old new before after began faulted (did.Broken half) (Some (reply.Refused refusal.Stopped))
+add_fell q name uid target half held source Stands old new before after began faulted c is ran named r = λ around behind pins run lane place said lists come shows stood.
     let k = copy_known old name uid target r.row r.number r.given lists r.at shows.0 shows.1 in
     let would : RunEvent = adding lane place k.mailbox k.shown.message held.0 None (told_calls after) in
     let seen = seen_of pins old before began in
     let later = seen_of pins new after faulted in
-    let first = stood.0.0 in
-    let one = stood.0.1 in
-    let h = stood.0.2 in
     let allowed = place_refuses run q name uid target half old lists None c shows.1 (place_free name uid.0 target old r.row r.number r.given.0 r.at) would in (
-      (did_fall around behind run lane place said q Last lists seen later (did.Broken half) (add_stops around run place q name uid target half held first c one h) come (box_fell_stays pins r.number (added_copy r.given r.row) old new before after began faulted r.fell)
+      (did_fall around behind run lane place said q Last lists seen later (did.Broken half) (add_stops around run place q name uid target half false c (adds_next around run q name uid target half held source place said c stood (named_in pins run name source old before began come named))) come (box_fell_stays pins r.number (added_copy r.given r.row) old new before after began faulted r.fell)
           (shows.0, shown_on seen later (indexes_of old.boxes) lists r.fell.appends.map r.fell.indexes shows.1) tt ran r.fell.stopped r.fell.rose (
             record { refused = refl; unanswered = refl; ran = ran; stopped = r.fell.stopped },
             c.half_last,
@@ -315,7 +301,7 @@ add_fell q name uid target half held Stands old new before after began faulted c
                 lane_is = refl;
                 request_is = refl;
                 part_is = refl;
-                did = λ found e. c.did_last found run lists would (k.shown.message, k.shown.there, (k.mailbox, held.0, k.named, held_first place run held first one h, refl));
+                did = λ found e. c.did_last found run lists would (k.shown.message, k.shown.there, (k.mailbox, held.0, k.named, stood.held_is, refl));
                 answer = reply.Copied r.given;
                 left = add_message target k.shown.message lists;
                 made = (c.answers run lists would r.given (add_message target k.shown.message lists) allowed (is_copied old name uid target r.row r.number r.given lists k), refl);
@@ -332,20 +318,19 @@ abbrev pub giving_back : ℕ → ℕ → ℕ → Refusal → ℕ → RunEvent
 giving_back lane place uid why calls = record (event_of lane place GivesBack calls) { reply = Some (reply.Refused why); map_entries = lowers uid }
 
 given_for : (why : Refusal) → (is_step why ≡ true) ⊎ (why ≡ refusal.NoMemory) → why ≡ refusal.Stopped → ⊥
-given_for why (inl s) e = let k : true ≡ false = sym s ∙ ap is_step e in cc k
-given_for why (inr m) e = let k : refusal.NoMemory ≡ refusal.Stopped = sym m ∙ e in cc k
+given_for why cause e = grind (arith, common_steps, nat_tests)
 
 given_reply : (q : Request) (name : List ℕ) (uid : Uid) (target : List ℕ) (half : Half) (said : List Reply) (why : Refusal) → IsCopying q name uid target half → said ≡ answered_by why → (is_step why ≡ true) ⊎ (why ≡ refusal.NoMemory) → IsReplyOf q said (reply.Refused why)
 given_reply q name uid target half said why c is (inl s) = subst (λ (l : List Reply). IsReplyOf q l (reply.Refused why)) (sym (is ∙ ap (λ (b : Bool). if b then reply.Refused why ∷ [] else []) s)) (c.replied why s)
 given_reply q name uid target half said why c is (inr m) =
     subst (λ (w : Refusal). IsReplyOf q said (reply.Refused w)) (sym m) (is ∙ ap answered_by m)
 
-back_stops : (around : Around) (run : Run) (place : ℕ) (q : Request) (name : List ℕ) (uid : Uid) (target : List ℕ) (half : Half) (why : Refusal) (first second : RunEvent) → IsCopying q name uid target half → (why ≡ refusal.Stopped → ⊥) → own_events place run ≡ first ∷ second ∷ [] → WasRefused why second
+back_stops : (around : Around) (run : Run) (place : ℕ) (said : List Reply) (q : Request) (name : List ℕ) (uid : Uid) (target : List ℕ) (half : Half) (held : MapUid) (why : Refusal) → IsCopying q name uid target half → IsGivingBack held why run place said
     → CanRefuse around run place q GivesBack refusal.Stopped (Some (reply.Refused refusal.Stopped))
-back_stops around run place q name uid target half why first second c other two r = record {
+back_stops around run place said q name uid target half held why c b = record {
   finds = c.finds around;
   found = λ event. c.found around run event GivesBack;
-  part_is = gives_back_next around run q name uid target half why (own_events place run) first second c other two r;
+  part_is = gives_back_next around run q name uid target half held why place said c (given_for why b.cause) b;
   memory = λ e. absurd (let k : refusal.Stopped ≡ refusal.NoMemory = e in cc k);
   ends = record { 0 = λ e. c.refused_back refusal.Stopped; 1 = λ e f. some_reply (reply.Refused refusal.Stopped) f };
   replied = λ given e. subst (λ (r : Reply). refusal_in r ≡ Some refusal.Stopped) (one_reply (reply.Refused refusal.Stopped) given e) refl;
@@ -354,7 +339,7 @@ back_stops around run place q name uid target half why first second c other two 
 pub back_stopped : {D : Type 0} → (q : Request) (name : List ℕ) (uid : Uid) (target : List ℕ) (half : Half) (held : MapUid) (why : Refusal) (Stands : Run → ℕ → List Reply → Type 0) (store : StoreValue D) (history : Option History) (faults : Faults) → IsCopying q name uid target half → store.stopped ≡ true
     → CopyingClause q (IsGivingBack held why) Stands store store history history faults faults did.Quiet (Some (reply.Refused refusal.Stopped))
 back_stopped q name uid target half held why Stands store history faults c stopped = λ around behind pins run lane place said lists come shows stood. (
-  (did_stop around behind run lane place said q GivesBack lists (seen_of pins store history faults) (back_stops around run place q name uid target half why stood.0.0 stood.0.1 c (given_for why stood.2) stood.0.2 stood.0.4) come shows tt stopped).so,
+  (did_stop around behind run lane place said q GivesBack lists (seen_of pins store history faults) (back_stops around run place said q name uid target half held why c stood) come shows tt stopped).so,
   λ e. absurd (never_more _ e),
 )
 
@@ -363,7 +348,7 @@ pub back_fell : {D : Type 0} → (q : Request) (name : List ℕ) (uid : Uid) (ta
 back_fell q name uid target half held why Stands old new before after began faulted c ran f = λ around behind pins run lane place said lists come shows stood.
     let seen = seen_of pins old before began in
     let later = seen_of pins new after faulted in (
-      (did_fall around behind run lane place said q GivesBack lists seen later did.Failed (back_stops around run place q name uid target half why stood.0.0 stood.0.1 c (given_for why stood.2) stood.0.2 stood.0.4) come (map_fell_stays pins old new before after began faulted f) (shows_still pins old new before after began faulted lists f.appends shows) tt ran f.stopped f.rose
+      (did_fall around behind run lane place said q GivesBack lists seen later did.Failed (back_stops around run place said q name uid target half held why c stood) come (map_fell_stays pins old new before after began faulted f) (shows_still pins old new before after began faulted lists f.appends shows) tt ran f.stopped f.rose
           (record { refused = refl; unanswered = refl; ran = ran; stopped = f.stopped }, λ s. f.appends.moments lists s.0)).so,
       λ e. absurd (never_more _ e),
     )
@@ -378,41 +363,45 @@ given_back q name uid target half held why Stands old new before after began fau
     let a = t.appends in
     let seen = seen_of pins old before began in
     let later = seen_of pins new after faulted in
-    let first = stood.0.0 in
-    let second = stood.0.1 in
-    let two = stood.0.2 in
-    let h = stood.0.3 in
-    let r = stood.0.4 in
-    let other = given_for why stood.2 in (
+    let other = given_for why stood.cause in
+    let refused = last_before (own_events place run) event refl ∙ (ap last_refusal stood.last.own_is ∙ last_with stood.last.earlier stood.last.last why stood.refused) in (
       (did_part around behind run lane place said q lists lists seen later did.Quiet (Some (reply.Refused why)) None event
           (record {
-            lane_is = refl;
-            request_is = refl;
-            moment_is = refl;
-            ended_is = refl;
-            unrefused = refl;
-            undrawn = refl;
-            leaves = record { made = refl; pins = refl; unpins = refl; doomed = refl; removed = refl; given = refl; placed = refl; gone = refl };
+            own = own_event _ _ _ _ _ _ _ _ _ refl;
             finds = c.finds around event;
             found = c.found around run event GivesBack;
-            part_is = gives_back_next around run q name uid target half why (own_events place run) first second c other two r;
+            part_is = gives_back_next around run q name uid target half held why place said c other stood;
             allowed = ap (first_refusal run lists) (c.checks run event GivesBack);
             fits = one_fits run seen (lowering_of held) come t.fits;
-            did = c.did_back around run lists event (held.0, held_second place run held first second two h, refl);
-            ends = record { 0 = λ e. c.behind_back behind (and_then run event) event refl; 1 = λ e f. some_reply (reply.Refused why) f };
-            replied = replied_back (own_events place run) first second event why two r.refused refl;
+            did = c.did_back around run lists event (held.0, stood.held_is, refl);
+            ends = record { 0 = λ e. back_ends behind (and_then run event) q name uid target half event why c refl (ap last_refusal (own_more place run event (eq-eqb place place refl)) ∙ refused); 1 = λ e f. some_reply (reply.Refused why) f };
+            replied = refused;
           }) come (comes_with run event (lowering_of held) seen later come t.taken a.drawn a.grows refl refl refl)
           (λ u. lowered_ends (due_at u old) (due_at u new) held.0 u (lowered_due held old new u (due u) (t.due u)))
           (took_tells pins (lowering_of held) old new before after began faulted ran t) (shows_still pins old new before after began faulted lists a shows) a.grows (a.stays old.map) (sym c.steps_back) refl (refl, t.runs ∙ sym ran, leads_still pins (lowering_of held) old new before after began faulted lists t)
           (ends_well q said event None (Some (reply.Refused why)) did.Quiet seen later refl ran t.runs t.unfailed (λ x. x) (λ e. other (let k : reply.Refused why ≡ reply.Refused refusal.Stopped = cc e in cc k)) (λ some. absurd (let k : false ≡ true = some in cc k))
-          (λ given e. subst (λ (x : Reply). IsReplyOf q said x) (one_reply (reply.Refused why) given e) (given_reply q name uid target half said why c stood.1 stood.2)))).so,
+          (λ given e. subst (λ (x : Reply). IsReplyOf q said x) (one_reply (reply.Refused why) given e) (given_reply q name uid target half said why c stood.said_is stood.cause)))).so,
       λ e. absurd (never_more _ e),
     )
 
 -- ---- as other requests go on
 
-pub holding_kept : (held : MapUid) → IsKept (IsHolding held)
-holding_kept held run place said event e new stood = ((stood.0.0, own_other place run event (ne_eqb event.request place e) ∙ stood.0.1, stood.0.2), stood.1)
+pub holding_kept : (held : MapUid) (source : ℕ) → IsKept (IsHolding held source)
+holding_kept held source run place said event e new stood =
+    let same = own_other place run event (ne_eqb event.request place e) in record {
+      calm = unrefused_still run event place said same stood.calm;
+      last = ends_still (own_events place run) (own_events place (and_then run event)) First same stood.last;
+      held_is = held_by place run (and_then run event) same ∙ stood.held_is;
+      source_is = source_by place run (and_then run event) same ∙ stood.source_is;
+      uncopied = copied_by place run (and_then run event) same ∙ stood.uncopied;
+    }
 
 pub giving_back_kept : (held : MapUid) (why : Refusal) → IsKept (IsGivingBack held why)
-giving_back_kept held why run place said event e new stood = ((stood.0.0, stood.0.1, own_other place run event (ne_eqb event.request place e) ∙ stood.0.2, stood.0.3, stood.0.4), stood.1, stood.2)
+giving_back_kept held why run place said event e new stood =
+    let same = own_other place run event (ne_eqb event.request place e) in record {
+      last = ends_still (own_events place run) (own_events place (and_then run event)) Last same stood.last;
+      refused = stood.refused;
+      held_is = held_by place run (and_then run event) same ∙ stood.held_is;
+      said_is = stood.said_is;
+      cause = stood.cause;
+    }

@@ -1,23 +1,35 @@
 -- What the events of copies and of moves have in common.
-use Rattle.std.proofs.Common.{◌≡◌, ℕ, true, false, List, [], ◌∷◌, ◌++◌, Option, Some, None, refl, ◌∙◌, ap}
-use Rattle.std.specs.Prelude.{flat_map, slice_get}
-use Rattle.mdbox_base.specs.declared.entries.MapEntry.{MapEntry}
+use Rattle.std.proofs.Common.{◌≡◌, ◌==◌, ◌||◌, ℕ, Bool, true, false, not, cond, List, [], ◌∷◌, Option, Some, None, refl, sym, ◌∙◌, ap, arith}
+use Rattle.std.proofs.lemmas.Grind.{common_steps}
+use Rattle.std.proofs.lemmas.Bool.Decides.{nat_tests}
+use Rattle.std.specs.Prelude.{is_some, slice_get}
+use Rattle.std.specs.Option.{option_map, option_map_or}
+use Rattle.std.proofs.lemmas.Bool.{eq-eqb}
 use Rattle.mdbox_base.specs.declared.ids.MapUid.{MapUid}
 use Rattle.mdbox_base.specs.declared.ids.Uid.{Uid}
 use Rattle.mdbox_base.specs.declared.replies.Refusal.{Refusal}
 use Rattle.mdbox_base.specs.declared.replies.Refusal.TheVariants as refusal
+use Rattle.mdbox_base.specs.declared.replies.Reply.{Reply}
 use Rattle.mdbox_base.specs.declared.replies.Reply.TheVariants as reply
 use Rattle.mdbox_base.specs.declared.requests.Request.{Request}
 use Rattle.mdbox_base.specs.declared.requests.Request.TheVariants as request
 use Rattle.mdbox_base.specs.declared.script.Half.{Half}
 use Rattle.mdbox_base.specs.declared.script.Half.TheVariants as half
 use Rattle.model_lists.specs.Lists.{Lists}
-use Rattle.list_machine.specs.Run.{EventPart, First, Last, GivesBack, RunEvent, Run, own_events, first_in}
+use Rattle.model_meaning.specs.MapMeaning.{MapBox, box_named}
+use Rattle.list_machine.specs.Run.{EventPart, First, Last, GivesBack, StartsOver, RunEvent, Run, map_of, own_events, source_of, uid_copied}
 use Rattle.list_machine.specs.Machine.{IsCopied, PartAnswers, RequestInRange, copy_checks, first_refusal, part_checks, is_step}
 use Rattle.journal.specs.Journal.{half_of, halves_of, IsReplyOf}
-use Rattle.journal.specs.Events.{Around, Finds, DidPart, DidCopy, has_memory, next_part, part_behind, behind_copy, behind_event, behind_refused, makes_step, uid_raised, uid_held}
+use Rattle.journal.specs.Events.{Around, Finds, DidPart, DidCopy, behind_copy, behind_event, behind_refused, ends_with_count, has_memory, is_elsewhere, last_refusal, makes_step, next_part, part_behind}
 use Rattle.journal.specs.Found.{AgreesWithRun}
-use Rattle.mail_ops.specs.CopyStages.{HasRaised, WasRefused}
+use Rattle.task_claims.specs.Leaving.{number_named}
+use Rattle.mail_ops.specs.CopyStages.{IsHolding, IsGivingBack}
+use Rattle.mail_ops.proofs.LastEventLemmas.{last_own, next_behind, next_last}
+use Rattle.mail_ops.proofs.ToldLemmas.{some_part}
+
+-- the part behind the first: a copy begins again if its source's name names another mailbox by then
+abbrev pub adding_part : Bool → EventPart
+adding_part elsewhere = cond elsewhere StartsOver Last
 
 -- A request that copies: a copy, or a move in its first half.
 pub record IsCopying (q : Request) (name : List ℕ) (uid : Uid) (target : List ℕ) (how : Half) : Type 0 where
@@ -27,12 +39,12 @@ pub record IsCopying (q : Request) (name : List ℕ) (uid : Uid) (target : List 
   pub did_first : (around : Around) (run : Run) (lists : Lists) (event : RunEvent) → DidCopy run lists name uid.0 target event First → DidPart around run lists q event First
   pub did_last : (around : Around) (run : Run) (lists : Lists) (event : RunEvent) → DidCopy run lists name uid.0 target event Last → DidPart around run lists q event Last
   pub did_back : (around : Around) (run : Run) (lists : Lists) (event : RunEvent) → DidCopy run lists name uid.0 target event GivesBack → DidPart around run lists q event GivesBack
-  pub behind_first : (around : Around) (run : Run) (event : RunEvent) → event.part ≡ First → part_behind around run q event ≡ Some Last
-  pub behind_back : (around : Around) (run : Run) (event : RunEvent) → event.part ≡ GivesBack → part_behind around run q event ≡ None
+  pub behind_first : (around : Around) (run : Run) (event : RunEvent) → event.part ≡ First → part_behind around run q event ≡ behind_copy (is_elsewhere run event.request name) (ends_with_count run event.request) First
+  pub behind_back : (around : Around) (run : Run) (event : RunEvent) → event.part ≡ GivesBack → part_behind around run q event ≡ behind_copy (is_elsewhere run event.request name) (ends_with_count run event.request) GivesBack
   pub refused_first : (why : Refusal) → behind_refused q First why ≡ None
   pub refused_back : (why : Refusal) → behind_refused q GivesBack why ≡ None
   pub refused_last : (why : Refusal) → (why ≡ refusal.Stopped → ⊥) → behind_refused q Last why ≡ Some GivesBack
-  pub stopped_last : behind_refused q Last refusal.Stopped ≡ None
+  pub stopped_last : (elsewhere : Bool) → behind_refused q (adding_part elsewhere) refusal.Stopped ≡ None
   pub memory_first : has_memory First q ≡ false
   pub memory_last : has_memory Last q ≡ false
   pub in_range : RequestInRange q
@@ -46,33 +58,13 @@ pub record IsCopying (q : Request) (name : List ℕ) (uid : Uid) (target : List 
   pub replied : (why : Refusal) → is_step why ≡ true → IsReplyOf q (reply.Refused why ∷ []) (reply.Refused why)
 
 copy_back : (name : List ℕ) (uid : Uid) (target : List ℕ) (why : Refusal) → (why ≡ refusal.Stopped → ⊥) → behind_refused (request.Copy name uid target) Last why ≡ Some GivesBack
-copy_back name uid target refusal.NoMailbox other = refl
-copy_back name uid target refusal.Exists other = refl
-copy_back name uid target refusal.NoMessage other = refl
-copy_back name uid target (refusal.TooManyCopies n) other = refl
-copy_back name uid target (refusal.MailboxFull n) other = refl
-copy_back name uid target (refusal.TooManyMailboxes n) other = refl
-copy_back name uid target (refusal.StoreFull n) other = refl
-copy_back name uid target refusal.NoMemory other = refl
-copy_back name uid target refusal.ReadFault other = refl
-copy_back name uid target refusal.Stopped other = absurd (other refl)
-copy_back name uid target (refusal.Damaged file offset) other = refl
+copy_back name uid target why other = grind (arith, common_steps, nat_tests)
 
 copy_replied : (name : List ℕ) (uid : Uid) (target : List ℕ) (why : Refusal) → is_step why ≡ true → IsReplyOf (request.Copy name uid target) (reply.Refused why ∷ []) (reply.Refused why)
-copy_replied name uid target refusal.NoMailbox s = refl
-copy_replied name uid target refusal.Exists s = refl
-copy_replied name uid target refusal.NoMessage s = refl
-copy_replied name uid target (refusal.TooManyCopies n) s = refl
-copy_replied name uid target (refusal.MailboxFull n) s = refl
-copy_replied name uid target (refusal.TooManyMailboxes n) s = refl
-copy_replied name uid target (refusal.StoreFull n) s = refl
-copy_replied name uid target refusal.NoMemory s = absurd (cc s)
-copy_replied name uid target refusal.ReadFault s = absurd (cc s)
-copy_replied name uid target refusal.Stopped s = absurd (cc s)
-copy_replied name uid target (refusal.Damaged file offset) s = absurd (cc s)
+copy_replied name uid target why s = grind (arith, common_steps, nat_tests)
 
-pub part_as : {X : Type 0} → (f : EventPart → X) (part known : EventPart) (x : X) → part ≡ known → f known ≡ x → f part ≡ x
-part_as f part known x e h = ap f e ∙ h
+copy_stopped : (name : List ℕ) (uid : Uid) (target : List ℕ) (elsewhere : Bool) → behind_refused (request.Copy name uid target) (adding_part elsewhere) refusal.Stopped ≡ None
+copy_stopped name uid target elsewhere = grind (arith, common_steps, nat_tests)
 
 pub copy_copies : (name : List ℕ) (uid : Uid) (target : List ℕ) → IsCopying (request.Copy name uid target) name uid target half.Whole
 copy_copies name uid target = record {
@@ -82,12 +74,12 @@ copy_copies name uid target = record {
   did_first = λ around run lists event d. d;
   did_last = λ around run lists event d. d;
   did_back = λ around run lists event d. d;
-  behind_first = λ around run event e. part_as behind_copy event.part First (Some Last) e refl;
-  behind_back = λ around run event e. part_as behind_copy event.part GivesBack None e refl;
+  behind_first = λ around run event e. ap (behind_copy (is_elsewhere run event.request name) (ends_with_count run event.request)) e;
+  behind_back = λ around run event e. ap (behind_copy (is_elsewhere run event.request name) (ends_with_count run event.request)) e;
   refused_first = λ why. refl;
   refused_back = λ why. refl;
   refused_last = copy_back name uid target;
-  stopped_last = refl;
+  stopped_last = copy_stopped name uid target;
   memory_first = refl;
   memory_last = refl;
   in_range = tt;
@@ -103,20 +95,45 @@ copy_copies name uid target = record {
 
 -- ---- the next part, by the stage
 
-pub adds_next : (around : Around) (run : Run) (q : Request) (name : List ℕ) (uid : Uid) (target : List ℕ) (how : Half) (held : MapUid) (own : List RunEvent) (first : RunEvent) → IsCopying q name uid target how → own ≡ first ∷ [] → HasRaised held first → next_part around run q own ≡ Some Last
-adds_next around run q name uid target how held own first c one r =
-    (ap (λ (es : List RunEvent). next_part around run q es) one ∙ ap (λ (why : Option Refusal). behind_event around run q first why) r.unrefused) ∙ c.behind_first around run first r.part
+-- where the name of its source names the mailbox from which it began
+not_elsewhere : (run : Run) (place : ℕ) (name : List ℕ) (source : ℕ) → number_named (map_of run) name ≡ Some source → source_of place run ≡ source → is_elsewhere run place name ≡ false
+not_elsewhere run place name source named is = by_box (box_named (map_of run) name) named
+  where
+    by_box : (o : Option MapBox) → option_map (λ (box : MapBox). box.number) o ≡ Some source → option_map_or (λ (box : MapBox). not (box.number == source_of place run)) o false ≡ false
+    by_box None k = refl
+    by_box (Some box) k = let f : Some box.number ≡ Some source = k in let e : box.number ≡ source = cc f in ap not (eq-eqb box.number (source_of place run) (e ∙ sym is))
 
-pub gives_back_next : (around : Around) (run : Run) (q : Request) (name : List ℕ) (uid : Uid) (target : List ℕ) (how : Half) (why : Refusal) (own : List RunEvent) (first second : RunEvent) → IsCopying q name uid target how → (why ≡ refusal.Stopped → ⊥) → own ≡ first ∷ second ∷ [] → WasRefused why second → next_part around run q own ≡ Some GivesBack
-gives_back_next around run q name uid target how why own first second c other two r =
-    (ap (λ (es : List RunEvent). next_part around run q es) two ∙ ap (λ (w : Option Refusal). behind_event around run q second w) r.refused) ∙ (ap (λ (p : EventPart). behind_refused q p why) r.part ∙ c.refused_last why other)
+goes_on : (elsewhere ends : Bool) → behind_copy elsewhere ends First ≡ Some (adding_part elsewhere)
+goes_on elsewhere ends = grind (arith, common_steps, nat_tests)
 
--- ---- the record that is held
+pub holding_next : (around : Around) (run : Run) (q : Request) (name : List ℕ) (uid : Uid) (target : List ℕ) (how : Half) (held : MapUid) (source place : ℕ) (said : List Reply) → IsCopying q name uid target how → IsHolding held source run place said
+    → next_part around run q (own_events place run) ≡ Some (adding_part (is_elsewhere run place name))
+holding_next around run q name uid target how held source place said c h =
+    next_behind around run q place First h.calm.unrefused h.last
+    ∙ (c.behind_first around run h.last.last h.last.part_is
+    ∙ (ap (λ (n : ℕ). behind_copy (is_elsewhere run n name) (ends_with_count run n) First) (last_own place run First h.last) ∙ goes_on (is_elsewhere run place name) (ends_with_count run place)))
 
-pub held_first : (place : ℕ) (run : Run) (held : MapUid) (first : RunEvent) → own_events place run ≡ first ∷ [] → HasRaised held first → uid_held place run ≡ Some held.0
-held_first place run held first one r =
-    ap (λ (es : List RunEvent). first_in uid_raised (flat_map (λ (e : RunEvent). e.map_entries) es)) one ∙ ap (λ (ms : List MapEntry). first_in uid_raised (ms ++ [])) r.raised
+pub adds_next : (around : Around) (run : Run) (q : Request) (name : List ℕ) (uid : Uid) (target : List ℕ) (how : Half) (held : MapUid) (source place : ℕ) (said : List Reply) → IsCopying q name uid target how → IsHolding held source run place said → number_named (map_of run) name ≡ Some source
+    → next_part around run q (own_events place run) ≡ Some Last
+adds_next around run q name uid target how held source place said c h named =
+    holding_next around run q name uid target how held source place said c h ∙ ap (λ (b : Bool). Some (adding_part b)) (not_elsewhere run place name source named h.source_is)
 
-pub held_second : (place : ℕ) (run : Run) (held : MapUid) (first second : RunEvent) → own_events place run ≡ first ∷ second ∷ [] → HasRaised held first → uid_held place run ≡ Some held.0
-held_second place run held first second two r =
-    ap (λ (es : List RunEvent). first_in uid_raised (flat_map (λ (e : RunEvent). e.map_entries) es)) two ∙ ap (λ (ms : List MapEntry). first_in uid_raised (ms ++ flat_map (λ (e : RunEvent). e.map_entries) (second ∷ []))) r.raised
+pub gives_back_next : (around : Around) (run : Run) (q : Request) (name : List ℕ) (uid : Uid) (target : List ℕ) (how : Half) (held : MapUid) (why : Refusal) (place : ℕ) (said : List Reply) → IsCopying q name uid target how → (why ≡ refusal.Stopped → ⊥) → IsGivingBack held why run place said
+    → next_part around run q (own_events place run) ≡ Some GivesBack
+gives_back_next around run q name uid target how held why place said c other b =
+    ((ap (λ (es : List RunEvent). next_part around run q es) b.last.own_is ∙ next_last around run q b.last.earlier b.last.last) ∙ ap (λ (w : Option Refusal). behind_event around run q b.last.last w) b.refused)
+    ∙ (ap (λ (p : EventPart). behind_refused q p why) b.last.part_is ∙ c.refused_last why other)
+
+-- ---- the part behind an event
+
+pub first_goes_on : (around : Around) (run : Run) (q : Request) (name : List ℕ) (uid : Uid) (target : List ℕ) (how : Half) (event : RunEvent) → IsCopying q name uid target how → event.part ≡ First → part_behind around run q event ≡ None → ⊥
+first_goes_on around run q name uid target how event c is none =
+    some_part (adding_part (is_elsewhere run event.request name)) (sym (c.behind_first around run event is ∙ goes_on (is_elsewhere run event.request name) (ends_with_count run event.request)) ∙ none)
+
+ends : (elsewhere copied : Bool) → behind_copy elsewhere (copied || true) GivesBack ≡ None
+ends elsewhere copied = grind (arith, common_steps, nat_tests)
+
+-- a count that is given back ends a request that was refused
+pub back_ends : (around : Around) (run : Run) (q : Request) (name : List ℕ) (uid : Uid) (target : List ℕ) (how : Half) (event : RunEvent) (why : Refusal) → IsCopying q name uid target how → event.part ≡ GivesBack → last_refusal (own_events event.request run) ≡ Some why → part_behind around run q event ≡ None
+back_ends around run q name uid target how event why c is refused =
+    c.behind_back around run event is ∙ (ap (λ (r : Option Refusal). behind_copy (is_elsewhere run event.request name) (is_some (uid_copied event.request run) || is_some r) GivesBack) refused ∙ ends (is_elsewhere run event.request name) (is_some (uid_copied event.request run)))

@@ -2,6 +2,7 @@
 use Rattle.std.proofs.Common.{◌≡◌, ◌≤◌, ◌<◌, ◌+◌, ℕ, true, false, List, Option, Some, None, refl, sym, ◌∙◌, ap, subst, arith, inl, inr}
 use Rattle.std.specs.Prelude.{◌⊎◌}
 use Rattle.disk_model.specs.Disk.{History, Faults}
+use Rattle.mdbox_base.specs.declared.ids.BoxNo.{BoxNo}
 use Rattle.mdbox_base.specs.declared.ids.MapUid.{MapUid}
 use Rattle.mdbox_base.specs.declared.ids.Uid.{Uid}
 use Rattle.mdbox_base.specs.declared.progress.Did.{Did}
@@ -14,18 +15,16 @@ use Rattle.mdbox_base.specs.declared.replies.Reply.{Reply}
 use Rattle.mdbox_base.specs.declared.replies.Reply.TheVariants as reply
 use Rattle.mdbox_base.specs.declared.requests.Request.TheVariants as request
 use Rattle.mdbox_base.specs.declared.script.Half.TheVariants as half
-use Rattle.model_meaning.specs.MapMeaning.{MapBox, MapMeaning}
-use Rattle.model_store.specs.Listing.{meaning_named}
 use Rattle.list_machine.specs.Machine.{is_step}
 use Rattle.store_core.specs.Dues.{due_at, Moves, amounts_in}
 use Rattle.store_core.specs.Keeping.{KeepsRest}
 use Rattle.store_core.specs.Running.{IsStore}
-use Rattle.store_core.specs.Value.{StoreValue, indexes_of, list_named}
+use Rattle.store_core.specs.Value.{StoreValue}
 use Rattle.store_core.proofs.DueLemmas.{moves_as}
 use Rattle.task_steps.specs.ExpungeStages.{one_due}
 use Rattle.task_steps.specs.Step.{IsKept, ended_by}
 use Rattle.task_steps.proofs.SeenLemmas.{not_begun_stays}
-use Rattle.mail_ops.specs.Appends.{MapAppends, MapTook, MapFell, lowering_of}
+use Rattle.mail_ops.specs.Appends.{MapTook, MapFell, lowering_of}
 use Rattle.mail_ops.specs.Copy.{CopyValue, IsAtCopy, copy_amounts, copy_left, IsReadyToCopy, CopyAnswers, CopiesOn}
 use Rattle.mail_ops.specs.Copying.{copy_refusal, RaisesRow, IsRaiseRefusal, MayBeRaised, IsNotRaised, AddsRow, FellAdding}
 use Rattle.mail_ops.specs.OnlyLogs.{ChangesOnlyLogs}
@@ -34,12 +33,14 @@ use Rattle.mail_ops.specs.declared.copy.CopyStage.{CopyStage}
 use Rattle.mail_ops.specs.declared.copy.CopyStage.TheVariants as stage
 use Rattle.mail_ops.specs.declared.event.NotDone.{NotDone}
 use Rattle.mail_ops.specs.declared.event.NotDone.TheVariants as not_done
-use Rattle.mail_ops.proofs.CopyFirstLemmas.{CopyingClause, raise_stopped, raise_refused, raise_unremembered, raise_fell, raise_done, raise_steps, copy_steps}
+use Rattle.mail_ops.proofs.CopyFirstLemmas.{CopyingClause, back_runs, copy_steps, raise_done, raise_fell, raise_refused, raise_steps, raise_stopped, raise_unremembered}
 use Rattle.mail_ops.proofs.CopyLastLemmas.{added_due, add_stopped, add_refused, add_unremembered, add_fell, copy_added, back_stopped, back_fell, given_back, holding_kept, giving_back_kept}
 use Rattle.mail_ops.proofs.CopyPartLemmas.{copy_copies}
+use Rattle.mail_ops.proofs.KeptUidLemmas.{fallen_keeps, raised_source}
 use Rattle.store_seen.proofs.SeeingLemmas.{due_as_before}
-use Rattle.mail_ops.proofs.LoweringLemmas.{lowered_due}
+use Rattle.mail_ops.proofs.LoweringLemmas.{ended_moves, held_still, lowered_due, raised_covers, raised_moves}
 use Rattle.mail_ops.proofs.OnlyLogsLemmas.{box_fell_keeps, box_took_keeps, idle_keeps, map_fell_keeps, map_took_keeps}
+use Rattle.mail_ops.proofs.ToldLemmas.{done_more, memory_runs, more_is, step_runs, why_is}
 
 -- what a step says of an event
 pub record CopyKnown {D : Type 0} (name : List ℕ) (uid : Uid) (target : List ℕ) (now next : CopyStage) (answer : Progress) (how : Did) (old new : StoreValue D) (before after : Option History) (began faulted : Faults) : Type 0 where
@@ -52,46 +53,22 @@ pub record CopyKnown {D : Type 0} (name : List ℕ) (uid : Uid) (target : List �
 
 -- ---- answers that are told apart
 
-more_is : (given : Reply) → progress.More ≡ progress.Done given → ⊥
-more_is given e = cc e
-
-done_more : (given : Reply) → progress.Done given ≡ progress.More → ⊥
-done_more given e = cc e
-
 copied_stopped : (given : Uid) → progress.Done (reply.Copied given) ≡ progress.Done (reply.Refused refusal.Stopped) → ⊥
 copied_stopped given e = let k : reply.Copied given ≡ reply.Refused refusal.Stopped = cc e in cc k
-
-why_is : (a b : Refusal) → progress.Done (reply.Refused a) ≡ progress.Done (reply.Refused b) → a ≡ b
-why_is a b e = let k : reply.Refused a ≡ reply.Refused b = cc e in cc k
-
-step_runs : (why : Refusal) → is_step why ≡ true → why ≡ refusal.Stopped → ⊥
-step_runs why s e = let k : true ≡ false = sym s ∙ ap is_step e in cc k
-
-memory_runs : refusal.NoMemory ≡ refusal.Stopped → ⊥
-memory_runs e = cc e
 
 none_due : {D : Type 0} → (name : List ℕ) (uid : Uid) (store : StoreValue D) → IsReadyToCopy name uid stage.First store
 none_due name uid store = record { due = λ other. omega arith; source = tt }
 
 -- ---- the first event
 
-kept_named : {D : Type 0} → (old new : StoreValue D) (before after : Option History) (began faulted : Faults) (name : List ℕ) → MapAppends old new before after began faulted → list_named new name ≡ list_named old name
-kept_named old new before after began faulted name a = ap (λ (bs : List MapBox). meaning_named name bs (indexes_of new.boxes)) a.mailboxes ∙ ap (meaning_named name old.map.boxes) a.indexes
-
-raised_moves : (old new held uid : ℕ) → new ≡ old + one_due held uid → new + 0 ≡ old + one_due held uid
-raised_moves old new held uid e = omega (arith, e)
-
-raised_covers : (old new held uid : ℕ) → new ≡ old + one_due held uid → one_due held uid ≤ new
-raised_covers old new held uid e = omega (arith, e)
-
-known_raised : {D : Type 0} → (name : List ℕ) (uid : Uid) (target : List ℕ) (held : MapUid) (old new : StoreValue D) (before after : Option History) (began faulted : Faults) → IsStore before old → old.stopped ≡ false → RaisesRow name uid target held old new before after began faulted
-    → CopyKnown name uid target stage.First (stage.Adding held) progress.More did.Quiet old new before after began faulted
-known_raised name uid target held old new before after began faulted is ran r = record {
+known_raised : {D : Type 0} → (name : List ℕ) (uid : Uid) (target : List ℕ) (held : MapUid) (source : BoxNo) (old new : StoreValue D) (before after : Option History) (began faulted : Faults) → IsStore before old → old.stopped ≡ false → RaisesRow name uid target held source old new before after began faulted
+    → CopyKnown name uid target stage.First (stage.Adding held source) progress.More did.Quiet old new before after began faulted
+known_raised name uid target held source old new before after began faulted is ran r = record {
   ready = record {
     due = λ other. raised_covers (due_at other old) (due_at other new) held.0 other (r.took.due other);
-    source = record { m = r.keeps.m; named = kept_named old new before after began faulted name r.took.appends ∙ r.keeps.named; below = r.keeps.below; same = r.keeps.same };
+    source = raised_source name uid target held source old new before after began faulted r;
   };
-  does = raise_done (request.Copy name uid target) name uid target half.Whole held old new before after began faulted (copy_copies name uid target) is ran r;
+  does = raise_done (request.Copy name uid target) name uid target half.Whole held source old new before after began faulted (copy_copies name uid target) is ran r;
   keeps = map_took_keeps _ _ _ _ old new before after began faulted ran (more_is (reply.Refused refusal.Stopped)) r.took;
   moves = record { due = λ other. raised_moves (due_at other old) (due_at other new) held.0 other (r.took.due other) };
   replies = (r.row, r.number, r.next, r.at, r.holds, r.few, record { indexes = r.took.appends.indexes; mailboxes = r.took.appends.mailboxes; taken = r.took.taken });
@@ -123,64 +100,45 @@ known_same name uid target why how store history faults runs running cause does 
 
 known_refused : {D : Type 0} → (history : D → Option History) (faults : D → Faults) (name : List ℕ) (uid : Uid) (target : List ℕ) (error : NotDone) (old new : StoreValue D) → old.stopped ≡ false → IsNotRaised name uid target error old new (history old.disk) (history new.disk) (faults old.disk) (faults new.disk)
     → CopyKnown name uid target stage.First stage.First (progress.Done (reply.Refused (refusal_told error))) (told_as half.Whole did.Failed error) old new (history old.disk) (history new.disk) (faults old.disk) (faults new.disk)
-known_refused history faults name uid target (not_done.Refused why) old new ran r =
-    subst (λ (s : StoreValue _). CopyKnown name uid target stage.First stage.First (progress.Done (reply.Refused why)) (did.Step half.Whole) old s (history old.disk) (history s.disk) (faults old.disk) (faults s.disk)) (sym r.0)
-    (known_same name uid target why (did.Step half.Whole) old (history old.disk) (faults old.disk) ran (step_runs why (raise_steps name uid.0 target old why r.1)) (inl r.1) (raise_refused (request.Copy name uid target) name uid target half.Whole (IsAtCopy stage.First) old (history old.disk) (faults old.disk) why (copy_copies name uid target) ran r.1))
-known_refused history faults name uid target not_done.NoMemory old new ran r =
-    subst (λ (s : StoreValue _). CopyKnown name uid target stage.First stage.First (progress.Done (reply.Refused refusal.NoMemory)) did.Quiet old s (history old.disk) (history s.disk) (faults old.disk) (faults s.disk)) (sym r.0)
-    (known_same name uid target refusal.NoMemory did.Quiet old (history old.disk) (faults old.disk) ran memory_runs (inr (refl, r.1)) (raise_unremembered (request.Copy name uid target) name uid target half.Whole (IsAtCopy stage.First) old (history old.disk) (faults old.disk) (copy_copies name uid target) ran))
+known_refused history faults name uid target (not_done.Refused why) old new ran r = rw r.0 (known_same name uid target why (did.Step half.Whole) old (history old.disk) (faults old.disk) ran (step_runs why (raise_steps name uid.0 target old why r.1)) (inl r.1) (raise_refused (request.Copy name uid target) name uid target half.Whole (IsAtCopy stage.First) old (history old.disk) (faults old.disk) why (copy_copies name uid target) ran r.1))
+known_refused history faults name uid target not_done.NoMemory old new ran r = rw r.0 (known_same name uid target refusal.NoMemory did.Quiet old (history old.disk) (faults old.disk) ran memory_runs (inr (refl, r.1)) (raise_unremembered (request.Copy name uid target) name uid target half.Whole (IsAtCopy stage.First) old (history old.disk) (faults old.disk) (copy_copies name uid target) ran))
 known_refused history faults name uid target not_done.Stopped old new ran r = known_unraised name uid target old new (history old.disk) (history new.disk) (faults old.disk) (faults new.disk) ran r.0 r.1
 
 -- ---- the second event
 
-ended_moves : (old new held uid : ℕ) → new + one_due held uid ≡ old → new + one_due held uid ≡ old + 0
-ended_moves old new held uid e = omega (arith, e)
-
-known_added : {D : Type 0} → (name : List ℕ) (uid : Uid) (target : List ℕ) (held : MapUid) (given : Uid) (old new : StoreValue D) (before after : Option History) (began faulted : Faults) → IsStore before old → old.stopped ≡ false → IsReadyToCopy name uid (stage.Adding held) old
-    → AddsRow name uid target held given old new before after began faulted → CopyKnown name uid target (stage.Adding held) stage.First (progress.Done (reply.Copied given)) (did.Step half.Whole) old new before after began faulted
-known_added name uid target held given old new before after began faulted is ran ready r = record {
+known_added : {D : Type 0} → (name : List ℕ) (uid : Uid) (target : List ℕ) (held : MapUid) (source : BoxNo) (given : Uid) (old new : StoreValue D) (before after : Option History) (began faulted : Faults) → IsStore before old → old.stopped ≡ false → IsReadyToCopy name uid (stage.Adding held source) old
+    → AddsRow name uid target held given old new before after began faulted → CopyKnown name uid target (stage.Adding held source) stage.First (progress.Done (reply.Copied given)) (did.Step half.Whole) old new before after began faulted
+known_added name uid target held source given old new before after began faulted is ran ready r = record {
   ready = none_due name uid new;
-  does = copy_added name uid target held given (IsAtCopy stage.First) old new before after began faulted is ran ready.due r;
+  does = copy_added name uid target held source.0 given (IsAtCopy stage.First) old new before after began faulted is ran ready.due ready.source.named r;
   keeps = box_took_keeps _ _ _ _ _ old new before after began faulted ran (copied_stopped given) r.took;
   moves = record { due = λ other. ended_moves (due_at other old) (due_at other new) held.0 other (added_due held given r.row r.at.m old new other r.holds (ready.due other) (r.took.due r.at.m other r.at.to.numbered)) };
   replies = (r.row, r.number, r.at, r.holds);
   left = λ e. absurd (done_more (reply.Copied given) e);
 }
 
-held_still : {D : Type 0} → (held : MapUid) (old new : StoreValue D) → ((other : ℕ) → one_due held.0 other ≤ due_at other old) → ((other : ℕ) → due_at other new ≡ due_at other old) → (other : ℕ) → one_due held.0 other ≤ due_at other new
-held_still held old new due same other = subst (λ (n : ℕ). one_due held.0 other ≤ n) (sym (same other)) (due other)
-
-known_unadded : {D : Type 0} → (name : List ℕ) (uid : Uid) (target : List ℕ) (held : MapUid) (old new : StoreValue D) (before after : Option History) (began faulted : Faults) → IsStore before old → old.stopped ≡ false → IsReadyToCopy name uid (stage.Adding held) old → FellAdding name uid target held old new before after began faulted
-    → CopyKnown name uid target (stage.Adding held) (stage.Adding held) (progress.Done (reply.Refused refusal.Stopped)) (did.Broken half.Whole) old new before after began faulted
-known_unadded name uid target held old new before after began faulted is ran ready r = record {
+known_unadded : {D : Type 0} → (name : List ℕ) (uid : Uid) (target : List ℕ) (held : MapUid) (source : BoxNo) (old new : StoreValue D) (before after : Option History) (began faulted : Faults) → IsStore before old → old.stopped ≡ false → IsReadyToCopy name uid (stage.Adding held source) old → FellAdding name uid target held old new before after began faulted
+    → CopyKnown name uid target (stage.Adding held source) (stage.Adding held source) (progress.Done (reply.Refused refusal.Stopped)) (did.Broken half.Whole) old new before after began faulted
+known_unadded name uid target held source old new before after began faulted is ran ready r = record {
   ready = record {
     due = held_still held old new ready.due (λ other. due_as_before old new other r.fell.appends.map r.fell.dues);
-    source = record {
-      m = ready.source.m;
-      named = ap (λ (bs : List MapBox). meaning_named name bs (indexes_of new.boxes)) (ap (λ (m : MapMeaning). m.boxes) r.fell.appends.map) ∙ (ap (meaning_named name old.map.boxes) r.fell.indexes ∙ ready.source.named);
-      below = ready.source.below;
-      same = ready.source.same;
-    };
+    source = fallen_keeps name source.0 uid.0 held.0 old new r.fell.appends.map r.fell.indexes ready.source;
   };
-  does = add_fell (request.Copy name uid target) name uid target half.Whole held (IsAtCopy (stage.Adding held)) old new before after began faulted (copy_copies name uid target) is ran r;
+  does = add_fell (request.Copy name uid target) name uid target half.Whole held source.0 (IsAtCopy (stage.Adding held source)) old new before after began faulted (copy_copies name uid target) is ran ready.source.named r;
   keeps = box_fell_keeps _ _ _ _ old new before after began faulted ran r.fell;
-  moves = moves_as (copy_amounts (stage.Adding held)) (amounts_in old) (amounts_in new) (λ other. due_as_before old new other r.fell.appends.map r.fell.dues);
-  replies = (refl, refl, r.fell.stopped);
+  moves = moves_as (copy_amounts (stage.Adding held source)) (amounts_in old) (amounts_in new) (λ other. due_as_before old new other r.fell.appends.map r.fell.dues);
+  replies = (refl, refl, r.fell.stopped, refl);
   left = λ e. absurd (done_more (reply.Refused refusal.Stopped) e);
 }
 
-back_runs : {D : Type 0} → (name : List ℕ) (uid : Uid) (target : List ℕ) (why : Refusal) (store : StoreValue D) → (copy_refusal name uid.0 target store ≡ Some why) ⊎ (why ≡ refusal.NoMemory) → why ≡ refusal.Stopped → ⊥
-back_runs name uid target why store (inl e) stops = step_runs why (copy_steps name uid.0 target store why e) stops
-back_runs name uid target why store (inr m) stops = memory_runs (sym m ∙ stops)
-
-known_back : {D : Type 0} → (name : List ℕ) (uid : Uid) (target : List ℕ) (held : MapUid) (why : Refusal) (how : Did) (store : StoreValue D) (history : Option History) (faults : Faults) → store.stopped ≡ false → IsReadyToCopy name uid (stage.Adding held) store → (copy_refusal name uid.0 target store ≡ Some why) ⊎ (why ≡ refusal.NoMemory)
-    → CopyingClause (request.Copy name uid target) (IsAtCopy (stage.Adding held)) (IsAtCopy (stage.GivingBack held why)) store store history history faults faults how None
-    → CopyKnown name uid target (stage.Adding held) (stage.GivingBack held why) progress.More how store store history history faults faults
-known_back name uid target held why how store history faults runs ready cause does = record {
+known_back : {D : Type 0} → (name : List ℕ) (uid : Uid) (target : List ℕ) (held : MapUid) (source : BoxNo) (why : Refusal) (how : Did) (store : StoreValue D) (history : Option History) (faults : Faults) → store.stopped ≡ false → IsReadyToCopy name uid (stage.Adding held source) store → (copy_refusal name uid.0 target store ≡ Some why) ⊎ (why ≡ refusal.NoMemory)
+    → CopyingClause (request.Copy name uid target) (IsAtCopy (stage.Adding held source)) (IsAtCopy (stage.GivingBack held why)) store store history history faults faults how None
+    → CopyKnown name uid target (stage.Adding held source) (stage.GivingBack held why) progress.More how store store history history faults faults
+known_back name uid target held source why how store history faults runs ready cause does = record {
   ready = record { due = ready.due; source = back_runs name uid target why store cause };
   does = does;
   keeps = idle_keeps (KeepsRest store store) _ _ _ store history faults runs (more_is (reply.Refused refusal.Stopped)) refl;
-  moves = moves_as (copy_amounts (stage.Adding held)) (amounts_in store) (amounts_in store) (λ other. refl);
+  moves = moves_as (copy_amounts (stage.Adding held source)) (amounts_in store) (amounts_in store) (λ other. refl);
   replies = (refl, refl, cause);
   left = λ e. omega arith;
 }
@@ -216,37 +174,17 @@ KnownBy history faults name uid target now next answer how old new = CopyKnown n
 
 known_by : {D : Type 0} → (history : D → Option History) (faults : D → Faults) (name : List ℕ) (uid : Uid) (target : List ℕ) (now next : CopyStage) (answer : Progress) (how : Did) (old new : StoreValue D) → IsStore (history old.disk) old → old.stopped ≡ false → IsReadyToCopy name uid now old
     → CopiesOn name uid target now next answer how old new (history old.disk) (history new.disk) (faults old.disk) (faults new.disk) → KnownBy history faults name uid target now next answer how old new
-known_by history faults name uid target stage.First (stage.Adding held) progress.More how old new is ran ready on =
-    subst (λ (h : Did). KnownBy history faults name uid target stage.First (stage.Adding held) progress.More h old new) (sym on.0) (known_raised name uid target held old new (history old.disk) (history new.disk) (faults old.disk) (faults new.disk) is ran on.1)
-known_by history faults name uid target stage.First stage.First (progress.Done (reply.Refused why)) how old new is ran ready on =
-    subst (λ (h : Did). KnownBy history faults name uid target stage.First stage.First (progress.Done (reply.Refused why)) h old new) (sym on.2)
-    (subst (λ (w : Refusal). KnownBy history faults name uid target stage.First stage.First (progress.Done (reply.Refused w)) (told_as half.Whole did.Failed on.0) old new) (sym on.1) (known_refused history faults name uid target on.0 old new ran on.3))
-known_by history faults name uid target (stage.Adding held) stage.First (progress.Done (reply.Copied given)) how old new is ran ready on =
-    subst (λ (h : Did). KnownBy history faults name uid target (stage.Adding held) stage.First (progress.Done (reply.Copied given)) h old new) (sym on.0) (known_added name uid target held given old new (history old.disk) (history new.disk) (faults old.disk) (faults new.disk) is ran ready on.1)
-known_by history faults name uid target (stage.Adding held) (stage.Adding still) (progress.Done (reply.Refused why)) how old new is ran ready on =
-    subst (λ (h : Did). KnownBy history faults name uid target (stage.Adding held) (stage.Adding still) (progress.Done (reply.Refused why)) h old new) (sym on.2)
-    (subst (λ (w : Refusal). KnownBy history faults name uid target (stage.Adding held) (stage.Adding still) (progress.Done (reply.Refused w)) (did.Broken half.Whole) old new) (sym on.1)
-    (subst (λ (s : MapUid). KnownBy history faults name uid target (stage.Adding held) (stage.Adding s) (progress.Done (reply.Refused refusal.Stopped)) (did.Broken half.Whole) old new) (sym on.0) (known_unadded name uid target held old new (history old.disk) (history new.disk) (faults old.disk) (faults new.disk) is ran ready on.3)))
-known_by history faults name uid target (stage.Adding held) (stage.GivingBack still why) progress.More how old new is ran ready on =
-    subst (λ (s : MapUid). KnownBy history faults name uid target (stage.Adding held) (stage.GivingBack s why) progress.More how old new) (sym on.0)
-    (subst (λ (s : StoreValue _). KnownBy history faults name uid target (stage.Adding held) (stage.GivingBack held why) progress.More how old s) (sym on.1) (by_cause on.2))
+known_by history faults name uid target stage.First (stage.Adding held source) progress.More how old new is ran ready on = rw on.0 (known_raised name uid target held source old new (history old.disk) (history new.disk) (faults old.disk) (faults new.disk) is ran on.1)
+known_by history faults name uid target stage.First stage.First (progress.Done (reply.Refused why)) how old new is ran ready on = rw (on.2, on.1) (known_refused history faults name uid target on.0 old new ran on.3)
+known_by history faults name uid target (stage.Adding held source) stage.First (progress.Done (reply.Copied given)) how old new is ran ready on = rw on.0 (known_added name uid target held source given old new (history old.disk) (history new.disk) (faults old.disk) (faults new.disk) is ran ready on.1)
+known_by history faults name uid target (stage.Adding held source) (stage.Adding still same) (progress.Done (reply.Refused why)) how old new is ran ready on = rw (on.2, on.1, on.0, on.4) (known_unadded name uid target held source old new (history old.disk) (history new.disk) (faults old.disk) (faults new.disk) is ran ready on.3)
+known_by history faults name uid target (stage.Adding held source) (stage.GivingBack still why) progress.More how old new is ran ready on = rw (on.0, on.1) (by_cause on.2)
   where
-    by_cause : ((how ≡ did.Step half.Whole) × (copy_refusal name uid.0 target old ≡ Some why)) ⊎ ((how ≡ did.Quiet) × (why ≡ refusal.NoMemory)) → KnownBy history faults name uid target (stage.Adding held) (stage.GivingBack held why) progress.More how old old
-    by_cause (inl e) =
-        subst (λ (h : Did). KnownBy history faults name uid target (stage.Adding held) (stage.GivingBack held why) progress.More h old old) (sym e.0)
-        (known_back name uid target held why (did.Step half.Whole) old (history old.disk) (faults old.disk) ran ready (inl e.1) (add_refused (request.Copy name uid target) name uid target half.Whole held old (history old.disk) (faults old.disk) why (copy_copies name uid target) ran e.1))
-    by_cause (inr e) =
-        subst (λ (h : Did). KnownBy history faults name uid target (stage.Adding held) (stage.GivingBack held why) progress.More h old old) (sym e.0)
-        (subst (λ (w : Refusal). KnownBy history faults name uid target (stage.Adding held) (stage.GivingBack held w) progress.More did.Quiet old old) (sym e.1)
-        (known_back name uid target held refusal.NoMemory did.Quiet old (history old.disk) (faults old.disk) ran ready (inr refl) (add_unremembered (request.Copy name uid target) name uid target half.Whole held old (history old.disk) (faults old.disk) (copy_copies name uid target) ran)))
-known_by history faults name uid target (stage.GivingBack held why) stage.First (progress.Done (reply.Refused given)) how old new is ran ready on =
-    subst (λ (h : Did). KnownBy history faults name uid target (stage.GivingBack held why) stage.First (progress.Done (reply.Refused given)) h old new) (sym on.1)
-    (subst (λ (w : Refusal). KnownBy history faults name uid target (stage.GivingBack held why) stage.First (progress.Done (reply.Refused w)) did.Quiet old new) (sym on.0) (known_given name uid target held why old new (history old.disk) (history new.disk) (faults old.disk) (faults new.disk) ran ready ready.source on.2))
-known_by history faults name uid target (stage.GivingBack held why) (stage.GivingBack still cause) (progress.Done (reply.Refused given)) how old new is ran ready on =
-    subst (λ (h : Did). KnownBy history faults name uid target (stage.GivingBack held why) (stage.GivingBack still cause) (progress.Done (reply.Refused given)) h old new) (sym on.3)
-    (subst (λ (w : Refusal). KnownBy history faults name uid target (stage.GivingBack held why) (stage.GivingBack still cause) (progress.Done (reply.Refused w)) did.Failed old new) (sym on.2)
-    (subst (λ (w : Refusal). KnownBy history faults name uid target (stage.GivingBack held why) (stage.GivingBack still w) (progress.Done (reply.Refused refusal.Stopped)) did.Failed old new) (sym on.1)
-    (subst (λ (s : MapUid). KnownBy history faults name uid target (stage.GivingBack held why) (stage.GivingBack s why) (progress.Done (reply.Refused refusal.Stopped)) did.Failed old new) (sym on.0) (known_ungiven name uid target held why old new (history old.disk) (history new.disk) (faults old.disk) (faults new.disk) ran ready on.4))))
+    by_cause : ((how ≡ did.Step half.Whole) × (copy_refusal name uid.0 target old ≡ Some why)) ⊎ ((how ≡ did.Quiet) × (why ≡ refusal.NoMemory)) → KnownBy history faults name uid target (stage.Adding held source) (stage.GivingBack held why) progress.More how old old
+    by_cause (inl e) = rw e.0 (known_back name uid target held source why (did.Step half.Whole) old (history old.disk) (faults old.disk) ran ready (inl e.1) (add_refused (request.Copy name uid target) name uid target half.Whole held source.0 old (history old.disk) (faults old.disk) why (copy_copies name uid target) ran ready.source.named e.1))
+    by_cause (inr e) = rw (e.0, e.1) (known_back name uid target held source refusal.NoMemory did.Quiet old (history old.disk) (faults old.disk) ran ready (inr refl) (add_unremembered (request.Copy name uid target) name uid target half.Whole held source.0 old (history old.disk) (faults old.disk) (copy_copies name uid target) ran ready.source.named))
+known_by history faults name uid target (stage.GivingBack held why) stage.First (progress.Done (reply.Refused given)) how old new is ran ready on = rw (on.1, on.0) (known_given name uid target held why old new (history old.disk) (history new.disk) (faults old.disk) (faults new.disk) ran ready ready.source on.2)
+known_by history faults name uid target (stage.GivingBack held why) (stage.GivingBack still cause) (progress.Done (reply.Refused given)) how old new is ran ready on = rw (on.3, on.2, on.1, on.0) (known_ungiven name uid target held why old new (history old.disk) (history new.disk) (faults old.disk) (faults new.disk) ran ready on.4)
 known_by history faults name uid target now next answer how old new is ran ready on = absurd on
 
 -- Of a task that is seen as this.
@@ -265,7 +203,7 @@ copy_ready task seen now store same at ready =
 stopped_at : {D : Type 0} → (name : List ℕ) (uid : Uid) (target : List ℕ) (now : CopyStage) (store : StoreValue D) (history : Option History) (faults : Faults) → store.stopped ≡ true
     → CopyingClause (request.Copy name uid target) (IsAtCopy now) (IsAtCopy now) store store history history faults faults did.Quiet (Some (reply.Refused refusal.Stopped))
 stopped_at name uid target stage.First store history faults stopped = raise_stopped (request.Copy name uid target) name uid target half.Whole (IsAtCopy stage.First) store history faults (copy_copies name uid target) stopped
-stopped_at name uid target (stage.Adding held) store history faults stopped = add_stopped (request.Copy name uid target) name uid target half.Whole held (IsAtCopy (stage.Adding held)) store history faults (copy_copies name uid target) stopped
+stopped_at name uid target (stage.Adding held source) store history faults stopped = add_stopped (request.Copy name uid target) name uid target half.Whole held source.0 (IsAtCopy (stage.Adding held source)) store history faults (copy_copies name uid target) stopped
 stopped_at name uid target (stage.GivingBack held why) store history faults stopped = back_stopped (request.Copy name uid target) name uid target half.Whole held why (IsAtCopy (stage.GivingBack held why)) store history faults (copy_copies name uid target) stopped
 
 pub copy_stopped : {D : Type 0} → (task seen : CopyValue) (store : StoreValue D) (history : Option History) (faults : Faults) → task ≡ seen → store.stopped ≡ true
@@ -277,5 +215,5 @@ copy_stopped task seen store history faults same stopped =
 
 pub copy_kept : (now : CopyStage) → IsKept (IsAtCopy now)
 copy_kept stage.First = not_begun_stays
-copy_kept (stage.Adding held) = holding_kept held
+copy_kept (stage.Adding held source) = holding_kept held source.0
 copy_kept (stage.GivingBack held why) = giving_back_kept held why

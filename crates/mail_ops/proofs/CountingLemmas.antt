@@ -118,18 +118,13 @@ same_many m xs e = sym (length-map m.rows listed_row) ∙ (ap length e ∙ lengt
 
 pub shown_many : (boxes : List MapBox) (meanings : List BoxMeaning) (lists : Lists) → ShowLists boxes meanings lists → sum_by (λ m. length m.rows) meanings ≡ sum_by (λ mailbox. length mailbox.messages) lists
 shown_many [] [] [] h = refl
-shown_many [] [] (l ∷ ls) h = absurd h
-shown_many [] (m ∷ ms) [] h = absurd h
-shown_many [] (m ∷ ms) (l ∷ ls) h = absurd h
-shown_many (b ∷ bs) [] [] h = absurd h
-shown_many (b ∷ bs) [] (l ∷ ls) h = absurd h
-shown_many (b ∷ bs) (m ∷ ms) [] h = absurd h
 shown_many (b ∷ bs) (m ∷ ms) (l ∷ ls) h =
     let a = sum_by-cons (λ (x : BoxMeaning). length x.rows) m ms in
     let c = sum_by-cons (λ (x : Mailbox). length x.messages) l ls in
     let e = same_many m l.messages h.0.rows in
     let f = shown_many bs ms ls h.1 in
     omega (arith, a, c, e, f)
+shown_many boxes meanings lists h = absurd h
 
 -- ---- different ids
 

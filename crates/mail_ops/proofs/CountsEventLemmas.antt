@@ -23,7 +23,7 @@ use Rattle.task_steps.proofs.SeenLemmas.{tells_itself}
 use Rattle.mail_ops.specs.Counting.{listed_messages, named_ids}
 use Rattle.store_seen.specs.Seeing.{seen_of}
 use Rattle.mail_ops.proofs.CountingLemmas.{shown_many}
-use Rattle.mail_ops.proofs.EventLemmas.{one_reply, comes_along, did_part, ends_well}
+use Rattle.mail_ops.proofs.EventLemmas.{one_reply, comes_along, did_part, ends_well, own_event}
 
 counts_are_plain : IsPlain request.Counts
 counts_are_plain = record { found = λ around run event. tt; finds = λ around event. tt; memory = refl; reads = refl; behind = λ after run event why. refl; half_is = refl; halves_are = refl }
@@ -65,13 +65,7 @@ counts_done store history faults a b c d runs records listed counts ids = λ aro
     } in (
       (did_part around behind run lane place said q lists lists seen seen (did.Step half.Whole) (Some given) (Some given) event
           (record {
-            lane_is = refl;
-            request_is = refl;
-            moment_is = refl;
-            ended_is = refl;
-            unrefused = refl;
-            undrawn = refl;
-            leaves = record { made = refl; pins = refl; unpins = refl; doomed = refl; removed = refl; given = refl; placed = refl; gone = refl };
+            own = own_event _ _ _ _ _ _ _ _ _ refl;
             finds = tt;
             found = tt;
             part_is = ap (λ (es : List RunEvent). next_part around run q es) stood.0;

@@ -1,7 +1,7 @@
 -- Events of requests that have several, by the clause of a step.
 use Rattle.std.proofs.Common.{◌≡◌, ◌≤◌, ◌+◌, ℕ, Bool, true, false, List, [], ◌∷◌, Option, Some, None, refl, sym, ap, ◌∙◌, subst, arith, inl}
 use Rattle.std.specs.Prelude.{All, length, slice_get, is_some, ◌↔◌, ◌++◌, ◌≢◌}
-use Rattle.std.specs.Option.{IfSome, option_or}
+use Rattle.std.specs.Option.{IfSome}
 use Rattle.std.proofs.lemmas.List.Elements.{All-nil, All-cons}
 use Rattle.disk_model.specs.Disk.{Faults, told_calls, Grows}
 use Rattle.mdbox_base.specs.Streams.{Rose}
@@ -18,10 +18,10 @@ use Rattle.model_lists.specs.Lists.{Lists}
 use Rattle.mdbox_base.specs.declared.entries.MapEntry.{MapEntry}
 use Rattle.model_meaning.specs.MapFits.{MapFits}
 use Rattle.model_meaning.specs.MapMeaning.{MapMeaning, no_numbers}
-use Rattle.list_machine.specs.Run.{EventPart, RunEvent, event_of, Run, and_then, map_of, own_events}
+use Rattle.list_machine.specs.Run.{BoxAppend, EventPart, RunEvent, is_unpinning_part, event_of, Run, and_then, map_of, own_events}
 use Rattle.list_machine.specs.Machine.{is_step, first_refusal, part_checks, checks_of}
 use Rattle.journal.specs.Journal.{half_of, halves_of, refusal_in, IsReplyOf}
-use Rattle.journal.specs.Events.{Around, Finds, DidPart, MayMeet, has_memory, next_part, behind_event, behind_refused, makes_step, last_refusal, IsRepliedBy, begun_in, ended_in}
+use Rattle.journal.specs.Events.{Around, Finds, DidPart, MayMeet, has_memory, next_part, behind_event, behind_refused, makes_step, IsRepliedBy, begun_in, ended_in}
 use Rattle.journal.specs.Found.{AgreesWithRun}
 use Rattle.journal.specs.Makes.{HasCome, StepOf}
 use Rattle.journal.proofs.RunLemmas.{comes_on}
@@ -32,6 +32,7 @@ use Rattle.task_steps.specs.Step.{FaultsGrow, Seen, ShowsSeen, HasComeTo, Went, 
 use Rattle.task_steps.specs.Tells.{LeavesFiles, TellsSame}
 use Rattle.task_steps.proofs.SeenLemmas.{comes_to_on, no_guids, tells_itself}
 use Rattle.task_steps.proofs.OneEventLemmas.{one_refusal, some_refusal, step_may, nothing}
+use Rattle.mail_ops.proofs.LastEventLemmas.{last_with}
 
 -- ---- what an event did, and where its task stands then
 
@@ -63,11 +64,6 @@ some_reply r e = cc e
 
 pub one_reply : (a b : Reply) → Some a ≡ Some b → a ≡ b
 one_reply a b e = cc e
-
--- the last refusal is that of the last event, if it was refused
-pub last_with : (own : List RunEvent) (event : RunEvent) (why : Refusal) → event.refused ≡ Some why → last_refusal (own ++ event ∷ []) ≡ Some why
-last_with [] event why e = ap (λ (r : Option Refusal). option_or None r) e
-last_with (x ∷ xs) event why e = ap (λ (r : Option Refusal). option_or r x.refused) (last_with xs event why e)
 
 replied_by : (own : List RunEvent) (event : RunEvent) (why : Refusal) (ended : Option Reply) → event.refused ≡ Some why → ((given : Reply) → ended ≡ Some given → refusal_in given ≡ Some why) → IsRepliedBy (own ++ event ∷ []) ended
 replied_by own event why None e h = tt
@@ -242,8 +238,9 @@ did_check around after run lane place said q part lists seen why ended half can 
 pub one_fits : (run : Run) (seen : Seen) (entry : MapEntry) → HasComeTo run seen → MapFits seen.map entry → All (MapFits (map_of run)) (entry ∷ [])
 one_fits run seen entry come fits = All-cons (MapFits (map_of run)) entry [] (subst (λ (m : MapMeaning). MapFits m entry) (sym come.come.map_is) fits) (All-nil _)
 
--- It is of this lane and request, ends its request with this or not, and ends at this moment; it does its part.
-pub record DoesPart (around after : Around) (run : Run) (lane place : ℕ) (q : Request) (lists : Lists) (calls : ℕ) (ended : Option Reply) (event : RunEvent) : Type 0 where
+-- It is of this lane and request, ends its request with this or not, and ends at this moment. It isn't refused, draws no number, and
+-- takes no file.
+pub record IsOwnEvent (lane place calls : ℕ) (ended : Option Reply) (event : RunEvent) : Type 0 where
   pub lane_is : event.lane ≡ lane
   pub request_is : event.request ≡ place
   pub moment_is : event.moment ≡ calls
@@ -251,6 +248,25 @@ pub record DoesPart (around after : Around) (run : Run) (lane place : ℕ) (q : 
   pub unrefused : event.refused ≡ None
   pub undrawn : event.drew ≡ no_numbers
   pub leaves : LeavesFiles event
+
+-- by what it appends, owes, and begins to copy
+abbrev part_event : ℕ → ℕ → EventPart → Option Reply → List MapEntry → List BoxAppend → List ℕ → ℕ → ℕ → RunEvent
+part_event lane place part ended entries appends owes source calls = record (event_of lane place part calls) { reply = ended; map_entries = entries; box_entries = appends; owes = owes; source = source }
+
+pub own_event : (lane place : ℕ) (part : EventPart) (ended : Option Reply) (entries : List MapEntry) (appends : List BoxAppend) (owes : List ℕ) (source calls : ℕ) → is_unpinning_part part ≡ false → IsOwnEvent lane place calls ended (part_event lane place part ended entries appends owes source calls)
+own_event lane place part ended entries appends owes source calls pinned = record {
+  lane_is = refl;
+  request_is = refl;
+  moment_is = refl;
+  ended_is = refl;
+  unrefused = refl;
+  undrawn = refl;
+  leaves = record { made = refl; pins = refl; unpins = pinned; doomed = refl; removed = refl; given = refl; placed = refl; gone = refl };
+}
+
+-- It does its part.
+pub record DoesPart (around after : Around) (run : Run) (lane place : ℕ) (q : Request) (lists : Lists) (calls : ℕ) (ended : Option Reply) (event : RunEvent) : Type 0 where
+  pub own : IsOwnEvent lane place calls ended event
   pub finds : Finds around q event
   pub found : AgreesWithRun around run q event event.part
   pub part_is : next_part around run q (own_events event.request run) ≡ Some event.part
@@ -271,18 +287,18 @@ did_part around after run lane place said q lists left old new how ended answer 
     found = does.found;
     makes = record {
       event = event;
-      lane_is = does.lane_is;
-      request_is = does.request_is;
-      moment_is = does.moment_is;
-      ended_is = does.ended_is;
+      lane_is = does.own.lane_is;
+      request_is = does.own.request_is;
+      moment_is = does.own.moment_is;
+      ended_is = does.own.ended_is;
       is_event = record {
         finds = does.finds;
         part_is = does.part_is;
-        refused = λ r e. absurd (no_refusal r (sym does.unrefused ∙ e));
-        undone = λ r e. absurd (no_refusal r (sym does.unrefused ∙ e));
-        drew = λ h. inl does.undrawn;
-        memory = λ e. absurd (no_refusal refusal.NoMemory (sym does.unrefused ∙ e));
-        may = subst (λ (o : Option Refusal). IfSome o (MayMeet event.part q)) (sym does.unrefused) tt;
+        refused = λ r e. absurd (no_refusal r (sym does.own.unrefused ∙ e));
+        undone = λ r e. absurd (no_refusal r (sym does.own.unrefused ∙ e));
+        drew = λ h. inl does.own.undrawn;
+        memory = λ e. absurd (no_refusal refusal.NoMemory (sym does.own.unrefused ∙ e));
+        may = subst (λ (o : Option Refusal). IfSome o (MayMeet event.part q)) (sym does.own.unrefused) tt;
         allowed = λ e. does.allowed;
         did = λ e. does.did;
         fits = does.fits;
@@ -294,8 +310,8 @@ did_part around after run lane place said q lists left old new how ended answer 
       made = made;
       come = comes;
     };
-    come = comes_to_on run event old new come comes due does.leaves tells;
-    gives = no_guids run event does.leaves.given;
+    come = comes_to_on run event old new come comes due does.own.leaves tells;
+    gives = no_guids run event does.own.leaves.given;
     went = went;
     grows = grows;
     mail = mail;

@@ -39,19 +39,17 @@ use Rattle.mail_ops.specs.Owing.{AreDueIn}
 use Rattle.store_seen.specs.Seeing.{seen_of}
 use Rattle.mail_ops.specs.declared.expunging.ExpungeStage.{ExpungeStage}
 use Rattle.mail_ops.specs.declared.expunging.ExpungeStage.TheVariants as stage
-use Rattle.mail_ops.proofs.EventLemmas.{one_fits, stands_by, some_reply, one_reply, no_reply, stays_itself, memory_calm, comes_along, CanRefuse, did_unstepped, did_stop, did_fall, did_check, did_part, ends_well}
+use Rattle.mail_ops.proofs.EventLemmas.{one_fits, stands_by, some_reply, one_reply, no_reply, stays_itself, memory_calm, comes_along, CanRefuse, did_unstepped, did_stop, did_fall, did_check, did_part, ends_well, own_event}
 use Rattle.mail_ops.proofs.FlagEventLemmas.{shown_on}
 use Rattle.mail_ops.proofs.LoweringLemmas.{comes_with, lowered_due, shows_still, leads_still}
 use Rattle.mail_ops.proofs.MessageLemmas.{missing_is, missing_refused}
 use Rattle.mail_ops.proofs.RemovalLemmas.{brings_removal, box_tells, took_tells, removal_due, box_fell_stays, map_fell_stays, removal_known}
+use Rattle.mail_ops.proofs.ToldLemmas.{some_part}
 
 -- the clause of a step from one stage to another
 abbrev pub ExpungeClause : {D : Type 0} → List ℕ → Uid → ExpungeStage → ExpungeStage → StoreValue D → StoreValue D → Option History → Option History → Faults → Faults → Did → Option Reply → Type 0
 ExpungeClause name uid now next old new before after began then how ended =
     (around behind : Around) (pins : ℕ → ℕ) → Steps (IsAtExpunge now) (IsAtExpunge next) around behind (request.Expunge name uid) (seen_of pins old before began) (seen_of pins new after then) how ended
-
-some_part : (p : EventPart) → Some p ≡ None → ⊥
-some_part p e = cc e
 
 said_done : Some reply.Done ≡ Some (reply.Refused refusal.Stopped) → ⊥
 said_done e = let k : reply.Done ≡ reply.Refused refusal.Stopped = cc e in cc k
@@ -107,13 +105,7 @@ expunge_removed name uid owed old new before after began then is ran r = λ arou
     stands_by around behind run lane place said q lists seen later (did.Step half.Whole) None event (Some reply.Done) (IsAtExpunge (stage.Owing owed))
     (did_part around behind run lane place said q lists (expunge name uid.0 lists) seen later (did.Step half.Whole) None (Some reply.Done) event
     (record {
-      lane_is = refl;
-      request_is = refl;
-      moment_is = refl;
-      ended_is = refl;
-      unrefused = refl;
-      undrawn = refl;
-      leaves = record { made = refl; pins = refl; unpins = refl; doomed = refl; removed = refl; given = refl; placed = refl; gone = refl };
+      own = own_event _ _ _ _ _ _ _ _ _ refl;
       finds = tt;
       found = tt;
       part_is = ap (λ (es : List RunEvent). next_part around run q es) stood.0;
@@ -222,13 +214,7 @@ expunge_lowered name uid owed old new before after began then ran due t = λ aro
     let at = stood.0 in (
       (did_part around behind run lane place said q lists lists seen later did.Quiet (Some reply.Done) None event
           (record {
-            lane_is = refl;
-            request_is = refl;
-            moment_is = refl;
-            ended_is = refl;
-            unrefused = refl;
-            undrawn = refl;
-            leaves = record { made = refl; pins = refl; unpins = refl; doomed = refl; removed = refl; given = refl; placed = refl; gone = refl };
+            own = own_event _ _ _ _ _ _ _ _ _ refl;
             finds = tt;
             found = tt;
             part_is = next_is around run name uid (own_events place run) at.0 at.1 at.2 at.3;

@@ -34,10 +34,11 @@ use Rattle.mail_ops.specs.declared.expunging.ExpungeStage.{ExpungeStage}
 use Rattle.mail_ops.specs.declared.expunging.ExpungeStage.TheVariants as stage
 use Rattle.mail_ops.proofs.ExpungeEventLemmas.{ExpungeClause, expunge_stopped, expunge_removed, expunge_broken, expunge_refused, expunge_unremembered, expunge_lowered, expunge_unlowered}
 use Rattle.store_seen.proofs.SeeingLemmas.{due_as_before}
-use Rattle.mail_ops.proofs.LoweringLemmas.{lowered_due}
+use Rattle.mail_ops.proofs.LoweringLemmas.{lowered_due, raised_covers, raised_moves}
 use Rattle.mail_ops.proofs.MessageLemmas.{missing_is, not_missing}
 use Rattle.mail_ops.proofs.RemovalLemmas.{removal_due}
 use Rattle.mail_ops.proofs.OnlyLogsLemmas.{box_fell_keeps, box_took_keeps, idle_keeps, map_fell_keeps, map_took_keeps}
+use Rattle.mail_ops.proofs.ToldLemmas.{done_more, memory_runs, more_is, why_is}
 
 -- what a step says of an event
 pub record ExpungeKnown {D : Type 0} (name : List ℕ) (uid : Uid) (now next : ExpungeStage) (answer : Progress) (how : Did) (old new : StoreValue D) (before after : Option History) (began then : Faults) : Type 0 where
@@ -50,33 +51,18 @@ pub record ExpungeKnown {D : Type 0} (name : List ℕ) (uid : Uid) (now next : E
 
 -- ---- answers that are told apart
 
-more_is : (given : Reply) → progress.More ≡ progress.Done given → ⊥
-more_is given e = cc e
-
-done_more : (given : Reply) → progress.Done given ≡ progress.More → ⊥
-done_more given e = cc e
-
 done_stopped : progress.Done reply.Done ≡ progress.Done (reply.Refused refusal.Stopped) → ⊥
 done_stopped e = let k : reply.Done ≡ reply.Refused refusal.Stopped = cc e in cc k
 
-why_is : (a b : Refusal) → progress.Done (reply.Refused a) ≡ progress.Done (reply.Refused b) → a ≡ b
-why_is a b e = let k : reply.Refused a ≡ reply.Refused b = cc e in cc k
-
 -- ---- the first event
-
-removed_moves : (old new owed uid : ℕ) → new ≡ old + one_due owed uid → new + 0 ≡ old + one_due owed uid
-removed_moves old new owed uid e = omega (arith, e)
-
-removed_covers : (old new owed uid : ℕ) → new ≡ old + one_due owed uid → one_due owed uid ≤ new
-removed_covers old new owed uid e = omega (arith, e)
 
 known_removed : {D : Type 0} → (name : List ℕ) (uid : Uid) (owed : MapUid) (old new : StoreValue D) (before after : Option History) (began then : Faults) → IsStore before old → old.stopped ≡ false → RemovesRow name uid owed old new before after began then
     → ExpungeKnown name uid stage.First (stage.Owing owed) progress.More (did.Step half.Whole) old new before after began then
 known_removed name uid owed old new before after began then is ran r = record {
-  due = λ other. removed_covers (due_at other old) (due_at other new) owed.0 other (rises other);
+  due = λ other. raised_covers (due_at other old) (due_at other new) owed.0 other (rises other);
   does = expunge_removed name uid owed old new before after began then is ran r;
   keeps = box_took_keeps _ _ _ _ _ old new before after began then ran (more_is (reply.Refused refusal.Stopped)) r.took;
-  moves = record { due = λ other. removed_moves (due_at other old) (due_at other new) owed.0 other (rises other) };
+  moves = record { due = λ other. raised_moves (due_at other old) (due_at other new) owed.0 other (rises other) };
   replies = (r.number, r.row, r.there, r.owes);
   left = λ e. omega arith;
 }
@@ -98,16 +84,7 @@ known_broken name uid old new before after began then is ran r = record {
 -- nothing has changed
 same_answers : {D : Type 0} → (name : List ℕ) (uid : Uid) (why : Refusal) (store : StoreValue D) → (why ≡ refusal.Stopped → ⊥) → (missing_message name uid.0 store ≡ Some why) ⊎ ((missing_message name uid.0 store ≡ None) × (why ≡ refusal.NoMemory)) → ExpungeAnswers name uid stage.First store store stage.First (progress.Done (reply.Refused why))
 same_answers name uid refusal.Stopped store running h = absurd (running refl)
-same_answers name uid refusal.NoMailbox store running h = (refl, h)
-same_answers name uid refusal.Exists store running h = (refl, h)
-same_answers name uid refusal.NoMessage store running h = (refl, h)
-same_answers name uid (refusal.TooManyCopies n) store running h = (refl, h)
-same_answers name uid (refusal.MailboxFull n) store running h = (refl, h)
-same_answers name uid (refusal.TooManyMailboxes n) store running h = (refl, h)
-same_answers name uid (refusal.StoreFull n) store running h = (refl, h)
-same_answers name uid refusal.NoMemory store running h = (refl, h)
-same_answers name uid refusal.ReadFault store running h = (refl, h)
-same_answers name uid (refusal.Damaged file offset) store running h = (refl, h)
+same_answers name uid why store running h = (refl, h)
 
 known_same : {D : Type 0} → (name : List ℕ) (uid : Uid) (why : Refusal) (how : Did) (store : StoreValue D) (history : Option History) (faults : Faults) → store.stopped ≡ false → (why ≡ refusal.Stopped → ⊥) → (missing_message name uid.0 store ≡ Some why) ⊎ ((missing_message name uid.0 store ≡ None) × (why ≡ refusal.NoMemory))
     → ExpungeClause name uid stage.First stage.First store store history history faults faults how (Some (reply.Refused why)) → ExpungeKnown name uid stage.First stage.First (progress.Done (reply.Refused why)) how store store history history faults faults
@@ -124,18 +101,11 @@ missing_runs : (why : Refusal) → (why ≡ refusal.NoMailbox) ⊎ (why ≡ refu
 missing_runs why (inl e) f = let k : refusal.NoMailbox ≡ refusal.Stopped = sym e ∙ f in cc k
 missing_runs why (inr e) f = let k : refusal.NoMessage ≡ refusal.Stopped = sym e ∙ f in cc k
 
-memory_runs : refusal.NoMemory ≡ refusal.Stopped → ⊥
-memory_runs e = cc e
-
 known_refused : {D : Type 0} → (history : D → Option History) (faults : D → Faults) (name : List ℕ) (uid : Uid) (error : NotDone) (old new : StoreValue D) → IsStore (history old.disk) old → old.stopped ≡ false
     → IsNotRemoved name uid error old new (history old.disk) (history new.disk) (faults old.disk) (faults new.disk)
     → ExpungeKnown name uid stage.First stage.First (progress.Done (reply.Refused (refusal_told error))) (told_as half.Whole (did.Broken half.Whole) error) old new (history old.disk) (history new.disk) (faults old.disk) (faults new.disk)
-known_refused history faults name uid (not_done.Refused why) old new is ran r =
-    subst (λ (s : StoreValue _). ExpungeKnown name uid stage.First stage.First (progress.Done (reply.Refused why)) (did.Step half.Whole) old s (history old.disk) (history s.disk) (faults old.disk) (faults s.disk)) (sym r.0)
-    (known_same name uid why (did.Step half.Whole) old (history old.disk) (faults old.disk) ran (missing_runs why (missing_is name uid.0 old why r.1)) (inl r.1) (expunge_refused name uid old (history old.disk) (faults old.disk) why ran r.1))
-known_refused history faults name uid not_done.NoMemory old new is ran r =
-    subst (λ (s : StoreValue _). ExpungeKnown name uid stage.First stage.First (progress.Done (reply.Refused refusal.NoMemory)) did.Quiet old s (history old.disk) (history s.disk) (faults old.disk) (faults s.disk)) (sym r.0)
-    (known_same name uid refusal.NoMemory did.Quiet old (history old.disk) (faults old.disk) ran memory_runs (inr (r.1, refl)) (expunge_unremembered name uid old (history old.disk) (faults old.disk) ran))
+known_refused history faults name uid (not_done.Refused why) old new is ran r = rw r.0 (known_same name uid why (did.Step half.Whole) old (history old.disk) (faults old.disk) ran (missing_runs why (missing_is name uid.0 old why r.1)) (inl r.1) (expunge_refused name uid old (history old.disk) (faults old.disk) why ran r.1))
+known_refused history faults name uid not_done.NoMemory old new is ran r = rw r.0 (known_same name uid refusal.NoMemory did.Quiet old (history old.disk) (faults old.disk) ran memory_runs (inr (r.1, refl)) (expunge_unremembered name uid old (history old.disk) (faults old.disk) ran))
 known_refused history faults name uid not_done.Stopped old new is ran r = known_broken name uid old new (history old.disk) (history new.disk) (faults old.disk) (faults new.disk) is ran r
 
 -- ---- the last event
@@ -169,17 +139,10 @@ known_unlowered name uid owed old new before after began then ran due f = record
 
 known_by : {D : Type 0} → (history : D → Option History) (faults : D → Faults) (name : List ℕ) (uid : Uid) (now next : ExpungeStage) (answer : Progress) (how : Did) (old new : StoreValue D) → IsStore (history old.disk) old → old.stopped ≡ false → AreDueIn old (expunge_amounts now)
     → ExpungesOn name uid now next answer how old new (history old.disk) (history new.disk) (faults old.disk) (faults new.disk) → ExpungeKnown name uid now next answer how old new (history old.disk) (history new.disk) (faults old.disk) (faults new.disk)
-known_by history faults name uid stage.First (stage.Owing owed) progress.More how old new is ran due on =
-    subst (λ (h : Did). ExpungeKnown name uid stage.First (stage.Owing owed) progress.More h old new (history old.disk) (history new.disk) (faults old.disk) (faults new.disk)) (sym on.0) (known_removed name uid owed old new (history old.disk) (history new.disk) (faults old.disk) (faults new.disk) is ran on.1)
-known_by history faults name uid stage.First stage.First (progress.Done (reply.Refused why)) how old new is ran due on =
-    subst (λ (h : Did). ExpungeKnown name uid stage.First stage.First (progress.Done (reply.Refused why)) h old new (history old.disk) (history new.disk) (faults old.disk) (faults new.disk)) (sym on.2)
-    (subst (λ (w : Refusal). ExpungeKnown name uid stage.First stage.First (progress.Done (reply.Refused w)) (told_as half.Whole (did.Broken half.Whole) on.0) old new (history old.disk) (history new.disk) (faults old.disk) (faults new.disk)) (sym on.1) (known_refused history faults name uid on.0 old new is ran on.3))
-known_by history faults name uid (stage.Owing owed) stage.First (progress.Done reply.Done) how old new is ran due on =
-    subst (λ (h : Did). ExpungeKnown name uid (stage.Owing owed) stage.First (progress.Done reply.Done) h old new (history old.disk) (history new.disk) (faults old.disk) (faults new.disk)) (sym on.0) (known_lowered name uid owed old new (history old.disk) (history new.disk) (faults old.disk) (faults new.disk) ran due on.1)
-known_by history faults name uid (stage.Owing owed) (stage.Owing still) (progress.Done (reply.Refused why)) how old new is ran due on =
-    subst (λ (h : Did). ExpungeKnown name uid (stage.Owing owed) (stage.Owing still) (progress.Done (reply.Refused why)) h old new (history old.disk) (history new.disk) (faults old.disk) (faults new.disk)) (sym on.2)
-    (subst (λ (w : Refusal). ExpungeKnown name uid (stage.Owing owed) (stage.Owing still) (progress.Done (reply.Refused w)) did.Failed old new (history old.disk) (history new.disk) (faults old.disk) (faults new.disk)) (sym on.1)
-    (subst (λ (s : MapUid). ExpungeKnown name uid (stage.Owing owed) (stage.Owing s) (progress.Done (reply.Refused refusal.Stopped)) did.Failed old new (history old.disk) (history new.disk) (faults old.disk) (faults new.disk)) (sym on.0) (known_unlowered name uid owed old new (history old.disk) (history new.disk) (faults old.disk) (faults new.disk) ran due on.3)))
+known_by history faults name uid stage.First (stage.Owing owed) progress.More how old new is ran due on = rw on.0 (known_removed name uid owed old new (history old.disk) (history new.disk) (faults old.disk) (faults new.disk) is ran on.1)
+known_by history faults name uid stage.First stage.First (progress.Done (reply.Refused why)) how old new is ran due on = rw (on.2, on.1) (known_refused history faults name uid on.0 old new is ran on.3)
+known_by history faults name uid (stage.Owing owed) stage.First (progress.Done reply.Done) how old new is ran due on = rw on.0 (known_lowered name uid owed old new (history old.disk) (history new.disk) (faults old.disk) (faults new.disk) ran due on.1)
+known_by history faults name uid (stage.Owing owed) (stage.Owing still) (progress.Done (reply.Refused why)) how old new is ran due on = rw (on.2, on.1, on.0) (known_unlowered name uid owed old new (history old.disk) (history new.disk) (faults old.disk) (faults new.disk) ran due on.3)
 known_by history faults name uid now next answer how old new is ran due on = absurd on
 
 -- Of a task that is seen as this.

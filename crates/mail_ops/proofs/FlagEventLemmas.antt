@@ -1,5 +1,7 @@
 -- A flag as an event, which appends one entry.
 use Rattle.std.proofs.lemmas.List.Elements.{All-nil}
+use Rattle.std.proofs.lemmas.Grind.{common_steps}
+use Rattle.std.proofs.lemmas.Bool.Decides.{nat_tests}
 use Rattle.std.proofs.Common.{◌≡◌, ◌≤◌, ◌<◌, ℕ, Bool, true, false, List, [], Option, Some, None, refl, sym, ◌∙◌, ap, subst, arith}
 use Rattle.std.specs.Option.{option_map, option_or}
 use Rattle.std.specs.Prelude.{find, is_some, is_none}
@@ -35,7 +37,8 @@ use Rattle.task_steps.specs.Step.{Seen, ShowsSeen, HasComeTo, DidEvent, HasNotBe
 use Rattle.task_steps.specs.Tells.{TellsSame}
 use Rattle.task_steps.proofs.SeenLemmas.{comes_to_on, no_guids}
 use Rattle.task_steps.proofs.OneEventLemmas.{IsPlain, refused_event, refused_leaves, unmade, next_first, refusal_last, some_given, first_reply, first_turn}
-use Rattle.mail_ops.proofs.FlagListLemmas.{is_flagged, shows_by}
+use Rattle.mail_ops.proofs.FlagListLemmas.{is_flagged}
+use Rattle.mail_ops.proofs.ShownEntryLemmas.{shown_entry}
 
 pub flag_is_plain : (name : List ℕ) (uid : Uid) (flags : ℕ) → IsPlain (request.Flag name uid flags)
 flag_is_plain name uid flags = record { found = λ around run event. tt; finds = λ around event. tt; memory = refl; reads = refl; behind = λ after run event why. refl; half_is = refl; halves_are = refl }
@@ -58,7 +61,7 @@ flags_known run boxes meanings lists name number uid flags bits m row well h is 
       by = by;
       answers = λ event. (r event).1;
       well = answers_well run lists (request.Flag name uid flags) one reply.Done (set_flags name uid.0 flags lists) well (omega (arith, few, same)) (r one).1;
-      shown = subst (λ (ls : Lists). ShowLists boxes (meanings_by number (entry.F uid bits) boxes meanings) ls) by (shows_by number [] uid bits boxes meanings lists h);
+      shown = subst (λ (ls : Lists). ShowLists boxes (meanings_by number (entry.F uid bits) boxes meanings) ls) by (shown_entry number [] (entry.F uid bits) boxes meanings lists refl h);
     }
 
 -- a flag adds no message, so it brings any octets
@@ -237,9 +240,7 @@ flag_broken around after run lane place said lists name number uid flags bits ol
 -- ---- what was looked up
 
 pub none_of : {R S : Type 0} → (f : R → S) (o : Option R) (r : Option S) → is_some o ≡ false → option_map f o ≡ r → r ≡ None
-none_of f None r gone is = sym is
-none_of f (Some x) r gone is = absurd (cc gone)
+none_of f o r gone is = grind (arith, common_steps, nat_tests)
 
 pub some_of : {R S : Type 0} → (f : R → S) (o : Option R) (r : Option S) → is_some o ≡ true → option_map f o ≡ r → (s : S) × (r ≡ Some s)
-some_of f None r there is = absurd (cc there)
-some_of f (Some x) r there is = (f x, sym is)
+some_of f o r there is = grind (arith, common_steps, nat_tests)

@@ -1,6 +1,8 @@
 -- Lists that are shown, with flags set, and a flag by the list machine.
-use Rattle.std.proofs.Common.{◌≡◌, ◌==◌, ℕ, Bool, true, false, cond, List, [], ◌∷◌, map, find, Option, Some, None, refl, sym, ◌∙◌, ap, subst}
-use Rattle.std.specs.Prelude.{max, if◌then◌else◌}
+use Rattle.std.proofs.Common.{◌≡◌, ◌==◌, ℕ, Bool, true, false, cond, List, [], ◌∷◌, map, find, Option, Some, None, refl, sym, ◌∙◌, ap, subst, arith}
+use Rattle.std.proofs.lemmas.Grind.{common_steps}
+use Rattle.std.proofs.lemmas.Bool.Decides.{nat_tests}
+use Rattle.std.specs.Prelude.{if◌then◌else◌}
 use Rattle.std.specs.Option.{option_map}
 use Rattle.std.specs.Str.{bytes_eq}
 use Rattle.mdbox_base.specs.declared.ids.Uid.{Uid}
@@ -10,15 +12,14 @@ use Rattle.mdbox_base.specs.declared.replies.Refusal.TheVariants as refusal
 use Rattle.mdbox_base.specs.declared.replies.Reply.TheVariants as reply
 use Rattle.mdbox_base.specs.declared.requests.Request.TheVariants as request
 use Rattle.model_lists.specs.Lists.{ListedMessage, Mailbox, Lists, AreWellFormed, listing_row}
-use Rattle.model_meaning.proofs.AppliedLemmas.{only_changes}
 use Rattle.list_machine.specs.Run.{First, RunEvent, Run}
 use Rattle.list_machine.specs.Machine.{PartAnswers, mailbox_named, message_in, set_flags}
-use Rattle.model_meaning.specs.BoxMeaning.{LogRow, BoxMeaning, row_changed, box_applied, row_at}
+use Rattle.model_meaning.specs.BoxMeaning.{LogRow, BoxMeaning, row_at}
 use Rattle.model_meaning.specs.MapMeaning.{MapBox}
-use Rattle.model_store.specs.Listing.{listed_row, ShowsMailbox, ShowLists, meaning_named}
-use Rattle.model_appends.specs.Appending.{message_changed, mailbox_by, lists_by, meanings_by}
+use Rattle.model_store.specs.Listing.{listed_row, ShowLists, meaning_named}
+use Rattle.model_appends.specs.Appending.{lists_by}
 use Rattle.entry_steps.proofs.AppendListLemmas.{flagged_by}
-use Rattle.mail_ops.proofs.NamedListLemmas.{IsFound, Finds, found_by_name}
+use Rattle.mail_ops.proofs.NamedListLemmas.{ShownBox, ShowsBox, shows_box}
 
 -- ---- rows and messages, flag by flag
 
@@ -36,68 +37,28 @@ flag_row u flags row x e =
     by_test true false p = absurd (cc p)
     by_test false true p = absurd (cc p)
 
-flag_rows : (u : Uid) (flags : ℕ) (rows : List LogRow) (xs : List ListedMessage) → map listed_row rows ≡ map listing_row xs → map listed_row (map (row_changed (entry.F u flags)) rows) ≡ map listing_row (map (message_changed (entry.F u flags)) xs)
-flag_rows u flags [] [] e = refl
-flag_rows u flags [] (x ∷ xs) e = absurd (let h : [] ≡ listing_row x ∷ map listing_row xs = e in cc)
-flag_rows u flags (r ∷ rs) [] e = absurd (let h : listed_row r ∷ map listed_row rs ≡ [] = e in cc)
-flag_rows u flags (r ∷ rs) (x ∷ xs) e =
-    let h : listed_row r ∷ map listed_row rs ≡ listing_row x ∷ map listing_row xs = e in
-    let first : listed_row r ≡ listing_row x = cc in
-    let rest : map listed_row rs ≡ map listing_row xs = cc in
-    let here : listed_row (row_changed (entry.F u flags) r) ≡ listing_row (message_changed (entry.F u flags) x) = flag_row u.0 flags r x first in
-    let later : map listed_row (map (row_changed (entry.F u flags)) rs) ≡ map listing_row (map (message_changed (entry.F u flags)) xs) = flag_rows u flags rs xs rest in
-    cc (here, later)
-
-flag_shown : (box : MapBox) (m : BoxMeaning) (x : Mailbox) (octets : List ℕ) (u : Uid) (flags : ℕ) → ShowsMailbox box m x → ShowsMailbox box (box_applied (entry.F u flags) m) (mailbox_by octets (entry.F u flags) x)
-flag_shown box m x octets u flags s = record {
-  number = s.number;
-  name = s.name;
-  next = ap (λ (n : ℕ). max n 1) s.next;
-  rows = ap (map listed_row) (only_changes (row_changed (entry.F u flags)) m.rows) ∙ flag_rows u flags m.rows x.messages s.rows ∙ sym (ap (map listing_row) (only_changes (message_changed (entry.F u flags)) x.messages));
-}
-
-pub shows_by : (number : ℕ) (octets : List ℕ) (u : Uid) (flags : ℕ) (boxes : List MapBox) (meanings : List BoxMeaning) (lists : Lists) → ShowLists boxes meanings lists → ShowLists boxes (meanings_by number (entry.F u flags) boxes meanings) (lists_by number octets (entry.F u flags) lists)
-shows_by number octets u flags [] [] [] h = tt
-shows_by number octets u flags [] [] (l ∷ ls) h = absurd h
-shows_by number octets u flags [] (m ∷ ms) [] h = absurd h
-shows_by number octets u flags [] (m ∷ ms) (l ∷ ls) h = absurd h
-shows_by number octets u flags (b ∷ bs) [] [] h = absurd h
-shows_by number octets u flags (b ∷ bs) [] (l ∷ ls) h = absurd h
-shows_by number octets u flags (b ∷ bs) (m ∷ ms) [] h = absurd h
-shows_by number octets u flags (b ∷ bs) (m ∷ ms) (l ∷ ls) h = by_test (b.number == number) (l.number == number) (ap (λ (n : ℕ). n == number) (sym h.0.number)) (shows_by number octets u flags bs ms ls h.1)
-  where
-    by_test : (t s : Bool) → t ≡ s → ShowLists bs (meanings_by number (entry.F u flags) bs ms) (lists_by number octets (entry.F u flags) ls)
-        → ShowLists (b ∷ bs) (cond t (box_applied (entry.F u flags) m ∷ ms) (m ∷ meanings_by number (entry.F u flags) bs ms)) (cond s (mailbox_by octets (entry.F u flags) l ∷ ls) (l ∷ lists_by number octets (entry.F u flags) ls))
-    by_test true true p rest = (flag_shown b m l octets u flags h.0, h.1)
-    by_test false false p rest = (h.0, rest)
-    by_test true false p rest = absurd (cc p)
-    by_test false true p rest = absurd (cc p)
-
 -- ---- what is found
 
--- the mailbox that is found by name has the number that the map gives it
+-- the mailbox that the map finds by name is found in the lists, with the number that the map gives it
+pub shown_number : (name : List ℕ) (number : ℕ) (boxes : List MapBox) (meanings : List BoxMeaning) (lists : Lists) → ShowLists boxes meanings lists → option_map (λ b. b.number) (find (λ b. bytes_eq b.name name) boxes) ≡ Some number
+    → (x : Mailbox) × (mailbox_named name lists ≡ Some x) × (x.number ≡ number)
+shown_number name number [] [] [] h is = absurd (let k : None ≡ Some number = is in cc k)
+shown_number name number (b ∷ bs) (m ∷ ms) (l ∷ ls) h is = by_test (bytes_eq b.name name) (bytes_eq l.name name) (ap (λ (n : List ℕ). bytes_eq n name) (sym h.0.name)) is (shown_number name number bs ms ls h.1)
+  where
+    by_test : (t s : Bool) → t ≡ s → option_map (λ (o : MapBox). o.number) (cond t (Some b) (find (λ (o : MapBox). bytes_eq o.name name) bs)) ≡ Some number
+        → (option_map (λ (o : MapBox). o.number) (find (λ (o : MapBox). bytes_eq o.name name) bs) ≡ Some number → (x : Mailbox) × (mailbox_named name ls ≡ Some x) × (x.number ≡ number)) → (x : Mailbox) × (cond s (Some l) (mailbox_named name ls) ≡ Some x) × (x.number ≡ number)
+    by_test true true p i rest = let e : Some b.number ≡ Some number = i in let r : b.number ≡ number = cc e in (l, refl, h.0.number ∙ r)
+    by_test false false p i rest = rest i
+    by_test true false p i rest = absurd (cc p)
+    by_test false true p i rest = absurd (cc p)
+shown_number name number boxes meanings lists h is = absurd h
+
 pub numbered : (name : List ℕ) (number : ℕ) (boxes : List MapBox) (meanings : List BoxMeaning) (lists : Lists) (x : Mailbox) → ShowLists boxes meanings lists → option_map (λ b. b.number) (find (λ b. bytes_eq b.name name) boxes) ≡ Some number
     → mailbox_named name lists ≡ Some x → x.number ≡ number
-numbered name number [] [] [] x h is there = absurd (cc (let k : None ≡ Some x = there in k))
-numbered name number [] [] (l ∷ ls) x h is there = absurd h
-numbered name number [] (m ∷ ms) [] x h is there = absurd h
-numbered name number [] (m ∷ ms) (l ∷ ls) x h is there = absurd h
-numbered name number (b ∷ bs) [] [] x h is there = absurd h
-numbered name number (b ∷ bs) [] (l ∷ ls) x h is there = absurd h
-numbered name number (b ∷ bs) (m ∷ ms) [] x h is there = absurd h
-numbered name number (b ∷ bs) (m ∷ ms) (l ∷ ls) x h is there = by_test (bytes_eq b.name name) (bytes_eq l.name name) (ap (λ (n : List ℕ). bytes_eq n name) (sym h.0.name)) is there (numbered name number bs ms ls x h.1)
-  where
-    by_test : (t s : Bool) → t ≡ s → option_map (λ (o : MapBox). o.number) (cond t (Some b) (find (λ (o : MapBox). bytes_eq o.name name) bs)) ≡ Some number → cond s (Some l) (mailbox_named name ls) ≡ Some x
-        → (option_map (λ (o : MapBox). o.number) (find (λ (o : MapBox). bytes_eq o.name name) bs) ≡ Some number → mailbox_named name ls ≡ Some x → x.number ≡ number) → x.number ≡ number
-    by_test true true p i t rest =
-        let e : Some b.number ≡ Some number = i in
-        let f : Some l ≡ Some x = t in
-        let q : l ≡ x = cc f in
-        let r : b.number ≡ number = cc e in
-        ap (λ (o : Mailbox). o.number) (sym q) ∙ h.0.number ∙ r
-    by_test false false p i t rest = rest i t
-    by_test true false p i t rest = absurd (cc p)
-    by_test false true p i t rest = absurd (cc p)
+numbered name number boxes meanings lists x h is there =
+    let y = shown_number name number boxes meanings lists h is in
+    let e : y.0 ≡ x = (let k : Some y.0 ≡ Some x = sym y.1 ∙ there in cc k) in
+    sym (ap (λ (o : Mailbox). o.number) e) ∙ y.2
 
 -- a row is found where its message is
 pub found_row : (uid : ℕ) (rows : List LogRow) (xs : List ListedMessage) → map listed_row rows ≡ map listing_row xs → option_map listed_row (find (λ r. r.uid == uid) rows) ≡ option_map listing_row (find (λ x. x.uid == uid) xs)
@@ -118,40 +79,38 @@ found_row uid (r ∷ rs) (x ∷ xs) e =
     by_test false true p first rest = absurd (cc p)
 
 pub none_there : {X Y : Type 0} → (f : X → Y) (o : Option X) → None ≡ option_map f o → o ≡ None
-none_there f None e = refl
-none_there f (Some x) e = absurd (cc (let h : None ≡ Some (f x) = e in h))
+none_there f o e = grind (arith, common_steps, nat_tests)
 
 pub some_there : {X Y : Type 0} → (f : X → Y) (o : Option X) (y : Y) → Some y ≡ option_map f o → (x : X) × (o ≡ Some x) × (y ≡ f x)
-some_there f None y e = absurd (cc (let h : Some y ≡ None = e in h))
-some_there f (Some x) y e = (x, refl, let h : Some y ≡ Some (f x) = e in cc h)
+some_there f o y e = grind (arith, common_steps, nat_tests)
 
 -- ---- by the list machine
 
 pub no_mailbox : (run : Run) (event : RunEvent) (boxes : List MapBox) (meanings : List BoxMeaning) (lists : Lists) (name : List ℕ) (u : Uid) (flags : ℕ) → ShowLists boxes meanings lists → meaning_named name boxes meanings ≡ None
     → PartAnswers run event lists (request.Flag name u flags) First (reply.Refused refusal.NoMailbox) lists
 no_mailbox run event boxes meanings lists name u flags h none =
-    let f : mailbox_named name lists ≡ None = subst (Finds name lists) none (found_by_name name boxes meanings lists h) in
+    let f : mailbox_named name lists ≡ None = subst (ShowsBox name lists) none (shows_box name boxes meanings lists h) in
     (rw f refl, refl)
 
 pub no_message : (run : Run) (event : RunEvent) (boxes : List MapBox) (meanings : List BoxMeaning) (lists : Lists) (name : List ℕ) (u : Uid) (flags : ℕ) (m : BoxMeaning) → ShowLists boxes meanings lists → meaning_named name boxes meanings ≡ Some m → row_at m u.0 ≡ None
     → PartAnswers run event lists (request.Flag name u flags) First (reply.Refused refusal.NoMessage) lists
 no_message run event boxes meanings lists name u flags m h is none =
-    let f : IsFound name lists m = subst (Finds name lists) is (found_by_name name boxes meanings lists h) in
+    let f : ShownBox name lists m = subst (ShowsBox name lists) is (shows_box name boxes meanings lists h) in
     let n : message_in u.0 f.mailbox ≡ None = none_there listing_row (message_in u.0 f.mailbox) (sym (ap (option_map listed_row) none) ∙ found_row u.0 m.rows f.mailbox.messages f.rows) in
-    (rw (f.there, n) refl, refl)
+    (rw (f.named, n) refl, refl)
 
 -- the entry gives the lists with the flags set
 pub set_by : (boxes : List MapBox) (meanings : List BoxMeaning) (lists : Lists) (name : List ℕ) (number : ℕ) (u : Uid) (flags : ℕ) (m : BoxMeaning) → AreWellFormed lists → ShowLists boxes meanings lists
     → meaning_named name boxes meanings ≡ Some m → option_map (λ b. b.number) (find (λ b. bytes_eq b.name name) boxes) ≡ Some number → lists_by number [] (entry.F u flags) lists ≡ set_flags name u.0 flags lists
 set_by boxes meanings lists name number u flags m well h is at =
-    let f : IsFound name lists m = subst (Finds name lists) is (found_by_name name boxes meanings lists h) in
-    let same : f.mailbox.number ≡ number = numbered name number boxes meanings lists f.mailbox h at f.there in
-    subst (λ (k : ℕ). lists_by k [] (entry.F u flags) lists ≡ set_flags name u.0 flags lists) same (flagged_by lists name f.mailbox [] u flags well f.there)
+    let f : ShownBox name lists m = subst (ShowsBox name lists) is (shows_box name boxes meanings lists h) in
+    let same : f.mailbox.number ≡ number = numbered name number boxes meanings lists f.mailbox h at f.named in
+    subst (λ (k : ℕ). lists_by k [] (entry.F u flags) lists ≡ set_flags name u.0 flags lists) same (flagged_by lists name f.mailbox [] u flags well f.named)
 
 pub is_flagged : (run : Run) (event : RunEvent) (boxes : List MapBox) (meanings : List BoxMeaning) (lists : Lists) (name : List ℕ) (number : ℕ) (u : Uid) (flags : ℕ) (m : BoxMeaning) (row : LogRow) → AreWellFormed lists → ShowLists boxes meanings lists
     → meaning_named name boxes meanings ≡ Some m → row_at m u.0 ≡ Some row → option_map (λ b. b.number) (find (λ b. bytes_eq b.name name) boxes) ≡ Some number
     → (lists_by number [] (entry.F u flags) lists ≡ set_flags name u.0 flags lists) × PartAnswers run event lists (request.Flag name u flags) First reply.Done (set_flags name u.0 flags lists)
 is_flagged run event boxes meanings lists name number u flags m row well h is found at =
-    let f : IsFound name lists m = subst (Finds name lists) is (found_by_name name boxes meanings lists h) in
+    let f : ShownBox name lists m = subst (ShowsBox name lists) is (shows_box name boxes meanings lists h) in
     let n = some_there listing_row (message_in u.0 f.mailbox) (listed_row row) (sym (ap (option_map listed_row) found) ∙ found_row u.0 m.rows f.mailbox.messages f.rows) in
-    (set_by boxes meanings lists name number u flags m well h is at, (rw (f.there, n.1) refl, refl))
+    (set_by boxes meanings lists name number u flags m well h is at, (rw (f.named, n.1) refl, refl))

@@ -1,5 +1,7 @@
 -- The rows that an entry leaves of those that a mailbox lists: each had the record that it has.
 use Rattle.std.proofs.Common.{◌≡◌, ◌<◌, ◌==◌, ℕ, Bool, true, false, cond, not, List, [], ◌∷◌, map, Option, Some, None, refl, sym, ◌∙◌, ap, arith}
+use Rattle.std.proofs.lemmas.Grind.{common_steps}
+use Rattle.std.proofs.lemmas.Bool.Decides.{nat_tests}
 use Rattle.std.specs.Prelude.{find, filter}
 use Rattle.std.specs.Option.{option_or}
 use Rattle.std.proofs.lemmas.Bool.{eqb-true, ne_eqb}
@@ -51,8 +53,7 @@ find_filtered p q b same (x ∷ xs) = by_tests b (p x) refl (q x) refl (same x) 
     by_tests b s e false is same rest = dropped b s e (λ k. sym is ∙ same (e ∙ k)) rest
 
 found_before_filter : (b : Bool) (found : Option LogRow) (row : LogRow) → cond b found None ≡ Some row → found ≡ Some row
-found_before_filter true found row there = there
-found_before_filter false found row there = absurd (nothing_found row there)
+found_before_filter b found row there = grind (arith, common_steps, nat_tests)
 
 pub removal_keeps : (uid : Uid) (m : BoxMeaning) → KeepsRows (entry.R uid) m
 removal_keeps gone m uid row below there = found_same m.rows uid row (found_before_filter (not (gone.0 == uid)) (find (λ r. r.uid == uid) m.rows) row (sym (ap (find (λ r. r.uid == uid)) (rows_by_removed gone m.rows) ∙ filtered) ∙ there))
@@ -89,9 +90,7 @@ flagging_keeps u flags m uid row below there = found_flagged u flags uid m.rows 
 -- ---- a message is added
 
 none_behind : (t : Bool) (found : Option LogRow) (new row : LogRow) → t ≡ false → option_or found (cond t (Some new) None) ≡ Some row → found ≡ Some row
-none_behind true found new row e there = absurd (let k : true ≡ false = e in cc k)
-none_behind false (Some r) new row e there = there
-none_behind false None new row e there = there
+none_behind t found new row e there = grind (arith, common_steps, nat_tests)
 
 -- it gets the next UID
 pub addition_keeps : (given : Uid) (flags time size : ℕ) (map_uid : MapUid) (guid : Guid) (m : BoxMeaning) → given.0 ≡ m.next → KeepsRows (entry.A given flags time size map_uid guid) m

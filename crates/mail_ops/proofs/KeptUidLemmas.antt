@@ -1,97 +1,125 @@
 -- What the source of a message that is added to a mailbox lists with its UID: an entry leaves no other message there.
-use Rattle.std.proofs.Common.{◌≡◌, ◌<◌, ◌==◌, ℕ, Bool, true, false, cond, List, [], ◌∷◌, Option, Some, None, sym, ◌∙◌, ap, subst, arith, inl, inr}
-use Rattle.std.specs.Prelude.{◌⊎◌}
-use Rattle.std.specs.Str.{bytes_eq}
+use Rattle.std.proofs.Common.{◌≡◌, ◌≤◌, ◌<◌, ◌==◌, ℕ, Bool, true, false, cond, List, [], ◌∷◌, Option, Some, refl, sym, ◌∙◌, ap, subst, arith}
+use Rattle.std.specs.Prelude.{max}
+use Rattle.std.specs.Option.{IfSome, option_map}
+use Rattle.std.proofs.lemmas.Bool.{eqb-true}
 use Rattle.disk_model.specs.Disk.{History, Faults}
 use Rattle.mdbox_base.specs.declared.entries.BoxEntry.{BoxEntry}
 use Rattle.mdbox_base.specs.declared.entries.BoxEntry.TheVariants as box_entry
 use Rattle.mdbox_base.specs.declared.entries.MapEntry.{MapEntry}
+use Rattle.mdbox_base.specs.declared.ids.BoxNo.{BoxNo}
 use Rattle.mdbox_base.specs.declared.ids.MapUid.{MapUid}
 use Rattle.mdbox_base.specs.declared.ids.Uid.{Uid}
 use Rattle.model_appends.specs.Appending.{meanings_by}
 use Rattle.model_meaning.specs.BoxMeaning.{LogRow, BoxMeaning, row_at, box_applied}
-use Rattle.model_meaning.specs.MapMeaning.{MapBox, MapMeaning}
-use Rattle.model_store.specs.Listing.{meaning_named, meaning_numbered}
+use Rattle.model_meaning.specs.MapMeaning.{MapBox, MapMeaning, map_applied, numbers_of}
+use Rattle.model_store.specs.Listing.{meaning_numbered}
 use Rattle.store_core.specs.Keeping.{KeepsUid, KeepsUids}
-use Rattle.store_core.specs.Value.{StoreValue, indexes_of, list_named, list_numbered}
-use Rattle.mail_ops.specs.Appends.{MapTook, MapFell}
-use Rattle.mail_ops.specs.Copying.{added_copy, AddsRow}
+use Rattle.store_core.specs.Value.{StoreValue, indexes_of, list_numbered}
+use Rattle.task_claims.specs.Leaving.{NamesStay}
+use Rattle.task_claims.proofs.NameLemmas.{names_stay, names_stay_same}
+use Rattle.mail_ops.specs.Appends.{MapTook}
+use Rattle.mail_ops.specs.Copying.{AddsRow, RaisesRow, added_copy, raising_of}
 use Rattle.mail_ops.specs.Expunging.{RemovesRow}
+use Rattle.mail_ops.specs.Messages.{KeepsNamed}
 use Rattle.mail_ops.proofs.KeptRowLemmas.{KeepsRows, WasListed, addition_keeps, flagging_keeps, removal_keeps}
 
-some_meaning : (a b : BoxMeaning) → Some a ≡ Some b → a ≡ b
-some_meaning a b e = cc e
+-- ---- by number
 
--- what the log of a mailbox means, with an entry more in the log of this one or of another
-pub named_by : (name : List ℕ) (number : ℕ) (e : BoxEntry) (boxes : List MapBox) (meanings : List BoxMeaning) (m to : BoxMeaning) → meaning_named name boxes meanings ≡ Some m → meaning_numbered number boxes meanings ≡ Some to
-    → (meaning_named name boxes (meanings_by number e boxes meanings) ≡ Some m) ⊎ ((meaning_named name boxes (meanings_by number e boxes meanings) ≡ Some (box_applied e m)) × (m ≡ to))
-named_by name number e [] [] m to named numbered = absurd (let k : None ≡ Some m = named in cc k)
-named_by name number e [] (x ∷ xs) m to named numbered = absurd (let k : None ≡ Some m = named in cc k)
-named_by name number e (b ∷ bs) [] m to named numbered = absurd (let k : None ≡ Some m = named in cc k)
-named_by name number e (b ∷ bs) (x ∷ xs) m to named numbered = by_number (λ n k. named_by name number e bs xs m to n k) (b.number == number) numbered
+-- what the log of a mailbox means, with an entry more in its own log, or in that of another
+own_more : (number : ℕ) (e : BoxEntry) (boxes : List MapBox) (meanings : List BoxMeaning) → meaning_numbered number boxes (meanings_by number e boxes meanings) ≡ option_map (box_applied e) (meaning_numbered number boxes meanings)
+own_more number e [] meanings = refl
+own_more number e (b ∷ bs) [] = refl
+own_more number e (b ∷ bs) (x ∷ xs) = by_test (b.number == number) refl (own_more number e bs xs)
   where
-    Says : List BoxMeaning → Type 0
-    Says ms = (meaning_named name (b ∷ bs) ms ≡ Some m) ⊎ ((meaning_named name (b ∷ bs) ms ≡ Some (box_applied e m)) × (m ≡ to))
+    by_test : (t : Bool) → (b.number == number) ≡ t → meaning_numbered number bs (meanings_by number e bs xs) ≡ option_map (box_applied e) (meaning_numbered number bs xs)
+        → meaning_numbered number (b ∷ bs) (cond t (box_applied e x ∷ xs) (x ∷ meanings_by number e bs xs)) ≡ option_map (box_applied e) (cond t (Some x) (meaning_numbered number bs xs))
+    by_test true is rest = rw is refl
+    by_test false is rest = rw is rest
 
-    here : (s : Bool) → cond s (Some x) (meaning_named name bs xs) ≡ Some m → x ≡ to → (cond s (Some (box_applied e x)) (meaning_named name bs xs) ≡ Some m) ⊎ ((cond s (Some (box_applied e x)) (meaning_named name bs xs) ≡ Some (box_applied e m)) × (m ≡ to))
-    here true n is = let same = some_meaning x m n in inr (ap (λ (k : BoxMeaning). Some (box_applied e k)) same, sym same ∙ is)
-    here false n is = inl n
+other_more : (number other : ℕ) (e : BoxEntry) (boxes : List MapBox) (meanings : List BoxMeaning) → (number == other) ≡ false → meaning_numbered other boxes (meanings_by number e boxes meanings) ≡ meaning_numbered other boxes meanings
+other_more number other e [] meanings apart = refl
+other_more number other e (b ∷ bs) [] apart = refl
+other_more number other e (b ∷ bs) (x ∷ xs) apart = by_test (b.number == number) refl (other_more number other e bs xs apart)
+  where
+    by_test : (t : Bool) → (b.number == number) ≡ t → meaning_numbered other bs (meanings_by number e bs xs) ≡ meaning_numbered other bs xs
+        → meaning_numbered other (b ∷ bs) (cond t (box_applied e x ∷ xs) (x ∷ meanings_by number e bs xs)) ≡ meaning_numbered other (b ∷ bs) (x ∷ xs)
+    by_test true is rest = let differs : (b.number == other) ≡ false = ap (λ (n : ℕ). n == other) (eqb-true b.number number is) ∙ apart in rw differs refl
+    by_test false is rest = ap (λ (o : Option BoxMeaning). cond (b.number == other) (Some x) o) rest
 
-    there : (s : Bool) → cond s (Some x) (meaning_named name bs xs) ≡ Some m → (meaning_named name bs xs ≡ Some m → (meaning_named name bs (meanings_by number e bs xs) ≡ Some m) ⊎ ((meaning_named name bs (meanings_by number e bs xs) ≡ Some (box_applied e m)) × (m ≡ to)))
-        → (cond s (Some x) (meaning_named name bs (meanings_by number e bs xs)) ≡ Some m) ⊎ ((cond s (Some x) (meaning_named name bs (meanings_by number e bs xs)) ≡ Some (box_applied e m)) × (m ≡ to))
-    there true n rest = inl n
-    there false n rest = rest n
+-- what is asked of a log
+abbrev Keeps : ℕ → ℕ → Option BoxMeaning → Type 0
+Keeps uid held o = IfSome o (λ m. uid < m.next) × IfSome o (λ m. (row : LogRow) → row_at m uid ≡ Some row → row.map_uid ≡ held)
 
-    by_number : (meaning_named name bs xs ≡ Some m → meaning_numbered number bs xs ≡ Some to → (meaning_named name bs (meanings_by number e bs xs) ≡ Some m) ⊎ ((meaning_named name bs (meanings_by number e bs xs) ≡ Some (box_applied e m)) × (m ≡ to)))
-        → (t : Bool) → cond t (Some x) (meaning_numbered number bs xs) ≡ Some to → Says (cond t (box_applied e x ∷ xs) (x ∷ meanings_by number e bs xs))
-    by_number rest true k = here (bytes_eq b.name name) named (some_meaning x to k)
-    by_number rest false k = there (bytes_eq b.name name) named (λ n. rest n k)
+-- the log of the mailbox with this number has not changed
+pub kept_on : {D : Type 0} → (number uid held : ℕ) (old new : StoreValue D) → old.map.highest.mailbox ≤ new.map.highest.mailbox → list_numbered new number ≡ list_numbered old number → KeepsUid number uid held old → KeepsUid number uid held new
+kept_on number uid held old new rises same k =
+    let s : Keeps uid held (list_numbered new number) = subst (Keeps uid held) (sym same) (k.below, k.same) in
+    record { given = (let g : number ≤ old.map.highest.mailbox = k.given in omega (arith, g, rises)); below = s.0; same = s.1 }
 
 -- ---- of any entry
 
+pub same_highest : (m n : MapMeaning) → n ≡ m → m.highest.mailbox ≤ n.highest.mailbox
+same_highest m n same = subst (λ (x : MapMeaning). m.highest.mailbox ≤ x.highest.mailbox) (sym same) (omega arith)
+
 -- a log of a mailbox has an entry more, which leaves its messages their records
 pub entry_keeps : {D : Type 0} → (number : ℕ) (e : BoxEntry) (to : BoxMeaning) (old new : StoreValue D) → new.map ≡ old.map → indexes_of new.boxes ≡ meanings_by number e old.map.boxes (indexes_of old.boxes) → list_numbered old number ≡ Some to → KeepsRows e to → KeepsUids old new
-entry_keeps number e to old new map_is taken numbered rows = λ name uid held k. by_case name uid held k (named_by name number e old.map.boxes (indexes_of old.boxes) k.m to k.named numbered)
+entry_keeps number e to old new map_is taken numbered rows = λ other uid held k. by_test other uid held k (number == other) refl
   where
     later : List BoxMeaning
     later = meanings_by number e old.map.boxes (indexes_of old.boxes)
 
-    as_named : (name : List ℕ) → list_named new name ≡ meaning_named name old.map.boxes later
-    as_named name = ap (λ (bs : List MapBox). meaning_named name bs (indexes_of new.boxes)) (ap (λ (m : MapMeaning). m.boxes) map_is) ∙ ap (meaning_named name old.map.boxes) taken
+    as_numbered : (other : ℕ) → list_numbered new other ≡ meaning_numbered other old.map.boxes later
+    as_numbered other = ap (λ (bs : List MapBox). meaning_numbered other bs (indexes_of new.boxes)) (ap (λ (m : MapMeaning). m.boxes) map_is) ∙ ap (meaning_numbered other old.map.boxes) taken
 
-    by_rows : (m : BoxMeaning) (held uid : ℕ) → KeepsRows e m → uid < m.next → ((row : LogRow) → row_at m uid ≡ Some row → row.map_uid ≡ held) → (row : LogRow) → row_at (box_applied e m) uid ≡ Some row → row.map_uid ≡ held
-    by_rows m held uid kept below same row there = let was : WasListed m.rows uid row = kept uid row below there in sym was.2 ∙ same was.0 was.1
+    by_rows : (held uid : ℕ) → Keeps uid held (Some to) → Keeps uid held (Some (box_applied e to))
+    by_rows held uid k =
+        let below : uid < to.next = k.0 in
+        (omega (arith, below), λ row there. let was : WasListed to.rows uid row = rows uid row below there in sym was.2 ∙ k.1 was.0 was.1)
 
-    by_case : (name : List ℕ) (uid held : ℕ) (k : KeepsUid name uid held old) → (meaning_named name old.map.boxes later ≡ Some k.m) ⊎ ((meaning_named name old.map.boxes later ≡ Some (box_applied e k.m)) × (k.m ≡ to)) → KeepsUid name uid held new
-    by_case name uid held k (inl same) = record { m = k.m; named = as_named name ∙ same; below = k.below; same = k.same }
-    by_case name uid held k (inr own) =
-        let below : uid < k.m.next = k.below in
-        record {
-          m = box_applied e k.m;
-          named = as_named name ∙ own.0;
-          below = omega (arith, below);
-          same = by_rows k.m held uid (subst (KeepsRows e) (sym own.1) rows) k.below k.same;
-        }
+    by_test : (other uid held : ℕ) → KeepsUid other uid held old → (t : Bool) → (number == other) ≡ t → KeepsUid other uid held new
+    by_test other uid held k true is =
+        let own : list_numbered old other ≡ Some to = ap (list_numbered old) (sym (eqb-true number other is)) ∙ numbered in
+        let there : list_numbered new other ≡ Some (box_applied e to) = ap (list_numbered new) (sym (eqb-true number other is)) ∙ (as_numbered number ∙ (own_more number e old.map.boxes (indexes_of old.boxes) ∙ ap (option_map (box_applied e)) numbered)) in
+        let s : Keeps uid held (list_numbered new other) = subst (Keeps uid held) (sym there) (by_rows held uid (subst (Keeps uid held) own (k.below, k.same))) in
+        record { given = subst (λ (m : MapMeaning). other ≤ m.highest.mailbox) (sym map_is) k.given; below = s.0; same = s.1 }
+    by_test other uid held k false is = kept_on other uid held old new (same_highest old.map new.map map_is) (as_numbered other ∙ other_more number other e old.map.boxes (indexes_of old.boxes) is) k
 
 -- no log of a mailbox has changed
-pub logs_keep : {D : Type 0} → (old new : StoreValue D) → new.map.boxes ≡ old.map.boxes → indexes_of new.boxes ≡ indexes_of old.boxes → KeepsUids old new
-logs_keep old new boxes indexes = λ name uid held k. record {
-  m = k.m;
-  named = ap (λ (bs : List MapBox). meaning_named name bs (indexes_of new.boxes)) boxes ∙ ap (meaning_named name old.map.boxes) indexes ∙ k.named;
-  below = k.below;
-  same = k.same;
-}
+logs_same : {D : Type 0} → (old new : StoreValue D) → old.map.highest.mailbox ≤ new.map.highest.mailbox → new.map.boxes ≡ old.map.boxes → indexes_of new.boxes ≡ indexes_of old.boxes → KeepsUids old new
+logs_same old new rises boxes indexes = λ number uid held k.
+    kept_on number uid held old new rises (ap (λ (bs : List MapBox). meaning_numbered number bs (indexes_of new.boxes)) boxes ∙ ap (meaning_numbered number old.map.boxes) indexes) k
+
+pub logs_keep : {D : Type 0} → (old new : StoreValue D) → new.map ≡ old.map → indexes_of new.boxes ≡ indexes_of old.boxes → KeepsUids old new
+logs_keep old new map_is indexes = logs_same old new (same_highest old.map new.map map_is) (ap (λ (m : MapMeaning). m.boxes) map_is) indexes
 
 pub same_keeps : {D : Type 0} → (old new : StoreValue D) → new ≡ old → KeepsUids old new
-same_keeps old new same = subst (KeepsUids old) (sym same) (λ name uid held k. k)
+same_keeps old new same = subst (KeepsUids old) (sym same) (λ number uid held k. k)
+
+-- ---- of the mailbox with a name
+
+pub named_keeps : {D : Type 0} → (name : List ℕ) (source uid held : ℕ) (old new : StoreValue D) → NamesStay old.map new.map → KeepsUids old new → KeepsNamed name source uid held old → KeepsNamed name source uid held new
+named_keeps name source uid held old new names uids k = record { named = names name source k.named; keeps = uids source uid held k.keeps }
+
+-- an append to a mailbox's log that failed
+pub fallen_keeps : {D : Type 0} → (name : List ℕ) (source uid held : ℕ) (old new : StoreValue D) → new.map ≡ old.map → indexes_of new.boxes ≡ indexes_of old.boxes → KeepsNamed name source uid held old → KeepsNamed name source uid held new
+fallen_keeps name source uid held old new map_is indexes k = named_keeps name source uid held old new (names_stay_same old.map new.map map_is) (logs_keep old new map_is indexes) k
 
 -- ---- of what an event does
 
-pub took_keeps : {D : Type 0} → (e : MapEntry) (old new : StoreValue D) (before after : Option History) (began now : Faults) → MapTook e old new before after began now → KeepsUids old new
-took_keeps e old new before after began now t = logs_keep old new t.appends.mailboxes t.appends.indexes
+pub highest_rises : (entry : MapEntry) (m : MapMeaning) → m.highest.mailbox ≤ (map_applied entry m).highest.mailbox
+highest_rises entry m = greater m.highest.mailbox (numbers_of m.store entry).mailbox
+  where
+    greater : (a b : ℕ) → a ≤ max a b
+    greater a b = omega arith
 
-pub fell_keeps : {D : Type 0} → (old new : StoreValue D) (before after : Option History) (began now : Faults) → MapFell old new before after began now → KeepsUids old new
-fell_keeps old new before after began now f = logs_keep old new f.appends.mailboxes f.appends.indexes
+pub took_keeps : {D : Type 0} → (e : MapEntry) (old new : StoreValue D) (before after : Option History) (began now : Faults) → MapTook e old new before after began now → KeepsUids old new
+took_keeps e old new before after began now t = logs_same old new (subst (λ (m : MapMeaning). old.map.highest.mailbox ≤ m.highest.mailbox) (sym t.taken) (highest_rises e old.map)) t.appends.mailboxes t.appends.indexes
+
+-- the message whose count was raised
+pub raised_source : {D : Type 0} → (name : List ℕ) (uid : Uid) (target : List ℕ) (held : MapUid) (source : BoxNo) (old new : StoreValue D) (before after : Option History) (began now : Faults) → RaisesRow name uid target held source old new before after began now → KeepsNamed name source.0 uid.0 held.0 new
+raised_source name uid target held source old new before after began now r =
+    named_keeps name source.0 uid.0 held.0 old new (names_stay old.map new.map r.took.appends.mailboxes) (took_keeps (raising_of held) old new before after began now r.took) (record { named = r.at.from.box.number_is ∙ ap Some r.source_is; keeps = r.keeps })
 
 pub addition_left : {D : Type 0} → (name : List ℕ) (uid : Uid) (target : List ℕ) (held : MapUid) (given : Uid) (old new : StoreValue D) (before after : Option History) (began now : Faults) → AddsRow name uid target held given old new before after began now → KeepsUids old new
 addition_left name uid target held given old new before after began now r =

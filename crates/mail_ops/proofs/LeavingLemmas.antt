@@ -1,6 +1,5 @@
 -- What each event of a copy, a move or an expunge leaves to the tasks beside it.
 use Rattle.std.proofs.Common.{◌≡◌, ◌≤◌, ◌+◌, ◌-◌, ◌||◌, ◌==◌, ℕ, Bool, true, false, cond, List, [], ◌∷◌, Option, Some, refl, sym, ◌∙◌, ap, subst, arith}
-use Rattle.std.specs.Prelude.{max}
 use Rattle.std.specs.Str.{bytes_eq}
 use Rattle.std.specs.Option.{option_map_or}
 use Rattle.std.proofs.lemmas.Bool.{eqb-true}
@@ -8,6 +7,7 @@ use Rattle.disk_model.specs.Disk.{History, Faults}
 use Rattle.mdbox_base.specs.declared.entries.BoxEntry.{BoxEntry}
 use Rattle.mdbox_base.specs.declared.entries.BoxEntry.TheVariants as box_entry
 use Rattle.mdbox_base.specs.declared.entries.MapEntry.{MapEntry}
+use Rattle.mdbox_base.specs.declared.ids.BoxNo.{BoxNo}
 use Rattle.mdbox_base.specs.declared.ids.MapUid.{MapUid}
 use Rattle.mdbox_base.specs.declared.ids.Uid.{Uid}
 use Rattle.mdbox_base.specs.declared.progress.Did.{Did}
@@ -15,7 +15,7 @@ use Rattle.mdbox_base.specs.declared.progress.Progress.{Progress}
 use Rattle.mdbox_base.specs.declared.progress.Progress.TheVariants as progress
 use Rattle.mdbox_base.specs.declared.replies.Reply.TheVariants as reply
 use Rattle.model_meaning.specs.BoxMeaning.{LogRow, BoxMeaning}
-use Rattle.model_meaning.specs.MapMeaning.{MapMeaning, MapRecord, record_at, map_applied, numbers_of}
+use Rattle.model_meaning.specs.MapMeaning.{MapMeaning, MapRecord, record_at, map_applied}
 use Rattle.model_appends.specs.Appending.{meanings_by}
 use Rattle.model_appends.specs.Amounts.{bit, more_due}
 use Rattle.model_octets.proofs.SearchLemmas.{text_yes}
@@ -46,7 +46,8 @@ use Rattle.mail_ops.specs.declared.moving.MoveStage.{MoveStage}
 use Rattle.mail_ops.specs.declared.moving.MoveStage.TheVariants as move_stage
 use Rattle.mail_ops.proofs.EventLemmas.{fall}
 use Rattle.mail_ops.proofs.OnlyLogsLemmas.{same_mail}
-use Rattle.mail_ops.proofs.KeptUidLemmas.{took_keeps, addition_left, removal_left}
+use Rattle.task_claims.proofs.NameLemmas.{names_stay, names_stay_same}
+use Rattle.mail_ops.proofs.KeptUidLemmas.{addition_left, highest_rises, removal_left, same_highest, took_keeps}
 use Rattle.mail_ops.proofs.MessageLemmas.{record_of_row}
 use Rattle.mail_ops.proofs.UnlistedLemmas.{addition_lists, entry_refs, flag_lists, listed_counts, removal_lists}
 
@@ -79,25 +80,14 @@ due_other false old other = omega arith
 same_unlisted : {D : Type 0} → (mine : Claims) (old new : StoreValue D) → indexes_of new.boxes ≡ indexes_of old.boxes → ((uid : ℕ) → mine (Due uid) ≡ 0 → (rec : MapRecord) → record_at old.map uid ≡ Some rec → references_to old rec.guid ≡ 0 → due_at uid new ≡ due_at uid old) → LeavesUnlisted mine old new
 same_unlisted mine old new indexes dues = λ uid rec none found listed. (ap (λ (ms : List BoxMeaning). refs_in ms rec.guid) indexes ∙ listed, dues uid none rec found listed)
 
--- ---- the highest numbers
-
-pub highest_rises : (entry : MapEntry) (m : MapMeaning) → m.highest.mailbox ≤ (map_applied entry m).highest.mailbox
-highest_rises entry m = greater m.highest.mailbox (numbers_of m.store entry).mailbox
-  where
-    greater : (a b : ℕ) → a ≤ max a b
-    greater a b = omega arith
-
-pub same_highest : (m n : MapMeaning) → n ≡ m → m.highest.mailbox ≤ n.highest.mailbox
-same_highest m n same = subst (λ (x : MapMeaning). m.highest.mailbox ≤ x.highest.mailbox) (sym same) (omega arith)
-
 -- ---- an entry of the map log
 
 map_leaves : {D : Type 0} → (mine : Claims) (entry : MapEntry) (old new : StoreValue D) (before after : Option History) (began now : Faults) → MapTook entry old new before after began now → SameButCounts old.map (map_applied entry old.map) → RaisesNone old.map (map_applied entry old.map) → LeavesUnlisted mine old new → LeavesOthers mine old new before after
 map_leaves mine entry old new before after began now t same unraised unlisted =
-    rest_leaves mine old new before after t.appends.files (ap (λ (v : StoreValue _). v.instances) t.appends.rest) (mail_same before after t.mail) (subst (λ (m : MapMeaning). SameButCounts old.map m) (sym t.taken) same) (subst (λ (m : MapMeaning). RaisesNone old.map m) (sym t.taken) unraised) (subst (λ (m : MapMeaning). old.map.highest.mailbox ≤ m.highest.mailbox) (sym t.taken) (highest_rises entry old.map)) (took_keeps entry old new before after began now t) t.appends.room unlisted
+    rest_leaves mine old new before after t.appends.files (ap (λ (v : StoreValue _). v.instances) t.appends.rest) (mail_same before after t.mail) (subst (λ (m : MapMeaning). SameButCounts old.map m) (sym t.taken) same) (subst (λ (m : MapMeaning). RaisesNone old.map m) (sym t.taken) unraised) (subst (λ (m : MapMeaning). old.map.highest.mailbox ≤ m.highest.mailbox) (sym t.taken) (highest_rises entry old.map)) (names_stay old.map new.map t.appends.mailboxes) (took_keeps entry old new before after began now t) t.appends.room unlisted
 
-raise_leaves : {D : Type 0} → (mine : Claims) (name : List ℕ) (uid : Uid) (target : List ℕ) (held : MapUid) (old new : StoreValue D) (before after : Option History) (began now : Faults) → IsStore before old → RaisesRow name uid target held old new before after began now → LeavesOthers mine old new before after
-raise_leaves mine name uid target held old new before after began now is r =
+raise_leaves : {D : Type 0} → (mine : Claims) (name : List ℕ) (uid : Uid) (target : List ℕ) (held : MapUid) (source : BoxNo) (old new : StoreValue D) (before after : Option History) (began now : Faults) → IsStore before old → RaisesRow name uid target held source old new before after began now → LeavesOthers mine old new before after
+raise_leaves mine name uid target held source old new before after began now is r =
     map_leaves mine (raising_of held) old new before after began now r.took (raised_same held old.map) (unraised_by held old.map r.took.fits)
     (same_unlisted mine old new r.took.appends.indexes (λ u none rec found listed.
     r.took.due u ∙ due_other (held.0 == u) (due_at u old) (λ t. other_record before old name uid.0 r.at.source r.row u rec is r.at.from found listed (sym r.holds ∙ eqb-true held.0 u t))))
@@ -115,7 +105,7 @@ lower_leaves owed old new before after began now mine own t =
 
 box_leaves : {D : Type 0} → (mine : Claims) (number : ℕ) (entry : BoxEntry) (old new : StoreValue D) (before after : Option History) (began now : Faults) → BoxTook number entry old new before after began now → KeepsUids old new → LeavesUnlisted mine old new → LeavesOthers mine old new before after
 box_leaves mine number entry old new before after began now t keeps unlisted =
-    rest_leaves mine old new before after t.appends.files (ap (λ (v : StoreValue _). v.instances) t.appends.rest) (mail_same before after t.mail) (same_map old.map new.map t.appends.map) (unraised_same old.map new.map (ap (λ (m : MapMeaning). m.records) t.appends.map)) (same_highest old.map new.map t.appends.map) keeps t.appends.room unlisted
+    rest_leaves mine old new before after t.appends.files (ap (λ (v : StoreValue _). v.instances) t.appends.rest) (mail_same before after t.mail) (same_map old.map new.map t.appends.map) (unraised_same old.map new.map (ap (λ (m : MapMeaning). m.records) t.appends.map)) (same_highest old.map new.map t.appends.map) (names_stay_same old.map new.map t.appends.map) keeps t.appends.room unlisted
 
 add_leaves : {D : Type 0} → (mine : Claims) (name : List ℕ) (uid : Uid) (target : List ℕ) (held : MapUid) (given : Uid) (old new : StoreValue D) (before after : Option History) (began now : Faults) → ((u : ℕ) → mine (Due u) ≡ one_due held.0 u)
     → AddsRow name uid target held given old new before after began now → LeavesOthers mine old new before after
@@ -153,7 +143,7 @@ remove_leaves mine name uid owed old new before after began now is r =
 
 pub same_leaves : {D : Type 0} → (history : D → Option History) (mine : Claims) (old new : StoreValue D) → new ≡ old → LeavesOthers mine old new (history old.disk) (history new.disk)
 same_leaves history mine old new same = subst (λ (s : StoreValue _). LeavesOthers mine old s (history old.disk) (history s.disk)) (sym same)
-    (rest_leaves mine old old (history old.disk) (history old.disk) refl refl (mail_same (history old.disk) (history old.disk) (same_mail (history old.disk))) refl (unraised_same old.map old.map refl) (same_highest old.map old.map refl) (λ name uid held k. k) (omega arith) (λ uid rec none found listed. (listed, refl)))
+    (rest_leaves mine old old (history old.disk) (history old.disk) refl refl (mail_same (history old.disk) (history old.disk) (same_mail (history old.disk))) refl (unraised_same old.map old.map refl) (same_highest old.map old.map refl) (λ name number is. is) (λ number uid held k. k) (omega arith) (λ uid rec none found listed. (listed, refl)))
 
 unraised_leaves : {D : Type 0} → (history : D → Option History) (mine : Claims) (name : List ℕ) (uid : Uid) (target : List ℕ) (error : NotDone) (old new : StoreValue D) (began now : Faults) → new.stopped ≡ false → IsNotRaised name uid target error old new (history old.disk) (history new.disk) began now
     → LeavesOthers mine old new (history old.disk) (history new.disk)
@@ -172,7 +162,7 @@ unremoved_leaves history mine name uid not_done.Stopped old new began now runs r
 pub flag_leaves : {D : Type 0} → (number : ℕ) (uid : Uid) (flags : ℕ) (old new : StoreValue D) (before after : Option History) → new.map ≡ old.map → new.files ≡ old.files → new.instances ≡ old.instances → indexes_of new.boxes ≡ meanings_by number (box_entry.F uid flags) old.map.boxes (indexes_of old.boxes)
     → KeepsMail before after → KeepsUids old new → old.map_log.room ≤ new.map_log.room → ((other : ℕ) → due_at other new ≡ due_at other old) → LeavesOthers no_claims old new before after
 flag_leaves number uid flags old new before after map_is files instances taken mail keeps room due =
-    rest_leaves no_claims old new before after files instances (mail_same before after mail) (same_map old.map new.map map_is) (unraised_same old.map new.map (ap (λ (m : MapMeaning). m.records) map_is)) (same_highest old.map new.map map_is) keeps room
+    rest_leaves no_claims old new before after files instances (mail_same before after mail) (same_map old.map new.map map_is) (unraised_same old.map new.map (ap (λ (m : MapMeaning). m.records) map_is)) (same_highest old.map new.map map_is) (names_stay_same old.map new.map map_is) keeps room
     (λ other rec none found listed. (
       none_more (references_to new rec.guid) (references_to old rec.guid)
           (subst (λ (ms : List BoxMeaning). refs_in ms rec.guid ≤ references_to old rec.guid) (sym taken) (entry_refs rec.guid number (box_entry.F uid flags) old.map.boxes (indexes_of old.boxes) (flag_lists rec.guid uid flags))) listed,
@@ -183,11 +173,11 @@ flag_leaves number uid flags old new before after map_is files instances taken m
 
 pub copy_leaves : {D : Type 0} → (history : D → Option History) (name : List ℕ) (uid : Uid) (target : List ℕ) (now next : CopyStage) (answer : Progress) (how : Did) (old new : StoreValue D) (began faulted : Faults) → IsStore (history old.disk) old → new.stopped ≡ false
     → CopiesOn name uid target now next answer how old new (history old.disk) (history new.disk) began faulted → LeavesOthers (copy_claims now) old new (history old.disk) (history new.disk)
-copy_leaves history name uid target copy_stage.First (copy_stage.Adding held) progress.More how old new began faulted is runs on = raise_leaves (copy_claims copy_stage.First) name uid target held old new (history old.disk) (history new.disk) began faulted is on.1
+copy_leaves history name uid target copy_stage.First (copy_stage.Adding held source) progress.More how old new began faulted is runs on = raise_leaves (copy_claims copy_stage.First) name uid target held source old new (history old.disk) (history new.disk) began faulted is on.1
 copy_leaves history name uid target copy_stage.First copy_stage.First (progress.Done (reply.Refused why)) how old new began faulted is runs on = unraised_leaves history (copy_claims copy_stage.First) name uid target on.0 old new began faulted runs on.3
-copy_leaves history name uid target (copy_stage.Adding held) copy_stage.First (progress.Done (reply.Copied given)) how old new began faulted is runs on = add_leaves (copy_claims (copy_stage.Adding held)) name uid target held given old new (history old.disk) (history new.disk) began faulted (λ u. refl) on.1
-copy_leaves history name uid target (copy_stage.Adding held) (copy_stage.Adding still) (progress.Done (reply.Refused why)) how old new began faulted is runs on = absurd (fall new.stopped on.3.fell.stopped runs)
-copy_leaves history name uid target (copy_stage.Adding held) (copy_stage.GivingBack still why) progress.More how old new began faulted is runs on = same_leaves history (copy_claims (copy_stage.Adding held)) old new on.1
+copy_leaves history name uid target (copy_stage.Adding held source) copy_stage.First (progress.Done (reply.Copied given)) how old new began faulted is runs on = add_leaves (copy_claims (copy_stage.Adding held source)) name uid target held given old new (history old.disk) (history new.disk) began faulted (λ u. refl) on.1
+copy_leaves history name uid target (copy_stage.Adding held source) (copy_stage.Adding still same) (progress.Done (reply.Refused why)) how old new began faulted is runs on = absurd (fall new.stopped on.3.fell.stopped runs)
+copy_leaves history name uid target (copy_stage.Adding held source) (copy_stage.GivingBack still why) progress.More how old new began faulted is runs on = same_leaves history (copy_claims (copy_stage.Adding held source)) old new on.1
 copy_leaves history name uid target (copy_stage.GivingBack held why) copy_stage.First (progress.Done (reply.Refused given)) how old new began faulted is runs on = lower_leaves held old new (history old.disk) (history new.disk) began faulted (copy_claims (copy_stage.GivingBack held why)) (λ u. refl) on.2
 copy_leaves history name uid target (copy_stage.GivingBack held why) (copy_stage.GivingBack still cause) (progress.Done (reply.Refused given)) how old new began faulted is runs on = absurd (fall new.stopped on.4.stopped runs)
 copy_leaves history name uid target now next answer how old new began faulted is runs on = absurd on
@@ -202,16 +192,16 @@ expunge_leaves history name uid now next answer how old new began then is runs o
 
 pub move_leaves : {D : Type 0} → (history : D → Option History) (name : List ℕ) (uid : Uid) (target : List ℕ) (now next : MoveStage) (answer : Progress) (how : Did) (old new : StoreValue D) (began faulted : Faults) → IsStore (history old.disk) old → new.stopped ≡ false
     → MovesOn name uid target now next answer how old new (history old.disk) (history new.disk) began faulted → LeavesOthers (move_claims now) old new (history old.disk) (history new.disk)
-move_leaves history name uid target move_stage.First (move_stage.Adding held) progress.More how old new began faulted is runs on = raise_leaves (move_claims move_stage.First) name uid target held old new (history old.disk) (history new.disk) began faulted is on.1
+move_leaves history name uid target move_stage.First (move_stage.Adding held source) progress.More how old new began faulted is runs on = raise_leaves (move_claims move_stage.First) name uid target held source old new (history old.disk) (history new.disk) began faulted is on.1
 move_leaves history name uid target move_stage.First move_stage.First (progress.Done (reply.Refused why)) how old new began faulted is runs on = unraised_leaves history (move_claims move_stage.First) name uid target on.0 old new began faulted runs on.3
-move_leaves history name uid target (move_stage.Adding held) (move_stage.Removing still copied) progress.More how old new began faulted is runs on = add_leaves (move_claims (move_stage.Adding held)) name uid target held copied old new (history old.disk) (history new.disk) began faulted (λ u. refl) on.2
-move_leaves history name uid target (move_stage.Adding held) (move_stage.Adding still) (progress.Done (reply.Refused why)) how old new began faulted is runs on = absurd (fall new.stopped on.3.fell.stopped runs)
-move_leaves history name uid target (move_stage.Adding held) (move_stage.GivingBack still why) progress.More how old new began faulted is runs on = same_leaves history (move_claims (move_stage.Adding held)) old new on.1
+move_leaves history name uid target (move_stage.Adding held source) (move_stage.Removing still copied from) progress.More how old new began faulted is runs on = add_leaves (move_claims (move_stage.Adding held source)) name uid target held copied old new (history old.disk) (history new.disk) began faulted (λ u. refl) on.2
+move_leaves history name uid target (move_stage.Adding held source) (move_stage.Adding still same) (progress.Done (reply.Refused why)) how old new began faulted is runs on = absurd (fall new.stopped on.3.fell.stopped runs)
+move_leaves history name uid target (move_stage.Adding held source) (move_stage.GivingBack still why) progress.More how old new began faulted is runs on = same_leaves history (move_claims (move_stage.Adding held source)) old new on.1
 move_leaves history name uid target (move_stage.GivingBack held why) move_stage.First (progress.Done (reply.Refused given)) how old new began faulted is runs on = lower_leaves held old new (history old.disk) (history new.disk) began faulted (move_claims (move_stage.GivingBack held why)) (λ u. refl) on.2
 move_leaves history name uid target (move_stage.GivingBack held why) (move_stage.GivingBack still cause) (progress.Done (reply.Refused given)) how old new began faulted is runs on = absurd (fall new.stopped on.4.stopped runs)
-move_leaves history name uid target (move_stage.Removing held copied) (move_stage.Owing owed same) progress.More how old new began faulted is runs on = remove_leaves (move_claims (move_stage.Removing held copied)) name uid held old new (history old.disk) (history new.disk) began faulted is on.3
-move_leaves history name uid target (move_stage.Removing held copied) move_stage.First (progress.Done (reply.Moved given gone)) how old new began faulted is runs on = same_leaves history (move_claims (move_stage.Removing held copied)) old new on.3
-move_leaves history name uid target (move_stage.Removing held copied) (move_stage.Removing still same) (progress.Done (reply.Refused why)) how old new began faulted is runs on = absurd (fall new.stopped on.4.fell.stopped runs)
+move_leaves history name uid target (move_stage.Removing held copied source) (move_stage.Owing owed same) progress.More how old new began faulted is runs on = remove_leaves (move_claims (move_stage.Removing held copied source)) name uid held old new (history old.disk) (history new.disk) began faulted is on.3
+move_leaves history name uid target (move_stage.Removing held copied source) move_stage.First (progress.Done (reply.Moved given gone)) how old new began faulted is runs on = same_leaves history (move_claims (move_stage.Removing held copied source)) old new on.3
+move_leaves history name uid target (move_stage.Removing held copied source) (move_stage.Removing still same from) (progress.Done (reply.Refused why)) how old new began faulted is runs on = absurd (fall new.stopped on.4.fell.stopped runs)
 move_leaves history name uid target (move_stage.Owing owed copied) move_stage.First (progress.Done (reply.Moved given gone)) how old new began faulted is runs on = lower_leaves owed old new (history old.disk) (history new.disk) began faulted (move_claims (move_stage.Owing owed copied)) (λ u. refl) on.3
 move_leaves history name uid target (move_stage.Owing owed copied) (move_stage.Owing still same) (progress.Done (reply.Refused why)) how old new began faulted is runs on = absurd (fall new.stopped on.4.stopped runs)
 move_leaves history name uid target now next answer how old new began faulted is runs on = absurd on

@@ -14,6 +14,7 @@ pub mod FlagEventLemmas
 pub mod FlagListLemmas
 pub mod KeptRowLemmas
 pub mod KeptUidLemmas
+pub mod LastEventLemmas
 pub mod LeavingLemmas
 pub mod ListEventLemmas
 pub mod LoweringLemmas
@@ -38,4 +39,5 @@ pub mod RowLemmas
 pub mod ShownEntryLemmas
 pub mod StableLemmas
 pub mod StageLemmas
+pub mod ToldLemmas
 pub mod UnlistedLemmas

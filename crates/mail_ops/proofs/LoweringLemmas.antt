@@ -1,5 +1,7 @@
 -- A count that is lowered, by the clause of a step.
 use Rattle.std.proofs.Common.{◌≡◌, ◌≤◌, ◌+◌, ◌-◌, ◌==◌, ◌||◌, ℕ, Bool, true, false, cond, List, [], ◌∷◌, Option, refl, sym, ◌∙◌, ap, subst, arith}
+use Rattle.std.proofs.lemmas.Grind.{common_steps}
+use Rattle.std.proofs.lemmas.Bool.Decides.{nat_tests}
 use Rattle.std.proofs.lemmas.Bool.{eq-eqb}
 use Rattle.disk_model.specs.Disk.{History, Faults, told_calls, Grows}
 use Rattle.mdbox_base.specs.declared.entries.Highest.{Highest}
@@ -38,11 +40,22 @@ one_lowered_fits m uid some = (λ k lt. absurd (omega (arith, lt)), All-cons (λ
 -- ---- what is due
 
 less_one : (b : Bool) (old new : ℕ) → new ≡ old - bit (b || false) → cond b 1 0 ≤ old → new + cond b 1 0 ≡ old
-less_one true old new e l = let f : new ≡ old - 1 = e in let m : 1 ≤ old = l in omega (arith, f, m)
-less_one false old new e l = let f : new ≡ old - 0 = e in omega (arith, f)
+less_one b old new e l = grind (arith, common_steps, nat_tests)
 
 pub lowered_due : {D : Type 0} → (owed : MapUid) (old new : StoreValue D) (uid : ℕ) → one_due owed.0 uid ≤ due_at uid old → due_at uid new ≡ due_by (lowering_of owed) (λ other. due_at other old) uid → due_at uid new + one_due owed.0 uid ≡ due_at uid old
 lowered_due owed old new uid some due = less_one (owed.0 == uid) (due_at uid old) (due_at uid new) due some
+
+pub raised_moves : (old new held uid : ℕ) → new ≡ old + one_due held uid → new + 0 ≡ old + one_due held uid
+raised_moves old new held uid e = omega (arith, e)
+
+pub raised_covers : (old new held uid : ℕ) → new ≡ old + one_due held uid → one_due held uid ≤ new
+raised_covers old new held uid e = omega (arith, e)
+
+pub ended_moves : (old new held uid : ℕ) → new + one_due held uid ≡ old → new + one_due held uid ≡ old + 0
+ended_moves old new held uid e = omega (arith, e)
+
+pub held_still : {D : Type 0} → (held : MapUid) (old new : StoreValue D) → ((other : ℕ) → one_due held.0 other ≤ due_at other old) → ((other : ℕ) → due_at other new ≡ due_at other old) → (other : ℕ) → one_due held.0 other ≤ due_at other new
+held_still held old new due same other = subst (λ (n : ℕ). one_due held.0 other ≤ n) (sym (same other)) (due other)
 
 -- it is due of its own record
 pub one_of_own : (uid : ℕ) → one_due uid uid ≡ 1

@@ -1,5 +1,6 @@
 -- What the calls of a make ask and tell of a store.
 use Rattle.std.proofs.Common.{◌≡◌, ◌≤◌, ◌<◌, ◌+◌, ◌==◌, ◌||◌, ℕ, Bool, true, false, cond, List, [], ◌∷◌, Option, Some, None, refl, sym, ◌∙◌, ap, subst, arith}
+use Rattle.std.proofs.lemmas.Bool.Decides.{nat_tests}
 use Rattle.std.specs.Prelude.{◌≢◌, All, is_some, length, nat_le}
 use Rattle.std.specs.Option.{option_or}
 use Rattle.std.specs.Str.{bytes_eq}
@@ -91,13 +92,10 @@ name_is_new name store (b ∷ bs) (o ∷ os) logs none = by_test (bytes_eq b.nam
     by_test false t k rest = All-cons (λ (x : MapBox). x.name ≢ name) b bs (λ same. let f : true ≡ false = sym ((bytes_eq-Decides b.name name).1 same) ∙ t in cc f) (rest k)
 
 first_free : (a b : Bool) → option_or (refused_where a refusal.Exists) (refused_where b (refusal.TooManyMailboxes 1024)) ≡ None → (a ≡ false) × (b ≡ false)
-first_free true b e = absurd (let k : Some refusal.Exists ≡ None = e in cc k)
-first_free false true e = absurd (let k : Some (refusal.TooManyMailboxes 1024) ≡ None = e in cc k)
-first_free false false e = (refl, refl)
+first_free a b e = grind (arith, common_steps, nat_tests)
 
 not_there : (o : Option BoxMeaning) → is_some o ≡ false → o ≡ None
-not_there None e = refl
-not_there (Some m) e = absurd (let k : true ≡ false = e in cc k)
+not_there o e = grind (arith, common_steps, nat_tests)
 
 -- the entry fits
 pub naming_fits : {D : Type 0} → (history : Option History) (name : List ℕ) (number : ℕ) (store : StoreValue D) → IsStore history store → naming_refusal name store ≡ None → IsNumber number → store.map.highest.mailbox < number → FitsMade store.map number 1 name

@@ -1,5 +1,7 @@
 -- What a make looks at: the checks of its events, by what the store has.
-use Rattle.std.proofs.Common.{◌≡◌, ℕ, Bool, true, false, List, [], ◌∷◌, suc, Option, Some, None, refl, sym, ◌∙◌, ap}
+use Rattle.std.proofs.Common.{◌≡◌, ℕ, Bool, true, false, List, [], ◌∷◌, suc, Option, Some, None, refl, sym, ◌∙◌, ap, arith}
+use Rattle.std.proofs.lemmas.Grind.{common_steps}
+use Rattle.std.proofs.lemmas.Bool.Decides.{nat_tests}
 use Rattle.std.specs.Prelude.{nat_le, length, is_some}
 use Rattle.std.specs.Option.{option_or}
 use Rattle.disk_model.specs.Disk.{History, Faults}
@@ -17,33 +19,26 @@ use Rattle.task_steps.specs.Step.{HasComeTo}
 use Rattle.mail_ops.specs.Making.{naming_refusal, making_refusal}
 use Rattle.store_seen.specs.Seeing.{seen_of}
 use Rattle.mail_ops.proofs.MakeStageLemmas.{naming_part}
-use Rattle.mail_ops.proofs.NamedListLemmas.{Finds, found_by_name}
+use Rattle.mail_ops.proofs.NamedListLemmas.{ShowsBox, shows_box}
 
 -- ---- what is shown
 
-name_there : (name : List ℕ) (lists : Lists) (o : Option BoxMeaning) → Finds name lists o → is_some (mailbox_named name lists) ≡ is_some o
+name_there : (name : List ℕ) (lists : Lists) (o : Option BoxMeaning) → ShowsBox name lists o → is_some (mailbox_named name lists) ≡ is_some o
 name_there name lists None f = ap is_some f
-name_there name lists (Some m) f = ap is_some f.there
+name_there name lists (Some m) f = ap is_some f.named
 
 as_many : (boxes : List MapBox) (meanings : List BoxMeaning) (lists : Lists) → ShowLists boxes meanings lists → length lists ≡ length boxes
 as_many [] [] [] h = refl
-as_many [] [] (l ∷ ls) h = absurd h
-as_many [] (m ∷ ms) [] h = absurd h
-as_many [] (m ∷ ms) (l ∷ ls) h = absurd h
-as_many (b ∷ bs) [] [] h = absurd h
-as_many (b ∷ bs) [] (l ∷ ls) h = absurd h
-as_many (b ∷ bs) (m ∷ ms) [] h = absurd h
 as_many (b ∷ bs) (m ∷ ms) (l ∷ ls) h = ap (λ (n : ℕ). suc n) (as_many bs ms ls h.1)
+as_many boxes meanings lists h = absurd h
 
 -- ---- the checks
 
 or_none : (a : Option Refusal) → option_or a None ≡ a
-or_none None = refl
-or_none (Some r) = refl
+or_none a = grind (arith, common_steps, nat_tests)
 
 or_both : (a b c : Option Refusal) → option_or a (option_or b c) ≡ option_or (option_or a b) c
-or_both None b c = refl
-or_both (Some r) b c = refl
+or_both a b c = grind (arith, common_steps, nat_tests)
 
 abbrev taken_name : Bool → Option Refusal
 taken_name there = refused_where there refusal.Exists
@@ -58,7 +53,7 @@ used_up drawn = refused_where (nat_le 4294967294 drawn) (refusal.StoreFull 42949
 checked_then : {D : Type 0} → (run : Run) (name : List ℕ) (store : StoreValue D) (lists : Lists) (rest : List Check) → ShowLists store.map.boxes (indexes_of store.boxes) lists
     → first_refusal run lists (IsNewName name ∷ RoomForMailbox ∷ rest) ≡ option_or (naming_refusal name store) (first_refusal run lists rest)
 checked_then run name store lists rest h =
-    ap (λ (b : Bool). option_or (taken_name b) (option_or (full_store (length lists)) (first_refusal run lists rest))) (name_there name lists (list_named store name) (found_by_name name store.map.boxes (indexes_of store.boxes) lists h))
+    ap (λ (b : Bool). option_or (taken_name b) (option_or (full_store (length lists)) (first_refusal run lists rest))) (name_there name lists (list_named store name) (shows_box name store.map.boxes (indexes_of store.boxes) lists h))
     ∙ (ap (λ (n : ℕ). option_or (taken_name (is_some (list_named store name))) (option_or (full_store n) (first_refusal run lists rest))) (as_many store.map.boxes (indexes_of store.boxes) lists h)
     ∙ or_both (taken_name (is_some (list_named store name))) (full_store (length store.map.boxes)) (first_refusal run lists rest))
 
@@ -78,17 +73,13 @@ why_steps : (a why : Refusal) → Some a ≡ Some why → is_step a ≡ true →
 why_steps a why e s = let same : a ≡ why = cc e in sym (ap is_step same) ∙ s
 
 two_step : (a b : Bool) (why : Refusal) → option_or (refused_where a refusal.Exists) (refused_where b (refusal.TooManyMailboxes 1024)) ≡ Some why → is_step why ≡ true
-two_step true b why e = why_steps refusal.Exists why e refl
-two_step false true why e = why_steps (refusal.TooManyMailboxes 1024) why e refl
-two_step false false why e = absurd (let k : None ≡ Some why = e in cc k)
+two_step a b why e = grind (arith, common_steps, nat_tests)
 
 pub naming_steps : {D : Type 0} → (name : List ℕ) (store : StoreValue D) (why : Refusal) → naming_refusal name store ≡ Some why → is_step why ≡ true
 naming_steps name store why e = two_step (is_some (list_named store name)) (nat_le 1024 (length store.map.boxes)) why e
 
 three_step : (first : Option Refusal) (c : Bool) (why : Refusal) → ((w : Refusal) → first ≡ Some w → is_step w ≡ true) → option_or first (refused_where c (refusal.StoreFull 4294967294)) ≡ Some why → is_step why ≡ true
-three_step (Some w) c why first e = first why e
-three_step None true why first e = why_steps (refusal.StoreFull 4294967294) why e refl
-three_step None false why first e = absurd (let k : None ≡ Some why = e in cc k)
+three_step first c why f e = grind (arith, common_steps, nat_tests)
 
 pub making_steps : {D : Type 0} → (name : List ℕ) (store : StoreValue D) (why : Refusal) → making_refusal name store ≡ Some why → is_step why ≡ true
 making_steps name store why e = three_step (naming_refusal name store) (nat_le 4294967294 store.drawn.mailbox) why (naming_steps name store) e

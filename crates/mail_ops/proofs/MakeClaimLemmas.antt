@@ -1,5 +1,7 @@
 -- What a make claims, and what its events leave to the tasks beside it.
 use Rattle.std.proofs.Common.{◌≡◌, ◌≤◌, ◌+◌, ◌==◌, ◌||◌, ℕ, Bool, true, false, not, cond, List, [], ◌∷◌, ◌++◌, map, Option, refl, sym, ◌∙◌, ap, subst, arith}
+use Rattle.std.proofs.lemmas.Grind.{common_steps}
+use Rattle.std.proofs.lemmas.Bool.Decides.{nat_tests}
 use Rattle.std.specs.Prelude.{count_by}
 use Rattle.std.specs.List.{list_any}
 use Rattle.std.specs.Str.{bytes_eq}
@@ -22,11 +24,12 @@ use Rattle.store_core.specs.MadeLogs.{has_made_log, without_box}
 use Rattle.store_core.specs.Value.{StoreValue, indexes_of, references_to}
 use Rattle.store_core.specs.declared.store.OpenBox.{OpenBox}
 use Rattle.task_claims.specs.Claims.{ClaimsNothing, Due, Emptied, Held, Made, MovesClaims, Pinned, PlacingPieces, Removing, Taken, amount_in, one_if}
-use Rattle.task_claims.specs.Leaving.{LeavesOthers, RaisesNone, SameButCounts, SyncsMail, but_count}
+use Rattle.task_claims.specs.Leaving.{NamesStay, LeavesOthers, RaisesNone, SameButCounts, SyncsMail, but_count}
 use Rattle.task_claims.proofs.CountedLemmas.{same_map, unraised_same}
 use Rattle.task_claims.proofs.RestLemmas.{rest_leaves}
 use Rattle.mdbox_base.specs.declared.entries.MapEntry.TheVariants as map_entry
-use Rattle.mail_ops.proofs.LeavingLemmas.{highest_rises, same_highest}
+use Rattle.task_claims.proofs.NameLemmas.{names_stay_named, names_stay_same}
+use Rattle.mail_ops.proofs.KeptUidLemmas.{highest_rises, same_highest}
 use Rattle.mail_ops.specs.Claims.{own_log_of, make_claims}
 use Rattle.mail_ops.specs.Making.{IsReadyToMake, KeepsAllButLogs, MakeAnswers, MakesLog}
 use Rattle.mail_ops.specs.declared.event.NotDone.TheVariants as not_done
@@ -37,12 +40,10 @@ use Rattle.mail_ops.proofs.EventLemmas.{fall}
 -- ---- logs that were made
 
 first_or : (a : Bool) → (a || false) ≡ a
-first_or true = refl
-first_or false = refl
+first_or a = grind (arith, common_steps, nat_tests)
 
 last_or : (a b : Bool) → b ≡ true → (a || b) ≡ true
-last_or true b e = refl
-last_or false b e = e
+last_or a b e = grind (arith, common_steps, nat_tests)
 
 -- one more, which is the task's own
 log_more : {D : Type 0} → (number : ℕ) (old new : StoreValue D) → MakesLog number old new → (other : ℕ) → one_if (has_made_log other new) + 0 ≡ one_if (has_made_log other old) + one_if (number == other)
@@ -115,6 +116,7 @@ pub record MakeChanges {D : Type 0} (now next : MakeStage) (old new : StoreValue
   pub same : SameButCounts old.map new.map
   pub unraised : RaisesNone old.map new.map
   pub mailboxes : old.map.highest.mailbox ≤ new.map.highest.mailbox
+  pub names : NamesStay old.map new.map
   pub room : old.map_log.room ≤ new.map_log.room
   pub refs : (guid : List ℕ) → references_to new guid ≡ references_to old guid
   pub logs : (number : ℕ) → one_if (has_made_log number new) + own_log_of now number ≡ one_if (has_made_log number old) + own_log_of next number
@@ -128,6 +130,7 @@ nothing_changed now old new map_is log boxes made = record {
   same = same_map old.map new.map map_is;
   unraised = unraised_same old.map new.map (ap (λ (m : MapMeaning). m.records) map_is);
   mailboxes = same_highest old.map new.map map_is;
+  names = names_stay_same old.map new.map map_is;
   room = same_room old.map_log new.map_log log;
   refs = λ guid. ap (λ (bs : List OpenBox). refs_in (indexes_of bs) guid) boxes;
   logs = λ number. ap (λ (bs : List OpenBox). one_if (list_any (HasNumber number) bs) + own_log_of now number) made;
@@ -138,6 +141,7 @@ log_removed number old new same there = record {
   same = same_map old.map new.map (ap (λ (v : StoreValue _). v.map) same);
   unraised = unraised_same old.map new.map (ap (λ (v : StoreValue _). v.map.records) same);
   mailboxes = same_highest old.map new.map (ap (λ (v : StoreValue _). v.map) same);
+  names = names_stay_same old.map new.map (ap (λ (v : StoreValue _). v.map) same);
   room = same_room old.map_log new.map_log (ap (λ (v : StoreValue _). v.map_log) same);
   refs = λ guid. ap (λ (v : StoreValue _). references_to v guid) same;
   logs = log_less number.0 old new (ap (λ (v : StoreValue _). v.made) same) there;
@@ -148,6 +152,7 @@ make_changes name make_stage.First (make_stage.Naming number) progress.More old 
   same = same_map old.map new.map (ap (λ (v : StoreValue _). v.map) a.1.same);
   unraised = unraised_same old.map new.map (ap (λ (v : StoreValue _). v.map.records) a.1.same);
   mailboxes = same_highest old.map new.map (ap (λ (v : StoreValue _). v.map) a.1.same);
+  names = names_stay_same old.map new.map (ap (λ (v : StoreValue _). v.map) a.1.same);
   room = same_room old.map_log new.map_log (ap (λ (v : StoreValue _). v.map_log) a.1.same);
   refs = λ guid. ap (λ (v : StoreValue _). references_to v guid) a.1.same;
   logs = log_more number.0 old new a.1;
@@ -159,6 +164,7 @@ make_changes name (make_stage.Naming number) make_stage.First (progress.Done rep
   same = ap (λ (m : MapMeaning). map but_count m.records) a.2.map ∙ ap (map but_count) (records_by_mailbox number 1 name old.map.records);
   unraised = unraised_same old.map new.map (ap (λ (m : MapMeaning). m.records) a.2.map ∙ records_by_mailbox number 1 name old.map.records);
   mailboxes = subst (λ (m : MapMeaning). old.map.highest.mailbox ≤ m.highest.mailbox) (sym a.2.map) (highest_rises (map_entry.B number 1 name) old.map);
+  names = names_stay_named number 1 name old.map new.map a.2.map;
   room = a.2.room;
   refs = λ guid. ap (λ (ms : List BoxMeaning). refs_in ms guid) a.2.indexes ∙ refs_of_new (indexes_of old.boxes) guid;
   logs = log_less number.0 old new a.2.made ready;
@@ -186,7 +192,7 @@ same_due a b e = omega (arith, e)
 pub make_leaves : {D : Type 0} → (now next : MakeStage) (old new : StoreValue D) (before after : Option History) → MakeChanges now next old new → Moves no_amounts no_amounts (amounts_in old) (amounts_in new) → KeepsAllButLogs old new → SyncsMail before after → KeepsUids old new
     → LeavesOthers (make_claims now) old new before after
 make_leaves now next old new before after c moves rest mail keeps =
-    rest_leaves (make_claims now) old new before after (ap (λ (v : StoreValue _). v.files) rest) (ap (λ (v : StoreValue _). v.instances) rest) mail c.same c.unraised c.mailboxes keeps c.room
+    rest_leaves (make_claims now) old new before after (ap (λ (v : StoreValue _). v.files) rest) (ap (λ (v : StoreValue _). v.instances) rest) mail c.same c.unraised c.mailboxes c.names keeps c.room
     (λ uid rec none found listed. (c.refs rec.guid ∙ listed, same_due (amount_in (Due uid) new) (amount_in (Due uid) old) (moves.due uid)))
 
 -- a make that has no log of its own

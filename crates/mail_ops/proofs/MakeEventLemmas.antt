@@ -1,5 +1,6 @@
 -- The events of a make that name no mailbox, by the clause of a step.
 use Rattle.std.proofs.lemmas.List.Elements.{All-nil}
+use Rattle.std.proofs.lemmas.Bool.Decides.{nat_tests}
 use Rattle.std.proofs.Common.{◌≡◌, ◌≤◌, ◌<◌, ◌+◌, ◌&&◌, ℕ, Bool, true, false, List, [], ◌∷◌, ◌++◌, Option, Some, None, refl, sym, ◌∙◌, ap, subst, arith, inr}
 use Rattle.std.specs.Prelude.{◌≢◌, ◌↔◌, nat_le, length, slice_get, is_none}
 use Rattle.std.specs.Option.{IfSome}
@@ -39,12 +40,14 @@ use Rattle.mail_ops.specs.Making.{IsAtMake, naming_refusal, making_refusal, with
 use Rattle.store_seen.specs.Seeing.{seen_of}
 use Rattle.mail_ops.specs.declared.making.MakeStage.{MakeStage}
 use Rattle.mail_ops.specs.declared.making.MakeStage.TheVariants as stage
-use Rattle.mail_ops.proofs.EventLemmas.{DidBy, stands_by, fall, no_refusal, no_reply, some_reply, one_reply, last_with, StaysSo, comes_along, memory_calm, CanRefuse, did_refused, did_unstepped, did_stop, did_fall, did_check, did_part, ends_well}
+use Rattle.mail_ops.proofs.EventLemmas.{DidBy, stands_by, fall, no_refusal, no_reply, some_reply, one_reply, StaysSo, comes_along, memory_calm, CanRefuse, did_refused, did_unstepped, did_stop, did_fall, did_check, did_part, ends_well, own_event}
 use Rattle.store_seen.proofs.SeeingLemmas.{due_as_before, tells_as_before}
 use Rattle.mail_ops.proofs.FlagEventLemmas.{shown_on}
+use Rattle.mail_ops.proofs.LastEventLemmas.{last_with}
 use Rattle.mail_ops.proofs.MakeCheckLemmas.{naming_checked, making_checked, naming_steps, making_steps}
 use Rattle.mail_ops.proofs.MakeStageLemmas.{first_next, naming_part, naming_next, makes_log_then, starts_over_then}
 use Rattle.mail_ops.proofs.RemovalLemmas.{store_tells}
+use Rattle.mail_ops.proofs.ToldLemmas.{some_part}
 
 -- the clause of a step of a make
 abbrev pub MakeClause : {D : Type 0} → List ℕ → MakeStage → MakeStage → StoreValue D → StoreValue D → Option History → Option History → Faults → Faults → Did → Option Reply → Type 0
@@ -69,8 +72,7 @@ first_refuses around run place said name why stood = can_refuse around run place
 
 -- the second event, whichever part it is; out of memory only if it isn't overtaken
 naming_memory : (name : List ℕ) (overtaken : Bool) → overtaken ≡ false → has_memory (naming_part overtaken) (request.Make name) ≡ false
-naming_memory name true e = absurd (let k : true ≡ false = e in cc k)
-naming_memory name false e = refl
+naming_memory name overtaken e = grind (arith, common_steps, nat_tests)
 
 pub naming_refuses : (around : Around) (run : Run) (place : ℕ) (said : List Reply) (name : List ℕ) (number : ℕ) (m : MapMeaning) (overtaken : Bool) (why : Refusal) → nat_le number m.highest.mailbox ≡ overtaken → HasMadeLog number run place said → map_of run ≡ m → (why ≡ refusal.NoMemory → overtaken ≡ false)
     → CanRefuse around run place (request.Make name) (naming_part overtaken) why (Some (reply.Refused why))
@@ -84,23 +86,10 @@ abbrev pub IsMakeWhy : Refusal → Type 0
 IsMakeWhy why = (is_step why ≡ true) × (Some (reply.Refused why) ≡ Some (reply.Refused refusal.Stopped) → ⊥)
 
 pub step_why : (why : Refusal) → is_step why ≡ true → IsMakeWhy why
-step_why why s = (s, λ e. not_stopped why s (let k : reply.Refused why ≡ reply.Refused refusal.Stopped = cc e in cc k))
-  where
-    not_stopped : (w : Refusal) → is_step w ≡ true → w ≡ refusal.Stopped → ⊥
-    not_stopped w t e = let k : true ≡ false = sym t ∙ ap is_step e in cc k
+step_why why s = grind (arith, common_steps, nat_tests)
 
 step_replied : (name : List ℕ) (why : Refusal) → is_step why ≡ true → IsReplyOf (request.Make name) (reply.Refused why ∷ []) (reply.Refused why)
-step_replied name refusal.NoMailbox s = refl
-step_replied name refusal.Exists s = refl
-step_replied name refusal.NoMessage s = refl
-step_replied name (refusal.TooManyCopies n) s = refl
-step_replied name (refusal.MailboxFull n) s = refl
-step_replied name (refusal.TooManyMailboxes n) s = refl
-step_replied name (refusal.StoreFull n) s = refl
-step_replied name refusal.NoMemory s = absurd (cc s)
-step_replied name refusal.ReadFault s = absurd (cc s)
-step_replied name refusal.Stopped s = absurd (cc s)
-step_replied name (refusal.Damaged file offset) s = absurd (cc s)
+step_replied name why s = grind (arith, common_steps, nat_tests)
 
 -- of a request that hasn't answered anything before
 why_replied : (name : List ℕ) (said : List Reply) (why : Refusal) → said ≡ [] → is_step why ≡ true → (given : Reply) → Some (reply.Refused why) ≡ Some given → IsReplyOf (request.Make name) (said ++ reply.Refused why ∷ []) given
@@ -335,9 +324,6 @@ making_fell name next old new before after began then ran same f = λ around beh
       λ e. absurd (never_more _ e),
     )
 
-some_part : (p : EventPart) → Some p ≡ None → ⊥
-some_part p e = cc e
-
 makes_on : (overtaken : Bool) → behind_make overtaken First ≡ None → ⊥
 makes_on true e = some_part StartsOver e
 makes_on false e = some_part Last e
@@ -464,13 +450,7 @@ naming_overtaken name number old new before after began then ran free behind_it 
     stands_by around behind run lane place said (request.Make name) lists seen later did.Quiet None event None (IsAtMake stage.First)
     (did_part around behind run lane place said (request.Make name) lists lists seen later did.Quiet None None event
     (record {
-      lane_is = refl;
-      request_is = refl;
-      moment_is = refl;
-      ended_is = refl;
-      unrefused = refl;
-      undrawn = refl;
-      leaves = record { made = refl; pins = refl; unpins = refl; doomed = refl; removed = refl; given = refl; placed = refl; gone = refl };
+      own = own_event _ _ _ _ _ _ _ _ _ refl;
       finds = tt;
       found = tt;
       part_is = naming_next around run name place said number.0 old.map stood come.come.map_is ∙ ap (λ (b : Bool). Some (naming_part b)) (overtaken_is number.0 old.map.highest.mailbox behind_it);

@@ -35,11 +35,12 @@ use Rattle.mail_ops.specs.Making.{NamesLog, IsStoppedSo, CanBeNamed, HasChangedD
 use Rattle.store_seen.specs.Seeing.{seen_of}
 use Rattle.mail_ops.specs.declared.making.MakeStage.{MakeStage}
 use Rattle.mail_ops.specs.declared.making.MakeStage.TheVariants as stage
-use Rattle.mail_ops.proofs.EventLemmas.{one_fits, some_reply, one_reply, did_fall, did_part, ends_well}
+use Rattle.mail_ops.proofs.EventLemmas.{one_fits, some_reply, one_reply, did_fall, did_part, ends_well, own_event}
 use Rattle.mail_ops.proofs.LoweringLemmas.{comes_with}
 use Rattle.mail_ops.proofs.MakeCheckLemmas.{naming_checked}
 use Rattle.mail_ops.proofs.MakeEventLemmas.{MakeClause, naming_refuses, stops_memory, in_turn, above_not, stopped_stays, stopped_shows}
-use Rattle.mail_ops.proofs.MakeStageLemmas.{none_with, naming_part, naming_next}
+use Rattle.mail_ops.proofs.LastEventLemmas.{last_before}
+use Rattle.mail_ops.proofs.MakeStageLemmas.{naming_part, naming_next}
 use Rattle.mail_ops.proofs.MessageLemmas.{store_is_sound}
 use Rattle.mail_ops.proofs.RemovalLemmas.{store_tells}
 
@@ -48,27 +49,17 @@ use Rattle.mail_ops.proofs.RemovalLemmas.{store_tells}
 -- the mailboxes that are shown have numbers up to the highest
 shown_below : (highest number : ℕ) (boxes : List MapBox) (meanings : List BoxMeaning) (lists : Lists) → ShowLists boxes meanings lists → All (IsSoundMapBox highest) boxes → highest < number → All (λ (x : Mailbox). x.number < number) lists
 shown_below highest number [] [] [] h sound above = All-nil (λ (x : Mailbox). x.number < number)
-shown_below highest number [] [] (l ∷ ls) h sound above = absurd h
-shown_below highest number [] (m ∷ ms) [] h sound above = absurd h
-shown_below highest number [] (m ∷ ms) (l ∷ ls) h sound above = absurd h
-shown_below highest number (b ∷ bs) [] [] h sound above = absurd h
-shown_below highest number (b ∷ bs) [] (l ∷ ls) h sound above = absurd h
-shown_below highest number (b ∷ bs) (m ∷ ms) [] h sound above = absurd h
 shown_below highest number (b ∷ bs) (m ∷ ms) (l ∷ ls) h sound above =
     let own : b.number ≤ highest = (All-head (IsSoundMapBox highest) b bs sound).below in
     let same : l.number ≡ b.number = h.0.number in
     All-cons (λ (x : Mailbox). x.number < number) l ls (omega (arith, own, same, above)) (shown_below highest number bs ms ls h.1 (All-tail (IsSoundMapBox highest) b bs sound) above)
+shown_below highest number boxes meanings lists h sound above = absurd h
 
 -- one mailbox more is shown last
 shows_more : (boxes : List MapBox) (meanings : List BoxMeaning) (lists : Lists) (b : MapBox) (m : BoxMeaning) (x : Mailbox) → ShowLists boxes meanings lists → ShowsMailbox b m x → ShowLists (boxes ++ b ∷ []) (meanings ++ m ∷ []) (lists ++ x ∷ [])
 shows_more [] [] [] b m x h last = (last, tt)
-shows_more [] [] (l ∷ ls) b m x h last = absurd h
-shows_more [] (n ∷ ns) [] b m x h last = absurd h
-shows_more [] (n ∷ ns) (l ∷ ls) b m x h last = absurd h
-shows_more (c ∷ cs) [] [] b m x h last = absurd h
-shows_more (c ∷ cs) [] (l ∷ ls) b m x h last = absurd h
-shows_more (c ∷ cs) (n ∷ ns) [] b m x h last = absurd h
 shows_more (c ∷ cs) (n ∷ ns) (l ∷ ls) b m x h last = (h.0, shows_more cs ns ls b m x h.1 last)
+shows_more boxes meanings lists b m x h last = absurd h
 
 shows_empty : (number : BoxNo) (name : List ℕ) → ShowsMailbox (box_named number name) (box_meaning []) (empty_mailbox number.0 name)
 shows_empty number name = record { number = refl; name = refl; next = refl; rows = refl }
@@ -128,13 +119,7 @@ naming_done name number next old new before after began then is ran n named d = 
     ) in (
       (did_part around behind run lane place said (request.Make name) lists left seen later (did.Step half.Whole) (Some reply.Done) (Some reply.Done) event
           (record {
-            lane_is = refl;
-            request_is = refl;
-            moment_is = refl;
-            ended_is = refl;
-            unrefused = refl;
-            undrawn = refl;
-            leaves = record { made = refl; pins = refl; unpins = refl; doomed = refl; removed = refl; given = refl; placed = refl; gone = refl };
+            own = own_event _ _ _ _ _ _ _ _ _ refl;
             finds = tt;
             found = tt;
             part_is = naming_next around run name place said number.0 old.map stood come.come.map_is ∙ ap (λ (b : Bool). Some (naming_part b)) (above_not number.0 old.map.highest.mailbox n.can.above);
@@ -142,7 +127,7 @@ naming_done name number next old new before after began then is ran n named d = 
             fits = one_fits run seen (map_entry.B (record { 0 = number_of run place }) 1 name) come (subst (λ (k : ℕ). MapFits old.map (map_entry.B (record { 0 = k }) 1 name)) (sym stood.2) (naming_fits before name number.0 old is n.can.free n.is_number n.can.above));
             did = refl;
             ends = record { 0 = λ h. refl; 1 = λ h e. some_reply reply.Done e };
-            replied = none_with (own_events place run) event stood.0.unrefused refl;
+            replied = last_before (own_events place run) event refl ∙ stood.0.unrefused;
           }) come
           (comes_with run event (map_entry.B (record { 0 = number_of run place }) 1 name) seen later come (subst (λ (k : ℕ). new.map ≡ map_applied (map_entry.B (record { 0 = k }) 1 name) old.map) (sym stood.2) named.map) (ap (λ (s : StoreValue _). s.drawn) named.same) d.change.grows refl refl refl)
           (λ uid. let e = named_due old new number name uid named in omega (arith, e))

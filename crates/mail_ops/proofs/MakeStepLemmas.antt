@@ -1,5 +1,6 @@
 -- What the step of a make says, event by event.
 use Rattle.std.proofs.Common.{◌≡◌, ◌≤◌, ◌<◌, ◌+◌, ℕ, Bool, true, false, cond, List, Option, Some, None, refl, sym, ◌∙◌, ap, subst, arith, inl, inr}
+use Rattle.std.proofs.lemmas.Bool.Decides.{nat_tests}
 use Rattle.std.specs.Prelude.{◌⊎◌, nat_lt}
 use Rattle.std.proofs.lemmas.Grind.{common_steps}
 use Rattle.disk_model.specs.Disk.{History, Faults}
@@ -38,6 +39,7 @@ use Rattle.mail_ops.proofs.MakeCheckLemmas.{naming_steps, making_steps}
 use Rattle.mail_ops.proofs.MakeEventLemmas.{MakeClause, first_stopped, naming_stopped, making_refused, making_unremembered, making_fell, making_done, naming_refused, naming_unremembered, removing_fell, naming_overtaken}
 use Rattle.mail_ops.proofs.MakeLogLemmas.{made_there, naming_keeps}
 use Rattle.mail_ops.proofs.MakeNamedLemmas.{IsNamedSo, named_due, naming_done, naming_fell}
+use Rattle.mail_ops.proofs.ToldLemmas.{done_more, memory_runs, more_is, step_runs, why_is}
 
 -- what a step says of an event
 pub record MakeKnown {D : Type 0} (name : List ℕ) (now next : MakeStage) (answer : Progress) (how : Did) (old new : StoreValue D) (before after : Option History) (began then : Faults) : Type 0 where
@@ -59,23 +61,8 @@ pub record MakeBegins {D : Type 0} (name : List ℕ) (now : MakeStage) (store : 
 
 -- ---- answers that are told apart
 
-more_is : (given : Reply) → progress.More ≡ progress.Done given → ⊥
-more_is given e = cc e
-
-done_more : (given : Reply) → progress.Done given ≡ progress.More → ⊥
-done_more given e = cc e
-
 made_stopped : progress.Done reply.Done ≡ progress.Done (reply.Refused refusal.Stopped) → ⊥
 made_stopped e = let k : reply.Done ≡ reply.Refused refusal.Stopped = cc e in cc k
-
-why_is : (a b : Refusal) → progress.Done (reply.Refused a) ≡ progress.Done (reply.Refused b) → a ≡ b
-why_is a b e = let k : reply.Refused a ≡ reply.Refused b = cc e in cc k
-
-step_runs : (why : Refusal) → is_step why ≡ true → why ≡ refusal.Stopped → ⊥
-step_runs why s e = let k : true ≡ false = sym s ∙ ap is_step e in cc k
-
-memory_runs : refusal.NoMemory ≡ refusal.Stopped → ⊥
-memory_runs e = cc e
 
 -- ---- the first event
 
@@ -83,8 +70,7 @@ high_number : (highest drawn number : ℕ) → highest ≤ drawn → number ≡ 
 high_number highest drawn number l e = let k : highest < number = omega (arith, l, e) in grind (arith, common_steps, k)
 
 one_left : (b : Bool) → b ≡ true → cond b 1 3 < 2
-one_left true e = omega arith
-one_left false e = absurd (let k : false ≡ true = e in cc k)
+one_left b e = grind (arith, common_steps, nat_tests)
 
 known_made : {D : Type 0} → (name : List ℕ) (number : BoxNo) (old new : StoreValue D) (before after : Option History) (began then : Faults) → MakeBegins name stage.First old before → MadeLogSo name number.0 old new before after began then
     → MakeKnown name stage.First (stage.Naming number) progress.More did.Quiet old new before after began then
@@ -93,7 +79,7 @@ known_made name number old new before after began then b m = record {
   does = making_done name number old new before after began then b.runs m;
   keeps = done_keeps (KeepsAllButLogs old new) _ _ _ old new before after began then b.runs (ap (λ (s : StoreValue _). s.stopped) m.log.same ∙ b.runs) (more_is (reply.Refused refusal.Stopped)) m.disk.unfailed (rest_of m.log.same) (record { stays = m.disk.change.stays; left = λ same. mail_named number.0 before after m.others });
   moves = moves_as no_amounts (amounts_in old) (amounts_in new) (λ uid. due_as_before old new uid map_is (ap (λ (s : StoreValue _). s.dues) m.log.same));
-  uids = logs_keep old new (ap (λ (s : StoreValue _). s.map.boxes) m.log.same) (ap (λ (s : StoreValue _). indexes_of s.boxes) m.log.same);
+  uids = logs_keep old new map_is (ap (λ (s : StoreValue _). indexes_of s.boxes) m.log.same);
   replies = (m.free, m.log, m.others);
   left = λ e. one_left (nat_lt new.map.highest.mailbox number.0) (ap (λ (s : StoreValue _). nat_lt s.map.highest.mailbox number.0) m.log.same ∙ high_number old.map.highest.mailbox old.drawn.mailbox number.0 b.store_is.drawn.mailbox m.log.next);
 }
@@ -138,7 +124,7 @@ known_fell name old new before after began then b n f = record {
   does = making_fell name stage.First old new before after began then b.runs n.0 f;
   keeps = fell_keeps (KeepsAllButLogs old new) _ _ old new before after began then b.runs stops f.change.reads f.change.changes f.rose (rest_of n.0) f.change.stays;
   moves = moves_as no_amounts (amounts_in old) (amounts_in new) (λ uid. due_as_before old new uid (ap (λ (s : StoreValue _). s.map) n.0) (ap (λ (s : StoreValue _). s.dues) n.0));
-  uids = logs_keep old new (ap (λ (s : StoreValue _). s.map.boxes) n.0) (ap (λ (s : StoreValue _). indexes_of s.boxes) n.0);
+  uids = logs_keep old new (ap (λ (s : StoreValue _). s.map) n.0) (ap (λ (s : StoreValue _). indexes_of s.boxes) n.0);
   replies = (not_done.Stopped, refl, n);
   left = λ e. absurd (done_more (reply.Refused refusal.Stopped) e);
 }
@@ -154,10 +140,8 @@ KnownBy history faults name now next answer how old new = MakeKnown name now nex
 
 known_unmade : {D : Type 0} → (history : D → Option History) (faults : D → Faults) (name : List ℕ) (error : NotDone) (old new : StoreValue D) → MakeBegins name stage.First old (history old.disk) → IsLogNotMade name error old new → FellIfStopped error (history old.disk) (history new.disk) (faults old.disk) (faults new.disk)
     → KnownBy history faults name stage.First stage.First (progress.Done (reply.Refused (refusal_told error))) (told_as half.Whole did.Failed error) old new
-known_unmade history faults name (not_done.Refused why) old new b n f =
-    subst (λ (s : StoreValue _). KnownBy history faults name stage.First stage.First (progress.Done (reply.Refused why)) (did.Step half.Whole) old s) (sym n.0) (known_refused name why old (history old.disk) (faults old.disk) b n.1)
-known_unmade history faults name not_done.NoMemory old new b n f =
-    subst (λ (s : StoreValue _). KnownBy history faults name stage.First stage.First (progress.Done (reply.Refused refusal.NoMemory)) did.Quiet old s) (sym n.0) (known_unremembered name old (history old.disk) (faults old.disk) b n.1)
+known_unmade history faults name (not_done.Refused why) old new b n f = rw n.0 (known_refused name why old (history old.disk) (faults old.disk) b n.1)
+known_unmade history faults name not_done.NoMemory old new b n f = rw n.0 (known_unremembered name old (history old.disk) (faults old.disk) b n.1)
 known_unmade history faults name not_done.Stopped old new b n f = known_fell name old new (history old.disk) (history new.disk) (faults old.disk) (faults new.disk) b n f
 
 -- ---- the second event
@@ -172,7 +156,7 @@ known_named name number old new before after began then b can n mail d = record 
   does = naming_done name number stage.First old new before after began then b.store_is b.runs (named_so name number old before b can) n d;
   keeps = done_keeps (KeepsAllButLogs old new) _ _ _ old new before after began then b.runs (ap (λ (s : StoreValue _). s.stopped) n.same ∙ b.runs) made_stopped d.unfailed (rest_of n.same) (took_spares (new.stopped ≡ old.stopped) before after d.change.stays mail);
   moves = moves_as no_amounts (amounts_in old) (amounts_in new) (λ uid. named_due old new number name uid n);
-  uids = naming_keeps number name old new n;
+  uids = naming_keeps before number name old new b.store_is can.above n;
   replies = (can.free, can.above, n, mail);
   left = λ e. absurd (done_more reply.Done e);
 }
@@ -191,7 +175,7 @@ pub record RemovedKnown {D : Type 0} (now : MakeStage) (old new : StoreValue D) 
 removed_known : {D : Type 0} → (number : BoxNo) (old new : StoreValue D) (before after : Option History) (began then : Faults) → RemovesLog number.0 old new before after → HasChangedDisk same_lists before after began then → RemovedKnown (stage.Naming number) old new before after
 removed_known number old new before after began then r d = record {
   moves = moves_as no_amounts (amounts_in old) (amounts_in new) (λ uid. due_as_before old new uid map_is (ap (λ (s : StoreValue _). s.dues) r.same));
-  uids = logs_keep old new (ap (λ (s : StoreValue _). s.map.boxes) r.same) (ap (λ (s : StoreValue _). indexes_of s.boxes) r.same);
+  uids = logs_keep old new map_is (ap (λ (s : StoreValue _). indexes_of s.boxes) r.same);
   rest = rest_of r.same;
   mail = mail_named number.0 before after r.others;
   runs = ap (λ (s : StoreValue _). s.stopped) r.same;
@@ -222,8 +206,7 @@ not_above : (highest number : ℕ) → number ≤ highest → nat_lt highest num
 not_above highest number l = grind (arith, common_steps, l)
 
 two_left : (b : Bool) → b ≡ false → 2 < cond b 1 3
-two_left true e = absurd (let k : true ≡ false = e in cc k)
-two_left false e = omega arith
+two_left b e = grind (arith, common_steps, nat_tests)
 
 -- the request begins anew
 known_overtaken : {D : Type 0} → (name : List ℕ) (number : BoxNo) (old new : StoreValue D) (before after : Option History) (began then : Faults) → MakeBegins name (stage.Naming number) old before → naming_refusal name old ≡ None → number.0 ≤ old.map.highest.mailbox → RemovesLog number.0 old new before after
@@ -248,7 +231,7 @@ known_stopped name number how left old new before after began then b same f does
   does = does;
   keeps = fell_keeps (KeepsAllButLogs old new) _ _ old new before after began then b.runs stops f.change.reads f.change.changes f.rose (rest_of same) f.change.stays;
   moves = moves_as no_amounts (amounts_in old) (amounts_in new) (λ uid. due_as_before old new uid (ap (λ (s : StoreValue _). s.map) same) (ap (λ (s : StoreValue _). s.dues) same));
-  uids = logs_keep old new (ap (λ (s : StoreValue _). s.map.boxes) same) (ap (λ (s : StoreValue _). indexes_of s.boxes) same);
+  uids = logs_keep old new (ap (λ (s : StoreValue _). s.map) same) (ap (λ (s : StoreValue _). indexes_of s.boxes) same);
   replies = (refl, refl, same);
   left = λ e. absurd (done_more (reply.Refused refusal.Stopped) e);
 }
@@ -263,15 +246,10 @@ known_stopped name number how left old new before after began then b same f does
 
 known_by : {D : Type 0} → (history : D → Option History) (faults : D → Faults) (name : List ℕ) (now next : MakeStage) (answer : Progress) (how : Did) (old new : StoreValue D) → MakeBegins name now old (history old.disk) → MakesOn name now next answer how old new (history old.disk) (history new.disk) (faults old.disk) (faults new.disk)
     → KnownBy history faults name now next answer how old new
-known_by history faults name stage.First (stage.Naming number) progress.More how old new b on =
-    subst (λ (h : Did). KnownBy history faults name stage.First (stage.Naming number) progress.More h old new) (sym on.0) (known_made name number old new (history old.disk) (history new.disk) (faults old.disk) (faults new.disk) b on.1)
-known_by history faults name stage.First stage.First (progress.Done (reply.Refused why)) how old new b on =
-    subst (λ (h : Did). KnownBy history faults name stage.First stage.First (progress.Done (reply.Refused why)) h old new) (sym on.2)
-    (subst (λ (w : Refusal). KnownBy history faults name stage.First stage.First (progress.Done (reply.Refused w)) (told_as half.Whole did.Failed on.0) old new) (sym on.1) (known_unmade history faults name on.0 old new b on.3 on.4))
-known_by history faults name (stage.Naming number) stage.First (progress.Done reply.Done) how old new b on =
-    subst (λ (h : Did). KnownBy history faults name (stage.Naming number) stage.First (progress.Done reply.Done) h old new) (sym on.0) (known_named name number old new (history old.disk) (history new.disk) (faults old.disk) (faults new.disk) b on.1 on.2 on.3 on.4)
-known_by history faults name (stage.Naming number) stage.First progress.More how old new b on =
-    subst (λ (h : Did). KnownBy history faults name (stage.Naming number) stage.First progress.More h old new) (sym on.0) (known_overtaken name number old new (history old.disk) (history new.disk) (faults old.disk) (faults new.disk) b on.1 on.2 on.3 on.4)
+known_by history faults name stage.First (stage.Naming number) progress.More how old new b on = rw on.0 (known_made name number old new (history old.disk) (history new.disk) (faults old.disk) (faults new.disk) b on.1)
+known_by history faults name stage.First stage.First (progress.Done (reply.Refused why)) how old new b on = rw (on.2, on.1) (known_unmade history faults name on.0 old new b on.3 on.4)
+known_by history faults name (stage.Naming number) stage.First (progress.Done reply.Done) how old new b on = rw on.0 (known_named name number old new (history old.disk) (history new.disk) (faults old.disk) (faults new.disk) b on.1 on.2 on.3 on.4)
+known_by history faults name (stage.Naming number) stage.First progress.More how old new b on = rw on.0 (known_overtaken name number old new (history old.disk) (history new.disk) (faults old.disk) (faults new.disk) b on.1 on.2 on.3 on.4)
 known_by history faults name (stage.Naming number) stage.First (progress.Done (reply.Refused why)) how old new b on = by_cause on.2
   where
     before : Option History
@@ -281,16 +259,9 @@ known_by history faults name (stage.Naming number) stage.First (progress.Done (r
     after = history new.disk
 
     by_cause : ((how ≡ did.Step half.Whole) × (naming_refusal name old ≡ Some why)) ⊎ ((how ≡ did.Quiet) × CanBeNamed name number.0 old × (why ≡ refusal.NoMemory)) → KnownBy history faults name (stage.Naming number) stage.First (progress.Done (reply.Refused why)) how old new
-    by_cause (inl e) =
-        subst (λ (h : Did). KnownBy history faults name (stage.Naming number) stage.First (progress.Done (reply.Refused why)) h old new) (sym e.0)
-        (known_removed name number why (did.Step half.Whole) old new before after (faults old.disk) (faults new.disk) b on.0 on.1 (step_runs why (naming_steps name old why e.1)) (inl e.1) (naming_refused name number stage.First old new before after (faults old.disk) (faults new.disk) why b.runs e.1 on.0 on.1))
-    by_cause (inr e) =
-        subst (λ (h : Did). KnownBy history faults name (stage.Naming number) stage.First (progress.Done (reply.Refused why)) h old new) (sym e.0)
-        (subst (λ (w : Refusal). KnownBy history faults name (stage.Naming number) stage.First (progress.Done (reply.Refused w)) did.Quiet old new) (sym e.2)
-        (known_removed name number refusal.NoMemory did.Quiet old new before after (faults old.disk) (faults new.disk) b on.0 on.1 memory_runs (inr (e.1.free, e.1.above, refl)) (naming_unremembered name number stage.First old new before after (faults old.disk) (faults new.disk) b.runs e.1 on.0 on.1)))
-known_by history faults name (stage.Naming number) (stage.Naming still) (progress.Done (reply.Refused why)) how old new b on =
-    subst (λ (w : Refusal). KnownBy history faults name (stage.Naming number) (stage.Naming still) (progress.Done (reply.Refused w)) how old new) (sym on.1)
-    (subst (λ (s : BoxNo). KnownBy history faults name (stage.Naming number) (stage.Naming s) (progress.Done (reply.Refused refusal.Stopped)) how old new) (sym on.0) (by_cause on.3))
+    by_cause (inl e) = rw e.0 (known_removed name number why (did.Step half.Whole) old new before after (faults old.disk) (faults new.disk) b on.0 on.1 (step_runs why (naming_steps name old why e.1)) (inl e.1) (naming_refused name number stage.First old new before after (faults old.disk) (faults new.disk) why b.runs e.1 on.0 on.1))
+    by_cause (inr e) = rw (e.0, e.2) (known_removed name number refusal.NoMemory did.Quiet old new before after (faults old.disk) (faults new.disk) b on.0 on.1 memory_runs (inr (e.1.free, e.1.above, refl)) (naming_unremembered name number stage.First old new before after (faults old.disk) (faults new.disk) b.runs e.1 on.0 on.1))
+known_by history faults name (stage.Naming number) (stage.Naming still) (progress.Done (reply.Refused why)) how old new b on = rw (on.1, on.0) (by_cause on.3)
   where
     before : Option History
     before = history old.disk
@@ -300,14 +271,8 @@ known_by history faults name (stage.Naming number) (stage.Naming still) (progres
 
     by_cause : ((how ≡ did.Failed) × FellChanging same_lists before after (faults old.disk) (faults new.disk)) ⊎ ((how ≡ did.Broken half.Whole) × CanBeNamed name number.0 old × FellChanging (with_mailbox number.0 name) before after (faults old.disk) (faults new.disk))
         → KnownBy history faults name (stage.Naming number) (stage.Naming number) (progress.Done (reply.Refused refusal.Stopped)) how old new
-    by_cause (inl e) =
-        subst (λ (h : Did). KnownBy history faults name (stage.Naming number) (stage.Naming number) (progress.Done (reply.Refused refusal.Stopped)) h old new) (sym e.0)
-        (known_stopped name number did.Failed same_lists old new before after (faults old.disk) (faults new.disk) b on.2 e.1
-        (removing_fell name number (stage.Naming number) old new before after (faults old.disk) (faults new.disk) b.runs on.2 e.1))
-    by_cause (inr e) =
-        subst (λ (h : Did). KnownBy history faults name (stage.Naming number) (stage.Naming number) (progress.Done (reply.Refused refusal.Stopped)) h old new) (sym e.0)
-        (known_stopped name number (did.Broken half.Whole) (with_mailbox number.0 name) old new before after (faults old.disk) (faults new.disk) b on.2 e.2
-        (naming_fell name number (stage.Naming number) old new before after (faults old.disk) (faults new.disk) b.store_is b.runs (named_so name number old before b e.1) on.2 e.2))
+    by_cause (inl e) = rw e.0 (known_stopped name number did.Failed same_lists old new before after (faults old.disk) (faults new.disk) b on.2 e.1 (removing_fell name number (stage.Naming number) old new before after (faults old.disk) (faults new.disk) b.runs on.2 e.1))
+    by_cause (inr e) = rw e.0 (known_stopped name number (did.Broken half.Whole) (with_mailbox number.0 name) old new before after (faults old.disk) (faults new.disk) b on.2 e.2 (naming_fell name number (stage.Naming number) old new before after (faults old.disk) (faults new.disk) b.store_is b.runs (named_so name number old before b e.1) on.2 e.2))
 known_by history faults name now next answer how old new b on = absurd on
 
 -- Of a task that is seen as this.

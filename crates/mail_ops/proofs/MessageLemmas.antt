@@ -1,16 +1,19 @@
 -- The message of a row, in the lists that a store shows, and the record that stores it.
-use Rattle.std.proofs.Common.{◌≡◌, ◌==◌, ℕ, Bool, true, false, cond, List, [], ◌∷◌, map, Option, Some, None, refl, sym, ◌∙◌, ap, subst, All, inl, inr}
+use Rattle.std.proofs.Common.{◌≡◌, ◌==◌, ℕ, Bool, true, false, cond, List, [], ◌∷◌, map, Option, Some, None, refl, sym, ◌∙◌, ap, subst, All, arith, inl, inr}
+use Rattle.std.proofs.lemmas.Grind.{common_steps}
+use Rattle.std.proofs.lemmas.Bool.Decides.{nat_tests}
 use Rattle.std.specs.Prelude.{find, option_and_then, ◌⊎◌, is_some, if◌then◌else◌}
 use Rattle.std.specs.List.{AllByRecursion}
 use Rattle.std.specs.Option.{option_map, option_map_or}
 use Rattle.std.specs.Str.{bytes_eq}
+use Rattle.std.proofs.lemmas.Bool.{eq-eqb}
 use Rattle.std.proofs.lemmas.List.Elements.{All-contains}
 use Rattle.disk_model.specs.Disk.{Files, History}
 use Rattle.mdbox_base.specs.declared.entries.BoxEntry.{BoxEntry}
 use Rattle.mdbox_base.specs.declared.replies.ListRow.{ListRow}
 use Rattle.mdbox_base.specs.declared.replies.Refusal.{Refusal}
 use Rattle.mdbox_base.specs.declared.replies.Refusal.TheVariants as refusal
-use Rattle.model_lists.specs.Lists.{ListedMessage, Mailbox, Lists, listing_row}
+use Rattle.model_lists.specs.Lists.{ListedMessage, Mailbox, Lists, AreWellFormed, listing_row}
 use Rattle.model_meaning.specs.BoxMeaning.{LogRow, BoxMeaning, box_meaning, rows_after, row_at}
 use Rattle.model_meaning.specs.MapMeaning.{MapRecord, MapBox, MapMeaning, map_meaning, record_at, record_of}
 use Rattle.model_meaning.specs.Sound.{IsSoundMap}
@@ -21,12 +24,13 @@ use Rattle.model_store.specs.Listing.{listed_row, ShowLists, meaning_named}
 use Rattle.model_store.specs.Opening.{HasItsRecord}
 use Rattle.model_store.specs.Stands.{StoresMessage, IsListed, AreListed, IsMailbox, AreMailboxes}
 use Rattle.list_machine.specs.Run.{Run}
-use Rattle.list_machine.specs.Machine.{HasMailbox, HasUid, first_refusal, mailbox_named, message_in, message_at}
+use Rattle.list_machine.specs.Machine.{HasMailbox, HasUid, first_refusal, has_name, has_number, mailbox_named, message_in, message_at, message_numbered}
 use Rattle.store_core.specs.Running.{IsStore}
 use Rattle.store_core.specs.Value.{StoreValue, indexes_of, list_named}
+use Rattle.task_claims.specs.Leaving.{number_named}
 use Rattle.mail_ops.specs.Messages.{missing_message, IsRowOf}
 use Rattle.mail_ops.proofs.FlagListLemmas.{numbered, found_row, none_there, some_there}
-use Rattle.mail_ops.proofs.NamedListLemmas.{IsFound, Finds, found_by_name}
+use Rattle.mail_ops.proofs.NamedListLemmas.{ShownBox, ShowsBox, shows_box}
 
 -- ---- the message that a row shows
 
@@ -41,55 +45,65 @@ pub record ShownRow (name : List ℕ) (uid number : ℕ) (lists : Lists) (row : 
 
 pub shown_row : {D : Type 0} → (store : StoreValue D) (name : List ℕ) (uid number : ℕ) (row : LogRow) (lists : Lists) → IsRowOf name uid store number row → ShowLists store.map.boxes (indexes_of store.boxes) lists → ShownRow name uid number lists row
 shown_row store name uid number row lists at h =
-    let f : IsFound name lists at.m = subst (Finds name lists) at.box.named (found_by_name name store.map.boxes (indexes_of store.boxes) lists h) in
+    let f : ShownBox name lists at.m = subst (ShowsBox name lists) at.box.named (shows_box name store.map.boxes (indexes_of store.boxes) lists h) in
     let n = some_there listing_row (message_in uid f.mailbox) (listed_row row) (sym (ap (option_map listed_row) at.listed) ∙ found_row uid at.m.rows f.mailbox.messages f.rows) in
     record {
       mailbox = f.mailbox;
-      named = f.there;
-      number_is = numbered name number store.map.boxes (indexes_of store.boxes) lists f.mailbox h at.box.number_is f.there;
+      named = f.named;
+      number_is = numbered name number store.map.boxes (indexes_of store.boxes) lists f.mailbox h at.box.number_is f.named;
       message = n.0;
       in_box = n.1;
-      there = rw f.there n.1;
+      there = rw f.named n.1;
       same = n.2;
     }
 
+-- The number that a name names is that of the mailbox which has the name.
+pub by_number : (name : List ℕ) (number uid : ℕ) (lists : Lists) (x : Mailbox) → AreWellFormed lists → mailbox_named name lists ≡ Some x → x.number ≡ number → message_numbered number uid lists ≡ message_at name uid lists
+by_number name number uid lists x well named is =
+    ap (option_and_then (message_in uid)) (found_is (has_number number) lists x (found_one (has_name name) lists x named).0 (eq-eqb x.number number is)
+    (λ i j d lt le p q. let less = well.numbers i j d lt le in omega (arith, less, equal_is _ number p, equal_is _ number q)) ∙ sym named)
+
+pub from_source : {D : Type 0} → (name : List ℕ) (source number at : ℕ) (store : StoreValue D) → number_named store.map name ≡ Some source → number_named store.map name ≡ Some number → at ≡ source → at ≡ number
+from_source name source number at store named known is = is ∙ (let k : Some source ≡ Some number = sym named ∙ known in cc k)
+
 -- ---- why there is none
 
-pub missing_is : {D : Type 0} → (name : List ℕ) (uid : ℕ) (store : StoreValue D) (why : Refusal) → missing_message name uid store ≡ Some why → (why ≡ refusal.NoMailbox) ⊎ (why ≡ refusal.NoMessage)
-missing_is name uid store why e = by_box (list_named store name) e
-  where
-    by_row : (o : Option LogRow) → (if is_some o then None else Some refusal.NoMessage) ≡ Some why → (why ≡ refusal.NoMailbox) ⊎ (why ≡ refusal.NoMessage)
-    by_row None k = inr (let f : Some refusal.NoMessage ≡ Some why = k in sym (cc f))
-    by_row (Some row) k = absurd (let f : None ≡ Some why = k in cc f)
+missing_by : (uid : ℕ) (o : Option BoxMeaning) (why : Refusal) → option_map_or (λ m. if is_some (row_at m uid) then None else Some refusal.NoMessage) o (Some refusal.NoMailbox) ≡ Some why → (why ≡ refusal.NoMailbox) ⊎ (why ≡ refusal.NoMessage)
+missing_by uid o why e = grind (arith, common_steps, nat_tests)
 
-    by_box : (o : Option BoxMeaning) → option_map_or (λ m. if is_some (row_at m uid) then None else Some refusal.NoMessage) o (Some refusal.NoMailbox) ≡ Some why → (why ≡ refusal.NoMailbox) ⊎ (why ≡ refusal.NoMessage)
-    by_box None k = inl (let f : Some refusal.NoMailbox ≡ Some why = k in sym (cc f))
-    by_box (Some m) k = by_row (row_at m uid) k
+pub missing_is : {D : Type 0} → (name : List ℕ) (uid : ℕ) (store : StoreValue D) (why : Refusal) → missing_message name uid store ≡ Some why → (why ≡ refusal.NoMailbox) ⊎ (why ≡ refusal.NoMessage)
+missing_is name uid store why e = missing_by uid (list_named store name) why e
 
 -- one that is listed is there
 pub not_missing : {D : Type 0} → (name : List ℕ) (uid : ℕ) (store : StoreValue D) (number : ℕ) (row : LogRow) → IsRowOf name uid store number row → missing_message name uid store ≡ None
 not_missing name uid store number row k =
     ap (λ (o : Option BoxMeaning). option_map_or (λ m. if is_some (row_at m uid) then None else Some refusal.NoMessage) o (Some refusal.NoMailbox)) k.box.named ∙ ap (λ (o : Option LogRow). if is_some o then None else Some refusal.NoMessage) k.listed
 
+-- and there is none in the lists
+missing_in : {D : Type 0} → (name : List ℕ) (uid : ℕ) (store : StoreValue D) (why : Refusal) (lists : Lists) → ShowLists store.map.boxes (indexes_of store.boxes) lists → missing_message name uid store ≡ Some why
+    → ((why ≡ refusal.NoMailbox) × (mailbox_named name lists ≡ None)) ⊎ ((why ≡ refusal.NoMessage) × ((x : Mailbox) × (mailbox_named name lists ≡ Some x) × (message_in uid x ≡ None)))
+missing_in name uid store why lists h e = by_box (list_named store name) (shows_box name store.map.boxes (indexes_of store.boxes) lists h) e
+  where
+    Missing : Type 0
+    Missing = ((why ≡ refusal.NoMailbox) × (mailbox_named name lists ≡ None)) ⊎ ((why ≡ refusal.NoMessage) × ((x : Mailbox) × (mailbox_named name lists ≡ Some x) × (message_in uid x ≡ None)))
+
+    by_row : (m : BoxMeaning) → ShownBox name lists m → (o : Option LogRow) → row_at m uid ≡ o → (if is_some o then None else Some refusal.NoMessage) ≡ Some why → Missing
+    by_row m f (Some row) is k = absurd (let w : None ≡ Some why = k in cc w)
+    by_row m f None is k =
+        inr (let w : Some refusal.NoMessage ≡ Some why = k in sym (cc w), (f.mailbox, f.named, none_there listing_row (message_in uid f.mailbox) (sym (ap (option_map listed_row) is) ∙ found_row uid m.rows f.mailbox.messages f.rows)))
+
+    by_box : (o : Option BoxMeaning) → ShowsBox name lists o → option_map_or (λ m. if is_some (row_at m uid) then None else Some refusal.NoMessage) o (Some refusal.NoMailbox) ≡ Some why → Missing
+    by_box None f k = inl (let w : Some refusal.NoMailbox ≡ Some why = k in sym (cc w), f)
+    by_box (Some m) f k = by_row m f (row_at m uid) refl k
+
 -- the list machine refuses for the same reason
 pub missing_refused : {D : Type 0} → (run : Run) (name : List ℕ) (uid : ℕ) (store : StoreValue D) (why : Refusal) (lists : Lists) → ShowLists store.map.boxes (indexes_of store.boxes) lists → missing_message name uid store ≡ Some why
     → first_refusal run lists (HasMailbox name ∷ HasUid name uid ∷ []) ≡ Some why
-missing_refused run name uid store why lists h e = by_box (list_named store name) refl e
-  where
-    by_box : (o : Option BoxMeaning) → list_named store name ≡ o → option_map_or (λ m. if is_some (row_at m uid) then None else Some refusal.NoMessage) o (Some refusal.NoMailbox) ≡ Some why → first_refusal run lists (HasMailbox name ∷ HasUid name uid ∷ []) ≡ Some why
-    by_box None is k =
-        let f : mailbox_named name lists ≡ None = subst (Finds name lists) is (found_by_name name store.map.boxes (indexes_of store.boxes) lists h) in
-        let same : Some refusal.NoMailbox ≡ Some why = k in
-        rw f same
-    by_box (Some m) is k = by_row (row_at m uid) refl k
-      where
-        by_row : (o : Option LogRow) → row_at m uid ≡ o → (if is_some o then None else Some refusal.NoMessage) ≡ Some why → first_refusal run lists (HasMailbox name ∷ HasUid name uid ∷ []) ≡ Some why
-        by_row (Some row) there k = absurd (let f : None ≡ Some why = k in cc f)
-        by_row None none k =
-            let f : IsFound name lists m = subst (Finds name lists) is (found_by_name name store.map.boxes (indexes_of store.boxes) lists h) in
-            let n : message_in uid f.mailbox ≡ None = none_there listing_row (message_in uid f.mailbox) (sym (ap (option_map listed_row) none) ∙ found_row uid m.rows f.mailbox.messages f.rows) in
-            let same : Some refusal.NoMessage ≡ Some why = k in
-            rw (f.there, n) same
+missing_refused run name uid store why lists h e = elim (missing_in name uid store why lists h e) [ inl m ↦ rw m.1 (ap Some (sym m.0)) | inr m ↦ rw (m.1.1, m.1.2) (ap Some (sym m.0)) ]
+
+pub missing_none : {D : Type 0} → (name : List ℕ) (uid : ℕ) (store : StoreValue D) (why : Refusal) (lists : Lists) → ShowLists store.map.boxes (indexes_of store.boxes) lists → missing_message name uid store ≡ Some why → message_at name uid lists ≡ None
+missing_none name uid store why lists h e =
+    elim (missing_in name uid store why lists h e) [ inl m ↦ ap (option_and_then (message_in uid)) m.1 | inr m ↦ ap (option_and_then (message_in uid)) m.1.1 ∙ m.1.2 ]
 
 -- ---- records
 
@@ -104,9 +118,6 @@ by_guid m uid entry guid s found e =
 
 row_has_record : (map_is : MapMeaning) (name : List ℕ) (uid : ℕ) (boxes : List MapBox) (logs : List (List BoxEntry)) (m : BoxMeaning) (row : LogRow) → AllByRecursion (λ log. All (HasItsRecord map_is) (rows_after log)) logs
     → meaning_named name boxes (map box_meaning logs) ≡ Some m → row_at m uid ≡ Some row → HasItsRecord map_is row
-row_has_record map_is name uid [] [] m row each is found = absurd (cc (let k : None ≡ Some m = is in k))
-row_has_record map_is name uid [] (log ∷ logs) m row each is found = absurd (cc (let k : None ≡ Some m = is in k))
-row_has_record map_is name uid (b ∷ bs) [] m row each is found = absurd (cc (let k : None ≡ Some m = is in k))
 row_has_record map_is name uid (b ∷ bs) (log ∷ logs) m row each is found = by_test (bytes_eq b.name name) is (λ e. row_has_record map_is name uid bs logs m row each.1 e found)
   where
     by_test : (t : Bool) → cond t (Some (box_meaning log)) (meaning_named name bs (map box_meaning logs)) ≡ Some m → (meaning_named name bs (map box_meaning logs) ≡ Some m → HasItsRecord map_is row) → HasItsRecord map_is row
@@ -114,6 +125,7 @@ row_has_record map_is name uid (b ∷ bs) (log ∷ logs) m row each is found = b
         let same : box_meaning log ≡ m = cc e in
         All-contains (HasItsRecord map_is) (rows_after log) row each.0 (found_one (λ (r : LogRow). r.uid == uid) (rows_after log) row (ap (λ (k : BoxMeaning). row_at k uid) same ∙ found)).0
     by_test false e rest = rest e
+row_has_record map_is name uid boxes logs m row each is found = absurd (let k : None ≡ Some m = is in cc k)
 
 -- the record of a row
 pub record RecordOfRow (m : MapMeaning) (row : LogRow) : Type 0 where
@@ -144,23 +156,21 @@ shown_guid name uid number lists row s = ap (λ (r : ListRow). r.guid.0) s.same
 -- a mailbox of lists for which files stand
 mailbox_there : (files : Files) (m : MapMeaning) (boxes : List MapBox) (lists : Lists) (name : List ℕ) (x : Mailbox) → AreMailboxes files m boxes lists → mailbox_named name lists ≡ Some x → (box : MapBox) × IsMailbox files m box x
 mailbox_there files m [] [] name x h e = absurd (cc (let k : None ≡ Some x = e in k))
-mailbox_there files m [] (l ∷ ls) name x h e = absurd h
-mailbox_there files m (b ∷ bs) [] name x h e = absurd h
 mailbox_there files m (b ∷ bs) (l ∷ ls) name x h e = by_test (bytes_eq l.name name) e (λ k. mailbox_there files m bs ls name x h.1 k)
   where
     by_test : (t : Bool) → cond t (Some l) (mailbox_named name ls) ≡ Some x → (mailbox_named name ls ≡ Some x → (box : MapBox) × IsMailbox files m box x) → (box : MapBox) × IsMailbox files m box x
     by_test true k rest = let same : l ≡ x = cc k in (b, subst (λ (o : Mailbox). IsMailbox files m b o) same h.0)
     by_test false k rest = rest k
+mailbox_there files m boxes lists name x h e = absurd h
 
 message_there : (files : Files) (m : MapMeaning) (rows : List LogRow) (xs : List ListedMessage) (uid : ℕ) (x : ListedMessage) → AreListed files m rows xs → find (λ y. y.uid == uid) xs ≡ Some x → (row : LogRow) × IsListed files m row x
 message_there files m [] [] uid x h e = absurd (cc (let k : None ≡ Some x = e in k))
-message_there files m [] (y ∷ ys) uid x h e = absurd h
-message_there files m (row ∷ rows) [] uid x h e = absurd h
 message_there files m (row ∷ rows) (y ∷ ys) uid x h e = by_test (y.uid == uid) e (λ k. message_there files m rows ys uid x h.1 k)
   where
     by_test : (t : Bool) → cond t (Some y) (find (λ (o : ListedMessage). o.uid == uid) ys) ≡ Some x → (find (λ (o : ListedMessage). o.uid == uid) ys ≡ Some x → (r : LogRow) × IsListed files m r x) → (r : LogRow) × IsListed files m r x
     by_test true k rest = let same : y ≡ x = cc k in (row, subst (λ (o : ListedMessage). IsListed files m row o) same h.0)
     by_test false k rest = rest k
+message_there files m rows xs uid x h e = absurd h
 
 -- The record with a listed message's GUID stores its octets.
 pub stored_by : (files : Files) (m : MapMeaning) (boxes : List MapBox) (lists : Lists) (name : List ℕ) (uid : ℕ) (x : ListedMessage) (entry : MapRecord) → IsSoundMap m → AreMailboxes files m boxes lists → message_at name uid lists ≡ Some x → record_of m x.guid ≡ Some entry → StoresMessage files entry x.octets

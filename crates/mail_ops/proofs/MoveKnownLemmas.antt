@@ -2,6 +2,7 @@
 use Rattle.std.proofs.Common.{◌≡◌, ◌≤◌, ◌<◌, ◌+◌, ℕ, Bool, true, false, List, Option, Some, None, refl, sym, ◌∙◌, ap, subst, arith, inl, inr}
 use Rattle.std.specs.Prelude.{◌⊎◌}
 use Rattle.disk_model.specs.Disk.{History, Faults}
+use Rattle.mdbox_base.specs.declared.ids.BoxNo.{BoxNo}
 use Rattle.mdbox_base.specs.declared.ids.MapUid.{MapUid}
 use Rattle.mdbox_base.specs.declared.ids.Uid.{Uid}
 use Rattle.mdbox_base.specs.declared.progress.Did.{Did}
@@ -14,17 +15,15 @@ use Rattle.mdbox_base.specs.declared.replies.Reply.{Reply}
 use Rattle.mdbox_base.specs.declared.replies.Reply.TheVariants as reply
 use Rattle.mdbox_base.specs.declared.requests.Request.TheVariants as request
 use Rattle.mdbox_base.specs.declared.script.Half.TheVariants as half
-use Rattle.model_meaning.specs.MapMeaning.{MapBox, MapMeaning}
-use Rattle.model_store.specs.Listing.{meaning_named}
 use Rattle.list_machine.specs.Machine.{is_step}
 use Rattle.store_core.specs.Dues.{due_at, Moves, amounts_in}
 use Rattle.store_core.specs.Keeping.{KeepsRest}
 use Rattle.store_core.specs.Running.{IsStore}
-use Rattle.store_core.specs.Value.{StoreValue, indexes_of, list_named}
+use Rattle.store_core.specs.Value.{StoreValue}
 use Rattle.store_core.proofs.DueLemmas.{moves_as}
 use Rattle.task_steps.specs.ExpungeStages.{one_due}
 use Rattle.task_steps.specs.Step.{ended_by}
-use Rattle.mail_ops.specs.Appends.{MapAppends, MapTook, MapFell, lowering_of}
+use Rattle.mail_ops.specs.Appends.{MapTook, MapFell, lowering_of}
 use Rattle.mail_ops.specs.Copying.{copy_refusal, RaisesRow, IsRaiseRefusal, MayBeRaised, IsNotRaised, AddsRow, FellAdding}
 use Rattle.mail_ops.specs.OnlyLogs.{ChangesOnlyLogs}
 use Rattle.mail_ops.specs.Event.{refusal_told, told_as}
@@ -35,15 +34,17 @@ use Rattle.mail_ops.specs.declared.event.NotDone.TheVariants as not_done
 use Rattle.mail_ops.specs.declared.event.NotDone.{NotDone}
 use Rattle.mail_ops.specs.declared.moving.MoveStage.TheVariants as stage
 use Rattle.mail_ops.specs.declared.moving.MoveStage.{MoveStage}
-use Rattle.mail_ops.proofs.CopyFirstLemmas.{CopyingClause, raise_refused, raise_unremembered, raise_fell, raise_done, raise_steps, copy_steps}
+use Rattle.mail_ops.proofs.CopyFirstLemmas.{CopyingClause, back_runs, copy_steps, raise_done, raise_fell, raise_refused, raise_steps, raise_unremembered}
 use Rattle.mail_ops.proofs.CopyLastLemmas.{added_due, add_fell, back_fell, given_back}
 use Rattle.store_seen.proofs.SeeingLemmas.{due_as_before}
-use Rattle.mail_ops.proofs.KeptUidLemmas.{addition_left}
-use Rattle.mail_ops.proofs.LoweringLemmas.{lowered_due}
+use Rattle.task_claims.proofs.NameLemmas.{names_stay_same}
+use Rattle.mail_ops.proofs.KeptUidLemmas.{addition_left, fallen_keeps, named_keeps, raised_source}
+use Rattle.mail_ops.proofs.LoweringLemmas.{ended_moves, held_still, lowered_due, raised_covers, raised_moves}
 use Rattle.mail_ops.proofs.MoveEventLemmas.{move_added, move_gone, move_removed, move_broken, move_unlowered, move_lowered}
 use Rattle.mail_ops.proofs.MovePartLemmas.{move_copies}
 use Rattle.mail_ops.proofs.RemovalLemmas.{removal_due}
 use Rattle.mail_ops.proofs.OnlyLogsLemmas.{box_fell_keeps, box_took_keeps, idle_keeps, map_fell_keeps, map_took_keeps}
+use Rattle.mail_ops.proofs.ToldLemmas.{done_more, memory_runs, more_is, step_runs, why_is}
 
 -- what a step says of an event
 pub record MoveKnown {D : Type 0} (name : List ℕ) (uid : Uid) (target : List ℕ) (now next : MoveStage) (answer : Progress) (how : Did) (old new : StoreValue D) (before after : Option History) (began faulted : Faults) : Type 0 where
@@ -56,46 +57,22 @@ pub record MoveKnown {D : Type 0} (name : List ℕ) (uid : Uid) (target : List �
 
 -- ---- answers that are told apart
 
-more_is : (given : Reply) → progress.More ≡ progress.Done given → ⊥
-more_is given e = cc e
-
-done_more : (given : Reply) → progress.Done given ≡ progress.More → ⊥
-done_more given e = cc e
-
 moved_stopped : (given : Uid) (gone : Bool) → progress.Done (reply.Moved given gone) ≡ progress.Done (reply.Refused refusal.Stopped) → ⊥
 moved_stopped given gone e = let k : reply.Moved given gone ≡ reply.Refused refusal.Stopped = cc e in cc k
-
-why_is : (a b : Refusal) → progress.Done (reply.Refused a) ≡ progress.Done (reply.Refused b) → a ≡ b
-why_is a b e = let k : reply.Refused a ≡ reply.Refused b = cc e in cc k
-
-step_runs : (why : Refusal) → is_step why ≡ true → why ≡ refusal.Stopped → ⊥
-step_runs why s e = let k : true ≡ false = sym s ∙ ap is_step e in cc k
-
-memory_runs : refusal.NoMemory ≡ refusal.Stopped → ⊥
-memory_runs e = cc e
 
 none_due : {D : Type 0} → (name : List ℕ) (uid : Uid) (store : StoreValue D) → IsReadyToMove name uid stage.First store
 none_due name uid store = record { due = λ other. omega arith; source = tt }
 
 -- ---- the first event
 
-kept_named : {D : Type 0} → (old new : StoreValue D) (before after : Option History) (began faulted : Faults) (name : List ℕ) → MapAppends old new before after began faulted → list_named new name ≡ list_named old name
-kept_named old new before after began faulted name a = ap (λ (bs : List MapBox). meaning_named name bs (indexes_of new.boxes)) a.mailboxes ∙ ap (meaning_named name old.map.boxes) a.indexes
-
-raised_moves : (old new held uid : ℕ) → new ≡ old + one_due held uid → new + 0 ≡ old + one_due held uid
-raised_moves old new held uid e = omega (arith, e)
-
-raised_covers : (old new held uid : ℕ) → new ≡ old + one_due held uid → one_due held uid ≤ new
-raised_covers old new held uid e = omega (arith, e)
-
-pub known_raised : {D : Type 0} → (name : List ℕ) (uid : Uid) (target : List ℕ) (held : MapUid) (old new : StoreValue D) (before after : Option History) (began faulted : Faults) → IsStore before old → old.stopped ≡ false → RaisesRow name uid target held old new before after began faulted
-    → MoveKnown name uid target stage.First (stage.Adding held) progress.More did.Quiet old new before after began faulted
-known_raised name uid target held old new before after began faulted is ran r = record {
+pub known_raised : {D : Type 0} → (name : List ℕ) (uid : Uid) (target : List ℕ) (held : MapUid) (source : BoxNo) (old new : StoreValue D) (before after : Option History) (began faulted : Faults) → IsStore before old → old.stopped ≡ false → RaisesRow name uid target held source old new before after began faulted
+    → MoveKnown name uid target stage.First (stage.Adding held source) progress.More did.Quiet old new before after began faulted
+known_raised name uid target held source old new before after began faulted is ran r = record {
   ready = record {
     due = λ other. raised_covers (due_at other old) (due_at other new) held.0 other (r.took.due other);
-    source = record { m = r.keeps.m; named = kept_named old new before after began faulted name r.took.appends ∙ r.keeps.named; below = r.keeps.below; same = r.keeps.same };
+    source = raised_source name uid target held source old new before after began faulted r;
   };
-  does = raise_done (request.Move name uid target) name uid target half.CopyHalf held old new before after began faulted (move_copies name uid target) is ran r;
+  does = raise_done (request.Move name uid target) name uid target half.CopyHalf held source old new before after began faulted (move_copies name uid target) is ran r;
   keeps = map_took_keeps _ _ _ _ old new before after began faulted ran (more_is (reply.Refused refusal.Stopped)) r.took;
   moves = record { due = λ other. raised_moves (due_at other old) (due_at other new) held.0 other (r.took.due other) };
   replies = (r.row, r.number, r.next, r.at, r.holds, r.few, record { indexes = r.took.appends.indexes; mailboxes = r.took.appends.mailboxes; taken = r.took.taken });
@@ -127,64 +104,45 @@ known_same name uid target why how store history faults runs running cause does 
 
 pub known_refused : {D : Type 0} → (history : D → Option History) (faults : D → Faults) (name : List ℕ) (uid : Uid) (target : List ℕ) (error : NotDone) (old new : StoreValue D) → old.stopped ≡ false → IsNotRaised name uid target error old new (history old.disk) (history new.disk) (faults old.disk) (faults new.disk)
     → MoveKnown name uid target stage.First stage.First (progress.Done (reply.Refused (refusal_told error))) (told_as half.CopyHalf did.Failed error) old new (history old.disk) (history new.disk) (faults old.disk) (faults new.disk)
-known_refused history faults name uid target (not_done.Refused why) old new ran r =
-    subst (λ (s : StoreValue _). MoveKnown name uid target stage.First stage.First (progress.Done (reply.Refused why)) (did.Step half.CopyHalf) old s (history old.disk) (history s.disk) (faults old.disk) (faults s.disk)) (sym r.0)
-    (known_same name uid target why (did.Step half.CopyHalf) old (history old.disk) (faults old.disk) ran (step_runs why (raise_steps name uid.0 target old why r.1)) (inl r.1) (raise_refused (request.Move name uid target) name uid target half.CopyHalf (IsAtMove uid stage.First) old (history old.disk) (faults old.disk) why (move_copies name uid target) ran r.1))
-known_refused history faults name uid target not_done.NoMemory old new ran r =
-    subst (λ (s : StoreValue _). MoveKnown name uid target stage.First stage.First (progress.Done (reply.Refused refusal.NoMemory)) did.Quiet old s (history old.disk) (history s.disk) (faults old.disk) (faults s.disk)) (sym r.0)
-    (known_same name uid target refusal.NoMemory did.Quiet old (history old.disk) (faults old.disk) ran memory_runs (inr (refl, r.1)) (raise_unremembered (request.Move name uid target) name uid target half.CopyHalf (IsAtMove uid stage.First) old (history old.disk) (faults old.disk) (move_copies name uid target) ran))
+known_refused history faults name uid target (not_done.Refused why) old new ran r = rw r.0 (known_same name uid target why (did.Step half.CopyHalf) old (history old.disk) (faults old.disk) ran (step_runs why (raise_steps name uid.0 target old why r.1)) (inl r.1) (raise_refused (request.Move name uid target) name uid target half.CopyHalf (IsAtMove uid stage.First) old (history old.disk) (faults old.disk) why (move_copies name uid target) ran r.1))
+known_refused history faults name uid target not_done.NoMemory old new ran r = rw r.0 (known_same name uid target refusal.NoMemory did.Quiet old (history old.disk) (faults old.disk) ran memory_runs (inr (refl, r.1)) (raise_unremembered (request.Move name uid target) name uid target half.CopyHalf (IsAtMove uid stage.First) old (history old.disk) (faults old.disk) (move_copies name uid target) ran))
 known_refused history faults name uid target not_done.Stopped old new ran r = known_unraised name uid target old new (history old.disk) (history new.disk) (faults old.disk) (faults new.disk) ran r.0 r.1
 
 -- ---- the second event
 
-ended_moves : (old new held uid : ℕ) → new + one_due held uid ≡ old → new + one_due held uid ≡ old + 0
-ended_moves old new held uid e = omega (arith, e)
-
-pub known_added : {D : Type 0} → (name : List ℕ) (uid : Uid) (target : List ℕ) (held : MapUid) (given : Uid) (old new : StoreValue D) (before after : Option History) (began faulted : Faults) → IsStore before old → old.stopped ≡ false → IsReadyToMove name uid (stage.Adding held) old
-    → AddsRow name uid target held given old new before after began faulted → MoveKnown name uid target (stage.Adding held) (stage.Removing held given) progress.More (did.Step half.CopyHalf) old new before after began faulted
-known_added name uid target held given old new before after began faulted is ran ready r = record {
-  ready = record { due = λ other. omega arith; source = addition_left name uid target held given old new before after began faulted r name uid.0 held.0 ready.source };
-  does = move_added name uid target held given old new before after began faulted is ran ready.due r;
+pub known_added : {D : Type 0} → (name : List ℕ) (uid : Uid) (target : List ℕ) (held : MapUid) (source : BoxNo) (given : Uid) (old new : StoreValue D) (before after : Option History) (began faulted : Faults) → IsStore before old → old.stopped ≡ false → IsReadyToMove name uid (stage.Adding held source) old
+    → AddsRow name uid target held given old new before after began faulted → MoveKnown name uid target (stage.Adding held source) (stage.Removing held given source) progress.More (did.Step half.CopyHalf) old new before after began faulted
+known_added name uid target held source given old new before after began faulted is ran ready r = record {
+  ready = record { due = λ other. omega arith; source = named_keeps name source.0 uid.0 held.0 old new (names_stay_same old.map new.map r.took.appends.map) (addition_left name uid target held given old new before after began faulted r) ready.source };
+  does = move_added name uid target held given source.0 old new before after began faulted is ran ready.due ready.source.named r;
   keeps = box_took_keeps _ _ _ _ _ old new before after began faulted ran (more_is (reply.Refused refusal.Stopped)) r.took;
   moves = record { due = λ other. ended_moves (due_at other old) (due_at other new) held.0 other (added_due held given r.row r.at.m old new other r.holds (ready.due other) (r.took.due r.at.m other r.at.to.numbered)) };
-  replies = (refl, (r.row, r.number, r.at, r.holds));
+  replies = (refl, (r.row, r.number, r.at, r.holds), refl);
   left = λ e. omega arith;
 }
 
-held_still : {D : Type 0} → (held : MapUid) (old new : StoreValue D) → ((other : ℕ) → one_due held.0 other ≤ due_at other old) → ((other : ℕ) → due_at other new ≡ due_at other old) → (other : ℕ) → one_due held.0 other ≤ due_at other new
-held_still held old new due same other = subst (λ (n : ℕ). one_due held.0 other ≤ n) (sym (same other)) (due other)
-
-pub known_unadded : {D : Type 0} → (name : List ℕ) (uid : Uid) (target : List ℕ) (held : MapUid) (old new : StoreValue D) (before after : Option History) (began faulted : Faults) → IsStore before old → old.stopped ≡ false → IsReadyToMove name uid (stage.Adding held) old → FellAdding name uid target held old new before after began faulted
-    → MoveKnown name uid target (stage.Adding held) (stage.Adding held) (progress.Done (reply.Refused refusal.Stopped)) (did.Broken half.CopyHalf) old new before after began faulted
-known_unadded name uid target held old new before after began faulted is ran ready r = record {
+pub known_unadded : {D : Type 0} → (name : List ℕ) (uid : Uid) (target : List ℕ) (held : MapUid) (source : BoxNo) (old new : StoreValue D) (before after : Option History) (began faulted : Faults) → IsStore before old → old.stopped ≡ false → IsReadyToMove name uid (stage.Adding held source) old → FellAdding name uid target held old new before after began faulted
+    → MoveKnown name uid target (stage.Adding held source) (stage.Adding held source) (progress.Done (reply.Refused refusal.Stopped)) (did.Broken half.CopyHalf) old new before after began faulted
+known_unadded name uid target held source old new before after began faulted is ran ready r = record {
   ready = record {
     due = held_still held old new ready.due (λ other. due_as_before old new other r.fell.appends.map r.fell.dues);
-    source = record {
-      m = ready.source.m;
-      named = ap (λ (bs : List MapBox). meaning_named name bs (indexes_of new.boxes)) (ap (λ (m : MapMeaning). m.boxes) r.fell.appends.map) ∙ (ap (meaning_named name old.map.boxes) r.fell.indexes ∙ ready.source.named);
-      below = ready.source.below;
-      same = ready.source.same;
-    };
+    source = fallen_keeps name source.0 uid.0 held.0 old new r.fell.appends.map r.fell.indexes ready.source;
   };
-  does = add_fell (request.Move name uid target) name uid target half.CopyHalf held (IsAtMove uid (stage.Adding held)) old new before after began faulted (move_copies name uid target) is ran r;
+  does = add_fell (request.Move name uid target) name uid target half.CopyHalf held source.0 (IsAtMove uid (stage.Adding held source)) old new before after began faulted (move_copies name uid target) is ran ready.source.named r;
   keeps = box_fell_keeps _ _ _ _ old new before after began faulted ran r.fell;
-  moves = moves_as (move_amounts (stage.Adding held)) (amounts_in old) (amounts_in new) (λ other. due_as_before old new other r.fell.appends.map r.fell.dues);
-  replies = (refl, refl, r.fell.stopped);
+  moves = moves_as (move_amounts (stage.Adding held source)) (amounts_in old) (amounts_in new) (λ other. due_as_before old new other r.fell.appends.map r.fell.dues);
+  replies = (refl, refl, r.fell.stopped, refl);
   left = λ e. absurd (done_more (reply.Refused refusal.Stopped) e);
 }
 
-back_runs : {D : Type 0} → (name : List ℕ) (uid : Uid) (target : List ℕ) (why : Refusal) (store : StoreValue D) → (copy_refusal name uid.0 target store ≡ Some why) ⊎ (why ≡ refusal.NoMemory) → why ≡ refusal.Stopped → ⊥
-back_runs name uid target why store (inl e) stops = step_runs why (copy_steps name uid.0 target store why e) stops
-back_runs name uid target why store (inr m) stops = memory_runs (sym m ∙ stops)
-
-pub known_back : {D : Type 0} → (name : List ℕ) (uid : Uid) (target : List ℕ) (held : MapUid) (why : Refusal) (how : Did) (store : StoreValue D) (history : Option History) (faults : Faults) → store.stopped ≡ false → IsReadyToMove name uid (stage.Adding held) store → (copy_refusal name uid.0 target store ≡ Some why) ⊎ (why ≡ refusal.NoMemory)
-    → CopyingClause (request.Move name uid target) (IsAtMove uid (stage.Adding held)) (IsAtMove uid (stage.GivingBack held why)) store store history history faults faults how None
-    → MoveKnown name uid target (stage.Adding held) (stage.GivingBack held why) progress.More how store store history history faults faults
-known_back name uid target held why how store history faults runs ready cause does = record {
+pub known_back : {D : Type 0} → (name : List ℕ) (uid : Uid) (target : List ℕ) (held : MapUid) (source : BoxNo) (why : Refusal) (how : Did) (store : StoreValue D) (history : Option History) (faults : Faults) → store.stopped ≡ false → IsReadyToMove name uid (stage.Adding held source) store → (copy_refusal name uid.0 target store ≡ Some why) ⊎ (why ≡ refusal.NoMemory)
+    → CopyingClause (request.Move name uid target) (IsAtMove uid (stage.Adding held source)) (IsAtMove uid (stage.GivingBack held why)) store store history history faults faults how None
+    → MoveKnown name uid target (stage.Adding held source) (stage.GivingBack held why) progress.More how store store history history faults faults
+known_back name uid target held source why how store history faults runs ready cause does = record {
   ready = record { due = ready.due; source = back_runs name uid target why store cause };
   does = does;
   keeps = idle_keeps (KeepsRest store store) _ _ _ store history faults runs (more_is (reply.Refused refusal.Stopped)) refl;
-  moves = moves_as (move_amounts (stage.Adding held)) (amounts_in store) (amounts_in store) (λ other. refl);
+  moves = moves_as (move_amounts (stage.Adding held source)) (amounts_in store) (amounts_in store) (λ other. refl);
   replies = (refl, refl, cause);
   left = λ e. omega arith;
 }
@@ -215,19 +173,13 @@ known_ungiven name uid target held why old new before after began faulted ran re
 
 -- ---- the second half
 
-removed_moves : (old new owed uid : ℕ) → new ≡ old + one_due owed uid → new + 0 ≡ old + one_due owed uid
-removed_moves old new owed uid e = omega (arith, e)
-
-removed_covers : (old new owed uid : ℕ) → new ≡ old + one_due owed uid → one_due owed uid ≤ new
-removed_covers old new owed uid e = omega (arith, e)
-
-pub known_removed : {D : Type 0} → (name : List ℕ) (uid : Uid) (target : List ℕ) (held : MapUid) (copied : Uid) (old new : StoreValue D) (before after : Option History) (began faulted : Faults) → IsStore before old → old.stopped ≡ false → RemovesRow name uid held old new before after began faulted
-    → MoveKnown name uid target (stage.Removing held copied) (stage.Owing held copied) progress.More (did.Step half.ExpungeHalf) old new before after began faulted
-known_removed name uid target held copied old new before after began faulted is ran r = record {
-  ready = record { due = λ other. removed_covers (due_at other old) (due_at other new) held.0 other (rises other); source = tt };
-  does = move_removed name uid target held copied old new before after began faulted is ran r;
+pub known_removed : {D : Type 0} → (name : List ℕ) (uid : Uid) (target : List ℕ) (held : MapUid) (copied : Uid) (source : BoxNo) (old new : StoreValue D) (before after : Option History) (began faulted : Faults) → IsStore before old → old.stopped ≡ false → IsReadyToMove name uid (stage.Removing held copied source) old → RemovesRow name uid held old new before after began faulted
+    → MoveKnown name uid target (stage.Removing held copied source) (stage.Owing held copied) progress.More (did.Step half.ExpungeHalf) old new before after began faulted
+known_removed name uid target held copied source old new before after began faulted is ran ready r = record {
+  ready = record { due = λ other. raised_covers (due_at other old) (due_at other new) held.0 other (rises other); source = tt };
+  does = move_removed name uid target held copied source.0 old new before after began faulted is ran ready.source.named r;
   keeps = box_took_keeps _ _ _ _ _ old new before after began faulted ran (more_is (reply.Refused refusal.Stopped)) r.took;
-  moves = record { due = λ other. removed_moves (due_at other old) (due_at other new) held.0 other (rises other) };
+  moves = record { due = λ other. raised_moves (due_at other old) (due_at other new) held.0 other (rises other) };
   replies = (refl, refl, (r.number, r.row, r.there, r.owes));
   left = λ e. omega arith;
 }
@@ -235,33 +187,28 @@ known_removed name uid target held copied old new before after began faulted is 
     rises : (other : ℕ) → due_at other new ≡ due_at other old + one_due held.0 other
     rises other = subst (λ (u : ℕ). due_at other new ≡ due_at other old + one_due u other) (sym r.owes) (removal_due old new r.there.m uid r.row other r.there.listed (r.took.due r.there.m other r.there.box.numbered))
 
-pub known_gone : {D : Type 0} → (name : List ℕ) (uid : Uid) (target : List ℕ) (held : MapUid) (copied : Uid) (why : Refusal) (store : StoreValue D) (history : Option History) (faults : Faults) → store.stopped ≡ false → missing_message name uid.0 store ≡ Some why
-    → MoveKnown name uid target (stage.Removing held copied) stage.First (progress.Done (reply.Moved copied true)) (did.Step half.ExpungeHalf) store store history history faults faults
-known_gone name uid target held copied why store history faults runs missing = record {
+pub known_gone : {D : Type 0} → (name : List ℕ) (uid : Uid) (target : List ℕ) (held : MapUid) (copied : Uid) (source : BoxNo) (why : Refusal) (store : StoreValue D) (history : Option History) (faults : Faults) → store.stopped ≡ false → IsReadyToMove name uid (stage.Removing held copied source) store → missing_message name uid.0 store ≡ Some why
+    → MoveKnown name uid target (stage.Removing held copied source) stage.First (progress.Done (reply.Moved copied true)) (did.Step half.ExpungeHalf) store store history history faults faults
+known_gone name uid target held copied source why store history faults runs ready missing = record {
   ready = none_due name uid store;
-  does = move_gone name uid target held copied (IsAtMove uid stage.First) store history faults why runs missing;
+  does = move_gone name uid target held copied source.0 (IsAtMove uid stage.First) store history faults why runs ready.source.named missing;
   keeps = idle_keeps (KeepsRest store store) _ _ _ store history faults runs (moved_stopped copied true) refl;
   moves = moves_as (move_amounts stage.First) (amounts_in store) (amounts_in store) (λ other. refl);
   replies = (refl, refl, refl, (why, missing));
   left = λ e. absurd (done_more (reply.Moved copied true) e);
 }
 
-pub known_broken : {D : Type 0} → (name : List ℕ) (uid : Uid) (target : List ℕ) (held : MapUid) (copied : Uid) (old new : StoreValue D) (before after : Option History) (began faulted : Faults) → IsStore before old → old.stopped ≡ false → IsReadyToMove name uid (stage.Removing held copied) old
-    → FellRemoving name uid old new before after began faulted → MoveKnown name uid target (stage.Removing held copied) (stage.Removing held copied) (progress.Done (reply.Refused refusal.Stopped)) (did.Broken half.ExpungeHalf) old new before after began faulted
-known_broken name uid target held copied old new before after began faulted is ran ready r = record {
+pub known_broken : {D : Type 0} → (name : List ℕ) (uid : Uid) (target : List ℕ) (held : MapUid) (copied : Uid) (source : BoxNo) (old new : StoreValue D) (before after : Option History) (began faulted : Faults) → IsStore before old → old.stopped ≡ false → IsReadyToMove name uid (stage.Removing held copied source) old
+    → FellRemoving name uid old new before after began faulted → MoveKnown name uid target (stage.Removing held copied source) (stage.Removing held copied source) (progress.Done (reply.Refused refusal.Stopped)) (did.Broken half.ExpungeHalf) old new before after began faulted
+known_broken name uid target held copied source old new before after began faulted is ran ready r = record {
   ready = record {
     due = λ other. omega arith;
-    source = record {
-      m = ready.source.m;
-      named = ap (λ (bs : List MapBox). meaning_named name bs (indexes_of new.boxes)) (ap (λ (m : MapMeaning). m.boxes) r.fell.appends.map) ∙ (ap (meaning_named name old.map.boxes) r.fell.indexes ∙ ready.source.named);
-      below = ready.source.below;
-      same = ready.source.same;
-    };
+    source = fallen_keeps name source.0 uid.0 held.0 old new r.fell.appends.map r.fell.indexes ready.source;
   };
-  does = move_broken name uid target held copied (IsAtMove uid (stage.Removing held copied)) old new before after began faulted is ran r;
+  does = move_broken name uid target held copied source.0 (IsAtMove uid (stage.Removing held copied source)) old new before after began faulted is ran ready.source.named r;
   keeps = box_fell_keeps _ _ _ _ old new before after began faulted ran r.fell;
-  moves = moves_as (move_amounts (stage.Removing held copied)) (amounts_in old) (amounts_in new) (λ other. due_as_before old new other r.fell.appends.map r.fell.dues);
-  replies = (refl, refl, refl, r.fell.stopped);
+  moves = moves_as (move_amounts (stage.Removing held copied source)) (amounts_in old) (amounts_in new) (λ other. due_as_before old new other r.fell.appends.map r.fell.dues);
+  replies = (refl, refl, refl, r.fell.stopped, refl);
   left = λ e. absurd (done_more (reply.Refused refusal.Stopped) e);
 }
 

@@ -2,6 +2,7 @@
 use Rattle.std.proofs.Common.{◌≡◌, ℕ, Bool, true, false, List, Option, Some, refl, sym, subst, inl, inr}
 use Rattle.std.specs.Prelude.{◌⊎◌}
 use Rattle.disk_model.specs.Disk.{History, Faults}
+use Rattle.mdbox_base.specs.declared.ids.BoxNo.{BoxNo}
 use Rattle.mdbox_base.specs.declared.ids.MapUid.{MapUid}
 use Rattle.mdbox_base.specs.declared.ids.Uid.{Uid}
 use Rattle.mdbox_base.specs.declared.progress.Did.{Did}
@@ -35,61 +36,22 @@ KnownBy history faults name uid target now next answer how old new = MoveKnown n
 
 known_by : {D : Type 0} → (history : D → Option History) (faults : D → Faults) (name : List ℕ) (uid : Uid) (target : List ℕ) (now next : MoveStage) (answer : Progress) (how : Did) (old new : StoreValue D) → IsStore (history old.disk) old → old.stopped ≡ false → IsReadyToMove name uid now old
     → MovesOn name uid target now next answer how old new (history old.disk) (history new.disk) (faults old.disk) (faults new.disk) → KnownBy history faults name uid target now next answer how old new
-known_by history faults name uid target stage.First (stage.Adding held) progress.More how old new is ran ready on =
-    subst (λ (h : Did). KnownBy history faults name uid target stage.First (stage.Adding held) progress.More h old new) (sym on.0) (known_raised name uid target held old new (history old.disk) (history new.disk) (faults old.disk) (faults new.disk) is ran on.1)
-known_by history faults name uid target stage.First stage.First (progress.Done (reply.Refused why)) how old new is ran ready on =
-    subst (λ (h : Did). KnownBy history faults name uid target stage.First stage.First (progress.Done (reply.Refused why)) h old new) (sym on.2)
-    (subst (λ (w : Refusal). KnownBy history faults name uid target stage.First stage.First (progress.Done (reply.Refused w)) (told_as half.CopyHalf did.Failed on.0) old new) (sym on.1) (known_refused history faults name uid target on.0 old new ran on.3))
-known_by history faults name uid target (stage.Adding held) (stage.Removing still copied) progress.More how old new is ran ready on =
-    subst (λ (h : Did). KnownBy history faults name uid target (stage.Adding held) (stage.Removing still copied) progress.More h old new) (sym on.1)
-    (subst (λ (s : MapUid). KnownBy history faults name uid target (stage.Adding held) (stage.Removing s copied) progress.More (did.Step half.CopyHalf) old new) (sym on.0) (known_added name uid target held copied old new (history old.disk) (history new.disk) (faults old.disk) (faults new.disk) is ran ready on.2))
-known_by history faults name uid target (stage.Adding held) (stage.Adding still) (progress.Done (reply.Refused why)) how old new is ran ready on =
-    subst (λ (h : Did). KnownBy history faults name uid target (stage.Adding held) (stage.Adding still) (progress.Done (reply.Refused why)) h old new) (sym on.2)
-    (subst (λ (w : Refusal). KnownBy history faults name uid target (stage.Adding held) (stage.Adding still) (progress.Done (reply.Refused w)) (did.Broken half.CopyHalf) old new) (sym on.1)
-    (subst (λ (s : MapUid). KnownBy history faults name uid target (stage.Adding held) (stage.Adding s) (progress.Done (reply.Refused refusal.Stopped)) (did.Broken half.CopyHalf) old new) (sym on.0) (known_unadded name uid target held old new (history old.disk) (history new.disk) (faults old.disk) (faults new.disk) is ran ready on.3)))
-known_by history faults name uid target (stage.Adding held) (stage.GivingBack still why) progress.More how old new is ran ready on =
-    subst (λ (s : MapUid). KnownBy history faults name uid target (stage.Adding held) (stage.GivingBack s why) progress.More how old new) (sym on.0)
-    (subst (λ (s : StoreValue _). KnownBy history faults name uid target (stage.Adding held) (stage.GivingBack held why) progress.More how old s) (sym on.1) (by_cause on.2))
+known_by history faults name uid target stage.First (stage.Adding held source) progress.More how old new is ran ready on = rw on.0 (known_raised name uid target held source old new (history old.disk) (history new.disk) (faults old.disk) (faults new.disk) is ran on.1)
+known_by history faults name uid target stage.First stage.First (progress.Done (reply.Refused why)) how old new is ran ready on = rw (on.2, on.1) (known_refused history faults name uid target on.0 old new ran on.3)
+known_by history faults name uid target (stage.Adding held source) (stage.Removing still copied from) progress.More how old new is ran ready on = rw (on.1, on.0, on.3) (known_added name uid target held source copied old new (history old.disk) (history new.disk) (faults old.disk) (faults new.disk) is ran ready on.2)
+known_by history faults name uid target (stage.Adding held source) (stage.Adding still same) (progress.Done (reply.Refused why)) how old new is ran ready on = rw (on.2, on.1, on.0, on.4) (known_unadded name uid target held source old new (history old.disk) (history new.disk) (faults old.disk) (faults new.disk) is ran ready on.3)
+known_by history faults name uid target (stage.Adding held source) (stage.GivingBack still why) progress.More how old new is ran ready on = rw (on.0, on.1) (by_cause on.2)
   where
-    by_cause : ((how ≡ did.Step half.CopyHalf) × (copy_refusal name uid.0 target old ≡ Some why)) ⊎ ((how ≡ did.Quiet) × (why ≡ refusal.NoMemory)) → KnownBy history faults name uid target (stage.Adding held) (stage.GivingBack held why) progress.More how old old
-    by_cause (inl e) =
-        subst (λ (h : Did). KnownBy history faults name uid target (stage.Adding held) (stage.GivingBack held why) progress.More h old old) (sym e.0)
-        (known_back name uid target held why (did.Step half.CopyHalf) old (history old.disk) (faults old.disk) ran ready (inl e.1) (add_refused (request.Move name uid target) name uid target half.CopyHalf held old (history old.disk) (faults old.disk) why (move_copies name uid target) ran e.1))
-    by_cause (inr e) =
-        subst (λ (h : Did). KnownBy history faults name uid target (stage.Adding held) (stage.GivingBack held why) progress.More h old old) (sym e.0)
-        (subst (λ (w : Refusal). KnownBy history faults name uid target (stage.Adding held) (stage.GivingBack held w) progress.More did.Quiet old old) (sym e.1)
-        (known_back name uid target held refusal.NoMemory did.Quiet old (history old.disk) (faults old.disk) ran ready (inr refl) (add_unremembered (request.Move name uid target) name uid target half.CopyHalf held old (history old.disk) (faults old.disk) (move_copies name uid target) ran)))
-known_by history faults name uid target (stage.GivingBack held why) stage.First (progress.Done (reply.Refused given)) how old new is ran ready on =
-    subst (λ (h : Did). KnownBy history faults name uid target (stage.GivingBack held why) stage.First (progress.Done (reply.Refused given)) h old new) (sym on.1)
-    (subst (λ (w : Refusal). KnownBy history faults name uid target (stage.GivingBack held why) stage.First (progress.Done (reply.Refused w)) did.Quiet old new) (sym on.0) (known_given name uid target held why old new (history old.disk) (history new.disk) (faults old.disk) (faults new.disk) ran ready ready.source on.2))
-known_by history faults name uid target (stage.GivingBack held why) (stage.GivingBack still cause) (progress.Done (reply.Refused given)) how old new is ran ready on =
-    subst (λ (h : Did). KnownBy history faults name uid target (stage.GivingBack held why) (stage.GivingBack still cause) (progress.Done (reply.Refused given)) h old new) (sym on.3)
-    (subst (λ (w : Refusal). KnownBy history faults name uid target (stage.GivingBack held why) (stage.GivingBack still cause) (progress.Done (reply.Refused w)) did.Failed old new) (sym on.2)
-    (subst (λ (w : Refusal). KnownBy history faults name uid target (stage.GivingBack held why) (stage.GivingBack still w) (progress.Done (reply.Refused refusal.Stopped)) did.Failed old new) (sym on.1)
-    (subst (λ (s : MapUid). KnownBy history faults name uid target (stage.GivingBack held why) (stage.GivingBack s why) (progress.Done (reply.Refused refusal.Stopped)) did.Failed old new) (sym on.0) (known_ungiven name uid target held why old new (history old.disk) (history new.disk) (faults old.disk) (faults new.disk) ran ready on.4))))
-known_by history faults name uid target (stage.Removing held copied) (stage.Owing owed same) progress.More how old new is ran ready on =
-    subst (λ (h : Did). KnownBy history faults name uid target (stage.Removing held copied) (stage.Owing owed same) progress.More h old new) (sym on.2)
-    (subst (λ (u : Uid). KnownBy history faults name uid target (stage.Removing held copied) (stage.Owing owed u) progress.More (did.Step half.ExpungeHalf) old new) (sym on.1)
-    (subst (λ (s : MapUid). KnownBy history faults name uid target (stage.Removing held copied) (stage.Owing s copied) progress.More (did.Step half.ExpungeHalf) old new) (sym on.0) (known_removed name uid target held copied old new (history old.disk) (history new.disk) (faults old.disk) (faults new.disk) is ran on.3)))
-known_by history faults name uid target (stage.Removing held copied) stage.First (progress.Done (reply.Moved given gone)) how old new is ran ready on =
-    subst (λ (h : Did). KnownBy history faults name uid target (stage.Removing held copied) stage.First (progress.Done (reply.Moved given gone)) h old new) (sym on.2)
-    (subst (λ (b : Bool). KnownBy history faults name uid target (stage.Removing held copied) stage.First (progress.Done (reply.Moved given b)) (did.Step half.ExpungeHalf) old new) (sym on.1)
-    (subst (λ (u : Uid). KnownBy history faults name uid target (stage.Removing held copied) stage.First (progress.Done (reply.Moved u true)) (did.Step half.ExpungeHalf) old new) (sym on.0)
-    (subst (λ (s : StoreValue _). KnownBy history faults name uid target (stage.Removing held copied) stage.First (progress.Done (reply.Moved copied true)) (did.Step half.ExpungeHalf) old s) (sym on.3) (known_gone name uid target held copied on.4.0 old (history old.disk) (faults old.disk) ran on.4.1))))
-known_by history faults name uid target (stage.Removing held copied) (stage.Removing still same) (progress.Done (reply.Refused why)) how old new is ran ready on =
-    subst (λ (h : Did). KnownBy history faults name uid target (stage.Removing held copied) (stage.Removing still same) (progress.Done (reply.Refused why)) h old new) (sym on.3)
-    (subst (λ (w : Refusal). KnownBy history faults name uid target (stage.Removing held copied) (stage.Removing still same) (progress.Done (reply.Refused w)) (did.Broken half.ExpungeHalf) old new) (sym on.2)
-    (subst (λ (u : Uid). KnownBy history faults name uid target (stage.Removing held copied) (stage.Removing still u) (progress.Done (reply.Refused refusal.Stopped)) (did.Broken half.ExpungeHalf) old new) (sym on.1)
-    (subst (λ (s : MapUid). KnownBy history faults name uid target (stage.Removing held copied) (stage.Removing s copied) (progress.Done (reply.Refused refusal.Stopped)) (did.Broken half.ExpungeHalf) old new) (sym on.0) (known_broken name uid target held copied old new (history old.disk) (history new.disk) (faults old.disk) (faults new.disk) is ran ready on.4))))
-known_by history faults name uid target (stage.Owing owed copied) stage.First (progress.Done (reply.Moved given gone)) how old new is ran ready on =
-    subst (λ (h : Did). KnownBy history faults name uid target (stage.Owing owed copied) stage.First (progress.Done (reply.Moved given gone)) h old new) (sym on.2)
-    (subst (λ (b : Bool). KnownBy history faults name uid target (stage.Owing owed copied) stage.First (progress.Done (reply.Moved given b)) did.Quiet old new) (sym on.1)
-    (subst (λ (u : Uid). KnownBy history faults name uid target (stage.Owing owed copied) stage.First (progress.Done (reply.Moved u false)) did.Quiet old new) (sym on.0) (known_lowered name uid target owed copied old new (history old.disk) (history new.disk) (faults old.disk) (faults new.disk) ran ready on.3)))
-known_by history faults name uid target (stage.Owing owed copied) (stage.Owing still same) (progress.Done (reply.Refused why)) how old new is ran ready on =
-    subst (λ (h : Did). KnownBy history faults name uid target (stage.Owing owed copied) (stage.Owing still same) (progress.Done (reply.Refused why)) h old new) (sym on.3)
-    (subst (λ (w : Refusal). KnownBy history faults name uid target (stage.Owing owed copied) (stage.Owing still same) (progress.Done (reply.Refused w)) did.Failed old new) (sym on.2)
-    (subst (λ (u : Uid). KnownBy history faults name uid target (stage.Owing owed copied) (stage.Owing still u) (progress.Done (reply.Refused refusal.Stopped)) did.Failed old new) (sym on.1)
-    (subst (λ (s : MapUid). KnownBy history faults name uid target (stage.Owing owed copied) (stage.Owing s copied) (progress.Done (reply.Refused refusal.Stopped)) did.Failed old new) (sym on.0) (known_unlowered name uid target owed copied old new (history old.disk) (history new.disk) (faults old.disk) (faults new.disk) ran ready on.4))))
+    by_cause : ((how ≡ did.Step half.CopyHalf) × (copy_refusal name uid.0 target old ≡ Some why)) ⊎ ((how ≡ did.Quiet) × (why ≡ refusal.NoMemory)) → KnownBy history faults name uid target (stage.Adding held source) (stage.GivingBack held why) progress.More how old old
+    by_cause (inl e) = rw e.0 (known_back name uid target held source why (did.Step half.CopyHalf) old (history old.disk) (faults old.disk) ran ready (inl e.1) (add_refused (request.Move name uid target) name uid target half.CopyHalf held source.0 old (history old.disk) (faults old.disk) why (move_copies name uid target) ran ready.source.named e.1))
+    by_cause (inr e) = rw (e.0, e.1) (known_back name uid target held source refusal.NoMemory did.Quiet old (history old.disk) (faults old.disk) ran ready (inr refl) (add_unremembered (request.Move name uid target) name uid target half.CopyHalf held source.0 old (history old.disk) (faults old.disk) (move_copies name uid target) ran ready.source.named))
+known_by history faults name uid target (stage.GivingBack held why) stage.First (progress.Done (reply.Refused given)) how old new is ran ready on = rw (on.1, on.0) (known_given name uid target held why old new (history old.disk) (history new.disk) (faults old.disk) (faults new.disk) ran ready ready.source on.2)
+known_by history faults name uid target (stage.GivingBack held why) (stage.GivingBack still cause) (progress.Done (reply.Refused given)) how old new is ran ready on = rw (on.3, on.2, on.1, on.0) (known_ungiven name uid target held why old new (history old.disk) (history new.disk) (faults old.disk) (faults new.disk) ran ready on.4)
+known_by history faults name uid target (stage.Removing held copied source) (stage.Owing owed same) progress.More how old new is ran ready on = rw (on.2, on.1, on.0) (known_removed name uid target held copied source old new (history old.disk) (history new.disk) (faults old.disk) (faults new.disk) is ran ready on.3)
+known_by history faults name uid target (stage.Removing held copied source) stage.First (progress.Done (reply.Moved given gone)) how old new is ran ready on = rw (on.2, on.1, on.0, on.3) (known_gone name uid target held copied source on.4.0 old (history old.disk) (faults old.disk) ran ready on.4.1)
+known_by history faults name uid target (stage.Removing held copied source) (stage.Removing still same from) (progress.Done (reply.Refused why)) how old new is ran ready on = rw (on.3, on.2, on.1, on.0, on.5) (known_broken name uid target held copied source old new (history old.disk) (history new.disk) (faults old.disk) (faults new.disk) is ran ready on.4)
+known_by history faults name uid target (stage.Owing owed copied) stage.First (progress.Done (reply.Moved given gone)) how old new is ran ready on = rw (on.2, on.1, on.0) (known_lowered name uid target owed copied old new (history old.disk) (history new.disk) (faults old.disk) (faults new.disk) ran ready on.3)
+known_by history faults name uid target (stage.Owing owed copied) (stage.Owing still same) (progress.Done (reply.Refused why)) how old new is ran ready on = rw (on.3, on.2, on.1, on.0) (known_unlowered name uid target owed copied old new (history old.disk) (history new.disk) (faults old.disk) (faults new.disk) ran ready on.4)
 known_by history faults name uid target now next answer how old new is ran ready on = absurd on
 
 -- Of a task that is seen as this.
@@ -108,9 +70,9 @@ move_ready task seen now store same at ready =
 stopped_at : {D : Type 0} → (name : List ℕ) (uid : Uid) (target : List ℕ) (now : MoveStage) (store : StoreValue D) (history : Option History) (faults : Faults) → store.stopped ≡ true
     → CopyingClause (request.Move name uid target) (IsAtMove uid now) (IsAtMove uid now) store store history history faults faults did.Quiet (Some (reply.Refused refusal.Stopped))
 stopped_at name uid target stage.First store history faults stopped = raise_stopped (request.Move name uid target) name uid target half.CopyHalf (IsAtMove uid stage.First) store history faults (move_copies name uid target) stopped
-stopped_at name uid target (stage.Adding held) store history faults stopped = add_stopped (request.Move name uid target) name uid target half.CopyHalf held (IsAtMove uid (stage.Adding held)) store history faults (move_copies name uid target) stopped
+stopped_at name uid target (stage.Adding held source) store history faults stopped = add_stopped (request.Move name uid target) name uid target half.CopyHalf held source.0 (IsAtMove uid (stage.Adding held source)) store history faults (move_copies name uid target) stopped
 stopped_at name uid target (stage.GivingBack held why) store history faults stopped = back_stopped (request.Move name uid target) name uid target half.CopyHalf held why (IsAtMove uid (stage.GivingBack held why)) store history faults (move_copies name uid target) stopped
-stopped_at name uid target (stage.Removing held copied) store history faults stopped = removal_stopped name uid target held copied (IsAtMove uid (stage.Removing held copied)) store history faults stopped
+stopped_at name uid target (stage.Removing held copied source) store history faults stopped = removal_stopped name uid target held copied source.0 (IsAtMove uid (stage.Removing held copied source)) store history faults stopped
 stopped_at name uid target (stage.Owing owed copied) store history faults stopped = lowering_stopped name uid target owed copied (IsAtMove uid (stage.Owing owed copied)) store history faults stopped
 
 pub move_stopped : {D : Type 0} → (task seen : MoveValue) (store : StoreValue D) (history : Option History) (faults : Faults) → task ≡ seen → store.stopped ≡ true
@@ -122,7 +84,7 @@ move_stopped task seen store history faults same stopped =
 
 pub move_kept : (uid : Uid) (now : MoveStage) → IsKept (IsAtMove uid now)
 move_kept uid stage.First = not_begun_stays
-move_kept uid (stage.Adding held) = holding_kept held
+move_kept uid (stage.Adding held source) = holding_kept held source.0
 move_kept uid (stage.GivingBack held why) = giving_back_kept held why
-move_kept uid (stage.Removing held copied) = copied_kept held copied
+move_kept uid (stage.Removing held copied source) = copied_kept held copied source.0
 move_kept uid (stage.Owing owed copied) = moved_kept uid owed copied

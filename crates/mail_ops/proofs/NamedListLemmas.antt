@@ -10,38 +10,34 @@ use Rattle.model_meaning.specs.BoxMeaning.{BoxMeaning}
 use Rattle.model_meaning.specs.MapMeaning.{MapBox}
 use Rattle.model_store.specs.Listing.{listed_row, ShowLists, meaning_named, listing_of}
 
--- what is found by name
-pub record IsFound (name : List ℕ) (lists : Lists) (m : BoxMeaning) : Type 0 where
+-- a mailbox that is found by name has the next UID, and the messages, that its log means
+pub record ShownBox (name : List ℕ) (lists : Lists) (m : BoxMeaning) : Type 0 where
   pub mailbox : Mailbox
-  pub there : mailbox_named name lists ≡ Some mailbox
+  pub named : mailbox_named name lists ≡ Some mailbox
+  pub next : mailbox.next_uid ≡ m.next
   pub rows : map listed_row m.rows ≡ map listing_row mailbox.messages
 
-abbrev pub Finds : List ℕ → Lists → Option BoxMeaning → Type 0
-Finds name lists None = mailbox_named name lists ≡ None
-Finds name lists (Some m) = IsFound name lists m
+abbrev pub ShowsBox : List ℕ → Lists → Option BoxMeaning → Type 0
+ShowsBox name lists None = mailbox_named name lists ≡ None
+ShowsBox name lists (Some m) = ShownBox name lists m
 
-pub found_by_name : (name : List ℕ) (boxes : List MapBox) (meanings : List BoxMeaning) (lists : Lists) → ShowLists boxes meanings lists → Finds name lists (meaning_named name boxes meanings)
-found_by_name name [] [] [] h = refl
-found_by_name name [] [] (l ∷ ls) h = absurd h
-found_by_name name [] (m ∷ ms) [] h = absurd h
-found_by_name name [] (m ∷ ms) (l ∷ ls) h = absurd h
-found_by_name name (b ∷ bs) [] [] h = absurd h
-found_by_name name (b ∷ bs) [] (l ∷ ls) h = absurd h
-found_by_name name (b ∷ bs) (m ∷ ms) [] h = absurd h
-found_by_name name (b ∷ bs) (m ∷ ms) (l ∷ ls) h = by_test (bytes_eq b.name name) refl (found_by_name name bs ms ls h.1)
+pub shows_box : (name : List ℕ) (boxes : List MapBox) (meanings : List BoxMeaning) (lists : Lists) → ShowLists boxes meanings lists → ShowsBox name lists (meaning_named name boxes meanings)
+shows_box name [] [] [] h = refl
+shows_box name (b ∷ bs) (m ∷ ms) (l ∷ ls) h = by_test (bytes_eq b.name name) refl (shows_box name bs ms ls h.1)
   where
     own : bytes_eq l.name name ≡ bytes_eq b.name name
     own = ap (λ (n : List ℕ). bytes_eq n name) h.0.name
 
-    later : (o : Option BoxMeaning) → bytes_eq b.name name ≡ false → Finds name ls o → Finds name (l ∷ ls) o
+    later : (o : Option BoxMeaning) → bytes_eq b.name name ≡ false → ShowsBox name ls o → ShowsBox name (l ∷ ls) o
     later None differs f = cond-false (bytes_eq l.name name) (Some l) (mailbox_named name ls) (own ∙ differs) ∙ f
-    later (Some x) differs f = record { mailbox = f.mailbox; there = cond-false (bytes_eq l.name name) (Some l) (mailbox_named name ls) (own ∙ differs) ∙ f.there; rows = f.rows }
+    later (Some x) differs f = record { mailbox = f.mailbox; named = cond-false (bytes_eq l.name name) (Some l) (mailbox_named name ls) (own ∙ differs) ∙ f.named; next = f.next; rows = f.rows }
 
-    by_test : (t : Bool) → bytes_eq b.name name ≡ t → Finds name ls (meaning_named name bs ms) → Finds name (l ∷ ls) (cond (bytes_eq b.name name) (Some m) (meaning_named name bs ms))
-    by_test true same f = subst (Finds name (l ∷ ls)) (sym (cond-true (bytes_eq b.name name) (Some m) (meaning_named name bs ms) same))
-        (record { mailbox = l; there = cond-true (bytes_eq l.name name) (Some l) (mailbox_named name ls) (own ∙ same); rows = h.0.rows })
-    by_test false differs f = subst (Finds name (l ∷ ls)) (sym (cond-false (bytes_eq b.name name) (Some m) (meaning_named name bs ms) differs)) (later (meaning_named name bs ms) differs f)
+    by_test : (t : Bool) → bytes_eq b.name name ≡ t → ShowsBox name ls (meaning_named name bs ms) → ShowsBox name (l ∷ ls) (cond (bytes_eq b.name name) (Some m) (meaning_named name bs ms))
+    by_test true same f = subst (ShowsBox name (l ∷ ls)) (sym (cond-true (bytes_eq b.name name) (Some m) (meaning_named name bs ms) same))
+        (record { mailbox = l; named = cond-true (bytes_eq l.name name) (Some l) (mailbox_named name ls) (own ∙ same); next = h.0.next; rows = h.0.rows })
+    by_test false differs f = subst (ShowsBox name (l ∷ ls)) (sym (cond-false (bytes_eq b.name name) (Some m) (meaning_named name bs ms) differs)) (later (meaning_named name bs ms) differs f)
+shows_box name boxes meanings lists h = absurd h
 
-pub answered : (run : Run) (event : RunEvent) (lists : Lists) (name : List ℕ) (o : Option BoxMeaning) → Finds name lists o → PartAnswers run event lists (ListBox name) First (listing_of o) lists
+pub answered : (run : Run) (event : RunEvent) (lists : Lists) (name : List ℕ) (o : Option BoxMeaning) → ShowsBox name lists o → PartAnswers run event lists (ListBox name) First (listing_of o) lists
 answered run event lists name None f = (rw f refl, refl)
-answered run event lists name (Some m) f = (rw f.there refl, (f.mailbox, f.there, f.rows, refl))
+answered run event lists name (Some m) f = (rw f.named refl, (f.mailbox, f.named, f.rows, refl))

@@ -61,12 +61,6 @@ shown_box box m x octets e made s = record {
 -- What the logs mean with the entry shows the lists that it gives.
 pub shown_entry : (number : ℕ) (octets : List ℕ) (e : BoxEntry) (boxes : List MapBox) (meanings : List BoxMeaning) (lists : Lists) → MakesAlike octets e → ShowLists boxes meanings lists → ShowLists boxes (meanings_by number e boxes meanings) (lists_by number octets e lists)
 shown_entry number octets e [] [] [] made h = tt
-shown_entry number octets e [] [] (l ∷ ls) made h = absurd h
-shown_entry number octets e [] (m ∷ ms) [] made h = absurd h
-shown_entry number octets e [] (m ∷ ms) (l ∷ ls) made h = absurd h
-shown_entry number octets e (b ∷ bs) [] [] made h = absurd h
-shown_entry number octets e (b ∷ bs) [] (l ∷ ls) made h = absurd h
-shown_entry number octets e (b ∷ bs) (m ∷ ms) [] made h = absurd h
 shown_entry number octets e (b ∷ bs) (m ∷ ms) (l ∷ ls) made h = by_test (b.number == number) (l.number == number) (ap (λ (n : ℕ). n == number) (sym h.0.number)) (shown_entry number octets e bs ms ls made h.1)
   where
     by_test : (t s : Bool) → t ≡ s → ShowLists bs (meanings_by number e bs ms) (lists_by number octets e ls)
@@ -75,3 +69,4 @@ shown_entry number octets e (b ∷ bs) (m ∷ ms) (l ∷ ls) made h = by_test (b
     by_test false false p rest = (h.0, rest)
     by_test true false p rest = absurd (cc p)
     by_test false true p rest = absurd (cc p)
+shown_entry number octets e boxes meanings lists made h = absurd h

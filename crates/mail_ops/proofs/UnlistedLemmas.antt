@@ -88,9 +88,6 @@ row_counts guid uid (r ∷ rs) row there same = by_test (r.uid == uid) there (λ
     by_test false t rest = let a = counted guid r rs in let b = rest t in omega (arith, a, b)
 
 pub listed_counts : (guid name : List ℕ) (uid : ℕ) (boxes : List MapBox) (meanings : List BoxMeaning) (m : BoxMeaning) (row : LogRow) → meaning_named name boxes meanings ≡ Some m → row_at m uid ≡ Some row → has_guid guid row ≡ true → 1 ≤ refs_in meanings guid
-listed_counts guid name uid [] [] m row named there same = absurd (let k : None ≡ Some m = named in cc k)
-listed_counts guid name uid [] (x ∷ xs) m row named there same = absurd (let k : None ≡ Some m = named in cc k)
-listed_counts guid name uid (b ∷ bs) [] m row named there same = absurd (let k : None ≡ Some m = named in cc k)
 listed_counts guid name uid (b ∷ bs) (x ∷ xs) m row named there same = by_test (bytes_eq b.name name) named (λ n. listed_counts guid name uid bs xs m row n there same)
   where
     by_test : (t : Bool) → cond t (Some x) (meaning_named name bs xs) ≡ Some m → (meaning_named name bs xs ≡ Some m → 1 ≤ refs_in xs guid) → 1 ≤ refs_in (x ∷ xs) guid
@@ -99,3 +96,4 @@ listed_counts guid name uid (b ∷ bs) (x ∷ xs) m row named there same = by_te
         let c = row_counts guid uid x.rows row (subst (λ (y : BoxMeaning). row_at y uid ≡ Some row) (sym k) there) same in
         let a = refs_more guid x xs in omega (arith, a, c)
     by_test false n rest = let a = refs_more guid x xs in let c = rest n in omega (arith, a, c)
+listed_counts guid name uid boxes meanings m row named there same = absurd (let k : None ≡ Some m = named in cc k)

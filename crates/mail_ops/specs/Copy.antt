@@ -17,7 +17,6 @@ use Rattle.model_meaning.specs.MapMeaning.{count_of}
 use Rattle.list_machine.specs.Run.{Run}
 use Rattle.list_machine.specs.Machine.{add_message, message_at}
 use Rattle.store_core.specs.Dues.{Amounts}
-use Rattle.store_core.specs.Keeping.{KeepsUid}
 use Rattle.store_core.specs.Value.{StoreValue}
 use Rattle.task_steps.specs.ExpungeStages.{one_due}
 use Rattle.task_steps.specs.Step.{HasNotBegun}
@@ -25,6 +24,7 @@ use Rattle.mail_ops.specs.Appends.{MapTook, MapFell, TakesIntoMap, lowering_of}
 use Rattle.mail_ops.specs.CopyStages.{IsHolding, IsGivingBack}
 use Rattle.mail_ops.specs.Copying.{CopyPlace, copy_refusal, RaisesRow, IsRaiseRefusal, MayBeRaised, raising_of, IsNotRaised, AddsRow, FellAdding}
 use Rattle.mail_ops.specs.Event.{refusal_told, told_as}
+use Rattle.mail_ops.specs.Messages.{KeepsNamed}
 use Rattle.mail_ops.specs.Owing.{AreDueIn}
 use Rattle.mail_ops.specs.declared.copy.CopyStage.{CopyStage}
 use Rattle.mail_ops.specs.declared.copy.CopyStage.TheVariants as stage
@@ -41,13 +41,13 @@ pub record CopyValue : Type 0 where
 -- where the task stands
 abbrev pub IsAtCopy : CopyStage → Run → ℕ → List Reply → Type 0
 IsAtCopy stage.First run place said = HasNotBegun run place said
-IsAtCopy (stage.Adding held) run place said = IsHolding held run place said
+IsAtCopy (stage.Adding held source) run place said = IsHolding held source.0 run place said
 IsAtCopy (stage.GivingBack held why) run place said = IsGivingBack held why run place said
 
 -- what it holds: behind its first event, the record of the message
 abbrev pub copy_dues : CopyStage → ℕ → ℕ
 copy_dues stage.First uid = 0
-copy_dues (stage.Adding held) uid = one_due held.0 uid
+copy_dues (stage.Adding held source) uid = one_due held.0 uid
 copy_dues (stage.GivingBack held why) uid = one_due held.0 uid
 
 abbrev pub copy_amounts : CopyStage → Amounts
@@ -56,13 +56,13 @@ copy_amounts now = record { due = copy_dues now }
 -- how many events are still to come at the most
 abbrev pub copy_left : CopyStage → ℕ
 copy_left stage.First = 3
-copy_left (stage.Adding held) = 2
+copy_left (stage.Adding held source) = 2
 copy_left (stage.GivingBack held why) = 1
 
--- What an event asks of the store: what the task holds is due there, the source lists no other message with the UID, and a count
--- isn't given back for a store that is stopped.
+-- What an event asks of the store: what the task holds is due there, the source's name names the mailbox from which it began, which
+-- lists no other message with the UID, and a count isn't given back for a store that is stopped.
 abbrev pub KeepsSource : {D : Type 0} → List ℕ → Uid → CopyStage → StoreValue D → Type 0
-KeepsSource name uid (stage.Adding held) store = KeepsUid name uid.0 held.0 store
+KeepsSource name uid (stage.Adding held source) store = KeepsNamed name source.0 uid.0 held.0 store
 KeepsSource name uid (stage.GivingBack held why) store = why ≢ refusal.Stopped
 KeepsSource name uid now store = Unit {0}
 
@@ -78,14 +78,14 @@ copied_lists name uid target lists = option_map_or (λ message. add_message targ
 -- count had room and was raised. The second gives the target's next UID; or it is refused, or out of memory, and the count is given
 -- back. The third replies by what the second was refused, and has lowered the count.
 abbrev pub CopyAnswers : {D : Type 0} → List ℕ → Uid → List ℕ → CopyStage → StoreValue D → StoreValue D → CopyStage → Progress → Type 0
-CopyAnswers name uid target stage.First old new (stage.Adding held) progress.More =
+CopyAnswers name uid target stage.First old new (stage.Adding held source) progress.More =
     (row : LogRow) × (number : ℕ) × (next : ℕ) × CopyPlace name uid.0 target old row number next × (held.0 ≡ row.map_uid) × (count_of old.map row.guid < 65535) × TakesIntoMap (raising_of held) old new
 CopyAnswers name uid target stage.First old new stage.First (progress.Done (reply.Refused why)) =
     ((why ≡ refusal.Stopped) × (new.stopped ≡ true) × MayBeRaised name uid.0 target old) ⊎ ((new ≡ old) × (IsRaiseRefusal name uid.0 target old why ⊎ ((why ≡ refusal.NoMemory) × MayBeRaised name uid.0 target old)))
-CopyAnswers name uid target (stage.Adding held) old new stage.First (progress.Done (reply.Copied given)) =
+CopyAnswers name uid target (stage.Adding held source) old new stage.First (progress.Done (reply.Copied given)) =
     (row : LogRow) × (number : ℕ) × CopyPlace name uid.0 target old row number given.0 × (held.0 ≡ row.map_uid)
-CopyAnswers name uid target (stage.Adding held) old new (stage.Adding still) (progress.Done (reply.Refused why)) = (still ≡ held) × (why ≡ refusal.Stopped) × (new.stopped ≡ true)
-CopyAnswers name uid target (stage.Adding held) old new (stage.GivingBack still why) progress.More = (still ≡ held) × (new ≡ old) × ((copy_refusal name uid.0 target old ≡ Some why) ⊎ (why ≡ refusal.NoMemory))
+CopyAnswers name uid target (stage.Adding held source) old new (stage.Adding still same) (progress.Done (reply.Refused why)) = (still ≡ held) × (why ≡ refusal.Stopped) × (new.stopped ≡ true) × (same ≡ source)
+CopyAnswers name uid target (stage.Adding held source) old new (stage.GivingBack still why) progress.More = (still ≡ held) × (new ≡ old) × ((copy_refusal name uid.0 target old ≡ Some why) ⊎ (why ≡ refusal.NoMemory))
 CopyAnswers name uid target (stage.GivingBack held why) old new stage.First (progress.Done (reply.Refused given)) = (given ≡ why) × TakesIntoMap (lowering_of held) old new
 CopyAnswers name uid target (stage.GivingBack held why) old new (stage.GivingBack still cause) (progress.Done (reply.Refused given)) = (still ≡ held) × (cause ≡ why) × (given ≡ refusal.Stopped) × (new.stopped ≡ true)
 CopyAnswers name uid target now old new next answer = ⊥
@@ -94,13 +94,13 @@ CopyAnswers name uid target now old new next answer = ⊥
 
 -- What an event does, of a store that isn't stopped: from one stage to another, with this answer.
 abbrev pub CopiesOn : {D : Type 0} → List ℕ → Uid → List ℕ → CopyStage → CopyStage → Progress → Did → StoreValue D → StoreValue D → Option History → Option History → Faults → Faults → Type 0
-CopiesOn name uid target stage.First (stage.Adding held) progress.More how old new before after began now = (how ≡ did.Quiet) × RaisesRow name uid target held old new before after began now
+CopiesOn name uid target stage.First (stage.Adding held source) progress.More how old new before after began now = (how ≡ did.Quiet) × RaisesRow name uid target held source old new before after began now
 CopiesOn name uid target stage.First stage.First (progress.Done (reply.Refused why)) how old new before after began now =
     (e : NotDone) × (why ≡ refusal_told e) × (how ≡ told_as half.Whole did.Failed e) × IsNotRaised name uid target e old new before after began now
-CopiesOn name uid target (stage.Adding held) stage.First (progress.Done (reply.Copied given)) how old new before after began now = (how ≡ did.Step half.Whole) × AddsRow name uid target held given old new before after began now
-CopiesOn name uid target (stage.Adding held) (stage.Adding still) (progress.Done (reply.Refused why)) how old new before after began now =
-    (still ≡ held) × (why ≡ refusal.Stopped) × (how ≡ did.Broken half.Whole) × FellAdding name uid target held old new before after began now
-CopiesOn name uid target (stage.Adding held) (stage.GivingBack still why) progress.More how old new before after began now =
+CopiesOn name uid target (stage.Adding held source) stage.First (progress.Done (reply.Copied given)) how old new before after began now = (how ≡ did.Step half.Whole) × AddsRow name uid target held given old new before after began now
+CopiesOn name uid target (stage.Adding held source) (stage.Adding still same) (progress.Done (reply.Refused why)) how old new before after began now =
+    (still ≡ held) × (why ≡ refusal.Stopped) × (how ≡ did.Broken half.Whole) × FellAdding name uid target held old new before after began now × (same ≡ source)
+CopiesOn name uid target (stage.Adding held source) (stage.GivingBack still why) progress.More how old new before after began now =
     (still ≡ held) × (new ≡ old) × (((how ≡ did.Step half.Whole) × (copy_refusal name uid.0 target old ≡ Some why)) ⊎ ((how ≡ did.Quiet) × (why ≡ refusal.NoMemory)))
 CopiesOn name uid target (stage.GivingBack held why) stage.First (progress.Done (reply.Refused given)) how old new before after began now =
     (given ≡ why) × (how ≡ did.Quiet) × MapTook (lowering_of held) old new before after began now

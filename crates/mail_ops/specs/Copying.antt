@@ -6,6 +6,7 @@ use Rattle.mdbox_base.specs.declared.entries.BoxEntry.{BoxEntry}
 use Rattle.mdbox_base.specs.declared.entries.BoxEntry.TheVariants as box_entry
 use Rattle.mdbox_base.specs.declared.entries.MapEntry.{MapEntry}
 use Rattle.mdbox_base.specs.declared.entries.MapEntry.TheVariants as map_entry
+use Rattle.mdbox_base.specs.declared.ids.BoxNo.{BoxNo}
 use Rattle.mdbox_base.specs.declared.ids.MapUid.{MapUid}
 use Rattle.mdbox_base.specs.declared.ids.Uid.{Uid}
 use Rattle.mdbox_base.specs.declared.replies.Refusal.{Refusal}
@@ -51,15 +52,16 @@ raising_of uid = map_entry.U uid
 abbrev pub added_copy : Uid → LogRow → BoxEntry
 added_copy given row = box_entry.A given row.flags row.time row.size (record { 0 = row.map_uid }) (record { 0 = row.guid })
 
--- The count of the message's record was raised.
-pub record RaisesRow {D : Type 0} (name : List ℕ) (uid : Uid) (target : List ℕ) (held : MapUid) (old new : StoreValue D) (before after : Option History) (began now : Faults) : Type 0 where
+-- The count of the message's record was raised, of the mailbox with this number.
+pub record RaisesRow {D : Type 0} (name : List ℕ) (uid : Uid) (target : List ℕ) (held : MapUid) (source : BoxNo) (old new : StoreValue D) (before after : Option History) (began now : Faults) : Type 0 where
   pub row : LogRow
   pub number : ℕ
   pub next : ℕ
   pub at : CopyPlace name uid.0 target old row number next
+  pub source_is : at.source ≡ source.0
   pub holds : held.0 ≡ row.map_uid
   pub few : count_of old.map row.guid < 65535
-  pub keeps : KeepsUid name uid.0 held.0 old
+  pub keeps : KeepsUid source.0 uid.0 held.0 old
   pub took : MapTook (raising_of held) old new before after began now
 
 -- why it wasn't

@@ -5,7 +5,9 @@ use Rattle.std.specs.Str.{bytes_eq}
 use Rattle.mdbox_base.specs.declared.replies.Refusal.{Refusal}
 use Rattle.mdbox_base.specs.declared.replies.Refusal.TheVariants as refusal
 use Rattle.model_meaning.specs.BoxMeaning.{LogRow, BoxMeaning, row_at}
+use Rattle.store_core.specs.Keeping.{KeepsUid}
 use Rattle.store_core.specs.Value.{StoreValue, list_named, list_numbered}
+use Rattle.task_claims.specs.Leaving.{number_named}
 
 -- Why there is no such message: no mailbox has the name, or no message of it the UID.
 abbrev pub missing_message : {D : Type 0} → List ℕ → ℕ → StoreValue D → Option Refusal
@@ -22,3 +24,8 @@ pub record IsRowOf {D : Type 0} (name : List ℕ) (uid : ℕ) (store : StoreValu
   pub m : BoxMeaning
   pub box : IsBoxOf name store number m
   pub listed : row_at m uid ≡ Some row
+
+-- The mailbox with this name has this number, and lists no other message with this UID than one of this record.
+pub record KeepsNamed {D : Type 0} (name : List ℕ) (source uid held : ℕ) (store : StoreValue D) : Type 0 where
+  pub named : number_named store.map name ≡ Some source
+  pub keeps : KeepsUid source uid held store

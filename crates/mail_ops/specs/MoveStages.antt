@@ -5,29 +5,24 @@ use Rattle.mdbox_base.specs.declared.ids.MapUid.{MapUid}
 use Rattle.mdbox_base.specs.declared.ids.Uid.{Uid}
 use Rattle.mdbox_base.specs.declared.replies.Reply.{Reply}
 use Rattle.mdbox_base.specs.declared.replies.Reply.TheVariants as reply
-use Rattle.list_machine.specs.Run.{Last, SecondHalf, RunEvent, Run, own_events, uid_added}
-use Rattle.mail_ops.specs.CopyStages.{HasRaised}
+use Rattle.list_machine.specs.Run.{Last, SecondHalf, Run, own_events, source_of, uid_copied}
+use Rattle.journal.specs.Events.{last_refusal, uid_held}
+use Rattle.mail_ops.specs.MakeStages.{EndsInPart}
 
--- The event added the message to the target, with this UID.
-pub record HasAdded (copied : Uid) (event : RunEvent) : Type 0 where
-  pub part : event.part ≡ Last
-  pub unrefused : event.refused ≡ None
-  pub added : uid_added event.box_entries ≡ Some copied.0
+-- Its last event has added the message of the mailbox with this number, with this UID, by the record that it held, and answered so.
+pub record HasCopied (held : MapUid) (copied : Uid) (source : ℕ) (run : Run) (place : ℕ) (said : List Reply) : Type 0 where
+  pub unrefused : last_refusal (own_events place run) ≡ None
+  pub last : EndsInPart Last (own_events place run)
+  pub held_is : uid_held place run ≡ Some held.0
+  pub source_is : source_of place run ≡ source
+  pub copied_is : uid_copied place run ≡ Some copied.0
+  pub said_is : said ≡ reply.Copied copied ∷ []
 
--- The event removed the message with this UID from a mailbox.
-pub record HasRemoved (uid : Uid) (event : RunEvent) : Type 0 where
-  pub part : event.part ≡ SecondHalf
-  pub unrefused : event.refused ≡ None
-  pub mailbox : ℕ
-  pub removed : event.box_entries ≡ record { mailbox = mailbox; entry = box_entry.R uid } ∷ []
-
--- It has added the message, with this UID, by the record that it held, and answered so.
-abbrev pub HasCopied : MapUid → Uid → Run → ℕ → List Reply → Type 0
-HasCopied held copied run place said =
-    ((first : RunEvent) × (second : RunEvent) × (own_events place run ≡ first ∷ second ∷ []) × HasRaised held first × HasAdded copied second) × (said ≡ reply.Copied copied ∷ [])
-
--- Its third event has removed the message with this UID from its source, and answered so.
-abbrev pub HasMoved : Uid → MapUid → Uid → Run → ℕ → List Reply → Type 0
-HasMoved uid owed copied run place said =
-    ((first : RunEvent) × (second : RunEvent) × (third : RunEvent) × (own_events place run ≡ first ∷ second ∷ third ∷ []) × HasRaised owed first × HasAdded copied second × HasRemoved uid third)
-    × (said ≡ reply.Copied copied ∷ reply.Moved copied false ∷ [])
+-- Its last event has removed the message with this UID from a mailbox, its source, and answered so.
+pub record HasMoved (uid : Uid) (owed : MapUid) (copied : Uid) (run : Run) (place : ℕ) (said : List Reply) : Type 0 where
+  pub unrefused : last_refusal (own_events place run) ≡ None
+  pub last : EndsInPart SecondHalf (own_events place run)
+  pub removed : last.last.box_entries ≡ record { mailbox = source_of place run; entry = box_entry.R uid } ∷ []
+  pub held_is : uid_held place run ≡ Some owed.0
+  pub copied_is : uid_copied place run ≡ Some copied.0
+  pub said_is : said ≡ reply.Copied copied ∷ reply.Moved copied false ∷ []

@@ -16,7 +16,6 @@ use Rattle.model_meaning.specs.BoxMeaning.{LogRow}
 use Rattle.model_meaning.specs.MapMeaning.{count_of}
 use Rattle.list_machine.specs.Run.{Run}
 use Rattle.store_core.specs.Dues.{Amounts}
-use Rattle.store_core.specs.Keeping.{KeepsUid}
 use Rattle.store_core.specs.Value.{StoreValue}
 use Rattle.task_steps.specs.ExpungeStages.{one_due}
 use Rattle.task_steps.specs.Step.{HasNotBegun}
@@ -25,7 +24,7 @@ use Rattle.mail_ops.specs.CopyStages.{IsHolding, IsGivingBack}
 use Rattle.mail_ops.specs.Copying.{CopyPlace, copy_refusal, RaisesRow, IsRaiseRefusal, MayBeRaised, raising_of, IsNotRaised, AddsRow, FellAdding}
 use Rattle.mail_ops.specs.Event.{refusal_told, told_as}
 use Rattle.mail_ops.specs.Expunging.{RemovesRow, FellRemoving}
-use Rattle.mail_ops.specs.Messages.{IsRowOf, missing_message}
+use Rattle.mail_ops.specs.Messages.{IsRowOf, KeepsNamed, missing_message}
 use Rattle.mail_ops.specs.MoveStages.{HasCopied, HasMoved}
 use Rattle.mail_ops.specs.Owing.{AreDueIn}
 use Rattle.mail_ops.specs.declared.event.NotDone.{NotDone}
@@ -43,17 +42,17 @@ pub record MoveValue : Type 0 where
 -- where the task of this message stands
 abbrev pub IsAtMove : Uid → MoveStage → Run → ℕ → List Reply → Type 0
 IsAtMove uid stage.First run place said = HasNotBegun run place said
-IsAtMove uid (stage.Adding held) run place said = IsHolding held run place said
+IsAtMove uid (stage.Adding held source) run place said = IsHolding held source.0 run place said
 IsAtMove uid (stage.GivingBack held why) run place said = IsGivingBack held why run place said
-IsAtMove uid (stage.Removing held copied) run place said = HasCopied held copied run place said
+IsAtMove uid (stage.Removing held copied source) run place said = HasCopied held copied source.0 run place said
 IsAtMove uid (stage.Owing owed copied) run place said = HasMoved uid owed copied run place said
 
 -- What it holds and owes: the record of the message, behind its first event until it is added, and behind the removal.
 abbrev pub move_dues : MoveStage → ℕ → ℕ
 move_dues stage.First uid = 0
-move_dues (stage.Adding held) uid = one_due held.0 uid
+move_dues (stage.Adding held source) uid = one_due held.0 uid
 move_dues (stage.GivingBack held why) uid = one_due held.0 uid
-move_dues (stage.Removing held copied) uid = 0
+move_dues (stage.Removing held copied source) uid = 0
 move_dues (stage.Owing owed copied) uid = one_due owed.0 uid
 
 abbrev pub move_amounts : MoveStage → Amounts
@@ -62,17 +61,17 @@ move_amounts now = record { due = move_dues now }
 -- how many events are still to come at the most
 abbrev pub move_left : MoveStage → ℕ
 move_left stage.First = 4
-move_left (stage.Adding held) = 3
+move_left (stage.Adding held source) = 3
 move_left (stage.GivingBack held why) = 1
-move_left (stage.Removing held copied) = 2
+move_left (stage.Removing held copied source) = 2
 move_left (stage.Owing owed copied) = 1
 
 -- What an event asks of the store: what the task holds or owes is due there; until the message is removed, the source lists no
 -- other with the UID; and a count isn't given back for a store that is stopped.
 abbrev pub KeepsMoved : {D : Type 0} → List ℕ → Uid → MoveStage → StoreValue D → Type 0
-KeepsMoved name uid (stage.Adding held) store = KeepsUid name uid.0 held.0 store
+KeepsMoved name uid (stage.Adding held source) store = KeepsNamed name source.0 uid.0 held.0 store
 KeepsMoved name uid (stage.GivingBack held why) store = why ≢ refusal.Stopped
-KeepsMoved name uid (stage.Removing held copied) store = KeepsUid name uid.0 held.0 store
+KeepsMoved name uid (stage.Removing held copied source) store = KeepsNamed name source.0 uid.0 held.0 store
 KeepsMoved name uid now store = Unit {0}
 
 pub record IsReadyToMove {D : Type 0} (name : List ℕ) (uid : Uid) (now : MoveStage) (store : StoreValue D) : Type 0 where
@@ -84,21 +83,21 @@ pub record IsReadyToMove {D : Type 0} (name : List ℕ) (uid : Uid) (now : MoveS
 -- is given back, and then it is replied by what it was refused. The third removes the message, and its record is owed; or it
 -- answers that it has gone. The last has lowered the count, and answers that it is moved.
 abbrev pub MoveAnswers : {D : Type 0} → List ℕ → Uid → List ℕ → MoveStage → StoreValue D → StoreValue D → MoveStage → Progress → Type 0
-MoveAnswers name uid target stage.First old new (stage.Adding held) progress.More =
+MoveAnswers name uid target stage.First old new (stage.Adding held source) progress.More =
     (row : LogRow) × (number : ℕ) × (next : ℕ) × CopyPlace name uid.0 target old row number next × (held.0 ≡ row.map_uid) × (count_of old.map row.guid < 65535) × TakesIntoMap (raising_of held) old new
 MoveAnswers name uid target stage.First old new stage.First (progress.Done (reply.Refused why)) =
     ((why ≡ refusal.Stopped) × (new.stopped ≡ true) × MayBeRaised name uid.0 target old) ⊎ ((new ≡ old) × (IsRaiseRefusal name uid.0 target old why ⊎ ((why ≡ refusal.NoMemory) × MayBeRaised name uid.0 target old)))
-MoveAnswers name uid target (stage.Adding held) old new (stage.Removing still copied) progress.More =
-    (still ≡ held) × ((row : LogRow) × (number : ℕ) × CopyPlace name uid.0 target old row number copied.0 × (held.0 ≡ row.map_uid))
-MoveAnswers name uid target (stage.Adding held) old new (stage.Adding still) (progress.Done (reply.Refused why)) = (still ≡ held) × (why ≡ refusal.Stopped) × (new.stopped ≡ true)
-MoveAnswers name uid target (stage.Adding held) old new (stage.GivingBack still why) progress.More = (still ≡ held) × (new ≡ old) × ((copy_refusal name uid.0 target old ≡ Some why) ⊎ (why ≡ refusal.NoMemory))
+MoveAnswers name uid target (stage.Adding held source) old new (stage.Removing still copied from) progress.More =
+    (still ≡ held) × ((row : LogRow) × (number : ℕ) × CopyPlace name uid.0 target old row number copied.0 × (held.0 ≡ row.map_uid)) × (from ≡ source)
+MoveAnswers name uid target (stage.Adding held source) old new (stage.Adding still same) (progress.Done (reply.Refused why)) = (still ≡ held) × (why ≡ refusal.Stopped) × (new.stopped ≡ true) × (same ≡ source)
+MoveAnswers name uid target (stage.Adding held source) old new (stage.GivingBack still why) progress.More = (still ≡ held) × (new ≡ old) × ((copy_refusal name uid.0 target old ≡ Some why) ⊎ (why ≡ refusal.NoMemory))
 MoveAnswers name uid target (stage.GivingBack held why) old new stage.First (progress.Done (reply.Refused given)) = (given ≡ why) × TakesIntoMap (lowering_of held) old new
 MoveAnswers name uid target (stage.GivingBack held why) old new (stage.GivingBack still cause) (progress.Done (reply.Refused given)) = (still ≡ held) × (cause ≡ why) × (given ≡ refusal.Stopped) × (new.stopped ≡ true)
-MoveAnswers name uid target (stage.Removing held copied) old new (stage.Owing owed same) progress.More =
+MoveAnswers name uid target (stage.Removing held copied source) old new (stage.Owing owed same) progress.More =
     (owed ≡ held) × (same ≡ copied) × ((number : ℕ) × (row : LogRow) × IsRowOf name uid.0 old number row × (held.0 ≡ row.map_uid))
-MoveAnswers name uid target (stage.Removing held copied) old new stage.First (progress.Done (reply.Moved given gone)) =
+MoveAnswers name uid target (stage.Removing held copied source) old new stage.First (progress.Done (reply.Moved given gone)) =
     (given ≡ copied) × (gone ≡ true) × (new ≡ old) × ((why : Refusal) × (missing_message name uid.0 old ≡ Some why))
-MoveAnswers name uid target (stage.Removing held copied) old new (stage.Removing still same) (progress.Done (reply.Refused why)) = (still ≡ held) × (same ≡ copied) × (why ≡ refusal.Stopped) × (new.stopped ≡ true)
+MoveAnswers name uid target (stage.Removing held copied source) old new (stage.Removing still same from) (progress.Done (reply.Refused why)) = (still ≡ held) × (same ≡ copied) × (why ≡ refusal.Stopped) × (new.stopped ≡ true) × (from ≡ source)
 MoveAnswers name uid target (stage.Owing owed copied) old new stage.First (progress.Done (reply.Moved given gone)) = (given ≡ copied) × (gone ≡ false) × TakesIntoMap (lowering_of owed) old new
 MoveAnswers name uid target (stage.Owing owed copied) old new (stage.Owing still same) (progress.Done (reply.Refused why)) = (still ≡ owed) × (same ≡ copied) × (why ≡ refusal.Stopped) × (new.stopped ≡ true)
 MoveAnswers name uid target now old new next answer = ⊥
@@ -112,24 +111,24 @@ RemovesIfListed name uid owed false old new before after began now = (new ≡ ol
 
 -- What an event does, of a store that isn't stopped: from one stage to another, with this answer.
 abbrev pub MovesOn : {D : Type 0} → List ℕ → Uid → List ℕ → MoveStage → MoveStage → Progress → Did → StoreValue D → StoreValue D → Option History → Option History → Faults → Faults → Type 0
-MovesOn name uid target stage.First (stage.Adding held) progress.More how old new before after began now = (how ≡ did.Quiet) × RaisesRow name uid target held old new before after began now
+MovesOn name uid target stage.First (stage.Adding held source) progress.More how old new before after began now = (how ≡ did.Quiet) × RaisesRow name uid target held source old new before after began now
 MovesOn name uid target stage.First stage.First (progress.Done (reply.Refused why)) how old new before after began now =
     (e : NotDone) × (why ≡ refusal_told e) × (how ≡ told_as half.CopyHalf did.Failed e) × IsNotRaised name uid target e old new before after began now
-MovesOn name uid target (stage.Adding held) (stage.Removing still copied) progress.More how old new before after began now = (still ≡ held) × (how ≡ did.Step half.CopyHalf) × AddsRow name uid target held copied old new before after began now
-MovesOn name uid target (stage.Adding held) (stage.Adding still) (progress.Done (reply.Refused why)) how old new before after began now =
-    (still ≡ held) × (why ≡ refusal.Stopped) × (how ≡ did.Broken half.CopyHalf) × FellAdding name uid target held old new before after began now
-MovesOn name uid target (stage.Adding held) (stage.GivingBack still why) progress.More how old new before after began now =
+MovesOn name uid target (stage.Adding held source) (stage.Removing still copied from) progress.More how old new before after began now = (still ≡ held) × (how ≡ did.Step half.CopyHalf) × AddsRow name uid target held copied old new before after began now × (from ≡ source)
+MovesOn name uid target (stage.Adding held source) (stage.Adding still same) (progress.Done (reply.Refused why)) how old new before after began now =
+    (still ≡ held) × (why ≡ refusal.Stopped) × (how ≡ did.Broken half.CopyHalf) × FellAdding name uid target held old new before after began now × (same ≡ source)
+MovesOn name uid target (stage.Adding held source) (stage.GivingBack still why) progress.More how old new before after began now =
     (still ≡ held) × (new ≡ old) × (((how ≡ did.Step half.CopyHalf) × (copy_refusal name uid.0 target old ≡ Some why)) ⊎ ((how ≡ did.Quiet) × (why ≡ refusal.NoMemory)))
 MovesOn name uid target (stage.GivingBack held why) stage.First (progress.Done (reply.Refused given)) how old new before after began now =
     (given ≡ why) × (how ≡ did.Quiet) × MapTook (lowering_of held) old new before after began now
 MovesOn name uid target (stage.GivingBack held why) (stage.GivingBack still cause) (progress.Done (reply.Refused given)) how old new before after began now =
     (still ≡ held) × (cause ≡ why) × (given ≡ refusal.Stopped) × (how ≡ did.Failed) × MapFell old new before after began now
-MovesOn name uid target (stage.Removing held copied) (stage.Owing owed same) progress.More how old new before after began now =
+MovesOn name uid target (stage.Removing held copied source) (stage.Owing owed same) progress.More how old new before after began now =
     (owed ≡ held) × (same ≡ copied) × (how ≡ did.Step half.ExpungeHalf) × RemovesRow name uid held old new before after began now
-MovesOn name uid target (stage.Removing held copied) stage.First (progress.Done (reply.Moved given gone)) how old new before after began now =
+MovesOn name uid target (stage.Removing held copied source) stage.First (progress.Done (reply.Moved given gone)) how old new before after began now =
     (given ≡ copied) × (gone ≡ true) × (how ≡ did.Step half.ExpungeHalf) × (new ≡ old) × ((why : Refusal) × (missing_message name uid.0 old ≡ Some why))
-MovesOn name uid target (stage.Removing held copied) (stage.Removing still same) (progress.Done (reply.Refused why)) how old new before after began now =
-    (still ≡ held) × (same ≡ copied) × (why ≡ refusal.Stopped) × (how ≡ did.Broken half.ExpungeHalf) × FellRemoving name uid old new before after began now
+MovesOn name uid target (stage.Removing held copied source) (stage.Removing still same from) (progress.Done (reply.Refused why)) how old new before after began now =
+    (still ≡ held) × (same ≡ copied) × (why ≡ refusal.Stopped) × (how ≡ did.Broken half.ExpungeHalf) × FellRemoving name uid old new before after began now × (from ≡ source)
 MovesOn name uid target (stage.Owing owed copied) stage.First (progress.Done (reply.Moved given gone)) how old new before after began now =
     (given ≡ copied) × (gone ≡ false) × (how ≡ did.Quiet) × MapTook (lowering_of owed) old new before after began now
 MovesOn name uid target (stage.Owing owed copied) (stage.Owing still same) (progress.Done (reply.Refused why)) how old new before after began now =

@@ -18,7 +18,7 @@ use crate::copying::{add, raise};
 use crate::event::NotDone;
 use crate::lowering::Lowering;
 use disk_model::Disk;
-use mdbox_base::{Did, Half, Name, Progress, Refusal, Reply, Uid};
+use mdbox_base::{BoxNo, Did, Half, Name, Progress, Refusal, Reply, Uid};
 use std::marker::Model;
 use std::mem;
 use store_core::{Stopped, Store};
@@ -28,8 +28,8 @@ use store_core::{Stopped, Store};
 pub enum CopyStage {
     /// The first, which raises the count of the message's record. So it is too behind the last.
     First,
-    /// The second, which adds the message to the target.
-    Adding(Lowering),
+    /// The second, which adds the message to the target. The copy began from the mailbox with this number.
+    Adding { held: Lowering, source: BoxNo },
     /// The third, which gives the count back, and this reply.
     GivingBack { held: Lowering, why: Refusal },
 }
@@ -125,21 +125,25 @@ fn next_event<D: Disk>(
 {
     match now {
         CopyStage::First => match raise(store, name, uid, target) {
-            Ok(held) => (CopyStage::Adding(held), Progress::More, Did::Quiet),
+            Ok((held, source)) => (
+                CopyStage::Adding { held, source },
+                Progress::More,
+                Did::Quiet,
+            ),
             Err(error) => (
                 CopyStage::First,
                 Progress::Done(Reply::Refused(error.refusal())),
                 error.did(Half::Whole, Did::Failed),
             ),
         },
-        CopyStage::Adding(held) => match add(store, name, uid, target, held.uid()) {
+        CopyStage::Adding { held, source } => match add(store, name, uid, target, held.uid()) {
             Ok(uid) => (
                 CopyStage::First,
                 Progress::Done(Reply::Copied { uid }),
                 Did::Step(Half::Whole),
             ),
             Err(NotDone::Stopped) => (
-                CopyStage::Adding(held),
+                CopyStage::Adding { held, source },
                 Progress::Done(Reply::Refused(Refusal::Stopped)),
                 Did::Broken(Half::Whole),
             ),

@@ -1,8 +1,9 @@
 // Copying a message: the events of a copy, and of the first half of a move.
-ghost use Rattle.std.specs.Prelude.{◌≡◌, ◌≤◌, ◌<◌, length, Some, IfOk, IfErr, false};
+ghost use Rattle.std.specs.Prelude.{◌≡◌, ◌≤◌, ◌<◌, length, Some, IfSome, IfOk, IfErr, false};
 ghost use Rattle.box_index.specs.Row.{row_of};
 ghost use Rattle.store_core.specs.Dues.{due_at};
 ghost use Rattle.store_core.specs.Keeping.{KeepsUid};
+ghost use Rattle.task_claims.specs.Leaving.{number_named};
 ghost use Rattle.mail_ops.specs.Copying.{CopyPlace, copy_refusal, room_refusal, RaisesRow, IsNotRaised, AddsRow, IsNotAdded};
 
 use crate::event::NotDone;
@@ -38,6 +39,7 @@ fn find_copy<D: Disk>(
     target: &Name,
 ) -> Result<CopyAt, Refusal>
     ensures found { IfOk result (λ at. CopyPlace name.now uid.0 target.now store.now (row_of at.row) at.target.0 at.next.0) }
+    ensures source { IfOk result (λ at. number_named store.now.map name.now ≡ Some at.source.0) }
     ensures refused { IfErr result (λ why. copy_refusal name.now uid.0 target.now store.now ≡ Some why) }
 {
     let Some(from) = store.list_of(name) else {
@@ -82,15 +84,15 @@ fn next_of(index: &BoxIndex) -> Result<Uid, Refusal>
     }
 }
 
-/// Raises the count of a message that is to be copied, and hands out the entry that gives it back.
+/// Raises the count of a message that is to be copied, and hands out the entry that gives it back, and the number of its mailbox.
 pub(crate) fn raise<D: Disk>(
     store: &mut Store<D>,
     name: &Name,
     uid: Uid,
     target: &Name,
-) -> Result<Lowering, NotDone>
+) -> Result<(Lowering, BoxNo), NotDone>
     requires running { store.old.stopped ≡ false }
-    ensures raised { IfOk result (λ held. RaisesRow name.now uid target.now held store.old store.new (D.history store.old.disk) (D.history store.new.disk) (D.faults store.old.disk) (D.faults store.new.disk)) }
+    ensures raised { IfOk result (λ done. RaisesRow name.now uid target.now done.0 done.1 store.old store.new (D.history store.old.disk) (D.history store.new.disk) (D.faults store.old.disk) (D.faults store.new.disk)) }
     ensures refused { IfErr result (λ error. IsNotRaised name.now uid target.now error store.old store.new (D.history store.old.disk) (D.history store.new.disk) (D.faults store.old.disk) (D.faults store.new.disk)) }
 {
     store.facts();
@@ -102,7 +104,7 @@ pub(crate) fn raise<D: Disk>(
     match store.append_map(&MapEntry::U {
         uid: at.row.map_uid,
     }) {
-        Ok(()) => Ok(held),
+        Ok(()) => Ok((held, at.source)),
         Err(StepError::Stopped) => Err(NotDone::Stopped),
         Err(StepError::NoMemory) => unreachable!(),
     }
@@ -118,7 +120,7 @@ pub(crate) fn add<D: Disk>(
 ) -> Result<Uid, NotDone>
     requires running { store.old.stopped ≡ false }
     requires due { 1 ≤ due_at held.0 store.old }
-    requires keeps { KeepsUid name.now uid.0 held.0 store.old }
+    requires keeps { IfSome (number_named store.old.map name.now) (λ source. KeepsUid source uid.0 held.0 store.old) }
     ensures added { IfOk result (λ given. AddsRow name.now uid target.now held given store.old store.new (D.history store.old.disk) (D.history store.new.disk) (D.faults store.old.disk) (D.faults store.new.disk)) }
     ensures refused { IfErr result (λ error. IsNotAdded name.now uid target.now held error store.old store.new (D.history store.old.disk) (D.history store.new.disk) (D.faults store.old.disk) (D.faults store.new.disk)) }
 {

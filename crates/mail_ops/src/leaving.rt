@@ -1,6 +1,7 @@
 // Removing a message from the source of a move.
-ghost use Rattle.std.specs.Prelude.{◌≡◌, IfOk, IfErr, false};
+ghost use Rattle.std.specs.Prelude.{◌≡◌, IfSome, IfOk, IfErr, false};
 ghost use Rattle.store_core.specs.Keeping.{KeepsUid};
+ghost use Rattle.task_claims.specs.Leaving.{number_named};
 ghost use Rattle.mail_ops.specs.Expunging.{FellRemoving};
 ghost use Rattle.mail_ops.specs.Moving.{RemovesIfListed};
 
@@ -18,7 +19,7 @@ pub(crate) fn remove_listed<D: Disk>(
     held: MapUid,
 ) -> Result<bool, Stopped>
     requires running { store.old.stopped ≡ false }
-    requires keeps { KeepsUid name.now uid.0 held.0 store.old }
+    requires keeps { IfSome (number_named store.old.map name.now) (λ source. KeepsUid source uid.0 held.0 store.old) }
     ensures removed { IfOk result (λ listed. RemovesIfListed name.now uid held listed store.old store.new (D.history store.old.disk) (D.history store.new.disk) (D.faults store.old.disk) (D.faults store.new.disk)) }
     ensures stopped { IfErr result (λ _. FellRemoving name.now uid store.old store.new (D.history store.old.disk) (D.history store.new.disk) (D.faults store.old.disk) (D.faults store.new.disk)) }
 {

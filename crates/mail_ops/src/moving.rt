@@ -19,7 +19,7 @@ use crate::event::NotDone;
 use crate::leaving::remove_listed;
 use crate::lowering::Lowering;
 use disk_model::Disk;
-use mdbox_base::{Did, Half, Name, Progress, Refusal, Reply, Uid};
+use mdbox_base::{BoxNo, Did, Half, Name, Progress, Refusal, Reply, Uid};
 use std::marker::Model;
 use std::mem;
 use store_core::{Stopped, Store};
@@ -29,12 +29,12 @@ use store_core::{Stopped, Store};
 pub enum MoveStage {
     /// The first, which raises the count of the message's record. So it is too behind the last.
     First,
-    /// The second, which adds the message to the target.
-    Adding(Lowering),
+    /// The second, which adds the message to the target. The move began from the mailbox with this number.
+    Adding { held: Lowering, source: BoxNo },
     /// Behind a second that was refused: it gives the count back, and this reply.
     GivingBack { held: Lowering, why: Refusal },
-    /// The third, which removes the message from its source. The copy has this UID.
-    Removing { held: Lowering, copied: Uid },
+    /// The third, which removes the message from its source, the mailbox with this number. The copy has this UID.
+    Removing { held: Lowering, copied: Uid, source: BoxNo },
     /// The last, behind a third that removed it, which lowers the count of its record.
     Owing { owed: Lowering, copied: Uid },
 }
@@ -132,14 +132,20 @@ fn next_event<D: Disk>(
 {
     match now {
         MoveStage::First => match raise(store, name, uid, target) {
-            Ok(held) => (MoveStage::Adding(held), Progress::More, Did::Quiet),
+            Ok((held, source)) => (
+                MoveStage::Adding { held, source },
+                Progress::More,
+                Did::Quiet,
+            ),
             Err(error) => (
                 MoveStage::First,
                 Progress::Done(Reply::Refused(error.refusal())),
                 error.did(Half::CopyHalf, Did::Failed),
             ),
         },
-        MoveStage::Adding(held) => add_event(store, name, uid, target, held),
+        MoveStage::Adding { held, source } => add_event(
+            store, name, uid, target, held, source,
+        ),
         MoveStage::GivingBack { held, why } => match held.append(store) {
             Ok(()) => (
                 MoveStage::First,
@@ -152,8 +158,8 @@ fn next_event<D: Disk>(
                 Did::Failed,
             ),
         },
-        MoveStage::Removing { held, copied } => remove_event(
-            store, name, uid, target, held, copied,
+        MoveStage::Removing { held, copied, source } => remove_event(
+            store, name, uid, target, held, copied, source,
         ),
         MoveStage::Owing { owed, copied } => match owed.append(store) {
             Ok(()) => (
@@ -180,19 +186,20 @@ fn add_event<D: Disk>(
     uid: Uid,
     target: &Name,
     held: Lowering,
+    source: BoxNo,
 ) -> (MoveStage, Progress, Did)
     requires running { store.old.stopped ≡ false }
-    requires ready { IsReadyToMove name.now uid (stage.Adding held) store.old }
-    ensures { MovesOn name.now uid target.now (stage.Adding held) result.0 result.1 result.2 store.old store.new (D.history store.old.disk) (D.history store.new.disk) (D.faults store.old.disk) (D.faults store.new.disk) }
+    requires ready { IsReadyToMove name.now uid (stage.Adding held source) store.old }
+    ensures { MovesOn name.now uid target.now (stage.Adding held source) result.0 result.1 result.2 store.old store.new (D.history store.old.disk) (D.history store.new.disk) (D.faults store.old.disk) (D.faults store.new.disk) }
 {
     match add(store, name, uid, target, held.uid()) {
         Ok(copied) => (
-            MoveStage::Removing { held, copied },
+            MoveStage::Removing { held, copied, source },
             Progress::More,
             Did::Step(Half::CopyHalf),
         ),
         Err(NotDone::Stopped) => (
-            MoveStage::Adding(held),
+            MoveStage::Adding { held, source },
             Progress::Done(Reply::Refused(Refusal::Stopped)),
             Did::Broken(Half::CopyHalf),
         ),
@@ -216,10 +223,11 @@ fn remove_event<D: Disk>(
     target: &Name,
     held: Lowering,
     copied: Uid,
+    source: BoxNo,
 ) -> (MoveStage, Progress, Did)
     requires running { store.old.stopped ≡ false }
-    requires ready { IsReadyToMove name.now uid (stage.Removing held copied) store.old }
-    ensures { MovesOn name.now uid target.now (stage.Removing held copied) result.0 result.1 result.2 store.old store.new (D.history store.old.disk) (D.history store.new.disk) (D.faults store.old.disk) (D.faults store.new.disk) }
+    requires ready { IsReadyToMove name.now uid (stage.Removing held copied source) store.old }
+    ensures { MovesOn name.now uid target.now (stage.Removing held copied source) result.0 result.1 result.2 store.old store.new (D.history store.old.disk) (D.history store.new.disk) (D.faults store.old.disk) (D.faults store.new.disk) }
 {
     match remove_listed(store, name, uid, held.uid()) {
         Ok(true) => (
@@ -236,7 +244,7 @@ fn remove_event<D: Disk>(
             Did::Step(Half::ExpungeHalf),
         ),
         Err(Stopped) => (
-            MoveStage::Removing { held, copied },
+            MoveStage::Removing { held, copied, source },
             Progress::Done(Reply::Refused(Refusal::Stopped)),
             Did::Broken(Half::ExpungeHalf),
         ),

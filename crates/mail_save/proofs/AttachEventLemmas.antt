@@ -58,8 +58,10 @@ attached_change attaching more old new (inr k) = change_as old new (with_placed 
 
 pub unattached_change : {D : Type 0} → (attaching : AttachingValue) (why : Refusal) (old new : StoreValue D) → AttachesNone attaching why old new → IsAttachChange old new
 unattached_change attaching refusal.NoMailbox old new k = change_as old new (record old { disk = new.disk }) k.1 refl
+unattached_change attaching refusal.Inbox old new k = change_as old new (record old { disk = new.disk }) k.1 refl
 unattached_change attaching refusal.Exists old new k = change_as old new (record old { disk = new.disk }) k.1 refl
 unattached_change attaching refusal.NoMessage old new k = change_as old new (record old { disk = new.disk }) k.1 refl
+unattached_change attaching refusal.Sealed old new k = change_as old new (record old { disk = new.disk }) k.1 refl
 unattached_change attaching (refusal.TooManyCopies n) old new k = change_as old new (record old { disk = new.disk }) k.1 refl
 unattached_change attaching (refusal.MailboxFull n) old new k = change_as old new (record old { disk = new.disk }) k.1 refl
 unattached_change attaching (refusal.TooManyMailboxes n) old new k = change_as old new (record old { disk = new.disk }) k.1 refl

@@ -17,8 +17,10 @@ use Rattle.mail_save.specs.Task.{FaultsAt}
 pub refused_faults : (why : Refusal) (began ended : Faults) → (why ≡ refusal.ReadFault → ReadFaultCounted (Unit {0}) began ended) → (why ≡ refusal.Stopped → ChangeFaultCounted (Unit {0}) began ended)
     → ((why ≡ refusal.ReadFault → ⊥) → (why ≡ refusal.Stopped → ⊥) → NoFault began ended) → FaultsAt (progress.Done (reply.Refused why)) began ended
 refused_faults refusal.NoMailbox began ended read change none = none (λ e. cc e) (λ e. cc e)
+refused_faults refusal.Inbox began ended read change none = none (λ e. cc e) (λ e. cc e)
 refused_faults refusal.Exists began ended read change none = none (λ e. cc e) (λ e. cc e)
 refused_faults refusal.NoMessage began ended read change none = none (λ e. cc e) (λ e. cc e)
+refused_faults refusal.Sealed began ended read change none = none (λ e. cc e) (λ e. cc e)
 refused_faults (refusal.TooManyCopies n) began ended read change none = none (λ e. cc e) (λ e. cc e)
 refused_faults (refusal.MailboxFull n) began ended read change none = none (λ e. cc e) (λ e. cc e)
 refused_faults (refusal.TooManyMailboxes n) began ended read change none = none (λ e. cc e) (λ e. cc e)

@@ -30,6 +30,7 @@ use Rattle.storage_files.specs.declared.file.Take.TheVariants.{Known, New, Full}
 use Rattle.store_core.specs.Keeping.{KeepsInstances, KeepsUids}
 use Rattle.store_core.specs.Value.{StoreValue}
 use Rattle.task_claims.proofs.CountedLemmas.{all_same, found_same, rows_same, same_map, unraised_same}
+use Rattle.task_claims.proofs.NameLemmas.{names_stay}
 use Rattle.task_claims.proofs.RestLemmas.{instance_kept}
 use Rattle.task_claims.specs.Claims.{Claims}
 use Rattle.task_claims.specs.Leaving.{HasRegionOctets, HaveSameInstances, IsSameOrSynced, LeavesOthers, LeavesRecord, LeavesUnlisted, OthersTook, RaisesNone, SameButCounts, but_count, records_within}
@@ -278,6 +279,7 @@ leaves_by mine Own old new before after keeps uids draws room rows known mail un
   store = keeps.store;
   numbers = draws.numbers;
   mailboxes = draws.mailboxes;
+  names = names_stay old.map new.map draws.boxes;
   compared = keeps.compared;
   firm = keeps.firm;
   uids = uids;

@@ -127,8 +127,10 @@ add_refused refused why (inr (none, inr e)) calm = inr (none, e)
 
 pub gives_quietly : (why : Refusal) → (why ≡ refusal.Stopped → ⊥) → did.Quiet ≡ giving_did (progress.Done (reply.Refused why))
 gives_quietly refusal.NoMailbox calm = refl
+gives_quietly refusal.Inbox calm = refl
 gives_quietly refusal.Exists calm = refl
 gives_quietly refusal.NoMessage calm = refl
+gives_quietly refusal.Sealed calm = refl
 gives_quietly (refusal.TooManyCopies n) calm = refl
 gives_quietly (refusal.MailboxFull n) calm = refl
 gives_quietly (refusal.TooManyMailboxes n) calm = refl

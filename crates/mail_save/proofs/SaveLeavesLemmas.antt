@@ -207,4 +207,5 @@ event_leaves now next name time size answer old new before after is ran order le
 pub save_leaves : {D : Type 0} → (now next : SaveStage) (name : List ℕ) (time size : ℕ) (answer : Progress) (how : Did) (old new : StoreValue D) (before after : Option History) (began faulted : Faults) → IsStore before old → old.stopped ≡ false → AreFilesInOrder old.files → old.instances.highest ≡ old.drawn.instance → HasLeft now name time old before → new.stopped ≡ false
     → Saves now next name time size answer how old new before after began faulted → LeavesOthers (save_claims now) old new before after
 save_leaves now next name time size answer how old new before after began faulted is ran order drawn left runs s =
-    event_leaves now next name time size answer old new before after is ran order left runs s.stopped s.replies (record { keeps = s.instances runs; uids = uids_stay now next name time size answer old new s.effects; draws = save_numbers now next name time size answer old new drawn runs s.effects; room = save_room now next name time size answer old new s.effects }) (s.mail runs) s.effects
+    let draws : DrawsNumbers old new = save_numbers now next name time size answer old new drawn runs s.effects in
+    event_leaves now next name time size answer old new before after is ran order left runs s.stopped s.replies (record { keeps = s.instances runs; uids = uids_stay now next name time size answer old new draws s.effects; draws = draws; room = save_room now next name time size answer old new s.effects }) (s.mail runs) s.effects

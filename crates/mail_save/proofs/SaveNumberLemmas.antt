@@ -1,4 +1,4 @@
--- Which numbers an event of a delivery draws: instances that it places draw one each, and no mailbox gets one.
+-- Which numbers an event of a delivery draws: instances that it places draw one each, and no mailbox gets one, since the mailboxes stay.
 use Rattle.std.proofs.Common.{◌≡◌, ◌≤◌, ◌+◌, ℕ, Bool, true, false, List, refl, sym, ◌∙◌, ap, subst, arith, inl, inr, length}
 use Rattle.std.specs.Prelude.{◌<◌, if◌then◌else◌, map}
 use Rattle.std.proofs.Math.Nat.{le-max_left, le_of_eq}
@@ -52,6 +52,7 @@ placed_few hash size old new is few =
 pub record DrawsNumbers {D : Type 0} (old new : StoreValue D) : Type 0 where
   pub numbers : PlacesFew old.instances new.instances
   pub mailboxes : old.map.highest.mailbox ≤ new.map.highest.mailbox
+  pub boxes : new.map.boxes ≡ old.map.boxes
 
 same_map : {D : Type 0} → (old new : StoreValue D) → new.map ≡ old.map → old.map.highest.mailbox ≤ new.map.highest.mailbox
 same_map old new map = let same = ap (λ (m : MapMeaning). m.highest.mailbox) map in omega (arith, same)
@@ -60,17 +61,18 @@ entry_more : (entry : MapEntry) (m n : MapMeaning) → n ≡ map_applied entry m
 entry_more entry m n is = subst (λ (k : MapMeaning). m.highest.mailbox ≤ k.highest.mailbox) (sym is) (le-max_left m.highest.mailbox (numbers_of m.store entry).mailbox)
 
 by_rows : {D : Type 0} → (old new : StoreValue D) → new.map ≡ old.map → new.instances.highest ≡ old.instances.highest → AreSameRows old.instances.known new.instances.known → DrawsNumbers old new
-by_rows old new map high rows = record { numbers = held_few old.instances new.instances high rows; mailboxes = same_map old new map }
+by_rows old new map high rows = record { numbers = held_few old.instances new.instances high rows; mailboxes = same_map old new map; boxes = ap (λ (m : MapMeaning). m.boxes) map }
 
 keeps_numbers : {D : Type 0} → (old new : StoreValue D) → new.map ≡ old.map → new.instances ≡ old.instances → DrawsNumbers old new
 keeps_numbers old new map instances = by_rows old new map (ap (λ (i : InstancesValue). i.highest) instances) (ap (λ (i : InstancesValue). map_rows i.known) instances)
 
-let_go_numbers : {D : Type 0} → (found : List InstRow) (old left new : StoreValue D) → LetsGo found left new → left.instances ≡ old.instances → old.map.highest.mailbox ≤ left.map.highest.mailbox → DrawsNumbers old new
-let_go_numbers found old left new gone instances mailboxes = record {
+let_go_numbers : {D : Type 0} → (found : List InstRow) (old left new : StoreValue D) → LetsGo found left new → left.instances ≡ old.instances → old.map.highest.mailbox ≤ left.map.highest.mailbox → left.map.boxes ≡ old.map.boxes → DrawsNumbers old new
+let_go_numbers found old left new gone instances mailboxes boxes = record {
   numbers =
       held_few old.instances new.instances (ap (λ (v : StoreValue _). v.instances.highest) gone ∙ ap (λ (i : InstancesValue). i.highest) instances)
       (ap (λ (v : StoreValue _). map_rows v.instances.known) gone ∙ (let_go_rows found left.instances.known ∙ ap (λ (i : InstancesValue). map_rows i.known) instances));
   mailboxes = subst (λ (v : StoreValue _). old.map.highest.mailbox ≤ v.map.highest.mailbox) (sym gone) mailboxes;
+  boxes = ap (λ (v : StoreValue _). v.map.boxes) gone ∙ boxes;
 }
 
 -- ---- by event
@@ -85,6 +87,7 @@ attached_numbers attaching more old new drawn (inl k) =
 attached_numbers attaching more old new drawn (inr k) = record {
   numbers = placed_few k.part.hash (length k.part.octets) old.instances new.instances (ap (λ (v : StoreValue _). v.instances) k.same) (let few = few_drawn old.drawn.instance k.few in omega (arith, few, drawn));
   mailboxes = same_map old new (ap (λ (v : StoreValue _). v.map) k.same);
+  boxes = ap (λ (v : StoreValue _). v.map.boxes) k.same;
 }
 
 -- of a store that runs still
@@ -109,7 +112,7 @@ alone_numbers : {D : Type 0} → (old new : StoreValue D) → IsLeftAlone old ne
 alone_numbers old new k = keeps_numbers old new (ap (λ (v : StoreValue _). v.map) k.same) (ap (λ (v : StoreValue _). v.instances) k.same)
 
 let_go_same : {D : Type 0} → (found : List InstRow) (old left new : StoreValue D) → LetsGo found left new → (left.instances ≡ old.instances) × (left.map ≡ old.map) → DrawsNumbers old new
-let_go_same found old left new gone k = let_go_numbers found old left new gone k.0 (same_map old left k.1)
+let_go_same found old left new gone k = let_go_numbers found old left new gone k.0 (same_map old left k.1) (ap (λ (m : MapMeaning). m.boxes) k.1)
 
 pub save_numbers : {D : Type 0} → (now next : SaveStage) (name : List ℕ) (time size : ℕ) (answer : Progress) (old new : StoreValue D) → old.instances.highest ≡ old.drawn.instance → new.stopped ≡ false → SaveEffects now next name time size answer old new → DrawsNumbers old new
 save_numbers (stage.First prepared) (stage.Attaching parts attaching) name time size progress.More old new drawn runs e = as_same old new e.0
@@ -124,7 +127,7 @@ save_numbers (stage.Taking parts) stage.Ended name time size (progress.Done (rep
 save_numbers (stage.Placing parts file) (stage.Storing at rows room) name time size progress.More old new drawn runs e = keeps_numbers old new (ap (λ (v : StoreValue _). v.map) e.same) (ap (λ (v : StoreValue _). v.instances) e.same)
 save_numbers (stage.Placing parts file) stage.Ended name time size (progress.Done (reply.Refused why)) old new drawn runs e = let_go_same parts.rows old e.0 new e.2 (ap (λ (v : StoreValue _). v.instances) e.1.same, ap (λ (v : StoreValue _). v.map) e.1.same)
 save_numbers (stage.Storing at rows room) (stage.Adding added left) name time size progress.More old new drawn runs e =
-    let_go_numbers rows old e.0 new e.2 (ap (λ (v : StoreValue _). v.instances) e.1.same) (entry_more (entry_stored rows added.map_uid at) old.map e.0.map e.1.map)
+    let_go_numbers rows old e.0 new e.2 (ap (λ (v : StoreValue _). v.instances) e.1.same) (entry_more (entry_stored rows added.map_uid at) old.map e.0.map e.1.map) e.1.mailboxes
 save_numbers (stage.Storing at rows room) stage.Ended name time size (progress.Done (reply.Refused why)) old new drawn runs e = let_go_same rows old e.0 new e.2 (unstored_instances at why old e.0 e.1)
 save_numbers (stage.Adding added room) stage.Ended name time size (progress.Done (reply.Saved uid guid)) old new drawn runs e = keeps_numbers old new (ap (λ (v : StoreValue _). v.map) e.1.same) (ap (λ (v : StoreValue _). v.instances) e.1.same)
 save_numbers (stage.Adding added room) stage.Ended name time size (progress.Done (reply.Refused why)) old new drawn runs e = alone_numbers old new e
@@ -132,6 +135,7 @@ save_numbers (stage.Adding added room) (stage.GivingBack uid why left) name time
 save_numbers (stage.GivingBack uid why room) stage.Ended name time size (progress.Done (reply.Refused given)) old new drawn runs (inl e) = record {
   numbers = held_few old.instances new.instances (ap (λ (v : StoreValue _). v.instances.highest) e.1.same) (ap (λ (v : StoreValue _). map_rows v.instances.known) e.1.same);
   mailboxes = entry_more (entry_lowered uid) old.map new.map e.1.map;
+  boxes = e.1.mailboxes;
 }
 save_numbers (stage.GivingBack uid why room) stage.Ended name time size (progress.Done (reply.Refused given)) old new drawn runs (inr e) = alone_numbers old new e.1
 save_numbers now next name time size answer old new drawn runs e = absurd e

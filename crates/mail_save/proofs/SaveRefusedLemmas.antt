@@ -145,8 +145,10 @@ unread_save around after name time octets part Stood Stands old new sees ends at
 
 pub step_replied : (name : List ℕ) (time : ℕ) (octets : List ℕ) (why : Refusal) → is_step why ≡ true → IsReplyOf (deliver name time octets) (reply.Refused why ∷ []) (reply.Refused why)
 step_replied name time octets refusal.NoMailbox s = refl
+step_replied name time octets refusal.Inbox s = refl
 step_replied name time octets refusal.Exists s = refl
 step_replied name time octets refusal.NoMessage s = refl
+step_replied name time octets refusal.Sealed s = refl
 step_replied name time octets (refusal.TooManyCopies n) s = refl
 step_replied name time octets (refusal.MailboxFull n) s = refl
 step_replied name time octets (refusal.TooManyMailboxes n) s = refl

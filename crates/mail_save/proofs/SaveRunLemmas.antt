@@ -10,7 +10,7 @@ use Rattle.mdbox_base.specs.declared.entries.MapEntry.{MapEntry}
 use Rattle.mdbox_base.specs.declared.replies.Refusal.{Refusal}
 use Rattle.mdbox_base.specs.declared.replies.Refusal.TheVariants as refusal
 use Rattle.mdbox_base.specs.declared.requests.Request.TheVariants as request
-use Rattle.list_machine.specs.Run.{EventPart, First, Compares, PlacesInstance, TakesFile, PlacesMessage, StoresRecord, Last, GivesBack, TakenFile, RunEvent, Run, own_events, first_in}
+use Rattle.list_machine.specs.Run.{EventPart, First, Compares, PlacesInstance, TakesFile, PlacesMessage, StoresRecord, Last, GivesBack, TakenFile, RunEvent, Run, own_events, first_in, last_in}
 use Rattle.journal.specs.Events.{Around, next_part, behind_event, behind_delivery, behind_refused, instances_found, file_taken, guid_given, uid_held, uid_raised, last_refusal}
 use Rattle.mail_save.specs.SaveStages.{HasAttached, AreAttachedSoFar, AreTakenSoFar, ArePlacedSoFar, AreStoredSoFar, AreRefusedSoFar}
 
@@ -92,8 +92,10 @@ adds_next around run name time octets guid uid own h =
 
 pub gives_back_behind : (name : List ℕ) (time : ℕ) (octets : List ℕ) (why : Refusal) → (why ≡ refusal.Stopped → ⊥) → behind_refused (request.Deliver name time octets) Last why ≡ Some GivesBack
 gives_back_behind name time octets refusal.NoMailbox other = refl
+gives_back_behind name time octets refusal.Inbox other = refl
 gives_back_behind name time octets refusal.Exists other = refl
 gives_back_behind name time octets refusal.NoMessage other = refl
+gives_back_behind name time octets refusal.Sealed other = refl
 gives_back_behind name time octets (refusal.TooManyCopies n) other = refl
 gives_back_behind name time octets (refusal.MailboxFull n) other = refl
 gives_back_behind name time octets (refusal.TooManyMailboxes n) other = refl
@@ -195,22 +197,22 @@ found_rows place run rows file guid h =
     ∙ none_more rows (flat_map found_in h.front) (found_in h.second) (found_in h.third) (front_found rows h.front h.attached) (ap found_in h.took.did) (ap found_in h.placed.did))
 
 abbrev uids_are : List RunEvent → Option ℕ
-uids_are es = first_in uid_raised (flat_map (λ (e : RunEvent). e.map_entries) es)
+uids_are es = last_in uid_raised (flat_map (λ (e : RunEvent). e.map_entries) es)
 
-first_raised : (b c d : List MapEntry) (entry : MapEntry) (uid : ℕ) → b ≡ [] → c ≡ [] → d ≡ entry ∷ [] → uid_raised entry ≡ Some uid → (more : List MapEntry) → first_in uid_raised (b ++ (c ++ (d ++ more))) ≡ Some uid
-first_raised b c d entry uid y z w is more = rw (y, z, w) (ap (λ (o : Option ℕ). option_or o (first_in uid_raised more)) is)
+last_raised : (b c d more : List MapEntry) (entry : MapEntry) (uid : ℕ) → b ≡ [] → c ≡ [] → d ≡ entry ∷ [] → more ≡ [] → uid_raised entry ≡ Some uid → last_in uid_raised (b ++ (c ++ (d ++ more))) ≡ Some uid
+last_raised b c d more entry uid y z w none is = rw (y, z, w, none) is
 
 pub held_stored : (place : ℕ) (run : Run) (guid : List ℕ) (uid : ℕ) → AreStoredSoFar guid uid (own_events place run) → uid_held place run ≡ Some uid
 held_stored place run guid uid h =
     ap uids_are h.own_are
-    ∙ (ap (λ (es : List MapEntry). first_in uid_raised es) (behind_front (λ (e : RunEvent). e.map_entries) h.front (h.second ∷ h.third ∷ h.fourth ∷ []) (no_entries h.rows h.front h.attached))
-    ∙ first_raised h.second.map_entries h.third.map_entries h.fourth.map_entries h.stored.entry uid (ap (λ (e : RunEvent). e.map_entries) h.took.did) (ap (λ (e : RunEvent). e.map_entries) h.placed.did) (ap (λ (e : RunEvent). e.map_entries) h.stored.did) h.stored.raised [])
+    ∙ (ap (λ (es : List MapEntry). last_in uid_raised es) (behind_front (λ (e : RunEvent). e.map_entries) h.front (h.second ∷ h.third ∷ h.fourth ∷ []) (no_entries h.rows h.front h.attached))
+    ∙ last_raised h.second.map_entries h.third.map_entries h.fourth.map_entries [] h.stored.entry uid (ap (λ (e : RunEvent). e.map_entries) h.took.did) (ap (λ (e : RunEvent). e.map_entries) h.placed.did) (ap (λ (e : RunEvent). e.map_entries) h.stored.did) refl h.stored.raised)
 
 pub held_refused : (place : ℕ) (run : Run) (uid : ℕ) (why : Refusal) → AreRefusedSoFar uid why (own_events place run) → uid_held place run ≡ Some uid
 held_refused place run uid why h =
     ap uids_are h.own_are
-    ∙ (ap (λ (es : List MapEntry). first_in uid_raised es) (behind_front (λ (e : RunEvent). e.map_entries) h.front (h.second ∷ h.third ∷ h.fourth ∷ h.fifth ∷ []) (no_entries h.rows h.front h.attached))
-    ∙ first_raised h.second.map_entries h.third.map_entries h.fourth.map_entries h.stored.entry uid (ap (λ (e : RunEvent). e.map_entries) h.took.did) (ap (λ (e : RunEvent). e.map_entries) h.placed.did) (ap (λ (e : RunEvent). e.map_entries) h.stored.did) h.stored.raised (h.fifth.map_entries ++ []))
+    ∙ (ap (λ (es : List MapEntry). last_in uid_raised es) (behind_front (λ (e : RunEvent). e.map_entries) h.front (h.second ∷ h.third ∷ h.fourth ∷ h.fifth ∷ []) (no_entries h.rows h.front h.attached))
+    ∙ last_raised h.second.map_entries h.third.map_entries h.fourth.map_entries (h.fifth.map_entries ++ []) h.stored.entry uid (ap (λ (e : RunEvent). e.map_entries) h.took.did) (ap (λ (e : RunEvent). e.map_entries) h.placed.did) (ap (λ (e : RunEvent). e.map_entries) h.stored.did) (append-nil h.fifth.map_entries ∙ h.refused.bare) h.stored.raised)
 
 -- ---- the last refusal
 

@@ -96,8 +96,10 @@ memory_runs e = cc e
 -- what a refusal did
 pub step_did : (why : Refusal) → is_step why ≡ true → failing_did why ≡ did.Step half.Whole
 step_did refusal.NoMailbox s = refl
+step_did refusal.Inbox s = refl
 step_did refusal.Exists s = refl
 step_did refusal.NoMessage s = refl
+step_did refusal.Sealed s = refl
 step_did (refusal.TooManyCopies n) s = refl
 step_did (refusal.MailboxFull n) s = refl
 step_did (refusal.TooManyMailboxes n) s = refl
@@ -110,8 +112,10 @@ step_did (refusal.Damaged file offset) s = absurd (cc s)
 -- a refusal for which no call failed
 pub untold_faults : (why : Refusal) (began faulted : Faults) → (why ≡ refusal.Stopped → ⊥) → (why ≡ refusal.ReadFault → ⊥) → FaultsAt (progress.Done (reply.Refused why)) began faulted → faulted ≡ began
 untold_faults refusal.NoMailbox began faulted other unread f = f
+untold_faults refusal.Inbox began faulted other unread f = f
 untold_faults refusal.Exists began faulted other unread f = f
 untold_faults refusal.NoMessage began faulted other unread f = f
+untold_faults refusal.Sealed began faulted other unread f = f
 untold_faults (refusal.TooManyCopies n) began faulted other unread f = f
 untold_faults (refusal.MailboxFull n) began faulted other unread f = f
 untold_faults (refusal.TooManyMailboxes n) began faulted other unread f = f
@@ -529,8 +533,10 @@ refused_as why s = ap (λ (b : Bool). if b then did.Step half.Whole else did.Qui
 
 gives_quietly : (why : Refusal) → (why ≡ refusal.Stopped → ⊥) → giving_did (progress.Done (reply.Refused why)) ≡ did.Quiet
 gives_quietly refusal.NoMailbox other = refl
+gives_quietly refusal.Inbox other = refl
 gives_quietly refusal.Exists other = refl
 gives_quietly refusal.NoMessage other = refl
+gives_quietly refusal.Sealed other = refl
 gives_quietly (refusal.TooManyCopies n) other = refl
 gives_quietly (refusal.MailboxFull n) other = refl
 gives_quietly (refusal.TooManyMailboxes n) other = refl

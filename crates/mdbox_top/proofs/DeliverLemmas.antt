@@ -46,7 +46,8 @@ use Rattle.mdbox_top.proofs.ResyncLemmas.{alone_faults, resync_done, served_some
 use Rattle.script_run.proofs.AloneLemmas.{may_read}
 use Rattle.script_run.proofs.DoneLemmas.{settled_safe}
 use Rattle.script_run.proofs.ReachedSaveLemmas.{reached_saved}
-use Rattle.script_run.proofs.ToldLemmas.{serves_one, told_left}
+use Rattle.script_run.proofs.LeftLemmas.{told_left}
+use Rattle.script_run.proofs.ToldLemmas.{serves_one, shown_begins}
 use Rattle.script_run.proofs.WorkedLemmas.{worked_told}
 use Rattle.script_run.specs.LeftOpen.{IsRequestDone}
 use Rattle.script_run.specs.Worked.{IsWorkedOut}
@@ -223,8 +224,11 @@ deliver_settles : {D : Type 0} → (name : List ℕ) (time : ℕ) (octets : List
 deliver_settles name time octets prepared given old new began now w running lists at = elim (read_or_not given) [
   | inl read ↦ subst (λ (r : Reply). IsSettledFor (lists_told (request.Deliver name time octets) r lists) new) (sym read) ((deliver_saves name time octets prepared given old new began now w).settled read lists (w.worked.settled_again lists at))
   | inr unread ↦
-      let s = w.done.done.serves lists (w.done.done.shown lists (settled_safe lists old at)) (may_read (delivering name time octets) refl lists old) in
-      subst (λ (ls : Lists). IsSettledFor ls new) (told_left lists (delivering name time octets) s.run s.journal given began now s.served.legal (unfailed_by given unread running)) (s.settled (stopped_one given running) at)
+      let shows = w.done.done.shown lists (settled_safe lists old at) in
+      let may = may_read (delivering name time octets) refl lists old in
+      let s = w.done.done.serves lists shows may in
+      let shown = shown_begins (alone (delivering name time octets)) (given ∷ []) w.done.entries old new began now w.done.done lists shows may in
+      subst (λ (ls : Lists). IsSettledFor ls new) (told_left lists (delivering name time octets) s.run s.journal s.broken given began now _ s.m s.drawn _ w.done.done.meanings shown s.served (unfailed_by given unread running)) (s.settled (stopped_one given running) at)
 ]
 
 along_save : (name : List ℕ) (time : ℕ) (octets : List ℕ) (answer : Reply) (lists some : Lists) → some ≡ lists_told (request.Deliver name time octets) answer lists → (some ≡ lists) ⊎ AreSaved name time octets lists some
@@ -349,4 +353,6 @@ alone_done (request.Expunge name uid) prepared given old new began now w k messa
 alone_done (request.Copy name uid target) prepared given old new began now w k message answer show = done_alone (request.Copy name uid target) given old new began now w tt answer
 alone_done (request.Move name uid target) prepared given old new began now w k message answer show = done_alone (request.Move name uid target) given old new began now w tt answer
 alone_done (request.Make name) prepared given old new began now w k message answer show = done_alone (request.Make name) given old new began now w tt answer
+alone_done (request.Delete name) prepared given old new began now w k message answer show = absurd message.0
+alone_done (request.Rename name target) prepared given old new began now w k message answer show = absurd message.0
 alone_done request.Counts prepared given old new began now w k message answer show = done_alone request.Counts given old new began now w tt answer

@@ -27,7 +27,8 @@ use Rattle.script_run.proofs.AloneLemmas.{may_read, unread}
 use Rattle.script_run.proofs.DoneLemmas.{settled_safe}
 use Rattle.script_run.proofs.ReachedMakeLemmas.{made_left, reached_make}
 use Rattle.script_run.proofs.ShownLemmas.{ListsAnswer}
-use Rattle.script_run.proofs.ToldLemmas.{serves_one, told_left}
+use Rattle.script_run.proofs.LeftLemmas.{told_left}
+use Rattle.script_run.proofs.ToldLemmas.{serves_one, shown_begins}
 use Rattle.script_run.proofs.UnchangedLemmas.{unchanged_since}
 use Rattle.mdbox_top.specs.Alone.{IsDoneAlone}
 use Rattle.mdbox_top.specs.MakeRun.{AreMade, IsMakeReply, LeavesOpened, MakeMoments, MakeRests, lists_by_making}
@@ -60,7 +61,7 @@ make_left name given old new began now w running lists shows =
     let may = may_read (making name) refl lists old in
     let s = w.done.serves lists shows may in
     by_told (next_mailbox w.done.m) name given lists (left_by lists s.journal)
-    (told_left lists (making name) s.run s.journal given began now s.served.legal (unfailed_by given (calm name given old new began now w) running))
+    (told_left lists (making name) s.run s.journal s.broken given began now _ s.m s.drawn _ w.done.meanings (shown_begins (alone (making name)) (given ∷ []) w.entries old new began now w.done lists shows may) s.served (unfailed_by given (calm name given old new began now w) running))
     (subst (λ (m : MapMeaning). AreAlongMake (next_mailbox m) name lists (left_by lists s.journal)) (w.done.begins lists shows may) (made_left name lists s.run s.journal s.broken (Some given ∷ []) began now _ s.m s.drawn _ s.served))
 
 make_settles : (name : List ℕ) (given : Reply) (old new : Option History) (began now : Faults) → (w : MakeDone name given old new began now) → (given ≡ reply.Refused refusal.Stopped → ⊥) → (lists : Lists) → IsSettledFor lists old → IsSettledFor (lists_by_making (next_mailbox w.done.m) name given lists) new

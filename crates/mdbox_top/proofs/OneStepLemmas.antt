@@ -1,7 +1,7 @@
 -- A request alone of one step, or a move of two, by the script that it is.
 use Rattle.std.specs.Prelude.{◌≡◌, ◌⊎◌, ℕ, zero, suc, false, true, List, [], ◌∷◌, Contains, Option, Some, Bool, None, is_some, if◌then◌else◌}
 use Rattle.std.proofs.Common.{refl, sym, ap, subst, inl, inr, arith, ◌∙◌}
-use Rattle.disk_model.specs.Disk.{Faults, History}
+use Rattle.disk_model.specs.Disk.{Faults, History, told_calls}
 use Rattle.mdbox_base.specs.declared.replies.Refusal.TheVariants as refusal
 use Rattle.mdbox_base.specs.declared.replies.Reply.{Reply}
 use Rattle.mdbox_base.specs.declared.replies.Reply.TheVariants as reply
@@ -9,7 +9,7 @@ use Rattle.mdbox_base.specs.declared.requests.Request.{Request}
 use Rattle.mdbox_base.specs.declared.requests.Request.TheVariants as request
 use Rattle.mdbox_base.specs.declared.script.JournalEntry.{JournalEntry}
 use Rattle.model_lists.specs.Lists.{Lists}
-use Rattle.model_meaning.specs.MapMeaning.{MapMeaning}
+use Rattle.model_meaning.specs.MapMeaning.{MapMeaning, map_meaning}
 use Rattle.model_store.specs.Listing.{listing_of, meaning_named, ShowLists}
 use Rattle.list_machine.specs.Machine.{PartAnswers, is_step, set_flags}
 use Rattle.list_machine.specs.Run.{EventPart, First, Run, RunEvent, map_of}
@@ -25,7 +25,8 @@ use Rattle.script_run.proofs.ReachedLemmas.{reached_once}
 use Rattle.script_run.proofs.ReachedMoveLemmas.{never_gone, reached_moved}
 use Rattle.script_run.proofs.ShownLemmas.{ListsAnswer}
 use Rattle.script_run.proofs.SomeListsLemmas.{some_lists}
-use Rattle.script_run.proofs.ToldLemmas.{serves_one, told_left}
+use Rattle.script_run.proofs.LeftLemmas.{told_left}
+use Rattle.script_run.proofs.ToldLemmas.{serves_one, shown_begins}
 use Rattle.script_run.proofs.UnchangedLemmas.{changes_none, closed_since, reads_safe, unchanged_since}
 use Rattle.disk_model.proofs.MomentLemmas.{each_image-map}
 use Rattle.mdbox_base.specs.declared.replies.Refusal.{Refusal}
@@ -33,7 +34,8 @@ use Rattle.mdbox_base.specs.declared.ids.Uid.{Uid}
 use Rattle.model_meaning.specs.BoxMeaning.{BoxMeaning, row_at}
 use Rattle.model_store.specs.Safe.{Safe}
 use Rattle.model_store.specs.Settled.{IsSettledFor}
-use Rattle.journal.specs.Journal.{IsLegal, left_by}
+use Rattle.journal.specs.Journal.{left_by}
+use Rattle.journal.specs.Makes.{IsServed}
 use Rattle.mail_ops.specs.Copy.{copied_lists}
 use Rattle.mail_ops.specs.Requests.{lists_by_reply}
 use Rattle.store_open.specs.Opened.{IsOpenedAs}
@@ -181,8 +183,10 @@ stopped_one given running c = running (one_of given (reply.Refused refusal.Stopp
 change_left : (asked : Request) (given : Reply) (entries : List JournalEntry) (old new : Option History) (began now : Faults) → (k : IsOneChange asked given entries old new began now) → (given ≡ reply.Refused refusal.Stopped → ⊥) → (lists : Lists) → (shows : LogsShowLists k.done.m k.done.meanings lists)
     → left_by lists (k.done.serves lists shows (may_read asked (fetches_none asked k.one) lists old)).journal ≡ lists_told asked given lists
 change_left asked given entries old new began now k running lists shows =
-    let s = k.done.serves lists shows (may_read asked (fetches_none asked k.one) lists old) in
-    k.told given lists (left_by lists s.journal) (told_left lists asked s.run s.journal given began now s.served.legal (unfailed_by given k.calm running))
+    let may = may_read asked (fetches_none asked k.one) lists old in
+    let s = k.done.serves lists shows may in
+    k.told given lists (left_by lists s.journal)
+    (told_left lists asked s.run s.journal s.broken given began now _ s.m s.drawn _ k.done.meanings (shown_begins (alone asked) (given ∷ []) entries old new began now k.done lists shows may) s.served (unfailed_by given k.calm running))
 
 change_settles : (asked : Request) (given : Reply) (entries : List JournalEntry) (old new : Option History) (began now : Faults) → IsOneChange asked given entries old new began now → (given ≡ reply.Refused refusal.Stopped → ⊥) → (lists : Lists) → IsSettledFor lists old
     → IsSettledFor (lists_told asked given lists) new
@@ -214,10 +218,12 @@ change_mail asked given entries old new began now k = record {
 
 change_leaves : (asked : Request) (change : Lists → Lists) (given : Reply) (entries : List JournalEntry) (old new : Option History) (began now : Faults) → IsOneChange asked given entries old new began now → MakesOneStep asked → ((answer : Reply) (lists : Lists) → (lists_told asked answer lists ≡ lists) ⊎ (lists_told asked answer lists ≡ change lists)) → ChangeMoments change old new
 change_leaves asked change given entries old new began now k one along = λ lists at.
-    let s = k.done.serves lists (k.done.shown lists (settled_safe lists old at)) (may_read asked (fetches_none asked k.one) lists old) in
+    let shows = k.done.shown lists (settled_safe lists old at) in
+    let may = may_read asked (fetches_none asked k.one) lists old in
+    let s = k.done.serves lists shows may in
     each_image-map (IsReached lists s.run s.journal s.broken) (λ _ image. Safe image lists ⊎ Safe image (change lists)) old new
     (λ m image is.
-    let reached = reached_once asked lists s.run s.journal s.broken (Some given ∷ []) began now _ s.m s.drawn _ one s.served m is.0 is.1 in
+    let reached = reached_once asked lists s.run s.journal s.broken (Some given ∷ []) began now _ s.m s.drawn _ k.done.meanings (shown_begins (alone asked) (given ∷ []) entries old new began now k.done lists shows may) one s.served m is.0 is.1 in
     let left = k.told reached.0 lists is.0 reached.1 in
     elim (along reached.0 lists) [
       | inl same ↦ inl (subst (λ (ls : Lists). Safe image ls) (left ∙ same) is.2)
@@ -406,17 +412,24 @@ move_tells name uid target given old new began now w =
           record { map = w.later; opened = subst (λ (ms : List BoxMeaning). IsOpenedAs new w.later ms) same.indexes (w.comes.again (stopped_one given (unremembered_runs given e))); mailboxes = same.mailboxes; records = same.records };
       done = λ u gone e. change_opens asked (lists_behind name uid target gone) given old new began now w k (moved_runs given u gone e) (λ lists. ap (λ (r : Reply). lists_told asked r lists) e);
       here = λ lists safe moved e.
-          let s = w.done.serves lists (w.done.shown lists safe) (may_read asked refl lists old) in
-          never_gone name uid target lists s.run s.journal moved began now (subst (λ (r : Reply). IsLegal lists (alone asked) s.run s.journal (Some r ∷ []) began now) e s.served.legal);
+          let shows = w.done.shown lists safe in
+          let may = may_read asked refl lists old in
+          let s = w.done.serves lists shows may in
+          let shown = shown_begins (alone asked) (given ∷ []) w.entries old new began now w.done lists shows may in
+          never_gone name uid target lists s.run s.journal s.broken moved began now _ s.m s.drawn _ w.done.meanings shown
+          (subst (λ (r : Reply). IsServed lists (alone asked) s.run s.journal s.broken (Some r ∷ []) began now (map_meaning s.run.store s.run.start) s.m s.drawn (told_calls new)) e s.served);
       settled = change_settles asked given w.entries old new began now k;
       mail = change_mail asked given w.entries old new began now k;
     }
 
 move_leaves : (name : List ℕ) (uid : Uid) (target : List ℕ) (given : Reply) (entries : List JournalEntry) (old new : Option History) (began now : Faults) → IsOneChange (moving name uid target) given entries old new began now → MoveMoments name uid target old new
 move_leaves name uid target given entries old new began now k = λ lists at.
-    let s = k.done.serves lists (k.done.shown lists (settled_safe lists old at)) (may_read (moving name uid target) refl lists old) in
+    let shows = k.done.shown lists (settled_safe lists old at) in
+    let may = may_read (moving name uid target) refl lists old in
+    let s = k.done.serves lists shows may in
+    let shown = shown_begins (alone (moving name uid target)) (given ∷ []) entries old new began now k.done lists shows may in
     each_image-map (IsReached lists s.run s.journal s.broken) (λ _ image. Safe image lists ⊎ (Safe image (copied_lists name uid target lists) ⊎ Safe image (moved_lists name uid target lists))) old new
-    (λ m image is. elim (reached_moved name uid target lists s.run s.journal s.broken (Some given ∷ []) began now _ s.m s.drawn _ s.served m is.0 is.1) [
+    (λ m image is. elim (reached_moved name uid target lists s.run s.journal s.broken (Some given ∷ []) began now _ s.m s.drawn _ k.done.meanings shown s.served m is.0 is.1) [
       | inl same ↦ inl (subst (λ (ls : Lists). Safe image ls) same is.2)
       | inr (inl copied) ↦ inr (inl (subst (λ (ls : Lists). Safe image ls) copied is.2))
       | inr (inr moved) ↦ inr (inr (subst (λ (ls : Lists). Safe image ls) moved is.2))

@@ -12,7 +12,7 @@ use Rattle.mdbox_base.specs.declared.requests.Request.{Request}
 use Rattle.mdbox_base.specs.declared.requests.Request.TheVariants as request
 use Rattle.model_lists.specs.Lists.{Lists}
 use Rattle.model_store.specs.Safe.{Safe}
-use Rattle.list_machine.specs.Machine.{set_flags}
+use Rattle.list_machine.specs.Machine.{delete_mailbox, rename_mailbox, set_flags}
 use Rattle.journal.specs.Journal.{is_read_fault}
 use Rattle.store_open.specs.declared.error.OpenError.{OpenError}
 use Rattle.store_open.specs.declared.error.OpenError.TheVariants as error
@@ -62,6 +62,8 @@ rests_as (request.Expunge name uid) F G began now old new h r = λ none. r (λ f
 rests_as (request.Copy name uid target) F G began now old new h r = λ none. r (λ failed. none (h failed))
 rests_as (request.Move name uid target) F G began now old new h r = λ none. r (λ failed. none (h failed))
 rests_as (request.Make name) F G began now old new h r = λ none. r (λ failed. none (h failed))
+rests_as (request.Delete name) F G began now old new h r = λ none. r (λ failed. none (h failed))
+rests_as (request.Rename name target) F G began now old new h r = λ none. r (λ failed. none (h failed))
 rests_as request.Counts F G began now old new h r = λ none. r (λ failed. none (h failed))
 rests_as request.Resync F G began now old new h r = λ none. r (λ failed. none (h failed))
 rests_as request.Purge F G began now old new h r = λ none. r (λ failed. none (h failed))
@@ -108,6 +110,8 @@ unopened_leaves (request.Copy name uid target) old new began now why u = change_
 unopened_leaves (request.Move name uid target) old new began now why u = λ lists at.
     each_image-map (λ _ image. Safe image lists) (λ _ image. Safe image lists ⊎ (Safe image (copied_lists name uid target lists) ⊎ Safe image (moved_lists name uid target lists))) old new (λ m image h. inl h) (u.moments lists at)
 unopened_leaves (request.Make name) old new began now why u = λ lists at. each_image-map (λ _ image. Safe image lists) (SafeForMade name old lists) old new (λ m image h. inl h) (u.moments lists at)
+unopened_leaves (request.Delete name) old new began now why u = change_unopened_leaves (delete_mailbox name) old new began now why u
+unopened_leaves (request.Rename name target) old new began now why u = change_unopened_leaves (rename_mailbox name target) old new began now why u
 unopened_leaves (request.Deliver name time octets) old new began now why u = save_unopened_leaves name time octets old new began now why u
 unopened_leaves (request.Fetch name uid) old new began now why u = record { safe = u.moments; stays = u.stays; closed_well = u.closed_well }
 
@@ -121,6 +125,8 @@ unopened_rests (request.Expunge name uid) old new began now why u = λ none list
 unopened_rests (request.Copy name uid target) old new began now why u = λ none lists at. inl (u.settled_again (λ f. none (unopened_may (request.Copy name uid target) why f)) lists at)
 unopened_rests (request.Move name uid target) old new began now why u = λ none lists at. inl (u.settled_again (λ f. none (unopened_may (request.Move name uid target) why f)) lists at)
 unopened_rests (request.Make name) old new began now why u = λ none lists at. inl (u.settled_again (λ f. none (unopened_may (request.Make name) why f)) lists at)
+unopened_rests (request.Delete name) old new began now why u = λ none lists at. inl (u.settled_again (λ f. none (unopened_may (request.Delete name) why f)) lists at)
+unopened_rests (request.Rename name target) old new began now why u = λ none lists at. inl (u.settled_again (λ f. none (unopened_may (request.Rename name target) why f)) lists at)
 unopened_rests (request.Deliver name time octets) old new began now why u = λ none lists at. inl (u.settled_again (λ f. none (unopened_may (request.Deliver name time octets) why f)) lists at)
 unopened_rests (request.Fetch name uid) old new began now why u = λ none. (u.settled_again (λ f. none (unopened_may (request.Fetch name uid) why f)), u.carried (λ f. none (unopened_may (request.Fetch name uid) why f)))
 

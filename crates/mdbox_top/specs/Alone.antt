@@ -7,8 +7,10 @@ use Rattle.mdbox_base.specs.declared.replies.Reply.TheVariants as reply
 use Rattle.mdbox_base.specs.declared.requests.Request.{Request}
 use Rattle.mdbox_base.specs.declared.requests.Request.TheVariants as request
 use Rattle.model_lists.specs.Lists.{Lists}
+use Rattle.list_machine.specs.Machine.{delete_mailbox, rename_mailbox}
 use Rattle.script_run.specs.Opening.{AreSafeFor}
 use Rattle.script_run.specs.One.{ServesRequest}
+use Rattle.mdbox_top.specs.Changed.{ChangeMoments, ChangeRests}
 use Rattle.mdbox_top.specs.InputRun.{IsOneOf}
 use Rattle.tasks_alone.specs.FaultsAlone.{FaultsByReply}
 use Rattle.mdbox_top.specs.ListRun.{IsListReply, ListMoments, ListRests}
@@ -23,7 +25,7 @@ use Rattle.mdbox_top.specs.CountsRun.{IsCountsReply, CountsMoments, CountsRests}
 use Rattle.mdbox_top.specs.PurgeRun.{IsPurgeReply, PurgeMoments, PurgeRests}
 use Rattle.mdbox_top.specs.ResyncRun.{IsResyncReply, ResyncMoments, ResyncRests}
 
--- what its reply tells
+-- what its reply tells: no deletion and no renaming is replied, since neither has a task yet
 abbrev pub ReplyTells : Request → Option History → Option History → Reply → Type 0
 ReplyTells (request.Deliver name time octets) = IsDeliverReply name time octets
 ReplyTells (request.List name) = IsListReply name
@@ -33,6 +35,8 @@ ReplyTells (request.Expunge name uid) = IsExpungeReply name uid
 ReplyTells (request.Copy name uid target) = IsCopyReply name uid target
 ReplyTells (request.Move name uid target) = IsMoveReply name uid target
 ReplyTells (request.Make name) = IsMakeReply name
+ReplyTells (request.Delete name) = λ old new given. ⊥
+ReplyTells (request.Rename name target) = λ old new given. ⊥
 ReplyTells request.Counts = IsCountsReply
 ReplyTells request.Resync = IsResyncReply
 ReplyTells request.Purge = IsPurgeReply
@@ -47,6 +51,8 @@ RequestMoments (request.Expunge name uid) = ExpungeMoments name uid
 RequestMoments (request.Copy name uid target) = CopyMoments name uid target
 RequestMoments (request.Move name uid target) = MoveMoments name uid target
 RequestMoments (request.Make name) = MakeMoments name
+RequestMoments (request.Delete name) = ChangeMoments (delete_mailbox name)
+RequestMoments (request.Rename name target) = ChangeMoments (rename_mailbox name target)
 RequestMoments request.Counts = CountsMoments
 RequestMoments request.Resync = ResyncMoments
 RequestMoments request.Purge = PurgeMoments
@@ -61,6 +67,8 @@ RequestRests (request.Expunge name uid) = ExpungeRests name uid
 RequestRests (request.Copy name uid target) = CopyRests name uid target
 RequestRests (request.Move name uid target) = MoveRests name uid target
 RequestRests (request.Make name) = MakeRests name
+RequestRests (request.Delete name) = ChangeRests (delete_mailbox name)
+RequestRests (request.Rename name target) = ChangeRests (rename_mailbox name target)
 RequestRests request.Counts = CountsRests
 RequestRests request.Resync = ResyncRests
 RequestRests request.Purge = PurgeRests

@@ -1,13 +1,15 @@
 -- What the checks of a make and of a copy refuse.
-use Rattle.std.proofs.Common.{◌≡◌, ◌<◌, ◌≤◌, ℕ, zero, suc, max, true, false, List, [], ◌∷◌, length, get_or, Some, None, refl, arith}
-use Rattle.std.specs.Prelude.{nat_le, is_some, is_none, All, fold}
+use Rattle.std.proofs.Common.{◌≡◌, ◌<◌, ◌≤◌, ℕ, true, false, List, [], ◌∷◌, length, Some, None, refl, arith}
+use Rattle.std.specs.Prelude.{nat_le, is_some, is_none, All, codes}
+use Rattle.std.specs.Str.{bytes_eq}
 use Rattle.std.proofs.lemmas.Grind.{common_steps}
-use Rattle.mdbox_base.specs.declared.replies.Refusal.TheVariants.{NoMailbox, Exists, NoMessage, TooManyCopies, MailboxFull, TooManyMailboxes, StoreFull}
+use Rattle.mdbox_base.specs.declared.replies.Refusal.TheVariants.{NoMailbox, Inbox, Exists, NoMessage, TooManyCopies, MailboxFull, TooManyMailboxes, StoreFull}
 use Rattle.model_lists.specs.Lists.{ListedMessage, Mailbox, Lists, refs_of}
-use Rattle.model_meaning.specs.MapMeaning.{count_of, greatest}
+use Rattle.model_meaning.specs.MapMeaning.{count_of}
 use Rattle.list_machine.specs.Run.{Run, First, Last, map_of, drawn_of}
-use Rattle.list_machine.specs.Machine.{first_refusal, make_checks, copy_checks, mailbox_named, message_at}
+use Rattle.list_machine.specs.Machine.{Check, HasMailbox, IsNotInbox, IsNewName, first_refusal, make_checks, copy_checks, mailbox_named, message_at}
 use Rattle.plain_lists.specs.AtOnce.{IsAlone}
+use Rattle.plain_lists.specs.View.{ListsMade}
 
 le_true : (m n : ℕ) → m ≤ n → nat_le m n ≡ true
 le_true m n h = grind (arith, common_steps, h)
@@ -60,15 +62,15 @@ pub copy_used_up : (run : Run) (lists : Lists) (name : List ℕ) (uid : ℕ) (ta
 copy_used_up run lists name uid target source into message f room used =
     rw (f.message_is, f.source_is, f.target_is, le_false 1000000 (length into.messages) room, le_true 4294967295 into.next_uid (omega (arith, used))) refl
 
-pub copy_shared : (run : Run) (lists : Lists) (name : List ℕ) (uid : ℕ) (target : List ℕ) (source into : Mailbox) (message : ListedMessage) → IsFound lists name uid target source into message →
-    IsAlone run lists → length into.messages < 1000000 → into.next_uid ≤ 4294967294 → 65535 ≤ refs_of lists message.guid → first_refusal run lists (copy_checks name uid target First) ≡ Some (TooManyCopies 65535)
-copy_shared run lists name uid target source into message f alone room unused shared =
+pub copy_shared : (run : Run) (made : ListsMade) (name : List ℕ) (uid : ℕ) (target : List ℕ) (source into : Mailbox) (message : ListedMessage) → IsFound made.lists name uid target source into message →
+    IsAlone run made → length into.messages < 1000000 → into.next_uid ≤ 4294967294 → 65535 ≤ refs_of made.lists message.guid → first_refusal run made.lists (copy_checks name uid target First) ≡ Some (TooManyCopies 65535)
+copy_shared run made name uid target source into message f alone room unused shared =
     let kept : 65535 ≤ count_of (map_of run) message.guid = omega (arith, alone.counts message.guid, shared) in
     rw (f.message_is, f.source_is, f.target_is, le_false 1000000 (length into.messages) room, le_false 4294967295 into.next_uid (omega (arith, unused)), le_true 65535 (count_of (map_of run) message.guid) kept) refl
 
-pub copy_passes : (run : Run) (lists : Lists) (name : List ℕ) (uid : ℕ) (target : List ℕ) (source into : Mailbox) (message : ListedMessage) → IsFound lists name uid target source into message →
-    IsAlone run lists → length into.messages < 1000000 → into.next_uid ≤ 4294967294 → refs_of lists message.guid < 65535 → first_refusal run lists (copy_checks name uid target First) ≡ None
-copy_passes run lists name uid target source into message f alone room unused few =
+pub copy_passes : (run : Run) (made : ListsMade) (name : List ℕ) (uid : ℕ) (target : List ℕ) (source into : Mailbox) (message : ListedMessage) → IsFound made.lists name uid target source into message →
+    IsAlone run made → length into.messages < 1000000 → into.next_uid ≤ 4294967294 → refs_of made.lists message.guid < 65535 → first_refusal run made.lists (copy_checks name uid target First) ≡ None
+copy_passes run made name uid target source into message f alone room unused few =
     let kept : count_of (map_of run) message.guid < 65535 = omega (arith, alone.counts message.guid, few) in
     rw (f.message_is, f.source_is, f.target_is, le_false 1000000 (length into.messages) room, le_false 4294967295 into.next_uid (omega (arith, unused)), le_false 65535 (count_of (map_of run) message.guid) kept) refl
 
@@ -77,15 +79,23 @@ pub copy_last : (run : Run) (lists : Lists) (name : List ℕ) (uid : ℕ) (targe
 copy_last run lists name uid target source into message f room unused =
     rw (f.message_is, f.source_is, f.target_is, le_false 1000000 (length into.messages) room, le_false 4294967295 into.next_uid (omega (arith, unused))) refl
 
--- the greatest of some numbers is above none of them
-most_below : (lists : Lists) (most : ℕ) → most ≤ fold (λ m x. max m x.number) most lists
-most_below [] most = omega arith
-most_below (x ∷ lists) most = let r = most_below lists (max most x.number) in omega (arith, r)
+-- a number above the highest that was ever given is above that of each mailbox
+pub all_below : (made : ListsMade) (number : ℕ) → All (λ m. m.number ≤ made.highest) made.lists → made.highest < number → All (λ m. m.number < number) made.lists
+all_below made number given lt k d within = let r = given k d within in omega (arith, r, lt)
 
-each_below : (lists : Lists) (most : ℕ) (k : ℕ) (d : Mailbox) → k < length lists → (get_or lists k d).number ≤ fold (λ m x. max m x.number) most lists
-each_below [] most k d lt = absurd (omega (arith, lt))
-each_below (x ∷ lists) most zero d lt = let r = most_below lists (max most x.number) in omega (arith, r)
-each_below (x ∷ lists) most (suc k) d lt = each_below lists (max most x.number) k d (omega (arith, lt))
+-- a deletion and a renaming
+pub inbox_refused : (run : Run) (lists : Lists) (name : List ℕ) (rest : List Check) → is_none (mailbox_named name lists) ≡ false → bytes_eq name (codes "INBOX") ≡ true →
+    first_refusal run lists (HasMailbox name ∷ IsNotInbox name ∷ rest) ≡ Some Inbox
+inbox_refused run lists name rest h k = rw (h, k) refl
 
-pub all_below : (lists : Lists) (number : ℕ) → greatest (λ m. m.number) lists < number → All (λ m. m.number < number) lists
-all_below lists number lt k d within = let r = each_below lists 0 k d within in omega (arith, r, lt)
+pub delete_passes : (run : Run) (lists : Lists) (name : List ℕ) → is_none (mailbox_named name lists) ≡ false → bytes_eq name (codes "INBOX") ≡ false →
+    first_refusal run lists (HasMailbox name ∷ IsNotInbox name ∷ []) ≡ None
+delete_passes run lists name h k = rw (h, k) refl
+
+pub rename_exists : (run : Run) (lists : Lists) (name target : List ℕ) → is_none (mailbox_named name lists) ≡ false → bytes_eq name (codes "INBOX") ≡ false → is_some (mailbox_named target lists) ≡ true →
+    first_refusal run lists (HasMailbox name ∷ IsNotInbox name ∷ IsNewName target ∷ []) ≡ Some Exists
+rename_exists run lists name target h k t = rw (h, k, t) refl
+
+pub rename_passes : (run : Run) (lists : Lists) (name target : List ℕ) → is_none (mailbox_named name lists) ≡ false → bytes_eq name (codes "INBOX") ≡ false → is_some (mailbox_named target lists) ≡ false →
+    first_refusal run lists (HasMailbox name ∷ IsNotInbox name ∷ IsNewName target ∷ []) ≡ None
+rename_passes run lists name target h k t = rw (h, k, t) refl

@@ -4,7 +4,7 @@ use Rattle.std.specs.Prelude.{is_some, is_none, Bool, true, false, if◌then◌e
 use Rattle.std.proofs.lemmas.List.{map-append}
 use Rattle.std.specs.List.{position, remove}
 use Rattle.model_lists.specs.Lists.{ListedMessage, Mailbox, Lists, empty_mailbox, change_first}
-use Rattle.list_machine.specs.Machine.{has_name, is_message_of_uid, mailbox_named, message_at, message_in, without_first, set_flags, expunge}
+use Rattle.list_machine.specs.Machine.{has_name, has_number, is_message_of_uid, mailbox_named, mailbox_numbered, message_at, message_numbered, message_in, without_first, set_flags, expunge, expunge_from, delete_mailbox, rename_mailbox}
 use Rattle.plain_lists.specs.declared.lists.PlainMessage.{PlainMessage}
 use Rattle.plain_lists.specs.declared.lists.PlainMailbox.{PlainMailbox}
 use Rattle.plain_lists.specs.View.{mailbox_of, message_of}
@@ -18,6 +18,12 @@ mailbox_place boxes name i e = position_is_place mailbox_of (has_name name) boxe
 pub message_place : (messages : List PlainMessage) (uid i : ℕ) → Some i ≡ position (λ m. is_message_of_uid uid (message_of m)) messages → IsFirstPlace message_of (is_message_of_uid uid) messages i
 message_place messages uid i e = position_is_place message_of (is_message_of_uid uid) messages (Some i) (sym e)
 
+pub number_place : (boxes : List PlainMailbox) (number i : ℕ) → Some i ≡ position (λ m. has_number number (mailbox_of m)) boxes → IsFirstPlace mailbox_of (has_number number) boxes i
+number_place boxes number i e = position_is_place mailbox_of (has_number number) boxes (Some i) (sym e)
+
+pub no_number_here : (boxes : List PlainMailbox) (number : ℕ) → None ≡ position (λ m. has_number number (mailbox_of m)) boxes → mailbox_numbered number (map mailbox_of boxes) ≡ None
+no_number_here boxes number e = position_is_place mailbox_of (has_number number) boxes None (sym e)
+
 pub no_mailbox_here : (boxes : List PlainMailbox) (name : List ℕ) → None ≡ position (λ m. has_name name (mailbox_of m)) boxes → mailbox_named name (map mailbox_of boxes) ≡ None
 no_mailbox_here boxes name e = position_is_place mailbox_of (has_name name) boxes None (sym e)
 
@@ -26,6 +32,10 @@ pub mailbox_here : (boxes : List PlainMailbox) (name : List ℕ) (i : ℕ) (b : 
     mailbox_named name (map mailbox_of boxes) ≡ Some (mailbox_of b)
 mailbox_here boxes name i b place here = found_at mailbox_of (has_name name) boxes i b place ∙ ap (λ (m : PlainMailbox). Some (mailbox_of m)) (sym here)
 
+pub numbered_here : (boxes : List PlainMailbox) (number i : ℕ) (b : PlainMailbox) → IsFirstPlace mailbox_of (has_number number) boxes i → b ≡ get_or boxes i b →
+    mailbox_numbered number (map mailbox_of boxes) ≡ Some (mailbox_of b)
+numbered_here boxes number i b place here = found_at mailbox_of (has_number number) boxes i b place ∙ ap (λ (m : PlainMailbox). Some (mailbox_of m)) (sym here)
+
 -- the message at its place
 pub message_here : (boxes : List PlainMailbox) (name : List ℕ) (uid i j : ℕ) (b : PlainMailbox) (m : PlainMessage) → IsFirstPlace mailbox_of (has_name name) boxes i → b ≡ get_or boxes i b →
     IsFirstPlace message_of (is_message_of_uid uid) b.messages.items j → m ≡ get_or b.messages.items j m → message_at name uid (map mailbox_of boxes) ≡ Some (message_of m)
@@ -33,15 +43,29 @@ message_here boxes name uid i j b m place here inner there =
     let k : message_in uid (mailbox_of b) ≡ Some (message_of m) = found_at message_of (is_message_of_uid uid) b.messages.items j m inner ∙ ap (λ (x : PlainMessage). Some (message_of x)) (sym there) in
     rw (mailbox_here boxes name i b place here) k
 
+pub numbered_message : (boxes : List PlainMailbox) (number uid i j : ℕ) (b : PlainMailbox) (m : PlainMessage) → IsFirstPlace mailbox_of (has_number number) boxes i → b ≡ get_or boxes i b →
+    IsFirstPlace message_of (is_message_of_uid uid) b.messages.items j → m ≡ get_or b.messages.items j m → message_numbered number uid (map mailbox_of boxes) ≡ Some (message_of m)
+numbered_message boxes number uid i j b m place here inner there =
+    let k : message_in uid (mailbox_of b) ≡ Some (message_of m) = found_at message_of (is_message_of_uid uid) b.messages.items j m inner ∙ ap (λ (x : PlainMessage). Some (message_of x)) (sym there) in
+    rw (numbered_here boxes number i b place here) k
+
+pub no_numbered_message : (boxes : List PlainMailbox) (number uid i : ℕ) (b : PlainMailbox) → IsFirstPlace mailbox_of (has_number number) boxes i → b ≡ get_or boxes i b →
+    None ≡ position (λ m. is_message_of_uid uid (message_of m)) b.messages.items → message_numbered number uid (map mailbox_of boxes) ≡ None
+no_numbered_message boxes number uid i b place here none = rw (numbered_here boxes number i b place here) (position_is_place message_of (is_message_of_uid uid) b.messages.items None (sym none))
+
 pub no_message_here : (boxes : List PlainMailbox) (name : List ℕ) (uid i : ℕ) (b : PlainMailbox) → IsFirstPlace mailbox_of (has_name name) boxes i → b ≡ get_or boxes i b →
     None ≡ position (λ m. is_message_of_uid uid (message_of m)) b.messages.items → message_at name uid (map mailbox_of boxes) ≡ None
 no_message_here boxes name uid i b place here none = rw (mailbox_here boxes name i b place here) (position_is_place message_of (is_message_of_uid uid) b.messages.items None (sym none))
 
 -- a mailbox is changed at its place
+pub box_changed_at : (test : Mailbox → Bool) (change : Mailbox → Mailbox) (boxes : List PlainMailbox) (i : ℕ) (b b' : PlainMailbox) → IsFirstPlace mailbox_of test boxes i → b ≡ get_or boxes i b →
+    mailbox_of b' ≡ change (mailbox_of b) → map mailbox_of (set boxes i b') ≡ change_first test change (map mailbox_of boxes)
+box_changed_at test change boxes i b b' place here e =
+    changed_at mailbox_of test change boxes i b' b place (e ∙ ap (λ (m : PlainMailbox). change (mailbox_of m)) here)
+
 pub mailbox_changed : (change : Mailbox → Mailbox) (boxes : List PlainMailbox) (name : List ℕ) (i : ℕ) (b b' : PlainMailbox) → IsFirstPlace mailbox_of (has_name name) boxes i → b ≡ get_or boxes i b →
     mailbox_of b' ≡ change (mailbox_of b) → map mailbox_of (set boxes i b') ≡ change_first (has_name name) change (map mailbox_of boxes)
-mailbox_changed change boxes name i b b' place here e =
-    changed_at mailbox_of (has_name name) change boxes i b' b place (e ∙ ap (λ (m : PlainMailbox). change (mailbox_of m)) here)
+mailbox_changed change boxes name i b b' place here e = box_changed_at (has_name name) change boxes i b b' place here e
 
 made_mailbox : ℕ → List ℕ → ℕ → List ListedMessage → Mailbox
 made_mailbox number name next messages = record { number = number; name = name; next_uid = next; messages = messages }
@@ -71,6 +95,22 @@ pub expunged : (boxes : List PlainMailbox) (name : List ℕ) (uid i j : ℕ) (b 
 expunged boxes name uid i j b b' place here inner e1 e2 e3 e4 =
     let k : map message_of b'.messages.items ≡ without_first (is_message_of_uid uid) (map message_of b.messages.items) = ap (map message_of) e4 ∙ removed_at message_of (is_message_of_uid uid) b.messages.items j inner in
     mailbox_changed (λ mailbox. record mailbox { messages = without_first (is_message_of_uid uid) mailbox.messages }) boxes name i b b' place here (other_messages b b' _ e1 e2 e3 k)
+
+pub numbered_expunged : (boxes : List PlainMailbox) (number uid i j : ℕ) (b b' : PlainMailbox) → IsFirstPlace mailbox_of (has_number number) boxes i → b ≡ get_or boxes i b →
+    IsFirstPlace message_of (is_message_of_uid uid) b.messages.items j →
+    b'.number ≡ b.number → b'.name ≡ b.name → b'.next_uid ≡ b.next_uid → b'.messages.items ≡ remove b.messages.items j →
+    map mailbox_of (set boxes i b') ≡ expunge_from number uid (map mailbox_of boxes)
+numbered_expunged boxes number uid i j b b' place here inner e1 e2 e3 e4 =
+    let k : map message_of b'.messages.items ≡ without_first (is_message_of_uid uid) (map message_of b.messages.items) = ap (map message_of) e4 ∙ removed_at message_of (is_message_of_uid uid) b.messages.items j inner in
+    box_changed_at (has_number number) (λ mailbox. record mailbox { messages = without_first (is_message_of_uid uid) mailbox.messages }) boxes i b b' place here (other_messages b b' _ e1 e2 e3 k)
+
+-- a mailbox is removed, and has another name
+pub mailbox_removed : (boxes : List PlainMailbox) (name : List ℕ) (i : ℕ) → IsFirstPlace mailbox_of (has_name name) boxes i → map mailbox_of (remove boxes i) ≡ delete_mailbox name (map mailbox_of boxes)
+mailbox_removed boxes name i place = removed_at mailbox_of (has_name name) boxes i place
+
+pub mailbox_renamed : (boxes : List PlainMailbox) (name target : List ℕ) (i : ℕ) (b b' : PlainMailbox) → IsFirstPlace mailbox_of (has_name name) boxes i → b ≡ get_or boxes i b →
+    mailbox_of b' ≡ record (mailbox_of b) { name = target } → map mailbox_of (set boxes i b') ≡ rename_mailbox name target (map mailbox_of boxes)
+mailbox_renamed boxes name target i b b' place here e = mailbox_changed (λ mailbox. record mailbox { name = target }) boxes name i b b' place here e
 
 -- an element read twice is one
 pub read_twice : {X : Type 0} → (xs : List X) (i : ℕ) (a b : X) → i < length xs → a ≡ get_or xs i a → b ≡ get_or xs i b → a ≡ b

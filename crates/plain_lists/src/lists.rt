@@ -25,20 +25,20 @@ pub struct PlainMailbox {
     pub messages: Vec<PlainMessage>,
 }
 
-/// Mailbox lists, in the order in which the mailboxes were made.
+/// Mailbox lists, in the order in which the mailboxes were made, and the highest number that a mailbox was ever given, or 0.
 #[derive(Drop)]
 pub struct PlainLists {
     pub(crate) mailboxes: Vec<PlainMailbox>,
+    pub(crate) highest: u32,
 }
 
 impl Model for PlainLists {
     ghost use Rattle.std.specs.Prelude.{map};
-    ghost use Rattle.model_lists.specs.Lists.{Mailbox, Lists};
-    ghost use Rattle.plain_lists.specs.View.{mailbox_of};
+    ghost use Rattle.plain_lists.specs.View.{ListsMade, mailbox_of};
 
-    ghost Value = { Lists };
+    ghost Value = { ListsMade };
 
-    ghost view = { λ lists. map mailbox_of lists.mailboxes.items };
+    ghost view = { λ plain. record { lists = map mailbox_of plain.mailboxes.items; highest = plain.highest } };
 }
 
 impl PlainLists {
@@ -47,24 +47,25 @@ impl PlainLists {
 
     /// No mailbox.
     pub fn empty(alloc: Global) -> PlainLists
-        ensures { result ≡ [] }
+        ensures { result ≡ record { lists = []; highest = 0 } }
     {
         PlainLists {
             mailboxes: Vec::new(alloc),
+            highest: 0,
         }
     }
 
-    /// These mailboxes, in the order in which they were made.
-    pub fn of(mailboxes: Vec<PlainMailbox>) -> PlainLists
-        ensures { result ≡ map mailbox_of mailboxes.items }
+    /// These mailboxes, in the order in which they were made, of which none was ever given a higher number than this.
+    pub fn of(mailboxes: Vec<PlainMailbox>, highest: u32) -> PlainLists
+        ensures { result ≡ record { lists = map mailbox_of mailboxes.items; highest = highest } }
     {
-        PlainLists { mailboxes }
+        PlainLists { mailboxes, highest }
     }
 
-    /// The mailboxes, in the order in which they were made.
-    pub fn into_mailboxes(self) -> Vec<PlainMailbox>
-        ensures { map mailbox_of result.items ≡ self }
+    /// The mailboxes, in the order in which they were made, and the highest number that one was ever given.
+    pub fn into_parts(self) -> (Vec<PlainMailbox>, u32)
+        ensures { self ≡ record { lists = map mailbox_of result.0.items; highest = result.1 } }
     {
-        self.mailboxes
+        (self.mailboxes, self.highest)
     }
 }

@@ -1,12 +1,12 @@
 // The steps of the list machine.
-ghost use Rattle.std.specs.Prelude.{◌≡◌, ℕ, IfOk, OnErr};
+ghost use Rattle.std.specs.Prelude.{◌≡◌, ℕ, List, Some, IfOk, OnErr};
 ghost use Rattle.mdbox_base.specs.declared.requests.Request.TheVariants as request;
-ghost use Rattle.list_machine.specs.Run.{Run, RunEvent, First, SecondHalf, uid_copied};
+ghost use Rattle.list_machine.specs.Run.{Run, RunEvent, First, SecondHalf, source_of, uid_copied};
 ghost use Rattle.list_machine.specs.Machine.{PartAnswers};
-ghost use Rattle.plain_lists.specs.AtOnce.{IsAlone, AnswersAtOnce};
+ghost use Rattle.plain_lists.specs.AtOnce.{IsAlone, AnswersAtOnce, highest_made};
 
 use crate::lists::{PlainLists, PlainMailbox};
-use crate::walks::{highest_number, place_of_mailbox, place_of_message, references, rows_of};
+use crate::walks::{place_of_mailbox, place_of_message, place_of_number, references, rows_of};
 use mdbox_base::{BoxNo, Flags, LAST_NUMBER, Name, NoMemory, Refusal, Reply, Uid};
 use std::alloc::Global;
 
@@ -20,7 +20,7 @@ const COPIES: usize = 65535;
 impl PlainLists {
     /// The rows of a mailbox.
     pub fn list(&self, alloc: Global, name: &Name) -> Result<Reply, NoMemory>
-        ensures { IfOk result (λ reply. (run : Run) (event : RunEvent) → PartAnswers run event self.now (request.List name.now) First reply self.now) }
+        ensures { IfOk result (λ reply. (run : Run) (event : RunEvent) → PartAnswers run event self.now.lists (request.List name.now) First reply self.now.lists) }
     {
         match place_of_mailbox(&self.mailboxes, name) {
             None => Ok(Reply::Refused(Refusal::NoMailbox)),
@@ -30,7 +30,8 @@ impl PlainLists {
 
     /// Sets a message's flags.
     pub fn flag(&mut self, name: &Name, uid: Uid, flags: Flags) -> Reply
-        ensures { (run : Run) (event : RunEvent) → PartAnswers run event self.old (request.Flag name.now uid flags) First result self.new }
+        ensures answers { (run : Run) (event : RunEvent) → PartAnswers run event self.old.lists (request.Flag name.now uid flags) First result self.new.lists }
+        ensures same { self.new.highest ≡ self.old.highest }
     {
         let Some(place) = place_of_mailbox(&self.mailboxes, name) else {
             return Reply::Refused(Refusal::NoMailbox);
@@ -44,7 +45,8 @@ impl PlainLists {
 
     /// Removes a message.
     pub fn expunge(&mut self, name: &Name, uid: Uid) -> Reply
-        ensures { (run : Run) (event : RunEvent) → PartAnswers run event self.old (request.Expunge name.now uid) First result self.new }
+        ensures answers { (run : Run) (event : RunEvent) → PartAnswers run event self.old.lists (request.Expunge name.now uid) First result self.new.lists }
+        ensures same { self.new.highest ≡ self.old.highest }
     {
         let Some(place) = place_of_mailbox(&self.mailboxes, name) else {
             return Reply::Refused(Refusal::NoMailbox);
@@ -56,9 +58,43 @@ impl PlainLists {
         Reply::Done
     }
 
-    /// Makes an empty mailbox.
+    /// Removes a mailbox with all that it lists. Its number never comes again.
+    pub fn delete(&mut self, name: &Name) -> Reply
+        ensures answers { (run : Run) (event : RunEvent) → PartAnswers run event self.old.lists (request.Delete name.now) First result self.new.lists }
+        ensures same { self.new.highest ≡ self.old.highest }
+    {
+        let Some(place) = place_of_mailbox(&self.mailboxes, name) else {
+            return Reply::Refused(Refusal::NoMailbox);
+        };
+        if name.as_octets() == b"INBOX".as_slice() {
+            return Reply::Refused(Refusal::Inbox);
+        }
+        self.mailboxes.remove(place);
+        Reply::Done
+    }
+
+    /// Gives a mailbox another name.
+    pub fn rename(&mut self, name: &Name, target: Name) -> Reply
+        ensures answers { (run : Run) (event : RunEvent) → PartAnswers run event self.old.lists (request.Rename name.now target) First result self.new.lists }
+        ensures same { self.new.highest ≡ self.old.highest }
+    {
+        let Some(place) = place_of_mailbox(&self.mailboxes, name) else {
+            return Reply::Refused(Refusal::NoMailbox);
+        };
+        if name.as_octets() == b"INBOX".as_slice() {
+            return Reply::Refused(Refusal::Inbox);
+        }
+        if place_of_mailbox(&self.mailboxes, &target).is_some() {
+            return Reply::Refused(Refusal::Exists);
+        }
+        self.mailboxes[place].name = target;
+        Reply::Done
+    }
+
+    /// Makes an empty mailbox, with a number above each that one was ever given.
     pub fn make(&mut self, alloc: Global, name: Name) -> Result<Reply, NoMemory>
-        ensures answers { IfOk result (λ reply. (run : Run) → IsAlone run self.old → AnswersAtOnce run self.old (request.Make name) reply self.new) }
+        ensures answers { IfOk result (λ reply. (run : Run) → IsAlone run self.old → AnswersAtOnce run self.old.lists (request.Make name) reply self.new.lists) }
+        ensures numbered { IfOk result (λ reply. self.new.highest ≡ highest_made reply self.old.highest) }
         ensures err { OnErr result (self.new ≡ self.old) }
     {
         if place_of_mailbox(&self.mailboxes, &name).is_some() {
@@ -67,17 +103,18 @@ impl PlainLists {
         if self.mailboxes.len() >= MAILBOXES {
             return Ok(Reply::Refused(Refusal::TooManyMailboxes(MAILBOXES as u64)));
         }
-        let highest = highest_number(&self.mailboxes);
-        if highest >= LAST_NUMBER {
+        if self.highest >= LAST_NUMBER {
             return Ok(Reply::Refused(Refusal::StoreFull(u64::from(LAST_NUMBER))));
         }
+        let highest = self.highest + 1;
         let mailbox = PlainMailbox {
-            number: BoxNo(highest + 1),
+            number: BoxNo(highest),
             name,
             next_uid: 1,
             messages: Vec::new(alloc),
         };
         self.mailboxes.push(mailbox)?;
+        self.highest = highest;
         Ok(Reply::Done)
     }
 
@@ -89,7 +126,8 @@ impl PlainLists {
         uid: Uid,
         target: &Name,
     ) -> Result<Reply, NoMemory>
-        ensures answers { IfOk result (λ reply. (run : Run) → IsAlone run self.old → AnswersAtOnce run self.old (request.Copy name.now uid target.now) reply self.new) }
+        ensures answers { IfOk result (λ reply. (run : Run) → IsAlone run self.old → AnswersAtOnce run self.old.lists (request.Copy name.now uid target.now) reply self.new.lists) }
+        ensures same { self.new.highest ≡ self.old.highest }
         ensures err { OnErr result (self.new ≡ self.old) }
     {
         let Some(source) = place_of_mailbox(&self.mailboxes, name) else {
@@ -118,11 +156,13 @@ impl PlainLists {
         Ok(Reply::Copied { uid })
     }
 
-    /// Removes the message that a move has copied, where it is still there. Its copy got the UID `copied`.
-    pub fn second_half(&mut self, name: &Name, uid: Uid, target: &Name, copied: Uid) -> Reply
-        ensures { (run : Run) (event : RunEvent) → uid_copied event.request run ≡ Some copied.0 → PartAnswers run event self.old (request.Move name.now uid target.now) SecondHalf result self.new }
+    /// Removes the message that a move has copied from the mailbox with this number, where it is still there. Its copy got the
+    /// UID `copied`.
+    pub fn second_half(&mut self, source: BoxNo, uid: Uid, copied: Uid) -> Reply
+        ensures answers { (run : Run) (event : RunEvent) (name target : List ℕ) → source_of event.request run ≡ source.0 → uid_copied event.request run ≡ Some copied.0 → PartAnswers run event self.old.lists (request.Move name uid target) SecondHalf result self.new.lists }
+        ensures same { self.new.highest ≡ self.old.highest }
     {
-        let Some(place) = place_of_mailbox(&self.mailboxes, name) else {
+        let Some(place) = place_of_number(&self.mailboxes, source) else {
             return Reply::Moved {
                 uid: copied,
                 gone: true,

@@ -2,12 +2,11 @@
 ghost use Rattle.std.specs.Prelude.{◌≡◌, ◌≤◌, ◌==◌, ◌^◌, ◌-◌, ℕ, min, List, length, map, position, count_by, IfOk};
 ghost use Rattle.std.specs.Str.{bytes_eq};
 ghost use Rattle.model_lists.specs.Lists.{refs_of, listing_row};
-ghost use Rattle.list_machine.specs.Machine.{has_name, is_message_of_uid};
-ghost use Rattle.model_meaning.specs.MapMeaning.{greatest};
+ghost use Rattle.list_machine.specs.Machine.{has_name, has_number, is_message_of_uid};
 ghost use Rattle.plain_lists.specs.View.{message_of, mailbox_of};
 
 use crate::lists::{PlainMailbox, PlainMessage};
-use mdbox_base::{Guid, ListRow, Name, NoMemory, Seq, Uid};
+use mdbox_base::{BoxNo, Guid, ListRow, Name, NoMemory, Seq, Uid};
 use std::alloc::Global;
 
 /// The place of the mailbox with this name.
@@ -16,6 +15,13 @@ pub fn place_of_mailbox(mailboxes: &[PlainMailbox], name: &Name) -> Option<usize
 {
     let text = name.as_octets();
     mailboxes.iter().position(|m| m.name.as_octets() == text)
+}
+
+/// The place of the mailbox with this number.
+pub fn place_of_number(mailboxes: &[PlainMailbox], number: BoxNo) -> Option<usize>
+    ensures { result ≡ position (λ m. has_number number.0 (mailbox_of m)) mailboxes.now }
+{
+    mailboxes.iter().position(|m| m.number.0 == number.0)
 }
 
 /// The place of the message with this UID.
@@ -58,15 +64,4 @@ pub fn references(mailboxes: &[PlainMailbox], guid: Guid) -> usize
         references = references.saturating_add(count_of_guid(&mailbox.messages, guid));
     }
     references
-}
-
-/// The greatest number of a mailbox, or 0.
-pub fn highest_number(mailboxes: &[PlainMailbox]) -> u32
-    ensures { result ≡ greatest (λ m. m.number) (map mailbox_of mailboxes.now) }
-{
-    let mut highest = 0;
-    for mailbox in mailboxes {
-        highest = highest.max(mailbox.number.0);
-    }
-    highest
 }

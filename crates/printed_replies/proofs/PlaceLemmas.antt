@@ -199,6 +199,8 @@ not_refused name uid target steps (reply.Refused (refusal.TooManyCopies m)) n is
 not_refused name uid target steps (reply.Refused (refusal.MailboxFull m)) n is = absurd (let e : length steps ≡ 1 = ap (λ (x : List Reply). length x) is in omega (arith, n, e))
 not_refused name uid target steps (reply.Refused (refusal.TooManyMailboxes m)) n is = absurd (let e : length steps ≡ 1 = ap (λ (x : List Reply). length x) is in omega (arith, n, e))
 not_refused name uid target steps (reply.Refused (refusal.StoreFull m)) n is = absurd (let e : length steps ≡ 1 = ap (λ (x : List Reply). length x) is in omega (arith, n, e))
+not_refused name uid target steps (reply.Refused refusal.Inbox) n is = absurd (let e : length steps ≡ 1 = ap (λ (x : List Reply). length x) is in omega (arith, n, e))
+not_refused name uid target steps (reply.Refused refusal.Sealed) n is = absurd (let e : length steps ≡ 1 = ap (λ (x : List Reply). length x) is in omega (arith, n, e))
 not_refused name uid target steps other n is = refl
 
 -- the number is among places

@@ -114,7 +114,14 @@ done_read (reply.Refused s) asked x y p q e = absurd (apart _ _ refl refl e)
 done_read other (request.Flag name uid flags) x y p q e = absurd q
 done_read other (request.Expunge name uid) x y p q e = absurd q
 done_read other (request.Make name) x y p q e = absurd q
+done_read other (request.Delete name) x y p q e = absurd q
+done_read other (request.Rename name target) x y p q e = absurd q
 done_read other asked x y p q e = absurd p
+
+-- no request is answered so yet
+no_altmove : (asked : Request) (moved dropped : ℕ) → IsReplyTo asked (reply.AltMoved moved dropped) → ⊥
+no_altmove request.Counts moved dropped p = p
+no_altmove asked moved dropped p = p
 
 pub reply_read : (asked : Request) (a b : Reply) (x y : List ℕ) → IsReplyTo asked a → IsReplyTo asked b → ReplyHasWords a → ReplyHasWords b → reply_text a ++ x ≡ reply_text b ++ y → (a ≡ b) × (x ≡ y)
 reply_read asked (reply.Refused r) b x y p q v w e = refused_first asked r b x y q v w e
@@ -130,6 +137,7 @@ reply_read asked (reply.Refused r) b x y p q v w e = refused_first asked r b x y
     refused_first asked r (reply.Counted k l m n) x y q v w e = absurd (apart _ _ refl refl (sym e))
     refused_first asked r (reply.Purged k l m) x y q v w e = absurd (apart _ _ refl refl (sym e))
     refused_first asked r (reply.Resynced k l) x y q v w e = absurd (apart _ _ refl refl (sym e))
+    refused_first asked r (reply.AltMoved k l) x y q v w e = absurd (apart _ _ refl refl (sym e))
 reply_read asked (reply.Saved uid guid) b x y p q v w e = saved_first asked b p q w e
   where
     saved_first : (asked : Request) (b : Reply) → IsReplyTo asked (reply.Saved uid guid) → IsReplyTo asked b → ReplyHasWords b → reply_text (reply.Saved uid guid) ++ x ≡ reply_text b ++ y → (reply.Saved uid guid ≡ b) × (x ≡ y)
@@ -193,6 +201,7 @@ reply_read asked (reply.Resynced k l) b x y p q v w e = resynced_first asked b p
     resynced_first request.Resync (reply.Refused s) p q w e = absurd (apart _ _ refl refl e)
     resynced_first request.Resync other p q w e = absurd q
     resynced_first asked other p q w e = absurd p
+reply_read asked (reply.AltMoved k l) b x y p q v w e = absurd (no_altmove asked k l p)
 
 -- ---- a reply with its number and places
 

@@ -1,5 +1,5 @@
 -- Numbers, digits and refusals are read from their text in one way.
-use Rattle.std.specs.Prelude.{◌≡◌, ◌<◌, ◌^◌, ◌==◌, ℕ, nat_le, ◌&&◌, false, List, [], ◌∷◌, ◌++◌, length, drop, flat_map, slice_index, IsTrue, refl, if◌then◌else◌}
+use Rattle.std.specs.Prelude.{◌≡◌, ◌<◌, ◌-◌, ◌^◌, ◌==◌, ℕ, nat_le, ◌&&◌, false, List, [], ◌∷◌, ◌++◌, length, drop, flat_map, slice_index, IsTrue, refl, if◌then◌else◌}
 use Rattle.std.specs.List.{list_all, AllByRecursion}
 use Rattle.std.proofs.Common.{sym, ◌∙◌, ap, arith, append_assoc, append-nil}
 use Rattle.std.proofs.lemmas.Grind.{common_steps}
@@ -112,7 +112,7 @@ rows_read (g ∷ a) (h ∷ b) x y l p q e =
 
 -- ---- refusals
 
--- the second digit of a refusal's number; 20 of damage
+-- the second digit of a refusal's number; of those from 20 on the number
 abbrev which : Refusal → ℕ
 which refusal.NoMailbox = 48
 which refusal.Exists = 49
@@ -125,6 +125,8 @@ which refusal.NoMemory = 55
 which refusal.ReadFault = 56
 which refusal.Stopped = 57
 which (refusal.Damaged file offset) = 20
+which refusal.Inbox = 21
+which refusal.Sealed = 22
 
 -- its numbers
 abbrev told_by : Refusal → List ℕ
@@ -148,7 +150,9 @@ refusal_of digit ns =
     else (if digit == 55 then refusal.NoMemory
     else (if digit == 56 then refusal.ReadFault
     else (if digit == 57 then refusal.Stopped
-    else refusal.Damaged (record { 0 = slice_index ns 0 }) (slice_index ns 1))))))))))
+    else (if digit == 21 then refusal.Inbox
+    else (if digit == 22 then refusal.Sealed
+    else refusal.Damaged (record { 0 = slice_index ns 0 }) (slice_index ns 1))))))))))))
 
 abbrev many : ℕ → ℕ
 many digit = if digit == 20 then 2 else (if nat_le 51 digit && nat_le digit 54 then 1 else 0)
@@ -166,11 +170,13 @@ words_of digit text =
     else (if digit == 55 then drop 9 text
     else (if digit == 56 then drop 13 text
     else (if digit == 57 then drop 10 text
-    else 32 ∷ drop 21 text)))))))))
+    else (if digit == 21 then drop 8 text
+    else (if digit == 22 then drop 9 text
+    else 32 ∷ drop 21 text)))))))))))
 
 -- which it is, by its text
 abbrev which_in : List ℕ → ℕ
-which_in text = if slice_index text 0 == 50 then 20 else slice_index text 1
+which_in text = if slice_index text 0 == 50 then slice_index text 1 - 28 else slice_index text 1
 
 which_read : (r : Refusal) (x : List ℕ) → which_in (refusal_text r ++ 10 ∷ x) ≡ which r
 which_read refusal.NoMailbox x = refl
@@ -184,6 +190,8 @@ which_read refusal.NoMemory x = refl
 which_read refusal.ReadFault x = refl
 which_read refusal.Stopped x = refl
 which_read (refusal.Damaged file offset) x = refl
+which_read refusal.Inbox x = refl
+which_read refusal.Sealed x = refl
 
 words_read : (r : Refusal) (x : List ℕ) → words_of (which r) (refusal_text r ++ 10 ∷ x) ≡ numbers_text (told_by r) ++ 10 ∷ x
 words_read refusal.NoMailbox x = refl
@@ -197,6 +205,8 @@ words_read refusal.NoMemory x = refl
 words_read refusal.ReadFault x = refl
 words_read refusal.Stopped x = refl
 words_read (refusal.Damaged file offset) x = refl
+words_read refusal.Inbox x = refl
+words_read refusal.Sealed x = refl
 
 many_are : (r : Refusal) → length (told_by r) ≡ many (which r)
 many_are refusal.NoMailbox = refl
@@ -210,6 +220,8 @@ many_are refusal.NoMemory = refl
 many_are refusal.ReadFault = refl
 many_are refusal.Stopped = refl
 many_are (refusal.Damaged file offset) = refl
+many_are refusal.Inbox = refl
+many_are refusal.Sealed = refl
 
 made_again : (r : Refusal) → refusal_of (which r) (told_by r) ≡ r
 made_again refusal.NoMailbox = refl
@@ -223,6 +235,8 @@ made_again refusal.NoMemory = refl
 made_again refusal.ReadFault = refl
 made_again refusal.Stopped = refl
 made_again (refusal.Damaged file offset) = refl
+made_again refusal.Inbox = refl
+made_again refusal.Sealed = refl
 
 told_words : (r : Refusal) → RefusalHasWords r → AreWords (told_by r)
 told_words (refusal.TooManyCopies n) p = p

@@ -78,5 +78,8 @@ pub fn known_words(reply: &Reply)
             let _numbers = [*corrected, *damaged];
         }
         Reply::Refused(refusal) => known_refusal(*refusal),
+        Reply::AltMoved { moved, dropped } => {
+            let _numbers = [*moved, *dropped];
+        }
     }
 }

@@ -119,9 +119,10 @@ first_leaves mine disk log files drawn old before after idle room known ends =
       store = refl;
       numbers = none_placed old.instances;
       mailboxes = stays old.map.highest.mailbox;
+      names = λ name number is. is;
       compared = keeps.compared;
       firm = firm;
-      uids = λ name uid held k. record { m = k.m; named = k.named; below = k.below; same = k.same };
+      uids = λ number uid held k. record { given = k.given; below = k.below; same = k.same };
       room = room;
       told = between-map (λ a b. b ≡ a) (λ a b. Unit {0}) before after (λ a b e. tt) idle.same;
     }
@@ -157,13 +158,13 @@ first_claims : (s : PurgeStage) (thing : Thing) → s ≡ stage.First → purge_
 first_claims s thing e = ap (λ (x : PurgeStage). purge_claims x thing) e
 
 -- Refused, with nothing taken: this is what it did.
-pub refused_says : {D : Type 0} → (H : D → Option History) (F : D → Faults) (t next : PurgeValue) (why : Refusal) (fs : List ℕ) (spare room : ℕ) (old new : StoreValue D) → t.stage ≡ stage.First → next.stage ≡ stage.First → why ≢ refusal.Stopped → old.stopped ≡ false → new ≡ with_room new.disk spare room old → old.map_log.room ≤ room → IsIdle (H old.disk) (H new.disk)
+pub refused_says : {D : Type 0} → (H : D → Option History) (F : D → Faults) (t next : PurgeValue) (why : Refusal) (fs : List ℕ) (spare room : ℕ) (old new : StoreValue D) → t.stage ≡ stage.First → next.stage ≡ stage.First → why ≢ refusal.Stopped → ((most : ℕ) → why ≡ refusal.StoreFull most → IsFindRefusal old (H old.disk) (refusal.StoreFull most)) → old.stopped ≡ false → new ≡ with_room new.disk spare room old → old.map_log.room ≤ room → IsIdle (H old.disk) (H new.disk)
     → (F old.disk).reads ≤ (F new.disk).reads → (F new.disk).changes ≡ (F old.disk).changes → ((why ≡ refusal.ReadFault → ⊥) → (F new.disk).reads ≡ (F old.disk).reads) → ((around : Around) → PurgeSteps fs around t next old (with_room new.disk spare room old) (H old.disk) (H new.disk) (F old.disk) (F new.disk) (Some (reply.Refused why))) → IsStore (H old.disk) old
     → IsPurgeStep t next (progress.Done (reply.Refused why)) old new (H old.disk) (H new.disk) (F old.disk) (F new.disk)
-refused_says {D = D} H F t next why fs spare room old new at to other runs is more idle reads changes unread steps store = record {
+refused_says {D = D} H F t next why fs spare room old new at to other cause runs is more idle reads changes unread steps store = record {
   ready = λ e. absurd (let k : progress.Done (reply.Refused why) ≡ progress.More = e in cc k);
   does = (fs, λ around. subst (λ (s : StoreValue D). PurgeSteps fs around t next old s (H old.disk) (H new.disk) (F old.disk) (F new.disk) (Some (reply.Refused why))) (sym is) (steps around));
-  first = λ begins. record { idle = idle; found = λ e. absurd (let k : progress.Done (reply.Refused why) ≡ progress.More = e in cc k) };
+  first = λ begins. record { idle = idle; found = λ e. absurd (let k : progress.Done (reply.Refused why) ≡ progress.More = e in cc k); full = λ most e. cause most (let k : why ≡ refusal.StoreFull most = cc e in k) };
   refused = λ reason e read stop. at;
   stopped = record { 0 = λ e. absurd (other (let k : why ≡ refusal.Stopped = cc e in k)); 1 = λ e. absurd (fall new.stopped e ran) };
   regions = λ r. regions_idle old new.map (H old.disk) (H new.disk) store runs (ap (λ (s : StoreValue D). s.map) is) idle;
@@ -311,7 +312,7 @@ taken_says {D = D} H F t next found work now spare room old new at to how droppe
     λ around. subst (λ (s : StoreValue D). PurgeSteps (map (λ t. t.file) (taken_all (sources_left now))) around t next old s (H old.disk) (H new.disk) (F old.disk) (F new.disk) None) (sym is)
         (first_steps around t next now found.targets new.disk log new.files old (H old.disk) (H new.disk) (F old.disk) (F new.disk) at to how dropped files instances runs x.store.files sound begun (idle_settles old.map (H old.disk) (H new.disk) (F old.disk) (F new.disk) idle quiet)),
   );
-  first = λ begins. record { idle = idle; found = λ more. finds };
+  first = λ begins. record { idle = idle; found = λ more. finds; full = λ most e. absurd (let k : progress.More ≡ progress.Done (reply.Refused (refusal.StoreFull most)) = e in cc k) };
   refused = λ reason e read stop. at;
   stopped = record { 0 = λ e. absurd (let k : progress.More ≡ progress.Done (reply.Refused refusal.Stopped) = e in cc k); 1 = λ e. absurd (fall new.stopped e ran) };
   regions = λ r. regions_idle old new.map (H old.disk) (H new.disk) x.store runs (ap (λ (s : StoreValue D). s.map) is) idle;
@@ -457,7 +458,7 @@ begins_first around t store run place said at stood = let begins : HasNotBegun r
 pub memory_says : {D : Type 0} → (H : D → Option History) (F : D → Faults) (t next : PurgeValue) (spare room : ℕ) (old new : StoreValue D) → t.stage ≡ stage.First → next.stage ≡ stage.First → next.did ≡ did.Quiet → old.stopped ≡ false → new ≡ with_room new.disk spare room old → old.map_log.room ≤ room → IsIdle (H old.disk) (H new.disk) → NoFault (F old.disk) (F new.disk) → IsStore (H old.disk) old
     → IsPurgeStep t next (progress.Done (reply.Refused refusal.NoMemory)) old new (H old.disk) (H new.disk) (F old.disk) (F new.disk)
 memory_says H F t next spare room old new at to how runs is more idle quiet store =
-    refused_says H F t next refusal.NoMemory [] spare room old new at to (λ e. let k : refusal.NoMemory ≡ refusal.Stopped = e in cc k) runs is more idle (let e = ap (λ (f : Faults). f.reads) quiet in omega (arith, e)) (ap (λ (f : Faults). f.changes) quiet) (λ unread. ap (λ (f : Faults). f.reads) quiet)
+    refused_says H F t next refusal.NoMemory [] spare room old new at to (λ e. let k : refusal.NoMemory ≡ refusal.Stopped = e in cc k) (λ most e. absurd (let k : refusal.NoMemory ≡ refusal.StoreFull most = e in cc k)) runs is more idle (let e = ap (λ (f : Faults). f.reads) quiet in omega (arith, e)) (ap (λ (f : Faults). f.changes) quiet) (λ unread. ap (λ (f : Faults). f.reads) quiet)
     (λ around. room_steps [] around t next new.disk spare room old (H old.disk) (H new.disk) (F old.disk) (F new.disk) (reply.Refused refusal.NoMemory) runs
     (memory_steps around t next new.disk (record old.files { spare = spare }) old (H old.disk) (H new.disk) (F old.disk) (F new.disk) at how runs (tells_same old.files.files) (idle_settles old.map (H old.disk) (H new.disk) (F old.disk) (F new.disk) idle quiet))) store
 
@@ -465,7 +466,7 @@ memory_says H F t next spare room old new at to how runs is more idle quiet stor
 pub unread_says : {D : Type 0} → (H : D → Option History) (F : D → Faults) (t next : PurgeValue) (old new : StoreValue D) → t.stage ≡ stage.First → next.stage ≡ stage.First → next.did ≡ did.Quiet → old.stopped ≡ false → new ≡ record old { disk = new.disk } → IsIdle (H old.disk) (H new.disk) → Rose (F old.disk).reads (F new.disk).reads → (F old.disk).reads ≤ (F new.disk).reads → (F new.disk).changes ≡ (F old.disk).changes → IsStore (H old.disk) old
     → IsPurgeStep t next (progress.Done (reply.Refused refusal.ReadFault)) old new (H old.disk) (H new.disk) (F old.disk) (F new.disk)
 unread_says H F t next old new at to how runs is idle rose reads changes store =
-    refused_says H F t next refusal.ReadFault [] old.files.spare old.map_log.room old new at to (λ e. let k : refusal.ReadFault ≡ refusal.Stopped = e in cc k) runs is (stays old.map_log.room) idle reads changes (λ unread. absurd (unread refl))
+    refused_says H F t next refusal.ReadFault [] old.files.spare old.map_log.room old new at to (λ e. let k : refusal.ReadFault ≡ refusal.Stopped = e in cc k) (λ most e. absurd (let k : refusal.ReadFault ≡ refusal.StoreFull most = e in cc k)) runs is (stays old.map_log.room) idle reads changes (λ unread. absurd (unread refl))
     (λ around. room_steps [] around t next new.disk old.files.spare old.map_log.room old (H old.disk) (H new.disk) (F old.disk) (F new.disk) (reply.Refused refusal.ReadFault) runs
     (unread_steps around t next new.disk old.files old (H old.disk) (H new.disk) (F old.disk) (F new.disk) First refl how runs (λ run place said come stood. begins_first (around_purging [] old) t old run place said at stood) (tells_same old.files.files)
     (record { moments = λ lists settled. idle_leaves lists (H old.disk) (H new.disk) idle settled; rests = λ lists settled. idle_settled lists (H old.disk) (H new.disk) idle settled; grows = idle_grows (H old.disk) (H new.disk) idle; mail = kept_idle old.map (H old.disk) (H new.disk) idle; reads = reads; changes = omega (arith, changes); rose = rose }))) store
@@ -523,7 +524,8 @@ lacks_told m drawn fs each (inr long) = inr (found_told long.0, contains_told m 
 pub full_says : {D : Type 0} → (H : D → Option History) (F : D → Faults) (t next : PurgeValue) (fs : List FoundFile) (old new : StoreValue D) → t.stage ≡ stage.First → next.stage ≡ stage.First → next.did ≡ did.Step half.Whole → old.stopped ≡ false → IsStore (H old.disk) old → AreUncleanFound old (H old.disk) fs → LacksTargets old.map old.files.highest fs
     → new ≡ record old { disk = new.disk } → IsIdle (H old.disk) (H new.disk) → NoFault (F old.disk) (F new.disk) → IsPurgeStep t next (progress.Done (reply.Refused (refusal.StoreFull 4294967294))) old new (H old.disk) (H new.disk) (F old.disk) (F new.disk)
 full_says {D = D} H F t next fs old new at to how runs store found lacks is idle quiet =
-    refused_says H F t next (refusal.StoreFull 4294967294) (map (λ t. t.file) (map found_told fs)) old.files.spare old.map_log.room old new at to (λ e. let k : refusal.StoreFull 4294967294 ≡ refusal.Stopped = e in cc k) runs is (stays old.map_log.room) idle (let e = ap (λ (f : Faults). f.reads) quiet in omega (arith, e)) (ap (λ (f : Faults). f.changes) quiet) (λ unread. ap (λ (f : Faults). f.reads) quiet)
+    refused_says H F t next (refusal.StoreFull 4294967294) (map (λ t. t.file) (map found_told fs)) old.files.spare old.map_log.room old new at to (λ e. let k : refusal.StoreFull 4294967294 ≡ refusal.Stopped = e in cc k)
+    (λ most e. subst (λ (n : ℕ). IsFindRefusal old (H old.disk) (refusal.StoreFull n)) (let k : 4294967294 ≡ most = cc e in k) (refl, (fs, found, lacks))) runs is (stays old.map_log.room) idle (let e = ap (λ (f : Faults). f.reads) quiet in omega (arith, e)) (ap (λ (f : Faults). f.changes) quiet) (λ unread. ap (λ (f : Faults). f.reads) quiet)
     (λ around. room_steps (map (λ t. t.file) (map found_told fs)) around t next new.disk old.files.spare old.map_log.room old (H old.disk) (H new.disk) (F old.disk) (F new.disk) (reply.Refused (refusal.StoreFull 4294967294)) runs
     (full_steps around t next (map found_told fs) new.disk old.files old (H old.disk) (H new.disk) (F old.disk) (F new.disk) at how runs (tells_same old.files.files) store.files (store_sound (H old.disk) old store)
     (subst (λ (ns : List ℕ). AllPairs (λ a b. a < b) ns) (sym (told_numbers fs)) (AllPairs-from_increasing (found_numbers fs) found.finds.known.rising)) (subst (AreAllBut (IsFullToEnd old) old.files.files) (sym (told_numbers fs)) found.finds.known)

@@ -111,9 +111,10 @@ removal_leaves mine n disk old before after elsewhere untaken ungrown same firm 
       store = refl;
       numbers = none_placed old.instances;
       mailboxes = stays old.map.highest.mailbox;
+      names = λ name number is. is;
       compared = keeps.compared;
       firm = firm;
-      uids = λ name uid held k. record { m = k.m; named = k.named; below = k.below; same = k.same };
+      uids = λ number uid held k. record { given = k.given; below = k.below; same = k.same };
       room = stays old.map_log.room;
       told = between-map (ButFor (file.Mail n)) (λ a b. Unit {0}) before after (λ a b s. tt) same;
     }
@@ -225,9 +226,10 @@ gone_leaves mine k disk old before after none others same firm = record {
     last = λ some. absurd (some refl);
   };
   mailboxes = stays old.map.highest.mailbox;
+  names = λ name number is. is;
   compared = λ hash size octets last drawn le. compared_still old.instances.store hash size octets last drawn k.row old.instances.known before after same;
   firm = firm;
-  uids = λ name uid held x. record { m = x.m; named = x.named; below = x.below; same = x.same };
+  uids = λ number uid held x. record { given = x.given; below = x.below; same = x.same };
   room = stays old.map_log.room;
   told = between-map (ButFor (instance_file k.row)) (λ a b. Unit {0}) before after (λ a b s. tt) same;
 }

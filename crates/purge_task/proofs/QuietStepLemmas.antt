@@ -51,4 +51,5 @@ quiet_did inside t next d answer old new before later same h = subst (λ (v : Pu
     by_answer (progress.Done (reply.Moved uid gone)) k = tt
     by_answer (progress.Done (reply.Counted records references counts instances)) k = tt
     by_answer (progress.Done (reply.Resynced corrected damaged)) k = tt
+    by_answer (progress.Done (reply.AltMoved moved dropped)) k = tt
     by_answer (progress.Done (reply.Refused why)) k = tt

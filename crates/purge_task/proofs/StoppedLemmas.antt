@@ -50,7 +50,7 @@ pub stopped_says : {D : Type 0} → (t next : PurgeValue) (store : StoreValue D)
 stopped_says t next store history faults how stopped = record {
   ready = λ e. absurd (let k : progress.Done (reply.Refused refusal.Stopped) ≡ progress.More = e in cc k);
   does = ([], λ after. stopped_steps after t next store history faults how stopped);
-  first = λ begins. record { idle = idle-begins history; found = λ e. absurd (let k : progress.Done (reply.Refused refusal.Stopped) ≡ progress.More = e in cc k) };
+  first = λ begins. record { idle = idle-begins history; found = λ e. absurd (let k : progress.Done (reply.Refused refusal.Stopped) ≡ progress.More = e in cc k); full = λ most e. absurd (let k : progress.Done (reply.Refused refusal.Stopped) ≡ progress.Done (reply.Refused (refusal.StoreFull most)) = e in cc k) };
   refused = λ why e read stop. absurd (stop (same_refusal refusal.Stopped why e));
   stopped = record { 0 = λ e. stopped; 1 = λ e. refl };
   regions = λ runs. absurd (fall store.stopped stopped runs);

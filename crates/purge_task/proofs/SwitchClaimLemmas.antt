@@ -18,6 +18,7 @@ use Rattle.mdbox_base.specs.declared.ids.FileNo.{FileNo}
 use Rattle.mdbox_base.specs.declared.ids.MapUid.{MapUid}
 use Rattle.model_appends.specs.MapAppending.{AreCopied, IsCopiedTo}
 use Rattle.model_appends.proofs.AppendPurgeLemmas.{place_found}
+use Rattle.model_meaning.specs.BoxMeaning.{LogRow, row_at}
 use Rattle.model_meaning.specs.MapFits.{MapFits}
 use Rattle.model_meaning.specs.MapMeaning.{MapBox, MapMeaning, MapRecord, moved_record, place_given, record_at}
 use Rattle.model_meaning.specs.Sound.{IsSoundMap}
@@ -29,13 +30,14 @@ use Rattle.storage_files.specs.declared.file.MailFile.{MailFile}
 use Rattle.store_core.specs.Dues.{IsSpared, due_at}
 use Rattle.store_core.specs.Keeping.{KeepsFirm, KeepsInstances, ReadsInstances}
 use Rattle.store_core.specs.Running.{IsStore}
-use Rattle.model_store.specs.Listing.{meaning_named}
+use Rattle.model_store.specs.Listing.{meaning_numbered}
 use Rattle.store_core.specs.Value.{StoreValue, indexes_of}
 use Rattle.store_core.proofs.BoxAppendLemmas.{store_sound}
 use Rattle.store_core.proofs.DueLemmas.{due_record}
 use Rattle.store_core.proofs.InstanceKeepingLemmas.{kept_same}
 use Rattle.task_claims.specs.Claims.{Claims, Due, Emptied, Held, Made, OthersClaim, Pinned, PlacingPieces, Removing, Taken, Thing, amount_in, is_to_remove, one_if}
 use Rattle.task_claims.specs.Leaving.{HasRegionOctets, HaveSameInstances, IsSameOrSynced, LeavesOthers, LeavesRecord, OthersTook}
+use Rattle.task_claims.proofs.NameLemmas.{names_stay}
 use Rattle.task_claims.proofs.RestLemmas.{instance_kept, none_placed}
 use Rattle.purge_task.specs.Claims.{claims_of_sources, claims_of_target}
 use Rattle.purge_task.specs.Switched.{KeepsButTarget, ReadsMail, files_switched, target_named}
@@ -276,9 +278,14 @@ switch_leaves {D = D} mine source left moved dropped disk log dues old before af
   store = refl;
   numbers = none_placed old.instances;
   mailboxes = no_less old.map.highest.mailbox;
+  names = names_stay old.map new.map made.boxes;
   compared = keeps.compared;
   firm = made.firm;
-  uids = λ name uid held k. record { m = k.m; named = ap (λ (bs : List MapBox). meaning_named name bs (indexes_of old.boxes)) made.boxes ∙ k.named; below = k.below; same = k.same };
+  uids = λ number uid held k. record {
+    given = let l : old.map.highest.mailbox ≤ new.map.highest.mailbox = no_less old.map.highest.mailbox in let g = k.given in omega (arith, l, g);
+    below = subst (λ (bs : List MapBox). IfSome (meaning_numbered number bs (indexes_of old.boxes)) (λ m. uid < m.next)) (sym made.boxes) k.below;
+    same = subst (λ (bs : List MapBox). IfSome (meaning_numbered number bs (indexes_of old.boxes)) (λ m. (r : LogRow) → row_at m uid ≡ Some r → r.map_uid ≡ held)) (sym made.boxes) k.same;
+  };
   room = made.room;
   told = between-map _ (λ a b. Unit {0}) before after (λ a b s. tt) made.reads;
 }

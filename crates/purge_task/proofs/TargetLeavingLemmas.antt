@@ -106,9 +106,10 @@ files_leave mine n disk files old before after elsewhere untaken grows known end
       store = refl;
       numbers = none_placed old.instances;
       mailboxes = stays old.map.highest.mailbox;
+      names = λ name number is. is;
       compared = keeps.compared;
       firm = firm;
-      uids = λ name uid held k. record { m = k.m; named = k.named; below = k.below; same = k.same };
+      uids = λ number uid held k. record { given = k.given; below = k.below; same = k.same };
       room = stays old.map_log.room;
       told = between-map (SyncsOthers n) (λ a b. Unit {0}) before after (λ a b s. tt) synced;
     }

@@ -32,7 +32,7 @@ use Rattle.store_core.specs.Removing.{is_useless}
 use Rattle.store_core.specs.Value.{StoreValue}
 use Rattle.store_seen.specs.Seeing.{seen_of}
 use Rattle.task_steps.specs.Step.{Seen, Steps, ended_by}
-use Rattle.purge_task.specs.Found.{FindsUnclean}
+use Rattle.purge_task.specs.Found.{FindsUnclean, IsFindRefusal}
 use Rattle.purge_task.specs.Keeping.{HasPurged, PurgeValue}
 use Rattle.purge_task.specs.Quiet.{HaveSameRegions, files_to_empty}
 use Rattle.purge_task.specs.Stages.{IsAtPurge}
@@ -73,10 +73,12 @@ abbrev pub PurgeSteps : {D : Type 0} → List ℕ → Around → PurgeValue → 
 PurgeSteps files after t next old new before later began faults ended =
     Steps (λ run place said. IsAtPurge t old run place said × (old.stopped ≡ false → TellsUses run old)) (IsAtPurge next new) (around_purging files old) after request.Purge (seen_by_purge old before began) (seen_by_purge new later faults) next.did ended
 
--- The first event changes nothing on the disk. Where the purge goes on, the files that it has taken to empty are just those that aren't clean.
+-- The first event changes nothing on the disk. Where the purge goes on, the files that it has taken to empty are just those that aren't clean;
+-- and where it is refused because numbers have run out, the targets of these files alone want them.
 pub record BeginsPurge {D : Type 0} (answer : Progress) (next : PurgeStage) (old : StoreValue D) (before later : Option History) : Type 0 where
   pub idle : IsIdle before later
   pub found : answer ≡ progress.More → FindsUnclean old before (files_to_empty next)
+  pub full : (most : ℕ) → answer ≡ progress.Done (reply.Refused (refusal.StoreFull most)) → IsFindRefusal old before (refusal.StoreFull most)
 
 -- each record that is still there has the octets that it had
 abbrev pub KeepsRegions : MapMeaning → MapMeaning → Option History → Option History → Type 0

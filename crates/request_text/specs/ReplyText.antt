@@ -47,6 +47,8 @@ refusal_text refusal.NoMemory = codes "17 memory"
 refusal_text refusal.ReadFault = codes "18 read fault"
 refusal_text refusal.Stopped = codes "19 stopped"
 refusal_text (refusal.Damaged file offset) = codes "20 damaged " ++ (path_text (file_name.Mail file.0) ++ numbers_text (offset ∷ []))
+refusal_text refusal.Inbox = codes "21 inbox"
+refusal_text refusal.Sealed = codes "22 sealed"
 
 -- `GONE` where the source of a move had left before its second step
 abbrev pub gone_text : Bool → List ℕ
@@ -63,6 +65,7 @@ reply_text (reply.Moved uid gone) = ok_line (numbers_text (uid.0 ∷ []) ++ gone
 reply_text (reply.Counted records references counts instances) = ok_line (numbers_text (records ∷ references ∷ counts ∷ instances ∷ []))
 reply_text (reply.Purged dropped files instances) = ok_line (numbers_text (dropped ∷ files ∷ instances ∷ []))
 reply_text (reply.Resynced corrected damaged) = ok_line (numbers_text (corrected ∷ damaged ∷ []))
+reply_text (reply.AltMoved moved dropped) = ok_line (numbers_text (moved ∷ dropped ∷ []))
 reply_text (reply.Refused refusal) = codes "NO " ++ (refusal_text refusal ++ 10 ∷ [])
 
 -- The text of the reply to a single request: of a fetch the octets alone.

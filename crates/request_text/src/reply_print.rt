@@ -83,6 +83,8 @@ fn push_refusal(alloc: Global, text: &mut Octets, refusal: Refusal) -> Result<()
         Refusal::ReadFault => text.push_all(b"18 read fault"),
         Refusal::Stopped => text.push_all(b"19 stopped"),
         Refusal::Damaged { file, offset } => push_damage(alloc, text, file, offset),
+        Refusal::Inbox => text.push_all(b"21 inbox"),
+        Refusal::Sealed => text.push_all(b"22 sealed"),
     }
 }
 
@@ -257,6 +259,7 @@ fn reply_line(alloc: Global, given: &Reply) -> Result<Octets, NoMemory>
             instances,
         } => numbers_line(alloc, &[*dropped, *files, *instances]),
         Reply::Resynced { corrected, damaged } => numbers_line(alloc, &[*corrected, *damaged]),
+        Reply::AltMoved { moved, dropped } => numbers_line(alloc, &[*moved, *dropped]),
         Reply::Refused(refusal) => refusal_line(alloc, *refusal),
     }
 }

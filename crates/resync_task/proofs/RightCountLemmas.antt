@@ -1,6 +1,7 @@
 -- The last event of a resync: what it leaves to the tasks beside it, and that the counts are exact then.
-use Rattle.std.proofs.Common.{◌≡◌, ◌≤◌, ◌+◌, ◌==◌, ℕ, false, List, [], ◌∷◌, Option, map, refl, sym, ◌∙◌, ap, subst, arith}
+use Rattle.std.proofs.Common.{◌≡◌, ◌≤◌, ◌<◌, ◌+◌, ◌==◌, ℕ, false, List, [], ◌∷◌, Option, Some, map, refl, sym, ◌∙◌, ap, subst, arith}
 use Rattle.std.specs.Prelude.{Contains, count_by, max, sum_by}
+use Rattle.std.specs.Option.{IfSome}
 use Rattle.std.proofs.lemmas.Bool.{eqb-true}
 use Rattle.std.proofs.lemmas.List.Elements.{All-contains, All-nil, All-cons}
 use Rattle.disk_model.specs.Disk.{History, Faults}
@@ -8,23 +9,24 @@ use Rattle.mdbox_base.specs.declared.entries.MapCount.{MapCount}
 use Rattle.mdbox_base.specs.declared.entries.MapEntry.TheVariants as entry
 use Rattle.model_appends.specs.Amounts.{IsAccounted}
 use Rattle.model_lists.specs.Lists.{Lists}
-use Rattle.model_meaning.specs.BoxMeaning.{BoxMeaning, LogRow}
+use Rattle.model_meaning.specs.BoxMeaning.{BoxMeaning, LogRow, row_at}
 use Rattle.model_meaning.specs.MapFits.{MapFits}
 use Rattle.model_meaning.specs.MapMeaning.{MapBox, MapMeaning, MapRecord, count_given, numbers_of}
 use Rattle.model_meaning.proofs.AppliedLemmas.{records_by_counted}
 use Rattle.model_octets.proofs.SearchLemmas.{found_one}
-use Rattle.model_store.specs.Listing.{ShowLists, meaning_named, refs_in}
+use Rattle.model_store.specs.Listing.{ShowLists, meaning_numbered, refs_in}
 use Rattle.model_store.specs.Opening.{listed_of}
 use Rattle.store_core.specs.Dues.{due_at, leak_at, listed_at}
 use Rattle.store_core.specs.Keeping.{KeepsUids}
 use Rattle.store_core.specs.Running.{IsStore}
-use Rattle.store_core.specs.Value.{StoreValue, indexes_of, list_named}
+use Rattle.store_core.specs.Value.{StoreValue, indexes_of, list_numbered}
 use Rattle.store_core.proofs.DueLemmas.{listed_meant, store_counts}
 use Rattle.resync_task.specs.WrongCounts.{wrong_of}
 use Rattle.store_seen.specs.Seeing.{seen_of}
 use Rattle.store_seen.proofs.SeeingLemmas.{due_as_before, tells_as_before}
 use Rattle.task_claims.specs.Claims.{MovesClaims, no_claims}
 use Rattle.task_claims.specs.Leaving.{LeavesOthers, RaisesNone, SameButCounts, but_count}
+use Rattle.task_claims.proofs.NameLemmas.{names_stay}
 use Rattle.task_claims.proofs.RestLemmas.{mail_same, rest_amounts, rest_leaves, same_claims}
 use Rattle.task_steps.specs.Step.{ShowsSeen}
 use Rattle.task_steps.specs.Tells.{TellsSame}
@@ -64,10 +66,15 @@ counts_fit (c ∷ counts) m fits = All-cons (MapFits m) (entry.T (c ∷ counts))
 -- ---- what the event keeps
 
 -- the mailboxes list what they did
-lists_stay : {D : Type 0} → (old new : StoreValue D) → new.map.boxes ≡ old.map.boxes → indexes_of new.boxes ≡ indexes_of old.boxes → KeepsUids old new
-lists_stay old new boxes indexes = λ name uid held k.
-    let named : list_named new name ≡ list_named old name = ap (λ (bs : List MapBox). meaning_named name bs (indexes_of new.boxes)) boxes ∙ ap (meaning_named name old.map.boxes) indexes in
-    record { m = k.m; named = named ∙ k.named; below = k.below; same = k.same }
+lists_stay : {D : Type 0} → (old new : StoreValue D) → old.map.highest.mailbox ≤ new.map.highest.mailbox → new.map.boxes ≡ old.map.boxes → indexes_of new.boxes ≡ indexes_of old.boxes → KeepsUids old new
+lists_stay old new highest boxes indexes = λ number uid held k.
+    let same : list_numbered new number ≡ list_numbered old number = ap (λ (bs : List MapBox). meaning_numbered number bs (indexes_of new.boxes)) boxes ∙ ap (meaning_numbered number old.map.boxes) indexes in
+    let given : number ≤ old.map.highest.mailbox = k.given in
+    record {
+      given = omega (arith, given, highest);
+      below = subst (λ (o : Option BoxMeaning). IfSome o (λ m. uid < m.next)) (sym same) k.below;
+      same = subst (λ (o : Option BoxMeaning). IfSome o (λ m. (row : LogRow) → row_at m uid ≡ Some row → row.map_uid ≡ held)) (sym same) k.same;
+    }
 
 -- how many rows of what logs of mailboxes mean have this map uid
 abbrev listed_in : ℕ → List BoxMeaning → ℕ
@@ -89,10 +96,10 @@ right_unraised history corrected old new before after began now s p uid row late
 
 pub right_leaves : {D : Type 0} → (history : Option History) (corrected : ℕ) (old new : StoreValue D) (before after : Option History) (began now : Faults) → IsStore history old → PutsRight corrected old new before after began now → LeavesOthers no_claims old new before after
 right_leaves history corrected old new before after began now s p =
+    let highest : old.map.highest.mailbox ≤ new.map.highest.mailbox = subst (λ (m : MapMeaning). old.map.highest.mailbox ≤ m.highest.mailbox) (sym p.map) (corrected_highest (wrong_of old) old.map) in
     rest_leaves no_claims old new before after (ap (λ (v : StoreValue _). v.files) p.keeps.rest) (ap (λ (v : StoreValue _). v.instances) p.keeps.rest) (mail_same before after p.mail)
     (subst (λ (m : MapMeaning). SameButCounts old.map m) (sym p.map) (corrected_same (wrong_of old) old.map)) (right_unraised history corrected old new before after began now s p)
-    (subst (λ (m : MapMeaning). old.map.highest.mailbox ≤ m.highest.mailbox) (sym p.map) (corrected_highest (wrong_of old) old.map))
-    (lists_stay old new p.keeps.mailboxes p.keeps.indexes) p.keeps.room
+    highest (names_stay old.map new.map p.keeps.mailboxes) (lists_stay old new highest p.keeps.mailboxes p.keeps.indexes) p.keeps.room
     (λ uid row none found listed. (ap (λ (ms : List BoxMeaning). refs_in ms row.guid) p.keeps.indexes ∙ listed, p.due uid))
 
 pub right_claims : {D : Type 0} → (corrected : ℕ) (old new : StoreValue D) (before after : Option History) (began now : Faults) → PutsRight corrected old new before after began now → MovesClaims no_claims no_claims old new

@@ -17,7 +17,7 @@ use Rattle.mdbox_base.specs.declared.script.JournalEntry.{JournalEntry}
 use Rattle.model_lists.specs.Lists.{Lists}
 use Rattle.list_machine.specs.Machine.{Answers, is_step}
 use Rattle.list_machine.specs.Run.{EventPart, First, GivesBack, Last, SecondHalf, Run, RunEvent, before, own_events, first_in, reply_of, StartsOver}
-use Rattle.journal.specs.Events.{Around, IsEvent, MayMeet, behind_addition, behind_copy, behind_event, behind_expunge, behind_make, behind_move, is_fault, is_faulted, next_part, reads_octets, is_overtaken}
+use Rattle.journal.specs.Events.{Around, IsEvent, MayMeet, behind_addition, behind_copy, behind_event, behind_expunge, behind_make, behind_move, ends_with_count, is_elsewhere, is_fault, is_faulted, is_overtaken, next_part, reads_octets}
 use Rattle.journal.specs.GoesOn.{IsOneStep}
 use Rattle.journal.specs.Journal.{Requests, AreSteps, Broken, IsReplyOf, JournalStep, Reached, as_if, is_read_fault, left_by}
 use Rattle.journal.specs.Makes.{AreNextEvents, lists_before}
@@ -95,9 +95,13 @@ calm_expunge : (part next : EventPart) → behind_expunge part ≡ Some next →
 calm_expunge First next is asked calm = let k : Some GivesBack ≡ Some next = is in let z : GivesBack ≡ next = cc k in ap (λ (p : EventPart). reads_octets p asked) (sym z) ∙ calm
 calm_expunge part next is asked calm = absurd (let k : None ≡ Some next = is in cc k)
 
-calm_copy : (part next : EventPart) → behind_copy part ≡ Some next → (asked : Request) → reads_octets Last asked ≡ false → reads_octets next asked ≡ false
-calm_copy First next is asked calm = let k : Some Last ≡ Some next = is in let z : Last ≡ next = cc k in ap (λ (p : EventPart). reads_octets p asked) (sym z) ∙ calm
-calm_copy part next is asked calm = absurd (let k : None ≡ Some next = is in cc k)
+calm_copy : (elsewhere ends : Bool) (part next : EventPart) → behind_copy elsewhere ends part ≡ Some next → (asked : Request) → reads_octets First asked ≡ false → reads_octets Last asked ≡ false → reads_octets StartsOver asked ≡ false → reads_octets GivesBack asked ≡ false → reads_octets next asked ≡ false
+calm_copy true ends First next is asked first last over back = let k : Some StartsOver ≡ Some next = is in let z : StartsOver ≡ next = cc k in ap (λ (p : EventPart). reads_octets p asked) (sym z) ∙ over
+calm_copy false ends First next is asked first last over back = let k : Some Last ≡ Some next = is in let z : Last ≡ next = cc k in ap (λ (p : EventPart). reads_octets p asked) (sym z) ∙ last
+calm_copy elsewhere ends StartsOver next is asked first last over back = let k : Some GivesBack ≡ Some next = is in let z : GivesBack ≡ next = cc k in ap (λ (p : EventPart). reads_octets p asked) (sym z) ∙ back
+calm_copy elsewhere true GivesBack next is asked first last over back = absurd (let k : None ≡ Some next = is in cc k)
+calm_copy elsewhere false GivesBack next is asked first last over back = let k : Some First ≡ Some next = is in let z : First ≡ next = cc k in ap (λ (p : EventPart). reads_octets p asked) (sym z) ∙ first
+calm_copy elsewhere ends part next is asked first last over back = absurd (let k : None ≡ Some next = is in cc k)
 
 calm_make : (overtaken : Bool) (part next : EventPart) → behind_make overtaken part ≡ Some next → (asked : Request) → reads_octets First asked ≡ false → reads_octets Last asked ≡ false → reads_octets StartsOver asked ≡ false → reads_octets next asked ≡ false
 calm_make true First next is asked first last over = let k : Some StartsOver ≡ Some next = is in let z : StartsOver ≡ next = cc k in ap (λ (p : EventPart). reads_octets p asked) (sym z) ∙ over
@@ -108,26 +112,27 @@ calm_make overtaken part next is asked first last over = absurd (let k : None �
 calm_addition : (part : EventPart) (why : Refusal) (next : EventPart) → behind_addition part why ≡ Some next → (asked : Request) → reads_octets GivesBack asked ≡ false → reads_octets next asked ≡ false
 calm_addition Last refusal.Stopped next is asked calm = absurd (let k : None ≡ Some next = is in cc k)
 calm_addition Last why next is asked calm = let k : Some GivesBack ≡ Some next = is in let z : GivesBack ≡ next = cc k in ap (λ (p : EventPart). reads_octets p asked) (sym z) ∙ calm
+calm_addition StartsOver refusal.Stopped next is asked calm = absurd (let k : None ≡ Some next = is in cc k)
+calm_addition StartsOver why next is asked calm = let k : Some GivesBack ≡ Some next = is in let z : GivesBack ≡ next = cc k in ap (λ (p : EventPart). reads_octets p asked) (sym z) ∙ calm
 calm_addition part why next is asked calm = absurd (let k : None ≡ Some next = is in cc k)
 
-calm_move : (event : RunEvent) (part next : EventPart) → behind_move event part ≡ Some next → (asked : Request) → reads_octets Last asked ≡ false → reads_octets SecondHalf asked ≡ false → reads_octets GivesBack asked ≡ false → reads_octets next asked ≡ false
-calm_move event First next is asked last second back = let k : Some Last ≡ Some next = is in let z : Last ≡ next = cc k in ap (λ (p : EventPart). reads_octets p asked) (sym z) ∙ last
-calm_move event Last next is asked last second back = let k : Some SecondHalf ≡ Some next = is in let z : SecondHalf ≡ next = cc k in ap (λ (p : EventPart). reads_octets p asked) (sym z) ∙ second
-calm_move event SecondHalf next is asked last second back = by_test (nat_lt 0 (length event.box_entries)) is
+calm_move : (elsewhere ends : Bool) (event : RunEvent) (part next : EventPart) → behind_move elsewhere ends event part ≡ Some next → (asked : Request) → reads_octets First asked ≡ false → reads_octets Last asked ≡ false → reads_octets StartsOver asked ≡ false → reads_octets SecondHalf asked ≡ false → reads_octets GivesBack asked ≡ false → reads_octets next asked ≡ false
+calm_move elsewhere ends event Last next is asked first last over second back = let k : Some SecondHalf ≡ Some next = is in let z : SecondHalf ≡ next = cc k in ap (λ (p : EventPart). reads_octets p asked) (sym z) ∙ second
+calm_move elsewhere ends event SecondHalf next is asked first last over second back = by_test (nat_lt 0 (length event.box_entries)) is
   where
     by_test : (b : Bool) → (if b then Some GivesBack else None) ≡ Some next → reads_octets next asked ≡ false
     by_test true is = let k : Some GivesBack ≡ Some next = is in let z : GivesBack ≡ next = cc k in ap (λ (p : EventPart). reads_octets p asked) (sym z) ∙ back
     by_test false is = absurd (let k : None ≡ Some next = is in cc k)
-calm_move event part next is asked last second back = absurd (let k : None ≡ Some next = is in cc k)
+calm_move elsewhere ends event part next is asked first last over second back = calm_copy elsewhere ends part next is asked first last over back
 
 calm_behind : (asked : Request) → MakesSteps asked → (around : Around) (run : Run) (event : RunEvent) (why : Option Refusal) (part : EventPart) → behind_event around run asked event why ≡ Some part → reads_octets part asked ≡ false
 calm_behind (request.Expunge name uid) one around run event None part is = calm_expunge event.part part is (request.Expunge name uid) refl
 calm_behind (request.Expunge name uid) one around run event (Some why) part is = absurd (let k : None ≡ Some part = is in cc k)
 calm_behind (request.Make name) one around run event None part is = calm_make (is_overtaken run event.request) event.part part is (request.Make name) refl refl refl
 calm_behind (request.Make name) one around run event (Some why) part is = absurd (let k : None ≡ Some part = is in cc k)
-calm_behind (request.Copy name uid target) one around run event None part is = calm_copy event.part part is (request.Copy name uid target) refl
+calm_behind (request.Copy name uid target) one around run event None part is = calm_copy (is_elsewhere run event.request name) (ends_with_count run event.request) event.part part is (request.Copy name uid target) refl refl refl refl
 calm_behind (request.Copy name uid target) one around run event (Some why) part is = calm_addition event.part why part is (request.Copy name uid target) refl
-calm_behind (request.Move name uid target) one around run event None part is = calm_move event event.part part is (request.Move name uid target) refl refl refl
+calm_behind (request.Move name uid target) one around run event None part is = calm_move (is_elsewhere run event.request name) (ends_with_count run event.request) event event.part part is (request.Move name uid target) refl refl refl refl refl
 calm_behind (request.Move name uid target) one around run event (Some why) part is = calm_addition event.part why part is (request.Move name uid target) refl
 calm_behind (request.List name) one around run event why part is = absurd (none_behind (request.List name) one around run event why part is)
 calm_behind (request.Flag name uid flags) one around run event why part is = absurd (none_behind (request.Flag name uid flags) one around run event why part is)

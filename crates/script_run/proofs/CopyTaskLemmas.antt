@@ -169,7 +169,7 @@ still_alike s t e = subst (λ (v : StoreValue _). IsAlikeStore s v) (sym e) (rec
 
 abbrev AtCopy : {D : Type 0} → List ℕ → Uid → List ℕ → StoreValue D → Option History → CopyStage → StoreValue D → Option History → Type 0
 AtCopy name uid target s mid copy_stage.First store history = (store ≡ s) × (history ≡ mid)
-AtCopy name uid target s mid (copy_stage.Adding held) store history = HoldsRaised name uid.0 target held s store
+AtCopy name uid target s mid (copy_stage.Adding held source) store history = HoldsRaised name uid.0 target held s store
 AtCopy name uid target s mid (copy_stage.GivingBack held why) store history = HoldsRaised name uid.0 target held s store × (why ≡ refusal.NoMemory)
 
 abbrev pub StandsCopy : {D : Type 0} → List ℕ → Uid → List ℕ → StoreValue D → Option History → Task → StoreValue D → Option History → Type 0
@@ -234,19 +234,19 @@ IsCopyTold name uid target s mid = IsRaiseTold (AnswerIn name uid.0 target s) s 
 
 copy_at : {D : Type 0} → (name : List ℕ) (uid : Uid) (target : List ℕ) (s : StoreValue D) (mid : Option History) (now next : CopyStage) (old new : StoreValue D) (before after : Option History) (ended : Option Reply) → AtCopy name uid target s mid now old before → CopyAnswers name uid target now old new next (progress_by ended) → (new ≡ old → IsIdle before after)
     → GoesOrEnds (AtCopy name uid target s mid next new after) (AnswerIn name uid.0 target s) s mid new after ended
-copy_at name uid target s mid copy_stage.First (copy_stage.Adding held) old new before after None at a same =
+copy_at name uid target s mid copy_stage.First (copy_stage.Adding held source) old new before after None at a same =
     goes_raise _ (AnswerIn name uid.0 target s) s mid new after (raised_first name uid.0 target held s old new at.0 (record { row = a.0; number = a.1; next = a.2; at = a.3; few = a.5 }) a.6)
 copy_at name uid target s mid copy_stage.First copy_stage.First old new before after (Some (reply.Refused why)) at a same =
     ends_raise _ (AnswerIn name uid.0 target s) s mid new after (reply.Refused why)
     (first_raise (AnswerIn name uid.0 target s) name uid target s mid why new before after (raise_answers name uid.0 target s why) (λ may is. may_answers name uid.0 target s (reply.Refused why) may (inr is)) at.1 (λ back. same (back ∙ sym at.0))
     (subst (λ (v : StoreValue _). CopyAnswers name uid target copy_stage.First v new copy_stage.First (progress_by (Some (reply.Refused why)))) at.0 a))
-copy_at name uid target s mid (copy_stage.Adding held) copy_stage.First old new before after (Some (reply.Copied given)) at a same =
+copy_at name uid target s mid (copy_stage.Adding held source) copy_stage.First old new before after (Some (reply.Copied given)) at a same =
     ends_raise _ (AnswerIn name uid.0 target s) s mid new after (reply.Copied given)
     (done_raise (AnswerIn name uid.0 target s) s mid (reply.Copied given) new after (may_answers name uid.0 target s (reply.Copied given) at.may (inl (a.2.m, given, sym (named_kept target (raising_of held) s old at.raised) ∙ a.2.to.named, a.2.next_is, refl)))
     (λ why e. let k : reply.Copied given ≡ reply.Refused why = e in cc k))
-copy_at name uid target s mid (copy_stage.Adding held) (copy_stage.Adding still) old new before after (Some (reply.Refused why)) at a same =
+copy_at name uid target s mid (copy_stage.Adding held source) (copy_stage.Adding still from) old new before after (Some (reply.Refused why)) at a same =
     ends_raise _ (AnswerIn name uid.0 target s) s mid new after (reply.Refused why) (stopped_raise (AnswerIn name uid.0 target s) s mid why new after (λ e. may_answers name uid.0 target s (reply.Refused why) at.may (inr (inr e))) a.1)
-copy_at name uid target s mid (copy_stage.Adding held) (copy_stage.GivingBack still why) old new before after None at a same =
+copy_at name uid target s mid (copy_stage.Adding held source) (copy_stage.GivingBack still why) old new before after None at a same =
     goes_raise _ (AnswerIn name uid.0 target s) s mid new after
     (subst (λ (v : StoreValue _). HoldsRaised name uid.0 target still s v) (sym a.1) (subst (λ (h : MapUid). HoldsRaised name uid.0 target h s old) (sym a.0) at), only_memory name uid.0 target held s old why at a.2)
 copy_at name uid target s mid (copy_stage.GivingBack held why) copy_stage.First old new before after (Some (reply.Refused given)) at a same =

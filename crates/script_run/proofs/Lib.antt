@@ -1,8 +1,10 @@
 pub mod AloneLemmas
 pub mod ChainLemmas
+pub mod CopyRunLemmas
 pub mod CopyTaskLemmas
 pub mod DoneLemmas
 pub mod EndLemmas
+pub mod LeftLemmas
 pub mod MailStaysLemmas
 pub mod MakeTaskLemmas
 pub mod MoveTaskLemmas
@@ -10,6 +12,7 @@ pub mod MovedLemmas
 pub mod OneTaskLemmas
 pub mod OpenedLemmas
 pub mod ReadFaultLemmas
+pub mod PartLemmas
 pub mod PurgeTaskLemmas
 pub mod ReachedLemmas
 pub mod ReachedMakeLemmas

@@ -52,9 +52,9 @@ was_next name uid target held copied row number s old k at = record { may = k.ma
 
 abbrev AtMove : {D : Type 0} → List ℕ → Uid → List ℕ → StoreValue D → Option History → MoveStage → StoreValue D → Option History → Type 0
 AtMove name uid target s mid move_stage.First store history = (store ≡ s) × (history ≡ mid)
-AtMove name uid target s mid (move_stage.Adding held) store history = HoldsRaised name uid.0 target held s store
+AtMove name uid target s mid (move_stage.Adding held source) store history = HoldsRaised name uid.0 target held s store
 AtMove name uid target s mid (move_stage.GivingBack held why) store history = HoldsRaised name uid.0 target held s store × (why ≡ refusal.NoMemory)
-AtMove name uid target s mid (move_stage.Removing held copied) store history = WasNext name uid.0 target copied s
+AtMove name uid target s mid (move_stage.Removing held copied source) store history = WasNext name uid.0 target copied s
 AtMove name uid target s mid (move_stage.Owing owed copied) store history = WasNext name uid.0 target copied s
 
 abbrev pub StandsMove : {D : Type 0} → List ℕ → Uid → List ℕ → StoreValue D → Option History → Task → StoreValue D → Option History → Type 0
@@ -77,17 +77,17 @@ stopped_move name uid target s mid why store history may is = stopped_raise (Mov
 
 move_at : {D : Type 0} → (name : List ℕ) (uid : Uid) (target : List ℕ) (s : StoreValue D) (mid : Option History) (now next : MoveStage) (old new : StoreValue D) (before after : Option History) (ended : Option Reply) → AtMove name uid target s mid now old before → MoveAnswers name uid target now old new next (progress_by ended) → (new ≡ old → IsIdle before after)
     → GoesOrEnds (AtMove name uid target s mid next new after) (MovesIn name uid.0 target s) s mid new after ended
-move_at name uid target s mid move_stage.First (move_stage.Adding held) old new before after None at a same =
+move_at name uid target s mid move_stage.First (move_stage.Adding held source) old new before after None at a same =
     goes_raise _ (MovesIn name uid.0 target s) s mid new after (raised_first name uid.0 target held s old new at.0 (record { row = a.0; number = a.1; next = a.2; at = a.3; few = a.5 }) a.6)
 move_at name uid target s mid move_stage.First move_stage.First old new before after (Some (reply.Refused why)) at a same =
     ends_raise _ (MovesIn name uid.0 target s) s mid new after (reply.Refused why)
     (first_raise (MovesIn name uid.0 target s) name uid target s mid why new before after (raise_moves name uid.0 target s why) (λ may is. may_move name uid.0 target s (reply.Refused why) may (inr is)) at.1 (λ back. same (back ∙ sym at.0))
     (subst (λ (v : StoreValue _). MoveAnswers name uid target move_stage.First v new move_stage.First (progress_by (Some (reply.Refused why)))) at.0 a))
-move_at name uid target s mid (move_stage.Adding held) (move_stage.Removing still copied) old new before after None at a same =
+move_at name uid target s mid (move_stage.Adding held source) (move_stage.Removing still copied from) old new before after None at a same =
     goes_raise _ (MovesIn name uid.0 target s) s mid new after (was_next name uid.0 target held copied a.1.0 a.1.1 s old at a.1.2)
-move_at name uid target s mid (move_stage.Adding held) (move_stage.Adding still) old new before after (Some (reply.Refused why)) at a same =
+move_at name uid target s mid (move_stage.Adding held source) (move_stage.Adding still from) old new before after (Some (reply.Refused why)) at a same =
     ends_raise _ (MovesIn name uid.0 target s) s mid new after (reply.Refused why) (stopped_move name uid target s mid why new after at.may a.1)
-move_at name uid target s mid (move_stage.Adding held) (move_stage.GivingBack still why) old new before after None at a same =
+move_at name uid target s mid (move_stage.Adding held source) (move_stage.GivingBack still why) old new before after None at a same =
     goes_raise _ (MovesIn name uid.0 target s) s mid new after
     (subst (λ (v : StoreValue _). HoldsRaised name uid.0 target still s v) (sym a.1) (subst (λ (h : MapUid). HoldsRaised name uid.0 target h s old) (sym a.0) at), only_memory name uid.0 target held s old why at a.2)
 move_at name uid target s mid (move_stage.GivingBack held why) move_stage.First old new before after (Some (reply.Refused given)) at a same =
@@ -95,11 +95,11 @@ move_at name uid target s mid (move_stage.GivingBack held why) move_stage.First 
     (short_raise (MovesIn name uid.0 target s) s mid given new after (λ e. may_move name uid.0 target s (reply.Refused given) at.0.may (inr (inl e))) (a.0 ∙ at.1) (given_back held s old new at.0.raised a.1))
 move_at name uid target s mid (move_stage.GivingBack held why) (move_stage.GivingBack still cause) old new before after (Some (reply.Refused given)) at a same =
     ends_raise _ (MovesIn name uid.0 target s) s mid new after (reply.Refused given) (stopped_move name uid target s mid given new after at.0.may a.2)
-move_at name uid target s mid (move_stage.Removing held copied) (move_stage.Owing owed same_uid) old new before after None at a same =
+move_at name uid target s mid (move_stage.Removing held copied source) (move_stage.Owing owed same_uid) old new before after None at a same =
     goes_raise _ (MovesIn name uid.0 target s) s mid new after (subst (λ (u : Uid). WasNext name uid.0 target u s) (sym a.1) at)
-move_at name uid target s mid (move_stage.Removing held copied) move_stage.First old new before after (Some (reply.Moved given gone)) at a same =
+move_at name uid target s mid (move_stage.Removing held copied source) move_stage.First old new before after (Some (reply.Moved given gone)) at a same =
     ends_raise _ (MovesIn name uid.0 target s) s mid new after (reply.Moved given gone) (done_move name uid target s mid copied given gone new after at a.0)
-move_at name uid target s mid (move_stage.Removing held copied) (move_stage.Removing still same_uid) old new before after (Some (reply.Refused why)) at a same =
+move_at name uid target s mid (move_stage.Removing held copied source) (move_stage.Removing still same_uid from) old new before after (Some (reply.Refused why)) at a same =
     ends_raise _ (MovesIn name uid.0 target s) s mid new after (reply.Refused why) (stopped_move name uid target s mid why new after at.may a.2)
 move_at name uid target s mid (move_stage.Owing owed copied) move_stage.First old new before after (Some (reply.Moved given gone)) at a same =
     ends_raise _ (MovesIn name uid.0 target s) s mid new after (reply.Moved given gone) (done_move name uid target s mid copied given gone new after at a.0)

@@ -9,9 +9,9 @@ use Rattle.mdbox_base.specs.declared.requests.Request.{Request}
 use Rattle.mdbox_base.specs.declared.requests.Request.TheVariants as request
 use Rattle.mdbox_base.specs.declared.ids.Uid.{Uid}
 use Rattle.model_lists.specs.Lists.{ListedMessage, Lists}
-use Rattle.list_machine.specs.Machine.{message_at}
-use Rattle.list_machine.specs.Run.{EventPart, RunEvent, Run, before, First, Compares, PlacesInstance, TakesFile, PlacesMessage, StoresRecord, Last, SecondHalf, GivesBack, StartsOver, ReadsPiece, Unpins, RemovesFile, MakesTarget, CopiesMessage, Switches, RemovesInstance, ReadsFile}
-use Rattle.journal.specs.Events.{Around, DidCopy, DidDeliver, DidFetch, DidMake, DidPart, DidResync, IsEvent, Lowers, Removes, RemovesIfThere, corrects}
+use Rattle.list_machine.specs.Machine.{message_numbered}
+use Rattle.list_machine.specs.Run.{EventPart, RunEvent, Run, before, source_of, First, Compares, PlacesInstance, TakesFile, PlacesMessage, StoresRecord, Last, SecondHalf, GivesBack, StartsOver, RemovesLog, ReadsPiece, Unpins, RemovesFile, MakesTarget, CopiesMessage, Switches, RemovesInstance, ReadsFile}
+use Rattle.journal.specs.Events.{Around, DidCopy, DidDelete, DidDeliver, DidFetch, DidMake, DidPart, DidRename, DidResync, IsEvent, Lowers, Removes, RemovesIfThere, corrects}
 use Rattle.journal.specs.Journal.{JournalStep, Requests}
 use Rattle.journal.specs.Makes.{AreNextEvents, lists_before}
 use Rattle.task_steps.specs.Serves.{NoneMoved, moves_records}
@@ -40,6 +40,7 @@ by_deliver around run lists name time octets event Last d = ap entries_moved d.2
 by_deliver around run lists name time octets event SecondHalf d = absurd d
 by_deliver around run lists name time octets event GivesBack d = lowered _ event d
 by_deliver around run lists name time octets event StartsOver d = absurd d
+by_deliver around run lists name time octets event RemovesLog d = absurd d
 by_deliver around run lists name time octets event ReadsPiece d = absurd d
 by_deliver around run lists name time octets event Unpins d = absurd d
 by_deliver around run lists name time octets event RemovesFile d = absurd d
@@ -50,7 +51,7 @@ by_deliver around run lists name time octets event RemovesInstance d = absurd d
 by_deliver around run lists name time octets event ReadsFile d = absurd d
 
 by_copy : (run : Run) (lists : Lists) (name : List ℕ) (uid : ℕ) (target : List ℕ) (event : RunEvent) (part : EventPart) → DidCopy run lists name uid target event part → Unmoved event
-by_copy run lists name uid target event First d = ap entries_moved d.2
+by_copy run lists name uid target event First d = ap entries_moved d.4
 by_copy run lists name uid target event Compares d = absurd d
 by_copy run lists name uid target event PlacesInstance d = absurd d
 by_copy run lists name uid target event (TakesFile new) d = absurd d
@@ -59,7 +60,8 @@ by_copy run lists name uid target event StoresRecord d = absurd d
 by_copy run lists name uid target event Last d = ap entries_moved d.2.4
 by_copy run lists name uid target event SecondHalf d = absurd d
 by_copy run lists name uid target event GivesBack d = lowered _ event d
-by_copy run lists name uid target event StartsOver d = absurd d
+by_copy run lists name uid target event StartsOver d = ap entries_moved d
+by_copy run lists name uid target event RemovesLog d = absurd d
 by_copy run lists name uid target event ReadsPiece d = absurd d
 by_copy run lists name uid target event Unpins d = absurd d
 by_copy run lists name uid target event RemovesFile d = absurd d
@@ -80,6 +82,7 @@ by_make run name event Last d = ap entries_moved d
 by_make run name event SecondHalf d = ap entries_moved d
 by_make run name event GivesBack d = ap entries_moved d
 by_make run name event StartsOver d = ap entries_moved d
+by_make run name event RemovesLog d = ap entries_moved d
 by_make run name event ReadsPiece d = ap entries_moved d
 by_make run name event Unpins d = ap entries_moved d
 by_make run name event RemovesFile d = ap entries_moved d
@@ -100,6 +103,7 @@ by_fetch run lists name uid event Last d = ap entries_moved d
 by_fetch run lists name uid event SecondHalf d = ap entries_moved d
 by_fetch run lists name uid event GivesBack d = ap entries_moved d
 by_fetch run lists name uid event StartsOver d = ap entries_moved d
+by_fetch run lists name uid event RemovesLog d = ap entries_moved d
 by_fetch run lists name uid event ReadsPiece d = ap entries_moved d
 by_fetch run lists name uid event Unpins d = ap entries_moved d
 by_fetch run lists name uid event RemovesFile d = ap entries_moved d.4
@@ -109,9 +113,9 @@ by_fetch run lists name uid event Switches d = ap entries_moved d
 by_fetch run lists name uid event RemovesInstance d = ap entries_moved d
 by_fetch run lists name uid event ReadsFile d = ap entries_moved d
 
-removed_if_there : (run : Run) (lists : Lists) (name : List ℕ) (uid : ℕ) (event : RunEvent) (found : Option ListedMessage) → RemovesIfThere run lists name uid event found → Unmoved event
-removed_if_there run lists name uid event None d = ap entries_moved d
-removed_if_there run lists name uid event (Some message) d = removed run lists name uid event d
+removed_if_there : (run : Run) (number uid : ℕ) (event : RunEvent) (found : Option ListedMessage) → RemovesIfThere run number uid event found → Unmoved event
+removed_if_there run number uid event None d = ap entries_moved d
+removed_if_there run number uid event (Some message) d = ap entries_moved d.2
 
 by_flag : (around : Around) (run : Run) (lists : Lists) (name : List ℕ) (uid : Uid) (flags : ℕ) (event : RunEvent) (part : EventPart) → DidPart around run lists (request.Flag name uid flags) event part → Unmoved event
 by_flag around run lists name uid flags event First d = ap entries_moved d.2
@@ -124,6 +128,7 @@ by_flag around run lists name uid flags event Last d = ap entries_moved d
 by_flag around run lists name uid flags event SecondHalf d = ap entries_moved d
 by_flag around run lists name uid flags event GivesBack d = ap entries_moved d
 by_flag around run lists name uid flags event StartsOver d = ap entries_moved d
+by_flag around run lists name uid flags event RemovesLog d = ap entries_moved d
 by_flag around run lists name uid flags event ReadsPiece d = ap entries_moved d
 by_flag around run lists name uid flags event Unpins d = ap entries_moved d
 by_flag around run lists name uid flags event RemovesFile d = ap entries_moved d
@@ -144,6 +149,7 @@ by_expunge around run lists name uid event Last d = ap entries_moved d
 by_expunge around run lists name uid event SecondHalf d = ap entries_moved d
 by_expunge around run lists name uid event GivesBack d = lowered _ event d
 by_expunge around run lists name uid event StartsOver d = ap entries_moved d
+by_expunge around run lists name uid event RemovesLog d = ap entries_moved d
 by_expunge around run lists name uid event ReadsPiece d = ap entries_moved d
 by_expunge around run lists name uid event Unpins d = ap entries_moved d
 by_expunge around run lists name uid event RemovesFile d = ap entries_moved d
@@ -161,9 +167,10 @@ by_move around run lists name uid target event (TakesFile new) d = by_copy run l
 by_move around run lists name uid target event PlacesMessage d = by_copy run lists name uid.0 target event PlacesMessage d
 by_move around run lists name uid target event StoresRecord d = by_copy run lists name uid.0 target event StoresRecord d
 by_move around run lists name uid target event Last d = by_copy run lists name uid.0 target event Last d
-by_move around run lists name uid target event SecondHalf d = removed_if_there run lists name uid.0 event (message_at name uid.0 lists) d
+by_move around run lists name uid target event SecondHalf d = removed_if_there run (source_of event.request run) uid.0 event (message_numbered (source_of event.request run) uid.0 lists) d
 by_move around run lists name uid target event GivesBack d = by_copy run lists name uid.0 target event GivesBack d
 by_move around run lists name uid target event StartsOver d = by_copy run lists name uid.0 target event StartsOver d
+by_move around run lists name uid target event RemovesLog d = by_copy run lists name uid.0 target event RemovesLog d
 by_move around run lists name uid target event ReadsPiece d = by_copy run lists name uid.0 target event ReadsPiece d
 by_move around run lists name uid target event Unpins d = by_copy run lists name uid.0 target event Unpins d
 by_move around run lists name uid target event RemovesFile d = by_copy run lists name uid.0 target event RemovesFile d
@@ -184,6 +191,7 @@ by_list around run lists name event Last d = ap entries_moved d
 by_list around run lists name event SecondHalf d = ap entries_moved d
 by_list around run lists name event GivesBack d = ap entries_moved d
 by_list around run lists name event StartsOver d = ap entries_moved d
+by_list around run lists name event RemovesLog d = ap entries_moved d
 by_list around run lists name event ReadsPiece d = ap entries_moved d
 by_list around run lists name event Unpins d = ap entries_moved d
 by_list around run lists name event RemovesFile d = ap entries_moved d
@@ -204,6 +212,7 @@ by_counts around run lists event Last d = ap entries_moved d
 by_counts around run lists event SecondHalf d = ap entries_moved d
 by_counts around run lists event GivesBack d = ap entries_moved d
 by_counts around run lists event StartsOver d = ap entries_moved d
+by_counts around run lists event RemovesLog d = ap entries_moved d
 by_counts around run lists event ReadsPiece d = ap entries_moved d
 by_counts around run lists event Unpins d = ap entries_moved d
 by_counts around run lists event RemovesFile d = ap entries_moved d
@@ -229,6 +238,7 @@ by_resync around run lists event Last d = ap entries_moved d.3 ∙ corrects_coun
 by_resync around run lists event SecondHalf d = ap entries_moved d
 by_resync around run lists event GivesBack d = ap entries_moved d
 by_resync around run lists event StartsOver d = ap entries_moved d
+by_resync around run lists event RemovesLog d = ap entries_moved d
 by_resync around run lists event ReadsPiece d = ap entries_moved d
 by_resync around run lists event Unpins d = ap entries_moved d
 by_resync around run lists event RemovesFile d = ap entries_moved d
@@ -237,6 +247,48 @@ by_resync around run lists event CopiesMessage d = ap entries_moved d
 by_resync around run lists event Switches d = ap entries_moved d
 by_resync around run lists event RemovesInstance d = ap entries_moved d
 by_resync around run lists event ReadsFile d = ap entries_moved d
+
+by_delete : (run : Run) (lists : Lists) (name : List ℕ) (event : RunEvent) (part : EventPart) → DidDelete run lists name event part → Unmoved event
+by_delete run lists name event First d = ap entries_moved d.4
+by_delete run lists name event Compares d = ap entries_moved d
+by_delete run lists name event PlacesInstance d = ap entries_moved d
+by_delete run lists name event (TakesFile new) d = ap entries_moved d
+by_delete run lists name event PlacesMessage d = ap entries_moved d
+by_delete run lists name event StoresRecord d = ap entries_moved d
+by_delete run lists name event Last d = ap entries_moved d
+by_delete run lists name event SecondHalf d = ap entries_moved d
+by_delete run lists name event GivesBack d = ap entries_moved d
+by_delete run lists name event StartsOver d = ap entries_moved d
+by_delete run lists name event RemovesLog d = ap entries_moved d
+by_delete run lists name event ReadsPiece d = ap entries_moved d
+by_delete run lists name event Unpins d = ap entries_moved d
+by_delete run lists name event RemovesFile d = ap entries_moved d
+by_delete run lists name event MakesTarget d = ap entries_moved d
+by_delete run lists name event CopiesMessage d = ap entries_moved d
+by_delete run lists name event Switches d = ap entries_moved d
+by_delete run lists name event RemovesInstance d = ap entries_moved d
+by_delete run lists name event ReadsFile d = ap entries_moved d
+
+by_rename : (lists : Lists) (name target : List ℕ) (event : RunEvent) (part : EventPart) → DidRename lists name target event part → Unmoved event
+by_rename lists name target event First d = ap entries_moved d.2
+by_rename lists name target event Compares d = ap entries_moved d
+by_rename lists name target event PlacesInstance d = ap entries_moved d
+by_rename lists name target event (TakesFile new) d = ap entries_moved d
+by_rename lists name target event PlacesMessage d = ap entries_moved d
+by_rename lists name target event StoresRecord d = ap entries_moved d
+by_rename lists name target event Last d = ap entries_moved d
+by_rename lists name target event SecondHalf d = ap entries_moved d
+by_rename lists name target event GivesBack d = ap entries_moved d
+by_rename lists name target event StartsOver d = ap entries_moved d
+by_rename lists name target event RemovesLog d = ap entries_moved d
+by_rename lists name target event ReadsPiece d = ap entries_moved d
+by_rename lists name target event Unpins d = ap entries_moved d
+by_rename lists name target event RemovesFile d = ap entries_moved d
+by_rename lists name target event MakesTarget d = ap entries_moved d
+by_rename lists name target event CopiesMessage d = ap entries_moved d
+by_rename lists name target event Switches d = ap entries_moved d
+by_rename lists name target event RemovesInstance d = ap entries_moved d
+by_rename lists name target event ReadsFile d = ap entries_moved d
 
 by_part : (around : Around) (run : Run) (lists : Lists) (asked : Request) (event : RunEvent) (part : EventPart) → is_purge asked ≡ false → DidPart around run lists asked event part → Unmoved event
 by_part around run lists (request.Deliver name time octets) event part none d = by_deliver around run lists name time octets event part d
@@ -247,6 +299,8 @@ by_part around run lists (request.Copy name uid target) event part none d = by_c
 by_part around run lists (request.Move name uid target) event part none d = by_move around run lists name uid target event part d
 by_part around run lists (request.Expunge name uid) event part none d = by_expunge around run lists name uid event part d
 by_part around run lists (request.Make name) event part none d = by_make run name event part d
+by_part around run lists (request.Delete name) event part none d = by_delete run lists name event part d
+by_part around run lists (request.Rename name target) event part none d = by_rename lists name target event part d
 by_part around run lists request.Counts event part none d = by_counts around run lists event part d
 by_part around run lists request.Purge event part none d = absurd (let k : true ≡ false = none in cc k)
 by_part around run lists request.Resync event part none d = by_resync around run lists event part d

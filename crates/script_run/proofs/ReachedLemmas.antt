@@ -15,15 +15,19 @@ use Rattle.mdbox_base.specs.declared.replies.Reply.TheVariants as reply
 use Rattle.mdbox_base.specs.declared.requests.Request.{Request}
 use Rattle.mdbox_base.specs.declared.requests.Request.TheVariants as request
 use Rattle.model_lists.specs.Lists.{Lists}
+use Rattle.model_meaning.specs.BoxMeaning.{BoxMeaning}
 use Rattle.model_meaning.specs.MapMeaning.{MapMeaning}
 use Rattle.list_machine.specs.Machine.{Does, PartAnswers}
-use Rattle.list_machine.specs.Run.{EventPart, First, GivesBack, Last, Run, RunEvent, before, own_events}
-use Rattle.journal.specs.Events.{Around, behind_addition, behind_copy, behind_event, behind_expunge, next_part}
+use Rattle.list_machine.specs.Run.{EventPart, First, GivesBack, Last, Run, RunEvent, before}
+use Rattle.journal.specs.Events.{Around, behind_event, behind_expunge}
 use Rattle.journal.specs.Journal.{AreSteps, Broken, IsLegal, IsStep, JournalStep, Reached, WouldHaveBeen, as_if, halves_of, left_by, refusal_in, steps_of}
 use Rattle.journal.specs.Makes.{AreNextEvents, IsServed}
 use Rattle.journal.proofs.AloneLemmas.{all_own}
 use Rattle.script_run.specs.One.{IsAlongOne, MakesOneStep, alone}
-use Rattle.script_run.proofs.AloneLemmas.{first_only, one_place, own_event}
+use Rattle.script_run.specs.Opening.{LogsShowLists}
+use Rattle.script_run.proofs.AloneLemmas.{first_only, one_place}
+use Rattle.script_run.proofs.CopyRunLemmas.{CopiesAlone, copies_alone, copy_place}
+use Rattle.script_run.proofs.PartLemmas.{part_after, some_part}
 use Rattle.script_run.proofs.ToldLemmas.{IsMove, refused_told, step_answers, step_told}
 
 -- ---- which event of it makes the step
@@ -36,60 +40,6 @@ abbrev step_place : Request → ℕ
 step_place (request.Copy name uid target) = 1
 step_place asked = 0
 
--- the part of the next event is one behind the last event
-next_behind : (around : Around) (run : Run) (asked : Request) (own : List RunEvent) (e : RunEvent) → next_part around run asked (own ++ e ∷ []) ≡ behind_event around run asked e e.refused
-next_behind around run asked [] e = refl
-next_behind around run asked (x ∷ []) e = refl
-next_behind around run asked (x ∷ y ∷ rest) e = next_behind around run asked (y ∷ rest) e
-
-own_test : (k : ℕ) → k ≡ 0 → (k == 0) ≡ true
-own_test k e = grind (arith, common_steps, e)
-
-own_taken : (events : List RunEvent) (n : ℕ) (e : RunEvent) → ((k : ℕ) (x : RunEvent) → slice_get events k ≡ Some x → x.request ≡ 0) → slice_get events n ≡ Some e → filter (λ x. x.request == 0) (take (suc n) events) ≡ filter (λ x. x.request == 0) (take n events) ++ e ∷ []
-own_taken [] n e all at = absurd (let k : None ≡ Some e = at in cc k)
-own_taken (x ∷ events) zero e all at =
-    let k : Some x ≡ Some e = at in
-    let same : x ≡ e = cc k in
-    by_test (x.request == 0) (own_test x.request (all 0 x refl)) ∙ ap (λ (y : RunEvent). y ∷ []) same
-  where
-    by_test : (b : Bool) → b ≡ true → cond b (x ∷ []) [] ≡ x ∷ []
-    by_test true t = refl
-    by_test false t = absurd (cc t)
-own_taken (x ∷ events) (suc n) e all at = by_test (x.request == 0) (own_test x.request (all 0 x refl)) (own_taken events n e (λ k y there. all (suc k) y there) at)
-  where
-    by_test : (b : Bool) → b ≡ true → filter (λ y. y.request == 0) (take (suc n) events) ≡ filter (λ y. y.request == 0) (take n events) ++ e ∷ []
-        → cond b (x ∷ filter (λ y. y.request == 0) (take (suc n) events)) (filter (λ y. y.request == 0) (take (suc n) events)) ≡ cond b (x ∷ filter (λ y. y.request == 0) (take n events)) (filter (λ y. y.request == 0) (take n events)) ++ e ∷ []
-    by_test true t rest = ap (λ (es : List RunEvent). x ∷ es) rest
-    by_test false t rest = absurd (cc t)
-
-pub get_before : {X : Type 0} → (xs : List X) (n : ℕ) (x : X) → slice_get xs (suc n) ≡ Some x → (y : X) × (slice_get xs n ≡ Some y)
-get_before [] n x at = absurd (let k : None ≡ Some x = at in cc k)
-get_before (y ∷ xs) zero x at = (y, refl)
-get_before (y ∷ xs) (suc n) x at = get_before xs n x at
-
--- The part of an event is the first, or the one behind that of the event before it.
-pub part_after : (around after : ℕ → Around) (start : Lists) (asked : Request) (run : Run) (journal : List JournalStep) → AreNextEvents around after (alone asked) start run journal → (n : ℕ) (event : RunEvent) → slice_get run.events (suc n) ≡ Some event
-    → (e : RunEvent) × (slice_get run.events n ≡ Some e) × (behind_event (around (suc n)) (before (suc n) run) asked e e.refused ≡ Some event.part)
-part_after around after start asked run journal next n event at =
-    let e = get_before run.events n event at in
-    let k = own_event around after start asked run journal next (suc n) event at in
-    let own = own_taken run.events n e.0 (λ m x there. (own_event around after start asked run journal next m x there).0) e.1 in
-    let part = ap (λ (r : ℕ). next_part (around (suc n)) (before (suc n) run) asked (own_events r (before (suc n) run))) (sym k.0) ∙ k.1.part_is in (
-      e.0,
-      e.1,
-      sym (next_behind (around (suc n)) (before (suc n) run) asked (filter (λ x. x.request == 0) (take n run.events)) e.0) ∙ (ap (λ (es : List RunEvent). next_part (around (suc n)) (before (suc n) run) asked es) (sym own) ∙ part),
-    )
-
-pub part_first : (around after : ℕ → Around) (start : Lists) (asked : Request) (run : Run) (journal : List JournalStep) → AreNextEvents around after (alone asked) start run journal → (event : RunEvent) → slice_get run.events 0 ≡ Some event → event.part ≡ First
-part_first around after start asked run journal next event at =
-    let k = own_event around after start asked run journal next 0 event at in
-    let e : Some First ≡ Some event.part = k.1.part_is in
-    let f : First ≡ event.part = cc e in
-    sym f
-
-pub some_part : (a b : EventPart) → Some a ≡ Some b → a ≡ b
-some_part a b e = cc e
-
 -- no first part stands behind another
 expunge_behind : (around : Around) (run : Run) (name : List ℕ) (uid : Uid) (e : RunEvent) (part : EventPart) (refused : Option Refusal) → e.part ≡ part → e.refused ≡ refused → behind_event around run (request.Expunge name uid) e e.refused ≡ Some First → ⊥
 expunge_behind around run name uid e part (Some why) parts refused is = let k : None ≡ Some First = ap (λ (r : Option Refusal). behind_event around run (request.Expunge name uid) e r) (sym refused) ∙ is in cc k
@@ -99,50 +49,22 @@ expunge_behind around run name uid e part None parts refused is = by_part part (
     by_part First k = let z : Some GivesBack ≡ Some First = k in cc (some_part GivesBack First z)
     by_part part k = let z : None ≡ Some First = k in cc z
 
-addition_first : (part : EventPart) (why : Refusal) → behind_addition part why ≡ Some First → ⊥
-addition_first Last refusal.Stopped is = let z : None ≡ Some First = is in cc z
-addition_first Last why is = let z : Some GivesBack ≡ Some First = is in cc (some_part GivesBack First z)
-addition_first part why is = let z : None ≡ Some First = is in cc z
-
-pub addition_last : (part : EventPart) (why : Refusal) → behind_addition part why ≡ Some Last → ⊥
-addition_last Last refusal.Stopped is = let z : None ≡ Some Last = is in cc z
-addition_last Last why is = let z : Some GivesBack ≡ Some Last = is in cc (some_part GivesBack Last z)
-addition_last part why is = let z : None ≡ Some Last = is in cc z
-
-copy_first : (part : EventPart) → behind_copy part ≡ Some First → ⊥
-copy_first First is = let z : Some Last ≡ Some First = is in cc (some_part Last First z)
-copy_first part is = let z : None ≡ Some First = is in cc z
-
-copy_last : (part : EventPart) → behind_copy part ≡ Some Last → part ≡ First
-copy_last First is = refl
-copy_last part is = absurd (let z : None ≡ Some Last = is in cc z)
-
-copy_behind_first : (around : Around) (run : Run) (name : List ℕ) (uid : Uid) (target : List ℕ) (e : RunEvent) (refused : Option Refusal) → behind_event around run (request.Copy name uid target) e refused ≡ Some First → ⊥
-copy_behind_first around run name uid target e (Some why) is = addition_first e.part why is
-copy_behind_first around run name uid target e None is = copy_first e.part is
-
-copy_behind_last : (around : Around) (run : Run) (name : List ℕ) (uid : Uid) (target : List ℕ) (e : RunEvent) (refused : Option Refusal) → behind_event around run (request.Copy name uid target) e refused ≡ Some Last → e.part ≡ First
-copy_behind_last around run name uid target e (Some why) is = absurd (addition_last e.part why is)
-copy_behind_last around run name uid target e None is = copy_last e.part is
+-- a copy was served from lists that the logs show
+abbrev CopiesIf : Request → Run → Lists → List JournalStep → Type 0
+CopiesIf (request.Copy name uid target) run start journal = CopiesAlone false name uid target run start journal
+CopiesIf asked run start journal = Unit {0}
 
 -- Its step is made at the same event always.
-step_at : (around after : ℕ → Around) (start : Lists) (asked : Request) (run : Run) (journal : List JournalStep) → MakesOneStep asked → AreNextEvents around after (alone asked) start run journal → (n : ℕ) (event : RunEvent) → slice_get run.events n ≡ Some event → event.part ≡ step_part asked → n ≡ step_place asked
-step_at around after start (request.Copy name uid target) run journal one next zero event at part = absurd (let k : First ≡ Last = sym (part_first around after start (request.Copy name uid target) run journal next event at) ∙ part in cc k)
-step_at around after start (request.Copy name uid target) run journal one next (suc zero) event at part = refl
-step_at around after start (request.Copy name uid target) run journal one next (suc (suc n)) event at part =
-    let asked : Request = request.Copy name uid target in
-    let b = part_after around after start asked run journal next (suc n) event at in
-    let first = copy_behind_last (around (suc (suc n))) (before (suc (suc n)) run) name uid target b.0 b.0.refused (b.2 ∙ ap (λ (p : EventPart). Some p) part) in
-    let a = part_after around after start asked run journal next n b.0 b.1 in
-    absurd (copy_behind_first (around (suc n)) (before (suc n) run) name uid target a.0 a.0.refused (a.2 ∙ ap (λ (p : EventPart). Some p) first))
-step_at around after start (request.Expunge name uid) run journal one next zero event at part = refl
-step_at around after start (request.Expunge name uid) run journal one next (suc n) event at part =
+step_at : (around after : ℕ → Around) (start : Lists) (asked : Request) (run : Run) (journal : List JournalStep) → MakesOneStep asked → CopiesIf asked run start journal → AreNextEvents around after (alone asked) start run journal → (n : ℕ) (event : RunEvent) → slice_get run.events n ≡ Some event → event.part ≡ step_part asked → n ≡ step_place asked
+step_at around after start (request.Copy name uid target) run journal one copies next n event at part = copy_place false name uid target run start journal copies n event at part
+step_at around after start (request.Expunge name uid) run journal one copies next zero event at part = refl
+step_at around after start (request.Expunge name uid) run journal one copies next (suc n) event at part =
     let b = part_after around after start (request.Expunge name uid) run journal next n event at in
     absurd (expunge_behind (around (suc n)) (before (suc n) run) name uid b.0 b.0.part b.0.refused refl refl (b.2 ∙ ap (λ (p : EventPart). Some p) part))
-step_at around after start (request.List name) run journal one next n event at part = first_only around after start (request.List name) run journal one next n event at
-step_at around after start (request.Flag name uid flags) run journal one next n event at part = first_only around after start (request.Flag name uid flags) run journal one next n event at
-step_at around after start request.Counts run journal one next n event at part = first_only around after start request.Counts run journal one next n event at
-step_at around after start other run journal one next n event at part = absurd one
+step_at around after start (request.List name) run journal one copies next n event at part = first_only around after start (request.List name) run journal one next n event at
+step_at around after start (request.Flag name uid flags) run journal one copies next n event at part = first_only around after start (request.Flag name uid flags) run journal one next n event at
+step_at around after start request.Counts run journal one copies next n event at part = first_only around after start request.Counts run journal one next n event at
+step_at around after start other run journal one copies next n event at part = absurd one
 
 -- ---- what a step leaves
 
@@ -303,10 +225,15 @@ reached_by asked part start run journal broken replies old new first m drawn cal
     ])
     by_reach (inr (began, is)) = subst (IsAlongOne asked start) (sym is) (by_journal journal few s.legal.steps s.broken_is left)
 
--- So it is of each request that makes its step at the same event always.
-pub reached_once : (asked : Request) (start : Lists) (run : Run) (journal : List JournalStep) (broken : Broken) (replies : List (Option Reply)) (old new : Faults) (first m : MapMeaning) (drawn : Highest) (calls : ℕ) → MakesOneStep asked
+copies_if : (asked : Request) (start : Lists) (run : Run) (journal : List JournalStep) (broken : Broken) (replies : List (Option Reply)) (old new : Faults) (first m : MapMeaning) (drawn : Highest) (calls : ℕ) (meanings : List BoxMeaning) → LogsShowLists first meanings start
+    → IsServed start (alone asked) run journal broken replies old new first m drawn calls → CopiesIf asked run start journal
+copies_if (request.Copy name uid target) start run journal broken replies old new first m drawn calls meanings shown s = copies_alone false name uid target start run journal broken replies old new first m drawn calls meanings shown s
+copies_if asked start run journal broken replies old new first m drawn calls meanings shown s = tt
+
+-- So it is of each request that makes its step at the same event always, from lists that the logs show.
+pub reached_once : (asked : Request) (start : Lists) (run : Run) (journal : List JournalStep) (broken : Broken) (replies : List (Option Reply)) (old new : Faults) (first m : MapMeaning) (drawn : Highest) (calls : ℕ) (meanings : List BoxMeaning) → LogsShowLists first meanings start → MakesOneStep asked
     → IsServed start (alone asked) run journal broken replies old new first m drawn calls → (moment : ℕ) (lists : Lists) → Reached start run journal broken moment lists → IsAlongOne asked start lists
-reached_once asked start run journal broken replies old new first m drawn calls one s moment lists r =
-    let at = step_at s.around s.after start asked run journal one s.next in
+reached_once asked start run journal broken replies old new first m drawn calls meanings shown one s moment lists r =
+    let at = step_at s.around s.after start asked run journal one (copies_if asked start run journal broken replies old new first m drawn calls meanings shown s) s.next in
     reached_by asked (step_part asked) start run journal broken replies old new first m drawn calls (never_moves asked one) (one_half asked one) (does_at asked one)
     (λ n k a b there here first second. at n a there first ∙ sym (at k b here second)) s moment lists r

@@ -24,7 +24,8 @@ use Rattle.journal.proofs.AloneLemmas.{all_own}
 use Rattle.mail_ops.specs.Making.{with_mailbox}
 use Rattle.script_run.specs.One.{AreAlongMake, alone, next_mailbox}
 use Rattle.script_run.proofs.AloneLemmas.{one_place, own_event}
-use Rattle.script_run.proofs.ReachedLemmas.{IsWould, broken_at, few_of, part_after, part_first, prefix_of, some_part, would_at}
+use Rattle.script_run.proofs.PartLemmas.{part_after, part_first, some_part}
+use Rattle.script_run.proofs.ReachedLemmas.{IsWould, broken_at, few_of, prefix_of, would_at}
 
 abbrev making : List ℕ → Request
 making name = request.Make name

@@ -1,5 +1,5 @@
 -- The lists that a crash may leave of a move alone, which makes two steps; and that it never finds its message gone.
-use Rattle.std.specs.Prelude.{◌≡◌, ◌≤◌, ◌<◌, ◌++◌, ℕ, zero, suc, nat_lt, Bool, true, false, List, [], ◌∷◌, ◌⊎◌, All, AllPairs, Contains, find, if◌then◌else◌, is_none, length, map, slice_get, take, Option, Some, None}
+use Rattle.std.specs.Prelude.{◌≡◌, ◌≤◌, ◌<◌, ◌++◌, ℕ, zero, suc, Bool, true, false, List, [], ◌∷◌, ◌⊎◌, All, AllPairs, Contains, find, if◌then◌else◌, is_none, length, map, slice_get, take, Option, Some, None}
 use Rattle.std.specs.Option.{option_and_then, option_map_or}
 use Rattle.std.proofs.Common.{refl, sym, ◌∙◌, ap, subst, arith, inl, inr}
 use Rattle.std.proofs.lemmas.List.{length-append, length-map}
@@ -15,87 +15,69 @@ use Rattle.mdbox_base.specs.declared.replies.Reply.TheVariants as reply
 use Rattle.mdbox_base.specs.declared.requests.Request.{Request}
 use Rattle.mdbox_base.specs.declared.requests.Request.TheVariants as request
 use Rattle.model_lists.specs.Lists.{ListedMessage, Lists}
+use Rattle.model_meaning.specs.BoxMeaning.{BoxMeaning}
 use Rattle.model_meaning.specs.MapMeaning.{MapMeaning}
-use Rattle.list_machine.specs.Machine.{Does, PartAnswers, add_last, add_message, expunge, has_name, is_message_of_uid, message_at, message_in}
-use Rattle.list_machine.specs.Run.{EventPart, First, GivesBack, Last, SecondHalf, Run, RunEvent, before}
-use Rattle.journal.specs.Events.{Around, behind_addition, behind_event, behind_move, makes_step}
+use Rattle.list_machine.specs.Machine.{Does, PartAnswers, add_last, add_message, expunge_from, has_name, is_message_of_uid, message_at, message_in, message_numbered}
+use Rattle.list_machine.specs.Run.{EventPart, Last, SecondHalf, Run, RunEvent, before, source_of}
+use Rattle.journal.specs.Events.{makes_step}
 use Rattle.journal.specs.Journal.{AreSteps, Broken, IsLegal, IsStep, JournalStep, Reached, as_if, left_by, refusal_in, steps_of}
-use Rattle.journal.specs.Makes.{AreNextEvents, AreTold, IsServed}
+use Rattle.journal.specs.Makes.{AreTold, IsServed}
 use Rattle.journal.proofs.AloneLemmas.{all_own}
 use Rattle.mail_ops.specs.Copy.{copied_lists}
 use Rattle.script_run.specs.One.{AreAlongMove, alone, moved_lists}
+use Rattle.script_run.specs.Opening.{LogsShowLists}
 use Rattle.script_run.proofs.AloneLemmas.{one_place, own_event}
-use Rattle.script_run.proofs.ToldLemmas.{answers_of, copied_half, replied_one, step_answers}
-use Rattle.script_run.proofs.ReachedLemmas.{IsWould, broken_at, few_of, part_after, part_first, some_part, would_at}
+use Rattle.script_run.proofs.CopyRunLemmas.{CopiesAlone, HasCopied, NamesNumber, agree_with_more, copies_alone, copy_place, expunged_alike, half_place, message_alike, names_number}
+use Rattle.script_run.proofs.ToldLemmas.{RemovesByName, answers_of, copied_half, replied_one, step_answers}
+use Rattle.script_run.proofs.ReachedLemmas.{IsWould, broken_at, few_of, would_at}
 
 abbrev moving : List ℕ → Uid → List ℕ → Request
 moving name uid target = request.Move name uid target
 
 -- ---- which events of it make its steps
 
-move_behind : (event : RunEvent) (part next : EventPart) → behind_move event part ≡ Some next → (next ≡ First → ⊥) × (next ≡ Last → part ≡ First) × (next ≡ SecondHalf → part ≡ Last)
-move_behind event First next is = let k : Last ≡ next = some_part Last next is in (λ e. cc (k ∙ e), λ e. refl, λ e. absurd (cc (k ∙ e)))
-move_behind event Last next is = let k : SecondHalf ≡ next = some_part SecondHalf next is in (λ e. cc (k ∙ e), λ e. absurd (cc (k ∙ e)), λ e. refl)
-move_behind event SecondHalf next is = by_test (nat_lt 0 (length event.box_entries)) is
-  where
-    by_test : (b : Bool) → (if b then Some GivesBack else None) ≡ Some next → (next ≡ First → ⊥) × (next ≡ Last → SecondHalf ≡ First) × (next ≡ SecondHalf → SecondHalf ≡ Last)
-    by_test true is = let k : GivesBack ≡ next = some_part GivesBack next is in (λ e. cc (k ∙ e), λ e. absurd (cc (k ∙ e)), λ e. absurd (cc (k ∙ e)))
-    by_test false is = absurd (let z : None ≡ Some next = is in cc z)
-move_behind event part next is = absurd (let z : None ≡ Some next = is in cc z)
-
-addition_behind : (part : EventPart) (why : Refusal) (next : EventPart) → behind_addition part why ≡ Some next → next ≡ GivesBack
-addition_behind Last refusal.Stopped next is = absurd (let z : None ≡ Some next = is in cc z)
-addition_behind Last why next is = sym (some_part GivesBack next is)
-addition_behind part why next is = absurd (let z : None ≡ Some next = is in cc z)
-
--- the event before one of a part that is the second or the third
-record ComesBehind (event : RunEvent) (next : EventPart) : Type 0 where
-  free : event.refused ≡ None
-  after : behind_move event event.part ≡ Some next
-
-comes_behind : (around : Around) (run : Run) (name : List ℕ) (uid : Uid) (target : List ℕ) (event : RunEvent) (next : EventPart) (refused : Option Refusal) → event.refused ≡ refused → behind_event around run (moving name uid target) event event.refused ≡ Some next → (next ≡ GivesBack → ⊥) → ComesBehind event next
-comes_behind around run name uid target event next None free is other = record { free = free; after = ap (λ (r : Option Refusal). behind_event around run (moving name uid target) event r) (sym free) ∙ is }
-comes_behind around run name uid target event next (Some why) refused is other = absurd (other (addition_behind event.part why next (ap (λ (r : Option Refusal). behind_event around run (moving name uid target) event r) (sym refused) ∙ is)))
-
 -- the run of a move alone
 record IsMoveRun (name : List ℕ) (uid : Uid) (target : List ℕ) (run : Run) (start : Lists) (journal : List JournalStep) : Type 0 where
-  around : ℕ → Around
-  after : ℕ → Around
-  next : AreNextEvents around after (alone (moving name uid target)) start run journal
+  copies : CopiesAlone true name uid target run start journal
   told : AreTold (alone (moving name uid target)) run journal
 
-move_after : (name : List ℕ) (uid : Uid) (target : List ℕ) (run : Run) (start : Lists) (journal : List JournalStep) → IsMoveRun name uid target run start journal → (n : ℕ) (event : RunEvent) → slice_get run.events (suc n) ≡ Some event → (event.part ≡ GivesBack → ⊥) → (e : RunEvent) × (slice_get run.events n ≡ Some e) × ComesBehind e event.part
-move_after name uid target run start journal r n event at other =
-    let k = part_after r.around r.after start (moving name uid target) run journal r.next n event at in
-    (k.0, k.1, comes_behind (r.around (suc n)) (before (suc n) run) name uid target k.0 event.part k.0.refused refl k.2 other)
-
-first_at : (name : List ℕ) (uid : Uid) (target : List ℕ) (run : Run) (start : Lists) (journal : List JournalStep) → IsMoveRun name uid target run start journal → (n : ℕ) (event : RunEvent) → slice_get run.events n ≡ Some event → event.part ≡ First → n ≡ 0
-first_at name uid target run start journal r zero event at part = refl
-first_at name uid target run start journal r (suc n) event at part =
-    let k = move_after name uid target run start journal r n event at (λ e. cc (sym part ∙ e)) in
-    absurd ((move_behind k.0 k.0.part event.part k.2.after).0 part)
-
 copy_at : (name : List ℕ) (uid : Uid) (target : List ℕ) (run : Run) (start : Lists) (journal : List JournalStep) → IsMoveRun name uid target run start journal → (n : ℕ) (event : RunEvent) → slice_get run.events n ≡ Some event → event.part ≡ Last → n ≡ 1
-copy_at name uid target run start journal r zero event at part = absurd (cc (sym (part_first r.around r.after start (moving name uid target) run journal r.next event at) ∙ part))
-copy_at name uid target run start journal r (suc n) event at part =
-    let k = move_after name uid target run start journal r n event at (λ e. cc (sym part ∙ e)) in
-    ap suc (first_at name uid target run start journal r n k.0 k.1 ((move_behind k.0 k.0.part event.part k.2.after).1 part))
+copy_at name uid target run start journal r n event at part = copy_place true name uid target run start journal r.copies n event at part
 
--- Where an event is its last step's, the one before it has copied the message.
-record HasCopied (run : Run) (n : ℕ) : Type 0 where
-  here : n ≡ 2
-  event : RunEvent
-  event_is : slice_get run.events 1 ≡ Some event
-  part_is : event.part ≡ Last
-  free : event.refused ≡ None
+removal_at : (name : List ℕ) (uid : Uid) (target : List ℕ) (run : Run) (start : Lists) (journal : List JournalStep) → IsMoveRun name uid target run start journal → (n : ℕ) (event : RunEvent) → slice_get run.events n ≡ Some event → event.part ≡ SecondHalf → HasCopied name start run n
+removal_at name uid target run start journal r n event at part = half_place true name uid target run start journal r.copies n event at part
 
-removal_at : (name : List ℕ) (uid : Uid) (target : List ℕ) (run : Run) (start : Lists) (journal : List JournalStep) → IsMoveRun name uid target run start journal → (n : ℕ) (event : RunEvent) → slice_get run.events n ≡ Some event → event.part ≡ SecondHalf → HasCopied run n
-removal_at name uid target run start journal r zero event at part = absurd (cc (sym (part_first r.around r.after start (moving name uid target) run journal r.next event at) ∙ part))
-removal_at name uid target run start journal r (suc n) event at part =
-    let k = move_after name uid target run start journal r n event at (λ e. cc (sym part ∙ e)) in
-    let last = (move_behind k.0 k.0.part event.part k.2.after).2 part in
-    let one = copy_at name uid target run start journal r n k.0 k.1 last in
-    record { here = ap suc one; event = k.0; event_is = ap (slice_get run.events) (sym one) ∙ k.1; part_is = last; free = k.2.free }
+-- ---- the second half finds its mailbox by number as it would by name
+
+agree_copied : (name : List ℕ) (uid : Uid) (target : List ℕ) (number : ℕ) (start : Lists) → NamesNumber name number start → NamesNumber name number (copied_lists name uid target start)
+agree_copied name uid target number start agree = by_found (message_at name uid.0 start)
+  where
+    by_found : (o : Option ListedMessage) → NamesNumber name number (option_map_or (λ m. add_message target m start) start o)
+    by_found None = agree
+    by_found (Some m) = agree_with_more name number target m start agree
+
+-- in the lists with the copy the mailbox with this number is the one with the name
+record FindsByName (name : List ℕ) (uid : Uid) (target : List ℕ) (start : Lists) (number : ℕ) : Type 0 where
+  removed : expunge_from number uid.0 (copied_lists name uid target start) ≡ moved_lists name uid target start
+  found : message_numbered number uid.0 (copied_lists name uid target start) ≡ message_at name uid.0 (copied_lists name uid target start)
+
+finds_by_name : (name : List ℕ) (uid : Uid) (target : List ℕ) (run : Run) (start : Lists) (journal : List JournalStep) → CopiesAlone true name uid target run start journal → (n : ℕ) → HasCopied name start run n → (number : ℕ) → number ≡ source_of 0 (before 2 run) → FindsByName name uid target start number
+finds_by_name name uid target run start journal r n h number is =
+    let same : number ≡ h.mailbox.number = is ∙ h.source_is in
+    let agree = agree_copied name uid target h.mailbox.number start (names_number name start h.mailbox r.shown.0 h.named) in
+    record {
+      removed = ap (λ (k : ℕ). expunge_from k uid.0 (copied_lists name uid target start)) same ∙ expunged_alike name h.mailbox.number uid.0 (copied_lists name uid target start) agree;
+      found = ap (λ (k : ℕ). message_numbered k uid.0 (copied_lists name uid target start)) same ∙ message_alike name h.mailbox.number uid.0 (copied_lists name uid target start) agree;
+    }
+
+half_finds : (name : List ℕ) (uid : Uid) (target : List ℕ) (run : Run) (start : Lists) (journal : List JournalStep) → CopiesAlone true name uid target run start journal → (n : ℕ) (event : RunEvent) → slice_get run.events n ≡ Some event → event.part ≡ SecondHalf → FindsByName name uid target start (source_of event.request (before n run))
+half_finds name uid target run start journal r n event at part =
+    let h = half_place true name uid target run start journal r n event at part in
+    let own = (own_event r.around r.after start (moving name uid target) run journal r.next n event at).0 in
+    finds_by_name name uid target run start journal r n h (source_of event.request (before n run)) (ap (λ (q : ℕ). source_of q (before n run)) own ∙ ap (λ (k : ℕ). source_of 0 (before k run)) h.here)
+
+pub removes_by_name : (name : List ℕ) (uid : Uid) (target : List ℕ) (run : Run) (start : Lists) (journal : List JournalStep) → CopiesAlone true name uid target run start journal → RemovesByName name uid target run start
+removes_by_name name uid target run start journal r = λ n event at part. (half_finds name uid target run start journal r n event at part).removed
 
 -- ---- what a step leaves
 
@@ -103,6 +85,7 @@ removal_at name uid target run start journal r (suc n) event at part =
 record IsMadeBy (run : Run) (step : JournalStep) (part : EventPart) : Type 0 where
   event : RunEvent
   event_is : slice_get run.events step.event ≡ Some event
+  own : event.request ≡ 0
   part_is : event.part ≡ part
   free : event.refused ≡ None
 
@@ -114,7 +97,8 @@ record IsRefusedBy (run : Run) (old : Lists) (step : JournalStep) : Type 0 where
   same : step.left ≡ old
 
 abbrev MoveStep : List ℕ → Uid → List ℕ → Run → Lists → JournalStep → Type 0
-MoveStep name uid target run old step = IsRefusedBy run old step ⊎ ((IsMadeBy run step Last × (step.left ≡ copied_lists name uid target old)) ⊎ (IsMadeBy run step SecondHalf × ((step.left ≡ old) ⊎ (step.left ≡ expunge name uid.0 old))))
+MoveStep name uid target run old step =
+    IsRefusedBy run old step ⊎ ((IsMadeBy run step Last × (step.left ≡ copied_lists name uid target old)) ⊎ ((made : IsMadeBy run step SecondHalf) × ((step.left ≡ old) ⊎ (step.left ≡ expunge_from (source_of made.event.request (before step.event run)) uid.0 old))))
 
 move_step : (name : List ℕ) (uid : Uid) (target : List ℕ) (run : Run) (old : Lists) (step : JournalStep) → IsStep run (alone (moving name uid target)) old step → MoveStep name uid target run old step
 move_step name uid target run old step s =
@@ -122,15 +106,18 @@ move_step name uid target run old step s =
     let a = subst (λ (q : ℕ × Request). PartAnswers (before step.event run) s.event old q.1 s.event.part step.answer step.left) found.1 s.answers in
     by_answer s.event.part refl step.answer s.says a
   where
-    removed : (gone : Bool) → step.left ≡ (if gone then old else expunge name uid.0 old) → (step.left ≡ old) ⊎ (step.left ≡ expunge name uid.0 old)
+    own : s.event.request ≡ 0
+    own = s.own_request ∙ (one_place (moving name uid target) step.request s.asked s.request_is).0
+
+    removed : (gone : Bool) → step.left ≡ (if gone then old else expunge_from (source_of s.event.request (before step.event run)) uid.0 old) → (step.left ≡ old) ⊎ (step.left ≡ expunge_from (source_of s.event.request (before step.event run)) uid.0 old)
     removed true is = inl is
     removed false is = inr is
 
     by_does : (part : EventPart) → s.event.part ≡ part → (given : Reply) → s.event.refused ≡ None → Does (before step.event run) s.event old (moving name uid target) part given step.left
-        → (IsMadeBy run step Last × (step.left ≡ copied_lists name uid target old)) ⊎ (IsMadeBy run step SecondHalf × ((step.left ≡ old) ⊎ (step.left ≡ expunge name uid.0 old)))
+        → (IsMadeBy run step Last × (step.left ≡ copied_lists name uid target old)) ⊎ ((made : IsMadeBy run step SecondHalf) × ((step.left ≡ old) ⊎ (step.left ≡ expunge_from (source_of made.event.request (before step.event run)) uid.0 old)))
     by_does Last part (reply.Copied copied) free d =
-        inl (record { event = s.event; event_is = s.event_is; part_is = part; free = free }, d.new_is ∙ sym (ap (λ (o : Option ListedMessage). option_map_or (λ m. add_message target m old) o old) d.source_is))
-    by_does SecondHalf part (reply.Moved copied gone) free d = inr (record { event = s.event; event_is = s.event_is; part_is = part; free = free }, removed gone d.1.1)
+        inl (record { event = s.event; event_is = s.event_is; own = own; part_is = part; free = free }, d.new_is ∙ sym (ap (λ (o : Option ListedMessage). option_map_or (λ m. add_message target m old) o old) d.source_is))
+    by_does SecondHalf part (reply.Moved copied gone) free d = inr (record { event = s.event; event_is = s.event_is; own = own; part_is = part; free = free }, removed gone d.1.1)
     by_does part is given free d = absurd d
 
     by_answer : (part : EventPart) → s.event.part ≡ part → (answer : Reply) → s.event.refused ≡ refusal_in answer → PartAnswers (before step.event run) s.event old (moving name uid target) part answer step.left → MoveStep name uid target run old step
@@ -169,9 +156,9 @@ none_in : (t : JournalStep) → Contains [] t → ⊥
 none_in t c = let l = c.1 in omega (arith, l)
 
 -- So the step that copied it is in the journal.
-copied_step : (name : List ℕ) (uid : Uid) (target : List ℕ) (run : Run) (start : Lists) (journal : List JournalStep) → IsMoveRun name uid target run start journal → (n : ℕ) → HasCopied run n → (t : JournalStep) × Contains journal t × (t.event ≡ 1)
+copied_step : (name : List ℕ) (uid : Uid) (target : List ℕ) (run : Run) (start : Lists) (journal : List JournalStep) → IsMoveRun name uid target run start journal → (n : ℕ) → HasCopied name start run n → (t : JournalStep) × Contains journal t × (t.event ≡ 1)
 copied_step name uid target run start journal r n h =
-    let own = (own_event r.around r.after start (moving name uid target) run journal r.next 1 h.event h.event_is).0 in
+    let own = (own_event r.copies.around r.copies.after start (moving name uid target) run journal r.copies.next 1 h.event h.event_is).0 in
     r.told 1 h.event (1, moving name uid target) h.event_is (ap (slice_get (alone (moving name uid target))) own) (ap (λ (p : EventPart). makes_step (moving name uid target) p h.event.refused) h.part_is ∙ ap (λ (o : Option Refusal). makes_step (moving name uid target) Last o) h.free)
 
 -- What the journal of a move has come to: no copy, though a step may have been refused; the copy; or both.
@@ -202,9 +189,10 @@ along_so name uid target run start journal left (inl none) = inl none.is
 along_so name uid target run start journal left (inr (inl copy)) = inr (inl copy.is)
 along_so name uid target run start journal left (inr (inr both)) = inr both.is
 
-along_removal : (name : List ℕ) (uid : Uid) (target : List ℕ) (start lists left : Lists) → lists ≡ copied_lists name uid target start → (left ≡ lists) ⊎ (left ≡ expunge name uid.0 lists) → (left ≡ copied_lists name uid target start) ⊎ (left ≡ moved_lists name uid target start)
-along_removal name uid target start lists left copied (inl same) = inl (same ∙ copied)
-along_removal name uid target start lists left copied (inr removed) = inr (removed ∙ ap (expunge name uid.0) copied)
+along_removal : (name : List ℕ) (uid : Uid) (target : List ℕ) (number : ℕ) (start lists left : Lists) → expunge_from number uid.0 (copied_lists name uid target start) ≡ moved_lists name uid target start → lists ≡ copied_lists name uid target start → (left ≡ lists) ⊎ (left ≡ expunge_from number uid.0 lists)
+    → (left ≡ copied_lists name uid target start) ⊎ (left ≡ moved_lists name uid target start)
+along_removal name uid target number start lists left named copied (inl same) = inl (same ∙ copied)
+along_removal name uid target number start lists left named copied (inr removed) = inr (removed ∙ (ap (expunge_from number uid.0) copied ∙ named))
 
 -- one step
 come_one : (name : List ℕ) (uid : Uid) (target : List ℕ) (run : Run) (start : Lists) (s : JournalStep) → IsMoveRun name uid target run start (s ∷ []) → MoveStep name uid target run start s → HasComeTo name uid target run start (s ∷ []) s.left
@@ -255,7 +243,7 @@ come_two name uid target run start a b r order (inr (inl copy)) (inr (inr remova
     let one = copy_at name uid target run start (a ∷ b ∷ []) r a.event copy.0.event copy.0.event_is copy.0.part_is in
     let h = removal_at name uid target run start (a ∷ b ∷ []) r b.event removal.0.event removal.0.event_is removal.0.part_is in
     inr (inr (record {
-      is = along_removal name uid target start a.left b.left copy.1 removal.1;
+      is = along_removal name uid target _ start a.left b.left (removes_by_name name uid target run start (a ∷ b ∷ []) r.copies b.event removal.0.event removal.0.event_is removal.0.part_is) copy.1 removal.1;
       event = copy.0.event;
       event_is = ap (slice_get run.events) (sym one) ∙ copy.0.event_is;
       free = copy.0.free;
@@ -295,6 +283,12 @@ come_to name uid target run start (a ∷ b ∷ []) r few order s =
     come_two name uid target run start a b r (All-head (λ (y : JournalStep). a.event < y.event) b [] (pairs_head (λ (x y : JournalStep). x.event < y.event) a (b ∷ []) order)) (move_step name uid target run start a s.0) (move_step name uid target run a.left b s.1.0)
 come_to name uid target run start (a ∷ b ∷ c ∷ rest) r few order s = absurd (let n : suc (suc (suc (length rest))) ≤ 2 = few in omega (arith, n))
 
+-- what stands before an event stays before it
+taken_twice : {X : Type 0} → (n : ℕ) (xs ys : List X) (x : X) → slice_get xs n ≡ Some x → take n (take n xs ++ ys) ≡ take n xs
+taken_twice zero xs ys x at = refl
+taken_twice (suc n) [] ys x at = absurd (let k : None ≡ Some x = at in cc k)
+taken_twice {X} (suc n) (y ∷ xs) ys x at = ap (λ (zs : List X). y ∷ zs) (taken_twice n xs ys x at)
+
 -- the step that a failed append would have made, behind the journal
 come_broken : (name : List ℕ) (uid : Uid) (target : List ℕ) (run : Run) (start : Lists) (journal : List JournalStep) (broken : Broken) (left : Lists) (b : JournalStep) → IsMoveRun name uid target run start journal → HasComeTo name uid target run start journal left → MoveStep name uid target (as_if run broken) left b
     → ((event : RunEvent) → slice_get (as_if run broken).events b.event ≡ Some event → IsWould run.events broken.place b.event event) → AreAlongMove name uid target start b.left
@@ -316,12 +310,19 @@ come_broken name uid target run start journal broken left b r come (inr (inr rem
     w : IsWould run.events broken.place b.event removal.0.event
     w = would removal.0.event removal.0.event_is
 
-    h : HasCopied run broken.place
+    h : HasCopied name start run broken.place
     h = removal_at name uid target run start journal r broken.place w.failed w.failed_is (sym w.part_is ∙ removal.0.part_is)
+
+    number : source_of removal.0.event.request (before b.event (as_if run broken)) ≡ source_of 0 (before 2 run)
+    number =
+        ap (λ (q : ℕ). source_of q (before b.event (as_if run broken))) removal.0.own
+        ∙ (ap (λ (k : ℕ). source_of 0 (before k (as_if run broken))) w.here
+        ∙ (ap (λ (es : List RunEvent). source_of 0 (record run { events = es })) (taken_twice broken.place run.events broken.events w.failed w.failed_is)
+        ∙ ap (λ (k : ℕ). source_of 0 (before k run)) h.here))
 
     by_come : HasNoCopy run start journal left ⊎ (HasCopy name uid target run start left ⊎ HasBoth name uid target run start left) → AreAlongMove name uid target start b.left
     by_come (inl none) = let t = copied_step name uid target run start journal r broken.place h in absurd (none.none t.0 t.1 t.2 h.event h.event_is h.free)
-    by_come (inr (inl k)) = inr (along_removal name uid target start left b.left k.is removal.1)
+    by_come (inr (inl k)) = inr (along_removal name uid target (source_of removal.0.event.request (before b.event (as_if run broken))) start left b.left (finds_by_name name uid target run start journal r.copies broken.place h _ number).removed k.is removal.1)
     by_come (inr (inr k)) = absurd (not_both run 2 broken.place k.second w.failed refusal.Stopped (sym h.here) k.second_is w.failed_is k.second_free w.stopped)
 
 few_moves : (name : List ℕ) (uid : Uid) (target : List ℕ) (start : Lists) (run : Run) (journal : List JournalStep) (replies : List (Option Reply)) (old new : Faults) → IsLegal start (alone (moving name uid target)) run journal replies old new → length journal ≤ 2
@@ -332,12 +333,12 @@ few_moves name uid target start run journal replies old new l =
     omega (arith, total, same)
 
 -- A crash leaves the lists before the move, those with the copy, or those that are moved.
-pub reached_moved : (name : List ℕ) (uid : Uid) (target : List ℕ) (start : Lists) (run : Run) (journal : List JournalStep) (broken : Broken) (replies : List (Option Reply)) (old new : Faults) (first m : MapMeaning) (drawn : Highest) (calls : ℕ) → IsServed start (alone (request.Move name uid target)) run journal broken replies old new first m drawn calls
+pub reached_moved : (name : List ℕ) (uid : Uid) (target : List ℕ) (start : Lists) (run : Run) (journal : List JournalStep) (broken : Broken) (replies : List (Option Reply)) (old new : Faults) (first m : MapMeaning) (drawn : Highest) (calls : ℕ) (meanings : List BoxMeaning) → LogsShowLists first meanings start → IsServed start (alone (request.Move name uid target)) run journal broken replies old new first m drawn calls
     → (moment : ℕ) (lists : Lists) → Reached start run journal broken moment lists → AreAlongMove name uid target start lists
-reached_moved name uid target start run journal broken replies old new first m drawn calls s moment lists r = by_reach r
+reached_moved name uid target start run journal broken replies old new first m drawn calls meanings shown s moment lists r = by_reach r
   where
     moves : IsMoveRun name uid target run start journal
-    moves = record { around = s.around; after = s.after; next = s.next; told = s.told }
+    moves = record { copies = copies_alone true name uid target start run journal broken replies old new first m drawn calls meanings shown s; told = s.told }
 
     few : length journal ≤ 2
     few = few_moves name uid target start run journal replies old new s.legal
@@ -415,15 +416,20 @@ none_of : (o : Option ListedMessage) → true ≡ is_none o → o ≡ None
 none_of None e = refl
 none_of (Some m) e = absurd (cc e)
 
-does_find_none : (run : Run) (event : RunEvent) (lists : Lists) (name : List ℕ) (uid : Uid) (target : List ℕ) (given : Uid) (part : EventPart) (later : Lists) → Does run event lists (request.Move name uid target) part (reply.Moved given true) later → message_at name uid.0 lists ≡ None
-does_find_none run event lists name uid target given SecondHalf later d = none_of (message_at name uid.0 lists) d.1.0
+does_find_none : (run : Run) (event : RunEvent) (lists : Lists) (name : List ℕ) (uid : Uid) (target : List ℕ) (given : Uid) (part : EventPart) (later : Lists) → Does run event lists (request.Move name uid target) part (reply.Moved given true) later
+    → (part ≡ SecondHalf) × (message_numbered (source_of event.request run) uid.0 lists ≡ None)
+does_find_none run event lists name uid target given SecondHalf later d = (refl, none_of (message_numbered (source_of event.request run) uid.0 lists) d.1.0)
 does_find_none run event lists name uid target given part later d = absurd d
 
 -- Its two steps stand one behind the other, so the second finds the message that the first has copied.
-pub never_gone : (name : List ℕ) (uid : Uid) (target : List ℕ) (start : Lists) (run : Run) (journal : List JournalStep) (moved : Uid) (old new : Faults) → IsLegal start (alone (request.Move name uid target)) run journal (Some (reply.Moved moved true) ∷ []) old new → ⊥
-never_gone name uid target start run journal moved old new l = by_journal journal l.steps (replied_one start (moving name uid target) run journal (reply.Moved moved true) old new l)
+pub never_gone : (name : List ℕ) (uid : Uid) (target : List ℕ) (start : Lists) (run : Run) (journal : List JournalStep) (broken : Broken) (moved : Uid) (old new : Faults) (first m : MapMeaning) (drawn : Highest) (calls : ℕ) (meanings : List BoxMeaning) → LogsShowLists first meanings start
+    → IsServed start (alone (request.Move name uid target)) run journal broken (Some (reply.Moved moved true) ∷ []) old new first m drawn calls → ⊥
+never_gone name uid target start run journal broken moved old new first m drawn calls meanings shown served = by_journal journal served.legal.steps (replied_one start (moving name uid target) run journal (reply.Moved moved true) old new served.legal)
   where
-    by_journal : (journal : List JournalStep) → AreSteps run (alone (moving name uid target)) start journal → answers_of journal ≡ reply.Copied moved ∷ reply.Moved moved true ∷ [] → ⊥
+    copies : CopiesAlone true name uid target run start journal
+    copies = copies_alone true name uid target start run journal broken (Some (reply.Moved moved true) ∷ []) old new first m drawn calls meanings shown served
+
+    by_journal : (steps : List JournalStep) → AreSteps run (alone (moving name uid target)) start steps → answers_of steps ≡ reply.Copied moved ∷ reply.Moved moved true ∷ [] → ⊥
     by_journal [] s said = cc said
     by_journal (a ∷ []) s said = let k : a.answer ∷ [] ≡ reply.Copied moved ∷ reply.Moved moved true ∷ [] = said in let z : [] ≡ reply.Moved moved true ∷ [] = cc k in cc z
     by_journal (a ∷ b ∷ c ∷ rest) s said =
@@ -441,4 +447,6 @@ never_gone name uid target start run journal moved old new l = by_journal journa
         let f = (subst (λ (r : Reply). PartAnswers (before b.event run) y.event a.left (moving name uid target) y.event.part r b.left) second y.answers).1 in
         let copied = copied_half (before a.event run) x.event name uid target x.event.part moved start a.left d in
         let none = does_find_none (before b.event run) y.event a.left name uid target moved y.event.part b.left f in
-        does_copy_from (before a.event run) x.event start name uid target moved x.event.part a.left d (copied_gone name uid target start (subst (λ (ls : Lists). message_at name uid.0 ls ≡ None) copied none))
+        let finds = half_finds name uid target run start journal copies b.event y.event y.event_is none.0 in
+        let gone = sym finds.found ∙ subst (λ (ls : Lists). message_numbered (source_of y.event.request (before b.event run)) uid.0 ls ≡ None) copied none.1 in
+        does_copy_from (before a.event run) x.event start name uid target moved x.event.part a.left d (copied_gone name uid target start gone)

@@ -17,7 +17,8 @@ use Rattle.journal.specs.Events.{Around, behind_addition, behind_delivery, behin
 use Rattle.journal.specs.Journal.{Broken, JournalStep, Reached}
 use Rattle.journal.specs.Makes.{AreNextEvents, IsServed}
 use Rattle.script_run.specs.One.{IsAlongOne, alone}
-use Rattle.script_run.proofs.ReachedLemmas.{get_before, part_after, reached_by, some_part}
+use Rattle.script_run.proofs.PartLemmas.{get_before, part_after, some_part}
+use Rattle.script_run.proofs.ReachedLemmas.{reached_by}
 
 abbrev delivering : List ℕ → ℕ → List ℕ → Request
 delivering name time octets = request.Deliver name time octets

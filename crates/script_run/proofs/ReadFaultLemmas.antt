@@ -13,7 +13,7 @@ use Rattle.mdbox_base.specs.declared.requests.Request.{Request}
 use Rattle.mdbox_base.specs.declared.requests.Request.TheVariants as request
 use Rattle.model_lists.specs.Lists.{Lists}
 use Rattle.list_machine.specs.Machine.{first_refusal, is_step, part_checks}
-use Rattle.list_machine.specs.Run.{EventPart, Last, ReadsPiece, Unpins, RemovesFile, RunEvent, Run, and_then, before, first_in, own_events, reply_of}
+use Rattle.list_machine.specs.Run.{EventPart, Last, StartsOver, ReadsPiece, Unpins, RemovesFile, RunEvent, Run, and_then, before, first_in, own_events, reply_of}
 use Rattle.journal.specs.Events.{Around, IsEvent, IsRepliedBy, MayMeet, behind_addition, behind_event, behind_fetch, behind_piece, behind_refused, has_memory, is_fault, is_faulted, is_piece, last_refusal, leaves_doomed, next_part, reads_octets}
 use Rattle.journal.specs.Journal.{JournalStep, Requests, refusal_in}
 use Rattle.journal.specs.Makes.{AreNextEvents, lists_before}
@@ -81,6 +81,7 @@ IfFaulted asked own = list_any is_faulted own ≡ true → IsFaulted asked own
 
 addition : (part : EventPart) (asked : Request) → reads_octets part asked ≡ true → behind_addition part refusal.ReadFault ≡ None
 addition Last asked t = absurd (let k : false ≡ true = t in cc k)
+addition StartsOver asked t = absurd (let k : false ≡ true = t in cc k)
 addition part asked t = refl
 
 piece : (name : List ℕ) (uid : Uid) (part : EventPart) → IsLeft (request.Fetch name uid) (behind_piece part refusal.ReadFault)

@@ -18,7 +18,7 @@ use Rattle.model_meaning.specs.BoxMeaning.{BoxMeaning, box_meaning, row_at}
 use Rattle.model_meaning.specs.MapMeaning.{MapMeaning, count_of, map_applied, map_meaning}
 use Rattle.model_store.specs.Listing.{meaning_named}
 use Rattle.model_store.specs.Settled.{IsSettledFor}
-use Rattle.list_machine.specs.Machine.{Answers, add_message, expunge, is_used_up, refused_where, set_flags}
+use Rattle.list_machine.specs.Machine.{Answers, add_message, delete_mailbox, expunge, is_used_up, refused_where, rename_mailbox, set_flags}
 use Rattle.list_machine.specs.Run.{First, Run, RunEvent, map_of}
 use Rattle.journal.specs.Journal.{JournalStep, Broken, Requests, left_by}
 use Rattle.journal.specs.Makes.{IsServed}
@@ -28,7 +28,7 @@ use Rattle.mail_ops.specs.Making.{with_mailbox}
 use Rattle.store_open.specs.Opened.{IsOpenedAs, StoreCarries}
 use Rattle.store_sweep.specs.Swept.{IsSwept}
 use Rattle.task_steps.specs.Serves.{AreTimely, IsReached}
-use Rattle.script_run.specs.Opening.{RunBegins, RunHasCome}
+use Rattle.script_run.specs.Opening.{LogsShowLists, RunBegins, RunHasCome}
 
 -- ---- the lists
 
@@ -50,6 +50,8 @@ abbrev pub lists_told : Request → Reply → Lists → Lists
 lists_told (request.Deliver name time octets) (reply.Saved uid guid) lists = saved_lists name time octets guid lists
 lists_told (request.Flag name uid flags) reply.Done lists = set_flags name uid.0 flags lists
 lists_told (request.Expunge name uid) reply.Done lists = expunge name uid.0 lists
+lists_told (request.Delete name) reply.Done lists = delete_mailbox name lists
+lists_told (request.Rename name target) reply.Done lists = rename_mailbox name target lists
 lists_told (request.Copy name uid target) (reply.Copied given) lists = copied_lists name uid target lists
 lists_told (request.Move name uid target) (reply.Moved given gone) lists = lists_behind name uid target gone lists
 lists_told asked given lists = lists
@@ -109,7 +111,7 @@ abbrev pub IsUnanswered : Reply → Type 0
 IsUnanswered given = (given ≡ reply.Refused refusal.NoMemory) ⊎ (given ≡ reply.Refused refusal.Stopped)
 
 -- The request is a script of its own, on one lane. From these lists, for which the files were safe, it was served legally,
--- by a run that begins with the map log of the files, and was replied this. The run has come to where the disk is now: to what
+-- by a run that begins with the map log of the files, which shows the lists with the logs of its mailboxes, and was replied this. The run has come to where the disk is now: to what
 -- its map log means, unless a change of it failed, and to its number of calls, so that by now every step is acknowledged. Of a
 -- disk that was settled for the lists each crash image since is safe for lists that the journal reaches; at the moment of each
 -- event it was settled for what the steps up to it left; and it is settled for the lists that the journal leaves, unless a change
@@ -121,6 +123,8 @@ pub record ServesRequest (request : Request) (lists : Lists) (given : Reply) (be
   pub m : MapMeaning
   pub drawn : Highest
   pub begins : RunBegins run old
+  pub meanings : List BoxMeaning
+  pub shown : LogsShowLists (map_meaning run.store run.start) meanings lists
   pub ends : (given ≡ reply.Refused refusal.Stopped → ⊥) → RunHasCome run m new
   pub served : IsServed lists (alone request) run journal broken (Some given ∷ []) began now (map_meaning run.store run.start) m drawn (told_calls new)
   pub crash : IsSettledFor lists old → EachImage (IsReached lists run journal broken) old new

@@ -40,22 +40,23 @@ pub fn opened_logs_show_lists()
 {}
 
 /// A script of one request was served, as one request is, from any lists for which the files were safe. Its journal has two steps at the
-/// most; and unless a call of the disk failed, it leaves the lists that the reply tells.
+/// most; and unless a call of the disk failed, it leaves the lists that the reply tells, from lists that the logs show: by these the
+/// second half of a move, which finds its mailbox by number, finds the one with the name.
 pub fn one_request()
     ensures serves { (asked : Request) (given : Reply) (entries : List JournalEntry) (old new : Option History) (began now : Faults) → IsScriptDone (alone asked) (given ∷ []) entries old new began now → (lists : Lists) → AreSafeFor lists old → MayRead (alone asked) lists old → ServesRequest asked lists given began now old new }
     ensures few { (start : Lists) (asked : Request) (run : Run) (journal : List JournalStep) (given : Reply) (old new : Faults) → IsLegal start (alone asked) run journal (Some given ∷ []) old new → length journal ≤ 2 }
-    ensures left { (start : Lists) (asked : Request) (run : Run) (journal : List JournalStep) (given : Reply) (old new : Faults) → IsLegal start (alone asked) run journal (Some given ∷ []) old new → IsUnfailed given → AreListsTold asked given start (left_by start journal) }
+    ensures left { (start : Lists) (asked : Request) (run : Run) (journal : List JournalStep) (broken : Broken) (given : Reply) (old new : Faults) (first m : MapMeaning) (drawn : Highest) (calls : ℕ) (meanings : List BoxMeaning) → LogsShowLists first meanings start → IsServed start (alone asked) run journal broken (Some given ∷ []) old new first m drawn calls → IsUnfailed given → AreListsTold asked given start (left_by start journal) }
     ensures settled { (asked : Request) (given : Reply) (lists : Lists) (began now : Faults) (old new : Option History) → ServesRequest asked lists given began now old new → IsUnfailed given → IsSettledFor lists old → (later : Lists) × AreListsTold asked given lists later × IsSettledFor later new }
 {}
 
 /// A request of one event is answered as the machine does at that event, on any lists that the logs show, of a run that has their map;
 /// unless there was no memory, or a failed change stopped the store. No such request reads octets of messages, so none is a read fault.
 /// Where a check refused it nothing has changed. A crash leaves the lists before it, or those that its step leaves: so it is of each
-/// request that makes its step at the same event always, an expunge and a copy too.
+/// request that makes its step at the same event always, an expunge and a copy too, from lists that the logs show.
 pub fn requests_of_one_event()
     ensures answered { (asked : Request) (given : Reply) (entries : List JournalEntry) (old new : Option History) (began now : Faults) → (done : IsScriptDone (alone asked) (given ∷ []) entries old new began now) → HasOneEvent asked → (lists : Lists) → LogsShowLists done.m done.meanings lists → IsUnanswered given ⊎ IsAnsweredFirst asked done.m lists given }
     ensures unread { (asked : Request) (given : Reply) (entries : List JournalEntry) (old new : Option History) (began now : Faults) → IsScriptDone (alone asked) (given ∷ []) entries old new began now → MakesSteps asked → given ≡ reply.Refused refusal.ReadFault → ⊥ }
-    ensures reached { (asked : Request) (start : Lists) (run : Run) (journal : List JournalStep) (broken : Broken) (replies : List (Option Reply)) (old new : Faults) (first m : MapMeaning) (drawn : Highest) (calls : ℕ) → MakesOneStep asked → IsServed start (alone asked) run journal broken replies old new first m drawn calls
+    ensures reached { (asked : Request) (start : Lists) (run : Run) (journal : List JournalStep) (broken : Broken) (replies : List (Option Reply)) (old new : Faults) (first m : MapMeaning) (drawn : Highest) (calls : ℕ) (meanings : List BoxMeaning) → LogsShowLists first meanings start → MakesOneStep asked → IsServed start (alone asked) run journal broken replies old new first m drawn calls
         → (moment : ℕ) (lists : Lists) → Reached start run journal broken moment lists → IsAlongOne asked start lists }
     ensures refused { (asked : Request) (given : Reply) (entries : List JournalEntry) (old new : Option History) (began now : Faults) → (done : IsScriptDone (alone asked) (given ∷ []) entries old new began now) → HasOneEvent asked → (why : Refusal) → is_step why ≡ true → given ≡ reply.Refused why → IsIdle done.leaves.opened new }
 {}
@@ -74,12 +75,12 @@ pub fn deliveries_make_one_step()
         → (moment : ℕ) (lists : Lists) → Reached start run journal broken moment lists → IsAlongOne (request.Deliver name time octets) start lists }
 {}
 
-/// A crash within a move alone leaves the lists before it, those with the copy, or those that are moved; and its second step finds the
-/// message that the first has copied.
+/// A crash within a move alone leaves the lists before it, which the logs show, those with the copy, or those that are moved; and its
+/// second step finds the message that the first has copied.
 pub fn moves_make_two_steps()
-    ensures reached { (name : List ℕ) (uid : Uid) (target : List ℕ) (start : Lists) (run : Run) (journal : List JournalStep) (broken : Broken) (replies : List (Option Reply)) (old new : Faults) (first m : MapMeaning) (drawn : Highest) (calls : ℕ) → IsServed start (alone (request.Move name uid target)) run journal broken replies old new first m drawn calls
+    ensures reached { (name : List ℕ) (uid : Uid) (target : List ℕ) (start : Lists) (run : Run) (journal : List JournalStep) (broken : Broken) (replies : List (Option Reply)) (old new : Faults) (first m : MapMeaning) (drawn : Highest) (calls : ℕ) (meanings : List BoxMeaning) → LogsShowLists first meanings start → IsServed start (alone (request.Move name uid target)) run journal broken replies old new first m drawn calls
         → (moment : ℕ) (lists : Lists) → Reached start run journal broken moment lists → AreAlongMove name uid target start lists }
-    ensures here { (name : List ℕ) (uid : Uid) (target : List ℕ) (start : Lists) (run : Run) (journal : List JournalStep) (moved : Uid) (old new : Faults) → IsLegal start (alone (request.Move name uid target)) run journal (Some (reply.Moved moved true) ∷ []) old new → ⊥ }
+    ensures here { (name : List ℕ) (uid : Uid) (target : List ℕ) (start : Lists) (run : Run) (journal : List JournalStep) (broken : Broken) (moved : Uid) (old new : Faults) (first m : MapMeaning) (drawn : Highest) (calls : ℕ) (meanings : List BoxMeaning) → LogsShowLists first meanings start → IsServed start (alone (request.Move name uid target)) run journal broken (Some (reply.Moved moved true) ∷ []) old new first m drawn calls → ⊥ }
 {}
 
 /// Where nothing has changed since the opening, the files open with the same logs. A request that only reads leaves a disk that was

@@ -44,6 +44,8 @@ words_clear (request.Make name) p = name_clear name p
 words_clear request.Counts p = refl
 words_clear request.Purge p = refl
 words_clear request.Resync p = refl
+words_clear (request.Delete name) p = absurd p
+words_clear (request.Rename name target) p = absurd p
 
 -- the lane stands before the words
 pub lane_first : (lane : ℕ) (asked : Request) → spaced (decimal_text lane ∷ request_words asked) ≡ decimal_text lane ++ 32 ∷ spaced (request_words asked)
@@ -58,6 +60,8 @@ lane_first lane (request.Make name) = refl
 lane_first lane request.Counts = refl
 lane_first lane request.Purge = refl
 lane_first lane request.Resync = refl
+lane_first lane (request.Delete name) = refl
+lane_first lane (request.Rename name target) = refl
 
 -- a request and what follows it: lane and words, LF, message, and the rest
 pub laid_out : (asked : ℕ × Request) (after : List ℕ) → request_text asked ++ after ≡ (decimal_text asked.0 ++ 32 ∷ spaced (request_words asked.1)) ++ 10 ∷ (message_text asked.1 ++ after)
@@ -189,6 +193,10 @@ asked_same (request.Make a) (request.Make b) x y p q e f = (ap (λ (w : List ℕ
 asked_same request.Counts request.Counts x y p q e f = (refl, f)
 asked_same request.Purge request.Purge x y p q e f = (refl, f)
 asked_same request.Resync request.Resync x y p q e f = (refl, f)
+asked_same (request.Delete a) b x y p q e f = absurd p
+asked_same (request.Rename a s) b x y p q e f = absurd p
+asked_same a (request.Delete b) x y p q e f = absurd q
+asked_same a (request.Rename b t) x y p q e f = absurd q
 asked_same a b x y p q e f = absurd (differ (spaced (request_words a)) (spaced (request_words b)) e refl)
 
 -- no request begins another

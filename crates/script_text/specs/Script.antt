@@ -23,6 +23,8 @@ request_words (request.Copy name uid target) = codes "copy" ∷ name_word name �
 request_words (request.Move name uid target) = codes "move" ∷ name_word name ∷ decimal_text uid.0 ∷ name_word target ∷ []
 request_words (request.Expunge name uid) = codes "expunge" ∷ name_word name ∷ decimal_text uid.0 ∷ []
 request_words (request.Make name) = codes "make" ∷ name_word name ∷ []
+request_words (request.Delete name) = codes "delete" ∷ name_word name ∷ []
+request_words (request.Rename name target) = codes "rename" ∷ name_word name ∷ name_word target ∷ []
 request_words request.Counts = codes "counts" ∷ []
 request_words request.Purge = codes "purge" ∷ []
 request_words request.Resync = codes "resync" ∷ []
@@ -46,7 +48,7 @@ abbrev pub script_text : List (ℕ × Request) → List ℕ
 script_text requests = flat_map request_text requests
 
 -- Names are those of mailboxes, UIDs are from 1 to 4,294,967,294, flags are a sum of bits up to 16, a time is below 2 ^ 64,
--- and a message has at most 67,108,864 octets.
+-- and a message has at most 67,108,864 octets. No script asks for a deletion or a new name yet.
 abbrev pub FitsScript : Request → Type 0
 FitsScript (request.Deliver name time message) = IsName name × (time < 2 ^ 64) × (length message ≤ 67108864)
 FitsScript (request.List name) = IsName name
@@ -56,6 +58,8 @@ FitsScript (request.Copy name uid target) = IsName name × IsNumber uid.0 × IsN
 FitsScript (request.Move name uid target) = IsName name × IsNumber uid.0 × IsName target
 FitsScript (request.Expunge name uid) = IsName name × IsNumber uid.0
 FitsScript (request.Make name) = IsName name
+FitsScript (request.Delete name) = ⊥
+FitsScript (request.Rename name target) = ⊥
 FitsScript request.Counts = Unit {0}
 FitsScript request.Purge = Unit {0}
 FitsScript request.Resync = Unit {0}

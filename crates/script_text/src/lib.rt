@@ -3,7 +3,9 @@
 
 pub use error::ScriptError;
 pub use exercise::exercise_script;
-pub use laws::{a_text_is_one_script, made_scripts_fit, written_scripts_are_read};
+pub use laws::{
+    a_text_is_one_script, made_scripts_fit, scripts_keep_mailboxes, written_scripts_are_read,
+};
 pub use read::read_script;
 pub use write::push_script;
 

@@ -69,6 +69,11 @@ fn push_words(text: &mut Octets, asked: &Request) -> Result<(), NoMemory>
             push_number(text, uid.0 as u64)
         }
         Request::Make { name } => push_name(text, b"make ", name),
+        Request::Delete { name } => push_name(text, b"delete ", name),
+        Request::Rename { name, target } => {
+            push_name(text, b"rename ", name)?;
+            push_name(text, b" ", target)
+        }
         Request::Counts => text.push_all(b"counts"),
         Request::Purge => text.push_all(b"purge"),
         Request::Resync => text.push_all(b"resync"),

@@ -43,6 +43,8 @@ place_same (entry.D us) row l = counted_place (has_map_uid row.uid us) (row.coun
 place_same (entry.T cs) row l = record { file = refl; offset = refl; size = refl; guid = refl }
 place_same (entry.P f t ms us) row l = absurd l
 place_same (entry.E f) row l = absurd l
+place_same (entry.X b cs) row l = record { file = refl; offset = refl; size = refl; guid = refl }
+place_same (entry.V b n) row l = place_itself row
 
 pub none_dropped : (e : MapEntry) (row : MapRecord) → LeavesPlaces e → record_dropped e row ≡ false
 none_dropped (entry.H h) row l = refl
@@ -54,6 +56,8 @@ none_dropped (entry.D us) row l = refl
 none_dropped (entry.T cs) row l = refl
 none_dropped (entry.P f t ms us) row l = absurd l
 none_dropped (entry.E f) row l = absurd l
+none_dropped (entry.X b cs) row l = refl
+none_dropped (entry.V b n) row l = refl
 
 none_sealed : (e : MapEntry) (files : List ℕ) → LeavesPlaces e → sealed_by e files ≡ files
 none_sealed (entry.H h) files l = refl
@@ -65,6 +69,8 @@ none_sealed (entry.D us) files l = refl
 none_sealed (entry.T cs) files l = refl
 none_sealed (entry.P f t ms us) files l = absurd l
 none_sealed (entry.E f) files l = absurd l
+none_sealed (entry.X b cs) files l = refl
+none_sealed (entry.V b n) files l = refl
 
 -- ---- regions are still there
 

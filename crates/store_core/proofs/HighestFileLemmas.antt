@@ -30,6 +30,8 @@ made_up_to store most (map.D us) le = All-nil (λ (row : MapRecord). guid_file s
 made_up_to store most (map.T cs) le = All-nil (λ (row : MapRecord). guid_file store row.guid ≤ most)
 made_up_to store most (map.P f t ms us) le = All-nil (λ (row : MapRecord). guid_file store row.guid ≤ most)
 made_up_to store most (map.E f) le = All-nil (λ (row : MapRecord). guid_file store row.guid ≤ most)
+made_up_to store most (map.X b cs) le = All-nil (λ (row : MapRecord). guid_file store row.guid ≤ most)
+made_up_to store most (map.V b n) le = All-nil (λ (row : MapRecord). guid_file store row.guid ≤ most)
 
 higher_up_to : (low most : ℕ) (files : List ℕ) → low ≤ most → All (λ n. n ≤ low) files → All (λ n. n ≤ most) files
 higher_up_to low most files le a = All-weaker (λ (n : ℕ). n ≤ low) (λ (n : ℕ). n ≤ most) (λ n l. omega (arith, l, le)) files a
@@ -44,6 +46,8 @@ sealed_up_to store low most (map.D us) files le named a = higher_up_to low most 
 sealed_up_to store low most (map.T cs) files le named a = higher_up_to low most files le a
 sealed_up_to store low most (map.P f t ms us) files le named a = higher_up_to low most files le a
 sealed_up_to store low most (map.E f) files le named a = all_with (λ n. n ≤ most) f.0 files named (higher_up_to low most files le a)
+sealed_up_to store low most (map.X b cs) files le named a = higher_up_to low most files le a
+sealed_up_to store low most (map.V b n) files le named a = higher_up_to low most files le a
 
 up_to_more : (m : MapMeaning) (e : MapEntry) → NamesUpTo m → NamesUpTo (map_applied e m)
 up_to_more m e h =

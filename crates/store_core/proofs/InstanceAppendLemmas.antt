@@ -56,6 +56,8 @@ rows_made P (entry.B b g n) known all names = All-nil (λ (row : MapRecord). All
 rows_made P (entry.G b g) known all names = All-nil (λ (row : MapRecord). All P row.instances)
 rows_made P (entry.P f t ms us) known all names = All-nil (λ (row : MapRecord). All P row.instances)
 rows_made P (entry.E f) known all names = All-nil (λ (row : MapRecord). All P row.instances)
+rows_made P (entry.X b cs) known all names = All-nil (λ (row : MapRecord). All P row.instances)
+rows_made P (entry.V b n) known all names = All-nil (λ (row : MapRecord). All P row.instances)
 
 -- of all instances that records name
 pub of_named : (P : InstRow → Type 0) (rows : List MapRecord) → All (λ row. All P row.instances) rows → All P (flat_map (λ row. row.instances) rows)
@@ -74,6 +76,8 @@ names_made (entry.B b g n) known names = All-nil (IsKnownRow known)
 names_made (entry.G b g) known names = All-nil (IsKnownRow known)
 names_made (entry.P f t ms us) known names = All-nil (IsKnownRow known)
 names_made (entry.E f) known names = All-nil (IsKnownRow known)
+names_made (entry.X b cs) known names = All-nil (IsKnownRow known)
+names_made (entry.V b n) known names = All-nil (IsKnownRow known)
 
 -- where none is named, nothing is asked
 pub names_none : (is : List InstRow) (known : List KnownInstance) → is ≡ [] → All (IsKnownRow known) is
@@ -98,6 +102,8 @@ left_firm (entry.B b g n) m h image firm i = All-nil (λ (row : MapRecord). All 
 left_firm (entry.G b g) m h image firm i = All-nil (λ (row : MapRecord). All (HasSameInstance (files_of h.now) image) row.instances)
 left_firm (entry.P f t ms us) m h image firm i = All-nil (λ (row : MapRecord). All (HasSameInstance (files_of h.now) image) row.instances)
 left_firm (entry.E f) m h image firm i = All-nil (λ (row : MapRecord). All (HasSameInstance (files_of h.now) image) row.instances)
+left_firm (entry.X b cs) m h image firm i = All-nil (λ (row : MapRecord). All (HasSameInstance (files_of h.now) image) row.instances)
+left_firm (entry.V b n) m h image firm i = All-nil (λ (row : MapRecord). All (HasSameInstance (files_of h.now) image) row.instances)
 
 -- ---- each attachment once
 

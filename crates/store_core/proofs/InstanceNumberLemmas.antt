@@ -109,6 +109,8 @@ numbers_drawn (entry.B b g n) value are r ids names = tt
 numbers_drawn (entry.G b g) value are r ids names = tt
 numbers_drawn (entry.P f t ms us) value are r ids names = tt
 numbers_drawn (entry.E f) value are r ids names = tt
+numbers_drawn (entry.X b cs) value are r ids names = tt
+numbers_drawn (entry.V b n) value are r ids names = tt
 
 -- ---- by text
 
@@ -152,6 +154,8 @@ ids_in_text (entry.B b g n) h = tt
 ids_in_text (entry.G b g) h = tt
 ids_in_text (entry.P f t ms us) h = tt
 ids_in_text (entry.E f) h = tt
+ids_in_text (entry.X b cs) h = tt
+ids_in_text (entry.V b n) h = tt
 
 none_by_length : (is : List InstRow) → length is ≡ 0 → All (λ row. IsOctets row.id.0) is
 none_by_length [] none = All-nil (λ (row : InstRow). IsOctets row.id.0)
@@ -170,3 +174,5 @@ ids_if_short (entry.B b g n) r short = tt
 ids_if_short (entry.G b g) r short = tt
 ids_if_short (entry.P f t ms us) r short = tt
 ids_if_short (entry.E f) r short = tt
+ids_if_short (entry.X b cs) r short = tt
+ids_if_short (entry.V b n) r short = tt

@@ -280,6 +280,8 @@ other_made known (entry.B b g n) h first = λ i d lt. All-nil (λ (own : MapReco
 other_made known (entry.G b g) h first = λ i d lt. All-nil (λ (own : MapRecord). own.origin ≡ 0 → All (λ inst. IsOtherThan h.now inst (get_or known i d).row) own.instances)
 other_made known (entry.P f t ms us) h first = λ i d lt. All-nil (λ (own : MapRecord). own.origin ≡ 0 → All (λ inst. IsOtherThan h.now inst (get_or known i d).row) own.instances)
 other_made known (entry.E f) h first = λ i d lt. All-nil (λ (own : MapRecord). own.origin ≡ 0 → All (λ inst. IsOtherThan h.now inst (get_or known i d).row) own.instances)
+other_made known (entry.X b cs) h first = λ i d lt. All-nil (λ (own : MapRecord). own.origin ≡ 0 → All (λ inst. IsOtherThan h.now inst (get_or known i d).row) own.instances)
+other_made known (entry.V b n) h first = λ i d lt. All-nil (λ (own : MapRecord). own.origin ≡ 0 → All (λ inst. IsOtherThan h.now inst (get_or known i d).row) own.instances)
 
 other_with : (known : List KnownInstance) (e : MapEntry) (m : MapMeaning) (h : History) → NamesFirst e known (Some h) → KeepsOther known m (map_applied e m) h.now
 other_with known e m h first = λ i d lt others.
@@ -312,6 +314,8 @@ none_drawn (entry.B b g n) drawn = refl
 none_drawn (entry.G b g) drawn = refl
 none_drawn (entry.P f t ms us) drawn = refl
 none_drawn (entry.E f) drawn = refl
+none_drawn (entry.X b cs) drawn = refl
+none_drawn (entry.V b n) drawn = refl
 
 pub instances_with : {D : Type 0} → (name : FileName) (generation : ℕ) (old new : Option History) (v w : StoreValue D) (e : MapEntry) → HasKnownInstances old v → IsAppendable e → NamesKnown e v.instances.known → NamesFirst e v.instances.known old → name ≡ file.Map generation → SameButFor name old new
     → w.instances ≡ v.instances → w.drawn ≡ drawn_by e v.drawn → w.map ≡ map_applied e v.map → (w.stopped ≡ false → v.stopped ≡ false) → HasKnownInstances new w

@@ -37,6 +37,8 @@ same_box_drawn (entry.B b g n) drawn = refl
 same_box_drawn (entry.G b g) drawn = refl
 same_box_drawn (entry.P f t ms us) drawn = refl
 same_box_drawn (entry.E f) drawn = refl
+same_box_drawn (entry.X b cs) drawn = refl
+same_box_drawn (entry.V b n) drawn = refl
 
 -- an entry was added to the map log that makes no mailbox
 pub made_with_entry : {D : Type 0} → (old new : Option History) (v ready w : StoreValue D) (e : MapEntry) → (r : Readied old ready e) → w.map ≡ map_applied e ready.map → w.drawn ≡ drawn_by e v.drawn → ready.map ≡ v.map

@@ -79,6 +79,8 @@ leaves_places (entry.B b g n) k = tt
 leaves_places (entry.G b g) k = tt
 leaves_places (entry.P f t ms us) k = absurd k
 leaves_places (entry.E f) k = absurd k
+leaves_places (entry.X b cs) k = tt
+leaves_places (entry.V b n) k = tt
 
 same_file_drawn : (e : MapEntry) (drawn : Highest) → (drawn_by e drawn).file ≡ drawn.file
 same_file_drawn (entry.U u) drawn = refl
@@ -90,6 +92,8 @@ same_file_drawn (entry.B b g n) drawn = refl
 same_file_drawn (entry.G b g) drawn = refl
 same_file_drawn (entry.P f t ms us) drawn = refl
 same_file_drawn (entry.E f) drawn = refl
+same_file_drawn (entry.X b cs) drawn = refl
+same_file_drawn (entry.V b n) drawn = refl
 
 -- a log that has more room is read as before
 pub read_roomier : (log : LogState) (room : ℕ) (entries : List (List ℕ)) (h : Option History) → Reads log entries h → Reads (record log { room = room }) entries h
@@ -273,6 +277,8 @@ lies_there (entry.B b g n) k h region = absurd k
 lies_there (entry.G b g) k h region = absurd k
 lies_there (entry.P f t ms us) k h region = absurd k
 lies_there (entry.E f) k h region = absurd k
+lies_there (entry.X b cs) k h region = absurd k
+lies_there (entry.V b n) k h region = absurd k
 
 opens_with : (old new : Option History) (id : List ℕ) (entries : List MapEntry) (logs : List (List BoxEntry)) (generation : ℕ) (a b : LogState) (e : MapEntry) → IfTold old (λ now. Opens (files_of now) id entries logs)
     → IfTold old (λ now. HasRoot (files_of now) id generation) → IsAppendable e → MapInRange e → MapFits (map_meaning id entries) e → HasRegion e old
@@ -418,6 +424,8 @@ some_octets (entry.B b g n) = omega arith
 some_octets (entry.G b g) = omega arith
 some_octets (entry.P f t ms us) = omega arith
 some_octets (entry.E f) = omega arith
+some_octets (entry.X b cs) = omega arith
+some_octets (entry.V b n) = omega arith
 
 pub few_octets : (e : MapEntry) → IsAppendable e → MapInRange e → length (map_text e) ≤ 2 ^ 40
 few_octets (entry.U u) k r = omega arith
@@ -429,3 +437,5 @@ few_octets (entry.B b g n) k r = absurd k
 few_octets (entry.G b g) k r = absurd k
 few_octets (entry.P f t ms us) k r = absurd k
 few_octets (entry.E f) k r = absurd k
+few_octets (entry.X b cs) k r = absurd k
+few_octets (entry.V b n) k r = absurd k

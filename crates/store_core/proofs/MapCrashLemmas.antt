@@ -72,6 +72,8 @@ keeps_form (entry.B b g n) h ready = tt
 keeps_form (entry.G b g) h ready = tt
 keeps_form (entry.P f t ms us) h ready = tt
 keeps_form (entry.E f) h ready = tt
+keeps_form (entry.X b cs) h ready = tt
+keeps_form (entry.V b n) h ready = tt
 
 -- what is known of its instances
 abbrev NamesInstances : MapEntry → List KnownInstance → MapMeaning → DiskState → Type 0
@@ -88,6 +90,8 @@ names_known (entry.B b g n) known m h names first firm = tt
 names_known (entry.G b g) known m h names first firm = tt
 names_known (entry.P f t ms us) known m h names first firm = tt
 names_known (entry.E f) known m h names first firm = tt
+names_known (entry.X b cs) known m h names first firm = tt
+names_known (entry.V b n) known m h names first firm = tt
 
 can_append : (disk : DiskState) (known : List KnownInstance) (id : List ℕ) (entries : List MapEntry) (lists : Lists) (e : MapEntry) → SafeBy (files_of disk) id entries lists → IsAppendable e → KeepsForm e (files_of disk) → MapInRange e → MapFits (map_meaning id entries) e → All (LiesInFile (files_of disk)) (record_made e)
     → KnowsNamed known (map_meaning id entries) disk → NamesInstances e known (map_meaning id entries) disk
@@ -111,6 +115,8 @@ can_append disk known id entries lists (entry.B b g n) s k form in_range fits li
 can_append disk known id entries lists (entry.G b g) s k form in_range fits lies knows names counts = absurd k
 can_append disk known id entries lists (entry.P f t ms us) s k form in_range fits lies knows names counts = absurd k
 can_append disk known id entries lists (entry.E f) s k form in_range fits lies knows names counts = absurd k
+can_append disk known id entries lists (entry.X b cs) s k form in_range fits lies knows names counts = absurd k
+can_append disk known id entries lists (entry.V b n) s k form in_range fits lies knows names counts = absurd k
 
 -- of a disk that opens with these entries
 append_with : (disk : DiskState) (lists : Lists) (s : IsSettled disk lists) (id : List ℕ) (entries : List MapEntry) (logs : List (List BoxEntry)) (e : MapEntry) → Opens (files_of disk) id entries logs → IsAppendable e → KeepsForm e (files_of disk) → MapInRange e
@@ -136,6 +142,8 @@ added_synced (entry.B b g n) k h synced same = absurd k
 added_synced (entry.G b g) k h synced same = absurd k
 added_synced (entry.P f t ms us) k h synced same = absurd k
 added_synced (entry.E f) k h synced same = absurd k
+added_synced (entry.X b cs) k h synced same = absurd k
+added_synced (entry.V b n) k h synced same = absurd k
 
 -- ---- the log
 

@@ -46,6 +46,8 @@ adds (entry.B b g n) k = absurd k
 adds (entry.G b g) k = absurd k
 adds (entry.P f t ms us) k = absurd k
 adds (entry.E f) k = absurd k
+adds (entry.X b cs) k = absurd k
+adds (entry.V b n) k = absurd k
 
 -- no mailbox is made
 pub no_box : (e : MapEntry) → IsAppendable e → box_made e ≡ []
@@ -58,6 +60,8 @@ no_box (entry.B b g n) k = absurd k
 no_box (entry.G b g) k = absurd k
 no_box (entry.P f t ms us) k = absurd k
 no_box (entry.E f) k = absurd k
+no_box (entry.X b cs) k = absurd k
+no_box (entry.V b n) k = absurd k
 
 pub logs_stay : (e : MapEntry) → IsAppendable e → (logs : List (List BoxEntry)) → logs_made e logs ≡ logs
 logs_stay e k logs = ap (λ (boxes : List MapBox). logs ++ map (λ box. let log : List BoxEntry = [] in log) boxes) (no_box e k) ∙ append-nil logs
@@ -72,6 +76,8 @@ mailboxes_stay (entry.B b g n) k m = absurd k
 mailboxes_stay (entry.G b g) k m = absurd k
 mailboxes_stay (entry.P f t ms us) k m = absurd k
 mailboxes_stay (entry.E f) k m = absurd k
+mailboxes_stay (entry.X b cs) k m = absurd k
+mailboxes_stay (entry.V b n) k m = absurd k
 
 -- ---- records
 
@@ -91,6 +97,8 @@ found_with (entry.B b g n) k m uid row f = absurd k
 found_with (entry.G b g) k m uid row f = absurd k
 found_with (entry.P f t ms us) k m uid row h = absurd k
 found_with (entry.E f) k m uid row h = absurd k
+found_with (entry.X b cs) k m uid row h = absurd k
+found_with (entry.V b n) k m uid row h = absurd k
 
 -- and the last one, if its map uid is new
 found_last : (uid : ℕ) (rows : List MapRecord) (row : MapRecord) → row.uid ≡ uid → All (λ r. r.uid < uid) rows → find (λ r. r.uid == uid) (rows ++ row ∷ []) ≡ Some row
@@ -113,6 +121,8 @@ found_made (entry.B b g n) k m sound fits = absurd k
 found_made (entry.G b g) k m sound fits = absurd k
 found_made (entry.P f t ms us) k m sound fits = absurd k
 found_made (entry.E f) k m sound fits = absurd k
+found_made (entry.X b cs) k m sound fits = absurd k
+found_made (entry.V b n) k m sound fits = absurd k
 
 -- ---- numbers at records that change
 
@@ -213,6 +223,8 @@ map_dues_each (entry.B b g n) k m ns each = absurd k
 map_dues_each (entry.G b g) k m ns each = absurd k
 map_dues_each (entry.P f t ms us) k m ns each = absurd k
 map_dues_each (entry.E f) k m ns each = absurd k
+map_dues_each (entry.X b cs) k m ns each = absurd k
+map_dues_each (entry.V b n) k m ns each = absurd k
 
 -- for each map uid it is the number that the entry makes
 pub map_due_is : (e : MapEntry) → IsAppendable e → (m : MapMeaning) (ns : List ℕ) (uid : ℕ) → IsSoundMap m → MapFits m e → OneEach m.records ns
@@ -241,6 +253,8 @@ map_due_is (entry.B b g n) k m ns uid sound fits each = absurd k
 map_due_is (entry.G b g) k m ns uid sound fits each = absurd k
 map_due_is (entry.P f t ms us) k m ns uid sound fits each = absurd k
 map_due_is (entry.E f) k m ns uid sound fits each = absurd k
+map_due_is (entry.X b cs) k m ns uid sound fits each = absurd k
+map_due_is (entry.V b n) k m ns uid sound fits each = absurd k
 
 numbers_as : (f g : ℕ → ℕ) (rows : List MapRecord) (ns : List ℕ) → ((uid : ℕ) → f uid ≡ g uid) → AreNumbers f rows ns → AreNumbers g rows ns
 numbers_as f g [] [] same a = tt
@@ -281,6 +295,8 @@ may_change (entry.B b g n) k due leak listed logs fits same new = absurd k
 may_change (entry.G b g) k due leak listed logs fits same new = absurd k
 may_change (entry.P f t ms us) k due leak listed logs fits same new = absurd k
 may_change (entry.E f) k due leak listed logs fits same new = absurd k
+may_change (entry.X b cs) k due leak listed logs fits same new = absurd k
+may_change (entry.V b n) k due leak listed logs fits same new = absurd k
 
 -- the record that is made is new
 pub new_record : (e : MapEntry) → IsAppendable e → (m : MapMeaning) → IsSoundMap m → MapFits m e → All (λ row. All (λ r. r.uid < row.uid) m.records) (record_made e)
@@ -294,6 +310,8 @@ new_record (entry.B b g n) k m sound fits = absurd k
 new_record (entry.G b g) k m sound fits = absurd k
 new_record (entry.P f t ms us) k m sound fits = absurd k
 new_record (entry.E f) k m sound fits = absurd k
+new_record (entry.X b cs) k m sound fits = absurd k
+new_record (entry.V b n) k m sound fits = absurd k
 
 -- ---- the leak
 
@@ -346,6 +364,8 @@ leak_none (entry.B b g n) k leak uid none = absurd k
 leak_none (entry.G b g) k leak uid none = absurd k
 leak_none (entry.P f t ms us) k leak uid none = absurd k
 leak_none (entry.E f) k leak uid none = absurd k
+leak_none (entry.X b cs) k leak uid none = absurd k
+leak_none (entry.V b n) k leak uid none = absurd k
 
 -- no record is lost
 pub lost_with : (e : MapEntry) → IsAppendable e → (m : MapMeaning) (uid : ℕ) → record_at (map_applied e m) uid ≡ None → record_at m uid ≡ None
@@ -400,3 +420,5 @@ drawn_up_to (entry.B b g n) k m drawn sound fits d numbers up = absurd k
 drawn_up_to (entry.G b g) k m drawn sound fits d numbers up = absurd k
 drawn_up_to (entry.P f t ms us) k m drawn sound fits d numbers up = absurd k
 drawn_up_to (entry.E f) k m drawn sound fits d numbers up = absurd k
+drawn_up_to (entry.X b cs) k m drawn sound fits d numbers up = absurd k
+drawn_up_to (entry.V b n) k m drawn sound fits d numbers up = absurd k

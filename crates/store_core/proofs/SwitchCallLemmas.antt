@@ -70,6 +70,8 @@ of_parts h v (entry.H x) n s running is in_range fits drawn places copies = absu
 of_parts h v (entry.B b g x) n s running is in_range fits drawn places copies = absurd is
 of_parts h v (entry.G b g) n s running is in_range fits drawn places copies = absurd is
 of_parts h v (entry.E f) n s running is in_range fits drawn places copies = absurd is
+of_parts h v (entry.X b cs) n s running is in_range fits drawn places copies = absurd is
+of_parts h v (entry.V b x) n s running is in_range fits drawn places copies = absurd is
 
 -- by what the caller sees
 pub switch_of : {D : Type 0} → (h : Option History) (v now : StoreValue D) (e : MapEntry) (n : ℕ) → IsStore h v → v ≡ now → AreFilesInOrder v.files → now.stopped ≡ false → Switches e n → MapInRange e → MapFits now.map e → is_emptied_in n now.files.files ≡ true

@@ -1,5 +1,6 @@
 -- What calls and events leave to tasks that have begun.
 use Rattle.std.specs.Prelude.{◌≡◌, ◌⊎◌, ◌<◌, ◌≤◌, ◌+◌, ℕ, List, count_by, map, Option, Some}
+use Rattle.std.specs.Option.{IfSome}
 use Rattle.std.specs.Str.{bytes_eq}
 use Rattle.disk_model.specs.Disk.{DiskState, History, Between, named, reading}
 use Rattle.disk_model.specs.declared.name.FileName.TheVariants as file
@@ -12,7 +13,6 @@ use Rattle.sis_store.specs.Comparing.{IsUnlikeCompared}
 use Rattle.sis_store.specs.Instances.{holders_in}
 use Rattle.sis_store.specs.OnDisk.{instance_file}
 use Rattle.store_core.specs.StoreInstances.{AreInstancesFirm, IsKnownRow, IsFirstKnown}
-use Rattle.std.specs.Option.{IfSome}
 use Rattle.store_core.specs.Value.{StoreValue, list_numbered}
 
 -- each storage file and each instance is as it was

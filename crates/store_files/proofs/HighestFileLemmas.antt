@@ -45,6 +45,8 @@ no_last m (map.P file target ms us) f = λ e.
     let y = no_target m file.0 target ms f.target_fits in
     omega (arith, x, y, e)
 no_last m (map.E file) f = λ e. let x = f.high in omega (arith, x, e)
+no_last m (map.X b cs) f = λ e. omega (arith, e)
+no_last m (map.V b n) f = λ e. omega (arith, e)
 
 highest_last : (store : List ℕ) (before entries : List MapEntry) (most : Highest) → most.file ≢ 4294967295 → AllMapFit store before entries → (fold (λ most entry. higher most (numbers_of store entry)) most entries).file ≢ 4294967295
 highest_last store before [] most p f = p
@@ -70,6 +72,8 @@ sealed_up store (map.T cs) files most all = raised most (numbers_of store (map.T
 sealed_up store (map.P f t ms us) files most all = raised most (numbers_of store (map.P f t ms us)) files all
 sealed_up store (map.E file) files most all =
     all_with (UpTo (higher most (numbers_of store (map.E file)))) file.0 files (omega arith) (raised most (numbers_of store (map.E file)) files all)
+sealed_up store (map.X b cs) files most all = raised most (numbers_of store (map.X b cs)) files all
+sealed_up store (map.V b n) files most all = raised most (numbers_of store (map.V b n)) files all
 
 sealed_from : (store : List ℕ) (entries : List MapEntry) (files : List ℕ) (most : Highest) → All (UpTo most) files
     → All (UpTo (fold (λ most entry. higher most (numbers_of store entry)) most entries)) (fold (λ fs entry. sealed_by entry fs) files entries)

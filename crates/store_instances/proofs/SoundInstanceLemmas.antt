@@ -50,6 +50,8 @@ no_last m (map.D us) f = λ e. omega (arith, e)
 no_last m (map.T cs) f = λ e. omega (arith, e)
 no_last m (map.P file target ms us) f = λ e. omega (arith, e)
 no_last m (map.E file) f = λ e. omega (arith, e)
+no_last m (map.X b cs) f = λ e. omega (arith, e)
+no_last m (map.V b n) f = λ e. omega (arith, e)
 
 highest_last : (store : List ℕ) (before entries : List MapEntry) (most : Highest) → most.instance ≢ 4294967295 → AllMapFit store before entries → (fold (λ most entry. higher most (numbers_of store entry)) most entries).instance ≢ 4294967295
 highest_last store before [] most p f = p
@@ -84,6 +86,8 @@ made_up_to store most (map.D us) le = All-nil (UpTo store most)
 made_up_to store most (map.T cs) le = All-nil (UpTo store most)
 made_up_to store most (map.P f t ms us) le = All-nil (UpTo store most)
 made_up_to store most (map.E f) le = All-nil (UpTo store most)
+made_up_to store most (map.X b cs) le = All-nil (UpTo store most)
+made_up_to store most (map.V b n) le = All-nil (UpTo store most)
 
 abbrev NamesUpTo : MapMeaning → Type 0
 NamesUpTo m = All (UpTo m.store m.highest.instance) m.records

@@ -1,5 +1,6 @@
 pub mod CountedLemmas
 pub mod LeftLemmas
+pub mod NameLemmas
 pub mod OpenedLemmas
 pub mod RestLemmas
 pub mod StayLemmas

@@ -19,7 +19,7 @@ use Rattle.store_core.proofs.InstanceKeepingLemmas.{kept_same}
 use Rattle.store_core.proofs.KnownInstanceLemmas.{firm_same}
 use Rattle.store_core.proofs.MailChangeLemmas.{named_reads}
 use Rattle.task_claims.specs.Claims.{Claims, ClaimsNothing, Due, Emptied, Held, Made, MovesClaims, Pinned, PlacingPieces, Removing, Taken, Thing, amount_in, claims_of_dues}
-use Rattle.task_claims.specs.Leaving.{HasRegionOctets, HaveSameInstances, LeavesRecord, LeavesFile, LeavesInstance, OnlyGrows, IsSameOrSynced, LeavesOthers, LeavesUnlisted, PlacesFew, RaisesNone, SameButCounts, SyncsMail, but_count}
+use Rattle.task_claims.specs.Leaving.{HasRegionOctets, HaveSameInstances, LeavesRecord, LeavesFile, LeavesInstance, OnlyGrows, IsSameOrSynced, NamesStay, LeavesOthers, LeavesUnlisted, PlacesFew, RaisesNone, SameButCounts, SyncsMail, but_count}
 use Rattle.task_claims.proofs.CountedLemmas.{all_same, found_same, rows_same, unraised_same}
 
 -- ---- records
@@ -99,9 +99,9 @@ counts_name (row ∷ rows) = ap (λ (ps : List (ℕ × List InstRow)). origin_an
 pub counts_name_same : (m n : MapMeaning) → SameButCounts m n → NameTheSame m n
 counts_name_same m n same = sym (counts_name n.records) ∙ ap (map origin_and_names) same ∙ counts_name m.records
 
-pub rest_leaves : {D : Type 0} → (mine : Claims) (old new : StoreValue D) (before after : Option History) → new.files ≡ old.files → new.instances ≡ old.instances → SyncsMail before after → SameButCounts old.map new.map → RaisesNone old.map new.map → old.map.highest.mailbox ≤ new.map.highest.mailbox → KeepsUids old new → old.map_log.room ≤ new.map_log.room → LeavesUnlisted mine old new
+pub rest_leaves : {D : Type 0} → (mine : Claims) (old new : StoreValue D) (before after : Option History) → new.files ≡ old.files → new.instances ≡ old.instances → SyncsMail before after → SameButCounts old.map new.map → RaisesNone old.map new.map → old.map.highest.mailbox ≤ new.map.highest.mailbox → NamesStay old.map new.map → KeepsUids old new → old.map_log.room ≤ new.map_log.room → LeavesUnlisted mine old new
     → LeavesOthers mine old new before after
-rest_leaves mine old new before after files instances mail same unraised mailboxes uids room unlisted =
+rest_leaves mine old new before after files instances mail same unraised mailboxes names uids room unlisted =
     let firm = firm_same old new before after instances (counts_name_same old.map new.map same) (between-map Mails SyncsInstances before after (λ a b m. m.1) mail) in
     let keeps = kept_same old new before after instances (between-map Mails ReadsInstances before after (λ a b m hash id. synced_reads (a (file.Inst hash id)) (b (file.Inst hash id)) (m.1 hash id)) mail) firm in
     record {
@@ -114,6 +114,7 @@ rest_leaves mine old new before after files instances mail same unraised mailbox
       store = keeps.store;
       numbers = subst (λ (v : InstancesValue). PlacesFew old.instances v) (sym instances) (none_placed old.instances);
       mailboxes = mailboxes;
+      names = names;
       compared = keeps.compared;
       firm = firm;
       uids = uids;
@@ -124,8 +125,8 @@ rest_leaves mine old new before after files instances mail same unraised mailbox
 -- an event that changes nothing
 pub idle_leaves : {D : Type 0} → (mine : Claims) (store : StoreValue D) (before after : Option History) → IsIdle before after → LeavesOthers mine store store before after
 idle_leaves mine store before after idle =
-    rest_leaves mine store store before after refl refl (between-map (λ a b. b ≡ a) Mails before after (λ a b e. ((λ number. inl (ap (λ (d : DiskState). d (file.Mail number)) e)), (λ hash id. inl (ap (λ (d : DiskState). d (file.Inst hash id)) e)))) idle.same) refl (unraised_same store.map store.map refl) (stays store.map.highest.mailbox)
-    (λ name uid held k. k) (stays store.map_log.room) (λ uid rec none found listed. (listed, refl))
+    rest_leaves mine store store before after refl refl (between-map (λ a b. b ≡ a) Mails before after (λ a b e. ((λ number. inl (ap (λ (d : DiskState). d (file.Mail number)) e)), (λ hash id. inl (ap (λ (d : DiskState). d (file.Inst hash id)) e)))) idle.same) refl (unraised_same store.map store.map refl) (stays store.map.highest.mailbox) (λ name number is. is)
+    (λ number uid held k. k) (stays store.map_log.room) (λ uid rec none found listed. (listed, refl))
 
 -- ---- claims
 

@@ -1,12 +1,12 @@
 // Claims of tasks beside each other.
-ghost use Rattle.std.specs.Prelude.{◌≡◌, ◌≢◌, ◌≤◌, ◌<◌, ◌+◌, ℕ, true, List, [], length, slice_index_or, slice_set, Option, Some};
+ghost use Rattle.std.specs.Prelude.{◌≡◌, ◌≢◌, ◌≤◌, ◌<◌, ◌+◌, ◌++◌, ℕ, true, List, [], length, slice_index_or, slice_set, Option, Some};
 ghost use Rattle.disk_model.specs.Disk.{History, IsIdle};
 ghost use Rattle.mdbox_base.specs.declared.entries.InstRow.{InstRow};
 ghost use Rattle.mdbox_base.specs.declared.entries.MapEntry.TheVariants as map_entry;
 ghost use Rattle.mdbox_base.specs.declared.ids.InstId.{InstId};
 ghost use Rattle.mdbox_base.specs.declared.ids.MapUid.{MapUid};
 ghost use Rattle.model_meaning.specs.MapFits.{MapFits};
-ghost use Rattle.model_meaning.specs.MapMeaning.{MapMeaning, MapRecord, map_applied, record_at};
+ghost use Rattle.model_meaning.specs.MapMeaning.{MapBox, MapMeaning, MapRecord, map_applied, record_at};
 ghost use Rattle.sis_store.specs.Instances.{holders_in};
 ghost use Rattle.storage_files.specs.Files.{is_emptied_in, is_taken_in, pins_in};
 ghost use Rattle.store_core.specs.Dues.{IsSpared, due_at};
@@ -15,7 +15,7 @@ ghost use Rattle.store_core.specs.MadeLogs.{has_made_log};
 ghost use Rattle.store_core.specs.StoreInstances.{IsKnownRow};
 ghost use Rattle.store_core.specs.Value.{StoreValue};
 ghost use Rattle.task_claims.specs.Claims.{AddsUp, AreIn, Claims, ClaimsNothing, Due, Emptied, HasNoTask, Held, Made, MovesClaims, Pinned, Removing, Taken, both_claims, claims_of_dues, is_to_remove, no_claims};
-ghost use Rattle.task_claims.specs.Leaving.{LeavesFile, LeavesInstance, OnlyGrows, LeavesRecord, LeavesOthers, LeavesUnlisted, RaisesNone, SameButCounts, SyncsMail};
+ghost use Rattle.task_claims.specs.Leaving.{NamesStay, LeavesFile, LeavesInstance, OnlyGrows, LeavesRecord, LeavesOthers, LeavesUnlisted, RaisesNone, SameButCounts, SyncsMail};
 ghost use Rattle.task_claims.specs.Stable.{Beside};
 
 /// What two tasks claim stays among what all claim, as one of them goes on.
@@ -58,11 +58,17 @@ pub fn counts_leave_records()
     ensures never { (uids : List MapUid) (m : MapMeaning) → RaisesNone m (map_applied (map_entry.D uids) m) }
 {}
 
+/// Each name names the mailbox that it named, where the mailboxes of the map stay, and further ones are made behind them.
+pub fn mailboxes_keep_names()
+    ensures stay { (m n : MapMeaning) → n.boxes ≡ m.boxes → NamesStay m n }
+    ensures made { (m n : MapMeaning) (made : List MapBox) → n.boxes ≡ m.boxes ++ made → NamesStay m n }
+{}
+
 /// An event that leaves the storage files and the instances as they were but for synced names, and of each record all but its count,
-/// leaves to the other tasks what is theirs, if it raises no count of 0, leaves unlisted records so, and the map log no less room. One that changes nothing
+/// leaves to the other tasks what is theirs, if it raises no count of 0, leaves unlisted records so, each name to its mailbox, and the map log no less room. One that changes nothing
 /// does. Where no more of the value changes than what logs mean and what is due, the claims are those of dues.
 pub fn log_events_leave_others<D>()
-    ensures logs { (mine : Claims) (old new : StoreValue D) (before after : Option History) → new.files ≡ old.files → new.instances ≡ old.instances → SyncsMail before after → SameButCounts old.map new.map → RaisesNone old.map new.map → old.map.highest.mailbox ≤ new.map.highest.mailbox → KeepsUids old new → old.map_log.room ≤ new.map_log.room → LeavesUnlisted mine old new
+    ensures logs { (mine : Claims) (old new : StoreValue D) (before after : Option History) → new.files ≡ old.files → new.instances ≡ old.instances → SyncsMail before after → SameButCounts old.map new.map → RaisesNone old.map new.map → old.map.highest.mailbox ≤ new.map.highest.mailbox → NamesStay old.map new.map → KeepsUids old new → old.map_log.room ≤ new.map_log.room → LeavesUnlisted mine old new
         → LeavesOthers mine old new before after }
     ensures dues { (mine mine_now : ℕ → ℕ) (old new : StoreValue D) → ((uid : ℕ) → due_at uid new + mine uid ≡ due_at uid old + mine_now uid) → KeepsRest old new → MovesClaims (claims_of_dues mine) (claims_of_dues mine_now) old new }
     ensures idle { (mine : Claims) (store : StoreValue D) (before after : Option History) → IsIdle before after → LeavesOthers mine store store before after }

@@ -36,6 +36,8 @@ place_stays (map_entry.D us) row e = either (has_map_uid row.uid us) row (record
 place_stays (map_entry.T cs) row e = (refl, refl, refl, refl)
 place_stays (map_entry.P f t ms us) row e = absurd (let k : true ≡ false = e in cc k)
 place_stays (map_entry.E f) row e = (refl, refl, refl, refl)
+place_stays (map_entry.X m cs) row e = (refl, refl, refl, refl)
+place_stays (map_entry.V m n) row e = (refl, refl, refl, refl)
 
 none_dropped : (entry : MapEntry) (row : MapRecord) → moves_records entry ≡ false → not (record_dropped entry row) ≡ true
 none_dropped (map_entry.H h) row e = refl
@@ -47,6 +49,8 @@ none_dropped (map_entry.D us) row e = refl
 none_dropped (map_entry.T cs) row e = refl
 none_dropped (map_entry.P f t ms us) row e = absurd (let k : true ≡ false = e in cc k)
 none_dropped (map_entry.E f) row e = refl
+none_dropped (map_entry.X m cs) row e = refl
+none_dropped (map_entry.V m n) row e = refl
 
 all_pass : (p : MapRecord → Bool) (rows : List MapRecord) → ((row : MapRecord) → p row ≡ true) → filter p rows ≡ rows
 all_pass p [] h = refl

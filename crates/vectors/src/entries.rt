@@ -4,7 +4,7 @@ use log_records::{
     push_box_entry, push_map_entry, push_root_entry, read_box_entry, read_map_entry,
     read_root_entry,
 };
-use mdbox_base::{BoxEntry, InstRow, MapEntry, NoMemory, Octets, RootEntry, Seq};
+use mdbox_base::{BoxEntry, InstRow, MapCount, MapEntry, NoMemory, Octets, RootEntry, Seq};
 use std::alloc::Global;
 
 /// An entry of the root log, and whether it is written as it was read.
@@ -95,6 +95,11 @@ fn push_map(alloc: Global, out: &mut String, entry: &MapEntry) -> Result<(), NoM
             let text = format!(in alloc; "make mailbox {mailbox}, log {generation}, ")?;
             push_octets(out, text.as_str(), name.as_octets())
         }
+        MapEntry::V { mailbox, name } => {
+            let mailbox = mailbox.0;
+            let text = format!(in alloc; "rename mailbox {mailbox}, ")?;
+            push_octets(out, text.as_str(), name.as_octets())
+        }
         _ => {
             let text = number_text(alloc, entry)?;
             push_line(out, text.as_str())
@@ -183,10 +188,7 @@ fn listed_text(alloc: Global, entry: &MapEntry) -> Result<String, NoMemory> {
         }
         MapEntry::T { counts } => {
             text.push_str("counts")?;
-            for given in counts.as_slice() {
-                push_number(alloc, &mut text, " ", given.uid.0)?;
-                push_number(alloc, &mut text, ":", u32::from(given.count))?;
-            }
+            push_counts(alloc, &mut text, counts.as_slice())?;
         }
         MapEntry::P {
             file,
@@ -206,9 +208,23 @@ fn listed_text(alloc: Global, entry: &MapEntry) -> Result<String, NoMemory> {
                 push_number(alloc, &mut text, " ", uid.0)?;
             }
         }
+        MapEntry::X { mailbox, amounts } => {
+            push_number(alloc, &mut text, "delete mailbox ", mailbox.0)?;
+            text.push_str(", lower")?;
+            push_counts(alloc, &mut text, amounts.as_slice())?;
+        }
         _ => {}
     }
     Ok(text)
+}
+
+/// Adds map uids, each with its number.
+fn push_counts(alloc: Global, text: &mut String, counts: &[MapCount]) -> Result<(), NoMemory> {
+    for given in counts {
+        push_number(alloc, text, " ", given.uid.0)?;
+        push_number(alloc, text, ":", u32::from(given.count))?;
+    }
+    Ok(())
 }
 
 fn push_number(alloc: Global, text: &mut String, word: &str, number: u32) -> Result<(), NoMemory> {

@@ -32,7 +32,7 @@ pub fn with_message(alloc: Global, octets: &[u8]) -> Result<Option<PlainLists>, 
         next_uid: 2,
         messages: vec![in alloc; message]?,
     };
-    Ok(Some(PlainLists::of(vec![in alloc; inbox]?)))
+    Ok(Some(PlainLists::of(vec![in alloc; inbox]?, 1)))
 }
 
 /// Does a step, and tells its reply. False if it isn't written as it is to be.
@@ -43,14 +43,9 @@ pub fn step(
     line: &str,
 ) -> Result<bool, NoMemory> {
     let (word, line) = line.split_once(' ').unwrap_or((line, ""));
-    let (name, line) = line.split_once(' ').unwrap_or((line, ""));
-    let Some(name) = name_of(alloc, name.as_bytes())? else {
-        return Ok(false);
-    };
     let reply = match word {
-        "make" => Some(lists.make(alloc, name)?),
-        "list" => Some(lists.list(alloc, &name)?),
-        _ => of_message(alloc, lists, word, &name, line)?,
+        "moved" => of_number(lists, line),
+        _ => of_name(alloc, lists, word, line)?,
     };
     match reply {
         Some(reply) => {
@@ -58,6 +53,39 @@ pub fn step(
             Ok(true)
         }
         None => Ok(false),
+    }
+}
+
+/// The second half of a move: the number of its mailbox, its UID and that of its copy. None if it isn't written as it is to be.
+fn of_number(lists: &mut PlainLists, line: &str) -> Option<Reply> {
+    let (source, line) = line.split_once(' ')?;
+    let (uid, copied) = line.split_once(' ')?;
+    let source = source.parse::<u32>().ok()?;
+    let uid = uid.parse::<u32>().ok()?;
+    let copied = copied.parse::<u32>().ok()?;
+    Some(lists.second_half(BoxNo(source), Uid(uid), Uid(copied)))
+}
+
+/// A step that names a mailbox. None if it isn't written as it is to be.
+fn of_name(
+    alloc: Global,
+    lists: &mut PlainLists,
+    word: &str,
+    line: &str,
+) -> Result<Option<Reply>, NoMemory> {
+    let (name, line) = line.split_once(' ').unwrap_or((line, ""));
+    let Some(name) = name_of(alloc, name.as_bytes())? else {
+        return Ok(None);
+    };
+    match word {
+        "make" => Ok(Some(lists.make(alloc, name)?)),
+        "list" => Ok(Some(lists.list(alloc, &name)?)),
+        "delete" => Ok(Some(lists.delete(&name))),
+        "rename" => match name_of(alloc, line.as_bytes())? {
+            Some(target) => Ok(Some(lists.rename(&name, target))),
+            None => Ok(None),
+        },
+        _ => of_message(alloc, lists, word, &name, line),
     }
 }
 
@@ -102,16 +130,11 @@ fn to_target(
     uid: Uid,
     line: &str,
 ) -> Result<Option<Reply>, NoMemory> {
-    let (target, copied) = line.split_once(' ').unwrap_or((line, ""));
-    let Some(target) = name_of(alloc, target.as_bytes())? else {
+    let Some(target) = name_of(alloc, line.as_bytes())? else {
         return Ok(None);
     };
     match word {
         "copy" => Ok(Some(lists.copy(alloc, name, uid, &target)?)),
-        "moved" => match copied.parse::<u32>() {
-            Ok(copied) => Ok(Some(lists.second_half(name, uid, &target, Uid(copied)))),
-            Err(_) => Ok(None),
-        },
         _ => Ok(None),
     }
 }
@@ -153,6 +176,7 @@ fn push_row(alloc: Global, out: &mut String, row: &ListRow) -> Result<(), NoMemo
 fn name_of_refusal(refusal: Refusal) -> &'static str {
     match refusal {
         Refusal::NoMailbox => "NO no mailbox",
+        Refusal::Inbox => "NO inbox",
         Refusal::Exists => "NO exists",
         Refusal::NoMessage => "NO no message",
         _ => "NO another refusal",

@@ -12,6 +12,9 @@ returns-in-Err-clause-refused g c = no_room_refuses c.args.name.now c.args.uid.0
     (sym c.list_of.ensures ∙ ap (λ o. option_map (λ (i : BoxState). i.meaning) (option_copied o)) c.in-Some.is) (sym c.list_of-2.ensures ∙ ap (λ o. option_map (λ (i : BoxState). i.meaning) (option_copied o)) c.in-Some-list_of.is)
     (sym c.find.ensures ∙ ap (option_map row_of) c.in-Some-find.is) (subst (λ r. IfErr r (λ w. room_refusal c.in-Some-list_of.to.now.meaning ≡ Some w)) c.in-Err.is c.next_of.ensures.refused)
 
+pub returns-clause-source : goal.returns-clause-source
+returns-clause-source g c = c.in-Some-number_of.ensures.some.1
+
 pub returns-clause-found : goal.returns-clause-found
 returns-clause-found g c =
     let source = sym c.list_of.ensures ∙ ap (λ o. option_map (λ (i : BoxState). i.meaning) (option_copied o)) c.in-Some.is in

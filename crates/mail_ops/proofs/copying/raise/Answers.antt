@@ -1,8 +1,10 @@
-use Rattle.std.proofs.Common.{◌∙◌, sym, ap, arith}
+use Rattle.std.proofs.Common.{ℕ, refl, ◌∙◌, sym, ap, subst, arith}
 use Rattle.box_index.specs.Row.{row_of}
+use Rattle.store_core.specs.Keeping.{KeepsUid}
 use Rattle.store_core.specs.Value.{indexes_of}
 use Rattle.task_steps.proofs.OneEventLemmas.{not_true, ok_is_none}
 use Rattle.mail_ops.proofs.CopyCallLemmas.{raise_fits, keeps_row}
+use Rattle.mail_ops.proofs.MessageLemmas.{from_source}
 use Rattle.mail_ops.proofs.copying.raise.Goals as goal
 
 pub append_map-requires-clause-fits : goal.append_map-requires-clause-fits
@@ -13,14 +15,16 @@ returns-in-Ok-clause-raised g c =
     let o = c.in-Ok.ensures in
     let at = c.in_ok-at.ensures.found in
     let holds = ap (λ u. u.0) c.in_ok-held.ensures in
+    let same = from_source c.args.name.now at.source c.in_ok-at.at.source.0 at.source c.args.store.now at.from.box.number_is c.in_ok-at.ensures.source refl in
     record {
       row = row_of c.in_ok-at.at.row;
       number = c.in_ok-at.at.target.0;
       next = c.in_ok-at.at.next.0;
       at = at;
+      source_is = same;
       holds = holds;
       few = omega (arith, c.count_of.ensures, c.if-count_of-ge-MOST_COPIES.false);
-      keeps = keeps_row _ c.args.store.now c.args.name.now c.args.uid.0 at.source c.in_ok-held.held.0 (row_of c.in_ok-at.at.row) c.facts.ensures.store at.from holds;
+      keeps = subst (λ (n : ℕ). KeepsUid n c.args.uid.0 c.in_ok-held.held.0 c.args.store.now) same (keeps_row _ c.args.store.now c.args.name.now c.args.uid.0 at.source c.in_ok-held.held.0 (row_of c.in_ok-at.at.row) c.facts.ensures.store at.from holds);
       took = record {
         appends = record {
           moments = λ lists s. o.any_moment lists tt tt s;

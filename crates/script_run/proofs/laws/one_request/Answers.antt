@@ -1,4 +1,5 @@
-use Rattle.script_run.proofs.ToldLemmas.{few_steps, serves_one, settles_one, told_left}
+use Rattle.script_run.proofs.LeftLemmas.{settles_one, told_left}
+use Rattle.script_run.proofs.ToldLemmas.{few_steps, serves_one}
 use Rattle.script_run.proofs.laws.one_request.Goals as goal
 
 pub returns-clause-serves : goal.returns-clause-serves

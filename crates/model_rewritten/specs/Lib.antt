@@ -1,0 +1,5 @@
+pub mod CarriedStore
+pub mod OtherMap
+pub mod Rewriting
+pub mod Switched
+pub mod Unneeded
