@@ -30,20 +30,22 @@ check:
 cases:
 	tools/cases
 
-# Writes the lists of files in the crates' READMEs, and the index of definitions in docs/model.md.
+# Writes the lists of files in the crates' READMEs. `tools/index NAME` prints where a name is defined, and who uses it.
 index:
 	tools/index
 
-# Puts the program that `make` left here below PREFIX, with a man page that is made of what `mdbox --help` prints; `make uninstall`
-# removes both. DESTDIR stands before PREFIX, for packages.
+# Puts the program that `make` left here below PREFIX, with mdbox-lda, which delivers for a mail server, and a man page that is made of
+# what `mdbox --help` prints; `make uninstall` removes all three. DESTDIR stands before PREFIX, for packages.
 install:
 	@test -x mdbox || { echo "make install: run make first, which proves and builds the program" >&2; exit 1; }
+	@./mdbox --version 2>&1 | grep -q '^proved by ' || { echo "make install: ./mdbox isn't proved" >&2; exit 1; }
 	install -d $(DESTDIR)$(PREFIX)/bin $(DESTDIR)$(PREFIX)/share/man/man1
 	./mdbox --help | tools/manual "$$(./mdbox --version)" > $(DESTDIR)$(PREFIX)/share/man/man1/mdbox.1
+	install -m 755 tools/mdbox-lda $(DESTDIR)$(PREFIX)/bin/mdbox-lda
 	install -m 755 mdbox $(DESTDIR)$(PREFIX)/bin/mdbox
 
 uninstall:
-	rm -f $(DESTDIR)$(PREFIX)/bin/mdbox $(DESTDIR)$(PREFIX)/share/man/man1/mdbox.1
+	rm -f $(DESTDIR)$(PREFIX)/bin/mdbox $(DESTDIR)$(PREFIX)/bin/mdbox-lda $(DESTDIR)$(PREFIX)/share/man/man1/mdbox.1
 
 # Times the program on a storage file of 200 MB, a log of 100 MB and stores of up to 100,000 messages, taking messages apart,
 # and appends to a log.

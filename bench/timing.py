@@ -1,6 +1,7 @@
 """Times commands that take turns, for the benchmarks beside this file."""
 
 import os
+import shlex
 import subprocess
 import sys
 import time
@@ -65,6 +66,11 @@ def compare(program, others, path, runs):
 def cat(path):
     """The command that reads a file and gives it to another process."""
     return ["sh", "-c", f"cat {path} | cat >/dev/null"]
+
+
+def piped(command):
+    """The same command, whose output another process reads: what is compared with `cat` or with one another goes the same way."""
+    return ["sh", "-c", f"{shlex.join(command)} | cat >/dev/null"]
 
 
 def arguments(program="mdbox"):

@@ -1,4 +1,4 @@
-// A run of the program that ends with an exit.
+// A run of the program, and its exit.
 ghost use Rattle.std.specs.Prelude.{◌≡◌, ◌≤◌, ◌↔◌, map, string_bytes, IfOk, IsErr};
 ghost use Rattle.std.specs.Process.{exit_status};
 ghost use Rattle.mdbox_top.specs.BatchWork.{CommandWorks};
@@ -16,7 +16,7 @@ use request_text::{Outcome, report};
 use std::alloc::Global;
 use std::process::ExitCode;
 
-/// Runs the words, or tells that there was no memory for them, and ends with that status.
+/// Runs the words, or tells that there was no memory for them, and answers that status.
 pub fn run<D: Disk, I: Source, O: Sink, E: Sink, C: Clock>(
     alloc: Global,
     words: Result<Vec<String>, NoMemory>,
@@ -25,26 +25,26 @@ pub fn run<D: Disk, I: Source, O: Sink, E: Sink, C: Clock>(
     output: &mut O,
     errors: &mut E,
     clock: &mut C,
-) -> (ExitCode, D)
+) -> (Status, D)
     // The status is that of the run.
     ensures run { IfOk words (λ given. (command : Command) → Says (map string_bytes given.items) command
-        → RunOutcome (Ends command (I.left input.old) (C.time clock.old) (O.held output.old) (O.held output.new) (D.history disk) (D.history result.1) (D.faults disk) (D.faults result.1)) (exit_status result.0) (E.held errors.old) (E.faults errors.old) (E.held errors.new) (E.faults errors.new)) }
+        → RunOutcome (Ends command (I.left input.old) (C.time clock.old) (O.held output.old) (O.held output.new) (D.history disk) (D.history result.1) (D.faults disk) (D.faults result.1)) (result.0.0) (E.held errors.old) (E.faults errors.old) (E.held errors.new) (E.faults errors.new)) }
 
     // Of a script, whatever the disk: the replies and places that are printed are of what its lanes did.
     ensures worked { IfOk words (λ given. (command : Command) → Says (map string_bytes given.items) command
-        → RunOutcome (CommandWorks D command (I.left input.old) (O.held output.old) (O.held output.new) (D.history disk) (D.history result.1) (D.faults disk) (D.faults result.1)) (exit_status result.0) (E.held errors.old) (E.faults errors.old) (E.held errors.new) (E.faults errors.new)) }
+        → RunOutcome (CommandWorks D command (I.left input.old) (O.held output.old) (O.held output.new) (D.history disk) (D.history result.1) (D.faults disk) (D.faults result.1)) (result.0.0) (E.held errors.old) (E.faults errors.old) (E.held errors.new) (E.faults errors.new)) }
 
     // What a crash at any moment leaves, and what the disk is at the end.
     ensures moments { IfOk words (λ given. (command : Command) → Says (map string_bytes given.items) command
         → Moments command (I.left input.old) (C.time clock.old) (D.history disk) (D.history result.1)) }
     ensures rests { IfOk words (λ given. (command : Command) → Says (map string_bytes given.items) command
-        → Rests command (I.left input.old) (C.time clock.old) (MayHaveFailed command (exit_status result.0)) (D.faults disk) (D.faults result.1) (D.history disk) (D.history result.1)) }
-    ensures status { IfOk words (λ given. (command : Command) → Says (map string_bytes given.items) command → HasStatus command (I.left input.old) (D.history disk) (exit_status result.0)) }
-    ensures usage { IfOk words (λ given. (exit_status result.0 ≡ 2) ↔ SayNothing (map string_bytes given.items)) }
-    ensures known { exit_status result.0 ≤ 8 }
+        → Rests command (I.left input.old) (C.time clock.old) (MayHaveFailed command (result.0.0)) (D.faults disk) (D.faults result.1) (D.history disk) (D.history result.1)) }
+    ensures status { IfOk words (λ given. (command : Command) → Says (map string_bytes given.items) command → HasStatus command (I.left input.old) (D.history disk) (result.0.0)) }
+    ensures usage { IfOk words (λ given. (result.0.0 ≡ 2) ↔ SayNothing (map string_bytes given.items)) }
+    ensures known { result.0.0 ≤ 8 }
 
     // Without memory for the words that is told, and nothing else happens.
-    ensures memory { IsErr words → (exit_status result.0 ≡ 5) × WritesOrFaults (E.held errors.old) (E.faults errors.old) (error_text outcome.NoMemory) (E.held errors.new) (E.faults errors.new) }
+    ensures memory { IsErr words → (result.0.0 ≡ 5) × WritesOrFaults (E.held errors.old) (E.faults errors.old) (error_text outcome.NoMemory) (E.held errors.new) (E.faults errors.new) }
     ensures untouched { IsErr words → (input.new ≡ input.old) × (output.new ≡ output.old) × (clock.new ≡ clock.old) × (result.1 ≡ disk) }
 {
     match words {
@@ -58,9 +58,9 @@ pub fn run<D: Disk, I: Source, O: Sink, E: Sink, C: Clock>(
                 errors,
                 clock,
             );
-            (exit_of(status), disk)
+            (status, disk)
         }
-        Err(NoMemory) => (exit_of(report(alloc, errors, Outcome::NoMemory)), disk),
+        Err(NoMemory) => (report(alloc, errors, Outcome::NoMemory), disk),
     }
 }
 

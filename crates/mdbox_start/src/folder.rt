@@ -1,6 +1,5 @@
 // A run over the files of a folder.
 ghost use Rattle.std.specs.Prelude.{[], ◌≤◌, map, string_bytes, IfOk};
-ghost use Rattle.std.specs.Process.{exit_status};
 ghost use Rattle.folder_model.specs.Calls.{IfModelled};
 ghost use Rattle.folder_disk.specs.Over.{HasBegun, IsStoreSystem, told_history};
 ghost use Rattle.mdbox_top.specs.Run.{Ends, RunOutcome, Moments, Rests, HasStatus, MayHaveFailed};
@@ -13,10 +12,10 @@ use folder_disk::FolderDisk;
 use folder_kept::KeptFolder;
 use folder_model::Folder;
 use mdbox_base::{Clock, NoMemory, Sink, Source};
+use request_text::Status;
 use std::alloc::Global;
-use std::process::ExitCode;
 
-/// Runs the words over the files of a folder, and ends with the status of that run. Over a folder that is modelled, all that
+/// Runs the words over the files of a folder, and answers the status of that run. Over a folder that is modelled, all that
 /// `mdbox_run` says of a disk's content is so of the disk over it, which begins as the folder stands.
 pub fn run_in<F: Folder + Drop, I: Source, O: Sink, E: Sink, C: Clock>(
     alloc: Global,
@@ -26,18 +25,18 @@ pub fn run_in<F: Folder + Drop, I: Source, O: Sink, E: Sink, C: Clock>(
     output: &mut O,
     errors: &mut E,
     clock: &mut C,
-) -> (ExitCode, FolderDisk<KeptFolder<F>>)
+) -> (Status, FolderDisk<KeptFolder<F>>)
     requires begun { HasBegun (F.Folder.modelled folder) (F.Folder.past folder) }
     requires store { IfModelled (F.Folder.modelled folder) IsStoreSystem }
     ensures run { IfOk words (λ given. (command : Command) → Says (map string_bytes given.items) command
         → RunOutcome (Ends command (I.left input.old) (C.time clock.old) (O.held output.old) (O.held output.new)
-        (told_history (F.Folder.modelled folder) []) (⟦<FolderDisk<KeptFolder<F>> as Disk>⟧.history result.1) (record { reads = 0; changes = 0 }) (⟦<FolderDisk<KeptFolder<F>> as Disk>⟧.faults result.1)) (exit_status result.0) (E.held errors.old) (E.faults errors.old) (E.held errors.new) (E.faults errors.new)) }
+        (told_history (F.Folder.modelled folder) []) (⟦<FolderDisk<KeptFolder<F>> as Disk>⟧.history result.1) (record { reads = 0; changes = 0 }) (⟦<FolderDisk<KeptFolder<F>> as Disk>⟧.faults result.1)) (result.0.0) (E.held errors.old) (E.faults errors.old) (E.held errors.new) (E.faults errors.new)) }
     ensures moments { IfOk words (λ given. (command : Command) → Says (map string_bytes given.items) command
         → Moments command (I.left input.old) (C.time clock.old) (told_history (F.Folder.modelled folder) []) (⟦<FolderDisk<KeptFolder<F>> as Disk>⟧.history result.1)) }
     ensures rests { IfOk words (λ given. (command : Command) → Says (map string_bytes given.items) command
-        → Rests command (I.left input.old) (C.time clock.old) (MayHaveFailed command (exit_status result.0)) (record { reads = 0; changes = 0 }) (⟦<FolderDisk<KeptFolder<F>> as Disk>⟧.faults result.1) (told_history (F.Folder.modelled folder) []) (⟦<FolderDisk<KeptFolder<F>> as Disk>⟧.history result.1)) }
-    ensures status { IfOk words (λ given. (command : Command) → Says (map string_bytes given.items) command → HasStatus command (I.left input.old) (told_history (F.Folder.modelled folder) []) (exit_status result.0)) }
-    ensures known { exit_status result.0 ≤ 8 }
+        → Rests command (I.left input.old) (C.time clock.old) (MayHaveFailed command (result.0.0)) (record { reads = 0; changes = 0 }) (⟦<FolderDisk<KeptFolder<F>> as Disk>⟧.faults result.1) (told_history (F.Folder.modelled folder) []) (⟦<FolderDisk<KeptFolder<F>> as Disk>⟧.history result.1)) }
+    ensures status { IfOk words (λ given. (command : Command) → Says (map string_bytes given.items) command → HasStatus command (I.left input.old) (told_history (F.Folder.modelled folder) []) (result.0.0)) }
+    ensures known { result.0.0 ≤ 8 }
 {
     run(
         alloc,

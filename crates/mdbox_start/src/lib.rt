@@ -7,9 +7,13 @@ pub use folder::run_in;
 pub use laws::empty_folder;
 pub use outside::start;
 
+mod asked;
+mod dovecot;
 mod exits;
 mod folder;
 mod laws;
 mod outside;
+mod reasons;
 mod streams;
+mod version;
 mod words;

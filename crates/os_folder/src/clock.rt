@@ -1,5 +1,5 @@
 // The system's clock.
-ghost use Rattle.std.specs.Prelude.{None, Ok, ◌≡◌, ◌↔◌, ◌≤◌, ◌/◌, IsOk, IsErr, IfOk};
+ghost use Rattle.std.specs.Prelude.{None, Ok, ◌≡◌, ◌↔◌, ◌<◌, ◌≤◌, ◌/◌, IsTrue, IsOk, IsErr, IfOk};
 ghost use Rattle.std.specs.Duration.{as_nanos};
 ghost use Rattle.mdbox_base.specs.Streams.{next_count};
 
@@ -20,6 +20,13 @@ impl StdClock {
         ensures { ⟦<StdClock as Clock>⟧.faults result ≡ 0 }
     {
         StdClock { rt, faults: 0 }
+    }
+
+    /// Whether a call has failed.
+    pub fn has_failed(&self) -> bool
+        ensures { IsTrue result ↔ 0 < self.now.faults }
+    {
+        self.faults > 0
     }
 
     /// The whole seconds of what the system answers. Errors are counted.

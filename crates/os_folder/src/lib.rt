@@ -3,10 +3,13 @@
 #![tactic(auto)]
 
 pub use clock::StdClock;
-pub use folder::OsFolder;
+pub use failure::Failure;
+pub use folder::{OsFile, OsFolder};
 pub use streams::{StdSink, StdSource};
 
 mod answers;
 mod clock;
+mod failure;
 mod folder;
+mod lock;
 mod streams;

@@ -11,6 +11,8 @@ use std::rt::Stdin;
 pub struct StdSource {
     stdin: Stdin,
     faults: u64,
+    /// The system's last error.
+    failure: Option<io::Error>,
 }
 
 impl StdSource {
@@ -18,7 +20,16 @@ impl StdSource {
     pub fn of(stdin: Stdin) -> StdSource
         ensures { ⟦<StdSource as Source>⟧.faults result ≡ 0 }
     {
-        StdSource { stdin, faults: 0 }
+        StdSource {
+            stdin,
+            faults: 0,
+            failure: None,
+        }
+    }
+
+    /// The system's last error.
+    pub fn failure(&self) -> Option<io::Error> {
+        self.failure
     }
 
     /// What an answer of the system to a read means. Errors are counted.
@@ -31,8 +42,9 @@ impl StdSource {
     {
         match answer {
             Ok(count) => Ok(count),
-            Err(_) => {
+            Err(error) => {
                 self.faults = self.faults.saturating_add(1);
+                self.failure = Some(error);
                 Err(SourceFault)
             }
         }
@@ -55,6 +67,8 @@ impl Source for StdSource {
 pub struct StdSink<W: Write> {
     stream: W,
     faults: u64,
+    /// The system's last error.
+    failure: Option<io::Error>,
 }
 
 impl<W: Write> StdSink<W> {
@@ -62,7 +76,16 @@ impl<W: Write> StdSink<W> {
     pub fn of(stream: W) -> StdSink<W>
         ensures { ⟦<StdSink<W> as Sink>⟧.faults result ≡ 0 }
     {
-        StdSink { stream, faults: 0 }
+        StdSink {
+            stream,
+            faults: 0,
+            failure: None,
+        }
+    }
+
+    /// The system's last error.
+    pub fn failure(&self) -> Option<io::Error> {
+        self.failure
     }
 
     /// What an answer of the system to a write of so many octets means. Errors are counted, and so is an answer that nothing
@@ -76,8 +99,9 @@ impl<W: Write> StdSink<W> {
     {
         match answer {
             Ok(count) if count > 0 || octets == 0 => Ok(count),
-            _ => {
+            other => {
                 self.faults = self.faults.saturating_add(1);
+                self.failure = other.err();
                 Err(SinkFault)
             }
         }

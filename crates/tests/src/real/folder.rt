@@ -89,6 +89,35 @@ pub(crate) fn a_lock_is_held(rt: &impl Abort, host: HostRuntime) -> Result<(), F
     Ok(())
 }
 
+/// A lock's file goes with the process that made it, if this leaves the folder, and with no other one.
+pub(crate) fn a_lock_that_was_made_goes(rt: &impl Abort, host: HostRuntime) -> Result<(), Fail> {
+    fs::remove_file(&host, "mdbox.lock")?;
+    let mut first = OsFolder::of(host);
+    assert_eq!(rt; first.try_lock(), Ok(true));
+    first.leave();
+    let mut second = OsFolder::of(host);
+    assert_eq!(rt; second.try_lock(), Ok(true));
+    drop(second);
+    let mut third = OsFolder::of(host);
+    assert_eq!(rt; third.try_lock(), Ok(true));
+    third.leave();
+    let mut last = OsFolder::of(host);
+    assert_eq!(rt; last.try_lock(), Ok(true));
+    assert_eq!(rt; last.look("mdbox.lock"), Ok(Kind::File));
+    Ok(())
+}
+
+/// The lock's file may be one that can only be read.
+pub(crate) fn a_lock_may_be_read_only(rt: &impl Abort, host: HostRuntime) -> Result<(), Fail> {
+    fs::set_permissions(&host, "mdbox.lock", Permissions::from_mode(0o400))?;
+    let mut first = OsFolder::of(host);
+    let mut second = OsFolder::of(host);
+    assert_eq!(rt; first.try_lock(), Ok(true));
+    assert_eq!(rt; second.try_lock(), Ok(false));
+    fs::set_permissions(&host, "mdbox.lock", Permissions::from_mode(0o600))?;
+    Ok(())
+}
+
 /// What is no folder has no paths and isn't synced, a link to one isn't either, and no link is followed by a look.
 pub(crate) fn others_are_no_folders(rt: &impl Abort, host: HostRuntime) -> Result<(), Fail> {
     let mut folder = OsFolder::of(host);

@@ -9,6 +9,8 @@ fn real_files(rt: HostRuntime) -> Result<(), Fail> {
     folder::a_second_folder_reads_the_same(&rt, rt)?;
     folder::reads_write_nothing(&rt, rt)?;
     folder::a_lock_is_held(&rt, rt)?;
+    folder::a_lock_that_was_made_goes(&rt, rt)?;
+    folder::a_lock_may_be_read_only(&rt, rt)?;
     folder::others_are_no_folders(&rt, rt)?;
     folder::what_may_not_be_read_is_there(&rt, rt)?;
     disk::a_second_disk_reads_the_same(&rt, rt)?;
