@@ -56,24 +56,17 @@ pub fn start(rt: HostRuntime) -> ExitCode
         &mut clock,
     );
     let folder = disk.into_folder().into_folder();
-    let has_reader = status.0 != 8 || !has_no_reader(&output);
-    if has_reader {
-        let _ = give_all(&mut errors, told.held().as_slice());
-        match status.0 {
-            0 => tell_more(rt, &mut errors, asked),
-            6 => tell_disk(rt, &mut errors, &folder),
-            7 => tell_input(rt, &mut errors, &input, &clock),
-            8 => tell_output(rt, &mut errors, &output),
-            _ => {}
-        }
+    if status.0 == 8 && has_no_reader(&output) {
+        return exit_of(status);
     }
-    end_in(folder, status.0);
+    let _ = give_all(&mut errors, told.held().as_slice());
+    match status.0 {
+        0 => tell_more(rt, &mut errors, asked),
+        3 => folder.leave(),
+        6 => tell_disk(rt, &mut errors, &folder),
+        7 => tell_input(rt, &mut errors, &input, &clock),
+        8 => tell_output(rt, &mut errors, &output),
+        _ => {}
+    }
     exit_of(status)
-}
-
-/// Ends the use of a folder. Where there was no store to work on (3), the lock's file goes that this process made.
-fn end_in(folder: OsFolder, status: u8) {
-    if status == 3 {
-        folder.leave();
-    }
 }
