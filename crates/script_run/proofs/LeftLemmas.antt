@@ -1,5 +1,5 @@
 -- The lists that a request alone leaves that was served.
-use Rattle.std.specs.Prelude.{◌≡◌, ℕ, List, [], ◌∷◌, ◌⊎◌, Option, Some}
+use Rattle.std.specs.Prelude.{◌≡◌, ℕ, true, List, [], ◌∷◌, ◌⊎◌, Option, Some}
 use Rattle.std.proofs.Common.{sym, subst, inl, inr}
 use Rattle.disk_model.specs.Disk.{Faults, History}
 use Rattle.mdbox_base.specs.declared.entries.Highest.{Highest}

@@ -52,7 +52,7 @@ removal_at name uid target run start journal r n event at part = half_place true
 agree_copied : (name : List ℕ) (uid : Uid) (target : List ℕ) (number : ℕ) (start : Lists) → NamesNumber name number start → NamesNumber name number (copied_lists name uid target start)
 agree_copied name uid target number start agree = by_found (message_at name uid.0 start)
   where
-    by_found : (o : Option ListedMessage) → NamesNumber name number (option_map_or (λ m. add_message target m start) start o)
+    by_found : (o : Option ListedMessage) → NamesNumber name number (option_map_or (λ m. add_message target m start) o start)
     by_found None = agree
     by_found (Some m) = agree_with_more name number target m start agree
 
