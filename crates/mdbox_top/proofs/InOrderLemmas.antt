@@ -11,7 +11,6 @@ use Rattle.exercise_course.proofs.CopiesLemmas.{never_full, ok_unhindered}
 use Rattle.exercise_course.proofs.CountingLemmas.{IsCountable}
 use Rattle.exercise_course.proofs.DeliveredLemmas.{records_delivered}
 use Rattle.exercise_course.proofs.LegalLemmas.{messages_alike, octets_alike, script_length}
-use Rattle.journal.specs.Journal.{Requests}
 use Rattle.mdbox_base.specs.declared.replies.Refusal.TheVariants as refusal
 use Rattle.mdbox_base.specs.declared.replies.Reply.{Reply}
 use Rattle.mdbox_base.specs.declared.replies.Reply.TheVariants as reply
@@ -19,6 +18,7 @@ use Rattle.list_machine.specs.Machine.{count_different}
 use Rattle.list_machine.specs.Run.{Run}
 use Rattle.mdbox_base.specs.declared.entries.Highest.{Highest}
 use Rattle.mdbox_base.specs.declared.entries.InstRow.{InstRow}
+use Rattle.mdbox_base.specs.declared.script.Script.{Script}
 use Rattle.model_lists.specs.Lists.{Lists}
 use Rattle.model_meaning.specs.BoxMeaning.{BoxMeaning}
 use Rattle.model_meaning.specs.MapMeaning.{MapMeaning, MapRecord, map_meaning}
@@ -32,6 +32,7 @@ use Rattle.request_text.specs.declared.outcome.Outcome.TheVariants as outcome
 use Rattle.script_run.specs.Done.{MayRead}
 use Rattle.script_run.specs.Opening.{LogsShowLists, RunHasCome}
 use Rattle.script_run.specs.Script.{HasStopped}
+use Rattle.script_text.specs.MadeScript.{made_script}
 use Rattle.store_open.specs.Opened.{IsOpenedAs}
 use Rattle.mdbox_top.specs.ExerciseRun.{IsCountedUp, IsDoneInOrder, made_requests}
 use Rattle.mdbox_top.proofs.BatchLemmas.{stopped_any}
@@ -71,7 +72,7 @@ quiet_end false true d (inr e) = absurd (let k : outcome.NoMemory ≡ outcome.No
 quiet_end false false d e = (refl, refl)
 
 -- what is printed then is whole
-end_is : (script : Requests) (held later : Option (List ℕ)) (old new : Option History) (began now : Faults) (ended : Outcome) → (d : IsCountedUp script held later old new began now ended) → (ended ≡ outcome.Done) ⊎ (ended ≡ outcome.No) → ended ≡ replies_outcome (map Some d.given)
+end_is : {D : Type 0} → (script : Script) (held later : Option (List ℕ)) (old new : Option History) (began now : Faults) (ended : Outcome) → (d : IsCountedUp D script held later old new began now ended) → (ended ≡ outcome.Done) ⊎ (ended ≡ outcome.No) → ended ≡ replies_outcome (map Some d.given)
 end_is script held later old new began now outcome.Done d over = d.printed.0
 end_is script held later old new began now outcome.No d over = d.printed.0
 end_is script held later old new began now ended d (inl e) = absurd (cc e)
@@ -110,7 +111,7 @@ ids_different rows = count_different (map (λ instance. instance.id.0) rows)
 abbrev count_rows : List MapRecord → ℕ
 count_rows rows = ids_different (flat_map (λ row. row.instances) rows)
 
-pub done_in_order : (lanes count number : ℕ) (held later : Option (List ℕ)) (old new : Option History) (began now : Faults) (ended : Outcome) → (d : IsCountedUp (made_requests lanes count number) held later old new began now ended) → 1 ≤ lanes → lanes ≤ 64 → count ≤ 100000
+pub done_in_order : {D : Type 0} → (lanes count number : ℕ) (held later : Option (List ℕ)) (old new : Option History) (began now : Faults) (ended : Outcome) → (d : IsCountedUp D (made_script lanes count number) held later old new began now ended) → 1 ≤ lanes → lanes ≤ 64 → count ≤ 100000
     → (lists : Lists) → LogsShowLists d.done.m d.done.meanings lists → BeginsFree lanes lists → All (λ one. is_full one ≡ false) d.given → (ended ≡ outcome.Done) ⊎ (ended ≡ outcome.No) → IsDoneInOrder (made_requests lanes count number) d.done.m lists d.given new ended d.m d.meanings
 done_in_order lanes count number held later old new began now ended d one most few lists shown begins room over =
     let script = made_requests lanes count number in

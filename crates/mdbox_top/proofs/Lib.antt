@@ -17,4 +17,3 @@ pub mod RequestLemmas
 pub mod ResyncLemmas
 pub mod RunLemmas
 pub mod ServeLemmas
-pub mod WorkLemmas

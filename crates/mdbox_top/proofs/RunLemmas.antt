@@ -1,9 +1,9 @@
 -- How a run ends, by its command.
-use Rattle.std.specs.Prelude.{◌≡◌, ◌⊎◌, ℕ, List, [], ◌∷◌, Option, Some, None, refl}
+use Rattle.std.specs.Prelude.{◌≡◌, ◌⊎◌, ℕ, List, [], ◌∷◌, Option, refl}
 use Rattle.std.proofs.Common.{sym, ◌∙◌, ap, subst, inl, inr, arith}
-use Rattle.disk_model.specs.Disk.{History, Faults, EachImage, IsIdle}
+use Rattle.disk_model.specs.Disk.{History, Faults, IsIdle}
 use Rattle.disk_model.proofs.IdleLemmas.{idle-begins}
-use Rattle.disk_model.proofs.MomentLemmas.{since-begins, each_image-map, if_told-all}
+use Rattle.disk_model.proofs.MomentLemmas.{each_image-map, if_told-all}
 use Rattle.store_open.proofs.SweptStoreLemmas.{carries-idle}
 use Rattle.store_open.specs.Opened.{IsClosedWell}
 use Rattle.mdbox_base.specs.declared.requests.Request.TheVariants as request
@@ -11,8 +11,6 @@ use Rattle.model_kept.proofs.KeptLemmas.{kept_begins}
 use Rattle.model_lists.specs.Lists.{Lists}
 use Rattle.model_meaning.specs.MapMeaning.{map_meaning}
 use Rattle.model_store.specs.Safe.{Safe}
-use Rattle.model_store.specs.Settled.{IsSettledFor}
-use Rattle.model_store.proofs.SettledLemmas.{settled_safe}
 use Rattle.list_machine.specs.Machine.{set_flags}
 use Rattle.mail_ops.specs.Copy.{copied_lists}
 use Rattle.request_text.specs.Commands.{IsInRange, NamesMailbox}
@@ -45,10 +43,10 @@ use Rattle.mdbox_top.proofs.CountsLemmas.{counts_status}
 use Rattle.mdbox_top.proofs.ResyncLemmas.{resync_status}
 use Rattle.mdbox_top.proofs.ExerciseLemmas.{exercise_damage, exercise_input, exercise_rests_as, exercise_status, exercise_used}
 use Rattle.mdbox_top.proofs.DeliverLemmas.{deliver_input, deliver_damage, deliver_status, deliver_used, deliver_rests_as}
-use Rattle.mdbox_top.proofs.RequestLemmas.{request_status, request_used, request_input, request_damage, unasked}
+use Rattle.mdbox_top.proofs.RequestLemmas.{request_status, request_used, request_input, request_damage, still_safe, unasked}
 
 -- a refused input whose text finds no memory
-input_memory : (c : Command) (left : Option (List ℕ)) (told : Option ℕ) (h k : Option (List ℕ)) (old new : Option History) (f g : Faults) (why : InputRefusal) → Ends c left told h k old new f g (outcome.InputRefused why) → Ends c left told h k old new f g outcome.NoMemory
+input_memory : {D : Type 0} → (c : Command) (left : Option (List ℕ)) (told : Option ℕ) (h k : Option (List ℕ)) (old new : Option History) (f g : Faults) (why : InputRefusal) → Ends D c left told h k old new f g (outcome.InputRefused why) → Ends D c left told h k old new f g outcome.NoMemory
 input_memory command.Dump left told h k old new f g why e = inl e.1
 input_memory command.LogDump left told h k old new f g why e = inl e.1
 input_memory (command.Init id) left told h k old new f g why e = absurd e
@@ -70,7 +68,7 @@ input_memory command.Help left told h k old new f g why e = absurd e
 input_memory command.Version left told h k old new f g why e = absurd e
 
 -- damage whose text finds no memory
-damage_memory : (c : Command) (left : Option (List ℕ)) (told : Option ℕ) (h k : Option (List ℕ)) (old new : Option History) (f g : Faults) (name : FileName) (place : ℕ) → Ends c left told h k old new f g (outcome.StoreRefused (store.Damaged name place)) → Ends c left told h k old new f g outcome.NoMemory
+damage_memory : {D : Type 0} → (c : Command) (left : Option (List ℕ)) (told : Option ℕ) (h k : Option (List ℕ)) (old new : Option History) (f g : Faults) (name : FileName) (place : ℕ) → Ends D c left told h k old new f g (outcome.StoreRefused (store.Damaged name place)) → Ends D c left told h k old new f g outcome.NoMemory
 damage_memory (command.Init id) left told h k old new f g name place e = absurd e.1
 damage_memory (command.Deliver box) left told h k old new f g name place e = deliver_damage box left told h k old new f g (store.Damaged name place) e
 damage_memory (command.List box) left told h k old new f g name place e = request_damage (IsListReply box) (request.List box) h k old new f g (store.Damaged name place) e
@@ -92,27 +90,27 @@ damage_memory command.Help left told h k old new f g name place e = absurd e
 damage_memory command.Version left told h k old new f g name place e = absurd e
 
 -- the last end is one that the command may have
-pub last_ends : (c : Command) (left : Option (List ℕ)) (told : Option ℕ) (h k : Option (List ℕ)) (old new : Option History) (f g : Faults) (o last : Outcome) → EndsAs o last → Ends c left told h k old new f g o → Ends c left told h k old new f g last
-last_ends c left told h k old new f g (outcome.InputRefused why) last y e = elim y [
-  | inl same ↦ subst (Ends c left told h k old new f g) (sym same) e
-  | inr none ↦ subst (Ends c left told h k old new f g) (sym none) (input_memory c left told h k old new f g why e)
+pub last_ends : {D : Type 0} → (c : Command) (left : Option (List ℕ)) (told : Option ℕ) (h k : Option (List ℕ)) (old new : Option History) (f g : Faults) (o last : Outcome) → EndsAs o last → Ends D c left told h k old new f g o → Ends D c left told h k old new f g last
+last_ends {D} c left told h k old new f g (outcome.InputRefused why) last y e = elim y [
+  | inl same ↦ subst (Ends D c left told h k old new f g) (sym same) e
+  | inr none ↦ subst (Ends D c left told h k old new f g) (sym none) (input_memory c left told h k old new f g why e)
 ]
-last_ends c left told h k old new f g (outcome.StoreRefused (store.Damaged name place)) last y e = elim y [
-  | inl same ↦ subst (Ends c left told h k old new f g) (sym same) e
-  | inr none ↦ subst (Ends c left told h k old new f g) (sym none) (damage_memory c left told h k old new f g name place e)
+last_ends {D} c left told h k old new f g (outcome.StoreRefused (store.Damaged name place)) last y e = elim y [
+  | inl same ↦ subst (Ends D c left told h k old new f g) (sym same) e
+  | inr none ↦ subst (Ends D c left told h k old new f g) (sym none) (damage_memory c left told h k old new f g name place e)
 ]
-last_ends c left told h k old new f g (outcome.StoreRefused store.NoStore) last y e = subst (Ends c left told h k old new f g) (sym y) e
-last_ends c left told h k old new f g (outcome.StoreRefused store.StoreWhole) last y e = subst (Ends c left told h k old new f g) (sym y) e
-last_ends c left told h k old new f g (outcome.StoreRefused store.MailFiles) last y e = subst (Ends c left told h k old new f g) (sym y) e
-last_ends c left told h k old new f g outcome.Done last y e = subst (Ends c left told h k old new f g) (sym y) e
-last_ends c left told h k old new f g outcome.No last y e = subst (Ends c left told h k old new f g) (sym y) e
-last_ends c left told h k old new f g outcome.Usage last y e = subst (Ends c left told h k old new f g) (sym y) e
-last_ends c left told h k old new f g outcome.NoMemory last y e = subst (Ends c left told h k old new f g) (sym y) e
-last_ends c left told h k old new f g outcome.DiskFault last y e = subst (Ends c left told h k old new f g) (sym y) e
-last_ends c left told h k old new f g outcome.ReadFault last y e = subst (Ends c left told h k old new f g) (sym y) e
-last_ends c left told h k old new f g outcome.WriteFault last y e = subst (Ends c left told h k old new f g) (sym y) e
+last_ends {D} c left told h k old new f g (outcome.StoreRefused store.NoStore) last y e = subst (Ends D c left told h k old new f g) (sym y) e
+last_ends {D} c left told h k old new f g (outcome.StoreRefused store.StoreWhole) last y e = subst (Ends D c left told h k old new f g) (sym y) e
+last_ends {D} c left told h k old new f g (outcome.StoreRefused store.MailFiles) last y e = subst (Ends D c left told h k old new f g) (sym y) e
+last_ends {D} c left told h k old new f g outcome.Done last y e = subst (Ends D c left told h k old new f g) (sym y) e
+last_ends {D} c left told h k old new f g outcome.No last y e = subst (Ends D c left told h k old new f g) (sym y) e
+last_ends {D} c left told h k old new f g outcome.Usage last y e = subst (Ends D c left told h k old new f g) (sym y) e
+last_ends {D} c left told h k old new f g outcome.NoMemory last y e = subst (Ends D c left told h k old new f g) (sym y) e
+last_ends {D} c left told h k old new f g outcome.DiskFault last y e = subst (Ends D c left told h k old new f g) (sym y) e
+last_ends {D} c left told h k old new f g outcome.ReadFault last y e = subst (Ends D c left told h k old new f g) (sym y) e
+last_ends {D} c left told h k old new f g outcome.WriteFault last y e = subst (Ends D c left told h k old new f g) (sym y) e
 
-pub has_status : (c : Command) → IsInRange c → (left : Option (List ℕ)) (told : Option ℕ) (h k : Option (List ℕ)) (old new : Option History) (f g : Faults) (o : Outcome) → Ends c left told h k old new f g o → HasStatus c left old (status_of o)
+pub has_status : {D : Type 0} → (c : Command) → IsInRange c → (left : Option (List ℕ)) (told : Option ℕ) (h k : Option (List ℕ)) (old new : Option History) (f g : Faults) (o : Outcome) → Ends D c left told h k old new f g o → HasStatus c left old (status_of o)
 has_status (command.Init id) r left told h k old new f g o e = λ free. init_status id.0 h k old new o e free
 has_status (command.Deliver name) r left told h k old new f g o e = deliver_status name left told h k old new f g o e
 has_status (command.List name) r left told h k old new f g o e = λ lists s. request_status (IsListReply name) (request.List name) h k old new f g o e lists s
@@ -134,7 +132,7 @@ has_status command.Help r left told h k old new f g o e = shows_status _ h k o e
 has_status command.Version r left told h k old new f g o e = shows_status _ h k o e
 
 -- no command ends as unknown words
-used : (c : Command) (left : Option (List ℕ)) (told : Option ℕ) (h k : Option (List ℕ)) (old new : Option History) (f g : Faults) → Ends c left told h k old new f g outcome.Usage → ⊥
+used : {D : Type 0} → (c : Command) (left : Option (List ℕ)) (told : Option ℕ) (h k : Option (List ℕ)) (old new : Option History) (f g : Faults) → Ends D c left told h k old new f g outcome.Usage → ⊥
 used (command.Init id) left told h k old new f g e = e
 used (command.Deliver name) left told h k old new f g e = deliver_used name left told h k old new f g e
 used (command.List name) left told h k old new f g e = request_used (IsListReply name) (request.List name) h k old new f g e
@@ -247,8 +245,8 @@ unwritten o last n y s e =
     elim (kept o last y) [ inl same ↦ sym same ∙ l | inr none ↦ absurd (cc (sym none ∙ l)) ]
 
 -- a run of a command doesn't end with status 2
-pub known_words : (c : Command) (left : Option (List ℕ)) (told : Option ℕ) (h k : Option (List ℕ)) (old new : Option History) (f g : Faults) (n : ℕ) (eh : Option (List ℕ)) (ef : ℕ) (ek : Option (List ℕ)) (eg : ℕ) → RunOutcome (Ends c left told h k old new f g) n eh ef ek eg → n ≡ 2 → ⊥
-known_words c left told h k old new f g n eh ef ek eg r e = used c left told h k old new f g (subst (Ends c left told h k old new f g) (two r.outcome (sym r.status_is ∙ e)) r.ended)
+pub known_words : {D : Type 0} → (c : Command) (left : Option (List ℕ)) (told : Option ℕ) (h k : Option (List ℕ)) (old new : Option History) (f g : Faults) (n : ℕ) (eh : Option (List ℕ)) (ef : ℕ) (ek : Option (List ℕ)) (eg : ℕ) → RunOutcome (Ends D c left told h k old new f g) n eh ef ek eg → n ≡ 2 → ⊥
+known_words {D} c left told h k old new f g n eh ef ek eg r e = used c left told h k old new f g (subst (Ends D c left told h k old new f g) (two r.outcome (sym r.status_is ∙ e)) r.ended)
 
 -- ---- faults of the disk
 
@@ -294,8 +292,8 @@ rests_last other left told F G f g old new h r = tt
 
 -- ---- words that name a mailbox, whose name finds no memory
 
-pub named_unasked : (c : Command) → NamesMailbox c → (left : Option (List ℕ)) (told : Option ℕ) (h : Option (List ℕ)) (old : Option History) (f : Faults) → Ends c left told h h old old f f outcome.NoMemory
-named_unasked (command.Deliver name) named left told h old f = inl (tt, refl, refl)
+pub named_unasked : {D : Type 0} → (c : Command) → NamesMailbox c → (left : Option (List ℕ)) (told : Option ℕ) (h : Option (List ℕ)) (old : Option History) (f : Faults) → Ends D c left told h h old old f f outcome.NoMemory
+named_unasked (command.Deliver name) named left told h old f = inl (tt, refl, refl, refl)
 named_unasked (command.List name) named left told h old f = unasked (IsListReply name) (request.List name) h old f
 named_unasked (command.Fetch name uid) named left told h old f = unasked (IsFetchReply name uid) (request.Fetch name uid) h old f
 named_unasked (command.Flag name uid flags) named left told h old f = unasked (IsFlagReply name uid flags) (request.Flag name uid flags) h old f
@@ -304,11 +302,6 @@ named_unasked (command.Copy name uid target) named left told h old f = unasked (
 named_unasked (command.Move name uid target) named left told h old f = unasked (IsMoveReply name uid target) (request.Move name uid target) h old f
 named_unasked (command.Make name) named left told h old f = unasked (IsMakeReply name) (request.Make name) h old f
 named_unasked other named left told h old f = absurd named
-
--- a settled disk of which no call is made
-still_safe : (lists : Lists) (h : Option History) → IsSettledFor lists h → EachImage (λ _ image. Safe image lists) h h
-still_safe lists None s = absurd s
-still_safe lists (Some h) s = since-begins (λ _ image. Safe image lists) h (λ image is. settled_safe h.now lists image s is)
 
 -- a listing of which no call is made
 still_moments : (h : Option History) → ListMoments h h

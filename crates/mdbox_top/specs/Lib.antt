@@ -1,6 +1,5 @@
 pub mod Alone
 pub mod BatchRun
-pub mod BatchWork
 pub mod CountsRun
 pub mod DeliverRun
 pub mod Changed

@@ -28,28 +28,32 @@ use Rattle.mdbox_top.specs.CountsRun.{CountsOutcome, CountsMoments, CountsRests}
 use Rattle.mdbox_top.specs.PurgeRun.{PurgeOutcome, PurgeMoments, PurgeRests}
 use Rattle.mdbox_top.specs.ResyncRun.{ResyncOutcome, ResyncMoments, ResyncRests}
 
--- How a command ends: this was left of the input, this is the time that the clock would tell, the output held this before and
--- holds that later, the disk was this and is that now, and so were its counts of faults.
-abbrev pub Ends : Command → Option (List ℕ) → Option ℕ → Option (List ℕ) → Option (List ℕ) → Option History → Option History → Faults → Faults → Outcome → Type 0
-Ends (command.Init id) left told held later old new began now outcome = InitOutcome id.0 held later old new outcome
-Ends (command.Deliver name) left told held later old new began now outcome = DeliverOutcome name left told held later old new began now outcome
-Ends (command.List name) left told held later old new began now outcome = ListOutcome name held later old new began now outcome
-Ends (command.Fetch name uid) left told held later old new began now outcome = FetchOutcome name uid held later old new began now outcome
-Ends (command.Flag name uid flags) left told held later old new began now outcome = FlagOutcome name uid flags held later old new began now outcome
-Ends (command.Expunge name uid) left told held later old new began now outcome = ExpungeOutcome name uid held later old new began now outcome
-Ends (command.Copy name uid target) left told held later old new began now outcome = CopyOutcome name uid target held later old new began now outcome
-Ends (command.Move name uid target) left told held later old new began now outcome = MoveOutcome name uid target held later old new began now outcome
-Ends (command.Make name) left told held later old new began now outcome = MakeOutcome name held later old new began now outcome
-Ends command.Counts left told held later old new began now outcome = CountsOutcome held later old new began now outcome
-Ends command.Resync left told held later old new began now outcome = ResyncOutcome held later old new began now outcome
-Ends command.Purge left told held later old new began now outcome = PurgeOutcome held later old new began now outcome
-Ends (command.Batch lanes) left told held later old new began now outcome = BatchOutcome lanes left held later old new began now outcome
-Ends (command.Exercise lanes count number) left told held later old new began now outcome = ExerciseOutcome lanes count number held later old new began now outcome
-Ends (command.Rebuild id) left told held later old new began now outcome = RebuildOutcome id.0 held later old new outcome
-Ends command.Dump left told held later old new began now outcome = InputOutcome DumpPrints DumpRefuses left held later outcome
-Ends command.LogDump left told held later old new began now outcome = InputOutcome LogDumpPrints LogDumpRefuses left held later outcome
-Ends command.Help left told held later old new began now outcome = ShowsText HELP.now held later outcome
-Ends command.Version left told held later old new began now outcome = ShowsText VERSION.now held later outcome
+-- How a command ends, over a disk of this kind: this was left of the input, this is the time that the clock would tell, the output held
+-- this before and holds that later, the disk was this and is that now, and so were its counts of faults.
+abbrev pub Ends : Type 0 → Command → Option (List ℕ) → Option ℕ → Option (List ℕ) → Option (List ℕ) → Option History → Option History → Faults → Faults → Outcome → Type 0
+Ends D (command.Init id) left told held later old new began now outcome = InitOutcome id.0 held later old new outcome
+Ends D (command.Deliver name) left told held later old new began now outcome = DeliverOutcome D name left told held later old new began now outcome
+Ends D (command.List name) left told held later old new began now outcome = ListOutcome D name held later old new began now outcome
+Ends D (command.Fetch name uid) left told held later old new began now outcome = FetchOutcome D name uid held later old new began now outcome
+Ends D (command.Flag name uid flags) left told held later old new began now outcome = FlagOutcome D name uid flags held later old new began now outcome
+Ends D (command.Expunge name uid) left told held later old new began now outcome = ExpungeOutcome D name uid held later old new began now outcome
+Ends D (command.Copy name uid target) left told held later old new began now outcome = CopyOutcome D name uid target held later old new began now outcome
+Ends D (command.Move name uid target) left told held later old new began now outcome = MoveOutcome D name uid target held later old new began now outcome
+Ends D (command.Make name) left told held later old new began now outcome = MakeOutcome D name held later old new began now outcome
+Ends D command.Counts left told held later old new began now outcome = CountsOutcome D held later old new began now outcome
+Ends D command.Resync left told held later old new began now outcome = ResyncOutcome D held later old new began now outcome
+Ends D command.Purge left told held later old new began now outcome = PurgeOutcome D held later old new began now outcome
+Ends D (command.Batch lanes) left told held later old new began now outcome = BatchOutcome D lanes left held later old new began now outcome
+Ends D (command.Exercise lanes count number) left told held later old new began now outcome = ExerciseOutcome D lanes count number held later old new began now outcome
+Ends D (command.Rebuild id) left told held later old new began now outcome = RebuildOutcome id.0 held later old new outcome
+Ends D command.Dump left told held later old new began now outcome = InputOutcome DumpPrints DumpRefuses left held later outcome
+Ends D command.LogDump left told held later old new began now outcome = InputOutcome LogDumpPrints LogDumpRefuses left held later outcome
+Ends D command.Help left told held later old new began now outcome = ShowsText HELP.now held later outcome
+Ends D command.Version left told held later old new began now outcome = ShowsText VERSION.now held later outcome
+
+-- so over a disk of whatever kind this one is
+abbrev pub EndsOver : {D : Type 0} → D → Command → Option (List ℕ) → Option ℕ → Option (List ℕ) → Option (List ℕ) → Option History → Option History → Faults → Faults → Outcome → Type 0
+EndsOver {D} disk command left told held later old new began now outcome = Ends D command left told held later old new began now outcome
 
 -- The run ends as it may: so it ended, with its status, and its text was told on the errors' sink.
 pub record RunOutcome (May : Outcome → Type 0) (status : ℕ) (held : Option (List ℕ)) (faults : ℕ) (later : Option (List ℕ)) (later_faults : ℕ) : Type 0 where

@@ -1,15 +1,15 @@
 // A script: it is read, its messages are prepared, the store is opened, its requests are done on their lanes, and the replies printed.
-ghost use Rattle.std.specs.Prelude.{◌≡◌, ◌≢◌, ◌≤◌, ◌∷◌, [], length, All, Some, IfOk, IfErr, OnOk};
+ghost use Rattle.std.specs.Prelude.{◌≡◌, ◌≢◌, ◌≤◌, ◌⊎◌, ◌∷◌, [], length, All, Some, IfOk, IfErr, OnOk};
 ghost use Rattle.disk_model.specs.FaultCounts.{NoFault, AnyFaultCounted};
 ghost use Rattle.lanes.specs.Worlds.{AreGiven, HasItsMessage};
 ghost use Rattle.mdbox_base.specs.Streams.{Rose};
 ghost use Rattle.request_text.specs.BatchText.{batch_text};
 ghost use Rattle.request_text.specs.Outcomes.{status_of};
+ghost use Rattle.request_text.specs.declared.outcome.InputRefusal.{InputRefusal};
 ghost use Rattle.request_text.specs.declared.outcome.Outcome.TheVariants as outcome;
 ghost use Rattle.script_run.specs.Done.{MayBeServed};
 ghost use Rattle.script_text.specs.Script.{FitsScript, IsForLanes};
 ghost use Rattle.mdbox_top.specs.BatchRun.{BatchOutcome, BatchMoments, BatchRests, HasNoScript, ReadsScript, ScriptOutcome, ScriptMoments, ScriptRests, ShowsReplies, TellsScriptFaults};
-ghost use Rattle.mdbox_top.specs.BatchWork.{BatchWorks, WorkOutcome};
 ghost use Rattle.mdbox_top.specs.InputRun.{OfInput, IsOneOf};
 
 use crate::deliver::unread;
@@ -40,14 +40,14 @@ pub fn batch<D: Disk, I: Source, O: Sink>(
     output: &mut O,
 ) -> (Outcome, D)
     requires lanes { (1 ≤ lanes) × (lanes ≤ 64) }
-    ensures ends { BatchOutcome lanes (I.left input.old) (O.held output.old) (O.held output.new) (D.history disk) (D.history result.1) (D.faults disk) (D.faults result.1) result.0 }
-    ensures worked { BatchWorks D lanes (I.left input.old) (O.held output.old) (O.held output.new) (D.history disk) (D.history result.1) (D.faults disk) (D.faults result.1) result.0 }
+    ensures ends { BatchOutcome D lanes (I.left input.old) (O.held output.old) (O.held output.new) (D.history disk) (D.history result.1) (D.faults disk) (D.faults result.1) result.0 }
     ensures moments { BatchMoments lanes (I.left input.old) (D.history disk) (D.history result.1) }
     ensures rests { BatchRests lanes (I.left input.old) (IsOneOf (5 ∷ 6 ∷ 8 ∷ []) (status_of result.0)) (D.faults disk) (D.faults result.1) (D.history disk) (D.history result.1) }
     ensures disk_fault { TellsScriptFaults lanes (I.left input.old) (D.history disk) → AnyFaultCounted (result.0 ≡ outcome.DiskFault) (D.faults disk) (D.faults result.1) }
     ensures read_fault { result.0 ≡ outcome.ReadFault → Rose (I.faults input.old) (I.faults input.new) }
     ensures write_fault { result.0 ≡ outcome.WriteFault → Rose (O.faults output.old) (O.faults output.new) }
     ensures disk_quiet { TellsScriptFaults lanes (I.left input.old) (D.history disk) → (IsOneOf (5 ∷ 6 ∷ 8 ∷ []) (status_of result.0) → ⊥) → NoFault (D.faults disk) (D.faults result.1) }
+    ensures uncalled { (result.0 ≡ outcome.ReadFault) ⊎ ((why : InputRefusal) × (result.0 ≡ outcome.InputRefused why)) → result.1 ≡ disk }
     ensures read_quiet { result.0 ≢ outcome.ReadFault → I.faults input.new ≡ I.faults input.old }
     ensures write_quiet { result.0 ≢ outcome.WriteFault → O.faults output.new ≡ O.faults output.old }
     ensures counted { (I.faults input.old ≤ I.faults input.new) × (O.faults output.old ≤ O.faults output.new) }
@@ -134,8 +134,7 @@ fn run_requests<D: Disk, O: Sink>(
     requires lanes { (1 ≤ script.lanes) × (script.lanes ≤ 64) }
     requires fits { IsForLanes script }
     requires given { AreGiven script.requests prepared }
-    ensures ends { ScriptOutcome script.requests (O.held output.old) (O.held output.new) (D.history disk) (D.history result.1) (D.faults disk) (D.faults result.1) result.0 }
-    ensures worked { WorkOutcome D script (O.held output.old) (O.held output.new) (D.history disk) (D.history result.1) (D.faults disk) (D.faults result.1) result.0 }
+    ensures ends { ScriptOutcome D script (O.held output.old) (O.held output.new) (D.history disk) (D.history result.1) (D.faults disk) (D.faults result.1) result.0 }
     ensures moments { ScriptMoments script.requests (D.history disk) (D.history result.1) }
     ensures rests { ScriptRests script.requests (IsOneOf (5 ∷ 6 ∷ 8 ∷ []) (status_of result.0)) (D.faults disk) (D.faults result.1) (D.history disk) (D.history result.1) }
     ensures disk_fault { MayBeServed script.requests (D.history disk) → AnyFaultCounted (result.0 ≡ outcome.DiskFault) (D.faults disk) (D.faults result.1) }

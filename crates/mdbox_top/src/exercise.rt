@@ -41,7 +41,7 @@ pub fn exercise<D: Disk, O: Sink>(
 ) -> (Outcome, D)
     requires lanes { (1 ≤ lanes) × (lanes ≤ 64) }
     requires count { (1 ≤ count) × (count ≤ 100000) }
-    ensures ends { ExerciseOutcome lanes count number (O.held output.old) (O.held output.new) (D.history disk) (D.history result.1) (D.faults disk) (D.faults result.1) result.0 }
+    ensures ends { ExerciseOutcome D lanes count number (O.held output.old) (O.held output.new) (D.history disk) (D.history result.1) (D.faults disk) (D.faults result.1) result.0 }
     ensures moments { ExerciseMoments lanes count number (D.history disk) (D.history result.1) }
     ensures rests { ExerciseRests lanes count number (result.0 ≡ outcome.DiskFault) (D.faults disk) (D.faults result.1) (D.history disk) (D.history result.1) }
     ensures disk_fault { AnyFaultCounted (result.0 ≡ outcome.DiskFault) (D.faults disk) (D.faults result.1) }
@@ -87,7 +87,7 @@ fn run_made<D: Disk, O: Sink>(
     requires fits { IsForLanes script }
     requires given { AreGiven script.requests prepared }
     requires unread { has_fetch script.requests ≡ false }
-    ensures ends { CountedOutcome script.requests (O.held output.old) (O.held output.new) (D.history disk) (D.history result.1) (D.faults disk) (D.faults result.1) result.0 }
+    ensures ends { CountedOutcome D script (O.held output.old) (O.held output.new) (D.history disk) (D.history result.1) (D.faults disk) (D.faults result.1) result.0 }
     ensures moments { ScriptMoments script.requests (D.history disk) (D.history result.1) }
     ensures rests { ScriptRests script.requests (result.0 ≡ outcome.DiskFault) (D.faults disk) (D.faults result.1) (D.history disk) (D.history result.1) }
     ensures disk_fault { AnyFaultCounted (result.0 ≡ outcome.DiskFault) (D.faults disk) (D.faults result.1) }

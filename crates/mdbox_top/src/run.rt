@@ -8,7 +8,6 @@ ghost use Rattle.request_text.specs.Outcomes.{status_of, error_text};
 ghost use Rattle.request_text.specs.declared.command.Command.{Command};
 ghost use Rattle.request_text.specs.declared.outcome.Outcome.TheVariants as outcome;
 ghost use Rattle.request_text.specs.declared.outcome.InputRefusal.{InputRefusal};
-ghost use Rattle.mdbox_top.specs.BatchWork.{CommandWorks};
 ghost use Rattle.mdbox_top.specs.DeliverRun.{IsReadWhole};
 ghost use Rattle.mdbox_top.specs.Run.{Ends, RunOutcome, Moments, Rests, HasStatus, MayHaveFailed, TellsFaults, reads_input, uses_disk, asks_clock};
 
@@ -35,13 +34,9 @@ pub fn mdbox_run<D: Disk, I: Source, O: Sink, E: Sink, C: Clock>(
     errors: &mut E,
     clock: &mut C,
 ) -> (Status, D)
-    // What was read and printed, what the disk holds, what was told, and the status.
+    // What was read and printed, what the disk holds, what lanes did, what was told, and the status.
     ensures run { (command : Command) → Says (map string_bytes words.now) command
-        → RunOutcome (Ends command (I.left input.old) (C.time clock.old) (O.held output.old) (O.held output.new) (D.history disk) (D.history result.1) (D.faults disk) (D.faults result.1)) result.0.0 (E.held errors.old) (E.faults errors.old) (E.held errors.new) (E.faults errors.new) }
-
-    // Of a script, whatever the disk: the replies and places that are printed are of what its lanes did.
-    ensures worked { (command : Command) → Says (map string_bytes words.now) command
-        → RunOutcome (CommandWorks D command (I.left input.old) (O.held output.old) (O.held output.new) (D.history disk) (D.history result.1) (D.faults disk) (D.faults result.1)) result.0.0 (E.held errors.old) (E.faults errors.old) (E.held errors.new) (E.faults errors.new) }
+        → RunOutcome (Ends D command (I.left input.old) (C.time clock.old) (O.held output.old) (O.held output.new) (D.history disk) (D.history result.1) (D.faults disk) (D.faults result.1)) result.0.0 (E.held errors.old) (E.faults errors.old) (E.held errors.new) (E.faults errors.new) }
 
     // What a crash at any moment of the run leaves, whatever the result.
     ensures moments { (command : Command) → Says (map string_bytes words.now) command → Moments command (I.left input.old) (C.time clock.old) (D.history disk) (D.history result.1) }
@@ -62,6 +57,9 @@ pub fn mdbox_run<D: Disk, I: Source, O: Sink, E: Sink, C: Clock>(
     ensures unread { (command : Command) → Says (map string_bytes words.now) command → reads_input command ≡ false → input.new ≡ input.old }
     ensures untouched { (command : Command) → Says (map string_bytes words.now) command → uses_disk command ≡ false → result.1 ≡ disk }
     ensures unasked { (command : Command) → Says (map string_bytes words.now) command → asks_clock command ≡ false → clock.new ≡ clock.old }
+
+    // With an input that is refused, and where the input or the clock fails, no call is made of the disk, whatever disk it is.
+    ensures uncalled { (result.0.0 ≡ 4) ⊎ (result.0.0 ≡ 7) → result.1 ≡ disk }
 
     // The clock is asked once the input was read to its end, which came within its limit: of one that is refused it isn't.
     ensures asked { (clock.new ≡ clock.old) ⊎ (IsReadWhole (I.left input.old) (I.left input.new) × (I.faults input.new ≡ I.faults input.old)) }
@@ -96,14 +94,14 @@ pub fn mdbox_alone<D: Disk, I: Source, O: Sink, E: Sink, C: Clock>(
     clock: &mut C,
 ) -> (Status, D)
     requires range { IsInRange command }
-    ensures run { RunOutcome (Ends command (I.left input.old) (C.time clock.old) (O.held output.old) (O.held output.new) (D.history disk) (D.history result.1) (D.faults disk) (D.faults result.1)) result.0.0 (E.held errors.old) (E.faults errors.old) (E.held errors.new) (E.faults errors.new) }
-    ensures worked { RunOutcome (CommandWorks D command (I.left input.old) (O.held output.old) (O.held output.new) (D.history disk) (D.history result.1) (D.faults disk) (D.faults result.1)) result.0.0 (E.held errors.old) (E.faults errors.old) (E.held errors.new) (E.faults errors.new) }
+    ensures run { RunOutcome (Ends D command (I.left input.old) (C.time clock.old) (O.held output.old) (O.held output.new) (D.history disk) (D.history result.1) (D.faults disk) (D.faults result.1)) result.0.0 (E.held errors.old) (E.faults errors.old) (E.held errors.new) (E.faults errors.new) }
     ensures moments { Moments command (I.left input.old) (C.time clock.old) (D.history disk) (D.history result.1) }
     ensures rests { Rests command (I.left input.old) (C.time clock.old) (MayHaveFailed command result.0.0) (D.faults disk) (D.faults result.1) (D.history disk) (D.history result.1) }
     ensures status { HasStatus command (I.left input.old) (D.history disk) result.0.0 }
     ensures unread { reads_input command ≡ false → input.new ≡ input.old }
     ensures untouched { uses_disk command ≡ false → result.1 ≡ disk }
     ensures unasked { asks_clock command ≡ false → clock.new ≡ clock.old }
+    ensures uncalled { (result.0.0 ≡ 4) ⊎ (result.0.0 ≡ 7) → result.1 ≡ disk }
     ensures disk_fault { TellsFaults command (I.left input.old) (D.history disk) → AnyFaultCounted (result.0.0 ≡ 6) (D.faults disk) (D.faults result.1) }
     ensures read_fault { result.0.0 ≡ 7 → Rose (I.faults input.old) (I.faults input.new) ⊎ (Rose (C.faults clock.old) (C.faults clock.new) × IsReadWhole (I.left input.old) (I.left input.new)) }
     ensures write_fault { result.0.0 ≡ 8 → Rose (O.faults output.old) (O.faults output.new) }
@@ -129,12 +127,12 @@ fn perform<D: Disk, I: Source, O: Sink, C: Clock>(
     clock: &mut C,
 ) -> (Outcome, D)
     requires range { IsInRange command }
-    ensures ends { Ends command (I.left input.old) (C.time clock.old) (O.held output.old) (O.held output.new) (D.history disk) (D.history result.1) (D.faults disk) (D.faults result.1) result.0 }
-    ensures worked { CommandWorks D command (I.left input.old) (O.held output.old) (O.held output.new) (D.history disk) (D.history result.1) (D.faults disk) (D.faults result.1) result.0 }
+    ensures ends { Ends D command (I.left input.old) (C.time clock.old) (O.held output.old) (O.held output.new) (D.history disk) (D.history result.1) (D.faults disk) (D.faults result.1) result.0 }
     ensures moments { Moments command (I.left input.old) (C.time clock.old) (D.history disk) (D.history result.1) }
     ensures unread { reads_input command ≡ false → input.new ≡ input.old }
     ensures untouched { uses_disk command ≡ false → result.1 ≡ disk }
     ensures unasked { asks_clock command ≡ false → clock.new ≡ clock.old }
+    ensures uncalled { (result.0 ≡ outcome.ReadFault) ⊎ ((why : InputRefusal) × (result.0 ≡ outcome.InputRefused why)) → result.1 ≡ disk }
     ensures rests { Rests command (I.left input.old) (C.time clock.old) (MayHaveFailed command (status_of result.0)) (D.faults disk) (D.faults result.1) (D.history disk) (D.history result.1) }
     ensures disk_fault { TellsFaults command (I.left input.old) (D.history disk) → AnyFaultCounted (result.0 ≡ outcome.DiskFault) (D.faults disk) (D.faults result.1) }
     ensures read_fault { result.0 ≡ outcome.ReadFault → Rose (I.faults input.old) (I.faults input.new) ⊎ (Rose (C.faults clock.old) (C.faults clock.new) × IsReadWhole (I.left input.old) (I.left input.new)) }

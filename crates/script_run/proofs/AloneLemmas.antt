@@ -298,16 +298,15 @@ one_given asked script [] is each = absurd (let n : length script ≡ 1 = ap len
 one_given asked script (one ∷ []) is each = (one, refl)
 one_given asked script (one ∷ more ∷ rest) is each = absurd (let n : length script ≡ 1 = ap length is in let e : suc (suc (length rest)) ≡ length script = each in omega (arith, n, e))
 
-pub request_done : {D : Type 0} → (history : D → Option History) (faults : D → Faults) (asked : Request) (script : Requests) (given : List Reply) (replies : List (Option Reply)) (one : Reply) (entries : List JournalEntry) (old : Option History) (began : Faults) (store : StoreValue D) (disk : D) → disk ≡ store.disk
-    → script ≡ alone asked → replies ≡ map Some given → replies ≡ Some one ∷ [] → IsServedOpen script given entries old (history store.disk) began (faults store.disk) store → IsRequestDone asked one old (history disk) began (faults disk)
-request_done {D} history faults asked script given replies one entries old began store disk back is all only served =
+pub request_here : {D : Type 0} → (history : D → Option History) (faults : D → Faults) (asked : Request) (script : Requests) (given : List Reply) (replies : List (Option Reply)) (one : Reply) (entries : List JournalEntry) (old : Option History) (began : Faults) (store : StoreValue D) → script ≡ alone asked → replies ≡ map Some given → replies ≡ Some one ∷ []
+    → IsServedOpen script given entries old (history store.disk) began (faults store.disk) store → (own : IsRequestDone asked one old (history store.disk) began (faults store.disk)) × (own.entries ≡ entries)
+request_here history faults asked script given replies one entries old began store is all only served =
     let o = one_given asked script given is served.done.each in
     let same : Some o.0 ∷ [] ≡ Some one ∷ [] = sym (all ∙ ap (λ (rs : List Reply). map Some rs) o.1) ∙ only in
     let e : o.0 ≡ one = cc same in
     let s = subst (λ (rs : List Reply). IsServedOpen (alone asked) rs entries old (history store.disk) began (faults store.disk) store) (o.1 ∙ ap (λ (r : Reply). r ∷ []) e)
     (subst (λ (q : Requests). IsServedOpen q given entries old (history store.disk) began (faults store.disk) store) is served) in
-    let done : IsRequestDone asked one old (history store.disk) began (faults store.disk) = record { entries = entries; done = s.done; later = store.map; later_meanings = indexes_of store.boxes; comes = s.comes; told = s.told; undone = s.undone; unmade = s.unmade } in
-    subst (λ (d : D). IsRequestDone asked one old (history d) began (faults d)) (sym back) done
+    (record { entries = entries; done = s.done; later = store.map; later_meanings = indexes_of store.boxes; comes = s.comes; told = s.told; undone = s.undone; unmade = s.unmade }, refl)
 
 -- ---- a request of one event that is refused
 
