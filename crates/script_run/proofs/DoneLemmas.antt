@@ -479,7 +479,7 @@ done_run script old mid new first last s world ended r given are =
 -- It was done, and left the store so.
 pub script_done : {D : Type 0} → (script : Requests) (old mid new : Option History) (first last : Faults) (s : StoreValue D) (world ended : WorldValue D) → ScriptRan script old mid new first last s world ended
     → (given : List Reply) × (ended.replies ≡ map Some given) × IsServedOpen script given ended.journal old new first last ended.store
-unfolding done_run leaves_run
+unfolding done_run leaves_run serves_run script_served
 script_done script old mid new first last s world ended r =
     let g = all_given ended.replies r.replied in (
       g.0,
@@ -488,6 +488,7 @@ script_done script old mid new first last s world ended r =
         done = done_run script old mid new first last s world ended r g.0 g.1;
         comes = record {
           shows = λ lists shows may. (serves_run script old mid new first last s world ended r g.0 g.1 lists shows may).1;
+          means = λ lists shows may. refl;
           again = λ unstopped. opens_again new ended.store r.later (stopped_by script old mid new first last s world ended r g.0 g.1 unstopped);
           alike = alike_alone script old mid new first last s world ended r g.0 g.1;
           made = made_alone script old mid new first last s world ended r g.0 g.1;
