@@ -58,6 +58,7 @@ bench: all
 	bench/fetch
 	bench/deliver
 	bench/attach
+	bench/threads
 	bench/rebuild
 	bench/purge
 	bench/hostile

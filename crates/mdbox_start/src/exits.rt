@@ -14,9 +14,11 @@ use mdbox_top::{Status, mdbox_run};
 use request_text::{Outcome, report};
 use std::alloc::Global;
 use std::process::ExitCode;
+use std::thread::Threads;
 
 /// Runs the words, or tells that there was no memory for them, and answers that status.
-pub fn run<D: Disk, I: Source, O: Sink, E: Sink, C: Clock>(
+pub fn run<R: Threads + Sync, D: Disk, I: Source, O: Sink, E: Sink, C: Clock>(
+    rt: &R,
     alloc: Global,
     words: Result<Vec<String>, NoMemory>,
     disk: D,
@@ -45,6 +47,7 @@ pub fn run<D: Disk, I: Source, O: Sink, E: Sink, C: Clock>(
     match words {
         Ok(words) => {
             let (status, disk) = mdbox_run(
+                rt,
                 alloc,
                 words.as_slice(),
                 disk,

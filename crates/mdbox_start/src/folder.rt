@@ -14,10 +14,12 @@ use folder_model::Folder;
 use mdbox_base::{Clock, NoMemory, Sink, Source};
 use request_text::Status;
 use std::alloc::Global;
+use std::thread::Threads;
 
 /// Runs the words over the files of a folder, and answers the status of that run. Over a folder that is modelled, all that
 /// `mdbox_run` says of a disk's content is so of the disk over it, which begins as the folder stands.
-pub fn run_in<F: Folder + Drop, I: Source, O: Sink, E: Sink, C: Clock>(
+pub fn run_in<R: Threads + Sync, F: Folder + Drop, I: Source, O: Sink, E: Sink, C: Clock>(
+    rt: &R,
     alloc: Global,
     words: Result<Vec<String>, NoMemory>,
     folder: F,
@@ -39,6 +41,7 @@ pub fn run_in<F: Folder + Drop, I: Source, O: Sink, E: Sink, C: Clock>(
     ensures known { result.0.0 ≤ 8 }
 {
     run(
+        rt,
         alloc,
         words,
         FolderDisk::of(KeptFolder::of(folder, alloc), alloc),

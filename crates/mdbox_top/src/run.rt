@@ -21,11 +21,15 @@ use crate::rebuild::rebuild;
 use crate::show::show;
 use disk_model::Disk;
 use mdbox_base::{Clock, Request, Sink, Source};
+use mdbox_threads::{InThreads, InTurn, Preparer};
 use request_text::{Command, HELP, Outcome, Status, VERSION, WordsError, read_words, report};
 use std::alloc::Global;
+use std::thread::Threads;
 
-/// Does what the words ask, and hands the disk back. `dump` and `logdump` read standard input to its end.
-pub fn mdbox_run<D: Disk, I: Source, O: Sink, E: Sink, C: Clock>(
+/// Does what the words ask, and hands the disk back. `dump` and `logdump` read standard input to its end. The messages of a script are
+/// prepared in threads, if they are many.
+pub fn mdbox_run<R: Threads + Sync, D: Disk, I: Source, O: Sink, E: Sink, C: Clock>(
+    rt: &R,
     alloc: Global,
     words: &[String],
     disk: D,
@@ -77,13 +81,16 @@ pub fn mdbox_run<D: Disk, I: Source, O: Sink, E: Sink, C: Clock>(
     ensures counted { (I.faults input.old ≤ I.faults input.new) × (O.faults output.old ≤ O.faults output.new) × (E.faults errors.old ≤ E.faults errors.new) × (C.faults clock.old ≤ C.faults clock.new) }
 {
     match read_words(alloc, words) {
-        Ok(command) => mdbox_alone(alloc, command, disk, input, output, errors, clock),
+        Ok(command) => {
+            let preparer = InThreads { rt };
+            run_command(&preparer, alloc, command, disk, input, output, errors, clock)
+        }
         Err(WordsError::Usage) => (report(alloc, errors, Outcome::Usage), disk),
         Err(WordsError::NoMemory) => (report(alloc, errors, Outcome::NoMemory), disk),
     }
 }
 
-/// Does one command, and hands the disk back.
+/// Does one command without a thread, and hands the disk back.
 pub fn mdbox_alone<D: Disk, I: Source, O: Sink, E: Sink, C: Clock>(
     alloc: Global,
     command: Command,
@@ -113,12 +120,48 @@ pub fn mdbox_alone<D: Disk, I: Source, O: Sink, E: Sink, C: Clock>(
     ensures write_quiet { result.0.0 ≢ 8 → O.faults output.new ≡ O.faults output.old }
     ensures counted { (I.faults input.old ≤ I.faults input.new) × (O.faults output.old ≤ O.faults output.new) × (E.faults errors.old ≤ E.faults errors.new) × (C.faults clock.old ≤ C.faults clock.new) }
 {
-    let (outcome, disk) = perform(alloc, command, disk, input, output, clock);
+    run_command(&InTurn, alloc, command, disk, input, output, errors, clock)
+}
+
+/// Does one command, and hands the disk back.
+fn run_command<P: Preparer, D: Disk, I: Source, O: Sink, E: Sink, C: Clock>(
+    preparer: &P,
+    alloc: Global,
+    command: Command,
+    disk: D,
+    input: &mut I,
+    output: &mut O,
+    errors: &mut E,
+    clock: &mut C,
+) -> (Status, D)
+    requires shared { P.shared preparer.now }
+    requires range { IsInRange command }
+    ensures run { RunOutcome (Ends D command (I.left input.old) (C.time clock.old) (O.held output.old) (O.held output.new) (D.history disk) (D.history result.1) (D.faults disk) (D.faults result.1)) result.0.0 (E.held errors.old) (E.faults errors.old) (E.held errors.new) (E.faults errors.new) }
+    ensures moments { Moments command (I.left input.old) (C.time clock.old) (D.history disk) (D.history result.1) }
+    ensures rests { Rests command (I.left input.old) (C.time clock.old) (MayHaveFailed command result.0.0) (D.faults disk) (D.faults result.1) (D.history disk) (D.history result.1) }
+    ensures status { HasStatus command (I.left input.old) (D.history disk) result.0.0 }
+    ensures unread { reads_input command ≡ false → input.new ≡ input.old }
+    ensures untouched { uses_disk command ≡ false → result.1 ≡ disk }
+    ensures unasked { asks_clock command ≡ false → clock.new ≡ clock.old }
+    ensures uncalled { (result.0.0 ≡ 4) ⊎ (result.0.0 ≡ 7) → result.1 ≡ disk }
+    ensures disk_fault { TellsFaults command (I.left input.old) (D.history disk) → AnyFaultCounted (result.0.0 ≡ 6) (D.faults disk) (D.faults result.1) }
+    ensures read_fault { result.0.0 ≡ 7 → Rose (I.faults input.old) (I.faults input.new) ⊎ (Rose (C.faults clock.old) (C.faults clock.new) × IsReadWhole (I.left input.old) (I.left input.new)) }
+    ensures write_fault { result.0.0 ≡ 8 → Rose (O.faults output.old) (O.faults output.new) }
+    ensures disk_quiet { TellsFaults command (I.left input.old) (D.history disk) → (MayHaveFailed command result.0.0 → ⊥) → NoFault (D.faults disk) (D.faults result.1) }
+    ensures read_quiet { result.0.0 ≢ 7 → I.faults input.new ≡ I.faults input.old }
+    ensures clock_quiet { result.0.0 ≢ 7 → C.faults clock.new ≡ C.faults clock.old }
+    ensures asked { (clock.new ≡ clock.old) ⊎ (IsReadWhole (I.left input.old) (I.left input.new) × (I.faults input.new ≡ I.faults input.old)) }
+    ensures refused { result.0.0 ≡ 4 → clock.new ≡ clock.old }
+    ensures write_quiet { result.0.0 ≢ 8 → O.faults output.new ≡ O.faults output.old }
+    ensures counted { (I.faults input.old ≤ I.faults input.new) × (O.faults output.old ≤ O.faults output.new) × (E.faults errors.old ≤ E.faults errors.new) × (C.faults clock.old ≤ C.faults clock.new) }
+{
+    let (outcome, disk) = perform(preparer, alloc, command, disk, input, output, clock);
     (report(alloc, errors, outcome), disk)
 }
 
 /// Does one command, and says how it ended.
-fn perform<D: Disk, I: Source, O: Sink, C: Clock>(
+fn perform<P: Preparer, D: Disk, I: Source, O: Sink, C: Clock>(
+    preparer: &P,
     alloc: Global,
     command: Command,
     disk: D,
@@ -126,6 +169,7 @@ fn perform<D: Disk, I: Source, O: Sink, C: Clock>(
     output: &mut O,
     clock: &mut C,
 ) -> (Outcome, D)
+    requires shared { P.shared preparer.now }
     requires range { IsInRange command }
     ensures ends { Ends D command (I.left input.old) (C.time clock.old) (O.held output.old) (O.held output.new) (D.history disk) (D.history result.1) (D.faults disk) (D.faults result.1) result.0 }
     ensures moments { Moments command (I.left input.old) (C.time clock.old) (D.history disk) (D.history result.1) }
@@ -171,12 +215,12 @@ fn perform<D: Disk, I: Source, O: Sink, C: Clock>(
             serve(alloc, request, None, disk, output)
         }
         Command::Make { name } => serve(alloc, Request::Make { name }, None, disk, output),
-        Command::Batch { lanes } => batch(alloc, lanes, disk, input, output),
+        Command::Batch { lanes } => batch(preparer, alloc, lanes, disk, input, output),
         Command::Exercise {
             lanes,
             count,
             number,
-        } => exercise(alloc, lanes, count, number, disk, output),
+        } => exercise(preparer, alloc, lanes, count, number, disk, output),
         Command::Rebuild { id } => rebuild(alloc, id, disk, output),
         Command::Dump => (dump(alloc, input, output), disk),
         Command::LogDump => (logdump(alloc, input, output), disk),

@@ -2,7 +2,7 @@ use Rattle.std.proofs.Common.{ℕ, inl, inr, sym, subst}
 use Rattle.request_text.specs.Outcomes.{status_of}
 use Rattle.mdbox_top.specs.Run.{MayHaveFailed}
 use Rattle.mdbox_top.proofs.RunLemmas.{last_ends, has_status, fails_last, faulted, rests_last, uninput, unread}
-use Rattle.mdbox_top.proofs.run.mdbox_alone.Goals as goal
+use Rattle.mdbox_top.proofs.run.run_command.Goals as goal
 
 pub returns-clause-run : goal.returns-clause-run
 returns-clause-run g c =
