@@ -13,6 +13,7 @@ ghost use Rattle.mdbox_top.specs.Run.{Ends, RunOutcome, Moments, Rests, HasStatu
 
 use crate::alone::serve;
 use crate::batch::batch;
+use crate::boxes::boxes;
 use crate::deliver::deliver;
 use crate::exercise::exercise;
 use crate::init::init;
@@ -161,6 +162,7 @@ fn perform<D: Disk, I: Source, O: Sink, C: Clock>(
                 output,
             )
         }
+        Command::Boxes => boxes(alloc, disk, output),
         Command::Counts => serve(alloc, Request::Counts, None, disk, output),
         Command::Resync => serve(alloc, Request::Resync, None, disk, output),
         Command::Purge => serve(alloc, Request::Purge, None, disk, output),
