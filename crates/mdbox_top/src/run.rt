@@ -154,13 +154,8 @@ fn perform<D: Disk, I: Source, O: Sink, C: Clock>(
             serve(alloc, Request::Fetch { name, uid }, None, disk, output)
         }
         Command::Flag { name, uid, flags } => {
-            serve(
-                alloc,
-                Request::Flag { name, uid, flags },
-                None,
-                disk,
-                output,
-            )
+            let request = Request::Flag { name, uid, flags };
+            serve(alloc, request, None, disk, output)
         }
         Command::Boxes => boxes(alloc, disk, output),
         Command::Counts => serve(alloc, Request::Counts, None, disk, output),
@@ -170,22 +165,12 @@ fn perform<D: Disk, I: Source, O: Sink, C: Clock>(
             serve(alloc, Request::Expunge { name, uid }, None, disk, output)
         }
         Command::Copy { name, uid, target } => {
-            serve(
-                alloc,
-                Request::Copy { name, uid, target },
-                None,
-                disk,
-                output,
-            )
+            let request = Request::Copy { name, uid, target };
+            serve(alloc, request, None, disk, output)
         }
         Command::Move { name, uid, target } => {
-            serve(
-                alloc,
-                Request::Move { name, uid, target },
-                None,
-                disk,
-                output,
-            )
+            let request = Request::Move { name, uid, target };
+            serve(alloc, request, None, disk, output)
         }
         Command::Make { name } => serve(alloc, Request::Make { name }, None, disk, output),
         Command::Batch { lanes } => batch(alloc, lanes, disk, input, output),
