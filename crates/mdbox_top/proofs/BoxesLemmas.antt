@@ -1,14 +1,22 @@
 -- How `boxes` ends.
-use Rattle.std.specs.Prelude.{◌≡◌, ◌⊎◌, ◌<◌, ◌+◌, ◌==◌, ◌++◌, ℕ, Bool, true, false, List, [], ◌∷◌, AllPairs, find, length, map, slice_get, take, Option, Some, None, if◌then◌else◌}
-use Rattle.std.specs.Option.{option_copied, option_map}
+use Rattle.std.specs.Prelude.{◌≡◌, ◌⊎◌, ◌<◌, ◌+◌, ◌==◌, ◌++◌, ℕ, zero, suc, List, [], ◌∷◌, All, AllPairs, find, length, map, slice_get, take, Option, Some, None}
+use Rattle.std.specs.Option.{option_map}
 use Rattle.std.proofs.Common.{refl, sym, ◌∙◌, ap, subst, inl, inr, arith}
+use Rattle.std.proofs.lemmas.Bool.{cond-true, cond-false, eq-eqb, ne_eqb}
 use Rattle.std.proofs.lemmas.List.{take_more}
+use Rattle.std.proofs.lemmas.List.Elements.{All-head, All-tail}
 use Rattle.std.proofs.lemmas.Option.{get_or_from_slice_get, slice_get_within}
 use Rattle.disk_model.specs.Disk.{History, Faults}
 use Rattle.disk_model.specs.FaultCounts.{NoFault, AnyFaultCounted}
-use Rattle.model_lists.specs.Lists.{ListedMessage, Lists, Mailbox}
+use Rattle.map_index.specs.Shown.{shown_box}
+use Rattle.map_index.specs.declared.rows.BoxAt.{BoxAt}
+use Rattle.mail_ops.proofs.CountingLemmas.{found_there}
+use Rattle.mail_ops.proofs.FlagListLemmas.{some_there}
+use Rattle.mail_ops.proofs.MessageLemmas.{store_is_sound}
+use Rattle.model_lists.specs.Lists.{Lists, Mailbox, listing_row}
 use Rattle.model_meaning.specs.BoxMeaning.{BoxMeaning}
-use Rattle.model_meaning.specs.MapMeaning.{MapBox, MapMeaning}
+use Rattle.model_meaning.specs.MapMeaning.{MapBox, MapMeaning, box_at}
+use Rattle.model_octets.proofs.PairLemmas.{pairs_head, pairs_tail}
 use Rattle.model_store.specs.Listing.{ShowLists, ShowsMailbox, listed_row}
 use Rattle.model_store.specs.Settled.{IsSettledFor}
 use Rattle.request_text.specs.Outcomes.{status_of}
@@ -17,16 +25,14 @@ use Rattle.request_text.specs.declared.outcome.InputRefusal.{InputRefusal}
 use Rattle.request_text.specs.declared.outcome.StoreRefusal.{StoreRefusal}
 use Rattle.request_text.specs.declared.outcome.Outcome.{Outcome}
 use Rattle.request_text.specs.declared.outcome.Outcome.TheVariants as outcome
+use Rattle.store_core.specs.Running.{IsStore}
+use Rattle.store_core.specs.Value.{StoreValue, indexes_of, list_numbered}
 use Rattle.store_open.specs.declared.error.OpenError.{OpenError}
-use Rattle.store_open.specs.declared.error.OpenError.TheVariants as error
 use Rattle.script_run.specs.Opening.{IsUnopened}
-use Rattle.mdbox_top.specs.BoxesRun.{BoxesOutcome, BoxesRests, PrintsBoxes, ShowsBoxes, box_rows, row_of_box, row_of_mailbox}
+use Rattle.mdbox_top.specs.BoxesRun.{BoxesOutcome, BoxesRests, PrintsBoxes, box_rows, row_of_box, row_of_mailbox}
 use Rattle.mdbox_top.specs.InputRun.{IsOneOf}
-use Rattle.mdbox_top.specs.ListRun.{ListRests}
 use Rattle.mdbox_top.specs.Numbers.{box_octets}
 use Rattle.mdbox_top.specs.OpeningOutcome.{opening_outcome}
-use Rattle.mdbox_top.specs.Served.{IsNotOpened}
-use Rattle.mdbox_top.proofs.InitLemmas.{opening_fault}
 use Rattle.mdbox_top.proofs.NumbersLemmas.{same_octets}
 use Rattle.mdbox_top.proofs.RequestLemmas.{damage_lacking, opening_number, refused_by, settled_opens}
 
@@ -54,6 +60,48 @@ as_many_rows (b ∷ boxes) (m ∷ meanings) e =
 pub row_more : (rows : List BoxRow) (i : ℕ) (row : BoxRow) → slice_get rows i ≡ Some row → take (i + 1) rows ≡ take i rows ++ row ∷ []
 row_more rows i row is = take_more rows i row (slice_get_within rows i row is) ∙ ap (λ (x : BoxRow). take i rows ++ x ∷ []) (get_or_from_slice_get rows i row row is)
 
+-- ---- the mailbox at a place of the map
+
+abbrev BoxRises : MapBox → MapBox → Type 0
+BoxRises a b = a.number < b.number
+
+later_box : (x : MapBox) (xs : List MapBox) (i : ℕ) (b : MapBox) → All (BoxRises x) xs → slice_get xs i ≡ Some b → x.number < b.number
+later_box x [] i b above is = absurd (let k : None ≡ Some b = is in cc k)
+later_box x (y ∷ ys) zero b above is =
+    let k : Some y ≡ Some b = is in
+    let same : y ≡ b = cc k in
+    subst (λ (o : MapBox). x.number < o.number) same (All-head (BoxRises x) y ys above)
+later_box x (y ∷ ys) (suc i) b above is = later_box x ys i b (All-tail (BoxRises x) y ys above) is
+
+box_found : (boxes : List MapBox) (i : ℕ) (b : MapBox) → AllPairs BoxRises boxes → slice_get boxes i ≡ Some b → find (λ x. x.number == b.number) boxes ≡ Some b
+box_found [] i b rising is = absurd (let k : None ≡ Some b = is in cc k)
+box_found (x ∷ xs) zero b rising is =
+    let k : Some x ≡ Some b = is in
+    let e : x ≡ b = cc k in
+    cond-true (x.number == b.number) (Some x) (find (λ y. y.number == b.number) xs) (eq-eqb x.number b.number (ap (λ (o : MapBox). o.number) e)) ∙ ap Some e
+box_found (x ∷ xs) (suc i) b rising is =
+    let less : x.number < b.number = later_box x xs i b (pairs_head BoxRises x xs rising) is in
+    cond-false (x.number == b.number) (Some x) (find (λ y. y.number == b.number) xs) (ne_eqb x.number b.number (λ e. omega (arith, less, e)))
+    ∙ box_found xs i b (pairs_tail BoxRises x xs rising) is
+
+-- it has the name that is found by its number
+name_there : (boxes : List MapBox) (i : ℕ) (b : MapBox) (number : ℕ) (name : List ℕ) → AllPairs BoxRises boxes → slice_get boxes i ≡ Some b → number ≡ b.number → Some name ≡ option_map (λ x. x.name) (find (λ x. x.number == number) boxes) → name ≡ b.name
+name_there boxes i b number name rising is same found =
+    let k : Some name ≡ Some b.name = found ∙ ap (λ (n : ℕ). option_map (λ (x : MapBox). x.name) (find (λ x. x.number == n) boxes)) same ∙ ap (option_map (λ (x : MapBox). x.name)) (box_found boxes i b rising is) in
+    cc k
+
+-- the row of what is found by the number that the map tells at a place
+pub row_found_there : {D : Type 0} → (history : Option History) (store : StoreValue D) (m : MapMeaning) (i : ℕ) (at : BoxAt) (found : BoxMeaning) (name : List ℕ) (row : BoxRow) → IsStore history store → m ≡ store.map → Some at ≡ option_map shown_box (slice_get m.boxes i) → Some found ≡ list_numbered store at.number.0
+    → Some name ≡ option_map (λ b. b.name) (box_at m at.number.0) → row ≡ (let r : BoxRow = record { number = at.number.0; next_uid = found.next; messages = length found.rows; octets = box_octets found; name = name } in r) → slice_get (box_rows store.map.boxes (indexes_of store.boxes)) i ≡ Some row
+row_found_there history store m i at found name row s same is numbered named row_is =
+    let b = some_there shown_box (slice_get m.boxes i) at is in
+    let here : slice_get store.map.boxes i ≡ Some b.0 = ap (λ (n : MapMeaning). slice_get n.boxes i) (sym same) ∙ b.1 in
+    let number : at.number.0 ≡ b.0.number = ap (λ (a : BoxAt). a.number.0) b.2 in
+    let rising = (store_is_sound history store s).boxes_rising in
+    let named_is : name ≡ b.0.name = name_there store.map.boxes i b.0 at.number.0 name rising here number (named ∙ ap (λ (n : MapMeaning). option_map (λ (x : MapBox). x.name) (box_at n at.number.0)) same) in
+    row_there store.map.boxes (indexes_of store.boxes) i b.0 found here (sym (found_there history store m i at (Some found) s same is numbered))
+    ∙ ap Some (rw (number, named_is at row_is) (sym row_is))
+
 -- ---- what is shown
 
 -- the row of a mailbox that is shown is that of the mailbox of the map
@@ -70,7 +118,7 @@ same_row b m mailbox s =
     let number = s.number in
     let name = s.name in
     let next = s.next in
-    let many = same_many listed_row _ m.rows mailbox.messages s.rows in
+    let many = same_many listed_row listing_row m.rows mailbox.messages s.rows in
     let octets = same_octets m.rows mailbox.messages s.rows in
     rw (number, name, next) (rw (sym many) (rw (sym octets) refl))
 
