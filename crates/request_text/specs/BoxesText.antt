@@ -11,7 +11,3 @@ box_line row = decimal_text row.number ++ (numbers_text (row.next_uid ∷ row.me
 -- how many mailboxes, and the mailboxes
 abbrev pub boxes_text : List BoxRow → List ℕ
 boxes_text rows = ok_line (numbers_text (length rows ∷ [])) ++ flat_map box_line rows
-
--- what is told of a mailbox that came back: its name, and how many messages it lists
-abbrev pub rebuilt_line : BoxRow → List ℕ
-rebuilt_line row = row.name ++ (numbers_text (row.messages ∷ []) ++ 10 ∷ [])
