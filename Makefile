@@ -50,6 +50,7 @@ uninstall:
 # Times the program on a storage file of 200 MB, a log of 100 MB and stores of up to 100,000 messages, taking messages apart,
 # and appends to a log.
 bench: all
+	bench/user
 	bench/dump
 	bench/logdump
 	cd crates/parts_bench && rt run -- read <stdin
