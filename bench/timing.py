@@ -19,13 +19,13 @@ def run(command, path):
     return seconds, usage.ru_utime + usage.ru_stime, usage.ru_maxrss
 
 
-def through_pipes(command, path, to=os.devnull):
+def through_pipes(command, path, to=os.devnull, errors=None):
     """The seconds that a command takes which gets a file by a pipe, and whose output goes through a pipe into another file, until all
     has ended; and those of its own processor."""
     with open(path, "rb") as source, open(to, "wb") as out:
         begin = time.perf_counter()
         giver = subprocess.Popen(["cat"], stdin=source, stdout=subprocess.PIPE)
-        child = subprocess.Popen(command, stdin=giver.stdout, stdout=subprocess.PIPE)
+        child = subprocess.Popen(command, stdin=giver.stdout, stdout=subprocess.PIPE, stderr=errors)
         taker = subprocess.Popen(["cat"], stdin=child.stdout, stdout=out)
         giver.stdout.close()
         child.stdout.close()
