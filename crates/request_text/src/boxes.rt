@@ -26,7 +26,10 @@ fn push_box(text: &mut Octets, row: &BoxRow) -> Result<(), NoMemory>
     ensures { OnOk result (text.new ≡ text.old ++ box_line row.now) }
 {
     push_decimal(text, row.number as u64)?;
-    push_numbers(text, &[row.next_uid as u64, row.messages as u64, row.octets])?;
+    push_numbers(
+        text,
+        &[row.next_uid as u64, row.messages as u64, row.octets],
+    )?;
     text.push_all(b" ")?;
     text.push_all(row.name.as_slice())?;
     text.push_all(b"\n")
