@@ -23,7 +23,8 @@ use Rattle.request_text.specs.declared.outcome.StoreRefusal.TheVariants as store
 use Rattle.request_text.specs.declared.outcome.Outcome.{Outcome}
 use Rattle.request_text.specs.declared.outcome.Outcome.TheVariants as outcome
 use Rattle.mdbox_top.specs.InputRun.{DumpPrints, DumpRefuses, LogDumpPrints, LogDumpRefuses, IsOneOf}
-use Rattle.mdbox_top.specs.Run.{Ends, RunOutcome, Moments, Rests, HasStatus, MayHaveFailed}
+use Rattle.mdbox_top.specs.RebuildRun.{RebuildNotes, RebuildTells}
+use Rattle.mdbox_top.specs.Run.{Ends, Notes, RunOutcome, Moments, Rests, HasStatus, MayHaveFailed}
 use Rattle.mdbox_top.proofs.InputLemmas.{dumps_apart, log_dumps_apart, input_status, shows_status}
 use Rattle.mdbox_top.proofs.InitLemmas.{init_status}
 use Rattle.mdbox_top.proofs.RebuildLemmas.{rebuild_status}
@@ -250,8 +251,38 @@ unwritten o last n y s e =
     elim (kept o last y) [ inl same ↦ sym same ∙ l | inr none ↦ absurd (cc (sym none ∙ l)) ]
 
 -- a run of a command doesn't end with status 2
-pub known_words : {D : Type 0} → (c : Command) (left : Option (List ℕ)) (told : Option ℕ) (h k : Option (List ℕ)) (old new : Option History) (f g : Faults) (n : ℕ) (eh : Option (List ℕ)) (ef : ℕ) (ek : Option (List ℕ)) (eg : ℕ) → RunOutcome (Ends D c left told h k old new f g) n eh ef ek eg → n ≡ 2 → ⊥
-known_words {D} c left told h k old new f g n eh ef ek eg r e = used c left told h k old new f g (subst (Ends D c left told h k old new f g) (two r.outcome (sym r.status_is ∙ e)) r.ended)
+pub known_words : {D : Type 0} → (c : Command) (left : Option (List ℕ)) (told : Option ℕ) (h k : Option (List ℕ)) (old new : Option History) (f g : Faults) (n : ℕ) (MayNote : Outcome → Option (List ℕ) → ℕ → Option (List ℕ) → ℕ → Type 0) (eh : Option (List ℕ)) (ef : ℕ) (ek : Option (List ℕ)) (eg : ℕ) → RunOutcome (Ends D c left told h k old new f g) MayNote n eh ef ek eg → n ≡ 2 → ⊥
+known_words {D} c left told h k old new f g n MayNote eh ef ek eg r e = used c left told h k old new f g (subst (Ends D c left told h k old new f g) (two r.outcome (sym r.status_is ∙ e)) r.ended)
+
+-- ---- what is noted before the end
+
+-- without memory for its text, a rebuild that was told is still told
+lacks_text : (now : Option History) (o : Outcome) (text : List ℕ) → RebuildTells now o text → RebuildTells now outcome.NoMemory text
+lacks_text now outcome.Done text t = inl t
+lacks_text now outcome.WriteFault text t = inl t
+lacks_text now outcome.NoMemory text t = t
+lacks_text now other text t = inr t
+
+rebuild_notes : (now : Option History) (o last : Outcome) (h k : Option (List ℕ)) (f g : ℕ) → EndsAs o last → RebuildNotes now o h f k g → RebuildNotes now last h f k g
+rebuild_notes now o last h k f g y n = elim (kept o last y) [
+  | inl same ↦ subst (λ (x : Outcome). RebuildNotes now x h f k g) (sym same) n
+  | inr none ↦ subst (λ (x : Outcome). RebuildNotes now x h f k g) (sym none) (n.0, lacks_text now o n.0 n.1, n.2)
+]
+
+pub notes_last : (c : Command) (now : Option History) (o last : Outcome) (h k : Option (List ℕ)) (f g : ℕ) → EndsAs o last → Notes c now o h f k g → Notes c now last h f k g
+notes_last (command.Rebuild id) now o last h k f g y n = rebuild_notes now o last h k f g y n
+notes_last other now o last h k f g y n = n
+
+pub named_unnoted : (c : Command) → NamesMailbox c → (now : Option History) (h : Option (List ℕ)) (f : ℕ) → Notes c now outcome.NoMemory h f h f
+named_unnoted (command.Deliver name) named now h f = (refl, refl)
+named_unnoted (command.List name) named now h f = (refl, refl)
+named_unnoted (command.Fetch name uid) named now h f = (refl, refl)
+named_unnoted (command.Flag name uid flags) named now h f = (refl, refl)
+named_unnoted (command.Expunge name uid) named now h f = (refl, refl)
+named_unnoted (command.Copy name uid target) named now h f = (refl, refl)
+named_unnoted (command.Move name uid target) named now h f = (refl, refl)
+named_unnoted (command.Make name) named now h f = (refl, refl)
+named_unnoted other named now h f = absurd named
 
 -- ---- faults of the disk
 
