@@ -6,6 +6,7 @@ use folder_disk::FolderDisk;
 use folder_kept::KeptFolder;
 use folder_mem::BareFolder;
 use mdbox_base::{NoMemory, Octets};
+use mdbox_threads::InTurn;
 use mdbox_top::{Status, mdbox_alone};
 use request_text::{Outcome, WordsError, read_words, report};
 use std::alloc::Global;
@@ -27,6 +28,7 @@ pub fn perform<D: Disk>(
 ) -> (D, u8) {
     let (Status(status), disk) = match read_words(alloc, words) {
         Ok(command) => mdbox_alone(
+            &InTurn,
             alloc,
             command,
             disk,

@@ -8,7 +8,7 @@ use crate::exits::exit_of;
 use crate::folder::run_in;
 use crate::reasons::{has_no_reader, tell_disk, tell_input, tell_more, tell_output};
 use crate::streams::hold_streams;
-use crate::words::words_of;
+use crate::words::{are_text, words_of};
 use mdbox_base::{MemSink, Octets, Seq, give_all};
 use os_folder::{OsFolder, StdClock, StdSink, StdSource};
 use request_text::{Outcome, Status, report};
@@ -16,7 +16,7 @@ use std::env;
 use std::process::ExitCode;
 use std::thread::Threads;
 
-/// How many octets a run may tell on standard error. It tells one line, of at most 150.
+/// How many octets a run may tell on standard error without memory. Of its end it tells one line, of at most 150; a rebuild tells more.
 const ROOM: usize = 512;
 
 /// Runs the words after the program's name on standard input, output and errors, the system's clock and the files of the
@@ -35,9 +35,11 @@ pub fn start<R: Threads + Sync>(rt: &R, host: HostRuntime) -> ExitCode
     let Ok(room) = Vec::with_capacity(host.alloc(), ROOM) else {
         return exit_of(report(host.alloc(), &mut errors, Outcome::NoMemory));
     };
-    let words = words_of(host.alloc(), env::args(&host));
-    let asked = asked_by(host.alloc(), &words);
-    if asked == Asked::Rebuild && is_dovecots(&host) {
+    let all = env::args(&host);
+    let is_text = are_text(&all);
+    let words = words_of(host.alloc(), all);
+    let asked = asked_by(host.alloc(), is_text, &words);
+    if matches!(asked, Asked::Rebuild) && is_dovecots(&host) {
         let _ = give_all(
             &mut errors,
             b"mdbox: Dovecot's index is here: copy storage/m.* and attachments into a new folder first\n",
@@ -64,7 +66,7 @@ pub fn start<R: Threads + Sync>(rt: &R, host: HostRuntime) -> ExitCode
     }
     let _ = give_all(&mut errors, told.held().as_slice());
     match status.0 {
-        0 => tell_more(host, &mut errors, asked),
+        0 | 2 => tell_more(host, &mut errors, &asked),
         3 => folder.leave(),
         6 => tell_disk(host, &mut errors, &folder),
         7 => tell_input(host, &mut errors, &input, &clock),

@@ -1,4 +1,6 @@
+pub mod BackLemmas
 pub mod BatchLemmas
+pub mod BoxesLemmas
 pub mod CountsLemmas
 pub mod DeliverLemmas
 pub mod ExerciseLemmas

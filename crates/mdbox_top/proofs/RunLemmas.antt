@@ -23,7 +23,8 @@ use Rattle.request_text.specs.declared.outcome.StoreRefusal.TheVariants as store
 use Rattle.request_text.specs.declared.outcome.Outcome.{Outcome}
 use Rattle.request_text.specs.declared.outcome.Outcome.TheVariants as outcome
 use Rattle.mdbox_top.specs.InputRun.{DumpPrints, DumpRefuses, LogDumpPrints, LogDumpRefuses, IsOneOf}
-use Rattle.mdbox_top.specs.Run.{Ends, RunOutcome, Moments, Rests, HasStatus, MayHaveFailed}
+use Rattle.mdbox_top.specs.RebuildRun.{RebuildNotes, RebuildTells}
+use Rattle.mdbox_top.specs.Run.{Ends, Notes, RunOutcome, Moments, Rests, HasStatus, MayHaveFailed}
 use Rattle.mdbox_top.proofs.InputLemmas.{dumps_apart, log_dumps_apart, input_status, shows_status}
 use Rattle.mdbox_top.proofs.InitLemmas.{init_status}
 use Rattle.mdbox_top.proofs.RebuildLemmas.{rebuild_status}
@@ -39,6 +40,7 @@ use Rattle.mdbox_top.specs.CountsRun.{IsCountsReply}
 use Rattle.mdbox_top.specs.PurgeRun.{IsPurgeReply}
 use Rattle.mdbox_top.specs.ResyncRun.{IsResyncReply}
 use Rattle.mdbox_top.proofs.BatchLemmas.{batch_damage, batch_input, batch_rests_as, batch_status, batch_used}
+use Rattle.mdbox_top.proofs.BoxesLemmas.{boxes_damage, boxes_input, boxes_status, boxes_used}
 use Rattle.mdbox_top.proofs.CountsLemmas.{counts_status}
 use Rattle.mdbox_top.proofs.ResyncLemmas.{resync_status}
 use Rattle.mdbox_top.proofs.ExerciseLemmas.{exercise_damage, exercise_input, exercise_rests_as, exercise_status, exercise_used}
@@ -58,6 +60,7 @@ input_memory (command.Expunge name uid) left told h k old new f g why e = absurd
 input_memory (command.Copy name uid target) left told h k old new f g why e = absurd (request_input (IsCopyReply name uid target) (request.Copy name uid target) h k old new f g why e)
 input_memory (command.Move name uid target) left told h k old new f g why e = absurd (request_input (IsMoveReply name uid target) (request.Move name uid target) h k old new f g why e)
 input_memory (command.Make name) left told h k old new f g why e = absurd (request_input (IsMakeReply name) (request.Make name) h k old new f g why e)
+input_memory command.Boxes left told h k old new f g why e = absurd (boxes_input h k old new f g why e)
 input_memory command.Counts left told h k old new f g why e = absurd (request_input IsCountsReply request.Counts h k old new f g why e)
 input_memory command.Resync left told h k old new f g why e = absurd (request_input IsResyncReply request.Resync h k old new f g why e)
 input_memory command.Purge left told h k old new f g why e = absurd (request_input IsPurgeReply request.Purge h k old new f g why e)
@@ -78,6 +81,7 @@ damage_memory (command.Expunge box uid) left told h k old new f g name place e =
 damage_memory (command.Copy box uid target) left told h k old new f g name place e = request_damage (IsCopyReply box uid target) (request.Copy box uid target) h k old new f g (store.Damaged name place) e
 damage_memory (command.Move box uid target) left told h k old new f g name place e = request_damage (IsMoveReply box uid target) (request.Move box uid target) h k old new f g (store.Damaged name place) e
 damage_memory (command.Make box) left told h k old new f g name place e = request_damage (IsMakeReply box) (request.Make box) h k old new f g (store.Damaged name place) e
+damage_memory command.Boxes left told h k old new f g name place e = boxes_damage h k old new f g (store.Damaged name place) e
 damage_memory command.Counts left told h k old new f g name place e = request_damage IsCountsReply request.Counts h k old new f g (store.Damaged name place) e
 damage_memory command.Resync left told h k old new f g name place e = request_damage IsResyncReply request.Resync h k old new f g (store.Damaged name place) e
 damage_memory command.Purge left told h k old new f g name place e = request_damage IsPurgeReply request.Purge h k old new f g (store.Damaged name place) e
@@ -120,6 +124,7 @@ has_status (command.Expunge name uid) r left told h k old new f g o e = λ lists
 has_status (command.Copy name uid target) r left told h k old new f g o e = λ lists s. request_status (IsCopyReply name uid target) (request.Copy name uid target) h k old new f g o e lists s
 has_status (command.Move name uid target) r left told h k old new f g o e = λ lists s. request_status (IsMoveReply name uid target) (request.Move name uid target) h k old new f g o e lists s
 has_status (command.Make name) r left told h k old new f g o e = λ lists s. request_status (IsMakeReply name) (request.Make name) h k old new f g o e lists s
+has_status command.Boxes r left told h k old new f g o e = λ lists s. boxes_status h k old new f g o e lists s
 has_status command.Counts r left told h k old new f g o e = λ lists s. counts_status h k old new f g o e lists s
 has_status command.Resync r left told h k old new f g o e = λ lists s. resync_status h k old new f g o e lists s
 has_status command.Purge r left told h k old new f g o e = λ lists s. request_status IsPurgeReply request.Purge h k old new f g o e lists s
@@ -142,6 +147,7 @@ used (command.Expunge name uid) left told h k old new f g e = request_used (IsEx
 used (command.Copy name uid target) left told h k old new f g e = request_used (IsCopyReply name uid target) (request.Copy name uid target) h k old new f g e
 used (command.Move name uid target) left told h k old new f g e = request_used (IsMoveReply name uid target) (request.Move name uid target) h k old new f g e
 used (command.Make name) left told h k old new f g e = request_used (IsMakeReply name) (request.Make name) h k old new f g e
+used command.Boxes left told h k old new f g e = boxes_used h k old new f g e
 used command.Counts left told h k old new f g e = request_used IsCountsReply request.Counts h k old new f g e
 used command.Resync left told h k old new f g e = request_used IsResyncReply request.Resync h k old new f g e
 used command.Purge left told h k old new f g e = request_used IsPurgeReply request.Purge h k old new f g e
@@ -245,8 +251,38 @@ unwritten o last n y s e =
     elim (kept o last y) [ inl same ↦ sym same ∙ l | inr none ↦ absurd (cc (sym none ∙ l)) ]
 
 -- a run of a command doesn't end with status 2
-pub known_words : {D : Type 0} → (c : Command) (left : Option (List ℕ)) (told : Option ℕ) (h k : Option (List ℕ)) (old new : Option History) (f g : Faults) (n : ℕ) (eh : Option (List ℕ)) (ef : ℕ) (ek : Option (List ℕ)) (eg : ℕ) → RunOutcome (Ends D c left told h k old new f g) n eh ef ek eg → n ≡ 2 → ⊥
-known_words {D} c left told h k old new f g n eh ef ek eg r e = used c left told h k old new f g (subst (Ends D c left told h k old new f g) (two r.outcome (sym r.status_is ∙ e)) r.ended)
+pub known_words : {D : Type 0} → (c : Command) (left : Option (List ℕ)) (told : Option ℕ) (h k : Option (List ℕ)) (old new : Option History) (f g : Faults) (n : ℕ) (MayNote : Outcome → Option (List ℕ) → ℕ → Option (List ℕ) → ℕ → Type 0) (eh : Option (List ℕ)) (ef : ℕ) (ek : Option (List ℕ)) (eg : ℕ) → RunOutcome (Ends D c left told h k old new f g) MayNote n eh ef ek eg → n ≡ 2 → ⊥
+known_words {D} c left told h k old new f g n MayNote eh ef ek eg r e = used c left told h k old new f g (subst (Ends D c left told h k old new f g) (two r.outcome (sym r.status_is ∙ e)) r.ended)
+
+-- ---- what is noted before the end
+
+-- without memory for its text, a rebuild that was told is still told
+lacks_text : (now : Option History) (o : Outcome) (text : List ℕ) → RebuildTells now o text → RebuildTells now outcome.NoMemory text
+lacks_text now outcome.Done text t = inl t
+lacks_text now outcome.WriteFault text t = inl t
+lacks_text now outcome.NoMemory text t = t
+lacks_text now other text t = inr t
+
+rebuild_notes : (now : Option History) (o last : Outcome) (h k : Option (List ℕ)) (f g : ℕ) → EndsAs o last → RebuildNotes now o h f k g → RebuildNotes now last h f k g
+rebuild_notes now o last h k f g y n = elim (kept o last y) [
+  | inl same ↦ subst (λ (x : Outcome). RebuildNotes now x h f k g) (sym same) n
+  | inr none ↦ subst (λ (x : Outcome). RebuildNotes now x h f k g) (sym none) (n.0, lacks_text now o n.0 n.1, n.2)
+]
+
+pub notes_last : (c : Command) (now : Option History) (o last : Outcome) (h k : Option (List ℕ)) (f g : ℕ) → EndsAs o last → Notes c now o h f k g → Notes c now last h f k g
+notes_last (command.Rebuild id) now o last h k f g y n = rebuild_notes now o last h k f g y n
+notes_last other now o last h k f g y n = n
+
+pub named_unnoted : (c : Command) → NamesMailbox c → (now : Option History) (h : Option (List ℕ)) (f : ℕ) → Notes c now outcome.NoMemory h f h f
+named_unnoted (command.Deliver name) named now h f = (refl, refl)
+named_unnoted (command.List name) named now h f = (refl, refl)
+named_unnoted (command.Fetch name uid) named now h f = (refl, refl)
+named_unnoted (command.Flag name uid flags) named now h f = (refl, refl)
+named_unnoted (command.Expunge name uid) named now h f = (refl, refl)
+named_unnoted (command.Copy name uid target) named now h f = (refl, refl)
+named_unnoted (command.Move name uid target) named now h f = (refl, refl)
+named_unnoted (command.Make name) named now h f = (refl, refl)
+named_unnoted other named now h f = absurd named
 
 -- ---- faults of the disk
 
@@ -283,6 +319,7 @@ rests_last (command.Expunge name uid) left told F G f g old new h r = λ none. r
 rests_last (command.Copy name uid target) left told F G f g old new h r = λ none. r (λ failed. none (h failed))
 rests_last (command.Move name uid target) left told F G f g old new h r = λ none. r (λ failed. none (h failed))
 rests_last (command.Make name) left told F G f g old new h r = λ none. r (λ failed. none (h failed))
+rests_last command.Boxes left told F G f g old new h r = λ none. r (λ failed. none (h failed))
 rests_last command.Counts left told F G f g old new h r = λ none. r (λ failed. none (h failed))
 rests_last command.Resync left told F G f g old new h r = λ none. r (λ failed. none (h failed))
 rests_last command.Purge left told F G f g old new h r = λ none. r (λ failed. none (h failed))
