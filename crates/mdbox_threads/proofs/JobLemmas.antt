@@ -1,11 +1,10 @@
 -- What jobs come to.
-use Rattle.std.specs.Prelude.{◌≡◌, ◌<◌, ◌+◌, ◌++◌, ℕ, suc, Bool, true, false, List, [], ◌∷◌, All, drop, get_or, if◌then◌else◌, length, map, slice_get, slice_index_or, take, Option, Some}
+use Rattle.std.specs.Prelude.{◌≡◌, ◌<◌, ◌+◌, ◌++◌, ℕ, suc, Bool, true, false, List, [], ◌∷◌, All, drop, get_or, if◌then◌else◌, length, map, slice_get, slice_index_or, take, Some}
 use Rattle.std.proofs.Common.{refl, sym, ◌∙◌, ap, subst, arith, append-nil, append_assoc}
 use Rattle.std.proofs.lemmas.List.{take_more, drop_more, take_at, length-append, length-take-le}
 use Rattle.std.proofs.lemmas.List.Elements.{All-nil, All-cons}
 use Rattle.std.proofs.lemmas.Option.{slice_get-get_or}
 use mathlib.Core.List.{map-append}
-use Rattle.attach_detach.specs.declared.message.Prepared.{Prepared}
 use Rattle.mdbox_base.specs.declared.requests.Request.{Request}
 use Rattle.mdbox_base.specs.declared.requests.Request.TheVariants as request
 use Rattle.mdbox_threads.specs.Jobs.{IsDeliveryAt, IsDoneOf, IsMadeOf, IsNextDone, delivers, places_from}
