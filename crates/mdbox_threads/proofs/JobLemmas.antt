@@ -94,7 +94,7 @@ stand before (asked ∷ rest) jobs e =
     let whole : (before ++ asked ∷ []) ++ rest ≡ before ++ asked ∷ rest = append_assoc before (asked ∷ []) rest in
     let long : length before + 1 ≡ length (before ++ asked ∷ []) = sym (length-append before (asked ∷ [])) in
     stand_if (delivers asked.1) asked before rest jobs refl e
-        (λ more m. subst (λ (script : List (ℕ × Request)). All (λ (job : Job). IsDeliveryAt script job.place) more) whole (stand (before ++ asked ∷ []) rest more (m ∙ ap (λ (n : ℕ). places_from n rest) long)))
+    (λ more m. subst (λ (script : List (ℕ × Request)). All (λ (job : Job). IsDeliveryAt script job.place) more) whole (stand (before ++ asked ∷ []) rest more (m ∙ ap (λ (n : ℕ). places_from n rest) long)))
 
 pub places_stand : (script : List (ℕ × Request)) (jobs : List Job) → map place_of jobs ≡ places_from 0 script → All (λ (job : Job). IsDeliveryAt script job.place) jobs
 places_stand script jobs e = stand [] script jobs e

@@ -85,10 +85,15 @@ fn do_jobs<R: Threads + Sync>(
     ensures same { map (λ job. job.place) jobs.new ≡ map (λ job. job.place) jobs.old }
     ensures done { All (IsDoneOf requests.now) jobs.new }
 {
-    thread::for_each_mut(rt, jobs, threads, &|_i, job| -> ()
+    thread::for_each_mut(
+        rt,
+        jobs,
+        threads,
+        &|_i, job| -> ()
             requires { All (λ asked. FitsScript asked.1) requests.now × IsDeliveryAt requests.now job.now.place }
             ensures { (job.exit.now.place ≡ job.entry.now.place) × IsDoneOf requests.entry.now job.exit.now }
-        { do_job(alloc, requests, job) });
+        { do_job(alloc, requests, job) },
+    );
 }
 
 /// Gives each delivery what came of its job, and any other request nothing.

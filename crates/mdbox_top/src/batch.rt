@@ -16,9 +16,7 @@ use crate::deliver::unread;
 use crate::opening::outcome_of;
 use attach_detach::Prepared;
 use disk_model::Disk;
-use mdbox_base::{
-    JournalEntry, NoMemory, Octets, Reply, Script, Seq, Sink, Source, read_all,
-};
+use mdbox_base::{JournalEntry, NoMemory, Octets, Reply, Script, Seq, Sink, Source, read_all};
 use mdbox_threads::Preparer;
 use piece_writer::PrintError;
 use request_text::{InputRefusal, Outcome, outcome_of_replies, print_batch};

@@ -84,7 +84,9 @@ pub fn mdbox_run<R: Threads + Sync, D: Disk, I: Source, O: Sink, E: Sink, C: Clo
     match read_words(alloc, words) {
         Ok(command) => {
             let preparer = InThreads { rt };
-            mdbox_alone(&preparer, alloc, command, disk, input, output, errors, clock)
+            mdbox_alone(
+                &preparer, alloc, command, disk, input, output, errors, clock,
+            )
         }
         Err(WordsError::Usage) => (report(alloc, errors, Outcome::Usage), disk),
         Err(WordsError::NoMemory) => (report(alloc, errors, Outcome::NoMemory), disk),
