@@ -1,5 +1,5 @@
 -- How `boxes` ends.
-use Rattle.std.specs.Prelude.{◌≡◌, ◌⊎◌, ◌<◌, ◌+◌, ◌==◌, ◌++◌, ℕ, List, [], ◌∷◌, All, AllPairs, find, length, map, slice_get, take, Option, Some, None}
+use Rattle.std.specs.Prelude.{◌≡◌, ◌⊎◌, ◌<◌, ◌+◌, ◌==◌, ◌++◌, ℕ, List, [], ◌∷◌, All, AllPairs, find, length, map, slice_get, take, Option, Some, None, Result, Ok, Err, IfOk}
 use Rattle.std.specs.Option.{option_map}
 use Rattle.std.proofs.Common.{zero, suc, refl, sym, ◌∙◌, ap, subst, inl, inr, arith}
 use Rattle.std.proofs.lemmas.Bool.{cond-true, cond-false, eq-eqb, ne_eqb}
@@ -100,17 +100,26 @@ no_name_there m i at rising is none =
     let k : None ≡ Some b.0.name = none ∙ ap (λ (a : BoxAt). option_map (λ (x : MapBox). x.name) (box_at m a.number.0)) b.2 ∙ ap (option_map (λ (x : MapBox). x.name)) (box_found m.boxes i b.0 rising b.1) in
     cc k
 
+-- the map of the store, as two calls hand it out
+pub no_name_in : {D : Type 0} → (history : Option History) (store : StoreValue D) (m n : MapMeaning) (i : ℕ) (at : BoxAt) → IsStore history store → m ≡ store.map → n ≡ store.map → Some at ≡ option_map shown_box (slice_get m.boxes i) → None ≡ option_map (λ b. b.name) (box_at n at.number.0) → ⊥
+no_name_in history store m n i at s same also is none =
+    no_name_there store.map i at (store_is_sound history store s).boxes_rising (is ∙ ap (λ (x : MapMeaning). option_map shown_box (slice_get x.boxes i)) same) (none ∙ ap (λ (x : MapMeaning). option_map (λ (b : MapBox). b.name) (box_at x at.number.0)) also)
+
 -- the row of what is found by the number that the map tells at a place
-pub row_found_there : {D : Type 0} → (history : Option History) (store : StoreValue D) (m : MapMeaning) (i : ℕ) (at : BoxAt) (found : BoxMeaning) (name : List ℕ) (row : BoxRow) → IsStore history store → m ≡ store.map → Some at ≡ option_map shown_box (slice_get m.boxes i) → Some found ≡ list_numbered store at.number.0
-    → Some name ≡ option_map (λ b. b.name) (box_at m at.number.0) → row ≡ (let r : BoxRow = record { number = at.number.0; next_uid = found.next; messages = length found.rows; octets = box_octets found; name = name } in r) → slice_get (box_rows store.map.boxes (indexes_of store.boxes)) i ≡ Some row
-row_found_there history store m i at found name row s same is numbered named row_is =
+row_found_there : {D : Type 0} → (history : Option History) (store : StoreValue D) (m n : MapMeaning) (i : ℕ) (at : BoxAt) (found : BoxMeaning) (name : List ℕ) → IsStore history store → m ≡ store.map → n ≡ store.map → Some at ≡ option_map shown_box (slice_get m.boxes i) → Some found ≡ list_numbered store at.number.0
+    → Some name ≡ option_map (λ b. b.name) (box_at n at.number.0) → slice_get (box_rows store.map.boxes (indexes_of store.boxes)) i ≡ Some (let r : BoxRow = record { number = at.number.0; next_uid = found.next; messages = length found.rows; octets = box_octets found; name = name } in r)
+row_found_there history store m n i at found name s same also is numbered named =
     let b = some_there shown_box (slice_get m.boxes i) at is in
-    let here : slice_get store.map.boxes i ≡ Some b.0 = ap (λ (n : MapMeaning). slice_get n.boxes i) (sym same) ∙ b.1 in
+    let here : slice_get store.map.boxes i ≡ Some b.0 = ap (λ (x : MapMeaning). slice_get x.boxes i) (sym same) ∙ b.1 in
     let number : at.number.0 ≡ b.0.number = ap (λ (a : BoxAt). a.number.0) b.2 in
-    let rising = (store_is_sound history store s).boxes_rising in
-    let named_is : name ≡ b.0.name = name_there store.map.boxes i b.0 at.number.0 name rising here number (named ∙ ap (λ (n : MapMeaning). option_map (λ (x : MapBox). x.name) (box_at n at.number.0)) same) in
+    let named_is : name ≡ b.0.name = name_there store.map.boxes i b.0 at.number.0 name (store_is_sound history store s).boxes_rising here number (named ∙ ap (λ (x : MapMeaning). option_map (λ (y : MapBox). y.name) (box_at x at.number.0)) also) in
     row_there store.map.boxes (indexes_of store.boxes) i b.0 found here (sym (found_there history store m i at (Some found) s same is numbered))
-    ∙ ap Some (sym (row_is ∙ same_fields at.number.0 b.0.number found.next found.next (length found.rows) (length found.rows) (box_octets found) (box_octets found) name b.0.name number refl refl refl named_is))
+    ∙ ap Some (sym (same_fields at.number.0 b.0.number found.next found.next (length found.rows) (length found.rows) (box_octets found) (box_octets found) name b.0.name number refl refl refl named_is))
+
+pub found_row : {D E : Type 0} → (history : Option History) (store : StoreValue D) (m n : MapMeaning) (i : ℕ) (at : BoxAt) (found : BoxMeaning) (name : List ℕ) (r : Result BoxRow E) → IsStore history store → m ≡ store.map → n ≡ store.map → Some at ≡ option_map shown_box (slice_get m.boxes i) → Some found ≡ list_numbered store at.number.0
+    → Some name ≡ option_map (λ b. b.name) (box_at n at.number.0) → IfOk r (λ row. row ≡ (let x : BoxRow = record { number = at.number.0; next_uid = found.next; messages = length found.rows; octets = box_octets found; name = name } in x)) → IfOk r (λ row. slice_get (box_rows store.map.boxes (indexes_of store.boxes)) i ≡ Some row)
+found_row history store m n i at found name (Ok row) s same also is numbered named made = row_found_there history store m n i at found name s same also is numbered named ∙ ap Some (sym made)
+found_row history store m n i at found name (Err e) s same also is numbered named made = tt
 
 -- ---- what is shown
 
