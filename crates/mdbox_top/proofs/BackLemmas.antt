@@ -48,7 +48,7 @@ use Rattle.mdbox_top.proofs.RebuildLemmas.{rebuilt_ends}
 
 pub told_more : (rows : List BoxRow) (i : ℕ) (old new : List ℕ) → old ≡ flat_map row_told (take i rows) → TellsRow rows i old new → new ≡ flat_map row_told (take (i + 1) rows)
 told_more rows i old new so t =
-    t.2.1 ∙ ap (λ (x : List ℕ). x ++ row_told t.0) so
+    t.2 ∙ ap (λ (x : List ℕ). x ++ row_told t.0) so
     ∙ ap (λ (x : List ℕ). flat_map row_told (take i rows) ++ x) (sym (append-nil (row_told t.0)))
     ∙ sym (flat_map-append row_told (take i rows) (t.0 ∷ []))
     ∙ ap (flat_map row_told) (sym (row_more rows i t.0 t.1))
@@ -93,7 +93,7 @@ found_many store [] [] (e ∷ logs) now f = absurd f
 found_many store [] (c ∷ found) logs now f = absurd f
 found_many store (b ∷ boxes) [] logs now f = absurd f
 found_many store (b ∷ boxes) (c ∷ found) [] now f = absurd f
-found_many store (b ∷ boxes) (c ∷ found) (e ∷ logs) now f = ap (λ (n : ℕ). n + 1) (found_many store boxes found logs now f.1)
+found_many store (b ∷ boxes) (c ∷ found) (e ∷ logs) now f = ap suc (found_many store boxes found logs now f.1)
 
 same_meaning : (m : MapMeaning) → MeansSame m m
 same_meaning m = record { store = refl; records = refl; numbers = refl; names = refl; sealed = refl; highest = refl }

@@ -130,7 +130,7 @@ same_many f g [] (y ∷ ys) e = absurd (cc e)
 same_many f g (x ∷ xs) [] e = absurd (cc e)
 same_many f g (x ∷ xs) (y ∷ ys) e =
     let rest : map f xs ≡ map g ys = cc e in
-    ap (λ (n : ℕ). n + 1) (same_many f g xs ys rest)
+    ap suc (same_many f g xs ys rest)
 
 same_row : (b : MapBox) (m : BoxMeaning) (mailbox : Mailbox) → ShowsMailbox b m mailbox → row_of_box b m ≡ row_of_mailbox mailbox
 same_row b m mailbox s =

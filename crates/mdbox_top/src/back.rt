@@ -35,7 +35,8 @@ pub(crate) fn read_back<D: Disk>(alloc: Global, disk: &mut D) -> Result<Octets, 
         },
         Err(CheckError::DiskFault) => Err(BackError::DiskFault),
         Err(CheckError::NoMemory) => Err(BackError::NoMemory),
-        Err(_) => Ok(Octets::empty(alloc)),
+        Err(CheckError::NoStore) => Ok(Octets::empty(alloc)),
+        Err(CheckError::Damaged(..)) => Ok(Octets::empty(alloc)),
     }
 }
 

@@ -12,8 +12,8 @@ pub loop-place-preserved : goal.loop-place-preserved
 loop-place-preserved c =
     told_more (box_rows c.args.checked.now.map.meaning.boxes (map (λ b. b.index.meaning) c.args.checked.now.boxes)) c.loop-place.place c.loop-place.text c.push_told.new.text c.loop-place.invariant c.in_ok-push_told.ensures
 
-pub returns-clause-result : goal.returns-clause-result
-returns-clause-result c =
+pub returns : goal.returns
+returns c =
     let rows = box_rows c.args.checked.now.map.meaning.boxes (map (λ b. b.index.meaning) c.args.checked.now.boxes) in
     let many = as_many_rows c.args.checked.now.map.meaning.boxes (map (λ b. b.index.meaning) c.args.checked.now.boxes) (length-map c.args.checked.now.boxes (λ (b : CheckedBox). b.index.meaning) ∙ c.requires) in
     c.loop-place.invariant ∙ ap (flat_map row_told) (take_all c.loop-place.place rows (omega (arith, many)))

@@ -11,8 +11,8 @@ loop-place-preserved g c =
     let rows = box_rows c.args.store.now.map.boxes (indexes_of c.args.store.now.boxes) in
     c.push.ensures ∙ ap (λ (rs : List BoxRow). rs ++ c.in_ok-row_at.row ∷ []) c.loop-place.invariant ∙ sym (row_more rows c.loop-place.place c.in_ok-row_at.row c.in_ok-row_at.ensures)
 
-pub returns-clause-result : goal.returns-clause-result
-returns-clause-result g c =
+pub returns : goal.returns
+returns g c =
     let rows = box_rows c.args.store.now.map.boxes (indexes_of c.args.store.now.boxes) in
     let many = as_many_rows c.args.store.now.map.boxes (indexes_of c.args.store.now.boxes) (one_meaning_each _ c.args.store.now c.facts.ensures.store) in
     c.loop-place.invariant ∙ take_all c.loop-place.place rows (omega (arith, many))
