@@ -1,3 +1,4 @@
+pub mod EventLaws
 pub mod ExpungingLemmas
 pub mod FollowingLemmas
 pub mod GoingLemmas
