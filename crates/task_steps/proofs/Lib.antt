@@ -2,6 +2,7 @@ pub mod EventLaws
 pub mod ExpungingLemmas
 pub mod FollowingLemmas
 pub mod GoingLemmas
+pub mod KeptStoreLemmas
 pub mod OneEventLemmas
 pub mod ReplyingLemmas
 pub mod SeenLemmas
