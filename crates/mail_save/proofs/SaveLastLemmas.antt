@@ -194,23 +194,23 @@ broken_save around after name time octets guid held number uid Stands old new se
     let allowed = room_allows run name octets guid.0 time uid.0 number old lists would f shows.1 in
     let made = is_delivered run lane place said name time octets guid.0 uid.0 number held old lists None (told_calls new.history) f shows stood.0.1 k in (
       (did_fall around after run lane place said q Last lists old new (did.Broken half.Whole) no_numbers (add_stops around run place name time octets guid.0 held said old sees stood.0)
-      (refused_left run lane place Last refusal.Stopped stopped_answer no_numbers lists old new come a.stays shows) a.ran a.stopped a.rose (λ event. inl refl) tt (
-        record { refused = refl; unanswered = refl; ran = a.ran; stopped = a.stopped },
-        refl,
-        (
-          record {
-            would = would;
-            lane_is = refl;
-            request_is = refl;
-            part_is = refl;
-            did = λ found e. (guid.0, given_before place run guid.0 held s, (k.mailbox, held, k.named, held_stored place run guid.0 held s, refl));
-            answer = reply.Saved uid guid;
-            left = left;
-            made = ((allowed, made), refl);
-          },
-          λ settled. subst (λ (ls : Lists). Leaves lists ls old.history new.history) k.by (a.moments lists settled.0),
-        ),
-      )).so,
+          (refused_left run lane place Last refusal.Stopped stopped_answer no_numbers lists old new come a.stays shows) a.ran a.stopped a.rose (λ event. inl refl) tt (
+            record { refused = refl; unanswered = refl; ran = a.ran; stopped = a.stopped },
+            refl,
+            (
+              record {
+                would = would;
+                lane_is = refl;
+                request_is = refl;
+                part_is = refl;
+                did = λ found e. (guid.0, given_before place run guid.0 held s, (k.mailbox, held, k.named, held_stored place run guid.0 held s, refl));
+                answer = reply.Saved uid guid;
+                left = left;
+                made = ((allowed, made), refl);
+              },
+              λ settled. subst (λ (ls : Lists). Leaves lists ls old.history new.history) k.by (a.moments lists settled.0),
+            ),
+          )).so,
       λ e. absurd (never_more _ e),
     )
 
