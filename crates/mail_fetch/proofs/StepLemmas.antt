@@ -2,7 +2,7 @@
 use Rattle.std.proofs.Common.{◌≡◌, ◌≤◌, ◌<◌, ◌+◌, ◌-◌, ◌&&◌, ℕ, Bool, true, false, not, cond, List, [], ◌∷◌, ◌++◌, length, Option, Some, None, refl, sym, ◌∙◌, ap, subst, arith, inl, inr, length-append}
 use Rattle.std.specs.Prelude.{All, ◌⊎◌, ◌≢◌, is_some, nat_lt, sum_by, if◌then◌else◌}
 use Rattle.std.specs.List.{list_any}
-use Rattle.std.specs.Option.{IfSome, option_map, option_map_or, option_or}
+use Rattle.std.specs.Option.{option_map, option_map_or, option_or}
 use Rattle.std.proofs.lemmas.List.Elements.{All-nil, All-push}
 use Rattle.std.proofs.lemmas.Bool.{eq-eqb, ne_eqb, cases_lt}
 use Rattle.disk_model.specs.Disk.{DiskState, History, Faults, Files, IfTold, IsIdle, told_calls}
@@ -25,7 +25,7 @@ use Rattle.mdbox_base.specs.declared.requests.Request.TheVariants as request
 use Rattle.mdbox_base.specs.declared.script.Half.TheVariants as half
 use Rattle.model_lists.specs.Lists.{Lists}
 use Rattle.model_meaning.specs.BoxMeaning.{LogRow, BoxMeaning, row_at}
-use Rattle.model_meaning.specs.MapMeaning.{MapRecord, MapMeaning, map_meaning, named_instances, record_of}
+use Rattle.model_meaning.specs.MapMeaning.{MapRecord, MapMeaning, map_meaning, named_instances, no_numbers, record_of}
 use Rattle.model_meaning.specs.Sound.{IsSoundMap}
 use Rattle.model_meaning.proofs.MapSoundLemmas.{map_sound}
 use Rattle.model_store.specs.Listing.{ShowLists}
@@ -36,7 +36,7 @@ use Rattle.model_store.proofs.StandsLemmas.{map_same}
 use Rattle.list_machine.specs.Run.{First, ReadsPiece, Unpins, RemovesFile, Pin, RunEvent, Run, and_then, own_events, is_pinned, is_unpinning, has_unpinned}
 use Rattle.list_machine.specs.Machine.{PartAnswers, is_step}
 use Rattle.journal.specs.Journal.{refusal_in, IsReplyOf}
-use Rattle.journal.specs.Events.{Around, MayMeet, behind_event, piece_left, leaves_doomed, last_refusal, pieces_to_read}
+use Rattle.journal.specs.Events.{Around, MayMeet, behind_refused, piece_left, leaves_doomed, last_refusal, pieces_to_read}
 use Rattle.journal.proofs.OwnEventLemmas.{own_more, own_other}
 use Rattle.save_instances.specs.Attaching.{found_let_go}
 use Rattle.storage_files.specs.Files.{end_in, is_doomed_in, pins_in}
@@ -45,7 +45,9 @@ use Rattle.store_core.specs.Value.{StoreValue, indexes_of, list_named}
 use Rattle.task_claims.specs.Claims.{AreIn}
 use Rattle.task_steps.specs.Step.{DidEvent, Seen, ShowsSeen, HasComeTo, and_told, ended_by, pins_of}
 use Rattle.task_steps.proofs.SeenLemmas.{doomed_still, pinned_is, pins_still}
-use Rattle.task_steps.proofs.OneEventLemmas.{when_stopped, memory_is, some_given, never_more}
+use Rattle.task_steps.proofs.EventLaws.{did_refused, did_stop, DidBy, fall, no_reply, one_refusal, one_reply, refusal_event, refuses, replied_so, some_reply, stands_by, unstepped}
+use Rattle.task_steps.proofs.KeptStoreLemmas.{comes_along}
+use Rattle.task_steps.proofs.OneEventLemmas.{never_more, plain_forgets, plain_refused, plain_stopped}
 use Rattle.mail_fetch.specs.Claims.{claims_of_pinned, held_for, used_by, with_claims, without_claims}
 use Rattle.mail_fetch.specs.Clause.{CanFetch, FetchSteps, ReadsSafe}
 use Rattle.mail_fetch.specs.Events.{fetch_refusal, IsAbsent, IsBegun, IsStoredBy, IsPinned, IsPieceRead, next_piece, with_piece, NoChangeFault}
@@ -65,13 +67,10 @@ use Rattle.mail_fetch.proofs.PartLemmas.{pieces_after}
 use Rattle.mail_fetch.proofs.FetchPartLemmas.{last_with, next_reads, next_unpins, unpins_by, holds_pin}
 use Rattle.mail_fetch.proofs.HoldLemmas.{rows_held, rows_let_go}
 use Rattle.mail_fetch.proofs.UseLemmas.{one_end, own_one, own_pinned, pins_fewer, pins_more, use_seen}
-use Rattle.mail_fetch.proofs.RemovalLemmas.{did_halted, not_stopped, true_reply_of}
-use Rattle.mail_fetch.proofs.FetchEventLemmas.{behind_reading, DidSo, stands_so, did_refuse, did_nothing, pin_event, did_pin, fetch_event, IsLateRefusal, piece_is_late, unpin_is_late, did_late}
+use Rattle.mail_fetch.proofs.RemovalLemmas.{removal_halts, not_stopped, true_reply_of}
+use Rattle.mail_fetch.proofs.FetchEventLemmas.{behind_reading, comes_with_pins, fetch_is_plain, idle_grows, idle_lasts, idle_leads, never_none, pin_event, did_pin, fetch_event, piece_is_late, unpin_is_late, did_late}
 use Rattle.mail_fetch.proofs.RecordLemmas.{IsShown, shown_by, no_mailbox, no_message, is_fetched, by_guid, listed_stored}
 use Rattle.mail_fetch.proofs.StoredRegionLemmas.{front_more, true_reply}
-
-fall : (b : Bool) → b ≡ true → b ≡ false → ⊥
-fall b t f = let k : true ≡ false = sym t ∙ f in cc k
 
 -- ---- what is known of an open store
 
@@ -99,37 +98,25 @@ boxes_safe (Some h) store lists s runs safe =
 
 -- ---- a store that is stopped
 
-stopped_reply : (said : List Reply) (name : List ℕ) (uid : Uid) (given : Reply) → Some (reply.Refused refusal.Stopped) ≡ Some given → IsReplyOf (request.Fetch name uid) said given
-stopped_reply said name uid given e = subst (λ (r : Reply). IsReplyOf (request.Fetch name uid) said r) (let same : reply.Refused refusal.Stopped ≡ given = cc e in same) tt
-
 pub stopped_steps : {D : Type 0} → (around after : Around) (name : List ℕ) (uid : Uid) (now : FetchStage) (store : StoreValue D) (history : Option History) (faults : Faults) → HasPieceLeft now → store.stopped ≡ true
     → FetchSteps around after name uid now now store store history history faults faults did.Quiet (Some (reply.Refused refusal.Stopped))
 stopped_steps around after name uid stage.First store history faults left stopped = λ run lane place said lists come shows safe stood. (
-  did_nothing around after run lane place said name uid lists (seen_in store history faults) refusal.Stopped come shows stood refl tt tt (when_stopped store.stopped stopped),
+  plain_stopped around after run lane place said (request.Fetch name uid) lists (seen_in store history faults) (fetch_is_plain name uid) come shows stood stopped,
   λ e. absurd (never_more _ e),
 )
 stopped_steps around after name uid (stage.Reading region) store history faults left stopped = λ run lane place said lists come shows safe stood.
-    let seen = seen_in store history faults in (
-      (did_late around after run lane place said name uid lists seen history faults seen.pins seen.known ReadsPiece (Some refusal.Stopped) (Some (reply.Refused refusal.Stopped)) (piece_is_late name uid) come shows (idle-begins history) (record { reads = omega arith; changes = refl }) (λ differs. refl)
-          (next_reads around name uid run place (pieces_left region.left) region.from stood.0 left.0) (refl, λ e. absurd (let k : refusal.Stopped ≡ refusal.NoMemory = e in cc k)) tt
-          (record { 0 = λ e. refl; 1 = λ e f. some_given (reply.Refused refusal.Stopped) f })
-          (last_with (own_events place run) (fetch_event ReadsPiece lane place (Some refusal.Stopped) (Some (reply.Refused refusal.Stopped)) (told_calls history)))
-          (stopped_reply said name uid) (when_stopped store.stopped stopped) (λ e. refl) (λ e. absurd (let k : refusal.Stopped ≡ refusal.ReadFault = cc e in cc k))
-          (λ runs. absurd (fall store.stopped stopped runs))).so,
+    let q = request.Fetch name uid in (
+      (did_stop around after run lane place said q ReadsPiece lists (seen_in store history faults)
+          (refuses around run place q ReadsPiece refusal.Stopped no_numbers (λ lane calls. tt) (λ lane calls. tt) (next_reads around name uid run place (pieces_left region.left) region.from stood.0 left.0) refl) come shows stopped).so,
       λ e. absurd (never_more _ e),
     )
 stopped_steps around after name uid (stage.Unpinning from given) store history faults left stopped = λ run lane place said lists come shows safe stood.
-    let seen = seen_in store history faults in (
-      (did_late around after run lane place said name uid lists seen history faults seen.pins seen.known Unpins (Some refusal.Stopped) (Some (reply.Refused refusal.Stopped)) (unpin_is_late name uid) come shows (idle-begins history) (record { reads = omega arith; changes = refl }) (λ differs. refl)
-          (next_unpins around name uid run place from given stood.0) (refl, λ e. absurd (let k : refusal.Stopped ≡ refusal.NoMemory = e in cc k)) tt
-          (record { 0 = λ e. refl; 1 = λ e f. some_given (reply.Refused refusal.Stopped) f })
-          (last_with (own_events place run) (fetch_event Unpins lane place (Some refusal.Stopped) (Some (reply.Refused refusal.Stopped)) (told_calls history)))
-          (stopped_reply said name uid) (when_stopped store.stopped stopped) (λ e. refl) (λ e. absurd (let k : refusal.Stopped ≡ refusal.ReadFault = cc e in cc k))
-          (λ runs. absurd (fall store.stopped stopped runs))).so,
+    let q = request.Fetch name uid in (
+      (did_stop around after run lane place said q Unpins lists (seen_in store history faults) (refuses around run place q Unpins refusal.Stopped no_numbers (λ lane calls. tt) (λ lane calls. tt) (next_unpins around name uid run place from given stood.0) refl) come shows stopped).so,
       λ e. absurd (never_more _ e),
     )
 stopped_steps around after name uid (stage.Removing file given) store history faults left stopped = λ run lane place said lists come shows safe stood. (
-  did_halted around after run lane place said name uid lists (seen_in store history faults) come shows stopped (next_removes around name uid run place file.0 given stood.0 stood.1),
+  (did_stop around after run lane place said (request.Fetch name uid) RemovesFile lists (seen_in store history faults) (removal_halts around run place name uid (next_removes around name uid run place file.0 given stood.0 stood.1)) come shows stopped).so,
   λ e. absurd (never_more _ e),
 )
 
@@ -149,14 +136,14 @@ first_refused : {D : Type 0} → (around after : Around) (name : List ℕ) (uid 
     → ((run : Run) (event : RunEvent) (lists : Lists) → ShowLists store.map.boxes (indexes_of store.boxes) lists → PartAnswers run event lists (request.Fetch name uid) First (reply.Refused why) lists)
     → FirstClause around after name uid store history faults stage.First (progress.Done (reply.Refused why)) (did.Step half.Whole)
 first_refused around after name uid store history faults why step is runs answers = λ run lane place said lists come shows safe stood. (
-  did_refuse around after run lane place said name uid lists (seen_in store history faults) why come shows stood step is runs (λ event. answers run event lists shows.1),
+  plain_refused around after run lane place said (request.Fetch name uid) lists (seen_in store history faults) why (fetch_is_plain name uid) come shows stood runs step is (λ event. answers run event lists shows.1),
   λ e. absurd (never_more _ e),
 )
 
 -- no memory
 first_memory : {D : Type 0} → (around after : Around) (name : List ℕ) (uid : Uid) (store : StoreValue D) (history : Option History) (faults : Faults) → store.stopped ≡ false → FirstClause around after name uid store history faults stage.First (progress.Done (reply.Refused refusal.NoMemory)) did.Quiet
 first_memory around after name uid store history faults runs = λ run lane place said lists come shows safe stood. (
-  did_nothing around after run lane place said name uid lists (seen_in store history faults) refusal.NoMemory come shows stood refl refl tt (memory_is store.stopped runs),
+  plain_forgets around after run lane place said (request.Fetch name uid) lists (seen_in store history faults) (fetch_is_plain name uid) come shows stood runs,
   λ e. absurd (never_more _ e),
 )
 
@@ -186,9 +173,9 @@ first_pinned around after name uid store history faults row entry end is runs st
     let one_record : (other : MapRecord) → record_of store.map shown.message.guid ≡ Some other → other ≡ entry = λ other there. (let k : Some other ≡ Some entry = sym there ∙ found in cc k) in
     let unpinned : has_unpinned place run ≡ false = ap (λ (es : List RunEvent). list_any is_unpinning es) stood.0 in
     subst (λ (s : Seen). (d : DidEvent around after run lane place said (request.Fetch name uid) lists seen s (did.Step half.Whole) None) × (◌≡◌ {A = Option Reply} None None → IsAtFetch (stage.Reading (unread from)) s.stopped s.history (and_then run d.makes.event) place (and_told said d.makes.answer))) (sym new_is)
-    (stands_so around after run lane place said (request.Fetch name uid) lists seen new (did.Step half.Whole) None event (Some (reply.Fetched shown.message.octets))
+    (stands_by around after run lane place said (request.Fetch name uid) lists seen new (did.Step half.Whole) None event (Some (reply.Fetched shown.message.octets))
     (IsAtFetch (stage.Reading (unread from)) new.stopped new.history)
-    (did_pin around after run lane place said name uid lists seen history faults pins (held_for entry.instances store.instances.known) entry shown.message.octets come shows stood runs (idle-begins history) (record { reads = omega arith; changes = refl }) refl
+    (did_pin around after run lane place said name uid lists seen history faults pins (held_for entry.instances store.instances.known) entry shown.message.octets come shows stood runs (idle-begins history) refl
     (shown.message, shown.there, ap (λ (m : MapMeaning). record_of m shown.message.guid) come.come.map_is ∙ found)
     (λ e. is_fetched run e store.map.boxes (indexes_of store.boxes) lists name uid stored.mailbox row shows.1 stored.named shown)
     (λ ran file.
@@ -287,79 +274,51 @@ begin_steps around after name uid store history faults next answer how is runs b
 
 -- ---- a piece
 
-never_none : (b : Bool) → (if b then Some ReadsPiece else Some Unpins) ≡ None → ⊥
-never_none true e = cc e
-never_none false e = cc e
+-- what refuses a piece is no step, and the request goes on behind it
+piece_why : (name : List ℕ) (uid : Uid) (why : Refusal) → IsPieceRefusal why → (is_step why ≡ false) × (why ≡ refusal.NoMemory → ⊥) × MayMeet ReadsPiece (request.Fetch name uid) why × (behind_refused (request.Fetch name uid) ReadsPiece why ≡ Some Unpins)
+piece_why name uid refusal.ReadFault h = (refl, (λ e. let k : refusal.ReadFault ≡ refusal.NoMemory = e in cc k), refl, refl)
+piece_why name uid (refusal.Damaged file offset) h = (refl, (λ e. let k : refusal.Damaged file offset ≡ refusal.NoMemory = e in cc k), refl, refl)
+piece_why name uid why h = absurd h
 
-no_reply : (r : Reply) → None ≡ Some r → ⊥
-no_reply r e = cc e
+read_done : (around after : Around) (run : Run) (lane place : ℕ) (said : List Reply) (name : List ℕ) (uid : Uid) (lists : Lists) (old : Seen) (history : Option History) (faults : Faults) (region : RegionValue) → HasComeTo run old → ShowsSeen old lists → IsIdle old.history history
+    → NoFault old.faults faults → old.stopped ≡ false → HasReadAllBut region.from (pieces_left region.left) (own_events place run) → 0 < pieces_left region.left
+    → DidBy around after run lane place said (request.Fetch name uid) lists old (behind_reading old history faults old.pins old.known) did.Quiet None (fetch_event ReadsPiece lane place None (told_calls history)) None
+read_done around after run lane place said name uid lists old history faults region come shows idle quiet runs read left =
+    did_late around after run lane place said name uid lists old history faults old.pins old.known ReadsPiece None (piece_is_late name uid) come shows runs idle quiet (next_reads around name uid run place (pieces_left region.left) region.from read left)
+    (record { 0 = λ h. absurd (h refl); 1 = λ e. absurd (never_none (piece_left place (and_then run (fetch_event ReadsPiece lane place None (told_calls history)))) e) }) tt (λ given e. absurd (no_reply given e)) (λ e. no_reply (reply.Refused refusal.Stopped) e)
+    (λ ran file. pins_still run (fetch_event ReadsPiece lane place None (told_calls history)) file refl refl ∙ (come.keeps ran).pins file)
 
--- an event that reads isn't refused, or by what the request goes on behind
-abbrev IsPieceRefused : Option Refusal → Type 0
-IsPieceRefused None = Unit {0}
-IsPieceRefused (Some why) = IsPieceRefusal why
-
-piece_late : (refused : Option Refusal) → IsPieceRefused refused → IsLateRefusal refused
-piece_late None h = tt
-piece_late (Some refusal.ReadFault) h = (refl, λ e. let k : refusal.ReadFault ≡ refusal.NoMemory = e in cc k)
-piece_late (Some (refusal.Damaged file offset)) h = (refl, λ e. let k : refusal.Damaged file offset ≡ refusal.NoMemory = e in cc k)
-piece_late (Some refusal.NoMailbox) h = absurd h
-piece_late (Some refusal.Inbox) h = absurd h
-piece_late (Some refusal.Exists) h = absurd h
-piece_late (Some refusal.NoMessage) h = absurd h
-piece_late (Some refusal.Sealed) h = absurd h
-piece_late (Some (refusal.TooManyCopies n)) h = absurd h
-piece_late (Some (refusal.MailboxFull n)) h = absurd h
-piece_late (Some (refusal.TooManyMailboxes n)) h = absurd h
-piece_late (Some (refusal.StoreFull n)) h = absurd h
-piece_late (Some refusal.NoMemory) h = absurd h
-piece_late (Some refusal.Stopped) h = absurd h
-
-piece_may : (name : List ℕ) (uid : Uid) (refused : Option Refusal) → IsPieceRefused refused → IfSome refused (MayMeet ReadsPiece (request.Fetch name uid))
-piece_may name uid None h = tt
-piece_may name uid (Some refusal.ReadFault) h = refl
-piece_may name uid (Some (refusal.Damaged file offset)) h = refl
-piece_may name uid (Some refusal.NoMailbox) h = absurd h
-piece_may name uid (Some refusal.Inbox) h = absurd h
-piece_may name uid (Some refusal.Exists) h = absurd h
-piece_may name uid (Some refusal.NoMessage) h = absurd h
-piece_may name uid (Some refusal.Sealed) h = absurd h
-piece_may name uid (Some (refusal.TooManyCopies n)) h = absurd h
-piece_may name uid (Some (refusal.MailboxFull n)) h = absurd h
-piece_may name uid (Some (refusal.TooManyMailboxes n)) h = absurd h
-piece_may name uid (Some (refusal.StoreFull n)) h = absurd h
-piece_may name uid (Some refusal.NoMemory) h = absurd h
-piece_may name uid (Some refusal.Stopped) h = absurd h
-
-reading_keeps : (lane place : ℕ) (refused : Option Refusal) (ended : Option Reply) (calls : ℕ) → is_unpinning (fetch_event ReadsPiece lane place refused ended calls) ≡ false
-reading_keeps lane place None ended calls = refl
-reading_keeps lane place (Some why) ended calls = refl
-
-goes_on_behind : (after : Around) (run : Run) (name : List ℕ) (uid : Uid) (lane place : ℕ) (refused : Option Refusal) (calls : ℕ) → IsPieceRefused refused
-    → behind_event after (and_then run (fetch_event ReadsPiece lane place refused None calls)) (request.Fetch name uid) (fetch_event ReadsPiece lane place refused None calls) refused ≡ None → ⊥
-goes_on_behind after run name uid lane place None calls h e = never_none (piece_left place (and_then run (fetch_event ReadsPiece lane place None None calls))) e
-goes_on_behind after run name uid lane place (Some refusal.ReadFault) calls h e = let k : Some Unpins ≡ None = e in cc k
-goes_on_behind after run name uid lane place (Some (refusal.Damaged file offset)) calls h e = let k : Some Unpins ≡ None = e in cc k
-goes_on_behind after run name uid lane place (Some refusal.NoMailbox) calls h e = absurd h
-goes_on_behind after run name uid lane place (Some refusal.Inbox) calls h e = absurd h
-goes_on_behind after run name uid lane place (Some refusal.Exists) calls h e = absurd h
-goes_on_behind after run name uid lane place (Some refusal.NoMessage) calls h e = absurd h
-goes_on_behind after run name uid lane place (Some refusal.Sealed) calls h e = absurd h
-goes_on_behind after run name uid lane place (Some (refusal.TooManyCopies n)) calls h e = absurd h
-goes_on_behind after run name uid lane place (Some (refusal.MailboxFull n)) calls h e = absurd h
-goes_on_behind after run name uid lane place (Some (refusal.TooManyMailboxes n)) calls h e = absurd h
-goes_on_behind after run name uid lane place (Some (refusal.StoreFull n)) calls h e = absurd h
-goes_on_behind after run name uid lane place (Some refusal.NoMemory) calls h e = absurd h
-goes_on_behind after run name uid lane place (Some refusal.Stopped) calls h e = absurd h
-
-read_did : (around after : Around) (run : Run) (lane place : ℕ) (said : List Reply) (name : List ℕ) (uid : Uid) (lists : Lists) (old : Seen) (history : Option History) (faults : Faults) (region : RegionValue) (refused : Option Refusal) → HasComeTo run old → ShowsSeen old lists → IsIdle old.history history
-    → NoChangeFault old.faults faults → (refused ≢ Some refusal.ReadFault → NoFault old.faults faults) → old.stopped ≡ false → HasReadAllBut region.from (pieces_left region.left) (own_events place run) → 0 < pieces_left region.left → IsPieceRefused refused → (refused ≡ Some refusal.ReadFault → Rose old.faults.reads faults.reads)
-    → DidSo around after run lane place said (request.Fetch name uid) lists old (behind_reading old history faults old.pins old.known) did.Quiet None (fetch_event ReadsPiece lane place refused None (told_calls history)) None
-read_did around after run lane place said name uid lists old history faults region refused come shows idle none quiet runs read left may rose =
-    did_late around after run lane place said name uid lists old history faults old.pins old.known ReadsPiece refused None (piece_is_late name uid) come shows idle none quiet (next_reads around name uid run place (pieces_left region.left) region.from read left) (piece_late refused may) (piece_may name uid refused may)
-    (record { 0 = λ h. absurd (h refl); 1 = λ e. absurd (goes_on_behind after run name uid lane place refused (told_calls history) may e) }) tt (λ given e. absurd (no_reply given e))
-    (record { 0 = λ e. absurd (no_reply (reply.Refused refusal.Stopped) e); 1 = λ e. absurd (fall old.stopped e runs) }) (λ e. absurd (fall old.stopped e runs)) rose
-    (λ ran file. pins_still run (fetch_event ReadsPiece lane place refused None (told_calls history)) file refl (reading_keeps lane place refused None (told_calls history)) ∙ (come.keeps ran).pins file)
+read_refused : (around after : Around) (run : Run) (lane place : ℕ) (said : List Reply) (name : List ℕ) (uid : Uid) (lists : Lists) (old : Seen) (history : Option History) (faults : Faults) (region : RegionValue) (why : Refusal) → HasComeTo run old → ShowsSeen old lists → IsIdle old.history history
+    → NoChangeFault old.faults faults → (why ≢ refusal.ReadFault → NoFault old.faults faults) → old.stopped ≡ false → HasReadAllBut region.from (pieces_left region.left) (own_events place run) → 0 < pieces_left region.left → IsPieceRefusal why → (why ≡ refusal.ReadFault → Rose old.faults.reads faults.reads)
+    → DidBy around after run lane place said (request.Fetch name uid) lists old (behind_reading old history faults old.pins old.known) did.Quiet None (refusal_event lane place ReadsPiece why None no_numbers (told_calls history)) None
+read_refused around after run lane place said name uid lists old history faults region why come shows idle none quiet runs read left refused rose =
+    let q = request.Fetch name uid in
+    let event : RunEvent = refusal_event lane place ReadsPiece why None no_numbers (told_calls history) in
+    let new : Seen = behind_reading old history faults old.pins old.known in
+    let w = piece_why name uid why refused in
+    let same = none.changes in
+    did_refused around after run lane place said q ReadsPiece lists old new why None None did.Quiet no_numbers
+    (record {
+      finds = λ lane calls. tt;
+      found = λ lane calls. tt;
+      part_is = next_reads around name uid run place (pieces_left region.left) region.from read left;
+      ends = record { 0 = λ h. absurd (h refl); 1 = λ e. absurd (let k : Some Unpins ≡ None = sym w.3 ∙ e in cc k) };
+      replied = λ given e. absurd (no_reply given e);
+    }) (record {
+      comes = comes_with_pins run event old history faults old.pins old.known come (comes_along run event old new come refl refl (idle_grows old.history history idle) refl refl refl) (λ other. refl) refl refl refl refl refl refl (λ ran file. pins_still run event file refl refl ∙ (come.keeps ran).pins file);
+      shows = shows;
+      lasts = idle_lasts old.map old.history history idle;
+      reads = none.reads;
+      changes = omega (arith, same);
+    }) w.2 (λ e. absurd (w.1 e)) (λ event. inl refl) (λ s. refl) (λ s. absurd (fall (is_step why) s w.0)) (sym w.0) refl (refl, refl, idle_leads lists old history faults old.pins old.known idle) (record {
+      in_turn = λ some. absurd (unstepped some);
+      replied = λ given e. absurd (no_reply given e);
+      halts = record { 0 = λ e. absurd (no_reply (reply.Refused refusal.Stopped) e); 1 = λ e. absurd (fall old.stopped e runs) };
+      still = λ e. absurd (fall old.stopped e runs);
+      reads = λ e. rose (one_refusal why refusal.ReadFault e);
+      faults = record { reads = none.reads; changes = omega (arith, same); rose = λ x. absurd x };
+      unfailed = λ differs faulty. quiet (λ is. differs (ap (λ (r : Refusal). Some r) is));
+    })
 
 -- its own events with one more
 one_piece_more : (from : StoredAt) (own behind : List RunEvent) (event : RunEvent) (more : List RunEvent) → HasPinned from own behind → more ≡ own ++ event ∷ [] → HasPinned from more (behind ++ event ∷ [])
@@ -384,13 +343,13 @@ PieceClause around after name uid region store history faults new then_history t
 
 -- a piece behind which others are read
 piece_more : {D : Type 0} → (around after : Around) (name : List ℕ) (uid : Uid) (region : RegionValue) (store : StoreValue D) (disk : D) (history then_history : Option History) (faults then_faults : Faults) (piece : List ℕ) → HasPieceLeft (stage.Reading region) → store.stopped ≡ false → IsIdle history then_history
-    → NoChangeFault faults then_faults → NoFault faults then_faults → IfTold history (λ d. piece ≡ next_piece region d) → PieceClause around after name uid region store history faults (record store { disk = disk }) then_history then_faults (stage.Reading (with_piece region piece))
-piece_more around after name uid region store disk history then_history faults then_faults piece left runs idle none quiet told = λ run lane place said lists come shows safe stood.
+    → NoFault faults then_faults → IfTold history (λ d. piece ≡ next_piece region d) → PieceClause around after name uid region store history faults (record store { disk = disk }) then_history then_faults (stage.Reading (with_piece region piece))
+piece_more around after name uid region store disk history then_history faults then_faults piece left runs idle quiet told = λ run lane place said lists come shows safe stood.
     let seen = seen_in store history faults in
     let new = seen_in (record store { disk = disk }) then_history then_faults in
-    let event = fetch_event ReadsPiece lane place None None (told_calls then_history) in
-    stands_so around after run lane place said (request.Fetch name uid) lists seen new did.Quiet None event None (IsAtFetch (stage.Reading (with_piece region piece)) new.stopped new.history)
-    (read_did around after run lane place said name uid lists seen then_history then_faults region None come shows idle none (λ differs. quiet) runs stood.0 left.0 tt (λ e. absurd (let k : None ≡ Some refusal.ReadFault = e in cc k)))
+    let event = fetch_event ReadsPiece lane place None (told_calls then_history) in
+    stands_by around after run lane place said (request.Fetch name uid) lists seen new did.Quiet None event None (IsAtFetch (stage.Reading (with_piece region piece)) new.stopped new.history)
+    (read_done around after run lane place said name uid lists seen then_history then_faults region come shows idle quiet runs stood.0 left.0)
     (λ goes_on. (
       (
         stood.0.0 ++ event ∷ [],
@@ -408,9 +367,9 @@ piece_last : {D : Type 0} → (around after : Around) (name : List ℕ) (uid : U
 piece_last around after name uid region store disk history then_history faults then_faults given why left runs idle none quiet refused may rose true_is = λ run lane place said lists come shows safe stood.
     let seen = seen_in store history faults in
     let new = seen_in (record store { disk = disk }) then_history then_faults in
-    let event = fetch_event ReadsPiece lane place (Some why) None (told_calls then_history) in
-    stands_so around after run lane place said (request.Fetch name uid) lists seen new did.Quiet None event None (IsAtFetch (stage.Unpinning region.from given) new.stopped new.history)
-    (read_did around after run lane place said name uid lists seen then_history then_faults region (Some why) come shows idle none (λ differs. quiet (λ same. differs (ap (λ (r : Refusal). Some r) same))) runs stood.0 left.0 may (λ e. rose (let k : why ≡ refusal.ReadFault = cc e in k)))
+    let event = refusal_event lane place ReadsPiece why None no_numbers (told_calls then_history) in
+    stands_by around after run lane place said (request.Fetch name uid) lists seen new did.Quiet None event None (IsAtFetch (stage.Unpinning region.from given) new.stopped new.history)
+    (read_refused around after run lane place said name uid lists seen then_history then_faults region why come shows idle none quiet runs stood.0 left.0 may rose)
     (λ goes_on. (
       inr (
         why,
@@ -427,14 +386,14 @@ piece_last around after name uid region store disk history then_history faults t
 
 -- the last piece of the message that is stored there
 piece_whole : {D : Type 0} → (around after : Around) (name : List ℕ) (uid : Uid) (region : RegionValue) (store : StoreValue D) (disk : D) (history then_history : Option History) (faults then_faults : Faults) (given : Reply) → HasPieceLeft (stage.Reading region) → store.stopped ≡ false → IsIdle history then_history
-    → NoChangeFault faults then_faults → NoFault faults then_faults → refusal_in given ≡ None → pieces_left (left_after region.left) ≡ 0 → ((octets : List ℕ) → Reading (IsFrontOfStored region octets) history → IsTrueReply octets given)
+    → NoFault faults then_faults → refusal_in given ≡ None → pieces_left (left_after region.left) ≡ 0 → ((octets : List ℕ) → Reading (IsFrontOfStored region octets) history → IsTrueReply octets given)
     → PieceClause around after name uid region store history faults (record store { disk = disk }) then_history then_faults (stage.Unpinning region.from given)
-piece_whole around after name uid region store disk history then_history faults then_faults given left runs idle none quiet fetched last true_is = λ run lane place said lists come shows safe stood.
+piece_whole around after name uid region store disk history then_history faults then_faults given left runs idle quiet fetched last true_is = λ run lane place said lists come shows safe stood.
     let seen = seen_in store history faults in
     let new = seen_in (record store { disk = disk }) then_history then_faults in
-    let event = fetch_event ReadsPiece lane place None None (told_calls then_history) in
-    stands_so around after run lane place said (request.Fetch name uid) lists seen new did.Quiet None event None (IsAtFetch (stage.Unpinning region.from given) new.stopped new.history)
-    (read_did around after run lane place said name uid lists seen then_history then_faults region None come shows idle none (λ differs. quiet) runs stood.0 left.0 tt (λ e. absurd (let k : None ≡ Some refusal.ReadFault = e in cc k)))
+    let event = fetch_event ReadsPiece lane place None (told_calls then_history) in
+    stands_by around after run lane place said (request.Fetch name uid) lists seen new did.Quiet None event None (IsAtFetch (stage.Unpinning region.from given) new.stopped new.history)
+    (read_done around after run lane place said name uid lists seen then_history then_faults region come shows idle quiet runs stood.0 left.0)
     (λ goes_on. (
       inl (
         fetched,
@@ -468,7 +427,7 @@ read_steps around after name uid region store new history then_history faults th
     by_reply : (last : pieces_left (left_after region.left) ≡ 0) (given : Reply) → next ≡ stage.Unpinning region.from given → IsReplyFor region.from (region.octets ++ piece) given → PieceClause around after name uid region store history faults new then_history then_faults next
     by_reply last given e (inl (octets, holds, is)) =
         piece_to around after name uid region store new history then_history faults then_faults (stage.Unpinning region.from given) next same e
-        (piece_whole around after name uid region store new.disk history then_history faults then_faults given left runs idle none (quiet (λ failed. subst (λ (r : Reply). HasFailedRead (stage.Unpinning region.from r)) is (subst HasFailedRead e failed))) (ap refusal_in is) last
+        (piece_whole around after name uid region store new.disk history then_history faults then_faults given left runs idle (quiet (λ failed. subst (λ (r : Reply). HasFailedRead (stage.Unpinning region.from r)) is (subst HasFailedRead e failed))) (ap refusal_in is) last
         (λ text f. true_on (with_piece region piece) text then_history given (now text f) last (inl (octets, holds, is))))
     by_reply last given e (inr (none_held, is)) =
         piece_to around after name uid region store new history then_history faults then_faults (stage.Unpinning region.from given) next same e
@@ -478,7 +437,7 @@ read_steps around after name uid region store new history then_history faults th
     by_size : (0 < pieces_left (left_after region.left)) ⊎ (pieces_left (left_after region.left) ≤ 0) → PieceClause around after name uid region store history faults new then_history then_faults next
     by_size (inl more) =
         piece_to around after name uid region store new history then_history faults then_faults (stage.Reading (with_piece region piece)) next same (goes.more more)
-        (piece_more around after name uid region store new.disk history then_history faults then_faults piece left runs idle none (quiet (λ failed. subst HasFailedRead (goes.more more) failed)) told)
+        (piece_more around after name uid region store new.disk history then_history faults then_faults piece left runs idle (quiet (λ failed. subst HasFailedRead (goes.more more) failed)) told)
     by_size (inr last) = let none_left : pieces_left (left_after region.left) ≡ 0 = omega (arith, last) in let r = goes.last none_left in by_reply none_left r.0 r.1 r.2
 
 -- ---- the last event
@@ -521,13 +480,12 @@ pub unpin_steps : {D : Type 0} → (around after : Around) (name : List ℕ) (ui
 unpin_steps around after name uid from given store history faults runs kept claimed = λ run lane place said lists come shows safe stood.
     let seen : Seen = seen_in store history faults in
     let pins : ℕ → ℕ = pins_kept_in (without_claims from store) in
-    let event = fetch_event Unpins lane place None (Some given) (told_calls history) in
+    let event = fetch_event Unpins lane place (Some given) (told_calls history) in
     subst (λ (s : Seen). (d : DidEvent around after run lane place said (request.Fetch name uid) lists seen s did.Quiet (Some given)) × (Some given ≡ None → IsAtFetch stage.First s.stopped s.history (and_then run d.makes.event) place (and_told said d.makes.answer))) (sym (unpinned_seen from store history faults)) (
-      (did_late around after run lane place said name uid lists seen history faults pins (found_let_go from.instances store.instances.known) Unpins None (Some given) (unpin_is_late name uid) come shows (idle-begins history) (record { reads = omega arith; changes = refl }) (λ differs. refl) (next_unpins around name uid run place from given stood.0) tt tt
-          (record { 0 = λ h. ap (λ (t : Bool). if t then Some RemovesFile else None) (leaves_then run place event from given store history faults refl refl refl refl refl come runs claimed stood.0 ∙ kept); 1 = λ e f. some_given given f })
+      (did_late around after run lane place said name uid lists seen history faults pins (found_let_go from.instances store.instances.known) Unpins (Some given) (unpin_is_late name uid) come shows runs (idle-begins history) refl (next_unpins around name uid run place from given stood.0)
+          (record { 0 = λ h. ap (λ (t : Bool). if t then Some RemovesFile else None) (leaves_then run place event from given store history faults refl refl refl refl refl come runs claimed stood.0 ∙ kept); 1 = λ e f. some_reply given f })
           (last_with (own_events place run) event ∙ (none_or (last_refusal (own_events place run)) ∙ unpins_by from given (own_events place run) stood.0))
-          (λ r e. subst (λ (x : Reply). IsReplyOf (request.Fetch name uid) said x) (let k : given ≡ r = cc e in k) (true_reply_of name uid stood.1.0 given said stood.1.1 stood.1.2))
-          (record { 0 = λ e. absurd (not_stopped stood.1.0 given stood.1.2 (let k : given ≡ reply.Refused refusal.Stopped = cc e in k)); 1 = λ e. absurd (fall store.stopped e runs) }) (λ e. absurd (fall store.stopped e runs)) (λ e. absurd (let k : None ≡ Some refusal.ReadFault = e in cc k))
+          (replied_so (request.Fetch name uid) said given (true_reply_of name uid stood.1.0 given said stood.1.1 stood.1.2)) (λ e. not_stopped stood.1.0 given stood.1.2 (one_reply given (reply.Refused refusal.Stopped) e))
           (λ ran file. pins_then run place event from given store history faults file refl refl come runs claimed stood.0)).so,
       λ e. absurd (never_more _ e),
     )
@@ -539,14 +497,13 @@ last_pin_steps around after name uid from given store history faults runs last c
     let seen : Seen = seen_in store history faults in
     let pins : ℕ → ℕ = pins_kept_in (without_claims from store) in
     let new : Seen = behind_reading seen history faults pins (found_let_go from.instances store.instances.known) in
-    let event = fetch_event Unpins lane place None None (told_calls history) in
+    let event = fetch_event Unpins lane place None (told_calls history) in
     let leaves : leaves_doomed place (and_then run event) ≡ true = leaves_then run place event from given store history faults refl refl refl refl refl come runs claimed stood.0 ∙ last in
     subst (λ (s : Seen). (d : DidEvent around after run lane place said (request.Fetch name uid) lists seen s did.Quiet None) × (◌≡◌ {A = Option Reply} None None → IsAtFetch (stage.Removing from.file given) s.stopped s.history (and_then run d.makes.event) place (and_told said d.makes.answer))) (sym (unpinned_seen from store history faults))
-    (stands_so around after run lane place said (request.Fetch name uid) lists seen new did.Quiet None event None (IsAtFetch (stage.Removing from.file given) new.stopped new.history)
-    (did_late around after run lane place said name uid lists seen history faults pins (found_let_go from.instances store.instances.known) Unpins None None (unpin_is_late name uid) come shows (idle-begins history) (record { reads = omega arith; changes = refl }) (λ differs. refl) (next_unpins around name uid run place from given stood.0) tt tt
+    (stands_by around after run lane place said (request.Fetch name uid) lists seen new did.Quiet None event None (IsAtFetch (stage.Removing from.file given) new.stopped new.history)
+    (did_late around after run lane place said name uid lists seen history faults pins (found_let_go from.instances store.instances.known) Unpins None (unpin_is_late name uid) come shows runs (idle-begins history) refl (next_unpins around name uid run place from given stood.0)
     (record { 0 = λ h. absurd (h refl); 1 = λ e. absurd (no_more (leaves_doomed place (and_then run event)) leaves e) }) tt
-    (λ r e. absurd (no_reply r e))
-    (record { 0 = λ e. absurd (no_reply (reply.Refused refusal.Stopped) e); 1 = λ e. absurd (fall store.stopped e runs) }) (λ e. absurd (fall store.stopped e runs)) (λ e. absurd (let k : None ≡ Some refusal.ReadFault = e in cc k))
+    (λ r e. absurd (no_reply r e)) (λ e. no_reply (reply.Refused refusal.Stopped) e)
     (λ ran file. pins_then run place event from given store history faults file refl refl come runs claimed stood.0))
     (λ goes_on. (
       record {

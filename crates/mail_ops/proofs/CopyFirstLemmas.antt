@@ -1,7 +1,7 @@
 -- The first event of a copy or a move, by the clause of a step: the count is raised, or it is refused.
 use Rattle.model_meaning.specs.MapFits.{MapFits}
 use Rattle.std.proofs.lemmas.Bool.Decides.{nat_tests}
-use Rattle.std.proofs.Common.{◌≡◌, ◌≤◌, ◌<◌, ◌+◌, ℕ, Bool, true, false, List, [], ◌∷◌, ◌++◌, Option, Some, None, refl, sym, ◌∙◌, ap, subst, arith, inl, inr}
+use Rattle.std.proofs.Common.{◌≡◌, ◌≤◌, ◌<◌, ◌+◌, ℕ, Bool, true, false, List, [], ◌∷◌, Option, Some, None, refl, sym, ◌∙◌, ap, subst, arith, inl, inr}
 use Rattle.std.specs.Prelude.{◌⊎◌, flat_map, nat_le, length, slice_get, is_some, if◌then◌else◌}
 use Rattle.std.specs.Option.{option_map_or, option_or}
 use Rattle.std.proofs.lemmas.Grind.{common_steps}
@@ -20,27 +20,29 @@ use Rattle.mdbox_base.specs.declared.requests.Request.{Request}
 use Rattle.mdbox_base.specs.declared.script.Half.{Half}
 use Rattle.model_lists.specs.Lists.{ListedMessage, Lists}
 use Rattle.model_meaning.specs.BoxMeaning.{LogRow, BoxMeaning, row_at}
-use Rattle.model_meaning.specs.MapMeaning.{MapMeaning, record_of, count_of, map_applied}
+use Rattle.model_meaning.specs.MapMeaning.{MapMeaning, record_of, count_of, map_applied, no_numbers}
 use Rattle.model_store.specs.Listing.{ShowLists}
 use Rattle.list_machine.specs.Run.{First, RunEvent, event_of, Run, and_then, own_events, map_of, uid_added}
 use Rattle.list_machine.specs.Machine.{MayBeCopied, first_refusal, refused_where, part_checks, is_step}
-use Rattle.journal.specs.Journal.{halves_of, refusal_in, IsReplyOf}
+use Rattle.journal.specs.Journal.{halves_of}
 use Rattle.journal.specs.Events.{Around, last_refusal, next_part}
 use Rattle.store_core.specs.Dues.{due_at}
 use Rattle.store_core.specs.Running.{IsStore}
 use Rattle.store_core.specs.Value.{StoreValue, indexes_of, list_named}
 use Rattle.task_steps.specs.ExpungeStages.{one_due}
 use Rattle.task_steps.specs.Step.{HasComeTo, HasNotBegun, Steps}
-use Rattle.task_steps.proofs.OneEventLemmas.{never_more, nothing, memory_is}
 use Rattle.mail_ops.specs.Appends.{MapFell}
 use Rattle.mail_ops.specs.CopyStages.{IsHolding}
 use Rattle.mail_ops.specs.Copying.{CopyPlace, copy_refusal, room_refusal, raising_of, RaisesRow, IsRaiseRefusal}
 use Rattle.store_seen.specs.Seeing.{seen_of}
 use Rattle.mail_ops.proofs.CopyPartLemmas.{IsCopying, first_goes_on}
 use Rattle.mail_ops.proofs.CopyPlaceLemmas.{place_checked}
-use Rattle.mail_ops.proofs.EventLemmas.{one_fits, stands_by, some_reply, one_reply, no_reply, stays_itself, memory_calm, CanRefuse, did_unstepped, did_stop, did_fall, did_check, did_part, ends_well, own_event}
+use Rattle.task_steps.proofs.EventLaws.{CanRefuse, did_check, did_fall, did_forget, did_own, did_stop, ends_well, no_reply, own_event, refuses, replied_so, stands_by, stays_left}
+use Rattle.task_steps.proofs.KeptStoreLemmas.{stays_itself}
+use Rattle.task_steps.proofs.OneEventLemmas.{first_reply, never_more}
+use Rattle.task_steps.proofs.UnmovedLemmas.{nothing}
 use Rattle.mail_ops.proofs.LastEventLemmas.{copied_new, ends_in, held_new, source_first, unrefused_more}
-use Rattle.mail_ops.proofs.LoweringLemmas.{comes_with, shows_still, leads_still}
+use Rattle.mail_ops.proofs.LoweringLemmas.{comes_with, shows_still, leads_still, one_fits}
 use Rattle.mail_ops.proofs.MessageLemmas.{shown_row, shown_guid, record_of_row}
 use Rattle.mail_ops.proofs.RemovalLemmas.{took_tells, map_fell_stays}
 use Rattle.mail_ops.proofs.ToldLemmas.{memory_runs, step_runs}
@@ -49,15 +51,8 @@ use Rattle.mail_ops.proofs.ToldLemmas.{memory_runs, step_runs}
 abbrev pub CopyingClause : {D : Type 0} → Request → (Run → ℕ → List Reply → Type 0) → (Run → ℕ → List Reply → Type 0) → StoreValue D → StoreValue D → Option History → Option History → Faults → Faults → Did → Option Reply → Type 0
 CopyingClause q Stood Stands old new before after began faulted how ended = (around behind : Around) (pins : ℕ → ℕ) → Steps Stood Stands around behind q (seen_of pins old before began) (seen_of pins new after faulted) how ended
 
-pub raise_refuses : (around : Around) (run : Run) (place : ℕ) (q : Request) (name : List ℕ) (uid : Uid) (target : List ℕ) (half : Half) (why : Refusal) → IsCopying q name uid target half → own_events place run ≡ [] → CanRefuse around run place q First why (Some (reply.Refused why))
-raise_refuses around run place q name uid target half why c own = record {
-  finds = c.finds around;
-  found = λ event. c.found around run event First;
-  part_is = ap (λ (es : List RunEvent). next_part around run q es) own;
-  memory = λ e. c.memory_first;
-  ends = record { 0 = λ e. c.refused_first why; 1 = λ e f. some_reply (reply.Refused why) f };
-  replied = λ given e. subst (λ (r : Reply). refusal_in r ≡ Some why) (one_reply (reply.Refused why) given e) refl;
-}
+pub raise_refuses : (around : Around) (run : Run) (place : ℕ) (q : Request) (name : List ℕ) (uid : Uid) (target : List ℕ) (half : Half) (why : Refusal) → IsCopying q name uid target half → own_events place run ≡ [] → CanRefuse around run place q First why (Some (reply.Refused why)) no_numbers
+raise_refuses around run place q name uid target half why c own = refuses around run place q First why no_numbers (λ lane calls. c.finds around _) (λ lane calls. c.found around run _ First) (ap (λ (es : List RunEvent). next_part around run q es) own) (c.refused_first why)
 
 -- ---- what the first event looks at
 
@@ -112,13 +107,6 @@ raise_allowed pins history faults run q name uid target half store row number ne
 
 -- ---- it is refused
 
--- what refuses it is a step
-abbrev pub IsCopyWhy : Refusal → Type 0
-IsCopyWhy why = (is_step why ≡ true) × (Some (reply.Refused why) ≡ Some (reply.Refused refusal.Stopped) → ⊥) × (why ≡ refusal.Stopped → ⊥)
-
-pub step_why : (why : Refusal) → is_step why ≡ true → IsCopyWhy why
-step_why why s = grind (arith, common_steps, nat_tests)
-
 room_steps : (m : BoxMeaning) (why : Refusal) → room_refusal m ≡ Some why → is_step why ≡ true
 room_steps m why e = grind (arith, common_steps, nat_tests)
 
@@ -139,17 +127,16 @@ raise_steps name uid target store why (inr many) = ap is_step many.1
 pub raise_refused : {D : Type 0} → (q : Request) (name : List ℕ) (uid : Uid) (target : List ℕ) (half : Half) (Stands : Run → ℕ → List Reply → Type 0) (store : StoreValue D) (history : Option History) (faults : Faults) (why : Refusal) → IsCopying q name uid target half → store.stopped ≡ false → IsRaiseRefusal name uid.0 target store why
     → CopyingClause q HasNotBegun Stands store store history history faults faults (did.Step half) (Some (reply.Refused why))
 raise_refused q name uid target half Stands store history faults why c runs refuses = λ around behind pins run lane place said lists come shows stood.
-    let w = step_why why (raise_steps name uid.0 target store why refuses) in (
-      (did_check around behind run lane place said q First lists (seen_of pins store history faults) why (Some (reply.Refused why)) half (raise_refuses around run place q name uid target half why c stood.0) come shows runs w.0 c.half_first
-          (ap (λ (s : List Reply). slice_get (halves_of q) (length s)) stood.1 ∙ (c.halves ∙ ap Some (sym c.half_first))) (raise_checked pins history faults run q name uid target half store why lists c refuses shows.1 come)
-          (λ given e. subst (λ (r : Reply). IsReplyOf q (said ++ reply.Refused why ∷ []) r) (one_reply (reply.Refused why) given e) (subst (λ (s : List Reply). IsReplyOf q (s ++ reply.Refused why ∷ []) (reply.Refused why)) (sym stood.1) (c.replied why w.0))) w.1).so,
+    let step = raise_steps name uid.0 target store why refuses in (
+      (did_check around behind run lane place said q First lists (seen_of pins store history faults) (seen_of pins store history faults) why (Some (reply.Refused why)) half (raise_refuses around run place q name uid target half why c stood.0) (stays_left _ _ _ _ _ _ _ _ _ come (stays_itself (seen_of pins store history faults)) shows) runs runs (nothing lists (seen_of pins store history faults)) refl step c.half_first (ap (λ (s : List Reply). slice_get (halves_of q) (length s)) stood.1 ∙ (c.halves ∙ ap Some (sym c.half_first))) (raise_checked pins history faults run q name uid target half store why lists c refuses shows.1 come)
+          (first_reply q said (Some (reply.Refused why)) (reply.Refused why) stood.1 (c.replied why step))).so,
       λ e. absurd (never_more _ e),
     )
 
 pub raise_stopped : {D : Type 0} → (q : Request) (name : List ℕ) (uid : Uid) (target : List ℕ) (half : Half) (Stands : Run → ℕ → List Reply → Type 0) (store : StoreValue D) (history : Option History) (faults : Faults) → IsCopying q name uid target half → store.stopped ≡ true
     → CopyingClause q HasNotBegun Stands store store history history faults faults did.Quiet (Some (reply.Refused refusal.Stopped))
 raise_stopped q name uid target half Stands store history faults c stopped = λ around behind pins run lane place said lists come shows stood. (
-  (did_stop around behind run lane place said q First lists (seen_of pins store history faults) (raise_refuses around run place q name uid target half refusal.Stopped c stood.0) come shows tt stopped).so,
+  (did_stop around behind run lane place said q First lists (seen_of pins store history faults) (raise_refuses around run place q name uid target half refusal.Stopped c stood.0) come shows stopped).so,
   λ e. absurd (never_more _ e),
 )
 
@@ -157,8 +144,8 @@ pub raise_unremembered : {D : Type 0} → (q : Request) (name : List ℕ) (uid :
     → CopyingClause q HasNotBegun Stands store store history history faults faults did.Quiet (Some (reply.Refused refusal.NoMemory))
 raise_unremembered q name uid target half Stands store history faults c runs = λ around behind pins run lane place said lists come shows stood.
     let seen = seen_of pins store history faults in (
-      (did_unstepped around behind run lane place said q First lists seen seen refusal.NoMemory (Some (reply.Refused refusal.NoMemory)) did.Quiet (raise_refuses around run place q name uid target half refusal.NoMemory c stood.0) come (stays_itself seen) shows refl tt memory_calm (refl, refl, nothing lists seen)
-          (λ given e. subst (λ (r : Reply). IsReplyOf q said r) (one_reply (reply.Refused refusal.NoMemory) given e) stood.1) (memory_is store.stopped runs) (λ e. refl) (λ x. absurd x)).so,
+      (did_forget around behind run lane place said q First lists seen seen (Some (reply.Refused refusal.NoMemory)) no_numbers (raise_refuses around run place q name uid target half refusal.NoMemory c stood.0) (stays_left _ _ _ _ _ _ _ _ _ come (stays_itself seen) shows) runs runs (nothing lists seen) refl c.memory_first (λ event. inl refl)
+          (replied_so q said (reply.Refused refusal.NoMemory) stood.1)).so,
       λ e. absurd (never_more _ e),
     )
 
@@ -167,8 +154,8 @@ pub raise_fell : {D : Type 0} → (q : Request) (name : List ℕ) (uid : Uid) (t
 raise_fell q name uid target half Stands old new before after began faulted c ran f = λ around behind pins run lane place said lists come shows stood.
     let seen = seen_of pins old before began in
     let later = seen_of pins new after faulted in (
-      (did_fall around behind run lane place said q First lists seen later did.Failed (raise_refuses around run place q name uid target half refusal.Stopped c stood.0) come (map_fell_stays pins old new before after began faulted f) (shows_still pins old new before after began faulted lists f.appends shows) tt ran f.stopped f.rose
-          (record { refused = refl; unanswered = refl; ran = ran; stopped = f.stopped }, λ s. f.appends.moments lists s.0)).so,
+      (did_fall around behind run lane place said q First lists seen later did.Failed no_numbers (raise_refuses around run place q name uid target half refusal.Stopped c stood.0)
+          (stays_left _ _ _ _ _ _ _ _ _ come (map_fell_stays pins old new before after began faulted f) (shows_still pins old new before after began faulted lists f.appends shows)) ran f.stopped f.rose (λ event. inl refl) tt (record { refused = refl; unanswered = refl; ran = ran; stopped = f.stopped }, λ s. f.appends.moments lists s.0)).so,
       λ e. absurd (never_more _ e),
     )
 
@@ -202,9 +189,9 @@ raise_done q name uid target half held source old new before after began faulted
     let seen = seen_of pins old before began in
     let later = seen_of pins new after faulted in
     stands_by around behind run lane place said q lists seen later did.Quiet None event None (IsHolding held source.0)
-    (did_part around behind run lane place said q lists lists seen later did.Quiet None None event
+    (did_own around behind run lane place said q lists lists seen later did.Quiet None None event
     (record {
-      own = own_event _ _ _ _ _ _ _ _ _ refl;
+      own = own_event event refl;
       finds = c.finds around event;
       found = c.found around run event First;
       part_is = ap (λ (es : List RunEvent). next_part around run q es) stood.0;
@@ -213,7 +200,7 @@ raise_done q name uid target half held source old new before after began faulted
       did = c.did_first around run lists event (s.mailbox, k.entry, s.named, (s.message, s.there, ap (λ (m : MapMeaning). record_of m s.message.guid) come.come.map_is ∙ k.by_guid s.message.guid (shown_guid name uid.0 r.at.source lists r.row s)), refl);
       ends = record { 0 = λ h. absurd (h refl); 1 = λ h. absurd (first_goes_on behind (and_then run event) q name uid target half event c refl h) };
       replied = tt;
-    }) come (comes_with run event (map_entry.U (record { 0 = k.entry.uid })) seen later come (subst (λ (u : ℕ). new.map ≡ map_applied (map_entry.U (record { 0 = u })) old.map) (sym own) r.took.taken) a.drawn a.grows refl refl refl)
+    }) (record { made = refl; pins = refl; unpins = refl; doomed = refl; removed = refl; given = refl; placed = refl; gone = refl }) come (comes_with run event (map_entry.U (record { 0 = k.entry.uid })) seen later come (subst (λ (u : ℕ). new.map ≡ map_applied (map_entry.U (record { 0 = u })) old.map) (sym own) r.took.taken) a.drawn a.grows refl refl refl)
     (λ other. subst (λ (u : ℕ). due_at other new + 0 ≡ due_at other old + ((0 + one_due u other) + 0)) (sym own) (raised_due (due_at other old) (due_at other new) held.0 other (r.took.due other)))
     (took_tells pins (raising_of held) old new before after began faulted ran r.took) (shows_still pins old new before after began faulted lists a shows) a.grows (a.stays old.map) (sym c.steps_first) refl (refl, r.took.runs ∙ sym ran, leads_still pins (raising_of held) old new before after began faulted lists r.took)
     (ends_well q said event None None did.Quiet seen later refl ran r.took.runs r.took.unfailed (λ x. x) (λ e. no_reply (reply.Refused refusal.Stopped) e) (λ some. absurd (let f : false ≡ true = some in cc f)) (λ given e. absurd (no_reply given e))))

@@ -25,7 +25,7 @@ use Rattle.model_appends.specs.Amounts.{due_by_box}
 use Rattle.model_appends.specs.Appending.{lists_by, meanings_by}
 use Rattle.model_lists.specs.Lists.{ListedMessage, Mailbox, Lists, AreWellFormed, listing_row}
 use Rattle.model_meaning.specs.BoxMeaning.{LogRow, BoxMeaning}
-use Rattle.model_meaning.specs.MapMeaning.{MapMeaning, map_meaning}
+use Rattle.model_meaning.specs.MapMeaning.{MapMeaning, map_meaning, no_numbers}
 use Rattle.model_store.specs.Listing.{listed_row, ShowLists}
 use Rattle.model_store.specs.Settled.{files_of, IsSettledFor, Leaves}
 use Rattle.model_store.specs.Stands.{AreMailboxes}
@@ -33,7 +33,7 @@ use Rattle.model_store.proofs.StandsLemmas.{map_same}
 use Rattle.list_machine.specs.Run.{First, Last, GivesBack, RunEvent, event_of, Run, and_then, map_of, own_events}
 use Rattle.list_machine.specs.Machine.{IsCopied, add_message, first_refusal, part_checks, is_step, mailbox_named}
 use Rattle.list_machine.proofs.MachineOrderLemmas.{answers_well}
-use Rattle.journal.specs.Journal.{halves_of, refusal_in, IsReplyOf}
+use Rattle.journal.specs.Journal.{halves_of, IsReplyOf}
 use Rattle.journal.specs.Events.{Around, adds_to, is_elsewhere, last_refusal, lowers, next_part}
 use Rattle.journal.proofs.OwnEventLemmas.{own_more, own_other}
 use Rattle.entry_steps.proofs.AppendListLemmas.{added_by}
@@ -44,19 +44,21 @@ use Rattle.store_core.specs.Value.{StoreValue, indexes_of}
 use Rattle.task_steps.specs.ExpungeStages.{one_due}
 use Rattle.task_claims.specs.Leaving.{number_named}
 use Rattle.task_steps.specs.Step.{HasComeTo, IsKept}
-use Rattle.task_steps.proofs.OneEventLemmas.{never_more, nothing}
 use Rattle.mail_ops.specs.Appends.{MapTook, MapFell, lowering_of}
 use Rattle.mail_ops.specs.CopyStages.{IsHolding, IsGivingBack, answered_by}
 use Rattle.mail_ops.specs.Copying.{CopyPlace, copy_refusal, added_copy, AddsRow, FellAdding}
 use Rattle.store_seen.specs.Seeing.{seen_of}
-use Rattle.mail_ops.proofs.CopyFirstLemmas.{CopyingClause, place_free, step_why, copy_steps}
+use Rattle.mail_ops.proofs.CopyFirstLemmas.{CopyingClause, place_free, copy_steps}
 use Rattle.mail_ops.proofs.CopyPartLemmas.{IsCopying, adding_part, adds_next, back_ends, copy_copies, gives_back_next, holding_next}
 use Rattle.mail_ops.proofs.CopyPlaceLemmas.{place_checked}
-use Rattle.mail_ops.proofs.EventLemmas.{one_fits, stands_by, fall, some_reply, one_reply, no_reply, stays_itself, memory_calm, comes_along, refusal_event, CanRefuse, did_unstepped, did_stop, did_fall, did_check, did_part, ends_well, own_event}
+use Rattle.task_steps.proofs.EventLaws.{CanRefuse, did_check, did_fall, did_forget, did_own, did_stop, ends_well, last_with, no_reply, own_event, refusal_event, refuses, replied_so, some_reply, stands_by, stays_left, step_calm}
+use Rattle.task_steps.proofs.KeptStoreLemmas.{comes_along, stays_itself}
+use Rattle.task_steps.proofs.OneEventLemmas.{first_reply, never_more}
+use Rattle.task_steps.proofs.UnmovedLemmas.{nothing}
 use Rattle.mail_ops.proofs.FlagEventLemmas.{shown_on}
 use Rattle.mail_ops.proofs.FlagListLemmas.{numbered}
-use Rattle.mail_ops.proofs.LastEventLemmas.{copied_by, ends_in, ends_still, held_by, held_same, last_before, last_with, source_by, unrefused_still}
-use Rattle.mail_ops.proofs.LoweringLemmas.{comes_with, lowered_due, shows_still, leads_still}
+use Rattle.mail_ops.proofs.LastEventLemmas.{copied_by, ends_in, ends_still, held_by, held_same, last_before, source_by, unrefused_still}
+use Rattle.mail_ops.proofs.LoweringLemmas.{comes_with, lowered_due, shows_still, leads_still, one_fits}
 use Rattle.mail_ops.proofs.MessageLemmas.{ShownRow, shown_row, shown_guid, record_of_row, store_is_sound, stored_by}
 use Rattle.mail_ops.proofs.NamedListLemmas.{ShownBox, ShowsBox, shows_box}
 use Rattle.mail_ops.proofs.RemovalLemmas.{took_tells, box_tells, box_fell_stays, map_fell_stays}
@@ -150,27 +152,19 @@ pub named_in : {D : Type 0} → (pins : ℕ → ℕ) (run : Run) (name : List �
 named_in pins run name source store history faults come named = ap (λ (m : MapMeaning). number_named m name) come.come.map_is ∙ named
 
 add_goes_on : (around : Around) (run : Run) (place : ℕ) (said : List Reply) (q : Request) (name : List ℕ) (uid : Uid) (target : List ℕ) (half : Half) (held : MapUid) (source : ℕ) (why : Refusal) → IsCopying q name uid target half → IsHolding held source run place said → number_named (map_of run) name ≡ Some source → (why ≡ refusal.Stopped → ⊥)
-    → CanRefuse around run place q Last why None
+    → CanRefuse around run place q Last why None no_numbers
 add_goes_on around run place said q name uid target half held source why c h named other = record {
-  finds = c.finds around;
-  found = λ event. c.found around run event Last;
+  finds = λ lane calls. c.finds around _;
+  found = λ lane calls. c.found around run _ Last;
   part_is = adds_next around run q name uid target half held source place said c h named;
-  memory = λ e. c.memory_last;
   ends = record { 0 = λ h. absurd (h refl); 1 = λ h. absurd (some_part GivesBack (sym (c.refused_last why other) ∙ h)) };
   replied = λ given e. absurd (no_reply given e);
 }
 
 -- The store is stopped, or stops. In one that was stopped before, the name of the source may name another mailbox.
 add_stops : (around : Around) (run : Run) (place : ℕ) (q : Request) (name : List ℕ) (uid : Uid) (target : List ℕ) (half : Half) (elsewhere : Bool) → IsCopying q name uid target half → next_part around run q (own_events place run) ≡ Some (adding_part elsewhere)
-    → CanRefuse around run place q (adding_part elsewhere) refusal.Stopped (Some (reply.Refused refusal.Stopped))
-add_stops around run place q name uid target half elsewhere c next = record {
-  finds = c.finds around;
-  found = λ event. c.found around run event (adding_part elsewhere);
-  part_is = next;
-  memory = λ e. absurd (let k : refusal.Stopped ≡ refusal.NoMemory = e in cc k);
-  ends = record { 0 = λ e. c.stopped_last elsewhere; 1 = λ e f. some_reply (reply.Refused refusal.Stopped) f };
-  replied = λ given e. subst (λ (r : Reply). refusal_in r ≡ Some refusal.Stopped) (one_reply (reply.Refused refusal.Stopped) given e) refl;
-}
+    → CanRefuse around run place q (adding_part elsewhere) refusal.Stopped (Some (reply.Refused refusal.Stopped)) no_numbers
+add_stops around run place q name uid target half elsewhere c next = refuses around run place q (adding_part elsewhere) refusal.Stopped no_numbers (λ lane calls. c.finds around _) (λ lane calls. c.found around run _ (adding_part elsewhere)) next (c.stopped_last elsewhere)
 
 -- the request gives the count back behind such an event
 gives_back_then : (run : Run) (event : RunEvent) (place : ℕ) (said now : List Reply) (held : MapUid) (source : ℕ) (why : Refusal) → IsHolding held source run place said → event.request ≡ place → event.part ≡ Last → event.refused ≡ Some why → event.map_entries ≡ [] → now ≡ answered_by why → (is_step why ≡ true) ⊎ (why ≡ refusal.NoMemory)
@@ -190,29 +184,28 @@ place_refuses run q name uid target half store lists why c h e = λ event. ap (f
 pub add_refused : {D : Type 0} → (q : Request) (name : List ℕ) (uid : Uid) (target : List ℕ) (half : Half) (held : MapUid) (source : ℕ) (store : StoreValue D) (history : Option History) (faults : Faults) (why : Refusal) → IsCopying q name uid target half → store.stopped ≡ false → number_named store.map name ≡ Some source → copy_refusal name uid.0 target store ≡ Some why
     → CopyingClause q (IsHolding held source) (IsGivingBack held why) store store history history faults faults (did.Step half) None
 add_refused q name uid target half held source store history faults why c runs named refuses = λ around behind pins run lane place said lists come shows stood.
-    let w = step_why why (copy_steps name uid.0 target store why refuses) in
+    let step = copy_steps name uid.0 target store why refuses in
     let none = stood.calm.unanswered in
-    let event : RunEvent = refusal_event lane place Last why None (told_calls history) in
+    let event : RunEvent = refusal_event lane place Last why None no_numbers (told_calls history) in
     stands_by around behind run lane place said q lists (seen_of pins store history faults) (seen_of pins store history faults) (did.Step half) None event (Some (reply.Refused why)) (IsGivingBack held why)
-    (did_check around behind run lane place said q Last lists (seen_of pins store history faults) why None half (add_goes_on around run place said q name uid target half held source why c stood (named_in pins run name source store history faults come named) w.2) come shows runs w.0 c.half_last
-    (ap (λ (s : List Reply). slice_get (halves_of q) (length s)) none ∙ (c.halves ∙ ap Some (sym c.half_last))) (place_refuses run q name uid target half store lists (Some why) c shows.1 refuses) (λ given e. absurd (no_reply given e)) (λ e. no_reply (reply.Refused refusal.Stopped) e))
-    (λ goes_on. gives_back_then run event place said (said ++ reply.Refused why ∷ []) held source why stood refl refl refl refl (ap (λ (s : List Reply). s ++ reply.Refused why ∷ []) none ∙ sym (ap (λ (b : Bool). if b then reply.Refused why ∷ [] else []) w.0)) (inl w.0))
+    (did_check around behind run lane place said q Last lists (seen_of pins store history faults) (seen_of pins store history faults) why None half (add_goes_on around run place said q name uid target half held source why c stood (named_in pins run name source store history faults come named) (step_calm why refusal.Stopped step refl)) (stays_left _ _ _ _ _ _ _ _ _ come (stays_itself (seen_of pins store history faults)) shows) runs runs (nothing lists (seen_of pins store history faults)) refl step c.half_last (ap (λ (s : List Reply). slice_get (halves_of q) (length s)) none ∙ (c.halves ∙ ap Some (sym c.half_last))) (place_refuses run q name uid target half store lists (Some why) c shows.1 refuses) (λ given e. absurd (no_reply given e)))
+    (λ goes_on. gives_back_then run event place said (said ++ reply.Refused why ∷ []) held source why stood refl refl refl refl (ap (λ (s : List Reply). s ++ reply.Refused why ∷ []) none ∙ sym (ap (λ (b : Bool). if b then reply.Refused why ∷ [] else []) step)) (inl step))
 
 pub add_unremembered : {D : Type 0} → (q : Request) (name : List ℕ) (uid : Uid) (target : List ℕ) (half : Half) (held : MapUid) (source : ℕ) (store : StoreValue D) (history : Option History) (faults : Faults) → IsCopying q name uid target half → store.stopped ≡ false → number_named store.map name ≡ Some source
     → CopyingClause q (IsHolding held source) (IsGivingBack held refusal.NoMemory) store store history history faults faults did.Quiet None
 add_unremembered q name uid target half held source store history faults c runs named = λ around behind pins run lane place said lists come shows stood.
     let seen = seen_of pins store history faults in
-    let event : RunEvent = refusal_event lane place Last refusal.NoMemory None (told_calls history) in
+    let event : RunEvent = refusal_event lane place Last refusal.NoMemory None no_numbers (told_calls history) in
     stands_by around behind run lane place said q lists seen seen did.Quiet None event None (IsGivingBack held refusal.NoMemory)
-    (did_unstepped around behind run lane place said q Last lists seen seen refusal.NoMemory None did.Quiet (add_goes_on around run place said q name uid target half held source refusal.NoMemory c stood (named_in pins run name source store history faults come named) memory_runs) come (stays_itself seen) shows refl tt memory_calm (refl, refl, nothing lists seen)
-    (λ given e. absurd (no_reply given e)) (record { 0 = λ e. absurd (no_reply (reply.Refused refusal.Stopped) e); 1 = λ e. absurd (fall store.stopped e runs) }) (λ e. refl) (λ x. absurd x))
+    (did_forget around behind run lane place said q Last lists seen seen None no_numbers (add_goes_on around run place said q name uid target half held source refusal.NoMemory c stood (named_in pins run name source store history faults come named) memory_runs) (stays_left _ _ _ _ _ _ _ _ _ come (stays_itself seen) shows) runs runs (nothing lists seen) refl c.memory_last
+    (λ event. inl refl) (λ given e. absurd (no_reply given e)))
     (λ goes_on. gives_back_then run event place said said held source refusal.NoMemory stood refl refl refl refl stood.calm.unanswered (inr refl))
 
 pub add_stopped : {D : Type 0} → (q : Request) (name : List ℕ) (uid : Uid) (target : List ℕ) (half : Half) (held : MapUid) (source : ℕ) (Stands : Run → ℕ → List Reply → Type 0) (store : StoreValue D) (history : Option History) (faults : Faults) → IsCopying q name uid target half → store.stopped ≡ true
     → CopyingClause q (IsHolding held source) Stands store store history history faults faults did.Quiet (Some (reply.Refused refusal.Stopped))
 add_stopped q name uid target half held source Stands store history faults c stopped = λ around behind pins run lane place said lists come shows stood. (
   (did_stop around behind run lane place said q (adding_part (is_elsewhere run place name)) lists (seen_of pins store history faults)
-      (add_stops around run place q name uid target half (is_elsewhere run place name) c (holding_next around run q name uid target half held source place said c stood)) come shows tt stopped).so,
+      (add_stops around run place q name uid target half (is_elsewhere run place name) c (holding_next around run q name uid target half held source place said c stood)) come shows stopped).so,
   λ e. absurd (never_more _ e),
 )
 
@@ -251,9 +244,9 @@ copy_added name uid target held source given Stands old new before after began f
     let later = seen_of pins new after faulted in
     let allowed = place_refuses run q name uid target half_is.Whole old lists None c shows.1 (place_free name uid.0 target old r.row r.number given.0 r.at) event in
     let copied = is_copied old name uid target r.row r.number given lists k in (
-      (did_part around behind run lane place said q lists (add_message target k.shown.message lists) seen later (did.Step half_is.Whole) ended ended event
+      (did_own around behind run lane place said q lists (add_message target k.shown.message lists) seen later (did.Step half_is.Whole) ended ended event
           (record {
-            own = own_event _ _ _ _ _ _ _ _ _ refl;
+            own = own_event event refl;
             finds = tt;
             found = tt;
             part_is = adds_next around run q name uid target half_is.Whole held source place said c stood (named_in pins run name source old before began come named);
@@ -262,7 +255,7 @@ copy_added name uid target held source given Stands old new before after began f
             did = (k.shown.message, k.shown.there, (k.mailbox, held.0, k.named, stood.held_is, refl));
             ends = record { 0 = λ e. refl; 1 = λ e f. some_reply (reply.Copied given) f };
             replied = last_before (own_events place run) event refl ∙ stood.calm.unrefused;
-          }) come (comes_along run event seen later come a.map a.drawn a.grows refl refl refl)
+          }) (record { made = refl; pins = refl; unpins = refl; doomed = refl; removed = refl; given = refl; placed = refl; gone = refl }) come (comes_along run event seen later come a.map a.drawn a.grows refl refl refl)
           (λ other. ended_due (due_at other old) (due_at other new) held.0 other (added_due held given r.row r.at.m old new other r.holds (due other) (r.took.due r.at.m other r.at.to.numbered)))
           (box_tells pins r.number (added_copy given r.row) old new before after began faulted (λ runs. ran) a) (
             answers_well run lists q event (reply.Copied given) (add_message target k.shown.message lists) shows.0 tt (allowed, copied),
@@ -277,7 +270,7 @@ copy_added name uid target held source given Stands old new before after began f
             },
           )
           (ends_well q said event ended ended (did.Step half_is.Whole) seen later refl ran r.took.runs r.took.unfailed (λ x. x) (copied_runs given) (λ some. ap (λ (s : List Reply). slice_get (halves_of q) (length s)) stood.calm.unanswered)
-          (λ x e. subst (λ (y : Reply). IsReplyOf q (said ++ reply.Copied given ∷ []) y) (one_reply (reply.Copied given) x e) (subst (λ (s : List Reply). IsReplyOf q (s ++ reply.Copied given ∷ []) (reply.Copied given)) (sym stood.calm.unanswered) refl)))).so,
+          (first_reply q said ended (reply.Copied given) stood.calm.unanswered refl))).so,
       λ e. absurd (never_more _ e),
     )
 
@@ -291,8 +284,8 @@ add_fell q name uid target half held source Stands old new before after began fa
     let seen = seen_of pins old before began in
     let later = seen_of pins new after faulted in
     let allowed = place_refuses run q name uid target half old lists None c shows.1 (place_free name uid.0 target old r.row r.number r.given.0 r.at) would in (
-      (did_fall around behind run lane place said q Last lists seen later (did.Broken half) (add_stops around run place q name uid target half false c (adds_next around run q name uid target half held source place said c stood (named_in pins run name source old before began come named))) come (box_fell_stays pins r.number (added_copy r.given r.row) old new before after began faulted r.fell)
-          (shows.0, shown_on seen later (indexes_of old.boxes) lists r.fell.appends.map r.fell.indexes shows.1) tt ran r.fell.stopped r.fell.rose (
+      (did_fall around behind run lane place said q Last lists seen later (did.Broken half) no_numbers (add_stops around run place q name uid target half false c (adds_next around run q name uid target half held source place said c stood (named_in pins run name source old before began come named)))
+          (stays_left _ _ _ _ _ _ _ _ _ come (box_fell_stays pins r.number (added_copy r.given r.row) old new before after began faulted r.fell) (shows.0, shown_on seen later (indexes_of old.boxes) lists r.fell.appends.map r.fell.indexes shows.1)) ran r.fell.stopped r.fell.rose (λ event. inl refl) tt (
             record { refused = refl; unanswered = refl; ran = ran; stopped = r.fell.stopped },
             c.half_last,
             (
@@ -326,20 +319,14 @@ given_reply q name uid target half said why c is (inr m) =
     subst (λ (w : Refusal). IsReplyOf q said (reply.Refused w)) (sym m) (is ∙ ap answered_by m)
 
 back_stops : (around : Around) (run : Run) (place : ℕ) (said : List Reply) (q : Request) (name : List ℕ) (uid : Uid) (target : List ℕ) (half : Half) (held : MapUid) (why : Refusal) → IsCopying q name uid target half → IsGivingBack held why run place said
-    → CanRefuse around run place q GivesBack refusal.Stopped (Some (reply.Refused refusal.Stopped))
-back_stops around run place said q name uid target half held why c b = record {
-  finds = c.finds around;
-  found = λ event. c.found around run event GivesBack;
-  part_is = gives_back_next around run q name uid target half held why place said c (given_for why b.cause) b;
-  memory = λ e. absurd (let k : refusal.Stopped ≡ refusal.NoMemory = e in cc k);
-  ends = record { 0 = λ e. c.refused_back refusal.Stopped; 1 = λ e f. some_reply (reply.Refused refusal.Stopped) f };
-  replied = λ given e. subst (λ (r : Reply). refusal_in r ≡ Some refusal.Stopped) (one_reply (reply.Refused refusal.Stopped) given e) refl;
-}
+    → CanRefuse around run place q GivesBack refusal.Stopped (Some (reply.Refused refusal.Stopped)) no_numbers
+back_stops around run place said q name uid target half held why c b =
+    refuses around run place q GivesBack refusal.Stopped no_numbers (λ lane calls. c.finds around _) (λ lane calls. c.found around run _ GivesBack) (gives_back_next around run q name uid target half held why place said c (given_for why b.cause) b) (c.refused_back refusal.Stopped)
 
 pub back_stopped : {D : Type 0} → (q : Request) (name : List ℕ) (uid : Uid) (target : List ℕ) (half : Half) (held : MapUid) (why : Refusal) (Stands : Run → ℕ → List Reply → Type 0) (store : StoreValue D) (history : Option History) (faults : Faults) → IsCopying q name uid target half → store.stopped ≡ true
     → CopyingClause q (IsGivingBack held why) Stands store store history history faults faults did.Quiet (Some (reply.Refused refusal.Stopped))
 back_stopped q name uid target half held why Stands store history faults c stopped = λ around behind pins run lane place said lists come shows stood. (
-  (did_stop around behind run lane place said q GivesBack lists (seen_of pins store history faults) (back_stops around run place said q name uid target half held why c stood) come shows tt stopped).so,
+  (did_stop around behind run lane place said q GivesBack lists (seen_of pins store history faults) (back_stops around run place said q name uid target half held why c stood) come shows stopped).so,
   λ e. absurd (never_more _ e),
 )
 
@@ -348,8 +335,8 @@ pub back_fell : {D : Type 0} → (q : Request) (name : List ℕ) (uid : Uid) (ta
 back_fell q name uid target half held why Stands old new before after began faulted c ran f = λ around behind pins run lane place said lists come shows stood.
     let seen = seen_of pins old before began in
     let later = seen_of pins new after faulted in (
-      (did_fall around behind run lane place said q GivesBack lists seen later did.Failed (back_stops around run place said q name uid target half held why c stood) come (map_fell_stays pins old new before after began faulted f) (shows_still pins old new before after began faulted lists f.appends shows) tt ran f.stopped f.rose
-          (record { refused = refl; unanswered = refl; ran = ran; stopped = f.stopped }, λ s. f.appends.moments lists s.0)).so,
+      (did_fall around behind run lane place said q GivesBack lists seen later did.Failed no_numbers (back_stops around run place said q name uid target half held why c stood)
+          (stays_left _ _ _ _ _ _ _ _ _ come (map_fell_stays pins old new before after began faulted f) (shows_still pins old new before after began faulted lists f.appends shows)) ran f.stopped f.rose (λ event. inl refl) tt (record { refused = refl; unanswered = refl; ran = ran; stopped = f.stopped }, λ s. f.appends.moments lists s.0)).so,
       λ e. absurd (never_more _ e),
     )
 
@@ -365,9 +352,9 @@ given_back q name uid target half held why Stands old new before after began fau
     let later = seen_of pins new after faulted in
     let other = given_for why stood.cause in
     let refused = last_before (own_events place run) event refl ∙ (ap last_refusal stood.last.own_is ∙ last_with stood.last.earlier stood.last.last why stood.refused) in (
-      (did_part around behind run lane place said q lists lists seen later did.Quiet (Some (reply.Refused why)) None event
+      (did_own around behind run lane place said q lists lists seen later did.Quiet (Some (reply.Refused why)) None event
           (record {
-            own = own_event _ _ _ _ _ _ _ _ _ refl;
+            own = own_event event refl;
             finds = c.finds around event;
             found = c.found around run event GivesBack;
             part_is = gives_back_next around run q name uid target half held why place said c other stood;
@@ -376,11 +363,11 @@ given_back q name uid target half held why Stands old new before after began fau
             did = c.did_back around run lists event (held.0, stood.held_is, refl);
             ends = record { 0 = λ e. back_ends behind (and_then run event) q name uid target half event why c refl (ap last_refusal (own_more place run event (eq-eqb place place refl)) ∙ refused); 1 = λ e f. some_reply (reply.Refused why) f };
             replied = refused;
-          }) come (comes_with run event (lowering_of held) seen later come t.taken a.drawn a.grows refl refl refl)
+          }) (record { made = refl; pins = refl; unpins = refl; doomed = refl; removed = refl; given = refl; placed = refl; gone = refl }) come (comes_with run event (lowering_of held) seen later come t.taken a.drawn a.grows refl refl refl)
           (λ u. lowered_ends (due_at u old) (due_at u new) held.0 u (lowered_due held old new u (due u) (t.due u)))
           (took_tells pins (lowering_of held) old new before after began faulted ran t) (shows_still pins old new before after began faulted lists a shows) a.grows (a.stays old.map) (sym c.steps_back) refl (refl, t.runs ∙ sym ran, leads_still pins (lowering_of held) old new before after began faulted lists t)
           (ends_well q said event None (Some (reply.Refused why)) did.Quiet seen later refl ran t.runs t.unfailed (λ x. x) (λ e. other (let k : reply.Refused why ≡ reply.Refused refusal.Stopped = cc e in cc k)) (λ some. absurd (let k : false ≡ true = some in cc k))
-          (λ given e. subst (λ (x : Reply). IsReplyOf q said x) (one_reply (reply.Refused why) given e) (given_reply q name uid target half said why c stood.said_is stood.cause)))).so,
+          (replied_so q said (reply.Refused why) (given_reply q name uid target half said why c stood.said_is stood.cause)))).so,
       λ e. absurd (never_more _ e),
     )
 

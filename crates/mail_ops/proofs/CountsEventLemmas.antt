@@ -1,6 +1,6 @@
 -- A count as an event, which changes nothing.
 use Rattle.std.proofs.lemmas.List.Elements.{All-nil}
-use Rattle.std.proofs.Common.{◌≡◌, ℕ, true, false, List, [], ◌∷◌, ◌++◌, length, Option, Some, refl, sym, ◌∙◌, ap, subst, arith}
+use Rattle.std.proofs.Common.{◌≡◌, ℕ, true, false, List, length, Option, Some, refl, sym, ◌∙◌, ap, arith}
 use Rattle.std.specs.Prelude.{slice_get, sum_by}
 use Rattle.disk_model.specs.Disk.{History, Faults, told_calls}
 use Rattle.mdbox_base.specs.declared.progress.Did.{Did}
@@ -13,20 +13,21 @@ use Rattle.mdbox_base.specs.declared.script.Half.TheVariants as half
 use Rattle.model_meaning.specs.MapMeaning.{MapMeaning}
 use Rattle.list_machine.specs.Run.{First, RunEvent, event_of, own_events}
 use Rattle.list_machine.specs.Machine.{AreCounts, count_different}
-use Rattle.journal.specs.Journal.{halves_of, IsReplyOf}
+use Rattle.journal.specs.Journal.{halves_of}
 use Rattle.journal.specs.Events.{Around, next_part}
 use Rattle.store_core.specs.Value.{StoreValue}
-use Rattle.task_steps.proofs.UnmovedLemmas.{mail_still}
 use Rattle.task_steps.specs.Step.{HasNotBegun, Steps}
-use Rattle.task_steps.proofs.OneEventLemmas.{IsPlain, does_nothing, never_more, memory_is, when_stopped, nothing, some_given, refusal_last}
 use Rattle.task_steps.proofs.SeenLemmas.{tells_itself}
 use Rattle.mail_ops.specs.Counting.{listed_messages, named_ids}
 use Rattle.store_seen.specs.Seeing.{seen_of}
 use Rattle.mail_ops.proofs.CountingLemmas.{shown_many}
-use Rattle.mail_ops.proofs.EventLemmas.{one_reply, comes_along, did_part, ends_well, own_event}
+use Rattle.task_steps.proofs.EventLaws.{did_own, ends_well, own_event, some_reply}
+use Rattle.task_steps.proofs.KeptStoreLemmas.{comes_along}
+use Rattle.task_steps.proofs.OneEventLemmas.{first_reply, IsPlain, never_more, plain_forgets, plain_stopped, refusal_last}
+use Rattle.task_steps.proofs.UnmovedLemmas.{mail_still, nothing}
 
 counts_are_plain : IsPlain request.Counts
-counts_are_plain = record { found = λ around run event. tt; finds = λ around event. tt; memory = refl; reads = refl; behind = λ after run event why. refl; half_is = refl; halves_are = refl }
+counts_are_plain = record { found = λ around run event. tt; finds = λ around event. tt; memory = refl; behind = λ why. refl; half_is = refl; halves_are = refl }
 
 -- the clause of the step
 abbrev pub CountsClause : {D : Type 0} → StoreValue D → Option History → Faults → Did → Option Reply → Type 0
@@ -34,13 +35,13 @@ CountsClause store history faults how ended = (around behind : Around) (pins : �
 
 pub counts_stopped : {D : Type 0} → (store : StoreValue D) (history : Option History) (faults : Faults) → store.stopped ≡ true → CountsClause store history faults did.Quiet (Some (reply.Refused refusal.Stopped))
 counts_stopped store history faults stopped = λ around behind pins run lane place said lists come shows stood. (
-  does_nothing around behind run lane place said request.Counts lists (seen_of pins store history faults) refusal.Stopped counts_are_plain come shows stood refl tt tt (when_stopped store.stopped stopped),
+  plain_stopped around behind run lane place said request.Counts lists (seen_of pins store history faults) counts_are_plain come shows stood stopped,
   λ e. absurd (never_more _ e),
 )
 
 pub counts_unremembered : {D : Type 0} → (store : StoreValue D) (history : Option History) (faults : Faults) → store.stopped ≡ false → CountsClause store history faults did.Quiet (Some (reply.Refused refusal.NoMemory))
 counts_unremembered store history faults runs = λ around behind pins run lane place said lists come shows stood. (
-  does_nothing around behind run lane place said request.Counts lists (seen_of pins store history faults) refusal.NoMemory counts_are_plain come shows stood refl refl tt (memory_is store.stopped runs),
+  plain_forgets around behind run lane place said request.Counts lists (seen_of pins store history faults) counts_are_plain come shows stood runs,
   λ e. absurd (never_more _ e),
 )
 
@@ -63,19 +64,19 @@ counts_done store history faults a b c d runs records listed counts ids = λ aro
       counts_are = counts ∙ ap (λ (m : MapMeaning). sum_by (λ row. row.count) m.records) (sym come.come.map_is);
       instances_are = ids ∙ ap (λ (m : MapMeaning). count_different (named_ids m)) (sym come.come.map_is);
     } in (
-      (did_part around behind run lane place said q lists lists seen seen (did.Step half.Whole) (Some given) (Some given) event
+      (did_own around behind run lane place said q lists lists seen seen (did.Step half.Whole) (Some given) (Some given) event
           (record {
-            own = own_event _ _ _ _ _ _ _ _ _ refl;
+            own = own_event event refl;
             finds = tt;
             found = tt;
             part_is = ap (λ (es : List RunEvent). next_part around run q es) stood.0;
             allowed = refl;
             fits = All-nil _;
             did = refl;
-            ends = record { 0 = λ e. refl; 1 = λ e f. some_given given f };
+            ends = record { 0 = λ e. refl; 1 = λ e f. some_reply given f };
             replied = refusal_last (own_events place run) event stood.0;
-          }) come (comes_along run event seen seen come refl refl (omega arith) refl refl refl) (λ uid. refl) (tells_itself seen) shows (omega arith) (mail_still store.map history) refl ((refl, (are, refl)), refl) (refl, refl, runs, nothing lists seen)
+          }) (record { made = refl; pins = refl; unpins = refl; doomed = refl; removed = refl; given = refl; placed = refl; gone = refl }) come (comes_along run event seen seen come refl refl (omega arith) refl refl refl) (λ uid. refl) (tells_itself seen) shows (omega arith) (mail_still store.map history) refl ((refl, (are, refl)), refl) (refl, refl, runs, nothing lists seen)
           (ends_well q said event (Some given) (Some given) (did.Step half.Whole) seen seen refl runs runs refl (λ x. x) (counted_runs a b c d) (λ some. ap (λ (s : List Reply). slice_get (halves_of q) (length s)) stood.1)
-          (λ r e. subst (λ (x : Reply). IsReplyOf q (said ++ given ∷ []) x) (one_reply given r e) (subst (λ (s : List Reply). IsReplyOf q (s ++ given ∷ []) given) (sym stood.1) refl)))).so,
+          (first_reply q said (Some given) given stood.1 refl))).so,
       λ e. absurd (never_more _ e),
     )

@@ -20,7 +20,7 @@ use Rattle.mail_ops.specs.declared.expunging.ExpungeStage.{ExpungeStage}
 use Rattle.mail_ops.specs.declared.expunging.ExpungeStage.TheVariants as expunge_stage
 use Rattle.mail_ops.specs.declared.moving.MoveStage.{MoveStage}
 use Rattle.mail_ops.specs.declared.moving.MoveStage.TheVariants as move_stage
-use Rattle.mail_ops.proofs.EventLemmas.{fall}
+use Rattle.task_steps.proofs.EventLaws.{fall}
 use Rattle.mail_ops.proofs.ToldLemmas.{more_is}
 
 pub copy_ended : {D : Type 0} → (name : List ℕ) (uid : Uid) (target : List ℕ) (now next : CopyStage) (answer : Progress) (how : Did) (old new : StoreValue D) (before after : Option History) (began then : Faults) (given : Reply) → CopiesOn name uid target now next answer how old new before after began then → answer ≡ progress.Done given → new.stopped ≡ false → ClaimsNothing (copy_claims next)

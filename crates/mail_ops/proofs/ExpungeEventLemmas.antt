@@ -18,10 +18,11 @@ use Rattle.mdbox_base.specs.declared.requests.Request.TheVariants as request
 use Rattle.mdbox_base.specs.declared.script.Half.TheVariants as half
 use Rattle.model_lists.specs.Lists.{Lists}
 use Rattle.model_store.specs.Settled.{IsSettledFor, Leaves}
+use Rattle.model_meaning.specs.MapMeaning.{no_numbers}
 use Rattle.list_machine.specs.Run.{First, GivesBack, RunEvent, Run, own_events}
 use Rattle.list_machine.specs.Machine.{expunge, is_step}
 use Rattle.list_machine.proofs.MachineOrderLemmas.{answers_well}
-use Rattle.journal.specs.Journal.{halves_of, refusal_in, IsReplyOf}
+use Rattle.journal.specs.Journal.{halves_of, IsReplyOf}
 use Rattle.journal.specs.Events.{Around, next_part}
 use Rattle.journal.specs.Stages.{ToLower, IsAtStage, removal, lowering}
 use Rattle.journal.proofs.ExpungeLemmas.{owed_is, next_is, never_refused}
@@ -31,7 +32,6 @@ use Rattle.store_core.specs.Running.{IsStore}
 use Rattle.store_core.specs.Value.{StoreValue, indexes_of}
 use Rattle.task_steps.specs.ExpungeStages.{one_due}
 use Rattle.task_steps.specs.Step.{Steps}
-use Rattle.task_steps.proofs.OneEventLemmas.{never_more, nothing, memory_is}
 use Rattle.mail_ops.specs.Appends.{MapTook, MapFell, lowering_of}
 use Rattle.mail_ops.specs.Expunging.{IsAtExpunge, expunge_amounts, RemovesRow, FellRemoving}
 use Rattle.mail_ops.specs.Messages.{missing_message}
@@ -39,9 +39,12 @@ use Rattle.mail_ops.specs.Owing.{AreDueIn}
 use Rattle.store_seen.specs.Seeing.{seen_of}
 use Rattle.mail_ops.specs.declared.expunging.ExpungeStage.{ExpungeStage}
 use Rattle.mail_ops.specs.declared.expunging.ExpungeStage.TheVariants as stage
-use Rattle.mail_ops.proofs.EventLemmas.{one_fits, stands_by, some_reply, one_reply, no_reply, stays_itself, memory_calm, comes_along, CanRefuse, did_unstepped, did_stop, did_fall, did_check, did_part, ends_well, own_event}
+use Rattle.task_steps.proofs.EventLaws.{CanRefuse, did_check, did_fall, did_forget, did_own, did_stop, ends_well, no_reply, own_event, refuses, replied_so, some_reply, stands_by, stays_left}
+use Rattle.task_steps.proofs.KeptStoreLemmas.{comes_along, stays_itself}
+use Rattle.task_steps.proofs.OneEventLemmas.{first_reply, never_more}
+use Rattle.task_steps.proofs.UnmovedLemmas.{nothing}
 use Rattle.mail_ops.proofs.FlagEventLemmas.{shown_on}
-use Rattle.mail_ops.proofs.LoweringLemmas.{comes_with, lowered_due, shows_still, leads_still}
+use Rattle.mail_ops.proofs.LoweringLemmas.{comes_with, lowered_due, shows_still, leads_still, one_fits}
 use Rattle.mail_ops.proofs.MessageLemmas.{missing_is, missing_refused}
 use Rattle.mail_ops.proofs.RemovalLemmas.{brings_removal, box_tells, took_tells, removal_due, box_fell_stays, map_fell_stays, removal_known}
 use Rattle.mail_ops.proofs.ToldLemmas.{some_part}
@@ -56,35 +59,21 @@ said_done e = let k : reply.Done ≡ reply.Refused refusal.Stopped = cc e in cc 
 
 -- ---- its refusals
 
-first_refuses : (around : Around) (run : Run) (place : ℕ) (name : List ℕ) (uid : Uid) (why : Refusal) → own_events place run ≡ [] → CanRefuse around run place (request.Expunge name uid) First why (Some (reply.Refused why))
-first_refuses around run place name uid why own = record {
-  finds = λ event. tt;
-  found = λ event. tt;
-  part_is = ap (λ (es : List RunEvent). next_part around run (request.Expunge name uid) es) own;
-  memory = λ e. refl;
-  ends = record { 0 = λ e. refl; 1 = λ e f. some_reply (reply.Refused why) f };
-  replied = λ given e. subst (λ (r : Reply). refusal_in r ≡ Some why) (one_reply (reply.Refused why) given e) refl;
-}
+first_refuses : (around : Around) (run : Run) (place : ℕ) (name : List ℕ) (uid : Uid) (why : Refusal) → own_events place run ≡ [] → CanRefuse around run place (request.Expunge name uid) First why (Some (reply.Refused why)) no_numbers
+first_refuses around run place name uid why own = refuses around run place (request.Expunge name uid) First why no_numbers (λ lane calls. tt) (λ lane calls. tt) (ap (λ (es : List RunEvent). next_part around run (request.Expunge name uid) es) own) refl
 
-last_stops : (around : Around) (run : Run) (place : ℕ) (name : List ℕ) (uid : Uid) (owed : ℕ) → IsAtStage (ToLower owed) (own_events place run) → CanRefuse around run place (request.Expunge name uid) GivesBack refusal.Stopped (Some (reply.Refused refusal.Stopped))
-last_stops around run place name uid owed at = record {
-  finds = λ event. tt;
-  found = λ event. tt;
-  part_is = next_is around run name uid (own_events place run) at.0 at.1 at.2 at.3;
-  memory = λ e. absurd (let k : refusal.Stopped ≡ refusal.NoMemory = e in cc k);
-  ends = record { 0 = λ e. refl; 1 = λ e f. some_reply (reply.Refused refusal.Stopped) f };
-  replied = λ given e. subst (λ (r : Reply). refusal_in r ≡ Some refusal.Stopped) (one_reply (reply.Refused refusal.Stopped) given e) refl;
-}
+last_stops : (around : Around) (run : Run) (place : ℕ) (name : List ℕ) (uid : Uid) (owed : ℕ) → IsAtStage (ToLower owed) (own_events place run) → CanRefuse around run place (request.Expunge name uid) GivesBack refusal.Stopped (Some (reply.Refused refusal.Stopped)) no_numbers
+last_stops around run place name uid owed at = refuses around run place (request.Expunge name uid) GivesBack refusal.Stopped no_numbers (λ lane calls. tt) (λ lane calls. tt) (next_is around run name uid (own_events place run) at.0 at.1 at.2 at.3) refl
 
 -- ---- a store that was stopped
 
 pub expunge_stopped : {D : Type 0} → (name : List ℕ) (uid : Uid) (now : ExpungeStage) (store : StoreValue D) (history : Option History) (faults : Faults) → store.stopped ≡ true → ExpungeClause name uid now now store store history history faults faults did.Quiet (Some (reply.Refused refusal.Stopped))
 expunge_stopped name uid stage.First store history faults stopped = λ around behind pins run lane place said lists come shows stood. (
-  (did_stop around behind run lane place said (request.Expunge name uid) First lists (seen_of pins store history faults) (first_refuses around run place name uid refusal.Stopped stood.0) come shows tt stopped).so,
+  (did_stop around behind run lane place said (request.Expunge name uid) First lists (seen_of pins store history faults) (first_refuses around run place name uid refusal.Stopped stood.0) come shows stopped).so,
   λ e. absurd (never_more _ e),
 )
 expunge_stopped name uid (stage.Owing owed) store history faults stopped = λ around behind pins run lane place said lists come shows stood. (
-  (did_stop around behind run lane place said (request.Expunge name uid) GivesBack lists (seen_of pins store history faults) (last_stops around run place name uid owed.0 stood.0) come shows tt stopped).so,
+  (did_stop around behind run lane place said (request.Expunge name uid) GivesBack lists (seen_of pins store history faults) (last_stops around run place name uid owed.0 stood.0) come shows stopped).so,
   λ e. absurd (never_more _ e),
 )
 
@@ -103,9 +92,9 @@ expunge_removed name uid owed old new before after began then is ran r = λ arou
     let seen = seen_of pins old before began in
     let later = seen_of pins new after then in
     stands_by around behind run lane place said q lists seen later (did.Step half.Whole) None event (Some reply.Done) (IsAtExpunge (stage.Owing owed))
-    (did_part around behind run lane place said q lists (expunge name uid.0 lists) seen later (did.Step half.Whole) None (Some reply.Done) event
+    (did_own around behind run lane place said q lists (expunge name uid.0 lists) seen later (did.Step half.Whole) None (Some reply.Done) event
     (record {
-      own = own_event _ _ _ _ _ _ _ _ _ refl;
+      own = own_event event refl;
       finds = tt;
       found = tt;
       part_is = ap (λ (es : List RunEvent). next_part around run q es) stood.0;
@@ -114,7 +103,7 @@ expunge_removed name uid owed old new before after began then is ran r = λ arou
       did = (k.shown.mailbox, k.recorded.entry, k.shown.named, k.is_record, refl);
       ends = record { 0 = λ h. absurd (h refl); 1 = λ h. absurd (some_part GivesBack h) };
       replied = tt;
-    }) come (comes_along run event seen later come a.map a.drawn a.grows refl refl refl)
+    }) (record { made = refl; pins = refl; unpins = refl; doomed = refl; removed = refl; given = refl; placed = refl; gone = refl }) come (comes_along run event seen later come a.map a.drawn a.grows refl refl refl)
     (λ other. subst (λ (u : ℕ). due_at other new + 0 ≡ due_at other old + (0 + (0 + one_due u other))) (sym k.recorded.uid_is)
     (removal_box_due (due_at other old) (due_at other new) r.row.map_uid other (removal_due old new r.there.m uid r.row other r.there.listed (r.took.due r.there.m other r.there.box.numbered))))
     (box_tells pins r.number (box_entry.R uid) old new before after began then (λ runs. ran) a) (
@@ -150,8 +139,8 @@ expunge_broken name uid old new before after began then is ran r = λ around beh
     let would : RunEvent = removal lane place k.shown.mailbox uid k.recorded.entry.uid (told_calls after) in
     let seen = seen_of pins old before began in
     let later = seen_of pins new after then in (
-      (did_fall around behind run lane place said q First lists seen later (did.Broken half.Whole) (first_refuses around run place name uid refusal.Stopped stood.0) come (box_fell_stays pins r.number (box_entry.R uid) old new before after began then r.fell)
-          (shows.0, shown_on seen later (indexes_of old.boxes) lists r.fell.appends.map r.fell.indexes shows.1) tt ran r.fell.stopped r.fell.rose (
+      (did_fall around behind run lane place said q First lists seen later (did.Broken half.Whole) no_numbers (first_refuses around run place name uid refusal.Stopped stood.0)
+          (stays_left _ _ _ _ _ _ _ _ _ come (box_fell_stays pins r.number (box_entry.R uid) old new before after began then r.fell) (shows.0, shown_on seen later (indexes_of old.boxes) lists r.fell.appends.map r.fell.indexes shows.1)) ran r.fell.stopped r.fell.rose (λ event. inl refl) tt (
             record { refused = refl; unanswered = refl; ran = ran; stopped = r.fell.stopped },
             refl,
             (
@@ -172,9 +161,9 @@ expunge_broken name uid old new before after began then is ran r = λ around beh
     )
 
 -- refused by a check
-missing_steps : (name : List ℕ) (uid : Uid) (why : Refusal) → (why ≡ refusal.NoMailbox) ⊎ (why ≡ refusal.NoMessage) → (is_step why ≡ true) × (IsReplyOf (request.Expunge name uid) (reply.Refused why ∷ []) (reply.Refused why)) × (Some (reply.Refused why) ≡ Some (reply.Refused refusal.Stopped) → ⊥)
-missing_steps name uid refusal.NoMailbox h = (refl, refl, λ e. let k : reply.Refused refusal.NoMailbox ≡ reply.Refused refusal.Stopped = cc e in let l : refusal.NoMailbox ≡ refusal.Stopped = cc k in cc l)
-missing_steps name uid refusal.NoMessage h = (refl, refl, λ e. let k : reply.Refused refusal.NoMessage ≡ reply.Refused refusal.Stopped = cc e in let l : refusal.NoMessage ≡ refusal.Stopped = cc k in cc l)
+missing_steps : (name : List ℕ) (uid : Uid) (why : Refusal) → (why ≡ refusal.NoMailbox) ⊎ (why ≡ refusal.NoMessage) → (is_step why ≡ true) × (IsReplyOf (request.Expunge name uid) (reply.Refused why ∷ []) (reply.Refused why))
+missing_steps name uid refusal.NoMailbox h = (refl, refl)
+missing_steps name uid refusal.NoMessage h = (refl, refl)
 missing_steps name uid other (inl e) = absurd (cc e)
 missing_steps name uid other (inr e) = absurd (cc e)
 
@@ -183,9 +172,8 @@ pub expunge_refused : {D : Type 0} → (name : List ℕ) (uid : Uid) (store : St
 expunge_refused name uid store history faults why runs missing = λ around behind pins run lane place said lists come shows stood.
     let q = request.Expunge name uid in
     let m = missing_steps name uid why (missing_is name uid.0 store why missing) in (
-      (did_check around behind run lane place said q First lists (seen_of pins store history faults) why (Some (reply.Refused why)) half.Whole (first_refuses around run place name uid why stood.0) come shows runs m.0 refl (ap (λ (s : List Reply). slice_get (halves_of q) (length s)) stood.1)
-          (λ event. missing_refused run name uid.0 store why lists shows.1 missing)
-          (λ given e. subst (λ (r : Reply). IsReplyOf q (said ++ reply.Refused why ∷ []) r) (one_reply (reply.Refused why) given e) (subst (λ (s : List Reply). IsReplyOf q (s ++ reply.Refused why ∷ []) (reply.Refused why)) (sym stood.1) m.1)) m.2).so,
+      (did_check around behind run lane place said q First lists (seen_of pins store history faults) (seen_of pins store history faults) why (Some (reply.Refused why)) half.Whole (first_refuses around run place name uid why stood.0) (stays_left _ _ _ _ _ _ _ _ _ come (stays_itself (seen_of pins store history faults)) shows) runs runs (nothing lists (seen_of pins store history faults)) refl m.0 refl (ap (λ (s : List Reply). slice_get (halves_of q) (length s)) stood.1) (λ event. missing_refused run name uid.0 store why lists shows.1 missing)
+          (first_reply q said (Some (reply.Refused why)) (reply.Refused why) stood.1 m.1)).so,
       λ e. absurd (never_more _ e),
     )
 
@@ -193,8 +181,8 @@ pub expunge_unremembered : {D : Type 0} → (name : List ℕ) (uid : Uid) (store
 expunge_unremembered name uid store history faults runs = λ around behind pins run lane place said lists come shows stood.
     let q = request.Expunge name uid in
     let seen = seen_of pins store history faults in (
-      (did_unstepped around behind run lane place said q First lists seen seen refusal.NoMemory (Some (reply.Refused refusal.NoMemory)) did.Quiet (first_refuses around run place name uid refusal.NoMemory stood.0) come (stays_itself seen) shows refl tt memory_calm (refl, refl, nothing lists seen)
-          (λ given e. subst (λ (r : Reply). IsReplyOf q said r) (one_reply (reply.Refused refusal.NoMemory) given e) stood.1) (memory_is store.stopped runs) (λ e. refl) (λ x. absurd x)).so,
+      (did_forget around behind run lane place said q First lists seen seen (Some (reply.Refused refusal.NoMemory)) no_numbers (first_refuses around run place name uid refusal.NoMemory stood.0) (stays_left _ _ _ _ _ _ _ _ _ come (stays_itself seen) shows) runs runs (nothing lists seen) refl refl (λ event. inl refl)
+          (replied_so q said (reply.Refused refusal.NoMemory) stood.1)).so,
       λ e. absurd (never_more _ e),
     )
 
@@ -212,9 +200,9 @@ expunge_lowered name uid owed old new before after began then ran due t = λ aro
     let seen = seen_of pins old before began in
     let later = seen_of pins new after then in
     let at = stood.0 in (
-      (did_part around behind run lane place said q lists lists seen later did.Quiet (Some reply.Done) None event
+      (did_own around behind run lane place said q lists lists seen later did.Quiet (Some reply.Done) None event
           (record {
-            own = own_event _ _ _ _ _ _ _ _ _ refl;
+            own = own_event event refl;
             finds = tt;
             found = tt;
             part_is = next_is around run name uid (own_events place run) at.0 at.1 at.2 at.3;
@@ -223,11 +211,11 @@ expunge_lowered name uid owed old new before after began then ran due t = λ aro
             did = (owed.0, owed_is place owed.0 run at.0 at.1 at.4, refl);
             ends = record { 0 = λ h. refl; 1 = λ h e. some_reply reply.Done e };
             replied = never_refused (own_events place run) at.0 event at.1 at.3;
-          }) come (comes_with run event (lowering_of owed) seen later come t.taken a.drawn a.grows refl refl refl)
+          }) (record { made = refl; pins = refl; unpins = refl; doomed = refl; removed = refl; given = refl; placed = refl; gone = refl }) come (comes_with run event (lowering_of owed) seen later come t.taken a.drawn a.grows refl refl refl)
           (λ other. last_due (due_at other old) (due_at other new) owed.0 other (lowered_due owed old new other (due other) (t.due other)))
           (took_tells pins (lowering_of owed) old new before after began then ran t) (shows_still pins old new before after began then lists a shows) a.grows (a.stays old.map) refl refl (refl, t.runs ∙ sym ran, leads_still pins (lowering_of owed) old new before after began then lists t)
           (ends_well q said event None (Some reply.Done) did.Quiet seen later refl ran t.runs t.unfailed (λ x. x) said_done (λ some. absurd (let k : false ≡ true = some in cc k))
-          (λ given e. subst (λ (r : Reply). IsReplyOf q said r) (one_reply reply.Done given e) stood.1))).so,
+          (replied_so q said reply.Done stood.1))).so,
       λ e. absurd (never_more _ e),
     )
 
@@ -236,7 +224,7 @@ pub expunge_unlowered : {D : Type 0} → (name : List ℕ) (uid : Uid) (owed : M
 expunge_unlowered name uid owed old new before after began then ran f = λ around behind pins run lane place said lists come shows stood.
     let seen = seen_of pins old before began in
     let later = seen_of pins new after then in (
-      (did_fall around behind run lane place said (request.Expunge name uid) GivesBack lists seen later did.Failed (last_stops around run place name uid owed.0 stood.0) come (map_fell_stays pins old new before after began then f) (shows_still pins old new before after began then lists f.appends shows) tt ran f.stopped f.rose
-          (record { refused = refl; unanswered = refl; ran = ran; stopped = f.stopped }, λ s. f.appends.moments lists s.0)).so,
+      (did_fall around behind run lane place said (request.Expunge name uid) GivesBack lists seen later did.Failed no_numbers (last_stops around run place name uid owed.0 stood.0)
+          (stays_left _ _ _ _ _ _ _ _ _ come (map_fell_stays pins old new before after began then f) (shows_still pins old new before after began then lists f.appends shows)) ran f.stopped f.rose (λ event. inl refl) tt (record { refused = refl; unanswered = refl; ran = ran; stopped = f.stopped }, λ s. f.appends.moments lists s.0)).so,
       λ e. absurd (never_more _ e),
     )

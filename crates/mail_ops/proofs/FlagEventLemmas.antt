@@ -2,13 +2,12 @@
 use Rattle.std.proofs.lemmas.List.Elements.{All-nil}
 use Rattle.std.proofs.lemmas.Grind.{common_steps}
 use Rattle.std.proofs.lemmas.Bool.Decides.{nat_tests}
-use Rattle.std.proofs.Common.{◌≡◌, ◌≤◌, ◌<◌, ℕ, Bool, true, false, List, [], Option, Some, None, refl, sym, ◌∙◌, ap, subst, arith}
+use Rattle.std.proofs.Common.{◌≡◌, ◌≤◌, ◌<◌, ℕ, true, false, List, [], Option, Some, None, refl, sym, ap, subst, arith, inl}
 use Rattle.std.specs.Option.{option_map, option_or}
 use Rattle.std.specs.Prelude.{find, is_some, is_none}
 use Rattle.std.specs.Str.{bytes_eq}
 use Rattle.disk_model.specs.Disk.{History, told_calls, Grows}
 use Rattle.mdbox_base.specs.declared.entries.BoxEntry.TheVariants as entry
-use Rattle.mdbox_base.specs.declared.entries.Highest.{Highest}
 use Rattle.mdbox_base.specs.declared.ids.Uid.{Uid}
 use Rattle.mdbox_base.specs.declared.progress.Did.TheVariants as did
 use Rattle.mdbox_base.specs.declared.replies.Refusal.{Refusal}
@@ -20,28 +19,27 @@ use Rattle.mdbox_base.specs.declared.script.Half.TheVariants as half
 use Rattle.mdbox_base.specs.Streams.{Rose}
 use Rattle.model_lists.specs.Lists.{Mailbox, Lists, AreWellFormed}
 use Rattle.model_meaning.specs.BoxMeaning.{LogRow, BoxMeaning, row_at}
-use Rattle.model_meaning.specs.MapMeaning.{MapBox, MapMeaning}
+use Rattle.model_meaning.specs.MapMeaning.{MapBox, MapMeaning, no_numbers}
 use Rattle.model_appends.specs.Appending.{lists_by, meanings_by}
 use Rattle.model_store.specs.Listing.{ShowLists, meaning_named}
 use Rattle.model_store.specs.Settled.{IsSettledFor, Leaves}
-use Rattle.list_machine.specs.Run.{First, BoxAppend, RunEvent, event_of, Run, and_then, own_events}
+use Rattle.list_machine.specs.Run.{First, BoxAppend, RunEvent, event_of, Run, own_events}
 use Rattle.list_machine.specs.Machine.{PartAnswers, set_flags, mailbox_named, refusal_at, refused_where, HasMailbox}
 use Rattle.list_machine.proofs.MachineOrderLemmas.{answers_well}
 use Rattle.journal.specs.Events.{Around, adds_to}
-use Rattle.journal.specs.Makes.{HasCome, Makes}
-use Rattle.journal.proofs.RunLemmas.{comes_on}
 use Rattle.store_core.specs.Append.{Brings}
 use Rattle.disk_model.specs.FaultCounts.{NoFault}
 use Rattle.model_kept.specs.Kept.{MailIsKept}
 use Rattle.task_steps.specs.Step.{Seen, ShowsSeen, HasComeTo, DidEvent, HasNotBegun}
 use Rattle.task_steps.specs.Tells.{TellsSame}
-use Rattle.task_steps.proofs.SeenLemmas.{comes_to_on, no_guids}
-use Rattle.task_steps.proofs.OneEventLemmas.{IsPlain, refused_event, refused_leaves, unmade, next_first, refusal_last, some_given, first_reply, first_turn}
+use Rattle.task_steps.proofs.EventLaws.{did_fall, did_own, ends_well, own_event, some_reply, stays_left}
+use Rattle.task_steps.proofs.KeptStoreLemmas.{comes_along}
+use Rattle.task_steps.proofs.OneEventLemmas.{first_reply, first_turn, IsPlain, next_first, plain_refuses, refusal_last}
 use Rattle.mail_ops.proofs.FlagListLemmas.{is_flagged}
 use Rattle.mail_ops.proofs.ShownEntryLemmas.{shown_entry}
 
 pub flag_is_plain : (name : List ℕ) (uid : Uid) (flags : ℕ) → IsPlain (request.Flag name uid flags)
-flag_is_plain name uid flags = record { found = λ around run event. tt; finds = λ around event. tt; memory = refl; reads = refl; behind = λ after run event why. refl; half_is = refl; halves_are = refl }
+flag_is_plain name uid flags = record { found = λ around run event. tt; finds = λ around event. tt; memory = refl; behind = λ why. refl; half_is = refl; halves_are = refl }
 
 -- ---- what is known as the entry is appended
 
@@ -88,9 +86,6 @@ pub record AppendsFlag (old new : Seen) (number : ℕ) (uid : Uid) (bits : ℕ) 
 abbrev pub flag_event : ℕ → ℕ → List BoxAppend → ℕ → RunEvent
 flag_event lane place entries calls = record (event_of lane place First calls) { reply = Some reply.Done; box_entries = entries }
 
-no_refusal : (r : Refusal) → None ≡ Some r → ⊥
-no_refusal r e = cc e
-
 some_mailbox : (run : Run) (name : List ℕ) (lists : Lists) (rest : Option Refusal) → option_or (refusal_at run lists (HasMailbox name)) rest ≡ None → (mailbox : Mailbox) × (mailbox_named name lists ≡ Some mailbox)
 some_mailbox run name lists rest e = by_option (mailbox_named name lists) refl e
   where
@@ -98,54 +93,8 @@ some_mailbox run name lists rest e = by_option (mailbox_named name lists) refl e
     by_option None h f = absurd (let k : Some refusal.NoMailbox ≡ None = f in cc k)
     by_option (Some mailbox) h f = (mailbox, h)
 
--- the run with an event that adds no entry of the map has come to where the store stands
-come_along : (run : Run) (event : RunEvent) (old new : Seen) (number : ℕ) (uid : Uid) (bits : ℕ) → HasComeTo run old → AppendsFlag old new number uid bits → event.moment ≡ told_calls new.history → HasCome (and_then run event) old.map old.drawn event.moment
-    → HasCome (and_then run event) new.map new.drawn (told_calls new.history)
-come_along run event old new number uid bits come a moment h =
-    subst (λ (x : MapMeaning). HasCome (and_then run event) x new.drawn (told_calls new.history)) (sym a.map_is)
-    (subst (λ (d : Highest). HasCome (and_then run event) old.map d (told_calls new.history)) (sym a.drawn_is)
-    (subst (λ (n : ℕ). HasCome (and_then run event) old.map old.drawn n) moment h))
-
-flag_makes : (around after : Around) (run : Run) (lane place : ℕ) (name : List ℕ) (uid : Uid) (flags number bits : ℕ) (lists : Lists) (old new : Seen) → HasComeTo run old → AppendsFlag old new number uid bits → own_events place run ≡ []
-    → ((event : RunEvent) → PartAnswers run event lists (request.Flag name uid flags) First reply.Done (set_flags name uid.0 flags lists))
-    → Makes around after run lane place (request.Flag name uid flags) lists (set_flags name uid.0 flags lists) new.map new.drawn (told_calls new.history) (Some reply.Done)
-flag_makes around after run lane place name uid flags number bits lists old new come a own answers =
-    let found = some_mailbox run name lists _ (answers (flag_event lane place [] (told_calls new.history))).0 in
-    let event = flag_event lane place (adds_to found.0 (entry.F uid flags)) (told_calls new.history) in
-    record {
-      event = event;
-      lane_is = refl;
-      request_is = refl;
-      moment_is = refl;
-      ended_is = refl;
-      is_event = record {
-        finds = tt;
-        part_is = next_first around run (request.Flag name uid flags) (own_events place run) own;
-        refused = λ r e. absurd (no_refusal r e);
-        undone = λ r e. absurd (no_refusal r e);
-        drew = λ h. absurd (h refl);
-        memory = λ e. absurd (no_refusal refusal.NoMemory e);
-        may = tt;
-        fits = All-nil _;
-        replied = refusal_last (own_events place run) event own;
-        allowed = λ e. (answers event).0;
-        did = λ e. (found.0, found.1, refl);
-        ends = record { 0 = λ e. refl; 1 = λ e f. some_given reply.Done f };
-      };
-      answer = Some reply.Done;
-      is_told = refl;
-      made = (answers event, refl);
-      come = come_along run event old new number uid bits come a refl (comes_on run event old.map old.drawn (told_calls old.history) come.come a.grows refl refl);
-    }
-
-fall : (b : Bool) → b ≡ true → b ≡ false → ⊥
-fall b t f = let k : true ≡ false = sym t ∙ f in cc k
-
-done_is : reply.Done ≡ reply.Refused refusal.Stopped → ⊥
-done_is e = cc e
-
-given_is : (a b : Reply) → Some a ≡ Some b → a ≡ b
-given_is a b e = cc e
+done_runs : Some reply.Done ≡ Some (reply.Refused refusal.Stopped) → ⊥
+done_runs e = let k : reply.Done ≡ reply.Refused refusal.Stopped = cc e in cc k
 
 pub shown_on : (old new : Seen) (meanings : List BoxMeaning) (lists : Lists) → new.map ≡ old.map → new.meanings ≡ meanings → ShowLists old.map.boxes meanings lists → ShowLists new.map.boxes new.meanings lists
 shown_on old new meanings lists map taken h =
@@ -156,86 +105,50 @@ pub flag_done : (around after : Around) (run : Run) (lane place : ℕ) (said : L
     → Flags old.map.boxes old.meanings lists name number uid flags bits run → AppendsFlag old new number uid bits → new.stopped ≡ false → new.meanings ≡ meanings_by number (entry.F uid bits) old.map.boxes old.meanings
     → ((ls : Lists) → IsSettledFor ls old.history → IsSettledFor (lists_by number [] (entry.F uid bits) ls) new.history)
     → DidEvent around after run lane place said (request.Flag name uid flags) lists old new (did.Step half.Whole) (Some reply.Done)
-unfolding flag_makes
-flag_done around after run lane place said lists name number uid flags bits old new come stage f a runs taken settled = record {
-  left = set_flags name uid.0 flags lists;
-  shown = (f.well, shown_on old new (meanings_by number (entry.F uid bits) old.map.boxes old.meanings) (set_flags name uid.0 flags lists) a.map_is taken f.shown);
-  makes = flag_makes around after run lane place name uid flags number bits lists old new come a stage.0 f.answers;
-  found = tt;
-  come = comes_to_on run event old new come (come_along run event old new number uid bits come a refl (comes_on run event old.map old.drawn (told_calls old.history) come.come a.grows refl refl))
-      (λ other. let d = a.due_is other in omega (arith, d)) (record { made = refl; pins = refl; unpins = refl; doomed = refl; removed = refl; given = refl; placed = refl; gone = refl }) a.same;
-  gives = no_guids run event refl;
-  went = (
-    refl,
-    refl,
-    runs,
-    record {
-      stops = λ s. subst (λ (ls : Lists). Leaves lists ls old.history new.history) f.by (a.moments lists s.0);
-      settled = λ s. subst (λ (ls : Lists). IsSettledFor ls new.history) f.by (settled lists s.0);
-    },
-  );
-  grows = a.grows;
-  mail = a.mail;
-  ends = record {
-    in_turn = λ some. first_turn (request.Flag name uid flags) said event (flag_is_plain name uid flags) stage.1 refl;
-    replied = first_reply (request.Flag name uid flags) said (Some reply.Done) reply.Done stage.1 refl;
-    halts = record { 0 = λ e. absurd (done_is (given_is reply.Done (reply.Refused refusal.Stopped) e)); 1 = λ e. absurd (fall new.stopped e runs) };
-    still = λ e. absurd (fall old.stopped e a.ran);
-    reads = λ e. absurd (no_refusal refusal.ReadFault e);
-    faults = record { reads = a.reads; changes = a.changes; rose = λ x. absurd x };
-    unfailed = λ read change. a.unfailed runs;
-  };
-}
-  where
-    event : RunEvent
-    event = flag_event lane place (adds_to (some_mailbox run name lists _ (f.answers (flag_event lane place [] (told_calls new.history))).0).0 (entry.F uid flags)) (told_calls new.history)
-
-stopped_is : Some refusal.Stopped ≡ Some refusal.ReadFault → ⊥
-stopped_is e = let k : refusal.Stopped ≡ refusal.ReadFault = cc e in cc k
+flag_done around after run lane place said lists name number uid flags bits old new come stage f a runs taken settled =
+    let q = request.Flag name uid flags in
+    let found = some_mailbox run name lists _ (f.answers (flag_event lane place [] (told_calls new.history))).0 in
+    let event : RunEvent = flag_event lane place (adds_to found.0 (entry.F uid flags)) (told_calls new.history) in
+    (did_own around after run lane place said q lists (set_flags name uid.0 flags lists) old new (did.Step half.Whole) (Some reply.Done) (Some reply.Done) event
+    (record {
+      own = own_event event refl;
+      finds = tt;
+      found = tt;
+      part_is = next_first around run q (own_events place run) stage.0;
+      allowed = (f.answers event).0;
+      did = (found.0, found.1, refl);
+      fits = All-nil _;
+      ends = record { 0 = λ e. refl; 1 = λ e k. some_reply reply.Done k };
+      replied = refusal_last (own_events place run) event stage.0;
+    }) (record { made = refl; pins = refl; unpins = refl; doomed = refl; removed = refl; given = refl; placed = refl; gone = refl }) come (comes_along run event old new come a.map_is a.drawn_is a.grows refl refl refl) (λ other. let d = a.due_is other in omega (arith, d)) a.same
+    (f.well, shown_on old new (meanings_by number (entry.F uid bits) old.map.boxes old.meanings) (set_flags name uid.0 flags lists) a.map_is taken f.shown) a.grows a.mail refl (f.answers event, refl) (
+      refl,
+      refl,
+      runs,
+      record {
+        stops = λ s. subst (λ (ls : Lists). Leaves lists ls old.history new.history) f.by (a.moments lists s.0);
+        settled = λ s. subst (λ (ls : Lists). IsSettledFor ls new.history) f.by (settled lists s.0);
+      },
+    )
+    (ends_well q said event (Some reply.Done) (Some reply.Done) (did.Step half.Whole) old new refl a.ran runs (a.unfailed runs) (λ x. x) done_runs (λ some. first_turn q said (flag_is_plain name uid flags) stage.1) (first_reply q said (Some reply.Done) reply.Done stage.1 refl))).so
 
 -- The append failed: it would have made that step.
 pub flag_broken : (around after : Around) (run : Run) (lane place : ℕ) (said : List Reply) (lists : Lists) (name : List ℕ) (number : ℕ) (uid : Uid) (flags bits : ℕ) (old new : Seen) → HasComeTo run old → ShowsSeen old lists → HasNotBegun run place said
     → Flags old.map.boxes old.meanings lists name number uid flags bits run → AppendsFlag old new number uid bits → new.stopped ≡ true → new.meanings ≡ old.meanings → Rose old.faults.changes new.faults.changes
     → DidEvent around after run lane place said (request.Flag name uid flags) lists old new (did.Broken half.Whole) (Some (reply.Refused refusal.Stopped))
-unfolding unmade
-flag_broken around after run lane place said lists name number uid flags bits old new come shows stage f a stopped untaken rose = record {
-  left = lists;
-  shown = (shows.0, shown_on old new old.meanings lists a.map_is untaken shows.1);
-  makes = unmade around after run lane place (request.Flag name uid flags) lists old.map new.map new.drawn (told_calls old.history) (told_calls new.history) refusal.Stopped a.map_is (flag_is_plain name uid flags) (subst (λ (d : Highest). HasCome run old.map d (told_calls old.history)) (sym a.drawn_is) come.come)
-      a.grows stage.0 refl tt;
-  found = tt;
-  come = comes_to_on run event old new come (come_along run event old new number uid bits come a refl (comes_on run event old.map old.drawn (told_calls old.history) come.come a.grows refl refl))
-      (λ other. let d = a.due_is other in omega (arith, d)) (refused_leaves lane place refusal.Stopped (told_calls new.history)) a.same;
-  gives = no_guids run event refl;
-  went = (
-    record { refused = refl; unanswered = refl; ran = a.ran; stopped = stopped },
-    refl,
-    (
-      record { would = would; lane_is = refl; request_is = refl; part_is = refl; did = λ around e. (found.0, found.1, refl); answer = reply.Done; left = set_flags name uid.0 flags lists; made = (f.answers would, refl) },
-      λ s. subst (λ (ls : Lists). Leaves lists ls old.history new.history) f.by (a.moments lists s.0),
-    ),
-  );
-  grows = a.grows;
-  mail = a.mail;
-  ends = record {
-    in_turn = λ some. absurd (let k : false ≡ true = some in cc k);
-    replied = first_reply (request.Flag name uid flags) said None (reply.Refused refusal.Stopped) stage.1 tt;
-    halts = record { 0 = λ e. stopped; 1 = λ e. refl };
-    still = λ e. absurd (fall old.stopped e a.ran);
-    reads = λ e. absurd (stopped_is e);
-    faults = record { reads = a.reads; changes = a.changes; rose = λ x. rose };
-    unfailed = λ read change. absurd (change tt);
-  };
-}
-  where
-    event : RunEvent
-    event = refused_event lane place refusal.Stopped (told_calls new.history)
-
-    found : (mailbox : Mailbox) × (mailbox_named name lists ≡ Some mailbox)
-    found = some_mailbox run name lists _ (f.answers (flag_event lane place [] (told_calls new.history))).0
-
-    would : RunEvent
-    would = flag_event lane place (adds_to found.0 (entry.F uid flags)) (told_calls new.history)
+flag_broken around after run lane place said lists name number uid flags bits old new come shows stage f a stopped untaken rose =
+    let q = request.Flag name uid flags in
+    let found = some_mailbox run name lists _ (f.answers (flag_event lane place [] (told_calls new.history))).0 in
+    let would : RunEvent = flag_event lane place (adds_to found.0 (entry.F uid flags)) (told_calls new.history) in
+    (did_fall around after run lane place said q First lists old new (did.Broken half.Whole) no_numbers (plain_refuses around run place q refusal.Stopped (flag_is_plain name uid flags) stage.0)
+    (stays_left _ _ _ _ _ _ _ _ _ come (record { map = a.map_is; drawn = a.drawn_is; due = a.due_is; tells = a.same; grows = a.grows; mail = a.mail; reads = a.reads; changes = a.changes }) (shows.0, shown_on old new old.meanings lists a.map_is untaken shows.1)) a.ran stopped rose (λ event. inl refl) tt (
+      record { refused = refl; unanswered = refl; ran = a.ran; stopped = stopped },
+      refl,
+      (
+        record { would = would; lane_is = refl; request_is = refl; part_is = refl; did = λ around e. (found.0, found.1, refl); answer = reply.Done; left = set_flags name uid.0 flags lists; made = (f.answers would, refl) },
+        λ s. subst (λ (ls : Lists). Leaves lists ls old.history new.history) f.by (a.moments lists s.0),
+      ),
+    )).so
 
 -- ---- what was looked up
 

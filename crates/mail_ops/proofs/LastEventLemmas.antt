@@ -28,11 +28,7 @@ last_unrefused : (earlier : List RunEvent) (last : RunEvent) → last_refusal (e
 last_unrefused [] last e = e
 last_unrefused (x ∷ xs) last e = last_unrefused xs last (left_none (last_refusal (xs ++ last ∷ [])) x.refused e)
 
--- the last refusal is that of the last event, if it was refused, and else that of those before it
-pub last_with : (own : List RunEvent) (event : RunEvent) (why : Refusal) → event.refused ≡ Some why → last_refusal (own ++ event ∷ []) ≡ Some why
-last_with [] event why e = ap (λ (r : Option Refusal). option_or None r) e
-last_with (x ∷ xs) event why e = ap (λ (r : Option Refusal). option_or r x.refused) (last_with xs event why e)
-
+-- the last refusal is that of those before, if the last event wasn't refused
 pub last_before : (own : List RunEvent) (event : RunEvent) → event.refused ≡ None → last_refusal (own ++ event ∷ []) ≡ last_refusal own
 last_before [] event e = e
 last_before (x ∷ xs) event e = ap (λ (r : Option Refusal). option_or r x.refused) (last_before xs event e)

@@ -7,7 +7,6 @@ pub mod CopyStepLemmas
 pub mod CountingLemmas
 pub mod CountsEventLemmas
 pub mod EndedLemmas
-pub mod EventLemmas
 pub mod ExpungeEventLemmas
 pub mod ExpungeStepLemmas
 pub mod FlagEventLemmas

@@ -1,5 +1,6 @@
 -- A count that is lowered, by the clause of a step.
 use Rattle.std.proofs.Common.{◌≡◌, ◌≤◌, ◌+◌, ◌-◌, ◌==◌, ◌||◌, ℕ, Bool, false, cond, List, [], ◌∷◌, Option, refl, sym, ◌∙◌, ap, subst, arith}
+use Rattle.std.specs.Prelude.{All}
 use Rattle.std.proofs.lemmas.Grind.{common_steps}
 use Rattle.std.proofs.lemmas.Bool.Decides.{nat_tests}
 use Rattle.std.proofs.lemmas.Bool.{eq-eqb}
@@ -12,7 +13,7 @@ use Rattle.model_lists.specs.Lists.{Lists}
 use Rattle.model_meaning.specs.BoxMeaning.{BoxMeaning}
 use Rattle.model_meaning.specs.MapMeaning.{MapBox, MapMeaning, map_applied, no_numbers}
 use Rattle.model_store.specs.Listing.{ShowLists}
-use Rattle.list_machine.specs.Run.{RunEvent, Run, and_then, drawn_also}
+use Rattle.list_machine.specs.Run.{RunEvent, Run, and_then, drawn_also, map_of}
 use Rattle.journal.specs.Makes.{HasCome}
 use Rattle.journal.proofs.RunLemmas.{comes_on_with, drawn_none}
 use Rattle.store_core.specs.Dues.{due_at}
@@ -36,6 +37,10 @@ comes_with run event entry old new come map drawn grows moment entries drew =
 -- the entry that lowers a count fits
 pub one_lowered_fits : (m : MapMeaning) (uid : MapUid) → HasRecord m uid.0 (λ row. 1 ≤ row.count) → MapFits m (lowering_of uid)
 one_lowered_fits m uid some = (λ k lt. absurd (omega (arith, lt)), All-cons (λ (u : MapUid). HasRecord m u.0 (λ row. 1 ≤ row.count)) uid [] some (All-nil _))
+
+-- an entry that fits the store's map fits the run's
+pub one_fits : (run : Run) (seen : Seen) (entry : MapEntry) → HasComeTo run seen → MapFits seen.map entry → All (MapFits (map_of run)) (entry ∷ [])
+one_fits run seen entry come fits = All-cons (MapFits (map_of run)) entry [] (subst (λ (m : MapMeaning). MapFits m entry) (sym come.come.map_is) fits) (All-nil _)
 
 -- ---- what is due
 

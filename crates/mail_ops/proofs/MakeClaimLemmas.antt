@@ -35,7 +35,7 @@ use Rattle.mail_ops.specs.Making.{IsReadyToMake, KeepsAllButLogs, MakeAnswers, M
 use Rattle.mail_ops.specs.declared.event.NotDone.TheVariants as not_done
 use Rattle.mail_ops.specs.declared.making.MakeStage.{MakeStage}
 use Rattle.mail_ops.specs.declared.making.MakeStage.TheVariants as make_stage
-use Rattle.mail_ops.proofs.EventLemmas.{fall}
+use Rattle.task_steps.proofs.EventLaws.{fall}
 
 -- ---- logs that were made
 

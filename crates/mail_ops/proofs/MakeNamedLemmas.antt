@@ -1,7 +1,7 @@
 -- The event of a make that names its mailbox, by the clause of a step.
 use Rattle.model_meaning.specs.MapFits.{MapFits}
 use Rattle.mail_ops.proofs.MakeCallLemmas.{naming_fits}
-use Rattle.std.proofs.Common.{◌≡◌, ◌≤◌, ◌<◌, ℕ, Bool, true, false, List, [], ◌∷◌, ◌++◌, Option, Some, None, refl, sym, ◌∙◌, ap, subst, arith}
+use Rattle.std.proofs.Common.{◌≡◌, ◌≤◌, ◌<◌, ℕ, Bool, true, false, List, [], ◌∷◌, ◌++◌, Option, Some, None, refl, sym, ◌∙◌, ap, subst, arith, inl}
 use Rattle.std.specs.Prelude.{All}
 use Rattle.std.proofs.lemmas.List.Elements.{All-nil, All-cons, All-head, All-tail}
 use Rattle.disk_model.specs.Disk.{History, Faults, told_calls}
@@ -17,7 +17,7 @@ use Rattle.mdbox_base.specs.declared.requests.Request.TheVariants as request
 use Rattle.mdbox_base.specs.declared.script.Half.TheVariants as half
 use Rattle.model_lists.specs.Lists.{Mailbox, Lists, AreWellFormed, empty_mailbox}
 use Rattle.model_meaning.specs.BoxMeaning.{BoxMeaning, box_meaning}
-use Rattle.model_meaning.specs.MapMeaning.{MapRecord, MapBox, MapMeaning, map_applied}
+use Rattle.model_meaning.specs.MapMeaning.{MapRecord, MapBox, MapMeaning, map_applied, no_numbers}
 use Rattle.model_meaning.specs.Sound.{IsSoundMapBox}
 use Rattle.model_store.specs.Listing.{ShowsMailbox, ShowLists}
 use Rattle.list_machine.specs.Run.{Last, RunEvent, event_of, Run, own_events}
@@ -30,15 +30,15 @@ use Rattle.store_core.specs.Running.{IsStore}
 use Rattle.store_core.specs.Value.{StoreValue, indexes_of}
 use Rattle.store_core.proofs.NamingLemmas.{same_records, one_box_more, box_named}
 use Rattle.task_steps.specs.Step.{ShowsSeen, HasComeTo}
-use Rattle.task_steps.proofs.OneEventLemmas.{never_more}
 use Rattle.mail_ops.specs.Making.{NamesLog, IsStoppedSo, CanBeNamed, HasChangedDisk, FellChanging, with_mailbox}
 use Rattle.store_seen.specs.Seeing.{seen_of}
 use Rattle.mail_ops.specs.declared.making.MakeStage.{MakeStage}
 use Rattle.mail_ops.specs.declared.making.MakeStage.TheVariants as stage
-use Rattle.mail_ops.proofs.EventLemmas.{one_fits, some_reply, one_reply, did_fall, did_part, ends_well, own_event}
-use Rattle.mail_ops.proofs.LoweringLemmas.{comes_with}
+use Rattle.task_steps.proofs.EventLaws.{did_fall, did_own, ends_well, one_reply, own_event, some_reply, stays_left}
+use Rattle.task_steps.proofs.OneEventLemmas.{never_more}
+use Rattle.mail_ops.proofs.LoweringLemmas.{comes_with, one_fits}
 use Rattle.mail_ops.proofs.MakeCheckLemmas.{naming_checked}
-use Rattle.mail_ops.proofs.MakeEventLemmas.{MakeClause, naming_refuses, stops_memory, in_turn, above_not, stopped_stays, stopped_shows}
+use Rattle.mail_ops.proofs.MakeEventLemmas.{MakeClause, naming_refuses, in_turn, above_not, stopped_stays, stopped_shows}
 use Rattle.mail_ops.proofs.LastEventLemmas.{last_before}
 use Rattle.mail_ops.proofs.MakeStageLemmas.{naming_part, naming_next}
 use Rattle.mail_ops.proofs.MessageLemmas.{store_is_sound}
@@ -117,9 +117,9 @@ naming_done name number next old new before after began then is ran n named d = 
       subst (λ (bs : List MapBox). ShowLists bs (indexes_of new.boxes) left) (sym boxes) (subst (λ (ms : List BoxMeaning). ShowLists (old.map.boxes ++ box_named number name ∷ []) ms left) (sym named.indexes)
           (shows_more old.map.boxes (indexes_of old.boxes) lists (box_named number name) (box_meaning []) (empty_mailbox number.0 name) shows.1 (shows_empty number name))),
     ) in (
-      (did_part around behind run lane place said (request.Make name) lists left seen later (did.Step half.Whole) (Some reply.Done) (Some reply.Done) event
+      (did_own around behind run lane place said (request.Make name) lists left seen later (did.Step half.Whole) (Some reply.Done) (Some reply.Done) event
           (record {
-            own = own_event _ _ _ _ _ _ _ _ _ refl;
+            own = own_event event refl;
             finds = tt;
             found = tt;
             part_is = naming_next around run name place said number.0 old.map stood come.come.map_is ∙ ap (λ (b : Bool). Some (naming_part b)) (above_not number.0 old.map.highest.mailbox n.can.above);
@@ -128,7 +128,7 @@ naming_done name number next old new before after began then is ran n named d = 
             did = refl;
             ends = record { 0 = λ h. refl; 1 = λ h e. some_reply reply.Done e };
             replied = last_before (own_events place run) event refl ∙ stood.0.unrefused;
-          }) come
+          }) (record { made = refl; pins = refl; unpins = refl; doomed = refl; removed = refl; given = refl; placed = refl; gone = refl }) come
           (comes_with run event (map_entry.B (record { 0 = number_of run place }) 1 name) seen later come (subst (λ (k : ℕ). new.map ≡ map_applied (map_entry.B (record { 0 = k }) 1 name) old.map) (sym stood.2) named.map) (ap (λ (s : StoreValue _). s.drawn) named.same) d.change.grows refl refl refl)
           (λ uid. let e = named_due old new number name uid named in omega (arith, e))
           (store_tells pins old new before after began then (λ runs. ran) (ap (λ (m : MapMeaning). m.store) named.map) (ap (λ (s : StoreValue _). s.drawn) named.same) (ap (λ (s : StoreValue _). s.files) named.same) (ap (λ (s : StoreValue _). s.instances) named.same)) shown d.change.grows (d.change.stays old.map) refl ((free, made), refl)
@@ -147,9 +147,8 @@ naming_fell name number next old new before after began then is ran n same f = �
     let stops : new.stopped ≡ true = ap (λ (s : StoreValue _). s.stopped) same in
     let left = with_mailbox number.0 name lists in
     let would : RunEvent = naming_event lane place (number_of run place) name (told_calls after) in (
-      (did_fall around behind run lane place said (request.Make name) Last lists seen later (did.Broken half.Whole)
-          (naming_refuses around run place said name number.0 old.map false refusal.Stopped (above_not number.0 old.map.highest.mailbox n.can.above) stood come.come.map_is (λ e. absurd (stops_memory e))) come
-          (stopped_stays pins old new before after began then (with_mailbox number.0 name) same f.change) (stopped_shows pins old new before after began then lists same shows) tt ran stops f.rose (
+      (did_fall around behind run lane place said (request.Make name) Last lists seen later (did.Broken half.Whole) no_numbers (naming_refuses around run place said name number.0 old.map false refusal.Stopped (above_not number.0 old.map.highest.mailbox n.can.above) stood come.come.map_is)
+          (stays_left _ _ _ _ _ _ _ _ _ come (stopped_stays pins old new before after began then (with_mailbox number.0 name) same f.change) (stopped_shows pins old new before after began then lists same shows)) ran stops f.rose (λ event. inl refl) tt (
             record { refused = refl; unanswered = refl; ran = ran; stopped = stops },
             refl,
             (

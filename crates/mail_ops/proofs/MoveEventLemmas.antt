@@ -1,6 +1,6 @@
 -- The events of a move that a copy doesn't have, by the clause of a step.
 use Rattle.std.proofs.lemmas.List.Elements.{All-nil}
-use Rattle.std.proofs.Common.{◌≡◌, ◌≤◌, ◌+◌, ℕ, Bool, true, false, List, [], ◌∷◌, ◌++◌, Option, Some, None, refl, sym, ◌∙◌, ap, subst, arith}
+use Rattle.std.proofs.Common.{◌≡◌, ◌≤◌, ◌+◌, ℕ, Bool, true, false, List, [], ◌∷◌, ◌++◌, Option, Some, None, refl, sym, ◌∙◌, ap, subst, arith, inl}
 use Rattle.std.specs.Prelude.{length, slice_get, is_none}
 use Rattle.std.proofs.lemmas.Bool.{ne_eqb}
 use Rattle.disk_model.specs.Disk.{History, Faults, told_calls}
@@ -17,24 +17,22 @@ use Rattle.mdbox_base.specs.declared.script.Half.TheVariants as half
 use Rattle.model_lists.specs.Lists.{ListedMessage, Lists, AreWellFormed}
 use Rattle.model_appends.specs.Appending.{lists_by, meanings_by}
 use Rattle.model_meaning.specs.BoxMeaning.{LogRow}
-use Rattle.model_meaning.specs.MapMeaning.{MapMeaning, record_of}
+use Rattle.model_meaning.specs.MapMeaning.{MapMeaning, record_of, no_numbers}
 use Rattle.model_store.specs.Listing.{ShowLists}
 use Rattle.model_store.specs.Settled.{IsSettledFor, Leaves}
 use Rattle.list_machine.specs.Run.{Last, SecondHalf, GivesBack, RunEvent, event_of, Run, and_then, map_of, own_events, source_of}
 use Rattle.list_machine.specs.Machine.{add_message, expunge_from, message_numbered}
 use Rattle.list_machine.proofs.MachineOrderLemmas.{answers_well}
-use Rattle.journal.specs.Journal.{halves_of, refusal_in, IsReplyOf}
+use Rattle.journal.specs.Journal.{halves_of}
 use Rattle.journal.specs.Events.{Around, RemovesIfThere, is_elsewhere, last_refusal, lowers}
 use Rattle.journal.proofs.OwnEventLemmas.{own_other}
 use Rattle.entry_steps.proofs.AppendListLemmas.{removed_from}
 use Rattle.store_core.specs.Dues.{due_at}
 use Rattle.store_core.specs.Running.{IsStore}
 use Rattle.store_core.specs.Value.{StoreValue, indexes_of}
-use Rattle.task_steps.proofs.UnmovedLemmas.{mail_still}
 use Rattle.task_steps.specs.ExpungeStages.{one_due}
 use Rattle.task_claims.specs.Leaving.{number_named}
 use Rattle.task_steps.specs.Step.{HasComeTo, IsKept}
-use Rattle.task_steps.proofs.OneEventLemmas.{never_more, nothing}
 use Rattle.task_steps.proofs.SeenLemmas.{tells_itself}
 use Rattle.mail_ops.specs.Appends.{MapTook, MapFell, lowering_of}
 use Rattle.mail_ops.specs.CopyStages.{IsHolding}
@@ -46,11 +44,14 @@ use Rattle.store_seen.specs.Seeing.{seen_of}
 use Rattle.mail_ops.proofs.CopyFirstLemmas.{CopyingClause, place_free}
 use Rattle.mail_ops.proofs.CopyLastLemmas.{copy_known, adding, added_due, ended_due, is_copied, brings_copy, named_in, place_refuses, lowered_ends}
 use Rattle.mail_ops.proofs.CopyPartLemmas.{adds_next}
-use Rattle.mail_ops.proofs.EventLemmas.{one_fits, stands_by, some_reply, one_reply, no_reply, comes_along, CanRefuse, did_stop, did_fall, did_part, ends_well, own_event}
+use Rattle.task_steps.proofs.EventLaws.{CanRefuse, did_fall, did_own, did_stop, ends_well, no_reply, own_event, refuses, replied_so, some_reply, stands_by, stays_left}
+use Rattle.task_steps.proofs.KeptStoreLemmas.{comes_along}
+use Rattle.task_steps.proofs.OneEventLemmas.{never_more}
+use Rattle.task_steps.proofs.UnmovedLemmas.{mail_still, nothing}
 use Rattle.mail_ops.proofs.FlagEventLemmas.{shown_on}
 use Rattle.mail_ops.proofs.FlagListLemmas.{shown_number}
 use Rattle.mail_ops.proofs.LastEventLemmas.{copied_by, copied_new, copied_still, ends_in, ends_still, held_by, held_same, last_before, source_by, source_same, unrefused_then}
-use Rattle.mail_ops.proofs.LoweringLemmas.{comes_with, lowered_due, shows_still, leads_still}
+use Rattle.mail_ops.proofs.LoweringLemmas.{comes_with, lowered_due, shows_still, leads_still, one_fits}
 use Rattle.mail_ops.proofs.MessageLemmas.{RecordOfRow, by_number, from_source, missing_none, shown_guid}
 use Rattle.mail_ops.proofs.MovePartLemmas.{copied_ends, move_copies, removes_next, lowers_next}
 use Rattle.mail_ops.proofs.RemovalLemmas.{took_tells, brings_removal, box_tells, removal_due, box_fell_stays, map_fell_stays, removal_known}
@@ -75,9 +76,9 @@ move_added name uid target held copied source old new before after began faulted
     let allowed = place_refuses run q name uid target half.CopyHalf old lists None c shows.1 (place_free name uid.0 target old r.row r.number copied.0 r.at) event in
     let done = is_copied old name uid target r.row r.number copied lists k in
     stands_by around behind run lane place said q lists seen later (did.Step half.CopyHalf) None event (Some (reply.Copied copied)) (HasCopied held copied source)
-    (did_part around behind run lane place said q lists (add_message target k.shown.message lists) seen later (did.Step half.CopyHalf) None (Some (reply.Copied copied)) event
+    (did_own around behind run lane place said q lists (add_message target k.shown.message lists) seen later (did.Step half.CopyHalf) None (Some (reply.Copied copied)) event
     (record {
-      own = own_event _ _ _ _ _ _ _ _ _ refl;
+      own = own_event event refl;
       finds = tt;
       found = tt;
       part_is = adds_next around run q name uid target half.CopyHalf held source place said c stood (named_in pins run name source old before began come named);
@@ -86,7 +87,7 @@ move_added name uid target held copied source old new before after began faulted
       did = (k.shown.message, k.shown.there, (k.mailbox, held.0, k.named, stood.held_is, refl));
       ends = record { 0 = λ e. absurd (e refl); 1 = λ e. absurd (some_part SecondHalf e) };
       replied = tt;
-    }) come (comes_along run event seen later come a.map a.drawn a.grows refl refl refl)
+    }) (record { made = refl; pins = refl; unpins = refl; doomed = refl; removed = refl; given = refl; placed = refl; gone = refl }) come (comes_along run event seen later come a.map a.drawn a.grows refl refl refl)
     (λ other. ended_due (due_at other old) (due_at other new) held.0 other (added_due held copied r.row r.at.m old new other r.holds (due other) (r.took.due r.at.m other r.at.to.numbered)))
     (box_tells pins r.number (added_copy copied r.row) old new before after began faulted (λ runs. ran) a) (
       answers_well run lists q event (reply.Copied copied) (add_message target k.shown.message lists) shows.0 tt (allowed, done),
@@ -114,20 +115,13 @@ move_added name uid target held copied source old new before after began faulted
 -- ---- the third event: its refusal, as the store is stopped
 
 removes_stops : (around : Around) (run : Run) (place : ℕ) (said : List Reply) (name : List ℕ) (uid : Uid) (target : List ℕ) (held : MapUid) (copied : Uid) (source : ℕ) → HasCopied held copied source run place said
-    → CanRefuse around run place (request.Move name uid target) SecondHalf refusal.Stopped (Some (reply.Refused refusal.Stopped))
-removes_stops around run place said name uid target held copied source h = record {
-  finds = λ event. tt;
-  found = λ event. tt;
-  part_is = removes_next around run name uid target held copied source place said h;
-  memory = λ e. absurd (let k : refusal.Stopped ≡ refusal.NoMemory = e in cc k);
-  ends = record { 0 = λ e. refl; 1 = λ e f. some_reply (reply.Refused refusal.Stopped) f };
-  replied = λ given e. subst (λ (r : Reply). refusal_in r ≡ Some refusal.Stopped) (one_reply (reply.Refused refusal.Stopped) given e) refl;
-}
+    → CanRefuse around run place (request.Move name uid target) SecondHalf refusal.Stopped (Some (reply.Refused refusal.Stopped)) no_numbers
+removes_stops around run place said name uid target held copied source h = refuses around run place (request.Move name uid target) SecondHalf refusal.Stopped no_numbers (λ lane calls. tt) (λ lane calls. tt) (removes_next around run name uid target held copied source place said h) refl
 
 pub removal_stopped : {D : Type 0} → (name : List ℕ) (uid : Uid) (target : List ℕ) (held : MapUid) (copied : Uid) (source : ℕ) (Stands : Run → ℕ → List Reply → Type 0) (store : StoreValue D) (history : Option History) (faults : Faults) → store.stopped ≡ true
     → CopyingClause (request.Move name uid target) (HasCopied held copied source) Stands store store history history faults faults did.Quiet (Some (reply.Refused refusal.Stopped))
 removal_stopped name uid target held copied source Stands store history faults stopped = λ around behind pins run lane place said lists come shows stood. (
-  (did_stop around behind run lane place said (request.Move name uid target) SecondHalf lists (seen_of pins store history faults) (removes_stops around run place said name uid target held copied source stood) come shows tt stopped).so,
+  (did_stop around behind run lane place said (request.Move name uid target) SecondHalf lists (seen_of pins store history faults) (removes_stops around run place said name uid target held copied source stood) come shows stopped).so,
   λ e. absurd (never_more _ e),
 )
 
@@ -150,9 +144,9 @@ move_gone name uid target held copied source Stands store history faults why run
     let event : RunEvent = telling_gone lane place copied (told_calls history) in
     let seen = seen_of pins store history faults in
     let ended = Some (reply.Moved copied true) in (
-      (did_part around behind run lane place said q lists lists seen seen (did.Step half.ExpungeHalf) ended ended event
+      (did_own around behind run lane place said q lists lists seen seen (did.Step half.ExpungeHalf) ended ended event
           (record {
-            own = own_event _ _ _ _ _ _ _ _ _ refl;
+            own = own_event event refl;
             finds = tt;
             found = tt;
             part_is = removes_next around run name uid target held copied source place said stood;
@@ -161,10 +155,10 @@ move_gone name uid target held copied source Stands store history faults why run
             did = subst (λ (o : Option ListedMessage). RemovesIfThere run (source_of place run) uid.0 event o) (sym none) refl;
             ends = record { 0 = λ e. refl; 1 = λ e f. some_reply (reply.Moved copied true) f };
             replied = last_before (own_events place run) event refl ∙ stood.unrefused;
-          }) come (comes_along run event seen seen come refl refl (omega arith) refl refl refl) (λ other. refl) (tells_itself seen) shows (omega arith) (mail_still seen.map seen.history) refl
+          }) (record { made = refl; pins = refl; unpins = refl; doomed = refl; removed = refl; given = refl; placed = refl; gone = refl }) come (comes_along run event seen seen come refl refl (omega arith) refl refl refl) (λ other. refl) (tells_itself seen) shows (omega arith) (mail_still seen.map seen.history) refl
           ((refl, (stood.copied_is, (sym (ap is_none none), refl))), refl) (refl, refl, runs, nothing lists seen)
           (ends_well q said event ended ended (did.Step half.ExpungeHalf) seen seen refl runs runs refl (λ x. x) (moved_runs copied true) (λ some. ap (λ (s : List Reply). slice_get (halves_of q) (length s)) stood.said_is)
-          (λ x e. subst (λ (y : Reply). IsReplyOf q (said ++ reply.Moved copied true ∷ []) y) (one_reply (reply.Moved copied true) x e) (ap (λ (s : List Reply). s ++ reply.Moved copied true ∷ []) stood.said_is)))).so,
+          (replied_so q (said ++ reply.Moved copied true ∷ []) (reply.Moved copied true) (ap (λ (s : List Reply). s ++ reply.Moved copied true ∷ []) stood.said_is)))).so,
       λ e. absurd (never_more _ e),
     )
 
@@ -211,9 +205,9 @@ move_removed name uid target held copied source old new before after began fault
     let later = seen_of pins new after faulted in
     let there = sym (ap is_none k.there) in
     stands_by around behind run lane place said q lists seen later (did.Step half.ExpungeHalf) None event (Some (reply.Moved copied false)) (HasMoved uid held copied)
-    (did_part around behind run lane place said q lists (expunge_from at uid.0 lists) seen later (did.Step half.ExpungeHalf) None (Some (reply.Moved copied false)) event
+    (did_own around behind run lane place said q lists (expunge_from at uid.0 lists) seen later (did.Step half.ExpungeHalf) None (Some (reply.Moved copied false)) event
     (record {
-      own = own_event _ _ _ _ _ _ _ _ _ refl;
+      own = own_event event refl;
       finds = tt;
       found = tt;
       part_is = removes_next around run name uid target held copied source place said stood;
@@ -222,7 +216,7 @@ move_removed name uid target held copied source old new before after began fault
       did = subst (λ (o : Option ListedMessage). RemovesIfThere run at uid.0 event o) (sym k.there) (k.recorded.entry, k.is_record, refl);
       ends = record { 0 = λ e. absurd (e refl); 1 = λ e. absurd (some_part GivesBack e) };
       replied = tt;
-    }) come (comes_along run event seen later come a.map a.drawn a.grows refl refl refl)
+    }) (record { made = refl; pins = refl; unpins = refl; doomed = refl; removed = refl; given = refl; placed = refl; gone = refl }) come (comes_along run event seen later come a.map a.drawn a.grows refl refl refl)
     (λ other. subst (λ (u : ℕ). due_at other new + 0 ≡ due_at other old + (0 + (0 + one_due u other))) (sym k.recorded.uid_is)
     (taken_due (due_at other old) (due_at other new) r.row.map_uid other (removal_due old new r.there.m uid r.row other r.there.listed (r.took.due r.there.m other r.there.box.numbered))))
     (box_tells pins r.number (box_entry.R uid) old new before after began faulted (λ runs. ran) a) (
@@ -257,8 +251,8 @@ move_broken name uid target held copied source Stands old new before after began
     let would : RunEvent = taking_away lane place at uid k.recorded.entry.uid (told_calls after) in
     let seen = seen_of pins old before began in
     let later = seen_of pins new after faulted in (
-      (did_fall around behind run lane place said q SecondHalf lists seen later (did.Broken half.ExpungeHalf) (removes_stops around run place said name uid target held copied source stood) come (box_fell_stays pins r.number (box_entry.R uid) old new before after began faulted r.fell)
-          (shows.0, shown_on seen later (indexes_of old.boxes) lists r.fell.appends.map r.fell.indexes shows.1) tt ran r.fell.stopped r.fell.rose (
+      (did_fall around behind run lane place said q SecondHalf lists seen later (did.Broken half.ExpungeHalf) no_numbers (removes_stops around run place said name uid target held copied source stood)
+          (stays_left _ _ _ _ _ _ _ _ _ come (box_fell_stays pins r.number (box_entry.R uid) old new before after began faulted r.fell) (shows.0, shown_on seen later (indexes_of old.boxes) lists r.fell.appends.map r.fell.indexes shows.1)) ran r.fell.stopped r.fell.rose (λ event. inl refl) tt (
             record { refused = refl; unanswered = refl; ran = ran; stopped = r.fell.stopped },
             refl,
             (
@@ -284,20 +278,13 @@ abbrev pub lowering_moved : ℕ → ℕ → ℕ → Uid → ℕ → RunEvent
 lowering_moved lane place owed copied calls = record (event_of lane place GivesBack calls) { reply = Some (reply.Moved copied false); map_entries = lowers owed }
 
 lowers_stops : (around : Around) (run : Run) (place : ℕ) (said : List Reply) (name : List ℕ) (uid : Uid) (target : List ℕ) (owed : MapUid) (copied : Uid) → HasMoved uid owed copied run place said
-    → CanRefuse around run place (request.Move name uid target) GivesBack refusal.Stopped (Some (reply.Refused refusal.Stopped))
-lowers_stops around run place said name uid target owed copied h = record {
-  finds = λ event. tt;
-  found = λ event. tt;
-  part_is = lowers_next around run name uid target owed copied place said h;
-  memory = λ e. absurd (let k : refusal.Stopped ≡ refusal.NoMemory = e in cc k);
-  ends = record { 0 = λ e. refl; 1 = λ e f. some_reply (reply.Refused refusal.Stopped) f };
-  replied = λ given e. subst (λ (x : Reply). refusal_in x ≡ Some refusal.Stopped) (one_reply (reply.Refused refusal.Stopped) given e) refl;
-}
+    → CanRefuse around run place (request.Move name uid target) GivesBack refusal.Stopped (Some (reply.Refused refusal.Stopped)) no_numbers
+lowers_stops around run place said name uid target owed copied h = refuses around run place (request.Move name uid target) GivesBack refusal.Stopped no_numbers (λ lane calls. tt) (λ lane calls. tt) (lowers_next around run name uid target owed copied place said h) refl
 
 pub lowering_stopped : {D : Type 0} → (name : List ℕ) (uid : Uid) (target : List ℕ) (owed : MapUid) (copied : Uid) (Stands : Run → ℕ → List Reply → Type 0) (store : StoreValue D) (history : Option History) (faults : Faults) → store.stopped ≡ true
     → CopyingClause (request.Move name uid target) (HasMoved uid owed copied) Stands store store history history faults faults did.Quiet (Some (reply.Refused refusal.Stopped))
 lowering_stopped name uid target owed copied Stands store history faults stopped = λ around behind pins run lane place said lists come shows stood. (
-  (did_stop around behind run lane place said (request.Move name uid target) GivesBack lists (seen_of pins store history faults) (lowers_stops around run place said name uid target owed copied stood) come shows tt stopped).so,
+  (did_stop around behind run lane place said (request.Move name uid target) GivesBack lists (seen_of pins store history faults) (lowers_stops around run place said name uid target owed copied stood) come shows stopped).so,
   λ e. absurd (never_more _ e),
 )
 
@@ -306,8 +293,8 @@ pub move_unlowered : {D : Type 0} → (name : List ℕ) (uid : Uid) (target : Li
 move_unlowered name uid target owed copied Stands old new before after began faulted ran f = λ around behind pins run lane place said lists come shows stood.
     let seen = seen_of pins old before began in
     let later = seen_of pins new after faulted in (
-      (did_fall around behind run lane place said (request.Move name uid target) GivesBack lists seen later did.Failed (lowers_stops around run place said name uid target owed copied stood) come (map_fell_stays pins old new before after began faulted f) (shows_still pins old new before after began faulted lists f.appends shows) tt ran f.stopped f.rose
-          (record { refused = refl; unanswered = refl; ran = ran; stopped = f.stopped }, λ s. f.appends.moments lists s.0)).so,
+      (did_fall around behind run lane place said (request.Move name uid target) GivesBack lists seen later did.Failed no_numbers (lowers_stops around run place said name uid target owed copied stood)
+          (stays_left _ _ _ _ _ _ _ _ _ come (map_fell_stays pins old new before after began faulted f) (shows_still pins old new before after began faulted lists f.appends shows)) ran f.stopped f.rose (λ event. inl refl) tt (record { refused = refl; unanswered = refl; ran = ran; stopped = f.stopped }, λ s. f.appends.moments lists s.0)).so,
       λ e. absurd (never_more _ e),
     )
 
@@ -320,9 +307,9 @@ move_lowered name uid target owed copied Stands old new before after began fault
     let a = t.appends in
     let seen = seen_of pins old before began in
     let later = seen_of pins new after faulted in (
-      (did_part around behind run lane place said q lists lists seen later did.Quiet ended None event
+      (did_own around behind run lane place said q lists lists seen later did.Quiet ended None event
           (record {
-            own = own_event _ _ _ _ _ _ _ _ _ refl;
+            own = own_event event refl;
             finds = tt;
             found = tt;
             part_is = lowers_next around run name uid target owed copied place said stood;
@@ -331,11 +318,11 @@ move_lowered name uid target owed copied Stands old new before after began fault
             did = (owed.0, stood.held_is, refl);
             ends = record { 0 = λ e. copied_ends (is_elsewhere (and_then run event) place name) place (and_then run event) copied.0 (copied_still place run event copied.0 refl stood.copied_is); 1 = λ e f. some_reply (reply.Moved copied false) f };
             replied = last_before (own_events place run) event refl ∙ stood.unrefused;
-          }) come (comes_with run event (lowering_of owed) seen later come t.taken a.drawn a.grows refl refl refl)
+          }) (record { made = refl; pins = refl; unpins = refl; doomed = refl; removed = refl; given = refl; placed = refl; gone = refl }) come (comes_with run event (lowering_of owed) seen later come t.taken a.drawn a.grows refl refl refl)
           (λ u. lowered_ends (due_at u old) (due_at u new) owed.0 u (lowered_due owed old new u (due u) (t.due u)))
           (took_tells pins (lowering_of owed) old new before after began faulted ran t) (shows_still pins old new before after began faulted lists a shows) a.grows (a.stays old.map) refl refl (refl, t.runs ∙ sym ran, leads_still pins (lowering_of owed) old new before after began faulted lists t)
           (ends_well q said event None ended did.Quiet seen later refl ran t.runs t.unfailed (λ x. x) (moved_runs copied false) (λ some. absurd (let k : false ≡ true = some in cc k))
-          (λ given e. subst (λ (x : Reply). IsReplyOf q said x) (one_reply (reply.Moved copied false) given e) stood.said_is))).so,
+          (replied_so q said (reply.Moved copied false) stood.said_is))).so,
       λ e. absurd (never_more _ e),
     )
 

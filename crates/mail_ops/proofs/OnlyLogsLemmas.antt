@@ -25,7 +25,7 @@ use Rattle.mail_ops.specs.OnlyLogs.{ChangesOnlyLogs}
 use Rattle.mail_ops.specs.SparedMail.{SparesMail}
 use Rattle.mail_ops.specs.declared.task.TaskStage.{TaskStage}
 use Rattle.mail_ops.specs.declared.task.TaskStage.TheVariants as task_stage
-use Rattle.mail_ops.proofs.EventLemmas.{fall}
+use Rattle.task_steps.proofs.EventLaws.{fall}
 
 -- ---- files
 

@@ -28,7 +28,8 @@ use Rattle.mail_ops.specs.Appends.{BoxAppends, BoxFell, MapTook, MapFell}
 use Rattle.mail_ops.specs.Messages.{IsRowOf}
 use Rattle.store_seen.specs.Seeing.{seen_of}
 use Rattle.store_seen.proofs.SeeingLemmas.{due_as_before, tells_as_before}
-use Rattle.mail_ops.proofs.EventLemmas.{StaysSo, fall}
+use Rattle.task_steps.proofs.EventLaws.{fall}
+use Rattle.task_steps.proofs.KeptStoreLemmas.{StaysSo}
 use Rattle.mail_ops.proofs.MessageLemmas.{ShownRow, shown_row, shown_guid, RecordOfRow, record_of_row}
 use Rattle.mail_ops.proofs.ShownEntryLemmas.{shown_entry}
 
@@ -69,7 +70,6 @@ box_fell_stays pins number e old new before after began now f = record {
   reads = let same = f.appends.reads in omega (arith, same);
   changes = f.appends.changes;
   mail = f.appends.stays old.map;
-  unfailed = λ runs. absurd (fall new.stopped f.stopped runs);
 }
 
 pub map_fell_stays : {D : Type 0} → (pins : ℕ → ℕ) → (old new : StoreValue D) (before after : Option History) (began now : Faults) → MapFell old new before after began now → StaysSo (seen_of pins old before began) (seen_of pins new after now)
@@ -82,7 +82,6 @@ map_fell_stays pins old new before after began now f = record {
   reads = let same = f.appends.reads in omega (arith, same);
   changes = f.appends.changes;
   mail = f.appends.stays old.map;
-  unfailed = λ runs. absurd (fall new.stopped f.stopped runs);
 }
 
 -- ---- the lists without the message

@@ -31,6 +31,7 @@ use Rattle.storage_files.specs.Files.{end_in}
 use Rattle.store_core.specs.Knows.{knows_instance}
 use Rattle.store_core.specs.Value.{StoreValue, indexes_of}
 use Rattle.store_seen.specs.Seeing.{seen_of}
+use Rattle.task_steps.proofs.EventLaws.{Lasts, same_changes, same_reads, step_calm}
 use Rattle.mail_save.specs.Events.{instance_refusal}
 use Rattle.mail_save.specs.SaveEffects.{AttachesNext, AttachesNone, ComparesNext, NamesFound, PlacesNext}
 use Rattle.mail_save.specs.SaveSeen.{HasItsParts, IsAtSave, StepsWithRoom, around_saving, count_detachable}
@@ -40,7 +41,7 @@ use Rattle.mail_save.specs.declared.first.SavedParts.{SavedParts}
 use Rattle.mail_save.specs.declared.task.SaveStage.{SaveStage}
 use Rattle.mail_save.specs.declared.task.SaveStage.TheVariants as stage
 use Rattle.mail_save.proofs.SaveClauseLemmas.{EventOf, DeliveryClause, with_did}
-use Rattle.mail_save.proofs.SaveDidLemmas.{Lasts, or_none, same_changes, same_reads, step_calm, step_runs, HasRun, StaysSo}
+use Rattle.mail_save.proofs.SaveDidLemmas.{or_none, HasRun, StaysSo}
 use Rattle.mail_save.proofs.SaveFrontLemmas.{SeesAround, compares_part, found_with, places_part}
 use Rattle.mail_save.proofs.SaveRefusedLemmas.{checked_save, comparing_at, ends_comparing, ends_placing_instance, fallen_save, forgotten_save, full_instances, placing_instance_at, unread_save}
 use Rattle.mail_save.proofs.SaveStepLemmas.{fell_by, memory_runs, memory_unread, more_differs, not_stopped, refused_differs, equal_reads, step_did, uid_full, untold_faults}
@@ -240,8 +241,8 @@ attaching_refused pins parts attaching why name time size octets how old new bef
     full next is used =
         let made : AttachesNone attaching (refusal.StoreFull 4294967294) old new = subst (λ (w : Refusal). AttachesNone attaching w old new) is none in
         let step : is_step why ≡ true = ap is_step is in
-        let other = step_runs why step in
-        let calm = untold_faults why began faulted other (step_calm why step) e.faults in
+        let other = step_calm why refusal.Stopped step refl in
+        let calm = untold_faults why began faulted other (step_calm why refusal.ReadFault step refl) e.faults in
         with_did pins octets (stage.Attaching parts attaching) stage.Ended name time (progress.Done (reply.Refused why)) how (did.Step half.Whole) old new before after began faulted (e.did_is ∙ step_did why step)
         (λ behind. checked_save (around_saving octets (stage.Attaching parts attaching) old) behind name time octets PlacesInstance (IsTakingFile attaching.found) (IsAtSave stage.Ended) why (seen_of pins old before began) (seen_of pins new after faulted) sees (ends_placing_instance name time octets)
         (placing_instance_at (around_saving octets (stage.Attaching parts attaching) old) name time octets attaching.found left (next)) (λ run place said stood. stood.1) step

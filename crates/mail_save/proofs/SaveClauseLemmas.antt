@@ -22,6 +22,7 @@ use Rattle.store_core.specs.Running.{IsStore}
 use Rattle.store_core.specs.StoreInstances.{AreInstancesKept}
 use Rattle.sis_store.specs.declared.instance.KnownInstance.{KnownInstance}
 use Rattle.store_core.specs.Value.{StoreValue}
+use Rattle.task_steps.proofs.EventLaws.{fall, Lasts}
 use Rattle.task_steps.specs.Step.{Seen, HasComeTo, FindsRoom, Leads, Fell, Went, EndsRequest, DidEvent, Steps, ended_by}
 use Rattle.store_seen.specs.Seeing.{seen_of}
 use Rattle.mail_save.specs.Ready.{IsReadyToSave}
@@ -29,7 +30,6 @@ use Rattle.mail_save.specs.SaveEffects.{LetsGo}
 use Rattle.mail_save.specs.SaveSeen.{HasItsParts, IsAtSave, StepsWithRoom, around_saving}
 use Rattle.mail_save.specs.Task.{FaultsAt, HasLeft, MomentsAt, RepliesAt, RestsAt, saved_did, stopped_reply}
 use Rattle.mail_save.specs.declared.task.SaveStage.{SaveStage}
-use Rattle.mail_save.proofs.SaveDidLemmas.{Lasts, fall}
 use Rattle.mail_save.proofs.SeenInstanceLemmas.{knows_let_go}
 
 -- ---- an event

@@ -27,6 +27,8 @@ use Rattle.list_machine.specs.Machine.{first_refusal, refused_where, part_checks
 use Rattle.journal.specs.Events.{Around, next_part, instances_found}
 use Rattle.journal.specs.Found.{FindsPlace, IsFreeFile, is_known_instance, is_taken}
 use Rattle.journal.proofs.OwnEventLemmas.{own_more}
+use Rattle.task_steps.proofs.EventLaws.{fall, own_event}
+use Rattle.task_steps.proofs.KeptStoreLemmas.{comes_drawn}
 use Rattle.task_steps.specs.ExpungeStages.{one_due}
 use Rattle.task_steps.specs.Step.{Seen, ShowsSeen, was_given, HasComeTo, FindsRoom, HasNotBegun}
 use Rattle.task_steps.proofs.SeenLemmas.{no_guids, is_new}
@@ -34,7 +36,7 @@ use Rattle.journal.proofs.RunLemmas.{drawn_none}
 use Rattle.mail_save.specs.SaveSeen.{StepsWithRoom}
 use Rattle.mail_save.specs.SaveStages.{AreAttachedSoFar, HasAttached, IsTakingFile, IsPlacingMessage, IsStoringMessage, IsAddingMessage}
 use Rattle.mail_save.proofs.SaveRunLemmas.{attaches_next, found_in, part_after, takes_next, places_next, stores_next, taken_file, given_guid, found_rows}
-use Rattle.mail_save.proofs.SaveDidLemmas.{fall, or_none, some_part, given_more, HasRun, KeepsTelling, TellsMore, comes_drawn, comes_stored, comes_to_more, tells_on, quiet_on}
+use Rattle.mail_save.proofs.SaveDidLemmas.{or_none, some_part, given_more, HasRun, KeepsTelling, TellsMore, comes_stored, comes_to_more, tells_on, quiet_on}
 
 -- ---- what an event finds
 
@@ -102,11 +104,7 @@ begins_save around after name time octets old new sees keeps drawn tells allowed
     let event : RunEvent = event_of lane place First (told_calls new.history) in
     quiet_on around after run lane place said q lists old new event (IsTakingFile [])
     (record {
-      lane_is = refl;
-      request_is = refl;
-      moment_is = refl;
-      ended_is = refl;
-      unrefused = refl;
+      own = own_event event refl;
       finds = sees.parts;
       found = λ looked. finds_place octets around run old sees come keeps.run.ran (stood.1 keeps.run.ran);
       part_is = ap (λ (es : List RunEvent). next_part around run q es) stood.0.0;
@@ -117,7 +115,7 @@ begins_save around after name time octets old new sees keeps drawn tells allowed
       replied = tt;
     })
     refl keeps.run
-    (comes_to_more run event old new come (comes_drawn run event old new come keeps.map (drawn ∙ sym (drawn_none old.drawn)) keeps.run.grows refl refl) (λ uid. let e = keeps.due uid in omega (arith, e)) (record { pins = refl; unpins = refl; doomed = refl; removed = refl; gone = refl }) (tells_on event old new refl refl refl tells))
+    (comes_to_more run event old new come (comes_drawn run event old new come keeps.map (drawn ∙ sym (drawn_none old.drawn)) keeps.run.grows.grows refl refl) (λ uid. let e = keeps.due uid in omega (arith, e)) (record { pins = refl; unpins = refl; doomed = refl; removed = refl; gone = refl }) (tells_on event old new refl refl refl tells))
     (no_guids run event refl) shows
     (record { first = event; more = []; own_are = own_first place run event [] refl stood.0.0; laid = record { part = refl; did = refl }; attached = tt; found = refl }, stood.0.1)
 
@@ -154,11 +152,7 @@ compares_part around after name time octets rows candidate alike old new sees ne
     let s = stood.0.0 in
     quiet_on around after run lane place said q lists old new event (IsTakingFile (found_with alike candidate rows))
     (record {
-      lane_is = refl;
-      request_is = refl;
-      moment_is = refl;
-      ended_is = refl;
-      unrefused = refl;
+      own = own_event event refl;
       finds = sees.parts;
       found = λ looked. finds_place octets around run old sees come keeps.run.ran (stood.1 keeps.run.ran);
       part_is = attaches_next around run name time octets rows place left s ∙ ap (λ (o : Option InstRow). if is_some o then Some Compares else Some PlacesInstance) next;
@@ -169,7 +163,7 @@ compares_part around after name time octets rows candidate alike old new sees ne
       replied = tt;
     })
     refl keeps.run
-    (comes_to_more run event old new come (comes_drawn run event old new come keeps.map (drawn ∙ sym (drawn_none old.drawn)) keeps.run.grows refl refl) (λ uid. let e = keeps.due uid in omega (arith, e)) (record { pins = refl; unpins = refl; doomed = refl; removed = refl; gone = refl }) (tells_on event old new refl refl refl tells))
+    (comes_to_more run event old new come (comes_drawn run event old new come keeps.map (drawn ∙ sym (drawn_none old.drawn)) keeps.run.grows.grows refl refl) (λ uid. let e = keeps.due uid in omega (arith, e)) (record { pins = refl; unpins = refl; doomed = refl; removed = refl; gone = refl }) (tells_on event old new refl refl refl tells))
     (no_guids run event refl) shows (
       subst (λ (is : List InstRow). AreAttachedSoFar is (own_events place (and_then run event))) (found_more alike candidate rows)
           (attached_more rows (if alike then candidate ∷ [] else []) place run event refl (record { part = inl refl; did = refl }) (append-nil (if alike then candidate ∷ [] else [])) s),
@@ -191,11 +185,7 @@ places_part around after name time octets rows row old new sees none left number
     let same : (drawn_of run).instance ≡ old.drawn.instance = ap (λ (d : Highest). d.instance) come.come.drawn_is in
     quiet_on around after run lane place said q lists old new event (IsTakingFile (rows ++ row ∷ []))
     (record {
-      lane_is = refl;
-      request_is = refl;
-      moment_is = refl;
-      ended_is = refl;
-      unrefused = refl;
+      own = own_event event refl;
       finds = sees.parts;
       found = λ looked. finds_place octets around run old sees come keeps.run.ran (stood.1 keeps.run.ran);
       part_is = attaches_next around run name time octets rows place left s ∙ ap (λ (o : Option InstRow). if is_some o then Some Compares else Some PlacesInstance) none;
@@ -206,7 +196,7 @@ places_part around after name time octets rows row old new sees none left number
       replied = tt;
     })
     refl keeps.run
-    (comes_to_more run event old new come (comes_drawn run event old new come keeps.map drawn keeps.run.grows refl refl) (λ uid. let e = keeps.due uid in omega (arith, e)) (record { pins = refl; unpins = refl; doomed = refl; removed = refl; gone = refl }) (tells event refl refl refl))
+    (comes_to_more run event old new come (comes_drawn run event old new come keeps.map drawn keeps.run.grows.grows refl refl) (λ uid. let e = keeps.due uid in omega (arith, e)) (record { pins = refl; unpins = refl; doomed = refl; removed = refl; gone = refl }) (tells event refl refl refl))
     (no_guids run event refl) shows (attached_more rows (row ∷ []) place run event refl (record { part = inr refl; did = refl }) refl s, stood.0.1)
 
 -- ---- a file is taken
@@ -223,11 +213,7 @@ takes_known around after name time octets rows file old new sees all room keeps 
     let s = stood.0.0 in
     quiet_on around after run lane place said q lists old new event (IsPlacingMessage rows file)
     (record {
-      lane_is = refl;
-      request_is = refl;
-      moment_is = refl;
-      ended_is = refl;
-      unrefused = refl;
+      own = own_event event refl;
       finds = sees.parts;
       found = λ looked. finds_place octets around run old sees come keeps.run.ran (stood.1 keeps.run.ran);
       part_is = takes_next around run name time octets rows place all s ∙ ap (λ (r : Option ℕ). Some (TakesFile (is_none r))) room;
@@ -238,7 +224,7 @@ takes_known around after name time octets rows file old new sees all room keeps 
       replied = tt;
     })
     refl keeps.run
-    (comes_to_more run event old new come (comes_drawn run event old new come keeps.map (drawn ∙ sym (drawn_none old.drawn)) keeps.run.grows refl refl) (λ uid. let e = keeps.due uid in omega (arith, e)) (record { pins = refl; unpins = refl; doomed = refl; removed = refl; gone = refl }) (tells_on event old new refl refl refl tells))
+    (comes_to_more run event old new come (comes_drawn run event old new come keeps.map (drawn ∙ sym (drawn_none old.drawn)) keeps.run.grows.grows refl refl) (λ uid. let e = keeps.due uid in omega (arith, e)) (record { pins = refl; unpins = refl; doomed = refl; removed = refl; gone = refl }) (tells_on event old new refl refl refl tells))
     (no_guids run event refl) shows
     (record { front = own_events place run; second = event; own_are = own_first place run event (own_events place run) refl refl; attached = s; took = record { new = false; part = refl; did = refl } }, stood.0.1)
 
@@ -257,11 +243,7 @@ takes_new around after name time octets rows file old new sees all room next few
     let number : file ≡ (drawn_of run).file + 1 = next ∙ ap (λ (n : ℕ). n + 1) (sym same) in
     quiet_on around after run lane place said q lists old new event (IsPlacingMessage rows file)
     (record {
-      lane_is = refl;
-      request_is = refl;
-      moment_is = refl;
-      ended_is = refl;
-      unrefused = refl;
+      own = own_event event refl;
       finds = sees.parts;
       found = λ looked. finds_place octets around run old sees come keeps.run.ran (stood.1 keeps.run.ran);
       part_is = takes_next around run name time octets rows place all s ∙ ap (λ (r : Option ℕ). Some (TakesFile (is_none r))) room;
@@ -273,7 +255,7 @@ takes_new around after name time octets rows file old new sees all room next few
       replied = tt;
     })
     refl keeps.run
-    (comes_to_more run event old new come (comes_drawn run event old new come keeps.map drawn keeps.run.grows refl refl) (λ uid. let e = keeps.due uid in omega (arith, e)) (record { pins = refl; unpins = refl; doomed = refl; removed = refl; gone = refl })
+    (comes_to_more run event old new come (comes_drawn run event old new come keeps.map drawn keeps.run.grows.grows refl refl) (λ uid. let e = keeps.due uid in omega (arith, e)) (record { pins = refl; unpins = refl; doomed = refl; removed = refl; gone = refl })
     (tells event refl refl refl))
     (no_guids run event refl) shows
     (record { front = own_events place run; second = event; own_are = own_first place run event (own_events place run) refl refl; attached = s; took = record { new = true; part = refl; did = refl } }, stood.0.1)
@@ -330,11 +312,7 @@ places_message around after name time octets rows file guid old new sees long ea
     let unknown : was_given run guid ≡ false = is_new run old guid come fresh in
     quiet_on around after run lane place said q lists old new event (IsStoringMessage rows file guid)
     (record {
-      lane_is = refl;
-      request_is = refl;
-      moment_is = refl;
-      ended_is = refl;
-      unrefused = refl;
+      own = own_event event refl;
       finds = sees.parts;
       found = λ looked. finds_place octets around run old sees come keeps.run.ran (stood.1 keeps.run.ran);
       part_is = places_next around run name time octets rows file (own_events place run) s;
@@ -345,7 +323,7 @@ places_message around after name time octets rows file guid old new sees long ea
       replied = tt;
     })
     refl keeps.run
-    (comes_to_more run event old new come (comes_drawn run event old new come keeps.map (drawn ∙ sym (drawn_none old.drawn)) keeps.run.grows refl refl) (λ uid. let e = keeps.due uid in omega (arith, e)) (record { pins = refl; unpins = refl; doomed = refl; removed = refl; gone = refl })
+    (comes_to_more run event old new come (comes_drawn run event old new come keeps.map (drawn ∙ sym (drawn_none old.drawn)) keeps.run.grows.grows refl refl) (λ uid. let e = keeps.due uid in omega (arith, e)) (record { pins = refl; unpins = refl; doomed = refl; removed = refl; gone = refl })
     (record {
       ran = tells.ran;
       pins = tells.pins;
@@ -411,11 +389,7 @@ stores_message around after name time octets rows file guid uid size offset old 
     let number : uid ≡ (drawn_of run).map + 1 = next ∙ ap (λ (n : ℕ). n + 1) (sym same) in
     quiet_on around after run lane place said q lists old new event (IsAddingMessage guid uid)
     (record {
-      lane_is = refl;
-      request_is = refl;
-      moment_is = refl;
-      ended_is = refl;
-      unrefused = refl;
+      own = own_event event refl;
       finds = sees.parts;
       found = λ looked. finds_place octets around run old sees come h.ran (stood.1 h.ran);
       part_is = stores_next around run name time octets rows file guid (own_events place run) s;

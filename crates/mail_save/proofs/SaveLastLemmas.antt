@@ -27,22 +27,24 @@ use Rattle.model_store.specs.Settled.{IsSettledFor, Leaves}
 use Rattle.list_machine.specs.Run.{Last, GivesBack, RunEvent, event_of, Run, and_then, map_of, own_events}
 use Rattle.list_machine.specs.Machine.{first_refusal, part_checks, is_step, IsDelivered, add_message}
 use Rattle.list_machine.proofs.MachineOrderLemmas.{answers_well}
-use Rattle.journal.specs.Journal.{halves_of, refusal_in, IsReplyOf}
-use Rattle.journal.specs.Events.{Around, MayMeet, adds_to, lowers}
+use Rattle.journal.specs.Journal.{halves_of, IsReplyOf}
+use Rattle.journal.specs.Events.{Around, adds_to, lowers}
 use Rattle.journal.specs.Found.{FindsPlace}
 use Rattle.journal.proofs.RunLemmas.{drawn_none}
 use Rattle.task_steps.specs.ExpungeStages.{one_due}
 use Rattle.task_steps.specs.Step.{Seen, ShowsSeen}
 use Rattle.task_steps.proofs.SeenLemmas.{no_guids}
-use Rattle.task_steps.proofs.OneEventLemmas.{never_more, step_may}
+use Rattle.task_steps.proofs.EventLaws.{CanRefuse, did_check, did_fall, did_forget, did_part, did_stop, ends_well, Lasts, no_reply, own_event, refusal_event, refuses, replied_so, some_reply, stands_by, step_calm, stopped_answer, unstepped}
+use Rattle.task_steps.proofs.KeptStoreLemmas.{comes_drawn}
+use Rattle.task_steps.proofs.OneEventLemmas.{first_reply, never_more}
 use Rattle.mail_save.specs.Events.{box_refusal}
 use Rattle.mail_save.specs.SaveSeen.{StepsWithRoom}
 use Rattle.mail_save.specs.SaveStages.{IsAddingMessage, IsLoweringCount, IsOwnGuid}
 use Rattle.mail_save.proofs.SaveRunLemmas.{adds_next, gives_back_behind, gives_back_next, given_before, held_stored, held_refused, saved_refusal, lowered_refusal}
-use Rattle.mail_save.proofs.SaveDidLemmas.{no_reply, some_reply, some_part, one_reply, unstepped, step_runs, HasRun, KeepsTelling, Lasts, StaysSo, comes_drawn, comes_stored, comes_to_more, tells_on, refused_comes, CanRefuse, did_part, did_check, ends_well, forgets, falls, stops_before, stopped_answer, refusal_event, stands_by}
+use Rattle.mail_save.proofs.SaveDidLemmas.{some_part, HasRun, KeepsTelling, StaysSo, comes_stored, comes_to_more, refused_left, tells_on}
 use Rattle.mail_save.proofs.SaveFrontLemmas.{SeesAround, finds_place, own_first}
 use Rattle.mail_save.proofs.SaveListLemmas.{AddsTo, adds_to_box, box_checked, has_room, made_of}
-use Rattle.mail_save.proofs.SaveRefusedLemmas.{deliver, never_looked, step_replied, lowering_why}
+use Rattle.mail_save.proofs.SaveRefusedLemmas.{deliver, step_replied, lowering_why}
 
 -- ---- the mailbox that it is added to
 
@@ -131,11 +133,7 @@ saved_message around after name time octets guid held number uid Stands old new 
     let made = is_delivered run lane place said name time octets guid.0 uid.0 number held old lists ended (told_calls new.history) f shows stood.0.1 k in (
       (did_part around after run lane place said q lists left old new (did.Step half.Whole) ended ended event
           (record {
-            lane_is = refl;
-            request_is = refl;
-            moment_is = refl;
-            ended_is = refl;
-            unrefused = refl;
+            own = own_event event refl;
             finds = sees.parts;
             found = λ looked. finds_place octets around run old sees come a.ran (stood.1 a.ran);
             part_is = adds_next around run name time octets guid.0 held (own_events place run) s;
@@ -145,7 +143,7 @@ saved_message around after name time octets guid held number uid Stands old new 
             ends = record { 0 = λ e. refl; 1 = λ e g. some_reply (reply.Saved uid guid) g };
             replied = saved_refusal (own_events place run) guid.0 held event s refl;
           })
-          (comes_to_more run event old new come (comes_drawn run event old new come a.map (a.drawn ∙ sym (drawn_none old.drawn)) a.grows refl refl) (λ other. ended_due (old.due other) (new.due other) held other (a.due other))
+          (comes_to_more run event old new come (comes_drawn run event old new come a.map (a.drawn ∙ sym (drawn_none old.drawn)) a.grows.grows refl refl) (λ other. ended_due (old.due other) (new.due other) held other (a.due other))
           (record { pins = refl; unpins = refl; doomed = refl; removed = refl; gone = refl }) (tells_on event old new refl refl refl a.tells))
           (no_guids run event refl)
           (answers_well run lists q event (reply.Saved uid guid) left shows.0 (range.timed, range.small) (allowed, made), shows_as new old.map.boxes _ left (ap (λ (m : MapMeaning). m.boxes) a.map) a.taken k.shows)
@@ -159,7 +157,7 @@ saved_message around after name time octets guid held number uid Stands old new 
             },
           )
           (ends_well q said event ended ended (did.Step half.Whole) old new refl a.ran a.runs a.quiet (λ x. x) (saved_runs uid guid) (λ some. ap (λ (r : List Reply). slice_get (halves_of q) (length r)) stood.0.2)
-          (λ given e. subst (λ (y : Reply). IsReplyOf q (said ++ reply.Saved uid guid ∷ []) y) (one_reply (reply.Saved uid guid) given e) (subst (λ (r : List Reply). IsReplyOf q (r ++ reply.Saved uid guid ∷ []) (reply.Saved uid guid)) (sym stood.0.2) refl)))).so,
+          (first_reply q said ended (reply.Saved uid guid) stood.0.2 refl))).so,
       λ e. absurd (never_more _ e),
     )
 
@@ -175,22 +173,13 @@ pub record FailsToAdd (time : ℕ) (octets guid : List ℕ) (uid number held : �
 
 add_stops : (around : Around) (run : Run) (place : ℕ) (name : List ℕ) (time : ℕ) (octets guid : List ℕ) (held : ℕ) (said : List Reply) (seen : Seen) → SeesAround octets around seen → IsAddingMessage guid held run place said
     → CanRefuse around run place (deliver name time octets) Last refusal.Stopped stopped_answer no_numbers
-add_stops around run place name time octets guid held said seen sees stood = record {
-  finds = λ event. sees.parts;
-  found = λ event is looked. absurd (never_looked event refusal.Stopped is refl looked);
-  part_is = adds_next around run name time octets guid held (own_events place run) stood.0;
-  memory = λ e. refl;
-  may = tt;
-  ends = record { 0 = λ h. refl; 1 = λ h e. some_reply (reply.Refused refusal.Stopped) e };
-  replied = λ given e. subst (λ (r : Reply). refusal_in r ≡ Some refusal.Stopped) (one_reply (reply.Refused refusal.Stopped) given e) refl;
-  drawn = λ event. inl refl;
-  undrawn = λ s. refl;
-}
+add_stops around run place name time octets guid held said seen sees stood =
+    refuses around run place (deliver name time octets) Last refusal.Stopped no_numbers (λ lane calls. sees.parts) (λ lane calls looked. absurd (unstepped looked)) (adds_next around run name time octets guid held (own_events place run) stood.0) refl
 
 pub unsaved_stopped : (around after : Around) (name : List ℕ) (time : ℕ) (octets guid : List ℕ) (held : ℕ) (Stands : Run → ℕ → List Reply → Type 0) (seen : Seen) → SeesAround octets around seen → seen.stopped ≡ true
     → StepsWithRoom (IsAddingMessage guid held) Stands around after (deliver name time octets) seen seen did.Quiet stopped_answer
 unsaved_stopped around after name time octets guid held Stands seen sees stopped = λ run lane place said lists come shows stood. (
-  (stops_before around after run lane place said (deliver name time octets) Last lists seen (add_stops around run place name time octets guid held said seen sees stood.0) come shows tt stopped).so,
+  (did_stop around after run lane place said (deliver name time octets) Last lists seen (add_stops around run place name time octets guid held said seen sees stood.0) come shows stopped).so,
   λ e. absurd (never_more _ e),
 )
 
@@ -204,40 +193,37 @@ broken_save around after name time octets guid held number uid Stands old new se
     let s = stood.0.0 in
     let allowed = room_allows run name octets guid.0 time uid.0 number old lists would f shows.1 in
     let made = is_delivered run lane place said name time octets guid.0 uid.0 number held old lists None (told_calls new.history) f shows stood.0.1 k in (
-      (falls around after run lane place said q Last lists old new (did.Broken half.Whole) no_numbers (add_stops around run place name time octets guid.0 held said old sees stood.0) come a.stays shows tt a.ran a.stopped a.rose tt (
-        record { refused = refl; unanswered = refl; ran = a.ran; stopped = a.stopped },
-        refl,
-        (
-          record {
-            would = would;
-            lane_is = refl;
-            request_is = refl;
-            part_is = refl;
-            did = λ found e. (guid.0, given_before place run guid.0 held s, (k.mailbox, held, k.named, held_stored place run guid.0 held s, refl));
-            answer = reply.Saved uid guid;
-            left = left;
-            made = ((allowed, made), refl);
-          },
-          λ settled. subst (λ (ls : Lists). Leaves lists ls old.history new.history) k.by (a.moments lists settled.0),
-        ),
-      )).so,
+      (did_fall around after run lane place said q Last lists old new (did.Broken half.Whole) no_numbers (add_stops around run place name time octets guid.0 held said old sees stood.0)
+          (refused_left run lane place Last refusal.Stopped stopped_answer no_numbers lists old new come a.stays shows) a.ran a.stopped a.rose (λ event. inl refl) tt (
+            record { refused = refl; unanswered = refl; ran = a.ran; stopped = a.stopped },
+            refl,
+            (
+              record {
+                would = would;
+                lane_is = refl;
+                request_is = refl;
+                part_is = refl;
+                did = λ found e. (guid.0, given_before place run guid.0 held s, (k.mailbox, held, k.named, held_stored place run guid.0 held s, refl));
+                answer = reply.Saved uid guid;
+                left = left;
+                made = ((allowed, made), refl);
+              },
+              λ settled. subst (λ (ls : Lists). Leaves lists ls old.history new.history) k.by (a.moments lists settled.0),
+            ),
+          )).so,
       λ e. absurd (never_more _ e),
     )
 
 -- ---- it is refused, and goes on
 
 add_goes_on : (around : Around) (run : Run) (place : ℕ) (name : List ℕ) (time : ℕ) (octets guid : List ℕ) (held : ℕ) (said : List Reply) (why : Refusal) (seen : Seen) → SeesAround octets around seen → IsAddingMessage guid held run place said → FindsPlace run around → (why ≡ refusal.Stopped → ⊥)
-    → MayMeet Last (deliver name time octets) why → CanRefuse around run place (deliver name time octets) Last why None no_numbers
-add_goes_on around run place name time octets guid held said why seen sees stood place_is other may = record {
-  finds = λ event. sees.parts;
-  found = λ event is looked. place_is;
+    → CanRefuse around run place (deliver name time octets) Last why None no_numbers
+add_goes_on around run place name time octets guid held said why seen sees stood place_is other = record {
+  finds = λ lane calls. sees.parts;
+  found = λ lane calls looked. place_is;
   part_is = adds_next around run name time octets guid held (own_events place run) stood.0;
-  memory = λ e. refl;
-  may = may;
   ends = record { 0 = λ h. absurd (h refl); 1 = λ h. absurd (some_part GivesBack (sym (gives_back_behind name time octets why other) ∙ h)) };
   replied = λ given e. absurd (no_reply given e);
-  drawn = λ event. inl refl;
-  undrawn = λ s. refl;
 }
 
 lowers_next : (place lane calls : ℕ) (run : Run) (guid : List ℕ) (held : ℕ) (said : List Reply) (why : Refusal) (answer : List Reply) → IsAddingMessage guid held run place said → answer ≡ (if is_step why then reply.Refused why ∷ [] else []) → (is_step why ≡ true) ⊎ (why ≡ refusal.NoMemory)
@@ -270,8 +256,8 @@ pub refused_message : (around after : Around) (name : List ℕ) (time : ℕ) (oc
 refused_message around after name time octets guid held why old new sees step refuses h stays = λ run lane place said lists come shows stood.
     let q = deliver name time octets in
     stands_by around after run lane place said q lists old new (did.Step half.Whole) None (refusal_event lane place Last why None no_numbers (told_calls new.history)) (Some (reply.Refused why)) (IsLoweringCount held why)
-    (did_check around after run lane place said q Last lists old new why None half.Whole (add_goes_on around run place name time octets guid held said why old sees stood.0 (finds_place octets around run old sees come h.ran (stood.1 h.ran)) (step_runs why step) (step_may Last q why step)) (refused_comes run lane place Last why None no_numbers old new come stays) (h.shown lists shows) h.grows h.ran h.runs (h.leads lists) step refl
-    (ap (λ (r : List Reply). slice_get (half.Whole ∷ []) (length r)) stood.0.2) (λ event. box_checked run name old.map.boxes old.meanings lists [] shows.1 ∙ ap (λ (r : Option Refusal). option_or r None) refuses) (λ given e. absurd (no_reply given e)) (λ e. no_reply (reply.Refused refusal.Stopped) e) h.quiet)
+    (did_check around after run lane place said q Last lists old new why None half.Whole (add_goes_on around run place name time octets guid held said why old sees stood.0 (finds_place octets around run old sees come h.ran (stood.1 h.ran)) (step_calm why refusal.Stopped step refl)) (refused_left run lane place Last why None no_numbers lists old new come stays shows) h.ran h.runs (h.leads lists) h.quiet step refl
+    (ap (λ (r : List Reply). slice_get (half.Whole ∷ []) (length r)) stood.0.2) (λ event. box_checked run name old.map.boxes old.meanings lists [] shows.1 ∙ ap (λ (r : Option Refusal). option_or r None) refuses) (λ given e. absurd (no_reply given e)))
     (λ goes_on. lowers_next place lane (told_calls new.history) run guid held said why (said ++ reply.Refused why ∷ []) stood.0 (ap (λ (r : List Reply). r ++ reply.Refused why ∷ []) stood.0.2 ∙ sym (ap (λ (b : Bool). if b then reply.Refused why ∷ [] else []) step)) (inl step))
 
 pub forgotten_message : (around after : Around) (name : List ℕ) (time : ℕ) (octets guid : List ℕ) (held : ℕ) (old new : Seen) → SeesAround octets around old → HasRun old new → StaysSo no_numbers old new
@@ -279,7 +265,8 @@ pub forgotten_message : (around after : Around) (name : List ℕ) (time : ℕ) (
 forgotten_message around after name time octets guid held old new sees h stays = λ run lane place said lists come shows stood.
     let q = deliver name time octets in
     stands_by around after run lane place said q lists old new did.Quiet None (refusal_event lane place Last refusal.NoMemory None no_numbers (told_calls new.history)) None (IsLoweringCount held refusal.NoMemory)
-    (forgets around after run lane place said q Last lists old new None (add_goes_on around run place name time octets guid held said refusal.NoMemory old sees stood.0 (finds_place octets around run old sees come h.ran (stood.1 h.ran)) (λ e. let k : refusal.NoMemory ≡ refusal.Stopped = e in cc k) tt) come shows h stays (λ given e. absurd (no_reply given e)) (λ e. no_reply (reply.Refused refusal.Stopped) e))
+    (did_forget around after run lane place said q Last lists old new None no_numbers (add_goes_on around run place name time octets guid held said refusal.NoMemory old sees stood.0 (finds_place octets around run old sees come h.ran (stood.1 h.ran)) (λ e. let k : refusal.NoMemory ≡ refusal.Stopped = e in cc k)) (refused_left run lane place Last refusal.NoMemory None no_numbers lists old new come stays shows) h.ran h.runs (h.leads lists) h.quiet refl (λ event. inl refl)
+    (λ given e. absurd (no_reply given e)))
     (λ goes_on. lowers_next place lane (told_calls new.history) run guid held said refusal.NoMemory said stood.0 stood.0.2 (inr refl))
 
 -- ---- it is given back
@@ -305,11 +292,7 @@ lowers_count around after name time octets held why Stands old new sees h fits t
     let other = lowering_why why stood.0.2 in (
       (did_part around after run lane place said q lists lists old new did.Quiet (Some (reply.Refused why)) None event
           (record {
-            lane_is = refl;
-            request_is = refl;
-            moment_is = refl;
-            ended_is = refl;
-            unrefused = refl;
+            own = own_event event refl;
             finds = sees.parts;
             found = λ looked. finds_place octets around run old sees come h.ran (stood.1 h.ran);
             part_is = gives_back_next around run name time octets held why (own_events place run) other s;
@@ -323,6 +306,6 @@ lowers_count around after name time octets held why Stands old new sees h fits t
           (record { pins = refl; unpins = refl; doomed = refl; removed = refl; gone = refl }) (tells_on event old new refl refl refl tells))
           (no_guids run event refl) (h.shown lists shows) h.grows refl refl (refl, h.runs ∙ sym h.ran, h.leads lists)
           (ends_well q said event None (Some (reply.Refused why)) did.Quiet old new refl h.ran h.runs h.quiet (λ x. x) (λ e. other (let k : reply.Refused why ≡ reply.Refused refusal.Stopped = cc e in cc k)) (λ some. absurd (unstepped some))
-          (λ given e. subst (λ (x : Reply). IsReplyOf q said x) (one_reply (reply.Refused why) given e) (lowered_reply name time octets said why stood.0.1 stood.0.2)))).so,
+          (replied_so q said (reply.Refused why) (lowered_reply name time octets said why stood.0.1 stood.0.2)))).so,
       λ e. absurd (never_more _ e),
     )

@@ -1,5 +1,5 @@
 -- Events of a delivery that were refused, by the clause of a step.
-use Rattle.std.proofs.Common.{◌≡◌, ◌<◌, ◌+◌, ℕ, Bool, true, false, List, [], ◌∷◌, ◌++◌, ◌⊎◌, Option, Some, None, refl, sym, ◌∙◌, ap, subst, inl, inr}
+use Rattle.std.proofs.Common.{◌≡◌, ◌<◌, ◌+◌, ℕ, Bool, true, false, List, [], ◌∷◌, ◌⊎◌, Option, Some, None, refl, sym, ◌∙◌, ap, inl, inr}
 use Rattle.std.specs.Prelude.{nat_lt, nat_le, is_none, is_some, length, slice_get, if◌then◌else◌}
 use Rattle.std.specs.Option.{option_or}
 use Rattle.mdbox_base.specs.Streams.{Rose}
@@ -17,15 +17,16 @@ use Rattle.model_lists.specs.Lists.{Lists}
 use Rattle.model_meaning.specs.MapMeaning.{no_numbers}
 use Rattle.list_machine.specs.Run.{EventPart, First, Compares, PlacesInstance, TakesFile, PlacesMessage, StoresRecord, GivesBack, RunEvent, Run, own_events, drawn_of}
 use Rattle.list_machine.specs.Machine.{first_refusal, refused_where, part_checks, is_step}
-use Rattle.journal.specs.Journal.{refusal_in, IsReplyOf}
-use Rattle.journal.specs.Events.{Around, MayMeet, next_part, behind_refused, has_memory, reads_octets, draws}
+use Rattle.journal.specs.Journal.{IsReplyOf}
+use Rattle.journal.specs.Events.{Around, next_part, behind_refused, has_memory, reads_octets, draws}
 use Rattle.journal.specs.Found.{FindsPlace, has_looked}
 use Rattle.task_steps.specs.Step.{Seen, ShowsSeen, HasComeTo, HasNotBegun, Leads, Stops}
-use Rattle.task_steps.proofs.OneEventLemmas.{never_more, step_may}
+use Rattle.task_steps.proofs.EventLaws.{CanRefuse, did_check, did_fall, did_forget, did_misread, did_stop, misread_answer, refuses, replied_so, step_calm, stopped_answer, unstepped}
+use Rattle.task_steps.proofs.OneEventLemmas.{first_reply, never_more}
 use Rattle.mail_save.specs.SaveSeen.{StepsWithRoom}
 use Rattle.mail_save.specs.SaveStages.{IsTakingFile, IsPlacingMessage, IsStoringMessage, IsLoweringCount}
 use Rattle.mail_save.proofs.SaveRunLemmas.{attaches_next, takes_next, places_next, stores_next, gives_back_next}
-use Rattle.mail_save.proofs.SaveDidLemmas.{some_reply, one_reply, step_runs, CanRefuse, HasRun, StaysSo, refused_comes, did_check, forgets, misreads, stopped_answer, stops_before, falls}
+use Rattle.mail_save.proofs.SaveDidLemmas.{HasRun, StaysSo, refused_left}
 use Rattle.mail_save.proofs.SaveFrontLemmas.{SeesAround, finds_place}
 
 abbrev pub deliver : List ℕ → ℕ → List ℕ → Request
@@ -58,42 +59,9 @@ ends_storing name time octets = record { ends = λ why. refl }
 pub ends_giving : (name : List ℕ) (time : ℕ) (octets : List ℕ) → EndsRefused name time octets GivesBack
 ends_giving name time octets = record { ends = λ why. refl }
 
--- a refusal by which nothing was found
-pub never_looked : (event : RunEvent) (why : Refusal) → event.refused ≡ Some why → has_looked (Some why) ≡ false → has_looked event.refused ≡ true → ⊥
-never_looked event why is none looked = let k : true ≡ false = sym looked ∙ (ap has_looked is ∙ none) in cc k
-
-replies_why : (why : Refusal) (given : Reply) → Some (reply.Refused why) ≡ Some given → refusal_in given ≡ Some why
-replies_why why given e = subst (λ (r : Reply). refusal_in r ≡ Some why) (one_reply (reply.Refused why) given e) refl
-
-pub refuses_part : (around : Around) (run : Run) (place : ℕ) (name : List ℕ) (time : ℕ) (octets : List ℕ) (part : EventPart) (why : Refusal) (drew : Highest) (seen : Seen) → SeesAround octets around seen → (has_looked (Some why) ≡ true → FindsPlace run around) → EndsRefused name time octets part → next_part around run (deliver name time octets) (own_events place run) ≡ Some part
-    → (why ≡ refusal.NoMemory → has_memory part (deliver name time octets) ≡ false) → MayMeet part (deliver name time octets) why → ((event : RunEvent) → (drew ≡ no_numbers) ⊎ (drew ≡ draws run event (deliver name time octets) part)) → (is_step why ≡ true → drew ≡ no_numbers)
-    → CanRefuse around run place (deliver name time octets) part why (Some (reply.Refused why)) drew
-refuses_part around run place name time octets part why drew seen sees found ends next memory may drawn undrawn = record {
-  finds = λ event. sees.parts;
-  found = λ event is looked. found (sym (ap has_looked is) ∙ looked);
-  part_is = next;
-  memory = memory;
-  may = may;
-  ends = record { 0 = λ h. ends.ends why; 1 = λ h e. some_reply (reply.Refused why) e };
-  replied = replies_why why;
-  drawn = drawn;
-  undrawn = undrawn;
-}
-
-no_memory_stopped : refusal.Stopped ≡ refusal.NoMemory → ⊥
-no_memory_stopped e = cc e
-
-stopped_memory : (X : Type 0) → refusal.Stopped ≡ refusal.NoMemory → X
-stopped_memory X e = absurd (no_memory_stopped e)
-
-nothing_drawn : (run : Run) (q : Request) (part : EventPart) (event : RunEvent) → (◌≡◌ {A = Highest} no_numbers no_numbers) ⊎ (no_numbers ≡ draws run event q part)
-nothing_drawn run q part event = inl refl
-
-memory_unstopped : Some (reply.Refused refusal.NoMemory) ≡ stopped_answer → ⊥
-memory_unstopped e = let r : reply.Refused refusal.NoMemory ≡ reply.Refused refusal.Stopped = cc e in let k : refusal.NoMemory ≡ refusal.Stopped = cc r in cc k
-
-pub memory_replied : (name : List ℕ) (time : ℕ) (octets : List ℕ) (said : List Reply) → said ≡ [] → (given : Reply) → Some (reply.Refused refusal.NoMemory) ≡ Some given → IsReplyOf (deliver name time octets) said given
-memory_replied name time octets said none given e = subst (λ (r : Reply). IsReplyOf (deliver name time octets) said r) (one_reply (reply.Refused refusal.NoMemory) given e) none
+pub refuses_part : (around : Around) (run : Run) (place : ℕ) (name : List ℕ) (time : ℕ) (octets : List ℕ) (part : EventPart) (why : Refusal) (drew : Highest) (seen : Seen) → SeesAround octets around seen → (has_looked (Some why) ≡ true → FindsPlace run around) → EndsRefused name time octets part
+    → next_part around run (deliver name time octets) (own_events place run) ≡ Some part → CanRefuse around run place (deliver name time octets) part why (Some (reply.Refused why)) drew
+refuses_part around run place name time octets part why drew seen sees found ends next = refuses around run place (deliver name time octets) part why drew (λ lane calls. sees.parts) (λ lane calls. found) next (ends.ends why)
 
 -- ---- at any stage
 
@@ -104,8 +72,7 @@ pub record IsNextAt (Stood : Run → ℕ → List Reply → Type 0) (around : Ar
 pub stopped_save : (around after : Around) (name : List ℕ) (time : ℕ) (octets : List ℕ) (part : EventPart) (Stood Stands : Run → ℕ → List Reply → Type 0) (seen : Seen) → SeesAround octets around seen → EndsRefused name time octets part → IsNextAt Stood around (deliver name time octets) part → seen.stopped ≡ true
     → StepsWithRoom Stood Stands around after (deliver name time octets) seen seen did.Quiet stopped_answer
 stopped_save around after name time octets part Stood Stands seen sees ends at stopped = λ run lane place said lists come shows stood. (
-  (stops_before around after run lane place said (deliver name time octets) part lists seen
-      (refuses_part around run place name time octets part refusal.Stopped no_numbers seen sees (λ looked. absurd (let k : false ≡ true = looked in cc k)) ends (at.next run place said stood.0) (stopped_memory _) tt (nothing_drawn run (deliver name time octets) part) (λ s. refl)) come shows tt stopped).so,
+  (did_stop around after run lane place said (deliver name time octets) part lists seen (refuses_part around run place name time octets part refusal.Stopped no_numbers seen sees (λ looked. absurd (unstepped looked)) ends (at.next run place said stood.0)) come shows stopped).so,
   λ e. absurd (never_more _ e),
 )
 
@@ -113,9 +80,8 @@ pub fallen_save : (around after : Around) (name : List ℕ) (time : ℕ) (octets
     → ((run : Run) (event : RunEvent) → (drew ≡ no_numbers) ⊎ (drew ≡ draws run event (deliver name time octets) part)) → StaysSo drew old new → old.stopped ≡ false → new.stopped ≡ true → Rose old.faults.changes new.faults.changes → ((lists : Lists) → Stops lists lists old new)
     → StepsWithRoom Stood Stands around after (deliver name time octets) old new did.Failed stopped_answer
 fallen_save around after name time octets part Stood Stands drew old new sees ends at drawn stays ran stopped rose stops = λ run lane place said lists come shows stood. (
-  (falls around after run lane place said (deliver name time octets) part lists old new did.Failed drew
-      (refuses_part around run place name time octets part refusal.Stopped drew old sees (λ looked. absurd (let k : false ≡ true = looked in cc k)) ends (at.next run place said stood.0) (stopped_memory _) tt (drawn run) (λ s. absurd (let k : false ≡ true = s in cc k))) come stays shows tt ran stopped rose tt
-      (record { refused = refl; unanswered = refl; ran = ran; stopped = stopped }, stops lists)).so,
+  (did_fall around after run lane place said (deliver name time octets) part lists old new did.Failed drew (refuses_part around run place name time octets part refusal.Stopped drew old sees (λ looked. absurd (unstepped looked)) ends (at.next run place said stood.0))
+      (refused_left run lane place part refusal.Stopped stopped_answer drew lists old new come stays shows) ran stopped rose (drawn run) tt (record { refused = refl; unanswered = refl; ran = ran; stopped = stopped }, stops lists)).so,
   λ e. absurd (never_more _ e),
 )
 
@@ -124,22 +90,18 @@ pub forgotten_save : (around after : Around) (name : List ℕ) (time : ℕ) (oct
     → has_memory part (deliver name time octets) ≡ false → ((run : Run) (place : ℕ) (said : List Reply) → Stood run place said → said ≡ []) → HasRun old new → StaysSo no_numbers old new
     → StepsWithRoom Stood Stands around after (deliver name time octets) old new did.Quiet (Some (reply.Refused refusal.NoMemory))
 forgotten_save around after name time octets part Stood Stands old new sees ends at memory silent h stays = λ run lane place said lists come shows stood. (
-  (forgets around after run lane place said (deliver name time octets) part lists old new (Some (reply.Refused refusal.NoMemory))
-      (refuses_part around run place name time octets part refusal.NoMemory no_numbers old sees (λ looked. absurd (let k : false ≡ true = looked in cc k)) ends (at.next run place said stood.0) (λ e. memory) tt (nothing_drawn run (deliver name time octets) part) (λ s. refl)) come shows h stays
-      (memory_replied name time octets said (silent run place said stood.0)) memory_unstopped).so,
+  (did_forget around after run lane place said (deliver name time octets) part lists old new (Some (reply.Refused refusal.NoMemory)) no_numbers (refuses_part around run place name time octets part refusal.NoMemory no_numbers old sees (λ looked. absurd (unstepped looked)) ends (at.next run place said stood.0))
+      (refused_left run lane place part refusal.NoMemory (Some (reply.Refused refusal.NoMemory)) no_numbers lists old new come stays shows) h.ran h.runs (h.leads lists) h.quiet memory (λ event. inl refl) (replied_so (deliver name time octets) said (reply.Refused refusal.NoMemory) (silent run place said stood.0))).so,
   λ e. absurd (never_more _ e),
 )
-
-unread_memory : refusal.ReadFault ≡ refusal.NoMemory → ⊥
-unread_memory e = cc e
 
 -- a read failed
 pub unread_save : (around after : Around) (name : List ℕ) (time : ℕ) (octets : List ℕ) (part : EventPart) (Stood Stands : Run → ℕ → List Reply → Type 0) (old new : Seen) → SeesAround octets around old → EndsRefused name time octets part → IsNextAt Stood around (deliver name time octets) part
     → reads_octets part (deliver name time octets) ≡ true → old.stopped ≡ false → new.stopped ≡ false → ((lists : Lists) → Leads lists lists old new) → StaysSo no_numbers old new → Rose old.faults.reads new.faults.reads
     → StepsWithRoom Stood Stands around after (deliver name time octets) old new did.Quiet (Some (reply.Refused refusal.ReadFault))
 unread_save around after name time octets part Stood Stands old new sees ends at reads ran runs leads stays rose = λ run lane place said lists come shows stood. (
-  (misreads around after run lane place said (deliver name time octets) part lists old new
-      (refuses_part around run place name time octets part refusal.ReadFault no_numbers old sees (λ looked. absurd (let k : false ≡ true = looked in cc k)) ends (at.next run place said stood.0) (λ e. absurd (unread_memory e)) reads (nothing_drawn run (deliver name time octets) part) (λ s. refl)) come shows ran runs leads stays rose tt).so,
+  (did_misread around after run lane place said (deliver name time octets) part lists old new (refuses_part around run place name time octets part refusal.ReadFault no_numbers old sees (λ looked. absurd (unstepped looked)) ends (at.next run place said stood.0))
+      (refused_left run lane place part refusal.ReadFault misread_answer no_numbers lists old new come stays shows) ran runs (leads lists) reads rose).so,
   λ e. absurd (never_more _ e),
 )
 
@@ -166,11 +128,9 @@ checked_save around after name time octets part Stood Stands why old new sees en
     let q = deliver name time octets in
     let none = silent run place said stood.0 in (
       (did_check around after run lane place said q part lists old new why (Some (reply.Refused why)) half.Whole
-          (refuses_part around run place name time octets part why no_numbers old sees (λ looked. finds_place octets around run old sees come h.ran (stood.1 h.ran)) ends (at.next run place said stood.0) (λ e. absurd (let k : true ≡ false = sym step ∙ ap is_step e in cc k)) (step_may part q why step) (nothing_drawn run q part) (λ s. refl))
-          (refused_comes run lane place part why (Some (reply.Refused why)) no_numbers old new come stays) (h.shown lists shows) h.grows h.ran h.runs (h.leads lists) step refl
-          (ap (λ (s : List Reply). slice_get (half.Whole ∷ []) (length s)) none) (λ event. refuses run lists event come shows)
-          (λ given e. subst (λ (r : Reply). IsReplyOf q (said ++ reply.Refused why ∷ []) r) (one_reply (reply.Refused why) given e) (subst (λ (s : List Reply). IsReplyOf q (s ++ reply.Refused why ∷ []) (reply.Refused why)) (sym none) (step_replied name time octets why step)))
-          (λ e. step_runs why step (let r : reply.Refused why ≡ reply.Refused refusal.Stopped = cc e in cc r)) h.quiet).so,
+          (refuses_part around run place name time octets part why no_numbers old sees (λ looked. finds_place octets around run old sees come h.ran (stood.1 h.ran)) ends (at.next run place said stood.0))
+          (refused_left run lane place part why (Some (reply.Refused why)) no_numbers lists old new come stays shows) h.ran h.runs (h.leads lists) h.quiet step refl
+          (ap (λ (s : List Reply). slice_get (half.Whole ∷ []) (length s)) none) (λ event. refuses run lists event come shows) (first_reply q said (Some (reply.Refused why)) (reply.Refused why) none (step_replied name time octets why step))).so,
       λ e. absurd (never_more _ e),
     )
 
@@ -195,7 +155,7 @@ pub storing_at : (around : Around) (name : List ℕ) (time : ℕ) (octets : List
 storing_at around name time octets rows file guid = record { next = λ run place said stood. stores_next around run name time octets rows file guid (own_events place run) stood.0 }
 
 pub lowering_why : (why : Refusal) → (is_step why ≡ true) ⊎ (why ≡ refusal.NoMemory) → why ≡ refusal.Stopped → ⊥
-lowering_why why (inl s) e = step_runs why s e
+lowering_why why (inl s) e = step_calm why refusal.Stopped s refl e
 lowering_why why (inr m) e = let k : refusal.NoMemory ≡ refusal.Stopped = sym m ∙ e in cc k
 
 pub lowering_at : (around : Around) (name : List ℕ) (time : ℕ) (octets : List ℕ) (uid : ℕ) (why : Refusal) → IsNextAt (IsLoweringCount uid why) around (deliver name time octets) GivesBack

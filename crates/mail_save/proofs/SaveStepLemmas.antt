@@ -50,6 +50,7 @@ use Rattle.store_core.proofs.BoxCrashLemmas.{leaves_none}
 use Rattle.store_core.proofs.KeptFileLemmas.{none_begun}
 use Rattle.store_core.proofs.ShownLemmas.{refs_shown}
 use Rattle.store_seen.specs.Seeing.{may_be_used, seen_of}
+use Rattle.task_steps.proofs.EventLaws.{Lasts, same_changes, same_reads, step_calm}
 use Rattle.task_steps.specs.Step.{HasComeTo, HasNotBegun}
 use Rattle.mail_save.specs.Added.{HasRoomUnder, entry_added}
 use Rattle.mail_save.specs.Events.{box_refusal, save_refusal, uid_refusal}
@@ -66,7 +67,7 @@ use Rattle.mail_save.specs.declared.task.SaveStage.TheVariants as stage
 use Rattle.mail_save.proofs.HeldInstanceLemmas.{rows_firm}
 use Rattle.mail_save.proofs.PlacedLemmas.{placed_stores}
 use Rattle.mail_save.proofs.SaveClauseLemmas.{EventOf, DeliveryClause, with_did}
-use Rattle.mail_save.proofs.SaveDidLemmas.{Lasts, or_none, same_changes, same_reads, step_calm, step_runs, HasRun, StaysSo}
+use Rattle.mail_save.proofs.SaveDidLemmas.{or_none, HasRun, StaysSo}
 use Rattle.mail_save.proofs.SaveFrontLemmas.{SeesAround, KeepsMap, begins_save, made_itself, takes_known, takes_new, places_message, stores_message}
 use Rattle.mail_save.proofs.SaveLastLemmas.{FindsBox, saved_message, broken_save, refused_message, forgotten_message, lowers_count}
 use Rattle.mail_save.proofs.SaveListLemmas.{box_checked, made_of}
@@ -228,7 +229,7 @@ first_refused pins prepared why name time size octets how old new before after b
         let step = save_steps name old why refuses in
         with_did pins octets (stage.First prepared) stage.Ended name time (progress.Done (reply.Refused why)) how (did.Step half.Whole) old new before after began faulted (e.did_is ∙ step_did why step)
         (λ behind. checked_save (around_saving octets (stage.First prepared) old) behind name time octets First (IsAtSave (stage.First prepared)) (IsAtSave stage.Ended) why (seen_of pins old before began) (seen_of pins new after faulted) sees (ends_first name time octets) (first_at (around_saving octets (stage.First prepared) old) (request.Deliver name time octets))
-        (λ run place said stood. stood.1) step (λ run lists event come shows. first_checked pins run name time octets old before began lists event come shows.1 ∙ refuses) (goes (step_runs why step) (step_calm why step)) (stays (step_runs why step) (step_calm why step)))
+        (λ run place said stood. stood.1) step (λ run lists event come shows. first_checked pins run name time octets old before began lists event come shows.1 ∙ refuses) (goes (step_calm why refusal.Stopped step refl) (step_calm why refusal.ReadFault step refl)) (stays (step_calm why refusal.Stopped step refl) (step_calm why refusal.ReadFault step refl)))
     by_cause (inr m) =
         let other : why ≡ refusal.Stopped → ⊥ = λ k. memory_runs (sym m.1 ∙ k) in
         with_did pins octets (stage.First prepared) stage.Ended name time (progress.Done (reply.Refused why)) how did.Quiet old new before after began faulted (e.did_is ∙ ap failing_did m.1)
@@ -356,8 +357,8 @@ taking_refused pins parts why name time size octets how old new before after beg
         (stays_same pins old new before after began faulted e.ran m.1 e.grows (same_reads began faulted same) (same_changes began faulted same))))
     by_cause (inr (inl f)) =
         let step : is_step why ≡ true = ap is_step f.0 in
-        let other = step_runs why step in
-        let same = untold_faults why began faulted other (step_calm why step) e.faults in
+        let other = step_calm why refusal.Stopped step refl in
+        let same = untold_faults why began faulted other (step_calm why refusal.ReadFault step refl) e.faults in
         let k = f.1.same in
         let map = ap (λ (v : StoreValue _). v.map) k in
         let high = e.is.files.highest in
@@ -497,7 +498,7 @@ storing_refused pins at rows room why name time size octets how old new before a
         with_did pins octets (stage.Storing at rows room) stage.Ended name time (progress.Done (reply.Refused why)) how (did.Step half.Whole) old new before after began faulted (e.did_is ∙ step_did why step)
         (λ behind. checked_save (around_saving octets (stage.Storing at rows room) old) behind name time octets StoresRecord (IsAtSave (stage.Storing at rows room)) (IsAtSave stage.Ended) why (seen_of pins old before began) (seen_of pins new after faulted) sees (ends_storing name time octets)
         (storing_at (around_saving octets (stage.Storing at rows room) old) name time octets rows at.file.0 at.guid.0) (λ run place said stood. stood.3) step
-        (λ run lists event come shows. full_uids name time octets (seen_of pins old before began) used run lists event come shows ∙ ap (λ (w : Refusal). Some w) (sym is)) (goes other (step_calm why step) k) (stays other (step_calm why step) k))
+        (λ run lists event come shows. full_uids name time octets (seen_of pins old before began) used run lists event come shows ∙ ap (λ (w : Refusal). Some w) (sym is)) (goes other (step_calm why refusal.ReadFault step refl) k) (stays other (step_calm why refusal.ReadFault step refl) k))
 
     forgotten : why ≡ refusal.NoMemory → (why ≡ refusal.Stopped → ⊥) → GivesFileBack at.file.0 old new → DeliveryClause pins octets (stage.Storing at rows room) stage.Ended name time (progress.Done (reply.Refused why)) how old new before after began faulted
     forgotten m other k =
@@ -519,7 +520,7 @@ storing_refused pins at rows room why name time size octets how old new before a
         (λ lists t. s.moments lists (placed_stores at rows name time octets old before e.is e.ran e.own e.left.0 r (record { 0 = old.drawn.map + 1 }) lists t.0) (rows_firm rows old before e.left.2.known t.1) t.0)))
 
     full_runs : why ≡ refusal.StoreFull 4294967294 → why ≡ refusal.Stopped → ⊥
-    full_runs is k = step_runs why (ap is_step is) k
+    full_runs is k = step_calm why refusal.Stopped (ap is_step is) refl k
 
     by_cause : (uid_refusal old.drawn.map ≡ Some why) ⊎ ((uid_refusal old.drawn.map ≡ None) × ((why ≡ refusal.Stopped) ⊎ (why ≡ refusal.NoMemory))) → StoresNone at why old new
         → DeliveryClause pins octets (stage.Storing at rows room) stage.Ended name time (progress.Done (reply.Refused why)) how old new before after began faulted

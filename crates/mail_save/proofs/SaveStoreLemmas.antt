@@ -30,6 +30,7 @@ use Rattle.store_core.specs.Knows.{knows_instance, may_have_given}
 use Rattle.store_core.specs.Running.{IsStore}
 use Rattle.store_core.specs.Value.{StoreValue, indexes_of}
 use Rattle.store_seen.specs.Seeing.{may_be_barred, may_be_used, seen_of}
+use Rattle.task_steps.proofs.EventLaws.{fall, Lasts}
 use Rattle.task_steps.specs.ExpungeStages.{one_due}
 use Rattle.task_steps.specs.Step.{IsSettledIn, ShowsSeen}
 use Rattle.mail_save.specs.SaveEffects.{AreEndsSame}
@@ -37,7 +38,7 @@ use Rattle.mail_save.specs.SaveSeen.{around_saving, candidate_at, room_at}
 use Rattle.mail_save.specs.declared.task.SaveStage.{SaveStage}
 use Rattle.mail_save.specs.declared.task.SaveStage.TheVariants as stage
 use Rattle.mail_save.proofs.PlaceLemmas.{own_place, file_of_place, offset_of_place}
-use Rattle.mail_save.proofs.SaveDidLemmas.{fall, HasRun, KeepsTelling, Lasts, StaysSo}
+use Rattle.mail_save.proofs.SaveDidLemmas.{HasRun, KeepsTelling, StaysSo}
 use Rattle.mail_save.proofs.SaveFileLemmas.{value_changed}
 use Rattle.mail_save.proofs.SaveFrontLemmas.{SeesAround}
 use Rattle.mail_save.proofs.SaveRoomLemmas.{RoomIs, room_is, both_true, le_true, lt_true, true_le, true_lt}

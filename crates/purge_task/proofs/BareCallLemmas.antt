@@ -38,7 +38,7 @@ use Rattle.purge_task.specs.declared.task.PurgeStage.TheVariants as stage
 use Rattle.purge_task.specs.declared.work.Source.{Source}
 use Rattle.purge_task.specs.declared.work.Work.{Work}
 use Rattle.purge_task.proofs.BareLemmas.{bare_steps}
-use Rattle.purge_task.proofs.EventLemmas.{fall}
+use Rattle.task_steps.proofs.EventLaws.{fall}
 use Rattle.purge_task.proofs.LeavingLemmas.{removal_leaves}
 use Rattle.purge_task.proofs.RemovalCallLemmas.{next_claims, ready_next, same_in}
 use Rattle.purge_task.proofs.RemovalLemmas.{none_in}

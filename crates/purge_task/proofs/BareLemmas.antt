@@ -24,7 +24,7 @@ use Rattle.purge_task.specs.declared.task.PurgeStage.{PurgeStage}
 use Rattle.purge_task.specs.declared.task.PurgeStage.TheVariants as stage
 use Rattle.purge_task.specs.declared.work.Source.{Source}
 use Rattle.purge_task.specs.declared.work.Work.{Work}
-use Rattle.purge_task.proofs.EventLemmas.{DidSo, stands_so}
+use Rattle.task_steps.proofs.EventLaws.{DidBy, stands_by}
 use Rattle.purge_task.proofs.PartLemmas.{next_goes_on, next_is}
 use Rattle.purge_task.proofs.RemovalLemmas.{CountsRemoval, LeavesSettled, did_removal, none_in, removed_way, removes_taken}
 use Rattle.purge_task.proofs.RemovalSeenLemmas.{removal_event, without}
@@ -51,7 +51,7 @@ bare_steps after t next work source left disk old before later began faults at i
     let counts : CountsRemoval t next source.file.0 own = record { dropped = dropped; files = counted ∙ sym (ap (λ (b : Bool). if b then t.files else t.files + 1) fresh); instances = instances } in
     let now_taken : HaveTaken (stands.0 ++ source ∷ []) left (own ++ event ∷ []) = taken_on stands.0 source left own event refl (λ file. one_alone source.file.0 file) (pairs_head (λ (a b : Source). a.file.0 < b.file.0) source left apart.files) h.taken in
     let way = removed_way t next stands.0 (source ∷ left) (stands.0 ++ source ∷ []) left (GoesOnBehind run) lane source.file.0 (told_calls later) old new run place said refl ran now_taken (λ c. All-tail (HaveCopied old.map own) source left c) counts h in
-    stands_so around after run lane place said lists (seen_by_purge old before began) (seen_by_purge new later faults) next.did None event None (IsAtPurge next new)
-    (subst (λ (d : Did). DidSo around after run lane place said lists (seen_by_purge old before began) (seen_by_purge new later faults) d None event None) (sym how)
+    stands_by around after run lane place said request.Purge lists (seen_by_purge old before began) (seen_by_purge new later faults) next.did None event None (IsAtPurge next new)
+    (subst (λ (d : Did). DidBy around after run lane place said request.Purge lists (seen_by_purge old before began) (seen_by_purge new later faults) d None event None) (sym how)
     (did_removal around after run lane place said lists source.file.0 disk old before later began faults come shows ran unpinned drawn elsewhere next_one (removes_taken run own (told_taken source) h.last taken) leaves.moments leaves.rests leaves.grows leaves.mail leaves.quiet))
     (λ goes. at_next next work source (stands.0 ++ source ∷ []) left new (and_then run event) place said is to way)

@@ -19,7 +19,7 @@ use Rattle.purge_task.specs.declared.task.PurgeStage.TheVariants as stage
 use Rattle.purge_task.specs.declared.work.Source.{Source}
 use Rattle.purge_task.specs.declared.work.Work.{Work}
 use Rattle.purge_task.proofs.BareCallLemmas.{emptied_file, untaken_in}
-use Rattle.purge_task.proofs.EventLemmas.{fall}
+use Rattle.task_steps.proofs.EventLaws.{fall}
 
 -- it is emptied, and its target is taken
 pub record IsHeldIn (files : List MailFile) (source : Source) : Type 0 where

@@ -42,7 +42,7 @@ use Rattle.purge_task.specs.declared.work.Work.{Work}
 use Rattle.purge_task.proofs.CopiedOctetsLemmas.{copied_octets}
 use Rattle.purge_task.proofs.CopyStepLemmas.{copy_steps}
 use Rattle.purge_task.proofs.CopyingLemmas.{HasMore, IsCopyingOne, each_still, grown_amount, grown_ends, grown_keeps, grown_of, header_before, later_targets, more_copied, more_grows, target_untaken}
-use Rattle.purge_task.proofs.EventLemmas.{fall}
+use Rattle.task_steps.proofs.EventLaws.{fall}
 use Rattle.purge_task.proofs.RegionLemmas.{with_end}
 use Rattle.purge_task.proofs.TargetLeavingLemmas.{one_file_leaves, same_others}
 use Rattle.store_core.specs.Running.{IsStore}

@@ -18,7 +18,7 @@ use Rattle.purge_task.specs.Copied.{AreUnwantedFrom, IsNextWanted}
 use Rattle.purge_task.specs.Keeping.{AreCopiedUpTo}
 use Rattle.purge_task.specs.Stages.{HaveCopied}
 use Rattle.purge_task.specs.declared.work.Source.{Source}
-use Rattle.purge_task.proofs.EventLemmas.{fall}
+use Rattle.task_steps.proofs.EventLaws.{fall}
 
 -- ---- tests
 

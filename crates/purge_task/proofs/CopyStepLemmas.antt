@@ -33,7 +33,8 @@ use Rattle.purge_task.specs.declared.task.PurgeStage.TheVariants as stage
 use Rattle.purge_task.specs.declared.work.Source.{Source}
 use Rattle.purge_task.specs.declared.work.Work.{Work}
 use Rattle.purge_task.proofs.CopyLemmas.{is_left, next_contained, next_is_left}
-use Rattle.purge_task.proofs.EventLemmas.{DidSo, did_part, stands_so}
+use Rattle.task_steps.proofs.EventLaws.{DidBy, stands_by}
+use Rattle.purge_task.proofs.EventLemmas.{did_next}
 use Rattle.purge_task.proofs.PartLemmas.{copies_some, last_with, next_copies, next_is}
 use Rattle.purge_task.proofs.RemovalLemmas.{LeavesSettled}
 use Rattle.purge_task.proofs.RunLemmas.{any_push, flat_push, gone_files, one_alone, or_none, sum_push, taken_still}
@@ -181,7 +182,7 @@ copy_steps after t next work now source noted left row place end target disk fil
     let least : IsCopiedNext (filter (is_left old.map own source.file.0) old.map.records) r = next_is_left old.map own source work.from end row sound (All-head (HaveCopied old.map own) source left (h.copied ran)) copied wanted in
     let left_are : copies_left own run (next_taken own) ≡ filter (is_left old.map own source.file.0) old.map.records = ap (λ (o : Option TakenFile). copies_left own run o) taken ∙ ap (λ (m : MapMeaning). filter (is_left m own source.file.0) m.records) come.come.map_is in
     let next_one : next_part around run request.Purge own ≡ Some CopiesMessage = next_copy t work source left row end old before began at is sound copied wanted ran run number said come stood.0 in
-    let so = did_part around after run lane number said lists (seen_by_purge old before began) (seen_by_purge new later faults) (copy_event 0 0 r.uid 0)
+    let so = did_next around after run lane number said lists (seen_by_purge old before began) (seen_by_purge new later faults) (copy_event 0 0 r.uid 0)
     (record {
       next = next_one;
       finds = tt;
@@ -195,8 +196,8 @@ copy_steps after t next work now source noted left row place end target disk fil
     })
     (same_comes run event disk files false old before later began faults come ran (tells_grown target old.files.files files.files grown) (record { made = refl; pins = refl; unpins = refl; doomed = refl; removed = refl; given = refl; placed = refl; gone = refl }) refl refl refl (λ u. refl) leaves.grows)
     shows ran refl (record { stops = λ s. leaves.moments lists s.0; settled = λ s. leaves.rests lists s.0 }) leaves.grows leaves.mail leaves.quiet in
-    stands_so around after run lane number said lists (seen_by_purge old before began) (seen_by_purge new later faults) next.did None event None (IsAtPurge next new)
-    (subst (λ (d : Did). DidSo around after run lane number said lists (seen_by_purge old before began) (seen_by_purge new later faults) d None event None) (sym how) so)
+    stands_by around after run lane number said request.Purge lists (seen_by_purge old before began) (seen_by_purge new later faults) next.did None event None (IsAtPurge next new)
+    (subst (λ (d : Did). DidBy around after run lane number said request.Purge lists (seen_by_purge old before began) (seen_by_purge new later faults) d None event None) (sym how) so)
     (λ none. subst (λ (x : PurgeStage). IsAtPurgeStage x next new (and_then run event) number said) (sym to) (
       stands.0,
       subst (λ (l : List Source). IsPurging next stands.0 l (λ doomed part. CopiesBehind part) new (and_then run event) number said) (sym now_is)

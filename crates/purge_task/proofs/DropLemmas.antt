@@ -43,7 +43,7 @@ use Rattle.purge_task.specs.declared.work.Source.{Source}
 use Rattle.purge_task.specs.declared.work.Work.{Work}
 use Rattle.purge_task.proofs.BareCallLemmas.{IsEmptiedFile, emptied_file}
 use Rattle.purge_task.proofs.CopyLemmas.{kept_of}
-use Rattle.purge_task.proofs.EventLemmas.{fall}
+use Rattle.task_steps.proofs.EventLaws.{fall}
 use Rattle.purge_task.proofs.FreeInstanceLemmas.{any_has}
 use Rattle.purge_task.proofs.SwitchFitLemmas.{StandsFor, mapped_all, no_more, record_here}
 use Rattle.purge_task.proofs.SwitchRowLemmas.{IsLeftAlone, alone, map_switched, rows_are}

@@ -19,7 +19,7 @@ use Rattle.store_core.specs.Value.{StoreValue}
 use Rattle.task_steps.specs.Step.{HasComeTo}
 use Rattle.purge_task.specs.Clause.{TellsUses, seen_by_purge}
 use Rattle.purge_task.specs.Found.{AreAllBut, IsFullToEnd, MayBeEmptied}
-use Rattle.purge_task.proofs.EventLemmas.{fall}
+use Rattle.task_steps.proofs.EventLaws.{fall}
 use Rattle.purge_task.proofs.FreeInstanceLemmas.{any_has}
 
 -- ---- regions in a row

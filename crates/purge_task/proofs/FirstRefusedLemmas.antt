@@ -24,10 +24,10 @@ use Rattle.journal.specs.Events.{Around}
 use Rattle.journal.specs.Found.{AgreesWithRun}
 use Rattle.journal.specs.Makes.{HasCome, Makes}
 use Rattle.task_steps.specs.Step.{DidEvent, HasComeTo, Leads, Seen, ShowsSeen}
-use Rattle.task_steps.proofs.OneEventLemmas.{next_first, refusal_last, some_given, some_refusal, step_may}
 use Rattle.task_steps.proofs.SeenLemmas.{no_guids}
 use Rattle.model_kept.specs.Kept.{MailIsKept}
-use Rattle.purge_task.proofs.EventLemmas.{fall}
+use Rattle.task_steps.proofs.EventLaws.{fall, refuses, some_refusal, some_reply, step_may}
+use Rattle.task_steps.proofs.OneEventLemmas.{next_first, refusal_last}
 
 abbrev pub full : Refusal
 full = refusal.StoreFull 4294967294
@@ -76,7 +76,7 @@ lacking_makes around after run lane place lists m drawn calls taken come own fin
     replied = refusal_last (own_events place run) (lacking_event lane place taken calls) own;
     allowed = λ e. absurd (some_refusal full e);
     did = λ e. absurd (some_refusal full e);
-    ends = record { 0 = λ e. refl; 1 = λ e f. some_given (reply.Refused full) f };
+    ends = record { 0 = λ e. refl; 1 = λ e f. some_reply (reply.Refused full) f };
   };
   answer = Some (reply.Refused full);
   is_told = refl;

@@ -36,7 +36,8 @@ use Rattle.purge_task.specs.declared.task.PurgeStage.{PurgeStage}
 use Rattle.purge_task.specs.declared.task.PurgeStage.TheVariants as stage
 use Rattle.purge_task.specs.declared.work.Source.{Source}
 use Rattle.purge_task.specs.declared.work.Work.{Work}
-use Rattle.purge_task.proofs.EventLemmas.{DidSo, did_part, stands_so}
+use Rattle.task_steps.proofs.EventLaws.{DidBy, stands_by}
+use Rattle.purge_task.proofs.EventLemmas.{did_next}
 use Rattle.purge_task.proofs.FindsLemmas.{finds_files}
 use Rattle.purge_task.proofs.FirstLemmas.{IsBegunOf, first_allowed, first_comes, first_event, with_begun}
 use Rattle.purge_task.proofs.PartLemmas.{goes_on_some}
@@ -133,7 +134,7 @@ first_steps after t next work drew disk log files old before later began faults 
     let new : StoreValue _ = with_begun disk log files drew old in
     let drawn_is : (drawn_of run).file ≡ old.drawn.file = ap (λ (d : Highest). d.file) come.come.drawn_is in
     let many : drew ≡ length (with_targets (map_of run) (taken_all sources)) = b.drew_are ∙ sym (ap (λ (m : MapMeaning). length (with_targets m (taken_all sources))) come.come.map_is) in
-    let so = did_part around after run lane place said lists (seen_by_purge old before began) (seen_by_purge new later faults) (first_event 0 0 (taken_all sources) drew 0)
+    let so = did_next around after run lane place said lists (seen_by_purge old before began) (seen_by_purge new later faults) (first_event 0 0 (taken_all sources) drew 0)
     (record {
       next = next_first around run request.Purge (own_events place run) begins.0;
       finds = refl;
@@ -152,6 +153,6 @@ first_steps after t next work drew disk log files old before later began faults 
     })
     (first_comes run lane place (taken_all sources) drew disk log files old before later began faults come ran b.begun (comes_drawing run event old.map old.drawn (told_calls before) drew come.come leaves.grows refl refl))
     shows ran ran (record { stops = λ s. leaves.moments lists s.0; settled = λ s. leaves.rests lists s.0 }) leaves.grows leaves.mail leaves.quiet in
-    stands_so around after run lane place said lists (seen_by_purge old before began) (seen_by_purge new later faults) next.did None event None (IsAtPurge next new)
-    (subst (λ (d : Did). DidSo around after run lane place said lists (seen_by_purge old before began) (seen_by_purge new later faults) d None event None) (sym how) so)
+    stands_by around after run lane place said request.Purge lists (seen_by_purge old before began) (seen_by_purge new later faults) next.did None event None (IsAtPurge next new)
+    (subst (λ (d : Did). DidBy around after run lane place said request.Purge lists (seen_by_purge old before began) (seen_by_purge new later faults) d None event None) (sym how) so)
     (λ none. at_first next work new (and_then run event) place said to (begun_way next sources lane drew (told_calls later) new run place said dropped counted instances b.uncopied begins))

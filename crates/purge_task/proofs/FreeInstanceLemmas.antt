@@ -27,7 +27,7 @@ use Rattle.store_core.specs.StoreInstances.{HasKnownInstances, IsKnownRow}
 use Rattle.store_core.specs.Value.{StoreValue}
 use Rattle.task_steps.specs.Step.{HasComeTo}
 use Rattle.purge_task.specs.Clause.{TellsUses, next_useless_of, seen_by_purge}
-use Rattle.purge_task.proofs.EventLemmas.{fall}
+use Rattle.task_steps.proofs.EventLaws.{fall}
 
 -- ---- tests
 

@@ -19,7 +19,7 @@ use Rattle.purge_task.specs.Taken.{all_released, source_released}
 use Rattle.purge_task.specs.declared.work.Source.{Source}
 use Rattle.purge_task.proofs.BareCallLemmas.{IsEmptiedFile, emptied_file, untaken_in, unplaced_in}
 use Rattle.purge_task.proofs.CanReleaseLemmas.{AreClear, released_other, source_other}
-use Rattle.purge_task.proofs.EventLemmas.{fall}
+use Rattle.task_steps.proofs.EventLaws.{fall}
 use Rattle.purge_task.proofs.SameSeenLemmas.{TellsNoLess, bars, ends, is_before, tells_same, uses}
 use Rattle.purge_task.proofs.TakenClaimLemmas.{claims_cons}
 

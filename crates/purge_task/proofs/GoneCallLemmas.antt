@@ -42,7 +42,8 @@ use Rattle.purge_task.specs.Clause.{IsPurgeStep, PurgeSteps, at_stage}
 use Rattle.purge_task.specs.Keeping.{HasPurged, PurgeValue}
 use Rattle.purge_task.specs.declared.task.PurgeStage.{PurgeStage}
 use Rattle.purge_task.specs.declared.task.PurgeStage.TheVariants as stage
-use Rattle.purge_task.proofs.EventLemmas.{fall, same_refusal}
+use Rattle.task_steps.proofs.EventLaws.{fall}
+use Rattle.purge_task.proofs.EventLemmas.{same_refusal}
 use Rattle.purge_task.proofs.FailLemmas.{fail_steps}
 use Rattle.purge_task.proofs.GoneLemmas.{gone_steps, last_steps}
 use Rattle.purge_task.proofs.InstanceSeenLemmas.{none_with, other_with, without_it}

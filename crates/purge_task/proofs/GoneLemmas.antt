@@ -32,7 +32,8 @@ use Rattle.purge_task.specs.Stages.{GoesOnBehind, HaveTaken, IsAtPurge, IsAtPurg
 use Rattle.purge_task.specs.declared.task.PurgeStage.{PurgeStage}
 use Rattle.purge_task.specs.declared.task.PurgeStage.TheVariants as stage
 use Rattle.purge_task.specs.declared.work.Source.{Source}
-use Rattle.purge_task.proofs.EventLemmas.{DidSo, did_last, did_part, stands_so}
+use Rattle.task_steps.proofs.EventLaws.{DidBy, stands_by}
+use Rattle.purge_task.proofs.EventLemmas.{did_last, did_next}
 use Rattle.purge_task.proofs.FreeInstanceLemmas.{finds_none, finds_one}
 use Rattle.purge_task.proofs.InstanceSeenLemmas.{gone_comes, gone_event, without_it}
 use Rattle.purge_task.proofs.PartLemmas.{goes_on_some, last_with, next_goes_on, next_none}
@@ -108,7 +109,7 @@ gone_steps after t next k disk old before later began faults at to how dropped f
     let next_is : next_part around run request.Purge (own_events place run) ≡ Some RemovesInstance = next_instance around run place h.0 t old said h.1 ∙ ap (λ (o : Option KnownInstance). if is_some (option_map (λ k. k.row) o) then Some RemovesInstance else Some Last) found in
     let finds = finds_one run old before began k come ran (stood.1 ran) known ids found in
     let there = found_one (λ (j : KnownInstance). is_useless old.map j) old.instances.known k found in
-    let so = did_part around after run lane place said lists (seen_by_purge old before began) (seen_by_purge new later faults) (gone_event 0 0 k.row 0)
+    let so = did_next around after run lane place said lists (seen_by_purge old before began) (seen_by_purge new later faults) (gone_event 0 0 k.row 0)
     (record {
       next = next_is;
       finds = tt;
@@ -121,6 +122,6 @@ gone_steps after t next k disk old before later began faults at to how dropped f
       no_guid = refl;
     })
     (gone_comes run lane place k disk old before later began faults come ran (instance-in old.instances.known k ids.rising there.0) drawn leaves.grows) shows ran ran (record { stops = λ s. leaves.moments lists s.0; settled = λ s. leaves.rests lists s.0 }) leaves.grows leaves.mail leaves.quiet in
-    stands_so around after run lane place said lists (seen_by_purge old before began) (seen_by_purge new later faults) next.did None event None (IsAtPurge next new)
-    (subst (λ (d : Did). DidSo around after run lane place said lists (seen_by_purge old before began) (seen_by_purge new later faults) d None event None) (sym how) so)
+    stands_by around after run lane place said request.Purge lists (seen_by_purge old before began) (seen_by_purge new later faults) next.did None event None (IsAtPurge next new)
+    (subst (λ (d : Did). DidBy around after run lane place said request.Purge lists (seen_by_purge old before began) (seen_by_purge new later faults) d None event None) (sym how) so)
     (λ none. subst (λ (x : PurgeStage). IsAtPurgeStage x next new (and_then run event) place said) (sym to) (h.0, gone_way t next h.0 lane k.row (told_calls later) old new run place said dropped files instances h.1))

@@ -24,7 +24,7 @@ use Rattle.store_core.specs.Value.{StoreValue}
 use Rattle.task_steps.specs.Step.{HasComeTo}
 use Rattle.task_steps.proofs.SeenLemmas.{doomed_still, file_still_known, given_still, pins_still, there_before, used_still}
 use Rattle.purge_task.specs.Clause.{seen_by_purge}
-use Rattle.purge_task.proofs.EventLemmas.{fall}
+use Rattle.task_steps.proofs.EventLaws.{fall}
 use Rattle.purge_task.proofs.RunLemmas.{any_push, any_still, or_true, sum_push}
 
 abbrev pub gone_event : ℕ → ℕ → InstRow → ℕ → RunEvent

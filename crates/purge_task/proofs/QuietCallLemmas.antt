@@ -46,7 +46,7 @@ use Rattle.purge_task.proofs.BareCallLemmas.{IsBareOne, emptied_file}
 use Rattle.purge_task.proofs.CopyCallLemmas.{IsNotedFor}
 use Rattle.purge_task.proofs.CopyingLemmas.{IsCopyingOne}
 use Rattle.purge_task.proofs.DropLemmas.{drops_both, emptied_unsealed, switch_drops}
-use Rattle.purge_task.proofs.EventLemmas.{fall}
+use Rattle.task_steps.proofs.EventLaws.{fall}
 use Rattle.purge_task.proofs.QuietEventLemmas.{ChangesFile, one_counted, quiet_bare, quiet_copied, quiet_made, quiet_removed}
 use Rattle.purge_task.proofs.QuietSwitchLemmas.{IsSwitchedQuietly, quiet_switched}
 use Rattle.purge_task.proofs.RemovalCallLemmas.{IsRemovingOne, doomed_file}

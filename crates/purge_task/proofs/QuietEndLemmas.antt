@@ -30,7 +30,7 @@ use Rattle.purge_task.specs.Keeping.{PurgeValue}
 use Rattle.purge_task.specs.Quiet.{IsQuietSoFar, stays_beside}
 use Rattle.purge_task.specs.declared.task.PurgeStage.TheVariants as stage
 use Rattle.purge_task.proofs.CopyLemmas.{kept_of}
-use Rattle.purge_task.proofs.EventLemmas.{fall}
+use Rattle.task_steps.proofs.EventLaws.{fall}
 use Rattle.purge_task.proofs.QuietLemmas.{emptied_dropped, emptied_rows, emptied_stay}
 use Rattle.purge_task.proofs.WithinLemmas.{mapped_of}
 

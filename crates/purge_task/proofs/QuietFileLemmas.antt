@@ -14,7 +14,7 @@ use Rattle.store_core.specs.Value.{StoreValue}
 use Rattle.purge_task.specs.Dropped.{DropsUnwanted}
 use Rattle.purge_task.specs.Keeping.{PurgeValue}
 use Rattle.purge_task.specs.Quiet.{HasEmptied, HaveInstancesGone, HaveWanted, HoldsCopied, IsAtHand, IsOnlyTask, IsQuietSoFar, files_to_empty, sources_to_empty}
-use Rattle.purge_task.proofs.EventLemmas.{fall}
+use Rattle.task_steps.proofs.EventLaws.{fall}
 
 pub append_both : {X : Type 0} → (xs ys zs : List X) → (xs ++ ys) ++ zs ≡ xs ++ (ys ++ zs)
 append_both [] ys zs = refl

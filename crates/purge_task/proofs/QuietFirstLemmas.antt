@@ -29,7 +29,7 @@ use Rattle.purge_task.specs.declared.task.PurgeStage.{PurgeStage}
 use Rattle.purge_task.specs.declared.task.PurgeStage.TheVariants as stage
 use Rattle.purge_task.proofs.CleanLemmas.{may_be_emptied}
 use Rattle.purge_task.proofs.DropLemmas.{drops_none}
-use Rattle.purge_task.proofs.EventLemmas.{fall}
+use Rattle.task_steps.proofs.EventLaws.{fall}
 use Rattle.purge_task.proofs.QuietEndLemmas.{none_within}
 use Rattle.purge_task.proofs.QuietLemmas.{emptied_none}
 use Rattle.purge_task.proofs.QuietSwitchLemmas.{emptied_as}

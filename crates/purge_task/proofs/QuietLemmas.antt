@@ -20,7 +20,7 @@ use Rattle.purge_task.specs.Dropped.{DropsUnwanted}
 use Rattle.purge_task.specs.Quiet.{HasEmptied, but_file, stays_beside, with_file}
 use Rattle.purge_task.proofs.CopyLemmas.{kept_of}
 use Rattle.purge_task.proofs.DropLemmas.{left_or_gone, listed_one, same_apart}
-use Rattle.purge_task.proofs.EventLemmas.{fall}
+use Rattle.task_steps.proofs.EventLaws.{fall}
 use Rattle.purge_task.proofs.SwitchRowLemmas.{IsLeftAlone, alone, map_switched, rows_are}
 use Rattle.purge_task.proofs.WithinLemmas.{mapped_of}
 

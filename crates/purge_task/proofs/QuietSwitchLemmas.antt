@@ -34,7 +34,7 @@ use Rattle.purge_task.specs.declared.task.PurgeStage.TheVariants as stage
 use Rattle.purge_task.specs.declared.work.Source.{Source}
 use Rattle.purge_task.specs.declared.work.Work.{Work}
 use Rattle.purge_task.proofs.CopyLemmas.{kept_of}
-use Rattle.purge_task.proofs.EventLemmas.{fall}
+use Rattle.task_steps.proofs.EventLaws.{fall}
 use Rattle.purge_task.proofs.QuietEndLemmas.{none_within, within_one}
 use Rattle.purge_task.proofs.QuietFileLemmas.{append_both, append_long, gone_same}
 use Rattle.purge_task.proofs.QuietLemmas.{emptied_more, filter_alike}

@@ -31,7 +31,8 @@ use Rattle.purge_task.specs.declared.task.PurgeStage.{PurgeStage}
 use Rattle.purge_task.specs.declared.task.PurgeStage.TheVariants as stage
 use Rattle.purge_task.specs.declared.work.Source.{Source}
 use Rattle.purge_task.specs.declared.work.Work.{Work}
-use Rattle.purge_task.proofs.EventLemmas.{DidSo, fall, did_part, stands_so}
+use Rattle.task_steps.proofs.EventLaws.{DidBy, fall, stands_by}
+use Rattle.purge_task.proofs.EventLemmas.{did_next}
 use Rattle.purge_task.proofs.PartLemmas.{goes_on_some, last_with, next_removes}
 use Rattle.purge_task.proofs.RemovalSeenLemmas.{removal_comes, removal_event, without}
 use Rattle.purge_task.proofs.StageLemmas.{at_next}
@@ -133,9 +134,9 @@ never_some x e = cc e
 pub did_removal : {D : Type 0} → (around after : Around) (run : Run) (lane place : ℕ) (said : List Reply) (lists : Lists) (file : ℕ) (disk : D) (old : StoreValue D) (before later : Option History) (began faults : Faults) → HasComeTo run (seen_by_purge old before began) → ShowsSeen (seen_by_purge old before began) lists
     → old.stopped ≡ false → pins_in file old.files.files ≡ 0 → file ≤ old.drawn.file → AreElsewhere file old.map.records → next_part around run request.Purge (own_events place run) ≡ Some RemovesFile → file_to_remove run (own_events place run) ≡ Some file
     → ((lists : Lists) → IsSettledFor lists before → Leaves lists lists before later) → ((lists : Lists) → IsSettledFor lists before → IsSettledFor lists later) → Grows before later → MailIsKept old.map before later → NoFault began faults
-    → DidSo around after run lane place said lists (seen_by_purge old before began) (seen_by_purge (without file disk old) later faults) did.Quiet None (removal_event lane place file (told_calls later)) None
+    → DidBy around after run lane place said request.Purge lists (seen_by_purge old before began) (seen_by_purge (without file disk old) later faults) did.Quiet None (removal_event lane place file (told_calls later)) None
 did_removal around after run lane place said lists file disk old before later began faults come shows ran unpinned drawn elsewhere next removes moments rests grows mail quiet =
-    did_part around after run lane place said lists (seen_by_purge old before began) (seen_by_purge (without file disk old) later faults) (removal_event 0 0 file 0)
+    did_next around after run lane place said lists (seen_by_purge old before began) (seen_by_purge (without file disk old) later faults) (removal_event 0 0 file 0)
     (record {
       next = next;
       finds = tt;
@@ -196,7 +197,7 @@ removing_steps after t next work source left disk old before later began faults 
     let counts : CountsRemoval t next source.file.0 own = record { dropped = dropped; files = files ∙ sym (ap (λ (b : Bool). if b then t.files else t.files + 1) gone); instances = instances } in
     let taken : HaveTaken done left (own ++ event ∷ []) = taken_again done left own lane place source.file.0 (told_calls later) h.taken here in
     let way = removed_way t next done left done left (RemovesBehind run source.file.0) lane source.file.0 (told_calls later) old new run place said refl ran taken (λ c. c) counts h in
-    stands_so (around_purging [] old) after run lane place said lists (seen_by_purge old before began) (seen_by_purge new later faults) next.did None event None (IsAtPurge next new)
-    (subst (λ (d : _). DidSo (around_purging [] old) after run lane place said lists (seen_by_purge old before began) (seen_by_purge new later faults) d None event None) (sym how)
+    stands_by (around_purging [] old) after run lane place said request.Purge lists (seen_by_purge old before began) (seen_by_purge new later faults) next.did None event None (IsAtPurge next new)
+    (subst (λ (d : _). DidBy (around_purging [] old) after run lane place said request.Purge lists (seen_by_purge old before began) (seen_by_purge new later faults) d None event None) (sym how)
     (did_removal (around_purging [] old) after run lane place said lists source.file.0 disk old before later began faults come shows ran unpinned drawn elsewhere (next_removes (around_purging [] old) run place source.file.0 h.last) (removes_switched run own source.file.0 h.last) leaves.moments leaves.rests leaves.grows leaves.mail leaves.quiet))
     (λ none. at_next next work source done left new (and_then run event) place said is to way)

@@ -39,7 +39,7 @@ use Rattle.purge_task.specs.declared.task.PurgeStage.{PurgeStage}
 use Rattle.purge_task.specs.declared.task.PurgeStage.TheVariants as stage
 use Rattle.purge_task.specs.declared.work.Source.{Source}
 use Rattle.purge_task.specs.declared.work.Work.{Work}
-use Rattle.purge_task.proofs.EventLemmas.{fall}
+use Rattle.task_steps.proofs.EventLaws.{fall}
 use Rattle.purge_task.proofs.FreeInstanceLemmas.{any_has}
 use Rattle.purge_task.proofs.StableLemmas.{left_stays}
 use Rattle.purge_task.proofs.WalkLemmas.{found_row, none_found}

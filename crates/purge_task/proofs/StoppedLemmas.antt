@@ -12,8 +12,6 @@ use Rattle.list_machine.specs.Run.{EventPart, First, RemovesFile, Run, own_event
 use Rattle.journal.specs.Events.{Around, next_part, next_taken}
 use Rattle.store_core.specs.Value.{StoreValue}
 use Rattle.task_steps.specs.Step.{DidEvent}
-use Rattle.task_steps.proofs.OneEventLemmas.{never_more, next_first}
-use Rattle.task_steps.proofs.UnmovedLemmas.{mail_still}
 use Rattle.purge_task.specs.Claims.{sources_left}
 use Rattle.purge_task.specs.Clause.{IsPurgeStep, PurgeSteps, around_purging, seen_by_purge}
 use Rattle.purge_task.specs.Keeping.{PurgeValue}
@@ -21,7 +19,10 @@ use Rattle.purge_task.specs.Stages.{IsAtPurgeStage, IsAtSwitched}
 use Rattle.purge_task.specs.declared.task.PurgeStage.{PurgeStage}
 use Rattle.purge_task.specs.declared.task.PurgeStage.TheVariants as stage
 use Rattle.purge_task.specs.declared.work.Source.{Source}
-use Rattle.purge_task.proofs.EventLemmas.{did_stopped, fall, same_refusal}
+use Rattle.task_steps.proofs.EventLaws.{did_stop, fall}
+use Rattle.task_steps.proofs.OneEventLemmas.{never_more, next_first}
+use Rattle.task_steps.proofs.UnmovedLemmas.{mail_still}
+use Rattle.purge_task.proofs.EventLemmas.{purge_refuses, same_refusal}
 use Rattle.purge_task.proofs.PartLemmas.{copies_some, goes_on_some, next_copies, next_goes_on, next_removes}
 use Rattle.disk_model.proofs.IdleLemmas.{idle-begins}
 
@@ -42,7 +43,7 @@ stopped_steps after t next store history faults how stopped = λ run lane place 
     let around : Around = around_purging [] store in
     let part = next_some around t.stage t store run place said stood.0 in (
       subst (λ (d : Did). DidEvent around after run lane place said request.Purge lists (seen_by_purge store history faults) (seen_by_purge store history faults) d (Some (reply.Refused refusal.Stopped))) (sym how)
-          (did_stopped around after run lane place said lists (seen_by_purge store history faults) part.0 come shows stopped part.1 refl),
+          (did_stop around after run lane place said request.Purge part.0 lists (seen_by_purge store history faults) (purge_refuses around run place part.0 refusal.Stopped part.1 refl refl) come shows stopped).so,
       λ e. absurd (never_more _ e),
     )
 

@@ -61,7 +61,8 @@ use Rattle.purge_task.specs.declared.task.PurgeStage.TheVariants as stage
 use Rattle.purge_task.specs.declared.work.Source.{Source}
 use Rattle.purge_task.specs.declared.work.Work.{Work}
 use Rattle.purge_task.proofs.BareCallLemmas.{IsEmptiedFile, emptied_file}
-use Rattle.purge_task.proofs.EventLemmas.{fall, same_refusal}
+use Rattle.task_steps.proofs.EventLaws.{fall}
+use Rattle.purge_task.proofs.EventLemmas.{same_refusal}
 use Rattle.purge_task.proofs.FailLemmas.{fail_steps}
 use Rattle.purge_task.proofs.FurtherLemmas.{further_switch_on, further_switch_removing}
 use Rattle.purge_task.proofs.PartLemmas.{next_copies, next_goes_on, next_is}

@@ -10,7 +10,7 @@ use Rattle.storage_files.specs.Files.{IsUsedFile, changed_in, end_in, file_in, g
 use Rattle.storage_files.specs.declared.file.MailFile.{MailFile}
 use Rattle.storage_files.proofs.FileListLemmas.{ends-kept, file-here, file-other}
 use Rattle.purge_task.specs.Switched.{files_switched}
-use Rattle.purge_task.proofs.EventLemmas.{fall}
+use Rattle.task_steps.proofs.EventLaws.{fall}
 use Rattle.purge_task.proofs.SwitchSeenLemmas.{IsDoomedOf}
 
 -- ---- a target that is there

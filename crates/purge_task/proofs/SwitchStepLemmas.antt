@@ -40,7 +40,8 @@ use Rattle.purge_task.specs.declared.task.PurgeStage.{PurgeStage}
 use Rattle.purge_task.specs.declared.work.Source.{Source}
 use Rattle.purge_task.specs.declared.work.Work.{Work}
 use Rattle.purge_task.proofs.CopyStepLemmas.{taken_noted}
-use Rattle.purge_task.proofs.EventLemmas.{DidSo, did_part, stands_so}
+use Rattle.task_steps.proofs.EventLaws.{DidBy, stands_by}
+use Rattle.purge_task.proofs.EventLemmas.{did_next}
 use Rattle.purge_task.proofs.PartLemmas.{goes_on_some, last_with, next_is}
 use Rattle.purge_task.proofs.RemovalLemmas.{LeavesSettled}
 use Rattle.purge_task.proofs.RunLemmas.{any_still, done_gone, flat_push, gone_files, many_push, one_itself, or_none, sum_push, taken_on}
@@ -163,7 +164,7 @@ switch_steps {D = D} after t next work source spent left Before target moved dro
     let came = switch_comes run lane place source.file target moved dropped disk log dues files old before later began faults come ran s.doomed unused s.drawn s.due leaves.grows in
     let pinned : was_pinned (and_then run event) source.file.0 ≡ not (pins_in source.file.0 old.files.files == 0) = (first_doomed run event source.file.0 unused (one_itself source.file.0) refl).0
     ∙ (pinned_as (and_then run event) (seen_by_purge new later faults) source.file.0 came ran ∙ (ap (λ (n : ℕ). nat_lt 0 n) (s.doomed.pins source.file.0) ∙ some_pin (pins_in source.file.0 old.files.files))) in
-    let so = did_part around after run lane place said lists (seen_by_purge old before began) (seen_by_purge new later faults) (switch_event 0 0 source.file target moved dropped 0)
+    let so = did_next around after run lane place said lists (seen_by_purge old before began) (seen_by_purge new later faults) (switch_event 0 0 source.file target moved dropped 0)
     (record {
       next = part run place said at.0 come at.1;
       finds = tt;
@@ -176,8 +177,8 @@ switch_steps {D = D} after t next work source spent left Before target moved dro
       no_guid = refl;
     })
     came (shows.0, subst (λ (bs : List MapBox). ShowLists bs (indexes_of old.boxes) lists) (sym s.boxes) shows.1) ran ran (record { stops = λ x. leaves.moments lists x.0; settled = λ x. leaves.rests lists x.0 }) leaves.grows leaves.mail leaves.quiet in
-    stands_so around after run lane place said lists (seen_by_purge old before began) (seen_by_purge new later faults) next.did None event None (IsAtPurge next new)
-    (subst (λ (d : Did). DidSo around after run lane place said lists (seen_by_purge old before began) (seen_by_purge new later faults) d None event None) (sym how) so)
+    stands_by around after run lane place said request.Purge lists (seen_by_purge old before began) (seen_by_purge new later faults) next.did None event None (IsAtPurge next new)
+    (subst (λ (d : Did). DidBy around after run lane place said request.Purge lists (seen_by_purge old before began) (seen_by_purge new later faults) d None event None) (sym how) so)
     (λ none. elim (cases_Bool (pins_in source.file.0 old.files.files == 0)) [
       | inl free ↦ subst (λ (x : PurgeStage). IsAtPurgeStage x next new (and_then run event) place said) (sym (subst (λ (b : Bool). IsBehindSwitch b work next.stage) free to))
           (subst (λ (l : List Source). IsAtSwitched next l new (and_then run event) place said) (sym is) (

@@ -40,7 +40,7 @@ use Rattle.purge_task.specs.declared.task.PurgeStage.{PurgeStage}
 use Rattle.purge_task.specs.declared.task.PurgeStage.TheVariants as stage
 use Rattle.purge_task.specs.declared.work.Source.{Source}
 use Rattle.purge_task.specs.declared.work.Work.{Work}
-use Rattle.purge_task.proofs.EventLemmas.{fall}
+use Rattle.task_steps.proofs.EventLaws.{fall}
 use Rattle.purge_task.proofs.TargetLemmas.{target_steps}
 use Rattle.purge_task.proofs.TargetLeavingLemmas.{named_others, one_file_leaves}
 use Rattle.purge_task.proofs.TargetSeenLemmas.{IsMadeOf, with_files}

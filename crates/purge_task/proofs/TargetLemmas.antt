@@ -28,7 +28,8 @@ use Rattle.purge_task.specs.declared.task.PurgeStage.{PurgeStage}
 use Rattle.purge_task.specs.declared.task.PurgeStage.TheVariants as stage
 use Rattle.purge_task.specs.declared.work.Source.{Source}
 use Rattle.purge_task.specs.declared.work.Work.{Work}
-use Rattle.purge_task.proofs.EventLemmas.{DidSo, did_part, stands_so}
+use Rattle.task_steps.proofs.EventLaws.{DidBy, stands_by}
+use Rattle.purge_task.proofs.EventLemmas.{did_next}
 use Rattle.purge_task.proofs.PartLemmas.{copies_some, last_with, next_goes_on, next_is}
 use Rattle.purge_task.proofs.RemovalLemmas.{LeavesSettled}
 use Rattle.purge_task.proofs.RunLemmas.{any_still, flat_push, gone_files, sum_push, taken_still}
@@ -91,7 +92,7 @@ target_steps after t next work source left target disk files old before later be
     let next_one : next_part around run request.Purge (own_events place run) ≡ Some MakesTarget = next_goes_on around run place h.last
     ∙ (ap (λ (o : Option TakenFile). purge_goes_on around run o) taken
     ∙ ap (λ (b : Bool). if b then Some MakesTarget else (if list_any (λ row. row.file == source.file.0) (map_of run).records then Some Switches else Some RemovesFile)) (ap (λ (n : ℕ). nat_lt 0 n) number ∙ some_number target.0 some)) in
-    let so = did_part around after run lane place said lists (seen_by_purge old before began) (seen_by_purge new later faults) (target_event 0 0 target.0 0)
+    let so = did_next around after run lane place said lists (seen_by_purge old before began) (seen_by_purge new later faults) (target_event 0 0 target.0 0)
     (record {
       next = next_one;
       finds = tt;
@@ -104,7 +105,7 @@ target_steps after t next work source left target disk files old before later be
       no_guid = refl;
     })
     (target_comes run lane place target.0 disk files old before later began faults come ran made (unused run come) (λ guid own file. ungiven run guid come own file) leaves.grows) shows ran ran (record { stops = λ s. leaves.moments lists s.0; settled = λ s. leaves.rests lists s.0 }) leaves.grows leaves.mail leaves.quiet in
-    stands_so around after run lane place said lists (seen_by_purge old before began) (seen_by_purge new later faults) next.did None event None (IsAtPurge next new)
-    (subst (λ (d : Did). DidSo around after run lane place said lists (seen_by_purge old before began) (seen_by_purge new later faults) d None event None) (sym how) so)
+    stands_by around after run lane place said request.Purge lists (seen_by_purge old before began) (seen_by_purge new later faults) next.did None event None (IsAtPurge next new)
+    (subst (λ (d : Did). DidBy around after run lane place said request.Purge lists (seen_by_purge old before began) (seen_by_purge new later faults) d None event None) (sym how) so)
     (λ none. subst (λ (x : PurgeStage). IsAtPurgeStage x next new (and_then run event) place said) (sym to)
     (stands.0, subst (λ (l : List Source). IsPurging next stands.0 l (λ doomed part. CopiesBehind part) new (and_then run event) place said) (sym is) (made_way t next stands.0 (source ∷ left) lane target.0 (told_calls later) old new run place said refl ran dropped counted instances h)))

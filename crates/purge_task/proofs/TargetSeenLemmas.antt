@@ -18,7 +18,7 @@ use Rattle.store_seen.specs.Seeing.{may_be_barred}
 use Rattle.task_steps.specs.Step.{HasComeTo, was_given, was_used}
 use Rattle.task_steps.proofs.SeenLemmas.{doomed_still, file_still_known, given_still, gone_still, pins_still, placed_still, there_before, used_still}
 use Rattle.purge_task.specs.Clause.{seen_by_purge}
-use Rattle.purge_task.proofs.EventLemmas.{fall}
+use Rattle.task_steps.proofs.EventLaws.{fall}
 use Rattle.purge_task.proofs.RunLemmas.{any_now, any_still, one_alone, one_itself, sum_push}
 use Rattle.purge_task.proofs.SameSeenLemmas.{is_before}
 

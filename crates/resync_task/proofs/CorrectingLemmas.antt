@@ -18,8 +18,7 @@ use Rattle.model_store.specs.Opening.{listed_of}
 use Rattle.model_meaning.specs.MapFits.{MapFits}
 use Rattle.resync_task.specs.Correcting.{PutsRight}
 use Rattle.resync_task.specs.Stages.{corrected_map, many_corrected}
-use Rattle.task_steps.proofs.OneEventLemmas.{leaves_none}
-use Rattle.task_steps.proofs.UnmovedLemmas.{mail_still}
+use Rattle.task_steps.proofs.UnmovedLemmas.{leaves_none, mail_still}
 use Rattle.resync_task.specs.WrongCounts.{wrong_beside, wrong_of}
 use Rattle.resync_task.proofs.WrongCountLemmas.{IsWrong, as_right, all_wrong, fits_map, many_in_map}
 use Rattle.store_core.specs.Dues.{due_at, listed_at}

@@ -22,7 +22,7 @@ use Rattle.task_claims.proofs.RestLemmas.{rest_leaves, same_claims}
 use Rattle.task_steps.specs.Step.{Leads, ShowsSeen}
 use Rattle.resync_task.specs.Clause.{KeepsMessages}
 use Rattle.resync_task.specs.Reading.{ReadsStoreOnly}
-use Rattle.resync_task.proofs.EventLemmas.{StaysSo}
+use Rattle.task_steps.proofs.KeptStoreLemmas.{StaysSo}
 
 -- ---- the disk
 

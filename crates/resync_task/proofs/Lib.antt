@@ -2,7 +2,6 @@ pub mod BodilessLemmas
 pub mod CorrectingLemmas
 pub mod DamageLemmas
 pub mod EndLemmas
-pub mod EventLemmas
 pub mod FileLemmas
 pub mod IdleStoreLemmas
 pub mod ListedLemmas

@@ -20,7 +20,7 @@ use Rattle.model_meaning.specs.MapMeaning.{MapMeaning, map_applied}
 use Rattle.model_meaning.specs.MapFits.{HasRecord, MapFits}
 use Rattle.list_machine.specs.Run.{RunEvent, Run, and_then, map_of, own_events, corrected_in}
 use Rattle.list_machine.specs.Machine.{AreResynced}
-use Rattle.journal.specs.Journal.{halves_of, IsReplyOf}
+use Rattle.journal.specs.Journal.{halves_of}
 use Rattle.journal.specs.Events.{Around, AreRight, corrects, file_left, begun_in, ended_in}
 use Rattle.journal.specs.Found.{ListsFiles, FindsDamage}
 use Rattle.journal.specs.Makes.{HasCome}
@@ -28,11 +28,12 @@ use Rattle.journal.proofs.OwnEventLemmas.{own_more, own_other}
 use Rattle.journal.proofs.RunLemmas.{comes_on_with, drawn_none}
 use Rattle.task_steps.specs.Step.{Seen, ShowsSeen, HasComeTo, Leads, and_told, DidEvent, IsKept}
 use Rattle.task_steps.specs.Tells.{LeavesFiles, TellsSame}
-use Rattle.task_steps.proofs.OneEventLemmas.{next_first, nothing}
+use Rattle.task_steps.proofs.EventLaws.{DidBy, did_own, ends_well, no_reply, own_event, some_reply, stands_by, unstepped}
+use Rattle.task_steps.proofs.KeptStoreLemmas.{StaysSo, comes_along}
+use Rattle.task_steps.proofs.OneEventLemmas.{first_reply, next_first}
 use Rattle.task_steps.proofs.SeenLemmas.{comes_to_on, due_is, not_begun_stays, tells_itself}
-use Rattle.task_steps.proofs.UnmovedLemmas.{mail_still}
+use Rattle.task_steps.proofs.UnmovedLemmas.{mail_still, nothing}
 use Rattle.resync_task.specs.Stages.{ResyncAt, ToList, ToRead, HasRead, IsAtResync, listing_event, reading_event, correcting_event, corrected_map, many_corrected, AreWrongCounts}
-use Rattle.resync_task.proofs.EventLemmas.{stands_by, DidBy, StaysSo, did_part, ends_well, comes_along, no_reply, one_reply, some_reply}
 use Rattle.resync_task.proofs.OwnResyncLemmas.{next_by, next_reads, next_corrects, read_none, read_more, nothing_refused}
 
 same_place : (n : ℕ) → (n == n) ≡ true
@@ -57,15 +58,9 @@ no_answer = None
 did_list : (found after : Around) (run : Run) (lane place : ℕ) (said : List Reply) (lists : Lists) (old : Seen) → HasComeTo run old → ShowsSeen old lists → IsAtResync ToList run place said → old.stopped ≡ false → ListsFiles run found.files
     → DidBy found after run lane place said request.Resync lists old old did.Quiet None (listing_event lane place found.files (told_calls old.history)) None
 did_list found after run lane place said lists old come shows stood runs listed =
-    did_part found after run lane place said request.Resync lists lists old old did.Quiet None None event
+    did_own found after run lane place said request.Resync lists lists old old did.Quiet None None event
     (record {
-      lane_is = refl;
-      request_is = refl;
-      moment_is = refl;
-      ended_is = refl;
-      unrefused = refl;
-      undrawn = refl;
-      leaves = record { made = refl; pins = refl; unpins = refl; doomed = refl; removed = refl; given = refl; placed = refl; gone = refl };
+      own = own_event event refl;
       finds = tt;
       found = λ looked. listed;
       part_is = next_first found run request.Resync (own_events place run) stood.0;
@@ -74,8 +69,8 @@ did_list found after run lane place said lists old come shows stood runs listed 
       fits = All-nil _;
       ends = record { 0 = λ h. absurd (h refl); 1 = λ e h. never_ends (file_left (own_events place (and_then run event))) e };
       replied = tt;
-    }) come (comes_along run event old old come refl refl (omega arith) refl refl refl) (λ uid. refl) (tells_itself old) shows (omega arith) (mail_still old.map old.history) refl refl (refl, refl, nothing lists old)
-    (ends_well request.Resync said event None None did.Quiet old old refl runs runs refl (λ x. x) (λ e. no_reply _ e) (λ some. absurd (let k : false ≡ true = some in cc k)) (λ given e. absurd (no_reply given e)))
+    }) (record { made = refl; pins = refl; unpins = refl; doomed = refl; removed = refl; given = refl; placed = refl; gone = refl }) come (comes_along run event old old come refl refl (omega arith) refl refl refl) (λ uid. refl) (tells_itself old) shows (omega arith) (mail_still old.map old.history) refl refl (refl, refl, nothing lists old)
+    (ends_well request.Resync said event None None did.Quiet old old refl runs runs refl (λ x. x) (λ e. no_reply _ e) (λ some. absurd (unstepped some)) (λ given e. absurd (no_reply given e)))
   where
     event : RunEvent
     event = listing_event lane place found.files (told_calls old.history)
@@ -97,15 +92,9 @@ did_read : (found after : Around) (run : Run) (lane place : ℕ) (said : List Re
     → old.stopped ≡ false → new.stopped ≡ false → NoFault old.faults new.faults → read < length files → FindsDamage run (own_events place run) found.damaged → Leads lists lists old new
     → DidBy found after run lane place said request.Resync lists old new did.Quiet None (reading_event lane place found.damaged (told_calls new.history)) None
 did_read found after run lane place said lists old new files read damaged come stays shows stood ran runs unfailed left finds leads =
-    did_part found after run lane place said request.Resync lists lists old new did.Quiet None None event
+    did_own found after run lane place said request.Resync lists lists old new did.Quiet None None event
     (record {
-      lane_is = refl;
-      request_is = refl;
-      moment_is = refl;
-      ended_is = refl;
-      unrefused = refl;
-      undrawn = refl;
-      leaves = record { made = refl; pins = refl; unpins = refl; doomed = refl; removed = refl; given = refl; placed = refl; gone = refl };
+      own = own_event event refl;
       finds = tt;
       found = λ looked. finds;
       part_is = next_reads found run files read damaged place stood.0 left;
@@ -114,8 +103,8 @@ did_read found after run lane place said lists old new files read damaged come s
       fits = All-nil _;
       ends = record { 0 = λ h. absurd (h refl); 1 = λ e h. never_ends (file_left (own_events place (and_then run event))) e };
       replied = tt;
-    }) come (comes_along run event old new come stays.map stays.drawn stays.grows refl refl refl) (λ uid. let d = stays.due uid in omega (arith, d)) stays.tells shows stays.grows stays.mail refl refl (refl, runs ∙ sym ran, leads)
-    (ends_well request.Resync said event None None did.Quiet old new refl ran runs unfailed (λ x. x) (λ e. no_reply _ e) (λ some. absurd (let k : false ≡ true = some in cc k)) (λ given e. absurd (no_reply given e)))
+    }) (record { made = refl; pins = refl; unpins = refl; doomed = refl; removed = refl; given = refl; placed = refl; gone = refl }) come (comes_along run event old new come stays.map stays.drawn stays.grows refl refl refl) (λ uid. let d = stays.due uid in omega (arith, d)) stays.tells shows stays.grows stays.mail refl refl (refl, runs ∙ sym ran, leads)
+    (ends_well request.Resync said event None None did.Quiet old new refl ran runs unfailed (λ x. x) (λ e. no_reply _ e) (λ some. absurd (unstepped some)) (λ given e. absurd (no_reply given e)))
   where
     event : RunEvent
     event = reading_event lane place found.damaged (told_calls new.history)
@@ -212,15 +201,9 @@ pub corrects_then : (found after : Around) (run : Run) (lane place : ℕ) (said 
     → Grows old.history new.history → MailIsKept old.map old.history new.history → NoFault old.faults new.faults
     → DidEvent found after run lane place said request.Resync lists old new (did.Step half.Whole) (Some (reply.Resynced (many_corrected counts old.map) damaged))
 corrects_then found after run lane place said lists old new files damaged counts come stood ran runs wrong fit map drawn due tells shown leads grows mail unfailed =
-    (did_part found after run lane place said request.Resync lists lists old new (did.Step half.Whole) (Some given) (Some given) event
+    (did_own found after run lane place said request.Resync lists lists old new (did.Step half.Whole) (Some given) (Some given) event
     (record {
-      lane_is = refl;
-      request_is = refl;
-      moment_is = refl;
-      ended_is = refl;
-      unrefused = refl;
-      undrawn = refl;
-      leaves = leaves_all lane place many damaged counts (told_calls new.history);
+      own = own_event event refl;
       finds = tt;
       found = λ looked. tt;
       part_is = next_corrects found run files damaged place stood.0;
@@ -229,10 +212,10 @@ corrects_then found after run lane place said lists old new files damaged counts
       fits = subst (λ (m : MapMeaning). All (MapFits m) (corrects counts)) (sym come.come.map_is) fit;
       ends = record { 0 = λ h. refl; 1 = λ e h. some_reply given h };
       replied = nothing_refused (own_events place run) event stood.0.unrefused refl;
-    }) come (comes_right run lane place many damaged counts old new come map drawn grows) (λ uid. unchanged_due lane place many damaged counts (told_calls new.history) uid (old.due uid) (new.due uid) (due uid)) tells shown grows mail refl
+    }) (leaves_all lane place many damaged counts (told_calls new.history)) come (comes_right run lane place many damaged counts old new come map drawn grows) (λ uid. unchanged_due lane place many damaged counts (told_calls new.history) uid (old.due uid) (new.due uid) (due uid)) tells shown grows mail refl
     ((refl, (are_resynced run lane place files (length files) damaged counts old (told_calls new.history) come stood.0, refl)), refl) (refl, refl, runs, leads)
     (ends_well request.Resync said event (Some given) (Some given) (did.Step half.Whole) old new refl ran runs unfailed (λ x. x) (resynced_apart many damaged) (λ some. ap (λ (s : List Reply). slice_get (halves_of request.Resync) (length s)) stood.1)
-    (λ r e. subst (λ (x : Reply). IsReplyOf request.Resync (said ++ given ∷ []) x) (one_reply given r e) (subst (λ (s : List Reply). IsReplyOf request.Resync (s ++ given ∷ []) given) (sym stood.1) refl)))).so
+    (first_reply request.Resync said (Some given) given stood.1 refl))).so
   where
     many : ℕ
     many = many_corrected counts old.map

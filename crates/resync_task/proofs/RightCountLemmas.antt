@@ -32,7 +32,7 @@ use Rattle.task_steps.specs.Step.{ShowsSeen}
 use Rattle.task_steps.specs.Tells.{TellsSame}
 use Rattle.resync_task.specs.Correcting.{AreExact, FellCorrecting, KeepsCorrecting, PutsRight}
 use Rattle.resync_task.specs.Stages.{corrected_map}
-use Rattle.resync_task.proofs.EventLemmas.{StaysSo}
+use Rattle.task_steps.proofs.KeptStoreLemmas.{StaysSo}
 use Rattle.resync_task.proofs.ResyncEventLemmas.{CountsFit}
 use Rattle.resync_task.proofs.StoreCountLemmas.{uids_rise}
 use Rattle.resync_task.proofs.WrongCountLemmas.{right_in_map}

@@ -36,7 +36,7 @@ use Rattle.resync_task.specs.Stages.{ResyncAt, ToList, ToRead, HasFilesLeft, Has
 use Rattle.resync_task.specs.Reading.{ReadsStoreOnly, ReadsNext}
 use Rattle.resync_task.specs.Task.{ResyncsOn, resync_left}
 use Rattle.resync_task.proofs.CorrectingLemmas.{entry_fits, entry_many}
-use Rattle.resync_task.proofs.EventLemmas.{fall}
+use Rattle.task_steps.proofs.EventLaws.{fall}
 use Rattle.resync_task.proofs.IdleStoreLemmas.{idle_grows, reading_claims, reading_leaves, reading_leads, reading_mail, reading_rest, reading_shows, reading_stays}
 use Rattle.resync_task.proofs.RefusedResyncLemmas.{resync_broken, resync_faulted, resync_stopped, resync_unremembered}
 use Rattle.resync_task.proofs.ResyncEventLemmas.{corrects_then, lists_then, reads_then}

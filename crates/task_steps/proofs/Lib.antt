@@ -1,6 +1,8 @@
+pub mod EventLaws
 pub mod ExpungingLemmas
 pub mod FollowingLemmas
 pub mod GoingLemmas
+pub mod KeptStoreLemmas
 pub mod OneEventLemmas
 pub mod ReplyingLemmas
 pub mod SeenLemmas

@@ -1,7 +1,7 @@
 -- Storage files and instances have what a map needed at the start, as long as no entry moves or drops its records.
-use Rattle.std.specs.Prelude.{◌≡◌, ◌==◌, ◌+◌, ◌-◌, ◌||◌, Bool, true, false, List, [], ◌∷◌, ◌++◌, All, Contains, ℕ, Option, Some, None, flat_map, if◌then◌else◌, cond, map, filter, not}
+use Rattle.std.specs.Prelude.{◌≡◌, ◌==◌, ◌+◌, ◌-◌, ◌||◌, ◌⊎◌, Bool, true, false, List, [], ◌∷◌, ◌++◌, All, Contains, ℕ, Option, Some, None, flat_map, if◌then◌else◌, cond, map, filter, not}
 use Rattle.std.specs.List.{list_any}
-use Rattle.std.proofs.Common.{refl, sym, ◌∙◌, ap, subst, append-nil, append_assoc, arith}
+use Rattle.std.proofs.Common.{refl, sym, ◌∙◌, ap, subst, append-nil, append_assoc, arith, inl}
 use Rattle.std.proofs.lemmas.List.Elements.{All-nil, All-cons, All-head, All-tail, All-weaker, All-contains_itself, All-contains, Contains-append_left, Contains-append_right}
 use Rattle.std.proofs.lemmas.List.Folds.{list_any-append}
 use Rattle.disk_model.specs.Disk.{History, IfTold}
@@ -10,11 +10,16 @@ use Rattle.mdbox_base.specs.declared.entries.MapEntry.{MapEntry}
 use Rattle.mdbox_base.specs.declared.entries.MapEntry.TheVariants as map_entry
 use Rattle.model_kept.specs.Kept.{IsPlacedIn, MailIsKept, MailStays, NeedsAllOf}
 use Rattle.model_kept.proofs.KeptLemmas.{ReadsImage, kept_for_less, kept_then, left_stays}
+use Rattle.model_lists.specs.Lists.{Lists}
 use Rattle.model_meaning.specs.MapMeaning.{MapMeaning, MapRecord, has_map_uid, map_applied, map_meaning, record_changed, record_dropped, record_made, seals}
 use Rattle.model_meaning.proofs.MapLemmas.{map_more}
 use Rattle.model_meaning.proofs.SealedLemmas.{sealed_is}
+use Rattle.model_store.specs.Safe.{Safe}
+use Rattle.model_store.specs.Settled.{IsSettledFor, Leaves}
+use Rattle.model_store.proofs.SettledLemmas.{settled_safe}
 use Rattle.list_machine.specs.Run.{Run, RunEvent, before, map_of}
 use Rattle.task_steps.specs.Serves.{NoneMoved, moves_records}
+use Rattle.task_steps.specs.Step.{Leads, Seen}
 
 -- ---- one entry
 
@@ -134,6 +139,14 @@ run_needs run none =
 pub mail_still : (m : MapMeaning) (history : Option History) → MailIsKept m history history
 mail_still m None = refl
 mail_still m (Some old) = each_image-begins (λ _ image. MailStays m (Some old) image) (Some old) (λ moment image is name. left_stays m name (old.now name) (image name) (is name))
+
+-- each image is safe for the lists of a settled disk
+pub leaves_none : (old : Option History) (later : Lists) (lists : Lists) → IsSettledFor lists old → Leaves lists later old old
+leaves_none None later lists settled = absurd settled
+leaves_none (Some old) later lists settled = each_image-begins (λ _ image. Safe image lists ⊎ Safe image later) (Some old) (λ moment image is. inl (settled_safe old.now lists image settled is))
+
+pub nothing : (lists : Lists) (seen : Seen) → Leads lists lists seen seen
+nothing lists seen = record { stops = λ s. leaves_none seen.history lists lists s.0; settled = λ s. s.0 }
 
 none_in_front : (events : List RunEvent) (event : RunEvent) → NoneMoved (events ++ event ∷ []) → NoneMoved events
 none_in_front [] event h = All-nil _

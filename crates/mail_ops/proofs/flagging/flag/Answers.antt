@@ -3,34 +3,34 @@ use Rattle.std.specs.Option.{option_copied, option_map}
 use Rattle.box_index.specs.Row.{row_of}
 use Rattle.box_index.specs.State.{BoxState}
 use Rattle.mdbox_base.specs.declared.replies.Refusal.TheVariants as refusal
-use Rattle.task_steps.proofs.OneEventLemmas.{does_nothing, does_refuse, never_more, when_stopped, not_true, ok_is_none}
 use Rattle.store_seen.specs.Seeing.{seen_of}
 use Rattle.store_seen.proofs.SeeingLemmas.{due_as_before}
 use Rattle.mail_ops.proofs.FlagEventLemmas.{flag_is_plain, flags_known, brings_none, flag_done, flag_broken, none_of, some_of}
 use Rattle.mail_ops.proofs.RemovalLemmas.{store_tells}
 use Rattle.mail_ops.proofs.KeptUidLemmas.{flags_left}
 use Rattle.task_claims.specs.Claims.{no_claims}
-use Rattle.mail_ops.proofs.EventLemmas.{fall}
+use Rattle.task_steps.proofs.EventLaws.{fall}
+use Rattle.task_steps.proofs.OneEventLemmas.{never_more, not_true, ok_is_none, plain_refused, plain_stopped}
 use Rattle.mail_ops.proofs.OnlyLogsLemmas.{done_keeps, done_not, fell_keeps, halted_keeps, idle_keeps, refused_not, took_spares}
 use Rattle.mail_ops.proofs.LeavingLemmas.{flag_leaves, same_leaves}
 use Rattle.mail_ops.proofs.flagging.flag.Goals as goal
 
 pub returns-then-stopped-clause-does : goal.returns-then-stopped-clause-does
 returns-then-stopped-clause-does g c = λ around after pins run lane place said lists come shows stage. (
-  does_nothing around after run lane place said _ lists (seen_of pins c.args.store.now (g.D.Disk.history c.args.store.now.disk) (g.D.Disk.faults c.args.store.now.disk)) refusal.Stopped (flag_is_plain c.args.name.now c.args.uid c.args.flags) come shows stage refl tt tt (when_stopped c.args.store.now.stopped (sym c.stopped.ensures ∙ c.if-stopped.true)),
+  plain_stopped around after run lane place said _ lists (seen_of pins c.args.store.now (g.D.Disk.history c.args.store.now.disk) (g.D.Disk.faults c.args.store.now.disk)) (flag_is_plain c.args.name.now c.args.uid c.args.flags) come shows stage (sym c.stopped.ensures ∙ c.if-stopped.true),
   λ e. absurd (never_more _ e),
 )
 
 pub returns-in_default-clause-does : goal.returns-in_default-clause-does
 returns-in_default-clause-does g c = λ around after pins run lane place said lists come shows stage. (
-  does_refuse around after run lane place said _ lists (seen_of pins c.args.store.now (g.D.Disk.history c.args.store.now.disk) (g.D.Disk.faults c.args.store.now.disk)) refusal.NoMailbox (flag_is_plain c.args.name.now c.args.uid c.args.flags) come shows stage refl refl (sym c.stopped.ensures ∙ c.if-stopped.false)
+  plain_refused around after run lane place said _ lists (seen_of pins c.args.store.now (g.D.Disk.history c.args.store.now.disk) (g.D.Disk.faults c.args.store.now.disk)) refusal.NoMailbox (flag_is_plain c.args.name.now c.args.uid c.args.flags) come shows stage (sym c.stopped.ensures ∙ c.if-stopped.false) refl refl
       (λ event. c.flags_are_shown.ensures.no_mailbox run event _ _ lists c.args.name.now c.args.uid c.args.flags shows.1 (sym c.list_of.ensures ∙ ap (λ o. option_map (λ (i : BoxState). i.meaning) (option_copied o)) c.in_default.is)),
   λ e. absurd (never_more _ e),
 )
 
 pub returns-then-is_none-clause-does : goal.returns-then-is_none-clause-does
 returns-then-is_none-clause-does g c = λ around after pins run lane place said lists come shows stage. (
-  does_refuse around after run lane place said _ lists (seen_of pins c.args.store.now (g.D.Disk.history c.args.store.now.disk) (g.D.Disk.faults c.args.store.now.disk)) refusal.NoMessage (flag_is_plain c.args.name.now c.args.uid c.args.flags) come shows stage refl refl (sym c.stopped.ensures ∙ c.if-stopped.false)
+  plain_refused around after run lane place said _ lists (seen_of pins c.args.store.now (g.D.Disk.history c.args.store.now.disk) (g.D.Disk.faults c.args.store.now.disk)) refusal.NoMessage (flag_is_plain c.args.name.now c.args.uid c.args.flags) come shows stage (sym c.stopped.ensures ∙ c.if-stopped.false) refl refl
       (λ event. c.flags_are_shown.ensures.no_message run event _ _ lists c.args.name.now c.args.uid c.args.flags c.in-Some.index.now.meaning shows.1 (sym c.list_of.ensures ∙ ap (λ o. option_map (λ (i : BoxState). i.meaning) (option_copied o)) c.in-Some.is) (none_of row_of c.find.result _ c.if-is_none.ensures c.find.ensures)),
   λ e. absurd (never_more _ e),
 )

@@ -9,20 +9,20 @@ use Rattle.list_machine.specs.Run.{First}
 use Rattle.list_machine.specs.Machine.{PartAnswers}
 use Rattle.model_store.specs.Listing.{listing_of}
 use Rattle.store_core.specs.Value.{indexes_of}
-use Rattle.task_steps.proofs.OneEventLemmas.{does_nothing, does_refuse, never_more, memory_is, when_stopped}
+use Rattle.task_steps.proofs.OneEventLemmas.{never_more, plain_forgets, plain_refused, plain_stopped}
 use Rattle.store_seen.specs.Seeing.{seen_of}
 use Rattle.mail_ops.proofs.ListEventLemmas.{list_is_plain, does_list}
 use Rattle.mail_ops.proofs.listing.list.Goals as goal
 
 pub returns-then-stopped-clause-does : goal.returns-then-stopped-clause-does
 returns-then-stopped-clause-does g c = λ around after pins run lane place said lists come shows stage. (
-  does_nothing around after run lane place said _ lists (seen_of pins c.args.store.now (g.D.Disk.history c.args.store.now.disk) (g.D.Disk.faults c.args.store.now.disk)) refusal.Stopped (list_is_plain c.args.name.now) come shows stage refl tt tt (when_stopped c.args.store.now.stopped (sym c.stopped.ensures ∙ c.if-stopped.true)),
+  plain_stopped around after run lane place said _ lists (seen_of pins c.args.store.now (g.D.Disk.history c.args.store.now.disk) (g.D.Disk.faults c.args.store.now.disk)) (list_is_plain c.args.name.now) come shows stage (sym c.stopped.ensures ∙ c.if-stopped.true),
   λ e. absurd (never_more _ e),
 )
 
 pub returns-in_default-clause-does : goal.returns-in_default-clause-does
 returns-in_default-clause-does g c = λ around after pins run lane place said lists come shows stage. (
-  does_refuse around after run lane place said _ lists (seen_of pins c.args.store.now (g.D.Disk.history c.args.store.now.disk) (g.D.Disk.faults c.args.store.now.disk)) refusal.NoMailbox (list_is_plain c.args.name.now) come shows stage refl refl (sym c.stopped.ensures ∙ c.if-stopped.false)
+  plain_refused around after run lane place said _ lists (seen_of pins c.args.store.now (g.D.Disk.history c.args.store.now.disk) (g.D.Disk.faults c.args.store.now.disk)) refusal.NoMailbox (list_is_plain c.args.name.now) come shows stage (sym c.stopped.ensures ∙ c.if-stopped.false) refl refl
       (λ event. subst (λ (r : Reply). PartAnswers run event lists (request.List c.args.name.now) First r lists) (ap listing_of (sym c.list_of.ensures ∙ ap (λ o. option_map (λ (i : BoxState). i.meaning) (option_copied o)) c.in_default.is)) (c.listings_are_answered.ensures run event c.args.store.now.map.boxes (indexes_of c.args.store.now.boxes) lists c.args.name.now shows.1)),
   λ e. absurd (never_more _ e),
 )
@@ -36,6 +36,6 @@ returns-in-Ok-clause-does g c = λ around after pins run lane place said lists c
 
 pub returns-in-Err-clause-does : goal.returns-in-Err-clause-does
 returns-in-Err-clause-does g c = λ around after pins run lane place said lists come shows stage. (
-  does_nothing around after run lane place said _ lists (seen_of pins c.args.store.now (g.D.Disk.history c.args.store.now.disk) (g.D.Disk.faults c.args.store.now.disk)) refusal.NoMemory (list_is_plain c.args.name.now) come shows stage refl refl tt (memory_is c.args.store.now.stopped (sym c.stopped.ensures ∙ c.if-stopped.false)),
+  plain_forgets around after run lane place said _ lists (seen_of pins c.args.store.now (g.D.Disk.history c.args.store.now.disk) (g.D.Disk.faults c.args.store.now.disk)) (list_is_plain c.args.name.now) come shows stage (sym c.stopped.ensures ∙ c.if-stopped.false),
   λ e. absurd (never_more _ e),
 )

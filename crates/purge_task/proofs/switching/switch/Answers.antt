@@ -14,7 +14,7 @@ use Rattle.purge_task.specs.Claims.{sources_left}
 use Rattle.purge_task.specs.Switched.{IsSwitched, IsTargetWritten, KeepsButTarget, target_released, target_synced}
 use Rattle.purge_task.specs.declared.work.Source.{Source}
 use Rattle.purge_task.specs.declared.work.Work.{Work}
-use Rattle.purge_task.proofs.EventLemmas.{fall}
+use Rattle.task_steps.proofs.EventLaws.{fall}
 use Rattle.purge_task.proofs.ReadingLemmas.{leaves_then}
 use Rattle.purge_task.proofs.RegionLemmas.{keeps_then}
 use Rattle.purge_task.proofs.SwitchReadyLemmas.{heads, listable_of, prepared, spent_is}

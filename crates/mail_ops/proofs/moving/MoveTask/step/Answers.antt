@@ -4,7 +4,7 @@ use Rattle.mail_ops.proofs.OnlyLogsLemmas.{halted_keeps}
 use Rattle.task_claims.proofs.RestLemmas.{due_claims}
 use Rattle.mail_ops.specs.Moving.{move_dues}
 use Rattle.mail_ops.proofs.EndedLemmas.{move_ended}
-use Rattle.mail_ops.proofs.EventLemmas.{fall}
+use Rattle.task_steps.proofs.EventLaws.{fall}
 use Rattle.mail_ops.proofs.LeavingLemmas.{move_leaves_by}
 use Rattle.mail_ops.proofs.moving.MoveTask.step.Goals as goal
 

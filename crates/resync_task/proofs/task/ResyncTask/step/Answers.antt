@@ -1,6 +1,6 @@
 use Rattle.std.proofs.Common.{sym, ◌∙◌, ap}
 use Rattle.resync_task.specs.Task.{ResyncValue, stage_of}
-use Rattle.resync_task.proofs.EventLemmas.{fall}
+use Rattle.task_steps.proofs.EventLaws.{fall}
 use Rattle.resync_task.proofs.StepLemmas.{resync_known, stopped_keeps, stopped_known}
 use Rattle.resync_task.proofs.task.ResyncTask.step.Goals as goal
 
