@@ -1,17 +1,9 @@
 -- A message whose storage file isn't there: fewer octets are read than it has.
-use Rattle.std.proofs.Common.{◌≡◌, ◌≤◌, ◌<◌, ◌+◌, ℕ, List, [], ◌∷◌, ◌++◌, length, map, drop, Option, Some, None, ◌∙◌, ap, arith}
-use Rattle.std.specs.Prelude.{sum_by}
-use Rattle.std.proofs.lemmas.List.{length-append, length-take}
-use Rattle.std.proofs.lemmas.List.Sums.{sum_by-cons}
-use Rattle.disk_model.specs.Disk.{Files}
+use Rattle.mail_fetch.proofs.Common.{◌≡◌, ◌≤◌, ◌<◌, ◌+◌, ℕ, List, [], ◌∷◌, ◌++◌, length, map, drop, Option, Some, None, ◌∙◌, ap, arith, sum_by, length-take, sum_by-cons, Files, InstRow, LogRow, MapRecord, piece_read, instance_part, octets_to_read, part_read, parts_read, parts_to_read, region_part}
+use Rattle.mail_fetch.proofs.Common.{source_file, HoldsWhole, stored_at}
+use Rattle.std.proofs.lemmas.List.{length-append}
 use Rattle.disk_model.specs.declared.name.FileName.TheVariants.{Mail}
-use Rattle.mdbox_base.specs.declared.entries.InstRow.{InstRow}
-use Rattle.model_meaning.specs.BoxMeaning.{LogRow}
-use Rattle.model_meaning.specs.MapMeaning.{MapRecord}
-use Rattle.storage_files.specs.OnDisk.{piece_read}
-use Rattle.mail_fetch.specs.Parts.{instance_part, octets_to_read, part_read, parts_read, parts_to_read, region_part, source_file}
 use Rattle.mail_fetch.specs.declared.parts.Source.TheVariants as source
-use Rattle.mail_fetch.specs.Region.{HoldsWhole, stored_at}
 use Rattle.mail_fetch.proofs.PartLemmas.{reads_of_parts}
 
 piece_few : (offset size : ℕ) (o : Option (List ℕ)) → length (piece_read offset size o) ≤ size

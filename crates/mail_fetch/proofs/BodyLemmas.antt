@@ -1,25 +1,19 @@
 -- The parts of the one message that octets are.
-use Rattle.std.proofs.Common.{◌≡◌, ◌≤◌, ◌+◌, ◌-◌, ℕ, suc, List, [], ◌∷◌, ◌++◌, length, take, drop, refl, sym, ◌∙◌, ap, subst, arith, append_assoc, append-nil, length-append}
+use Rattle.mail_fetch.proofs.Common.{◌≡◌, ◌≤◌, ◌+◌, ◌-◌, ℕ, suc, List, [], ◌∷◌, ◌++◌, length, take, drop, refl, sym, ◌∙◌, ap, subst, arith, append_assoc, append-nil, length-append, option_map_or, take-append_seam, Message, Metadata, InstRow, ExtRef, NameInstances, IsStoredMessage, StoredAt}
 use Rattle.std.specs.Prelude.{flat_map, Option, Some, None, IfNone, Result, Ok, Err}
 use Rattle.std.specs.Result.{result_ok}
-use Rattle.std.specs.Option.{option_map_or}
-use Rattle.std.proofs.Math.Seq.{drop-append_seam, take-append_seam}
+use Rattle.std.proofs.Math.Seq.{drop-append_seam}
 use Rattle.model_storage.specs.declared.places.MessageAt.{MessageAt}
 use Rattle.model_storage.specs.declared.places.PlaceError.{PlaceError}
 use Rattle.model_storage.specs.declared.places.PlaceError.TheVariants as place_error
-use Rattle.model_storage.specs.StorageFile.{Line, AreLines, Message, IsMessageHeader, IsMessage, StandsAt, StandsNone, PlaceGives, line_text, place_at}
+use Rattle.model_storage.specs.StorageFile.{Line, AreLines, IsMessageHeader, IsMessage, StandsAt, StandsNone, PlaceGives, line_text, place_at}
 use Rattle.model_storage.specs.Metadata.{IsMetadata, IsMetadataText}
-use Rattle.model_storage.specs.declared.metadata_value.Metadata.{Metadata}
 use Rattle.model_storage.proofs.FileLemmas.{message_same}
 use Rattle.model_storage.proofs.MetadataLemmas.{lines_same, metadata_text_same}
 use Rattle.model_storage.proofs.ScanLemmas.{message_length}
 use Rattle.dbox_metadata.specs.BriefRead.{IsBriefOf}
 use Rattle.dbox_metadata.specs.declared.brief.Brief.{Brief}
-use Rattle.mdbox_base.specs.declared.entries.InstRow.{InstRow}
-use Rattle.mdbox_base.specs.declared.metadata.ExtRef.{ExtRef}
-use Rattle.model_store.specs.Stands.{NameInstances}
-use Rattle.mail_fetch.specs.Region.{IsStoredMessage, IsToldByLines}
-use Rattle.mail_fetch.specs.declared.parts.StoredAt.{StoredAt}
+use Rattle.mail_fetch.specs.Region.{IsToldByLines}
 
 no_more : (xs ys : List ℕ) (n : ℕ) → length xs ≡ n → length (xs ++ ys) ≡ n → ys ≡ []
 no_more xs [] n a b = refl

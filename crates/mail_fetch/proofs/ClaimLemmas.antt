@@ -1,21 +1,10 @@
 -- An event of a fetch moves no claims and leaves the others what is theirs, and a fetch that was replied claims nothing.
-use Rattle.std.proofs.Common.{◌≡◌, ℕ, Bool, true, false, List, Option, Some, None, inl, inr, refl, sym, ◌∙◌, ap, subst, arith}
-use Rattle.disk_model.specs.Disk.{DiskState, History, IsIdle}
-use Rattle.disk_model.specs.declared.name.FileName.TheVariants as file
+use Rattle.mail_fetch.proofs.Common.{◌≡◌, ℕ, Bool, true, false, List, Option, Some, None, inl, inr, refl, sym, ◌∙◌, ap, subst, arith, DiskState, History, IsIdle, file, Progress, progress, Refusal, Reply, StoreValue, Claims, Due, Emptied, Held, Made, Pinned, PlacingPieces, Removing, Taken, Thing}
+use Rattle.mail_fetch.proofs.Common.{amount_in, IsSameOrSynced, LeavesOthers, unraised_same, fetch_claims, IsBegun, fetch_refusal, FetchStage, stage}
 use Rattle.disk_model.proofs.BetweenLemmas.{between-map}
-use Rattle.mdbox_base.specs.declared.progress.Progress.{Progress}
-use Rattle.mdbox_base.specs.declared.progress.Progress.TheVariants as progress
-use Rattle.mdbox_base.specs.declared.replies.Refusal.{Refusal}
-use Rattle.mdbox_base.specs.declared.replies.Reply.{Reply}
-use Rattle.store_core.specs.Value.{StoreValue}
-use Rattle.task_claims.specs.Claims.{Claims, ClaimsNothing, Due, Emptied, Held, Made, Pinned, PlacingPieces, Removing, Taken, Thing, amount_in}
-use Rattle.task_claims.specs.Leaving.{IsSameOrSynced, LeavesOthers, SyncsMail}
-use Rattle.task_claims.proofs.CountedLemmas.{unraised_same}
+use Rattle.task_claims.specs.Claims.{ClaimsNothing}
+use Rattle.task_claims.specs.Leaving.{SyncsMail}
 use Rattle.task_claims.proofs.RestLemmas.{rest_leaves}
-use Rattle.mail_fetch.specs.Claims.{fetch_claims}
-use Rattle.mail_fetch.specs.Events.{IsBegun, fetch_refusal}
-use Rattle.mail_fetch.specs.declared.task.FetchStage.{FetchStage}
-use Rattle.mail_fetch.specs.declared.task.FetchStage.TheVariants as stage
 
 -- nothing but the device has changed
 pub same_amount : {D : Type 0} → (store : StoreValue D) (disk : D) (thing : Thing) → amount_in thing (record store { disk = disk }) ≡ amount_in thing store

@@ -1,33 +1,21 @@
 -- The events of a fetch, which read the disk at most.
-use Rattle.std.proofs.Common.{◌≡◌, ◌+◌, ℕ, Bool, true, false, List, [], ◌∷◌, ◌++◌, Option, Some, None, refl, sym, ◌∙◌, ap, subst, arith, inl, inr}
-use Rattle.std.specs.Prelude.{◌≢◌, ◌↔◌, ◌⊎◌, if◌then◌else◌}
-use Rattle.std.proofs.lemmas.List.Elements.{All-nil}
-use Rattle.disk_model.specs.Disk.{History, Faults, DiskState, IsIdle, told_calls, Grows}
-use Rattle.disk_model.specs.FaultCounts.{NoFault}
+use Rattle.mail_fetch.proofs.Common.{◌≡◌, ◌+◌, ℕ, Bool, true, false, List, [], ◌∷◌, ◌++◌, Option, Some, None, refl, sym, ◌∙◌, ap, subst, arith, inl, inr, if◌then◌else◌, All-nil, History, Faults, DiskState, IsIdle, told_calls, Grows, NoFault, InstRow, Uid, did, refusal, Reply, reply, request, Lists}
+use Rattle.mail_fetch.proofs.Common.{MapRecord, MapMeaning, IsSettledFor, Leaves, EventPart, First, ReadsPiece, Unpins, RunEvent, Run, and_then, is_one_of, own_events, PartAnswers, IsReplyOf, Around, next_part, behind_event, piece_left, pieces_to_read, KnownInstance, Seen, HasComeTo, pins_of}
+use Rattle.mail_fetch.proofs.Common.{unstepped}
+use Rattle.std.specs.Prelude.{◌≢◌, ◌↔◌, ◌⊎◌}
 use Rattle.disk_model.proofs.IdleLemmas.{idle-images}
-use Rattle.mdbox_base.specs.declared.entries.InstRow.{InstRow}
-use Rattle.mdbox_base.specs.declared.ids.Uid.{Uid}
-use Rattle.mdbox_base.specs.declared.progress.Did.TheVariants as did
-use Rattle.mdbox_base.specs.declared.replies.Refusal.TheVariants as refusal
-use Rattle.mdbox_base.specs.declared.replies.Reply.{Reply}
-use Rattle.mdbox_base.specs.declared.replies.Reply.TheVariants as reply
-use Rattle.mdbox_base.specs.declared.requests.Request.TheVariants as request
 use Rattle.mdbox_base.specs.declared.script.Half.TheVariants as half
-use Rattle.model_lists.specs.Lists.{Lists}
-use Rattle.model_meaning.specs.MapMeaning.{MapRecord, MapMeaning}
 use Rattle.model_kept.proofs.KeptLemmas.{kept_idle}
 use Rattle.model_store.specs.Safe.{Safe}
-use Rattle.model_store.specs.Settled.{IsSettled, IsSettledFor, Leaves}
+use Rattle.model_store.specs.Settled.{IsSettled}
 use Rattle.model_store.proofs.SettledLemmas.{settled_safe}
-use Rattle.list_machine.specs.Run.{EventPart, First, ReadsPiece, Unpins, RunEvent, event_of, Run, and_then, is_one_of, own_events}
-use Rattle.list_machine.specs.Machine.{PartAnswers, first_refusal, part_checks}
-use Rattle.journal.specs.Journal.{IsReplyOf}
-use Rattle.journal.specs.Events.{Around, DidPart, IsRecord, next_part, behind_event, piece_left, plain, IsRepliedBy, is_step_part, begun_in, ended_in, pieces_to_read}
+use Rattle.list_machine.specs.Run.{event_of}
+use Rattle.list_machine.specs.Machine.{first_refusal, part_checks}
+use Rattle.journal.specs.Events.{DidPart, IsRecord, plain, IsRepliedBy, is_step_part, begun_in, ended_in}
 use Rattle.journal.specs.Makes.{HasCome}
-use Rattle.sis_store.specs.declared.instance.KnownInstance.{KnownInstance}
-use Rattle.task_steps.specs.Step.{Seen, ShowsSeen, HasComeTo, Leads, HasNotBegun, pins_of}
+use Rattle.task_steps.specs.Step.{ShowsSeen, Leads, HasNotBegun}
 use Rattle.task_steps.proofs.SeenLemmas.{no_guids, due_more, doomed_still, used_still, given_still, gone_still, file_still_known, placed_still, there_before}
-use Rattle.task_steps.proofs.EventLaws.{did_part, DidBy, ends_well, Lasts, no_reply, own_event, unstepped}
+use Rattle.task_steps.proofs.EventLaws.{did_part, DidBy, ends_well, Lasts, no_reply, own_event}
 use Rattle.task_steps.proofs.KeptStoreLemmas.{comes_along}
 use Rattle.task_steps.proofs.OneEventLemmas.{first_turn, IsPlain, next_first}
 

@@ -1,26 +1,14 @@
 -- Which part of a fetch comes next, by its own events.
-use Rattle.std.proofs.Common.{◌≡◌, ◌≤◌, ◌<◌, ◌==◌, ◌&&◌, ◌||◌, ℕ, Bool, true, false, not, cond, List, [], ◌∷◌, ◌++◌, ◌⊎◌, length, Option, Some, None, refl, sym, ◌∙◌, ap, subst, arith, inl, inr, All}
-use Rattle.std.specs.Prelude.{sum_by, count_by, filter, is_none, nat_lt, if◌then◌else◌}
-use Rattle.std.specs.List.{list_any}
-use Rattle.std.specs.Option.{option_or}
-use Rattle.std.proofs.lemmas.Bool.{eqb-true}
-use Rattle.std.proofs.lemmas.Grind.{common_steps}
-use Rattle.std.proofs.lemmas.List.Elements.{All-cons, All-nil, All-head, All-tail, All-append, All-weaker}
-use Rattle.std.proofs.lemmas.List.Sums.{sum_by-cons}
-use Rattle.mdbox_base.specs.declared.ids.Uid.{Uid}
-use Rattle.mdbox_base.specs.declared.replies.Refusal.{Refusal}
-use Rattle.mdbox_base.specs.declared.replies.Refusal.TheVariants as refusal
-use Rattle.mdbox_base.specs.declared.replies.Reply.{Reply}
+use Rattle.mail_fetch.proofs.Common.{◌≡◌, ◌≤◌, ◌<◌, ◌==◌, ◌&&◌, ◌||◌, ℕ, Bool, true, false, not, cond, List, [], ◌∷◌, ◌++◌, ◌⊎◌, length, Option, Some, None, refl, sym, ◌∙◌, ap, subst, arith, inl, inr, All, sum_by, filter, nat_lt, if◌then◌else◌, list_any, option_or, eqb-true, common_steps, All-cons}
+use Rattle.mail_fetch.proofs.Common.{All-nil, All-head, All-tail, All-weaker, sum_by-cons, Uid, Refusal, refusal, Reply, request, EventPart, First, ReadsPiece, Unpins, RunEvent, Run, Pin, own_events, is_unpinning, has_unpinned, refusal_in, Around, next_part, behind_event, piece_left, last_refusal}
+use Rattle.mail_fetch.proofs.Common.{parts_to_read, pieces_left, one_pin, HasPinned, HasReadAllBut, UnpinsNext, StoredAt}
+use Rattle.std.specs.Prelude.{count_by, is_none}
+use Rattle.std.proofs.lemmas.List.Elements.{All-append}
 use Rattle.mdbox_base.specs.declared.requests.Request.{Request}
-use Rattle.mdbox_base.specs.declared.requests.Request.TheVariants as request
-use Rattle.list_machine.specs.Run.{EventPart, First, ReadsPiece, Unpins, RunEvent, Run, Pin, own_events, is_unpinning, is_unpinning_part, has_unpinned}
-use Rattle.journal.specs.Journal.{refusal_in}
-use Rattle.journal.specs.Events.{Around, next_part, behind_event, behind_fetch, behind_refused, is_piece, piece_left, last_refusal}
+use Rattle.list_machine.specs.Run.{is_unpinning_part}
+use Rattle.journal.specs.Events.{behind_fetch, behind_refused, is_piece}
 use Rattle.mail_fetch.proofs.OwnPinLemmas.{pins_at_all, own_pins}
-use Rattle.mail_fetch.specs.Parts.{parts_to_read, pieces_left}
-use Rattle.mail_fetch.specs.Task.{one_pin}
-use Rattle.mail_fetch.specs.Stages.{ReadPiece, HasPinned, HasReadAllBut, IsPieceRefusal, UnpinsNext}
-use Rattle.mail_fetch.specs.declared.parts.StoredAt.{StoredAt}
+use Rattle.mail_fetch.specs.Stages.{ReadPiece, IsPieceRefusal}
 
 -- ---- the last of some events
 

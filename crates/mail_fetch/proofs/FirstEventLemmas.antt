@@ -1,28 +1,15 @@
 -- The message that the first event pins.
-use Rattle.std.proofs.Common.{inr, ◌⊎◌, ◌≡◌, ◌≤◌, ◌==◌, ◌||◌, ℕ, Bool, true, false, cond, List, [], ◌∷◌, All, refl, Option, Some, None, sym, ◌∙◌, ap, subst, arith}
-use Rattle.std.specs.Prelude.{find, if◌then◌else◌, is_some, Result, Ok, Err, IfOk, IsErrAnd, MatchResult}
-use Rattle.std.specs.List.{list_any}
-use Rattle.std.specs.Option.{option_map, option_map_or}
-use Rattle.std.proofs.lemmas.Bool.{eq-eqb}
-use Rattle.std.proofs.lemmas.List.Elements.{All-contains}
-use Rattle.disk_model.specs.Disk.{History}
-use Rattle.mdbox_base.specs.declared.ids.FileNo.{FileNo}
-use Rattle.mdbox_base.specs.declared.replies.Refusal.TheVariants as refusal
-use Rattle.model_meaning.specs.BoxMeaning.{LogRow, BoxMeaning, row_at}
-use Rattle.model_meaning.specs.MapMeaning.{MapRecord, MapMeaning, map_meaning, record_at}
+use Rattle.mail_fetch.proofs.Common.{inr, ◌⊎◌, ◌≡◌, ◌≤◌, ◌==◌, ◌||◌, ℕ, Bool, true, false, cond, List, [], ◌∷◌, All, refl, Option, Some, None, sym, ◌∙◌, ap, subst, arith, if◌then◌else◌, is_some, list_any, option_map, option_map_or, eq-eqb, All-contains, History, FileNo, refusal, LogRow, BoxMeaning}
+use Rattle.mail_fetch.proofs.Common.{row_at, MapRecord, MapMeaning, record_at, found_one, end_in, IsStore, IsKnownRow, StoreValue, fetch_refusal, IsPinned, RegionValue, stored_at, HasPieceLeft, stage, StoredAt}
+use Rattle.std.specs.Prelude.{find, Result, Ok, Err, IfOk, IsErrAnd, MatchResult}
+use Rattle.model_meaning.specs.MapMeaning.{map_meaning}
 use Rattle.model_meaning.specs.Sound.{IsSoundRecord}
-use Rattle.model_octets.proofs.SearchLemmas.{found_one}
 use Rattle.model_store.specs.Listing.{meaning_named}
 use Rattle.model_store.specs.Opening.{HasItsRecord}
-use Rattle.storage_files.specs.Files.{end_in}
-use Rattle.store_core.specs.Running.{IsStore}
-use Rattle.store_core.specs.StoreInstances.{HasKnownInstances, IsKnownRow}
-use Rattle.store_core.specs.Value.{StoreValue, list_named}
-use Rattle.mail_fetch.specs.Events.{fetch_refusal, IsAbsent, IsPinned}
-use Rattle.mail_fetch.specs.Region.{RegionValue, stored_at, unread}
-use Rattle.mail_fetch.specs.Task.{HasPieceLeft}
-use Rattle.mail_fetch.specs.declared.task.FetchStage.TheVariants as stage
-use Rattle.mail_fetch.specs.declared.parts.StoredAt.{StoredAt}
+use Rattle.store_core.specs.StoreInstances.{HasKnownInstances}
+use Rattle.store_core.specs.Value.{list_named}
+use Rattle.mail_fetch.specs.Events.{IsAbsent}
+use Rattle.mail_fetch.specs.Region.{unread}
 use Rattle.mail_fetch.proofs.InstanceLemmas.{named_each}
 use Rattle.mail_fetch.proofs.PartLemmas.{octets_of_parts, pieces_of_parts, some_piece}
 use Rattle.mail_fetch.proofs.RecordLemmas.{row_has_record}

@@ -1,23 +1,14 @@
 -- Instances that are held, one after another.
-use Rattle.std.specs.Prelude.{IsSome, ◌&&◌, filter, map}
-use Rattle.std.specs.Option.{option_map}
-use Rattle.std.specs.Str.{bytes_eq}
-use Rattle.std.proofs.Common.{◌≡◌, ◌<◌, ◌≤◌, ◌+◌, ◌-◌, ℕ, Bool, true, false, cond, List, [], ◌∷◌, length, drop, get_or, Option, Some, None, All, refl, sym, ◌∙◌, ap, subst, arith}
+use Rattle.mail_fetch.proofs.Common.{filter, option_map, bytes_eq, ◌≡◌, ◌<◌, ◌≤◌, ◌+◌, ◌-◌, ℕ, Bool, true, false, cond, List, [], ◌∷◌, length, drop, get_or, Option, Some, None, All, refl, sym, ◌∙◌, ap, subst, arith, sum_by-cons, InstRow, InstId, found_let_go, holders_in, KnownInstance, MovesHolds}
+use Rattle.mail_fetch.proofs.Common.{holds_of, IsKnownRow, StoreValue, held_for}
+use Rattle.std.specs.Prelude.{IsSome, ◌&&◌, map}
 use Rattle.std.proofs.Math.ListN.{drop_of_length-le}
 use Rattle.std.proofs.lemmas.List.{drop_more, length-map}
-use Rattle.std.proofs.lemmas.List.Sums.{count_by-le-length, sum_by-cons}
-use Rattle.mdbox_base.specs.declared.entries.InstRow.{InstRow}
-use Rattle.mdbox_base.specs.declared.ids.InstId.{InstId}
+use Rattle.std.proofs.lemmas.List.Sums.{count_by-le-length}
 use Rattle.model_octets.proofs.SearchLemmas.{text_yes}
-use Rattle.save_instances.specs.Attaching.{found_let_go}
-use Rattle.sis_store.specs.Instances.{InstancesValue, IsInstanceKnown, has_id, holders_in, instance_in, is_id_past, is_of_kind, with_holders}
-use Rattle.sis_store.specs.declared.instance.KnownInstance.{KnownInstance}
-use Rattle.store_core.specs.Keeping.{MovesHolds, holds_of}
-use Rattle.store_core.specs.StoreInstances.{IsKnownRow}
-use Rattle.store_core.specs.Value.{StoreValue}
+use Rattle.sis_store.specs.Instances.{InstancesValue, IsInstanceKnown, has_id, instance_in, is_id_past, is_of_kind, with_holders}
 use Rattle.store_core.proofs.KnownInstanceLemmas.{row_held}
 use Rattle.task_claims.specs.Leaving.{PlacesFew}
-use Rattle.mail_fetch.specs.Claims.{held_for}
 
 -- the instance of a known row
 known_of_row : (known : List KnownInstance) (row : InstRow) → IsKnownRow known row → IsInstanceKnown row.id known

@@ -1,16 +1,8 @@
 -- The instances that a record names.
-use Rattle.std.proofs.Common.{◌≡◌, ℕ, Bool, true, false, cond, List, [], ◌∷◌, ◌++◌, map, Some, None, find, subst, All}
-use Rattle.std.specs.Prelude.{filter, flat_map, ◌==◌}
-use Rattle.std.proofs.lemmas.List.Elements.{All-cons, All-nil, All-head, All-tail}
-use Rattle.mdbox_base.specs.declared.entries.InstRow.{InstRow}
-use Rattle.model_meaning.specs.BoxMeaning.{LogRow}
-use Rattle.model_meaning.specs.MapMeaning.{MapRecord, MapMeaning, named_instances, record_at}
-use Rattle.journal.specs.Events.{pieces_to_read}
-use Rattle.sis_store.specs.declared.instance.KnownInstance.{KnownInstance}
-use Rattle.store_core.specs.StoreInstances.{IsKnownRow}
-use Rattle.mail_fetch.specs.Parts.{KnowsSource, has_octets, instance_part, parts_to_read, pieces_left, region_part}
-use Rattle.mail_fetch.specs.Region.{stored_at}
-use Rattle.mail_fetch.specs.declared.parts.Part.{Part}
+use Rattle.mail_fetch.proofs.Common.{◌≡◌, ℕ, Bool, true, false, cond, List, [], ◌∷◌, ◌++◌, map, Some, None, subst, All, filter, All-cons, All-nil, All-head, All-tail, InstRow, LogRow, MapRecord, MapMeaning, named_instances, record_at, pieces_to_read, KnownInstance, IsKnownRow, KnowsSource}
+use Rattle.mail_fetch.proofs.Common.{has_octets, instance_part, parts_to_read, pieces_left, region_part, stored_at, Part}
+use Rattle.std.proofs.Common.{find}
+use Rattle.std.specs.Prelude.{flat_map, ◌==◌}
 use Rattle.mail_fetch.proofs.PartLemmas.{pieces_of_parts}
 
 all_left : {X : Type 0} → (P : X → Type 0) (xs ys : List X) → All P (xs ++ ys) → All P xs

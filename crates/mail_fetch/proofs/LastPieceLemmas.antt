@@ -1,12 +1,8 @@
 -- The stage behind the last piece of a message.
-use Rattle.std.proofs.Common.{◌≡◌, ◌<◌, ◌+◌, ℕ, zero, suc, List, refl, ◌∙◌, sym, ap, subst, arith, All}
-use Rattle.mdbox_base.specs.declared.replies.Reply.{Reply}
-use Rattle.mail_fetch.specs.Events.{GoesOnWith, with_piece}
-use Rattle.mail_fetch.specs.Parts.{HasSomeOctets, pieces_left}
-use Rattle.mail_fetch.specs.Region.{RegionValue, IsReplyFor}
-use Rattle.mail_fetch.specs.Task.{HasPieceLeft}
-use Rattle.mail_fetch.specs.declared.parts.StoredAt.{StoredAt}
-use Rattle.mail_fetch.specs.declared.task.FetchStage.TheVariants as stage
+use Rattle.mail_fetch.proofs.Common.{◌≡◌, ◌<◌, ◌+◌, ℕ, suc, List, refl, ◌∙◌, sym, ap, subst, arith, All, Reply, with_piece, pieces_left, RegionValue, IsReplyFor, HasPieceLeft, StoredAt, stage}
+use Rattle.std.proofs.Common.{zero}
+use Rattle.mail_fetch.specs.Events.{GoesOnWith}
+use Rattle.mail_fetch.specs.Parts.{HasSomeOctets}
 use Rattle.mail_fetch.proofs.PartLemmas.{octets_after, pieces_after}
 
 pub last_piece : (region read : RegionValue) (from : StoredAt) (given : Reply) → read ≡ region → from ≡ read.from → pieces_left read.left ≡ 0 → IsReplyFor read.from read.octets given → GoesOnWith region (stage.Unpinning from given)

@@ -1,6 +1,7 @@
 pub mod AbsentLemmas
 pub mod BodyLemmas
 pub mod ClaimLemmas
+pub mod Common
 pub mod FetchEventLemmas
 pub mod FetchPartLemmas
 pub mod FirstEventLemmas

@@ -1,28 +1,19 @@
 -- The whole of a message that was read.
-use Rattle.std.proofs.Common.{◌≡◌, ◌≤◌, ◌+◌, ◌-◌, ℕ, List, [], ◌∷◌, length, take, drop, Some, None, refl, sym, ◌∙◌, ap, subst, arith, All}
+use Rattle.mail_fetch.proofs.Common.{◌≡◌, ◌≤◌, ◌+◌, ◌-◌, ℕ, List, [], ◌∷◌, length, take, drop, Some, None, refl, sym, ◌∙◌, ap, subst, arith, All, length-take, All-cons, All-nil, InstRow, FileNo, ExtRef, refusal, reply, Message, Metadata, NameInstances, octets_to_read, HoldsWhole, IsStoredMessage}
+use Rattle.mail_fetch.proofs.Common.{StoredAt}
 use Rattle.std.specs.Prelude.{Option, IfNone, IfSome}
 use Rattle.std.specs.List.{AllByRecursion}
-use Rattle.std.proofs.lemmas.List.{drop-take, length-take, take-take}
-use Rattle.std.proofs.lemmas.List.Elements.{All-cons, All-nil}
+use Rattle.std.proofs.lemmas.List.{drop-take, take-take}
 use Rattle.attach_join.specs.Behind.{octets_in}
-use Rattle.mdbox_base.specs.declared.entries.InstRow.{InstRow}
-use Rattle.mdbox_base.specs.declared.ids.FileNo.{FileNo}
-use Rattle.mdbox_base.specs.declared.metadata.ExtRef.{ExtRef}
 use Rattle.mdbox_base.specs.declared.metadata.LineForm.{LineForm}
-use Rattle.mdbox_base.specs.declared.replies.Refusal.TheVariants as refusal
-use Rattle.mdbox_base.specs.declared.replies.Reply.TheVariants as reply
 use Rattle.model_attach.specs.Rejoined.{IsWhole}
 use Rattle.model_base64.specs.Base64Text.{IsForm}
 use Rattle.model_storage.specs.References.{FormFits, ReferenceFits}
 use Rattle.model_storage.specs.Metadata.{HasReferences, IsMetadata}
-use Rattle.model_storage.specs.StorageFile.{Line, Message}
-use Rattle.model_storage.specs.declared.metadata_value.Metadata.{Metadata}
+use Rattle.model_storage.specs.StorageFile.{Line}
 use Rattle.model_storage.proofs.FileLemmas.{message_same}
 use Rattle.model_storage.proofs.MetadataLemmas.{metadata_same}
-use Rattle.model_store.specs.Stands.{NameInstances}
-use Rattle.mail_fetch.specs.Parts.{octets_to_read}
-use Rattle.mail_fetch.specs.Region.{HoldsWhole, IsStoredMessage, damage_at}
-use Rattle.mail_fetch.specs.declared.parts.StoredAt.{StoredAt}
+use Rattle.mail_fetch.specs.Region.{damage_at}
 use Rattle.mail_fetch.proofs.BodyLemmas.{FoundStored}
 
 -- a region is one message, and says one thing

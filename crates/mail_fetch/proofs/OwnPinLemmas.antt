@@ -1,16 +1,9 @@
 -- Pins of a run, as a fetch pins a file and unpins it.
-use Rattle.std.proofs.Common.{◌≡◌, ◌+◌, ◌==◌, ◌||◌, ℕ, Bool, true, false, cond, List, [], ◌∷◌, ◌++◌, refl, sym, ◌∙◌, ap, arith, All}
-use Rattle.std.specs.Prelude.{sum_by, count_by, filter, if◌then◌else◌}
-use Rattle.std.specs.List.{list_any}
-use Rattle.std.proofs.lemmas.Bool.{eq-eqb, eqb-true}
-use Rattle.std.proofs.lemmas.List.Elements.{All-head, All-tail}
+use Rattle.mail_fetch.proofs.Common.{◌≡◌, ◌+◌, ◌==◌, ◌||◌, ℕ, Bool, true, false, cond, List, [], ◌∷◌, ◌++◌, refl, sym, ◌∙◌, ap, arith, All, sum_by, filter, if◌then◌else◌, list_any, eq-eqb, eqb-true, All-head, All-tail, sum_by-cons, InstRow, RunEvent, Run, Pin, and_then, own_events, is_unpinning}
+use Rattle.mail_fetch.proofs.Common.{has_unpinned, own_more, own_other, pins_of, one_pin}
+use Rattle.std.specs.Prelude.{count_by}
 use Rattle.std.proofs.lemmas.List.Folds.{list_any-append}
-use Rattle.std.proofs.lemmas.List.Sums.{sum_by-append, sum_by-cons}
-use Rattle.mdbox_base.specs.declared.entries.InstRow.{InstRow}
-use Rattle.list_machine.specs.Run.{RunEvent, Run, Pin, and_then, own_events, is_unpinning, has_unpinned}
-use Rattle.journal.proofs.OwnEventLemmas.{own_more, own_other}
-use Rattle.task_steps.specs.Step.{pins_of}
-use Rattle.mail_fetch.specs.Task.{one_pin}
+use Rattle.std.proofs.lemmas.List.Sums.{sum_by-append}
 
 sum_more : {X : Type 0} → (f : X → ℕ) (xs : List X) (x : X) → sum_by f (xs ++ x ∷ []) ≡ sum_by f xs + f x
 sum_more f xs x = let h = sum_by-append f xs (x ∷ []) in let k = sum_by-cons f x [] in omega (arith, h, k)

@@ -1,23 +1,14 @@
 -- Parts that are read piece by piece.
-use Rattle.std.proofs.Common.{◌≡◌, ◌≤◌, ◌<◌, ◌+◌, ◌*◌, ◌^◌, ◌-◌, ℕ, suc, Bool, true, false, cond, List, [], ◌∷◌, ◌++◌, length, take, drop, map, refl, sym, ◌∙◌, ap, subst, arith, All, add-one, append_assoc, append-nil, drop-cons}
-use Rattle.std.specs.Prelude.{Option, Some, None, ◌⊎◌, filter, min, nat_lt, slice_index_or, sum_by, if◌then◌else◌}
-use Rattle.std.proofs.Common.{inl, inr}
+use Rattle.mail_fetch.proofs.Common.{◌≡◌, ◌≤◌, ◌<◌, ◌+◌, ◌-◌, ℕ, suc, Bool, true, false, cond, List, [], ◌∷◌, ◌++◌, length, take, drop, map, refl, sym, ◌∙◌, ap, subst, arith, All, append_assoc, append-nil, filter, nat_lt, sum_by, if◌then◌else◌, inl, inr, cases_lt, common_steps, take_all}
+use Rattle.mail_fetch.proofs.Common.{length-drop, All-cons, All-nil, All-head, All-tail, sum_by-cons, Files, InstRow, KnownInstance, piece_read, KnowsSource, has_octets, instance_part, left_after, octets_to_read, part_read, parts_to_read, parts_read, pieces_left, region_part, source_file, IsPart}
+use Rattle.mail_fetch.proofs.Common.{Part, StoredAt}
+use Rattle.std.proofs.Common.{◌*◌, ◌^◌, add-one, drop-cons}
+use Rattle.std.specs.Prelude.{Option, Some, None, ◌⊎◌, min, slice_index_or}
 use Rattle.std.proofs.Math.Seq.{take-add}
-use Rattle.std.proofs.lemmas.Bool.{cases_lt}
-use Rattle.std.proofs.lemmas.Grind.{common_steps}
-use Rattle.std.proofs.lemmas.List.{drop-drop, take_all, length-drop, length-map}
-use Rattle.std.proofs.lemmas.List.Elements.{All-cons, All-nil, All-head, All-tail}
-use Rattle.std.proofs.lemmas.List.Sums.{sum_by-cons}
+use Rattle.std.proofs.lemmas.List.{drop-drop, length-map}
 use Rattle.std.proofs.lemmas.Nat.{div-add-mod'}
-use Rattle.disk_model.specs.Disk.{Files}
-use Rattle.mdbox_base.specs.declared.entries.InstRow.{InstRow}
-use Rattle.sis_store.specs.declared.instance.KnownInstance.{KnownInstance}
-use Rattle.storage_files.specs.OnDisk.{piece_read}
-use Rattle.mail_fetch.specs.Parts.{HasSomeOctets, KnowsSource, first_read, has_octets, instance_part, left_after, octets_to_read, part_read, parts_to_read, parts_read, pieces_in, pieces_left, region_part, source_file}
-use Rattle.mail_fetch.specs.Room.{IsPart}
+use Rattle.mail_fetch.specs.Parts.{HasSomeOctets, first_read, pieces_in}
 use Rattle.mail_fetch.specs.Task.{most_pieces}
-use Rattle.mail_fetch.specs.declared.parts.Part.{Part}
-use Rattle.mail_fetch.specs.declared.parts.StoredAt.{StoredAt}
 
 less : (a b : ℕ) → a < b → nat_lt a b ≡ true
 less a b l = grind (arith, common_steps, l)

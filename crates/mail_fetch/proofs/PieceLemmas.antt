@@ -1,18 +1,13 @@
 -- A piece that is read behind those before it.
-use Rattle.std.proofs.Common.{◌≡◌, ◌≤◌, ◌+◌, ◌-◌, ℕ, List, ◌∷◌, ◌++◌, length, take, drop, Option, sym, ◌∙◌, ap, subst, arith, length-append}
-use Rattle.std.specs.Prelude.{All, min, sum_by, vec_capacity}
+use Rattle.mail_fetch.proofs.Common.{◌≡◌, ◌≤◌, ◌+◌, ◌-◌, ℕ, List, ◌∷◌, ◌++◌, length, take, drop, Option, sym, ◌∙◌, ap, subst, arith, length-append, sum_by, take-append_seam, length-drop, take_all, DiskState, History, IfTold, files_of, next_piece, with_piece, left_after, part_read, RegionValue}
+use Rattle.mail_fetch.proofs.Common.{IsPart, Part, StoredAt}
+use Rattle.std.specs.Prelude.{All, min, vec_capacity}
 use Rattle.std.proofs.Math.Nat.{min_comm}
-use Rattle.std.proofs.Math.Seq.{take-append_seam, take-append-add}
-use Rattle.std.proofs.lemmas.List.{length-drop, length-take-le, take-take, take_all, take-append-le}
+use Rattle.std.proofs.Math.Seq.{take-append-add}
+use Rattle.std.proofs.lemmas.List.{length-take-le, take-take, take-append-le}
 use Rattle.std.specs.Global.{Vec}
-use Rattle.disk_model.specs.Disk.{DiskState, History, IfTold}
-use Rattle.model_store.specs.Settled.{files_of}
-use Rattle.mail_fetch.specs.Events.{next_piece, with_piece}
-use Rattle.mail_fetch.specs.Parts.{first_read, left_after, part_read}
-use Rattle.mail_fetch.specs.Region.{RegionValue}
-use Rattle.mail_fetch.specs.Room.{HasReadRoom, IsPart}
-use Rattle.mail_fetch.specs.declared.parts.Part.{Part}
-use Rattle.mail_fetch.specs.declared.parts.StoredAt.{StoredAt}
+use Rattle.mail_fetch.specs.Parts.{first_read}
+use Rattle.mail_fetch.specs.Room.{HasReadRoom}
 use Rattle.mail_fetch.proofs.PartLemmas.{first_size, range_after, sizes_after}
 
 -- octets that were filled up with zeros

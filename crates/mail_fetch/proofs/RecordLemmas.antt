@@ -1,29 +1,21 @@
 -- The message that a store lists and the record that stores it, in the lists that it shows.
-use Rattle.std.proofs.Common.{◌≡◌, ◌==◌, ℕ, Bool, true, false, cond, List, [], ◌∷◌, map, find, Option, Some, None, refl, sym, ◌∙◌, ap, subst, All}
+use Rattle.mail_fetch.proofs.Common.{◌≡◌, ◌==◌, ℕ, Bool, true, false, cond, List, [], ◌∷◌, map, Option, Some, None, refl, sym, ◌∙◌, ap, subst, All, option_map, bytes_eq, cond-true, All-contains, Files, Uid, refusal, reply, request, Lists, LogRow, BoxMeaning, row_at, MapRecord, MapMeaning}
+use Rattle.mail_fetch.proofs.Common.{named_instances, record_at, found_one, IsThereWhole, First, RunEvent, Run, PartAnswers}
+use Rattle.std.proofs.Common.{find}
 use Rattle.std.specs.Prelude.{option_and_then}
 use Rattle.std.specs.List.{AllByRecursion}
-use Rattle.std.specs.Option.{option_map}
-use Rattle.std.specs.Str.{bytes_eq}
-use Rattle.std.proofs.lemmas.Bool.{cond-true, cond-false}
-use Rattle.std.proofs.lemmas.List.Elements.{All-contains}
-use Rattle.disk_model.specs.Disk.{Files}
+use Rattle.std.proofs.lemmas.Bool.{cond-false}
 use Rattle.mdbox_base.specs.declared.entries.BoxEntry.{BoxEntry}
-use Rattle.mdbox_base.specs.declared.ids.Uid.{Uid}
 use Rattle.mdbox_base.specs.declared.replies.ListRow.{ListRow}
-use Rattle.mdbox_base.specs.declared.replies.Refusal.TheVariants as refusal
-use Rattle.mdbox_base.specs.declared.replies.Reply.TheVariants as reply
-use Rattle.mdbox_base.specs.declared.requests.Request.TheVariants as request
-use Rattle.model_lists.specs.Lists.{ListedMessage, Mailbox, Lists, listing_row}
-use Rattle.model_meaning.specs.BoxMeaning.{LogRow, BoxMeaning, box_meaning, rows_after, row_at}
-use Rattle.model_meaning.specs.MapMeaning.{MapRecord, MapBox, MapMeaning, named_instances, record_at, record_of}
+use Rattle.model_lists.specs.Lists.{ListedMessage, Mailbox, listing_row}
+use Rattle.model_meaning.specs.BoxMeaning.{box_meaning, rows_after}
+use Rattle.model_meaning.specs.MapMeaning.{MapBox, record_of}
 use Rattle.model_meaning.specs.Sound.{IsSoundMap}
-use Rattle.model_octets.proofs.SearchLemmas.{found_is, found_one, text_is, text_yes}
+use Rattle.model_octets.proofs.SearchLemmas.{found_is, text_is, text_yes}
 use Rattle.model_store.specs.Listing.{listed_row, ShowLists, meaning_named}
 use Rattle.model_store.specs.Opening.{HasItsRecord}
-use Rattle.model_store.specs.Safe.{IsThereWhole}
 use Rattle.model_store.specs.Stands.{IsListed, AreListed, IsMailbox, AreMailboxes}
-use Rattle.list_machine.specs.Run.{First, RunEvent, Run}
-use Rattle.list_machine.specs.Machine.{PartAnswers, mailbox_named, message_in, message_at}
+use Rattle.list_machine.specs.Machine.{mailbox_named, message_in, message_at}
 use Rattle.mail_fetch.specs.Stages.{StoresListed}
 use Rattle.mail_fetch.proofs.InstanceLemmas.{named_each}
 

@@ -1,50 +1,23 @@
 -- A fetch stays ready beside every event of every other task.
-use Rattle.std.proofs.Common.{◌≡◌, ◌≢◌, ◌≤◌, ◌+◌, ◌==◌, ◌&&◌, ℕ, Bool, true, false, not, cond, List, [], ◌∷◌, ◌++◌, length, map, get_or, Option, Some, None, refl, sym, ◌∙◌, ap, subst, arith, All}
-use Rattle.std.specs.Prelude.{filter, nat_lt, if◌then◌else◌}
-use Rattle.std.specs.Str.{bytes_eq}
-use Rattle.std.proofs.lemmas.Bool.{cond-true, eq-eqb, eqb-true, ne_eqb}
+use Rattle.mail_fetch.proofs.Common.{◌≡◌, ◌≢◌, ◌≤◌, ◌+◌, ◌==◌, ◌&&◌, ℕ, Bool, true, false, not, cond, List, [], ◌∷◌, ◌++◌, length, map, get_or, Option, Some, None, refl, sym, ◌∙◌, ap, subst, arith, All, filter, nat_lt, if◌then◌else◌, bytes_eq, cond-true, eq-eqb, eqb-true, ne_eqb, All-cons, All-nil}
+use Rattle.mail_fetch.proofs.Common.{All-head, All-tail, sum_by-cons, Faults, Files, History, InstRow, FileNo, InstId, Reply, MapRecord, files_of, Run, RunEvent, and_then, is_pinned, own_events, leaves_doomed, own_other, is_doomed_in, pins_in, piece_read, holds_of, AreElsewhere, IsKnownRow}
+use Rattle.mail_fetch.proofs.Common.{StoreValue, Held, Pinned, Removing, one_if, HasComeTo, HasClaimed, IsReadyToFetch, claims_of_pinned, fetch_claims, KnowsSource, instance_part, part_read, parts_read, parts_to_read, pieces_left, region_part, source_file, RegionValue, CanRemove, HasReadAllBut}
+use Rattle.mail_fetch.proofs.Common.{IsFrontOfStored, RemovesNext, UnpinsNext, one_pin, seen_in, Part, StoredAt, FetchStage, stage}
 use Rattle.std.proofs.lemmas.List.{length-append}
-use Rattle.std.proofs.lemmas.List.Elements.{All-cons, All-nil, All-head, All-tail}
-use Rattle.std.proofs.lemmas.List.Sums.{sum_by-cons}
 use Rattle.std.proofs.lemmas.Slice.Eq.{bytes_eq-Decides}
-use Rattle.disk_model.specs.Disk.{Faults, Files, History}
 use Rattle.disk_model.specs.declared.name.FileName.TheVariants.{Mail}
-use Rattle.mdbox_base.specs.declared.entries.InstRow.{InstRow}
-use Rattle.mdbox_base.specs.declared.ids.FileNo.{FileNo}
-use Rattle.mdbox_base.specs.declared.ids.InstId.{InstId}
-use Rattle.mdbox_base.specs.declared.replies.Reply.{Reply}
-use Rattle.model_meaning.specs.MapMeaning.{MapRecord}
-use Rattle.model_store.specs.Settled.{files_of}
-use Rattle.list_machine.specs.Run.{Run, RunEvent, and_then, is_pinned, own_events}
-use Rattle.journal.specs.Events.{leaves_doomed}
-use Rattle.journal.proofs.OwnEventLemmas.{own_other}
 use Rattle.sis_store.specs.OnDisk.{instance_file}
-use Rattle.storage_files.specs.Files.{is_doomed_in, pins_in}
-use Rattle.storage_files.specs.OnDisk.{piece_read}
-use Rattle.store_core.specs.Keeping.{holds_of}
-use Rattle.store_core.specs.Removing.{AreElsewhere}
-use Rattle.store_core.specs.StoreInstances.{IsKnownRow}
-use Rattle.store_core.specs.Value.{StoreValue}
 use Rattle.store_core.proofs.MailChangeLemmas.{part_behind}
-use Rattle.task_claims.specs.Claims.{Held, Pinned, Removing, one_if}
 use Rattle.task_claims.specs.Leaving.{HasRegionOctets, LeavesInstance, but_count}
 use Rattle.task_claims.specs.Stable.{Beside, IsStable}
 use Rattle.task_claims.proofs.LeftLemmas.{claim_left, instance_left, pinned_left, removing_left}
 use Rattle.task_claims.proofs.StoredLemmas.{KeepsRow, stores_on}
-use Rattle.task_steps.specs.Step.{HasComeTo}
 use Rattle.task_steps.proofs.SeenLemmas.{pinned_as}
-use Rattle.mail_fetch.specs.Claims.{HasClaimed, IsClaimedPart, IsClaimedTo, IsReadyToFetch, IsReadyToRead, ReadsStored, claims_of_pinned, fetch_claims}
-use Rattle.mail_fetch.specs.Parts.{KnowsSource, instance_part, part_read, parts_read, parts_to_read, pieces_left, region_part, source_file}
-use Rattle.mail_fetch.specs.Region.{RegionValue}
-use Rattle.mail_fetch.specs.Removal.{CanRemove, claims_of_removal}
-use Rattle.mail_fetch.specs.Stages.{HasReadAllBut, IsAtFetch, IsFrontOfStored, Reading, RemovesNext, SparesFile, UnpinsNext}
-use Rattle.mail_fetch.specs.Task.{one_pin, seen_in}
-use Rattle.mail_fetch.specs.declared.parts.Part.{Part}
+use Rattle.mail_fetch.specs.Claims.{IsClaimedPart, IsClaimedTo, IsReadyToRead, ReadsStored}
+use Rattle.mail_fetch.specs.Removal.{claims_of_removal}
+use Rattle.mail_fetch.specs.Stages.{IsAtFetch, Reading, SparesFile}
 use Rattle.mail_fetch.specs.declared.parts.Source.{Source}
 use Rattle.mail_fetch.specs.declared.parts.Source.TheVariants as source
-use Rattle.mail_fetch.specs.declared.parts.StoredAt.{StoredAt}
-use Rattle.mail_fetch.specs.declared.task.FetchStage.{FetchStage}
-use Rattle.mail_fetch.specs.declared.task.FetchStage.TheVariants as stage
 use Rattle.mail_fetch.proofs.HoldLemmas.{holds_few}
 use Rattle.mail_fetch.proofs.LastPinLemmas.{PinsFile, leaves_is, leaves_still, removes_pins}
 use Rattle.mail_fetch.proofs.PartLemmas.{reads_of_parts}

@@ -1,42 +1,20 @@
 -- What a fetch's step says, from one stage to another.
-use Rattle.std.proofs.Common.{◌≡◌, ◌+◌, ◌-◌, ℕ, Bool, true, false, List, Option, Some, None, inl, inr, refl, sym, ◌∙◌, ap, subst, arith}
-use Rattle.std.specs.Prelude.{◌<◌, ◌≤◌, ◌⊎◌, if◌then◌else◌}
-use Rattle.std.specs.Option.{option_map_or}
-use Rattle.std.proofs.lemmas.Bool.{cases_eq, cases_lt}
-use Rattle.disk_model.specs.Disk.{Faults, History, IsIdle}
-use Rattle.disk_model.specs.FaultCounts.{NoFault}
-use Rattle.disk_model.proofs.IdleLemmas.{idle-begins}
-use Rattle.mdbox_base.specs.declared.ids.Uid.{Uid}
+use Rattle.mail_fetch.proofs.Common.{◌≡◌, ◌+◌, ◌-◌, ℕ, Bool, true, false, List, Option, Some, None, inl, inr, refl, sym, ◌∙◌, ap, subst, arith, if◌then◌else◌, option_map_or, cases_eq, cases_lt, Faults, History, IsIdle, NoFault, idle-begins, Uid, did, Progress, progress, Refusal, refusal, Reply}
+use Rattle.mail_fetch.proofs.Common.{reply, Around, end_in, is_doomed_in, pins_in, MailFile, file-gone, file-without, IsStore, StoreValue, MovesClaims, Thing, amount_in, no_claims, LeavesOthers, HasClaimed, IsReadyToFetch, claims_of_pinned, fetch_claims, with_claims, without_claims, FetchSteps}
+use Rattle.mail_fetch.proofs.Common.{IsBegun, IsPieceRead, fetch_refusal, left_after, pieces_left, RegionValue, is_last_pin, HasPieceLeft, StoredAt, FetchStage, stage}
+use Rattle.std.specs.Prelude.{◌<◌, ◌≤◌, ◌⊎◌}
 use Rattle.mdbox_base.specs.declared.progress.Did.{Did}
-use Rattle.mdbox_base.specs.declared.progress.Did.TheVariants as did
-use Rattle.mdbox_base.specs.declared.progress.Progress.{Progress}
-use Rattle.mdbox_base.specs.declared.progress.Progress.TheVariants as progress
-use Rattle.mdbox_base.specs.declared.replies.Refusal.{Refusal}
-use Rattle.mdbox_base.specs.declared.replies.Refusal.TheVariants as refusal
-use Rattle.mdbox_base.specs.declared.replies.Reply.{Reply}
-use Rattle.mdbox_base.specs.declared.replies.Reply.TheVariants as reply
-use Rattle.journal.specs.Events.{Around}
 use Rattle.sis_store.specs.Instances.{InstancesValue}
-use Rattle.storage_files.specs.Files.{FilesValue, end_in, is_doomed_in, pins_in, without_file}
-use Rattle.storage_files.specs.declared.file.MailFile.{MailFile}
-use Rattle.storage_files.proofs.FileListLemmas.{file-gone, file-without}
-use Rattle.store_core.specs.Running.{IsStore}
-use Rattle.store_core.specs.Value.{StoreValue}
-use Rattle.task_claims.specs.Claims.{ClaimsNothing, MovesClaims, Thing, amount_in, no_claims}
-use Rattle.task_claims.specs.Leaving.{LeavesOthers}
+use Rattle.storage_files.specs.Files.{FilesValue, without_file}
+use Rattle.task_claims.specs.Claims.{ClaimsNothing}
 use Rattle.task_claims.specs.Stable.{MovesOwnClaims}
 use Rattle.task_steps.specs.Step.{ended_by}
-use Rattle.mail_fetch.specs.Claims.{HasClaimed, IsReadyToFetch, claims_of_pinned, fetch_claims, used_by, with_claims, without_claims}
-use Rattle.mail_fetch.specs.Clause.{FetchSteps, FetchesAlone, MakesOfDisk, OnlyReadsDisk}
-use Rattle.mail_fetch.specs.Events.{FetchesNext, IsBegun, IsPieceRead, IsUnpinned, NoChangeFault, fetch_refusal}
+use Rattle.mail_fetch.specs.Claims.{used_by}
+use Rattle.mail_fetch.specs.Clause.{FetchesAlone, MakesOfDisk, OnlyReadsDisk}
+use Rattle.mail_fetch.specs.Events.{FetchesNext, IsUnpinned, NoChangeFault}
 use Rattle.mail_fetch.specs.Failed.{HasFailedRead}
-use Rattle.mail_fetch.specs.Parts.{left_after, pieces_left}
-use Rattle.mail_fetch.specs.Region.{RegionValue}
-use Rattle.mail_fetch.specs.Removal.{is_last_pin, with_file_gone}
-use Rattle.mail_fetch.specs.Task.{FetchValue, HasPieceLeft, event_did, fetch_did}
-use Rattle.mail_fetch.specs.declared.parts.StoredAt.{StoredAt}
-use Rattle.mail_fetch.specs.declared.task.FetchStage.{FetchStage}
-use Rattle.mail_fetch.specs.declared.task.FetchStage.TheVariants as stage
+use Rattle.mail_fetch.specs.Removal.{with_file_gone}
+use Rattle.mail_fetch.specs.Task.{FetchValue, event_did, fetch_did}
 use Rattle.mail_fetch.proofs.ClaimLemmas.{begun_ended, fall, more_is, reading_leaves, reading_moves}
 use Rattle.mail_fetch.proofs.UseLemmas.{doomed_still}
 use Rattle.mail_fetch.proofs.StepLemmas.{begin_steps, last_pin_steps, read_steps, stopped_steps, unpin_steps}

@@ -1,65 +1,37 @@
 -- The clause of a fetch's step, event by event.
-use Rattle.std.proofs.Common.{◌≡◌, ◌≤◌, ◌<◌, ◌+◌, ◌-◌, ◌&&◌, ℕ, Bool, true, false, not, cond, List, [], ◌∷◌, ◌++◌, length, Option, Some, None, refl, sym, ◌∙◌, ap, subst, arith, inl, inr, length-append}
-use Rattle.std.specs.Prelude.{All, ◌⊎◌, ◌≢◌, is_some, nat_lt, sum_by, if◌then◌else◌}
-use Rattle.std.specs.List.{list_any}
-use Rattle.std.specs.Option.{option_map, option_map_or, option_or}
-use Rattle.std.proofs.lemmas.List.Elements.{All-nil, All-push}
-use Rattle.std.proofs.lemmas.Bool.{eq-eqb, ne_eqb, cases_lt}
-use Rattle.disk_model.specs.Disk.{DiskState, History, Faults, Files, IfTold, IsIdle, told_calls}
-use Rattle.disk_model.specs.FaultCounts.{NoFault}
-use Rattle.disk_model.proofs.IdleLemmas.{idle-begins}
+use Rattle.mail_fetch.proofs.Common.{◌≡◌, ◌≤◌, ◌<◌, ◌+◌, ◌-◌, ◌&&◌, ℕ, Bool, true, false, not, cond, List, [], ◌∷◌, ◌++◌, length, Option, Some, None, refl, sym, ◌∙◌, ap, subst, arith, inl, inr, length-append, is_some, nat_lt, sum_by, if◌then◌else◌, list_any, option_map, option_map_or, option_or}
+use Rattle.mail_fetch.proofs.Common.{All-nil, eq-eqb, ne_eqb, cases_lt, DiskState, History, Faults, Files, IfTold, IsIdle, told_calls, NoFault, idle-begins, InstRow, Uid, did, Progress, progress, Refusal, refusal, Reply, reply, request, Lists, LogRow, BoxMeaning, row_at, MapRecord, MapMeaning}
+use Rattle.mail_fetch.proofs.Common.{named_instances, IsThereWhole, files_of, First, ReadsPiece, Unpins, RemovesFile, Pin, RunEvent, Run, and_then, own_events, is_pinned, is_unpinning, has_unpinned, PartAnswers, refusal_in, IsReplyOf, Around, piece_left, leaves_doomed, last_refusal, pieces_to_read}
+use Rattle.mail_fetch.proofs.Common.{own_more, own_other, found_let_go, end_in, is_doomed_in, pins_in, IsStore, StoreValue, AreIn, Seen, HasComeTo, pins_of, unstepped, claims_of_pinned, held_for, with_claims, without_claims, FetchSteps, fetch_refusal, IsBegun, IsPinned, IsPieceRead, next_piece}
+use Rattle.mail_fetch.proofs.Common.{with_piece, left_after, parts_to_read, pieces_left, stored_at, RegionValue, IsReplyFor, is_last_pin, HasPinned, HasReadAllBut, RemovesNext, UnpinsNext, IsFrontOfStored, IsTrueReply, HasPieceLeft, one_pin, seen_in, StoredAt, FetchStage, stage}
+use Rattle.std.specs.Prelude.{All, ◌⊎◌, ◌≢◌}
+use Rattle.std.proofs.lemmas.List.Elements.{All-push}
 use Rattle.mdbox_base.specs.Streams.{Rose}
-use Rattle.mdbox_base.specs.declared.entries.InstRow.{InstRow}
 use Rattle.mdbox_base.specs.declared.entries.MapEntry.{MapEntry}
-use Rattle.mdbox_base.specs.declared.ids.Uid.{Uid}
 use Rattle.mdbox_base.specs.declared.progress.Did.{Did}
-use Rattle.mdbox_base.specs.declared.progress.Did.TheVariants as did
-use Rattle.mdbox_base.specs.declared.progress.Progress.{Progress}
-use Rattle.mdbox_base.specs.declared.progress.Progress.TheVariants as progress
 use Rattle.mdbox_base.specs.declared.replies.ListRow.{ListRow}
-use Rattle.mdbox_base.specs.declared.replies.Refusal.{Refusal}
-use Rattle.mdbox_base.specs.declared.replies.Refusal.TheVariants as refusal
-use Rattle.mdbox_base.specs.declared.replies.Reply.{Reply}
-use Rattle.mdbox_base.specs.declared.replies.Reply.TheVariants as reply
-use Rattle.mdbox_base.specs.declared.requests.Request.TheVariants as request
 use Rattle.mdbox_base.specs.declared.script.Half.TheVariants as half
-use Rattle.model_lists.specs.Lists.{Lists}
-use Rattle.model_meaning.specs.BoxMeaning.{LogRow, BoxMeaning, row_at}
-use Rattle.model_meaning.specs.MapMeaning.{MapRecord, MapMeaning, map_meaning, named_instances, no_numbers, record_of}
+use Rattle.model_meaning.specs.MapMeaning.{map_meaning, no_numbers, record_of}
 use Rattle.model_meaning.specs.Sound.{IsSoundMap}
 use Rattle.model_meaning.proofs.MapSoundLemmas.{map_sound}
 use Rattle.model_store.specs.Listing.{ShowLists}
-use Rattle.model_store.specs.Safe.{IsThereWhole}
-use Rattle.model_store.specs.Settled.{files_of}
 use Rattle.model_store.specs.Stands.{AreMailboxes, StoresMessage}
 use Rattle.model_store.proofs.StandsLemmas.{map_same}
-use Rattle.list_machine.specs.Run.{First, ReadsPiece, Unpins, RemovesFile, Pin, RunEvent, Run, and_then, own_events, is_pinned, is_unpinning, has_unpinned}
-use Rattle.list_machine.specs.Machine.{PartAnswers, is_step}
-use Rattle.journal.specs.Journal.{refusal_in, IsReplyOf}
-use Rattle.journal.specs.Events.{Around, MayMeet, behind_refused, piece_left, leaves_doomed, last_refusal, pieces_to_read}
-use Rattle.journal.proofs.OwnEventLemmas.{own_more, own_other}
-use Rattle.save_instances.specs.Attaching.{found_let_go}
-use Rattle.storage_files.specs.Files.{end_in, is_doomed_in, pins_in}
-use Rattle.store_core.specs.Running.{IsStore}
-use Rattle.store_core.specs.Value.{StoreValue, indexes_of, list_named}
-use Rattle.task_claims.specs.Claims.{AreIn}
-use Rattle.task_steps.specs.Step.{DidEvent, Seen, ShowsSeen, HasComeTo, and_told, ended_by, pins_of}
+use Rattle.list_machine.specs.Machine.{is_step}
+use Rattle.journal.specs.Events.{MayMeet, behind_refused}
+use Rattle.store_core.specs.Value.{indexes_of, list_named}
+use Rattle.task_steps.specs.Step.{DidEvent, ShowsSeen, and_told, ended_by}
 use Rattle.task_steps.proofs.SeenLemmas.{doomed_still, pinned_is, pins_still}
-use Rattle.task_steps.proofs.EventLaws.{did_refused, did_stop, DidBy, fall, no_reply, one_refusal, one_reply, refusal_event, refuses, replied_so, some_reply, stands_by, unstepped}
+use Rattle.task_steps.proofs.EventLaws.{did_refused, did_stop, DidBy, fall, no_reply, one_refusal, one_reply, refusal_event, refuses, replied_so, some_reply, stands_by}
 use Rattle.task_steps.proofs.KeptStoreLemmas.{comes_along}
 use Rattle.task_steps.proofs.OneEventLemmas.{never_more, plain_forgets, plain_refused, plain_stopped}
-use Rattle.mail_fetch.specs.Claims.{claims_of_pinned, held_for, used_by, with_claims, without_claims}
-use Rattle.mail_fetch.specs.Clause.{CanFetch, FetchSteps, ReadsSafe}
-use Rattle.mail_fetch.specs.Events.{fetch_refusal, IsAbsent, IsBegun, IsStoredBy, IsPinned, IsPieceRead, next_piece, with_piece, NoChangeFault}
+use Rattle.mail_fetch.specs.Claims.{used_by}
+use Rattle.mail_fetch.specs.Clause.{CanFetch, ReadsSafe}
+use Rattle.mail_fetch.specs.Events.{IsAbsent, IsStoredBy, NoChangeFault}
 use Rattle.mail_fetch.specs.Failed.{HasFailedRead}
-use Rattle.mail_fetch.specs.Parts.{left_after, parts_to_read, pieces_left}
-use Rattle.mail_fetch.specs.Region.{stored_at, RegionValue, unread, IsReplyFor}
-use Rattle.mail_fetch.specs.Removal.{is_last_pin}
-use Rattle.mail_fetch.specs.Stages.{ReadPiece, HasPinned, HasReadAllBut, IsPieceRefusal, RemovesNext, SparesFile, StoresListed, UnpinsNext, IsFrontOfStored, Reading, IsTrueReply, IsAtFetch}
-use Rattle.mail_fetch.specs.Task.{HasPieceLeft, fetch_did, pins_kept_in, refusing_did, one_pin, seen_in}
-use Rattle.mail_fetch.specs.declared.parts.StoredAt.{StoredAt}
-use Rattle.mail_fetch.specs.declared.task.FetchStage.{FetchStage}
-use Rattle.mail_fetch.specs.declared.task.FetchStage.TheVariants as stage
+use Rattle.mail_fetch.specs.Region.{unread}
+use Rattle.mail_fetch.specs.Stages.{ReadPiece, IsPieceRefusal, SparesFile, StoresListed, Reading, IsAtFetch}
+use Rattle.mail_fetch.specs.Task.{fetch_did, pins_kept_in, refusing_did}
 use Rattle.mail_fetch.proofs.InstanceLemmas.{pieces_told}
 use Rattle.mail_fetch.proofs.LastPinLemmas.{PinsFile, last_is, leaves_is, leaves_still, next_removes, pins_file, pins_file_more, removes_pins}
 use Rattle.mail_fetch.proofs.OwnPinLemmas.{pins_at_all, pins_begin, pins_end}

@@ -1,31 +1,13 @@
 -- A message that is read piece by piece, as the disk stores it.
-use Rattle.std.proofs.Common.{◌≡◌, ◌+◌, ℕ, List, [], ◌∷◌, ◌++◌, length, take, drop, map, Some, refl, sym, ◌∙◌, ap, subst, arith, inl, inr, All, append_assoc, append-nil, length-append}
-use Rattle.std.specs.Prelude.{sum_by}
-use Rattle.std.proofs.Math.Seq.{take-append_seam, drop-append_seam}
-use Rattle.std.proofs.lemmas.List.{take_all, length-take, length-drop}
-use Rattle.std.proofs.lemmas.List.Elements.{All-head, All-tail}
-use Rattle.std.proofs.lemmas.List.Sums.{sum_by-cons}
+use Rattle.mail_fetch.proofs.Common.{◌≡◌, ◌+◌, ℕ, List, [], ◌∷◌, ◌++◌, length, take, drop, map, Some, refl, sym, ◌∙◌, ap, subst, arith, inl, inr, All, append_assoc, append-nil, length-append, sum_by, take-append_seam, take_all, length-take, length-drop, All-head, All-tail, sum_by-cons, Files}
+use Rattle.mail_fetch.proofs.Common.{DiskState, InstRow, ExtRef, Reply, reply, LogRow, MapRecord, Message, Metadata, IsThereWhole, files_of, piece_read, next_piece, with_piece, instance_part, left_after, octets_to_read, part_read, parts_to_read, parts_read, pieces_left, region_part, RegionValue}
+use Rattle.mail_fetch.proofs.Common.{HoldsWhole, IsReplyFor, IsStoredMessage, stored_at, IsFrontOfStored, IsTrueReply, StoredAt}
+use Rattle.std.proofs.Math.Seq.{drop-append_seam}
 use Rattle.attach_join.specs.Behind.{octets_in}
-use Rattle.disk_model.specs.Disk.{Files, DiskState}
 use Rattle.disk_model.specs.declared.name.FileName.TheVariants.{Inst}
-use Rattle.mdbox_base.specs.declared.entries.InstRow.{InstRow}
-use Rattle.mdbox_base.specs.declared.metadata.ExtRef.{ExtRef}
-use Rattle.mdbox_base.specs.declared.replies.Reply.{Reply}
-use Rattle.mdbox_base.specs.declared.replies.Reply.TheVariants as reply
 use Rattle.model_attach.specs.Rejoined.{IsWhole, IsWholeFrom, part_text}
-use Rattle.model_meaning.specs.BoxMeaning.{LogRow}
-use Rattle.model_meaning.specs.MapMeaning.{MapRecord}
-use Rattle.model_storage.specs.StorageFile.{Message, IsMessage}
-use Rattle.model_storage.specs.declared.metadata_value.Metadata.{Metadata}
-use Rattle.model_store.specs.Safe.{IsThereWhole}
-use Rattle.model_store.specs.Settled.{files_of}
+use Rattle.model_storage.specs.StorageFile.{IsMessage}
 use Rattle.model_store.specs.Stands.{StoresMessage, HasInstances}
-use Rattle.storage_files.specs.OnDisk.{piece_read}
-use Rattle.mail_fetch.specs.Events.{next_piece, with_piece}
-use Rattle.mail_fetch.specs.Parts.{instance_part, left_after, octets_to_read, part_read, parts_to_read, parts_read, pieces_left, region_part}
-use Rattle.mail_fetch.specs.Region.{RegionValue, HoldsWhole, IsReplyFor, IsStoredMessage, stored_at}
-use Rattle.mail_fetch.specs.Stages.{IsFrontOfStored, IsTrueReply}
-use Rattle.mail_fetch.specs.declared.parts.StoredAt.{StoredAt}
 use Rattle.mail_fetch.proofs.MessageLemmas.{same_stored}
 use Rattle.mail_fetch.proofs.PartLemmas.{reads_after, reads_none, reads_of_parts}
 

@@ -1,41 +1,25 @@
 -- What pins and holds change of a store, and what they leave of it.
-use Rattle.std.specs.Prelude.{is_some, map, nat_le, nat_lt}
-use Rattle.std.specs.List.{list_any}
-use Rattle.std.specs.Option.{option_map, option_map_or, option_and_then}
-use Rattle.std.specs.Str.{bytes_eq}
-use Rattle.std.proofs.Common.{◌≡◌, ◌≢◌, ◌≤◌, ◌+◌, ◌-◌, ◌==◌, ◌&&◌, ◌||◌, inl, inr, ℕ, Bool, true, false, List, [], ◌∷◌, ◌++◌, Option, Some, None, All, refl, sym, ◌∙◌, ap, subst, arith}
+use Rattle.mail_fetch.proofs.Common.{is_some, nat_lt, list_any, option_map, option_map_or, option_and_then, bytes_eq, ◌≡◌, ◌≢◌, ◌≤◌, ◌+◌, ◌-◌, ◌==◌, ◌&&◌, ◌||◌, inl, inr, ℕ, Bool, true, false, List, [], ◌∷◌, ◌++◌, Option, Some, None, All, refl, sym, ◌∙◌, ap, subst, arith, cases_eq, cond-true}
+use Rattle.mail_fetch.proofs.Common.{eq-eqb, eqb-true, ne_eqb, All-head, All-tail, All-weaker, Faults, History, file, idle-begins, InstRow, InstId, MapRecord, found_let_go, holders_in, KnownInstance, end_in, file_in, is_doomed_in, pins_in, MailFile, KeepsInstances, MovesHolds, holds_of}
+use Rattle.mail_fetch.proofs.Common.{AreElsewhere, StoreValue, AreIn, Claims, Due, Emptied, Held, Made, MovesClaims, Pinned, PlacingPieces, Removing, Taken, Thing, no_claims, one_if, LeavesOthers, IsSameOrSynced, unraised_same, Seen, claims_of_pinned, held_for, with_claims, without_claims}
+use Rattle.mail_fetch.proofs.Common.{CanRemove, is_last_pin, one_pin, seen_in, StoredAt}
+use Rattle.std.specs.Prelude.{map, nat_le}
 use Rattle.std.proofs.Math.Path.{fun_ext}
-use Rattle.std.proofs.lemmas.Bool.{cases_eq, cond-true, cond-false, eq-eqb, eqb-true, ne_eqb}
+use Rattle.std.proofs.lemmas.Bool.{cond-false}
 use Rattle.std.proofs.lemmas.List.{append-nil}
-use Rattle.std.proofs.lemmas.List.Elements.{All-head, All-tail, All-weaker}
-use Rattle.disk_model.specs.Disk.{Faults, History, reading}
-use Rattle.disk_model.specs.declared.name.FileName.TheVariants as file
+use Rattle.disk_model.specs.Disk.{reading}
 use Rattle.disk_model.proofs.BetweenLemmas.{between-begins}
-use Rattle.disk_model.proofs.IdleLemmas.{idle-begins}
-use Rattle.mdbox_base.specs.declared.entries.InstRow.{InstRow}
-use Rattle.mdbox_base.specs.declared.ids.InstId.{InstId}
-use Rattle.model_meaning.specs.MapMeaning.{MapRecord, is_own, number_at}
-use Rattle.save_instances.specs.Attaching.{found_let_go}
-use Rattle.sis_store.specs.Instances.{holders_in, instance_in}
-use Rattle.sis_store.specs.declared.instance.KnownInstance.{KnownInstance}
-use Rattle.storage_files.specs.Files.{changed_in, end_in, file_in, is_doomed_in, pins_in, with_pins}
-use Rattle.storage_files.specs.declared.file.MailFile.{MailFile}
+use Rattle.model_meaning.specs.MapMeaning.{is_own, number_at}
+use Rattle.sis_store.specs.Instances.{instance_in}
+use Rattle.storage_files.specs.Files.{changed_in, with_pins}
 use Rattle.storage_files.proofs.FileListLemmas.{file-here, file-other}
 use Rattle.store_core.specs.Files.{LiesBelowEnd}
-use Rattle.store_core.specs.Keeping.{KeepsInstances, MovesHolds, holds_of}
 use Rattle.store_core.specs.Knows.{knows_file, knows_instance, may_have_given}
-use Rattle.store_core.specs.Removing.{AreElsewhere}
-use Rattle.store_core.specs.Value.{StoreValue}
 use Rattle.store_seen.specs.Seeing.{may_be_barred, may_be_used}
-use Rattle.task_claims.specs.Claims.{AreIn, Claims, Due, Emptied, Held, Made, MovesClaims, Pinned, PlacingPieces, Removing, Taken, Thing, no_claims, one_if}
-use Rattle.task_claims.specs.Leaving.{LeavesOthers, OnlyGrows, LeavesFile, IsSameOrSynced}
-use Rattle.task_claims.proofs.CountedLemmas.{unraised_same}
+use Rattle.task_claims.specs.Leaving.{OnlyGrows, LeavesFile}
 use Rattle.task_claims.proofs.RestLemmas.{instance_kept, record_kept}
-use Rattle.task_steps.specs.Step.{Seen}
-use Rattle.mail_fetch.specs.Claims.{claims_of_pinned, claims_unpinned, held_for, with_claims, with_use, without_claims}
-use Rattle.mail_fetch.specs.Removal.{CanRemove, is_last_pin}
-use Rattle.mail_fetch.specs.Task.{one_pin, pins_kept_in, seen_in}
-use Rattle.mail_fetch.specs.declared.parts.StoredAt.{StoredAt}
+use Rattle.mail_fetch.specs.Claims.{claims_unpinned, with_use}
+use Rattle.mail_fetch.specs.Task.{pins_kept_in}
 use Rattle.mail_fetch.proofs.ClaimLemmas.{idle_syncs}
 use Rattle.mail_fetch.proofs.HoldLemmas.{held_rows, let_go_rows, none_placed}
 

@@ -1,31 +1,16 @@
 -- What the calls of a copy ask and tell of a store.
-use Rattle.std.proofs.Common.{◌≡◌, ◌≤◌, ◌<◌, ◌+◌, ◌==◌, ℕ, Bool, true, false, cond, List, [], ◌∷◌, map, Option, Some, None, refl, sym, ◌∙◌, ap, subst, arith}
-use Rattle.std.specs.Prelude.{find, is_some, count_by, if◌then◌else◌}
+use Rattle.mail_ops.proofs.Common.{◌≡◌, ◌≤◌, ◌<◌, ◌+◌, ◌==◌, ℕ, Bool, true, false, cond, List, [], ◌∷◌, map, Option, Some, None, refl, sym, ◌∙◌, ap, subst, arith, find, is_some, count_by, if◌then◌else◌, option_map_or, bytes_eq, eq-eqb, sum_by-cons, History, BoxEntry, Refusal, refusal, LogRow}
+use Rattle.mail_ops.proofs.Common.{BoxMeaning, box_meaning, row_at, MapRecord, MapBox, MapMeaning, map_meaning, record_at, equal_is, meaning_named, KeepsUid, IsStore, StoreValue, list_named, number_named, room_refusal, copy_refusal, IsRowOf}
 use Rattle.std.specs.List.{AllByRecursion}
-use Rattle.std.specs.Option.{IfSome, option_map_or}
-use Rattle.std.specs.Str.{bytes_eq}
-use Rattle.std.proofs.lemmas.Bool.{eq-eqb}
+use Rattle.std.specs.Option.{IfSome}
 use Rattle.std.proofs.lemmas.List.Elements.{All-contains}
-use Rattle.std.proofs.lemmas.List.Sums.{sum_by-cons}
-use Rattle.disk_model.specs.Disk.{History}
-use Rattle.mdbox_base.specs.declared.entries.BoxEntry.{BoxEntry}
-use Rattle.mdbox_base.specs.declared.replies.Refusal.{Refusal}
-use Rattle.mdbox_base.specs.declared.replies.Refusal.TheVariants as refusal
-use Rattle.model_meaning.specs.BoxMeaning.{LogRow, BoxMeaning, box_meaning, rows_after, row_at}
-use Rattle.model_meaning.specs.MapMeaning.{MapRecord, MapBox, MapMeaning, map_meaning, record_at, box_named, count_of}
+use Rattle.model_meaning.specs.BoxMeaning.{rows_after}
+use Rattle.model_meaning.specs.MapMeaning.{box_named, count_of}
 use Rattle.model_meaning.specs.MapFits.{HasRecord}
 use Rattle.model_meaning.specs.Sound.{IsSoundMap, IsSoundMapBox, IsSoundRow}
 use Rattle.model_meaning.proofs.BoxSoundLemmas.{box_sound}
-use Rattle.model_meaning.proofs.MapPlaceLemmas.{equal_is}
 use Rattle.model_octets.proofs.SearchLemmas.{found_one}
-use Rattle.model_store.specs.Listing.{meaning_named}
 use Rattle.model_store.specs.Opening.{AreBoxEntries, listed_of, IsCounted}
-use Rattle.store_core.specs.Keeping.{KeepsUid}
-use Rattle.store_core.specs.Running.{IsStore}
-use Rattle.store_core.specs.Value.{StoreValue, list_named}
-use Rattle.task_claims.specs.Leaving.{number_named}
-use Rattle.mail_ops.specs.Copying.{room_refusal, copy_refusal}
-use Rattle.mail_ops.specs.Messages.{IsRowOf}
 use Rattle.mail_ops.proofs.FlagListLemmas.{some_there}
 use Rattle.mail_ops.proofs.MessageLemmas.{RecordOfRow, record_of_row, store_is_sound}
 

@@ -1,46 +1,14 @@
 -- The first event of a copy or a move, by the clause of a step: the count is raised, or it is refused.
-use Rattle.model_meaning.specs.MapFits.{MapFits}
-use Rattle.std.proofs.lemmas.Bool.Decides.{nat_tests}
-use Rattle.std.proofs.Common.{◌≡◌, ◌≤◌, ◌<◌, ◌+◌, ℕ, Bool, true, false, List, [], ◌∷◌, Option, Some, None, refl, sym, ◌∙◌, ap, subst, arith, inl, inr}
-use Rattle.std.specs.Prelude.{◌⊎◌, flat_map, nat_le, length, slice_get, is_some, if◌then◌else◌}
-use Rattle.std.specs.Option.{option_map_or, option_or}
-use Rattle.std.proofs.lemmas.Grind.{common_steps}
-use Rattle.disk_model.specs.Disk.{History, Faults, told_calls}
-use Rattle.mdbox_base.specs.declared.entries.MapEntry.TheVariants as map_entry
-use Rattle.mdbox_base.specs.declared.ids.BoxNo.{BoxNo}
-use Rattle.mdbox_base.specs.declared.ids.MapUid.{MapUid}
-use Rattle.mdbox_base.specs.declared.ids.Uid.{Uid}
-use Rattle.mdbox_base.specs.declared.progress.Did.{Did}
-use Rattle.mdbox_base.specs.declared.progress.Did.TheVariants as did
-use Rattle.mdbox_base.specs.declared.replies.Refusal.{Refusal}
-use Rattle.mdbox_base.specs.declared.replies.Refusal.TheVariants as refusal
-use Rattle.mdbox_base.specs.declared.replies.Reply.{Reply}
-use Rattle.mdbox_base.specs.declared.replies.Reply.TheVariants as reply
-use Rattle.mdbox_base.specs.declared.requests.Request.{Request}
-use Rattle.mdbox_base.specs.declared.script.Half.{Half}
-use Rattle.model_lists.specs.Lists.{ListedMessage, Lists}
-use Rattle.model_meaning.specs.BoxMeaning.{LogRow, BoxMeaning, row_at}
-use Rattle.model_meaning.specs.MapMeaning.{MapMeaning, record_of, count_of, map_applied, no_numbers}
-use Rattle.model_store.specs.Listing.{ShowLists}
-use Rattle.list_machine.specs.Run.{First, RunEvent, event_of, Run, and_then, own_events, map_of, uid_added}
-use Rattle.list_machine.specs.Machine.{MayBeCopied, first_refusal, refused_where, part_checks, is_step}
-use Rattle.journal.specs.Journal.{halves_of}
-use Rattle.journal.specs.Events.{Around, last_refusal, next_part}
-use Rattle.store_core.specs.Dues.{due_at}
-use Rattle.store_core.specs.Running.{IsStore}
-use Rattle.store_core.specs.Value.{StoreValue, indexes_of, list_named}
-use Rattle.task_steps.specs.ExpungeStages.{one_due}
-use Rattle.task_steps.specs.Step.{HasComeTo, HasNotBegun, Steps}
-use Rattle.mail_ops.specs.Appends.{MapFell}
-use Rattle.mail_ops.specs.CopyStages.{IsHolding}
-use Rattle.mail_ops.specs.Copying.{CopyPlace, copy_refusal, room_refusal, raising_of, RaisesRow, IsRaiseRefusal}
-use Rattle.store_seen.specs.Seeing.{seen_of}
+use Rattle.mail_ops.proofs.Common.{MapFits, nat_tests, ◌≡◌, ◌≤◌, ◌<◌, ◌+◌, ℕ, Bool, true, false, List, [], ◌∷◌, Option, Some, None, refl, sym, ◌∙◌, ap, subst, arith, inl, inr, ◌⊎◌, flat_map, nat_le, length, slice_get, is_some, if◌then◌else◌, option_map_or, option_or, common_steps, History, Faults}
+use Rattle.mail_ops.proofs.Common.{told_calls, map_entry, BoxNo, MapUid, Uid, Did, did, Refusal, refusal, Reply, reply, Request, Half, ListedMessage, Lists, LogRow, BoxMeaning, row_at, MapMeaning, record_of, map_applied, no_numbers, ShowLists, First, RunEvent, event_of, Run, and_then, own_events}
+use Rattle.mail_ops.proofs.Common.{map_of, first_refusal, refused_where, part_checks, is_step, halves_of, Around, last_refusal, next_part, due_at, IsStore, StoreValue, indexes_of, list_named, one_due, HasComeTo, HasNotBegun, Steps, MapFell, IsHolding, copy_refusal, room_refusal, raising_of}
+use Rattle.mail_ops.proofs.Common.{RaisesRow, IsRaiseRefusal, seen_of, CanRefuse, did_check, did_fall, did_forget, did_own, did_stop, ends_well, no_reply, own_event, refuses, replied_so, stands_by, stays_left, stays_itself, first_reply, never_more, nothing}
+use Rattle.model_meaning.specs.MapMeaning.{count_of}
+use Rattle.list_machine.specs.Run.{uid_added}
+use Rattle.list_machine.specs.Machine.{MayBeCopied}
+use Rattle.mail_ops.specs.Copying.{CopyPlace}
 use Rattle.mail_ops.proofs.CopyPartLemmas.{IsCopying, first_goes_on}
 use Rattle.mail_ops.proofs.CopyPlaceLemmas.{place_checked}
-use Rattle.task_steps.proofs.EventLaws.{CanRefuse, did_check, did_fall, did_forget, did_own, did_stop, ends_well, no_reply, own_event, refuses, replied_so, stands_by, stays_left}
-use Rattle.task_steps.proofs.KeptStoreLemmas.{stays_itself}
-use Rattle.task_steps.proofs.OneEventLemmas.{first_reply, never_more}
-use Rattle.task_steps.proofs.UnmovedLemmas.{nothing}
 use Rattle.mail_ops.proofs.LastEventLemmas.{copied_new, ends_in, held_new, source_first, unrefused_more}
 use Rattle.mail_ops.proofs.LoweringLemmas.{comes_with, shows_still, leads_still, one_fits}
 use Rattle.mail_ops.proofs.MessageLemmas.{shown_row, shown_guid, record_of_row}

@@ -1,60 +1,23 @@
 -- The second event of a copy or a move, by the clause of a step: the message is added, or it is refused, and the count given back.
-use Rattle.std.proofs.lemmas.List.Elements.{All-nil}
-use Rattle.std.proofs.lemmas.Grind.{common_steps}
-use Rattle.std.proofs.lemmas.Bool.Decides.{nat_tests}
-use Rattle.std.proofs.Common.{◌≡◌, ◌≤◌, ◌+◌, ℕ, Bool, true, false, List, [], ◌∷◌, ◌++◌, map, Option, Some, None, refl, sym, ◌∙◌, ap, subst, arith, inl, inr}
-use Rattle.std.specs.Prelude.{◌⊎◌, length, slice_get, if◌then◌else◌}
-use Rattle.std.specs.Option.{option_or}
-use Rattle.std.proofs.lemmas.Bool.{eq-eqb, ne_eqb}
-use Rattle.disk_model.specs.Disk.{History, Faults, told_calls}
-use Rattle.mdbox_base.specs.declared.entries.BoxEntry.TheVariants as box_entry
-use Rattle.mdbox_base.specs.declared.entries.MapEntry.{MapEntry}
-use Rattle.mdbox_base.specs.declared.ids.MapUid.{MapUid}
-use Rattle.mdbox_base.specs.declared.ids.Uid.{Uid}
-use Rattle.mdbox_base.specs.declared.progress.Did.TheVariants as did
-use Rattle.mdbox_base.specs.declared.replies.ListRow.{ListRow}
-use Rattle.mdbox_base.specs.declared.replies.Refusal.{Refusal}
-use Rattle.mdbox_base.specs.declared.replies.Refusal.TheVariants as refusal
-use Rattle.mdbox_base.specs.declared.replies.Reply.{Reply}
-use Rattle.mdbox_base.specs.declared.replies.Reply.TheVariants as reply
-use Rattle.mdbox_base.specs.declared.requests.Request.{Request}
-use Rattle.mdbox_base.specs.declared.requests.Request.TheVariants as request
-use Rattle.mdbox_base.specs.declared.script.Half.{Half}
+use Rattle.mail_ops.proofs.Common.{All-nil, common_steps, nat_tests, ◌≡◌, ◌≤◌, ◌+◌, ℕ, Bool, true, false, List, [], ◌∷◌, ◌++◌, map, Option, Some, None, refl, sym, ◌∙◌, ap, subst, arith, inl, inr, ◌⊎◌, length, slice_get, if◌then◌else◌, option_or, eq-eqb, ne_eqb, History, Faults, told_calls}
+use Rattle.mail_ops.proofs.Common.{box_entry, MapEntry, MapUid, Uid, did, ListRow, Refusal, refusal, Reply, reply, Request, request, Half, lists_by, meanings_by, ListedMessage, Mailbox, Lists, AreWellFormed, listing_row, LogRow, BoxMeaning, MapMeaning, map_meaning, no_numbers, listed_row, ShowLists}
+use Rattle.mail_ops.proofs.Common.{IsSettledFor, Leaves, First, Last, GivesBack, RunEvent, event_of, Run, and_then, map_of, own_events, first_refusal, part_checks, is_step, mailbox_named, answers_well, halves_of, IsReplyOf, Around, is_elsewhere, last_refusal, next_part, own_more, own_other, Brings}
+use Rattle.mail_ops.proofs.Common.{due_at, IsStore, StoreValue, indexes_of, one_due, number_named, HasComeTo, IsKept, MapTook, MapFell, lowering_of, IsHolding, copy_refusal, added_copy, AddsRow, FellAdding, seen_of, CanRefuse, did_check, did_fall, did_forget, did_own, did_stop, ends_well, no_reply}
+use Rattle.mail_ops.proofs.Common.{own_event, refuses, replied_so, some_reply, stands_by, stays_left, comes_along, stays_itself, first_reply, never_more, nothing}
 use Rattle.mdbox_base.specs.declared.script.Half.TheVariants as half_is
 use Rattle.model_appends.specs.Amounts.{due_by_box}
-use Rattle.model_appends.specs.Appending.{lists_by, meanings_by}
-use Rattle.model_lists.specs.Lists.{ListedMessage, Mailbox, Lists, AreWellFormed, listing_row}
-use Rattle.model_meaning.specs.BoxMeaning.{LogRow, BoxMeaning}
-use Rattle.model_meaning.specs.MapMeaning.{MapMeaning, map_meaning, no_numbers}
-use Rattle.model_store.specs.Listing.{listed_row, ShowLists}
-use Rattle.model_store.specs.Settled.{files_of, IsSettledFor, Leaves}
+use Rattle.model_store.specs.Settled.{files_of}
 use Rattle.model_store.specs.Stands.{AreMailboxes}
 use Rattle.model_store.proofs.StandsLemmas.{map_same}
-use Rattle.list_machine.specs.Run.{First, Last, GivesBack, RunEvent, event_of, Run, and_then, map_of, own_events}
-use Rattle.list_machine.specs.Machine.{IsCopied, add_message, first_refusal, part_checks, is_step, mailbox_named}
-use Rattle.list_machine.proofs.MachineOrderLemmas.{answers_well}
-use Rattle.journal.specs.Journal.{halves_of, IsReplyOf}
-use Rattle.journal.specs.Events.{Around, adds_to, is_elsewhere, last_refusal, lowers, next_part}
-use Rattle.journal.proofs.OwnEventLemmas.{own_more, own_other}
+use Rattle.list_machine.specs.Machine.{IsCopied, add_message}
+use Rattle.journal.specs.Events.{adds_to, lowers}
 use Rattle.entry_steps.proofs.AppendListLemmas.{added_by}
-use Rattle.store_core.specs.Append.{Brings}
-use Rattle.store_core.specs.Dues.{due_at}
-use Rattle.store_core.specs.Running.{IsStore}
-use Rattle.store_core.specs.Value.{StoreValue, indexes_of}
-use Rattle.task_steps.specs.ExpungeStages.{one_due}
-use Rattle.task_claims.specs.Leaving.{number_named}
-use Rattle.task_steps.specs.Step.{HasComeTo, IsKept}
-use Rattle.mail_ops.specs.Appends.{MapTook, MapFell, lowering_of}
-use Rattle.mail_ops.specs.CopyStages.{IsHolding, IsGivingBack, answered_by}
-use Rattle.mail_ops.specs.Copying.{CopyPlace, copy_refusal, added_copy, AddsRow, FellAdding}
-use Rattle.store_seen.specs.Seeing.{seen_of}
+use Rattle.mail_ops.specs.CopyStages.{IsGivingBack, answered_by}
+use Rattle.mail_ops.specs.Copying.{CopyPlace}
 use Rattle.mail_ops.proofs.CopyFirstLemmas.{CopyingClause, place_free, copy_steps}
 use Rattle.mail_ops.proofs.CopyPartLemmas.{IsCopying, adding_part, adds_next, back_ends, copy_copies, gives_back_next, holding_next}
 use Rattle.mail_ops.proofs.CopyPlaceLemmas.{place_checked}
-use Rattle.task_steps.proofs.EventLaws.{CanRefuse, did_check, did_fall, did_forget, did_own, did_stop, ends_well, last_with, no_reply, own_event, refusal_event, refuses, replied_so, some_reply, stands_by, stays_left, step_calm}
-use Rattle.task_steps.proofs.KeptStoreLemmas.{comes_along, stays_itself}
-use Rattle.task_steps.proofs.OneEventLemmas.{first_reply, never_more}
-use Rattle.task_steps.proofs.UnmovedLemmas.{nothing}
+use Rattle.task_steps.proofs.EventLaws.{last_with, refusal_event, step_calm}
 use Rattle.mail_ops.proofs.FlagEventLemmas.{shown_on}
 use Rattle.mail_ops.proofs.FlagListLemmas.{numbered}
 use Rattle.mail_ops.proofs.LastEventLemmas.{copied_by, ends_in, ends_still, held_by, held_same, last_before, source_by, unrefused_still}

@@ -1,29 +1,13 @@
 -- What the events of copies and of moves have in common.
-use Rattle.std.proofs.Common.{◌≡◌, ◌==◌, ◌||◌, ℕ, Bool, true, false, not, cond, List, [], ◌∷◌, Option, Some, None, refl, sym, ◌∙◌, ap, arith}
-use Rattle.std.proofs.lemmas.Grind.{common_steps}
-use Rattle.std.proofs.lemmas.Bool.Decides.{nat_tests}
-use Rattle.std.specs.Prelude.{is_some, slice_get}
-use Rattle.std.specs.Option.{option_map, option_map_or}
-use Rattle.std.proofs.lemmas.Bool.{eq-eqb}
-use Rattle.mdbox_base.specs.declared.ids.MapUid.{MapUid}
-use Rattle.mdbox_base.specs.declared.ids.Uid.{Uid}
-use Rattle.mdbox_base.specs.declared.replies.Refusal.{Refusal}
-use Rattle.mdbox_base.specs.declared.replies.Refusal.TheVariants as refusal
-use Rattle.mdbox_base.specs.declared.replies.Reply.{Reply}
-use Rattle.mdbox_base.specs.declared.replies.Reply.TheVariants as reply
-use Rattle.mdbox_base.specs.declared.requests.Request.{Request}
-use Rattle.mdbox_base.specs.declared.requests.Request.TheVariants as request
-use Rattle.mdbox_base.specs.declared.script.Half.{Half}
-use Rattle.mdbox_base.specs.declared.script.Half.TheVariants as half
-use Rattle.model_lists.specs.Lists.{Lists}
-use Rattle.model_meaning.specs.MapMeaning.{MapBox, box_named}
-use Rattle.list_machine.specs.Run.{EventPart, First, Last, GivesBack, StartsOver, RunEvent, Run, map_of, own_events, source_of, uid_copied}
-use Rattle.list_machine.specs.Machine.{IsCopied, PartAnswers, RequestInRange, copy_checks, first_refusal, part_checks, is_step}
-use Rattle.journal.specs.Journal.{half_of, halves_of, IsReplyOf}
-use Rattle.journal.specs.Events.{Around, Finds, DidPart, DidCopy, behind_copy, behind_event, behind_refused, ends_with_count, has_memory, is_elsewhere, last_refusal, makes_step, next_part, part_behind}
+use Rattle.mail_ops.proofs.Common.{◌≡◌, ◌==◌, ◌||◌, ℕ, Bool, true, false, not, cond, List, [], ◌∷◌, Option, Some, None, refl, sym, ◌∙◌, ap, arith, common_steps, nat_tests, is_some, slice_get, option_map, option_map_or, eq-eqb, MapUid, Uid, Refusal, refusal, Reply, reply, Request, request, Half}
+use Rattle.mail_ops.proofs.Common.{half, Lists, MapBox, EventPart, First, Last, GivesBack, StartsOver, RunEvent, Run, map_of, own_events, source_of, uid_copied, PartAnswers, first_refusal, part_checks, is_step, halves_of, IsReplyOf, Around, is_elsewhere, last_refusal, next_part, number_named}
+use Rattle.mail_ops.proofs.Common.{IsHolding}
+use Rattle.model_meaning.specs.MapMeaning.{box_named}
+use Rattle.list_machine.specs.Machine.{IsCopied, RequestInRange, copy_checks}
+use Rattle.journal.specs.Journal.{half_of}
+use Rattle.journal.specs.Events.{Finds, DidPart, DidCopy, behind_copy, behind_event, behind_refused, ends_with_count, has_memory, makes_step, part_behind}
 use Rattle.journal.specs.Found.{AgreesWithRun}
-use Rattle.task_claims.specs.Leaving.{number_named}
-use Rattle.mail_ops.specs.CopyStages.{IsHolding, IsGivingBack}
+use Rattle.mail_ops.specs.CopyStages.{IsGivingBack}
 use Rattle.mail_ops.proofs.LastEventLemmas.{last_own, next_behind, next_last}
 use Rattle.mail_ops.proofs.ToldLemmas.{some_part}
 

@@ -1,40 +1,13 @@
 -- What the step of a copy says, event by event.
-use Rattle.std.proofs.Common.{◌≡◌, ◌<◌, ℕ, true, false, List, Option, Some, None, refl, sym, subst, arith, inl, inr}
-use Rattle.std.specs.Prelude.{◌⊎◌}
-use Rattle.disk_model.specs.Disk.{History, Faults}
-use Rattle.mdbox_base.specs.declared.ids.BoxNo.{BoxNo}
-use Rattle.mdbox_base.specs.declared.ids.MapUid.{MapUid}
-use Rattle.mdbox_base.specs.declared.ids.Uid.{Uid}
-use Rattle.mdbox_base.specs.declared.progress.Did.{Did}
-use Rattle.mdbox_base.specs.declared.progress.Did.TheVariants as did
-use Rattle.mdbox_base.specs.declared.progress.Progress.{Progress}
-use Rattle.mdbox_base.specs.declared.progress.Progress.TheVariants as progress
-use Rattle.mdbox_base.specs.declared.replies.Refusal.{Refusal}
-use Rattle.mdbox_base.specs.declared.replies.Refusal.TheVariants as refusal
-use Rattle.mdbox_base.specs.declared.replies.Reply.TheVariants as reply
-use Rattle.mdbox_base.specs.declared.requests.Request.TheVariants as request
-use Rattle.mdbox_base.specs.declared.script.Half.TheVariants as half
-use Rattle.store_core.specs.Dues.{due_at, Moves, amounts_in}
-use Rattle.store_core.specs.Keeping.{KeepsRest}
-use Rattle.store_core.specs.Running.{IsStore}
-use Rattle.store_core.specs.Value.{StoreValue}
-use Rattle.store_core.proofs.DueLemmas.{moves_as}
-use Rattle.task_steps.specs.Step.{IsKept, ended_by}
-use Rattle.task_steps.proofs.SeenLemmas.{not_begun_stays}
-use Rattle.mail_ops.specs.Appends.{MapTook, MapFell, lowering_of}
-use Rattle.mail_ops.specs.Copy.{CopyValue, IsAtCopy, copy_amounts, copy_left, IsReadyToCopy, CopyAnswers, CopiesOn}
-use Rattle.mail_ops.specs.Copying.{copy_refusal, RaisesRow, IsRaiseRefusal, MayBeRaised, IsNotRaised, AddsRow, FellAdding}
-use Rattle.mail_ops.specs.OnlyLogs.{ChangesOnlyLogs}
-use Rattle.mail_ops.specs.Event.{refusal_told, told_as}
-use Rattle.mail_ops.specs.declared.copy.CopyStage.{CopyStage}
+use Rattle.mail_ops.proofs.Common.{◌≡◌, ◌<◌, ℕ, true, false, List, Option, Some, None, refl, sym, subst, arith, inl, inr, ◌⊎◌, History, Faults, BoxNo, MapUid, Uid, Did, did, Progress, progress, Refusal, refusal, reply, request, half, due_at, Moves, amounts_in, KeepsRest, IsStore, StoreValue}
+use Rattle.mail_ops.proofs.Common.{moves_as, IsKept, ended_by, not_begun_stays, MapTook, MapFell, lowering_of, CopiesOn, copy_refusal, RaisesRow, IsRaiseRefusal, IsNotRaised, AddsRow, FellAdding, ChangesOnlyLogs, refusal_told, told_as, CopyStage, NotDone, not_done, due_as_before}
+use Rattle.mail_ops.specs.Copy.{CopyValue, IsAtCopy, copy_amounts, copy_left, IsReadyToCopy, CopyAnswers}
+use Rattle.mail_ops.specs.Copying.{MayBeRaised}
 use Rattle.mail_ops.specs.declared.copy.CopyStage.TheVariants as stage
-use Rattle.mail_ops.specs.declared.event.NotDone.{NotDone}
-use Rattle.mail_ops.specs.declared.event.NotDone.TheVariants as not_done
 use Rattle.mail_ops.proofs.CopyFirstLemmas.{CopyingClause, back_runs, raise_done, raise_fell, raise_refused, raise_steps, raise_stopped, raise_unremembered}
 use Rattle.mail_ops.proofs.CopyLastLemmas.{added_due, add_stopped, add_refused, add_unremembered, add_fell, copy_added, back_stopped, back_fell, given_back, holding_kept, giving_back_kept}
 use Rattle.mail_ops.proofs.CopyPartLemmas.{copy_copies}
 use Rattle.mail_ops.proofs.KeptUidLemmas.{fallen_keeps, raised_source}
-use Rattle.store_seen.proofs.SeeingLemmas.{due_as_before}
 use Rattle.mail_ops.proofs.LoweringLemmas.{ended_moves, held_still, lowered_due, raised_covers, raised_moves}
 use Rattle.mail_ops.proofs.OnlyLogsLemmas.{box_fell_keeps, box_took_keeps, idle_keeps, map_fell_keeps, map_took_keeps}
 use Rattle.mail_ops.proofs.ToldLemmas.{done_more, memory_runs, more_is, step_runs, why_is}

@@ -1,30 +1,11 @@
 -- A count as an event, which changes nothing.
-use Rattle.std.proofs.lemmas.List.Elements.{All-nil}
-use Rattle.std.proofs.Common.{◌≡◌, ℕ, true, false, List, length, Option, Some, refl, sym, ◌∙◌, ap, arith}
-use Rattle.std.specs.Prelude.{slice_get, sum_by}
-use Rattle.disk_model.specs.Disk.{History, Faults, told_calls}
-use Rattle.mdbox_base.specs.declared.progress.Did.{Did}
-use Rattle.mdbox_base.specs.declared.progress.Did.TheVariants as did
-use Rattle.mdbox_base.specs.declared.replies.Refusal.TheVariants as refusal
-use Rattle.mdbox_base.specs.declared.replies.Reply.{Reply}
-use Rattle.mdbox_base.specs.declared.replies.Reply.TheVariants as reply
-use Rattle.mdbox_base.specs.declared.requests.Request.TheVariants as request
-use Rattle.mdbox_base.specs.declared.script.Half.TheVariants as half
-use Rattle.model_meaning.specs.MapMeaning.{MapMeaning}
-use Rattle.list_machine.specs.Run.{First, RunEvent, event_of, own_events}
-use Rattle.list_machine.specs.Machine.{AreCounts, count_different}
-use Rattle.journal.specs.Journal.{halves_of}
-use Rattle.journal.specs.Events.{Around, next_part}
-use Rattle.store_core.specs.Value.{StoreValue}
-use Rattle.task_steps.specs.Step.{HasNotBegun, Steps}
-use Rattle.task_steps.proofs.SeenLemmas.{tells_itself}
+use Rattle.mail_ops.proofs.Common.{All-nil, ◌≡◌, ℕ, true, false, List, Option, Some, refl, sym, ◌∙◌, ap, arith, slice_get, sum_by, History, Faults, told_calls, Did, did, refusal, Reply, reply, request, half, MapMeaning, First, RunEvent, event_of, own_events, count_different, halves_of, Around}
+use Rattle.mail_ops.proofs.Common.{next_part, StoreValue, HasNotBegun, Steps, tells_itself, seen_of, did_own, ends_well, own_event, some_reply, comes_along, first_reply, IsPlain, never_more, plain_stopped, refusal_last, mail_still, nothing}
+use Rattle.std.proofs.Common.{length}
+use Rattle.list_machine.specs.Machine.{AreCounts}
 use Rattle.mail_ops.specs.Counting.{listed_messages, named_ids}
-use Rattle.store_seen.specs.Seeing.{seen_of}
 use Rattle.mail_ops.proofs.CountingLemmas.{shown_many}
-use Rattle.task_steps.proofs.EventLaws.{did_own, ends_well, own_event, some_reply}
-use Rattle.task_steps.proofs.KeptStoreLemmas.{comes_along}
-use Rattle.task_steps.proofs.OneEventLemmas.{first_reply, IsPlain, never_more, plain_forgets, plain_stopped, refusal_last}
-use Rattle.task_steps.proofs.UnmovedLemmas.{mail_still, nothing}
+use Rattle.task_steps.proofs.OneEventLemmas.{plain_forgets}
 
 counts_are_plain : IsPlain request.Counts
 counts_are_plain = record { found = λ around run event. tt; finds = λ around event. tt; memory = refl; behind = λ why. refl; half_is = refl; halves_are = refl }

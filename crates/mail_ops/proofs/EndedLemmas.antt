@@ -1,26 +1,11 @@
 -- A copy, a move or an expunge that was replied claims nothing.
-use Rattle.std.proofs.Common.{◌≡◌, ℕ, false, List, Option, refl}
-use Rattle.disk_model.specs.Disk.{History, Faults}
-use Rattle.mdbox_base.specs.declared.ids.Uid.{Uid}
-use Rattle.mdbox_base.specs.declared.progress.Did.{Did}
-use Rattle.mdbox_base.specs.declared.progress.Progress.{Progress}
-use Rattle.mdbox_base.specs.declared.progress.Progress.TheVariants as progress
-use Rattle.mdbox_base.specs.declared.replies.Reply.{Reply}
-use Rattle.mdbox_base.specs.declared.replies.Reply.TheVariants as reply
-use Rattle.store_core.specs.Value.{StoreValue}
+use Rattle.mail_ops.proofs.Common.{◌≡◌, ℕ, false, List, Option, refl, History, Faults, Uid, Did, Progress, progress, Reply, reply, StoreValue, copy_claims, expunge_claims, move_claims, CopiesOn, ExpungesOn, MovesOn, CopyStage, copy_stage, ExpungeStage, MoveStage, move_stage, fall}
 use Rattle.task_claims.specs.Claims.{ClaimsNothing}
 use Rattle.task_claims.proofs.RestLemmas.{none_claimed_of}
-use Rattle.mail_ops.specs.Claims.{copy_claims, expunge_claims, move_claims}
-use Rattle.mail_ops.specs.Copy.{CopiesOn, copy_dues}
-use Rattle.mail_ops.specs.Expunging.{ExpungesOn, expunge_dues}
-use Rattle.mail_ops.specs.Moving.{MovesOn, move_dues}
-use Rattle.mail_ops.specs.declared.copy.CopyStage.{CopyStage}
-use Rattle.mail_ops.specs.declared.copy.CopyStage.TheVariants as copy_stage
-use Rattle.mail_ops.specs.declared.expunging.ExpungeStage.{ExpungeStage}
+use Rattle.mail_ops.specs.Copy.{copy_dues}
+use Rattle.mail_ops.specs.Expunging.{expunge_dues}
+use Rattle.mail_ops.specs.Moving.{move_dues}
 use Rattle.mail_ops.specs.declared.expunging.ExpungeStage.TheVariants as expunge_stage
-use Rattle.mail_ops.specs.declared.moving.MoveStage.{MoveStage}
-use Rattle.mail_ops.specs.declared.moving.MoveStage.TheVariants as move_stage
-use Rattle.task_steps.proofs.EventLaws.{fall}
 use Rattle.mail_ops.proofs.ToldLemmas.{more_is}
 
 pub copy_ended : {D : Type 0} → (name : List ℕ) (uid : Uid) (target : List ℕ) (now next : CopyStage) (answer : Progress) (how : Did) (old new : StoreValue D) (before after : Option History) (began then : Faults) (given : Reply) → CopiesOn name uid target now next answer how old new before after began then → answer ≡ progress.Done given → new.stopped ≡ false → ClaimsNothing (copy_claims next)

@@ -1,48 +1,13 @@
 -- The events of an expunge, by the clause of a step.
-use Rattle.std.proofs.lemmas.List.Elements.{All-nil}
-use Rattle.std.proofs.Common.{◌≡◌, ◌+◌, ℕ, true, false, List, [], ◌∷◌, ◌++◌, Option, Some, None, refl, sym, ◌∙◌, ap, subst, arith}
-use Rattle.std.specs.Prelude.{◌⊎◌, length, slice_get}
-use Rattle.std.proofs.Common.{inl, inr}
-use Rattle.std.proofs.lemmas.Bool.{eq-eqb}
-use Rattle.disk_model.specs.Disk.{History, Faults, told_calls}
-use Rattle.mdbox_base.specs.declared.entries.BoxEntry.TheVariants as box_entry
-use Rattle.mdbox_base.specs.declared.ids.MapUid.{MapUid}
-use Rattle.mdbox_base.specs.declared.ids.Uid.{Uid}
-use Rattle.mdbox_base.specs.declared.progress.Did.{Did}
-use Rattle.mdbox_base.specs.declared.progress.Did.TheVariants as did
-use Rattle.mdbox_base.specs.declared.replies.Refusal.{Refusal}
-use Rattle.mdbox_base.specs.declared.replies.Refusal.TheVariants as refusal
-use Rattle.mdbox_base.specs.declared.replies.Reply.{Reply}
-use Rattle.mdbox_base.specs.declared.replies.Reply.TheVariants as reply
-use Rattle.mdbox_base.specs.declared.requests.Request.TheVariants as request
-use Rattle.mdbox_base.specs.declared.script.Half.TheVariants as half
-use Rattle.model_lists.specs.Lists.{Lists}
-use Rattle.model_store.specs.Settled.{IsSettledFor, Leaves}
-use Rattle.model_meaning.specs.MapMeaning.{no_numbers}
-use Rattle.list_machine.specs.Run.{First, GivesBack, RunEvent, Run, own_events}
-use Rattle.list_machine.specs.Machine.{expunge, is_step}
-use Rattle.list_machine.proofs.MachineOrderLemmas.{answers_well}
-use Rattle.journal.specs.Journal.{halves_of, IsReplyOf}
-use Rattle.journal.specs.Events.{Around, next_part}
+use Rattle.mail_ops.proofs.Common.{All-nil, ◌≡◌, ◌+◌, ℕ, true, false, List, [], ◌∷◌, ◌++◌, Option, Some, None, refl, sym, ◌∙◌, ap, subst, arith, ◌⊎◌, length, slice_get, inl, inr, eq-eqb, History, Faults, told_calls, box_entry, MapUid, Uid, Did, did, Refusal, refusal, Reply, reply, request, half}
+use Rattle.mail_ops.proofs.Common.{Lists, IsSettledFor, Leaves, no_numbers, First, GivesBack, RunEvent, Run, own_events, is_step, answers_well, halves_of, IsReplyOf, Around, next_part, own_more, due_at, IsStore, StoreValue, indexes_of, one_due, Steps, MapTook, MapFell, lowering_of, expunge_amounts}
+use Rattle.mail_ops.proofs.Common.{RemovesRow, FellRemoving, missing_message, AreDueIn, seen_of, ExpungeStage, CanRefuse, did_check, did_fall, did_forget, did_own, did_stop, ends_well, no_reply, own_event, refuses, replied_so, some_reply, stands_by, stays_left, comes_along, stays_itself}
+use Rattle.mail_ops.proofs.Common.{first_reply, never_more, nothing}
+use Rattle.list_machine.specs.Machine.{expunge}
 use Rattle.journal.specs.Stages.{ToLower, IsAtStage, removal, lowering}
 use Rattle.journal.proofs.ExpungeLemmas.{owed_is, next_is, never_refused}
-use Rattle.journal.proofs.OwnEventLemmas.{own_more}
-use Rattle.store_core.specs.Dues.{due_at}
-use Rattle.store_core.specs.Running.{IsStore}
-use Rattle.store_core.specs.Value.{StoreValue, indexes_of}
-use Rattle.task_steps.specs.ExpungeStages.{one_due}
-use Rattle.task_steps.specs.Step.{Steps}
-use Rattle.mail_ops.specs.Appends.{MapTook, MapFell, lowering_of}
-use Rattle.mail_ops.specs.Expunging.{IsAtExpunge, expunge_amounts, RemovesRow, FellRemoving}
-use Rattle.mail_ops.specs.Messages.{missing_message}
-use Rattle.mail_ops.specs.Owing.{AreDueIn}
-use Rattle.store_seen.specs.Seeing.{seen_of}
-use Rattle.mail_ops.specs.declared.expunging.ExpungeStage.{ExpungeStage}
+use Rattle.mail_ops.specs.Expunging.{IsAtExpunge}
 use Rattle.mail_ops.specs.declared.expunging.ExpungeStage.TheVariants as stage
-use Rattle.task_steps.proofs.EventLaws.{CanRefuse, did_check, did_fall, did_forget, did_own, did_stop, ends_well, no_reply, own_event, refuses, replied_so, some_reply, stands_by, stays_left}
-use Rattle.task_steps.proofs.KeptStoreLemmas.{comes_along, stays_itself}
-use Rattle.task_steps.proofs.OneEventLemmas.{first_reply, never_more}
-use Rattle.task_steps.proofs.UnmovedLemmas.{nothing}
 use Rattle.mail_ops.proofs.FlagEventLemmas.{shown_on}
 use Rattle.mail_ops.proofs.LoweringLemmas.{comes_with, lowered_due, shows_still, leads_still, one_fits}
 use Rattle.mail_ops.proofs.MessageLemmas.{missing_is, missing_refused}

@@ -1,38 +1,11 @@
 -- What the step of an expunge says, event by event.
-use Rattle.std.proofs.Common.{◌≡◌, ◌≤◌, ◌<◌, ◌+◌, ℕ, true, false, List, Option, Some, None, refl, sym, ◌∙◌, ap, subst, arith, inl, inr}
-use Rattle.std.specs.Prelude.{◌⊎◌}
-use Rattle.disk_model.specs.Disk.{History, Faults}
-use Rattle.mdbox_base.specs.declared.ids.MapUid.{MapUid}
-use Rattle.mdbox_base.specs.declared.ids.Uid.{Uid}
-use Rattle.mdbox_base.specs.declared.progress.Did.{Did}
-use Rattle.mdbox_base.specs.declared.progress.Did.TheVariants as did
-use Rattle.mdbox_base.specs.declared.progress.Progress.{Progress}
-use Rattle.mdbox_base.specs.declared.progress.Progress.TheVariants as progress
-use Rattle.mdbox_base.specs.declared.replies.Refusal.{Refusal}
-use Rattle.mdbox_base.specs.declared.replies.Refusal.TheVariants as refusal
-use Rattle.mdbox_base.specs.declared.replies.Reply.TheVariants as reply
-use Rattle.mdbox_base.specs.declared.script.Half.TheVariants as half
+use Rattle.mail_ops.proofs.Common.{◌≡◌, ◌≤◌, ◌<◌, ◌+◌, ℕ, true, false, List, Option, Some, None, refl, sym, ◌∙◌, ap, subst, arith, inl, inr, ◌⊎◌, History, Faults, MapUid, Uid, Did, did, Progress, progress, Refusal, refusal, reply, half, due_at, Moves, amounts_in, KeepsRest, IsStore, StoreValue}
+use Rattle.mail_ops.proofs.Common.{moves_as, one_due, IsKept, ended_by, MapTook, MapFell, lowering_of, ChangesOnlyLogs, refusal_told, told_as, expunge_amounts, ExpungesOn, RemovesRow, FellRemoving, missing_message, AreDueIn, NotDone, not_done, ExpungeStage, due_as_before}
 use Rattle.journal.specs.Stages.{ToRemove, ToLower}
-use Rattle.store_core.specs.Dues.{due_at, Moves, amounts_in}
-use Rattle.store_core.specs.Keeping.{KeepsRest}
-use Rattle.store_core.specs.Running.{IsStore}
-use Rattle.store_core.specs.Value.{StoreValue}
-use Rattle.store_core.proofs.DueLemmas.{moves_as}
-use Rattle.task_steps.specs.ExpungeStages.{one_due}
-use Rattle.task_steps.specs.Step.{IsKept, ended_by}
 use Rattle.task_steps.proofs.ExpungingLemmas.{expunges_are_kept}
-use Rattle.mail_ops.specs.Appends.{MapTook, MapFell, lowering_of}
-use Rattle.mail_ops.specs.OnlyLogs.{ChangesOnlyLogs}
-use Rattle.mail_ops.specs.Event.{refusal_told, told_as}
-use Rattle.mail_ops.specs.Expunging.{ExpungeValue, IsAtExpunge, expunge_amounts, expunge_left, ExpungeAnswers, ExpungesOn, RemovesRow, FellRemoving, IsNotRemoved}
-use Rattle.mail_ops.specs.Messages.{missing_message}
-use Rattle.mail_ops.specs.Owing.{AreDueIn}
-use Rattle.mail_ops.specs.declared.event.NotDone.{NotDone}
-use Rattle.mail_ops.specs.declared.event.NotDone.TheVariants as not_done
-use Rattle.mail_ops.specs.declared.expunging.ExpungeStage.{ExpungeStage}
+use Rattle.mail_ops.specs.Expunging.{ExpungeValue, IsAtExpunge, expunge_left, ExpungeAnswers, IsNotRemoved}
 use Rattle.mail_ops.specs.declared.expunging.ExpungeStage.TheVariants as stage
 use Rattle.mail_ops.proofs.ExpungeEventLemmas.{ExpungeClause, expunge_stopped, expunge_removed, expunge_broken, expunge_refused, expunge_unremembered, expunge_lowered, expunge_unlowered}
-use Rattle.store_seen.proofs.SeeingLemmas.{due_as_before}
 use Rattle.mail_ops.proofs.LoweringLemmas.{lowered_due, raised_covers, raised_moves}
 use Rattle.mail_ops.proofs.MessageLemmas.{missing_is, not_missing}
 use Rattle.mail_ops.proofs.RemovalLemmas.{removal_due}

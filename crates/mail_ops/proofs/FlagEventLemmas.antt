@@ -1,40 +1,13 @@
 -- A flag as an event, which appends one entry.
-use Rattle.std.proofs.lemmas.List.Elements.{All-nil}
-use Rattle.std.proofs.lemmas.Grind.{common_steps}
-use Rattle.std.proofs.lemmas.Bool.Decides.{nat_tests}
-use Rattle.std.proofs.Common.{◌≡◌, ◌≤◌, ◌<◌, ℕ, true, false, List, [], Option, Some, None, refl, sym, ap, subst, arith, inl}
-use Rattle.std.specs.Option.{option_map, option_or}
-use Rattle.std.specs.Prelude.{find, is_some, is_none}
-use Rattle.std.specs.Str.{bytes_eq}
-use Rattle.disk_model.specs.Disk.{History, told_calls, Grows}
-use Rattle.mdbox_base.specs.declared.entries.BoxEntry.TheVariants as entry
-use Rattle.mdbox_base.specs.declared.ids.Uid.{Uid}
-use Rattle.mdbox_base.specs.declared.progress.Did.TheVariants as did
-use Rattle.mdbox_base.specs.declared.replies.Refusal.{Refusal}
-use Rattle.mdbox_base.specs.declared.replies.Refusal.TheVariants as refusal
-use Rattle.mdbox_base.specs.declared.replies.Reply.{Reply}
-use Rattle.mdbox_base.specs.declared.replies.Reply.TheVariants as reply
-use Rattle.mdbox_base.specs.declared.requests.Request.TheVariants as request
-use Rattle.mdbox_base.specs.declared.script.Half.TheVariants as half
+use Rattle.mail_ops.proofs.Common.{All-nil, common_steps, nat_tests, ◌≡◌, ◌≤◌, ◌<◌, ℕ, true, false, List, [], Option, Some, None, refl, sym, ap, subst, arith, inl, option_map, option_or, find, is_some, bytes_eq, History, told_calls, Grows, entry, Uid, did, Refusal, refusal, Reply, reply, request}
+use Rattle.mail_ops.proofs.Common.{half, Mailbox, Lists, AreWellFormed, LogRow, BoxMeaning, row_at, MapBox, MapMeaning, no_numbers, lists_by, meanings_by, ShowLists, meaning_named, IsSettledFor, Leaves, First, BoxAppend, RunEvent, event_of, Run, own_events, PartAnswers, mailbox_named, refused_where}
+use Rattle.mail_ops.proofs.Common.{HasMailbox, answers_well, Around, Brings, NoFault, MailIsKept, Seen, ShowsSeen, HasComeTo, HasNotBegun, TellsSame, did_fall, did_own, ends_well, own_event, some_reply, stays_left, comes_along, first_reply, IsPlain, refusal_last}
+use Rattle.std.specs.Prelude.{is_none}
 use Rattle.mdbox_base.specs.Streams.{Rose}
-use Rattle.model_lists.specs.Lists.{Mailbox, Lists, AreWellFormed}
-use Rattle.model_meaning.specs.BoxMeaning.{LogRow, BoxMeaning, row_at}
-use Rattle.model_meaning.specs.MapMeaning.{MapBox, MapMeaning, no_numbers}
-use Rattle.model_appends.specs.Appending.{lists_by, meanings_by}
-use Rattle.model_store.specs.Listing.{ShowLists, meaning_named}
-use Rattle.model_store.specs.Settled.{IsSettledFor, Leaves}
-use Rattle.list_machine.specs.Run.{First, BoxAppend, RunEvent, event_of, Run, own_events}
-use Rattle.list_machine.specs.Machine.{PartAnswers, set_flags, mailbox_named, refusal_at, refused_where, HasMailbox}
-use Rattle.list_machine.proofs.MachineOrderLemmas.{answers_well}
-use Rattle.journal.specs.Events.{Around, adds_to}
-use Rattle.store_core.specs.Append.{Brings}
-use Rattle.disk_model.specs.FaultCounts.{NoFault}
-use Rattle.model_kept.specs.Kept.{MailIsKept}
-use Rattle.task_steps.specs.Step.{Seen, ShowsSeen, HasComeTo, DidEvent, HasNotBegun}
-use Rattle.task_steps.specs.Tells.{TellsSame}
-use Rattle.task_steps.proofs.EventLaws.{did_fall, did_own, ends_well, own_event, some_reply, stays_left}
-use Rattle.task_steps.proofs.KeptStoreLemmas.{comes_along}
-use Rattle.task_steps.proofs.OneEventLemmas.{first_reply, first_turn, IsPlain, next_first, plain_refuses, refusal_last}
+use Rattle.list_machine.specs.Machine.{set_flags, refusal_at}
+use Rattle.journal.specs.Events.{adds_to}
+use Rattle.task_steps.specs.Step.{DidEvent}
+use Rattle.task_steps.proofs.OneEventLemmas.{first_turn, next_first, plain_refuses}
 use Rattle.mail_ops.proofs.FlagListLemmas.{is_flagged}
 use Rattle.mail_ops.proofs.ShownEntryLemmas.{shown_entry}
 

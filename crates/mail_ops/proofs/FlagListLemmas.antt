@@ -1,23 +1,8 @@
 -- Lists that are shown, with flags set, and a flag by the list machine.
-use Rattle.std.proofs.Common.{◌≡◌, ◌==◌, ℕ, Bool, true, false, cond, List, [], ◌∷◌, map, find, Option, Some, None, refl, sym, ◌∙◌, ap, subst, arith}
-use Rattle.std.proofs.lemmas.Grind.{common_steps}
-use Rattle.std.proofs.lemmas.Bool.Decides.{nat_tests}
-use Rattle.std.specs.Prelude.{if◌then◌else◌}
-use Rattle.std.specs.Option.{option_map}
-use Rattle.std.specs.Str.{bytes_eq}
-use Rattle.mdbox_base.specs.declared.ids.Uid.{Uid}
-use Rattle.mdbox_base.specs.declared.entries.BoxEntry.TheVariants as entry
-use Rattle.mdbox_base.specs.declared.replies.ListRow.{ListRow}
-use Rattle.mdbox_base.specs.declared.replies.Refusal.TheVariants as refusal
-use Rattle.mdbox_base.specs.declared.replies.Reply.TheVariants as reply
-use Rattle.mdbox_base.specs.declared.requests.Request.TheVariants as request
-use Rattle.model_lists.specs.Lists.{ListedMessage, Mailbox, Lists, AreWellFormed, listing_row}
-use Rattle.list_machine.specs.Run.{First, RunEvent, Run}
-use Rattle.list_machine.specs.Machine.{PartAnswers, mailbox_named, message_in, set_flags}
-use Rattle.model_meaning.specs.BoxMeaning.{LogRow, BoxMeaning, row_at}
-use Rattle.model_meaning.specs.MapMeaning.{MapBox}
-use Rattle.model_store.specs.Listing.{listed_row, ShowLists, meaning_named}
-use Rattle.model_appends.specs.Appending.{lists_by}
+use Rattle.mail_ops.proofs.Common.{◌≡◌, ◌==◌, ℕ, Bool, true, false, cond, List, [], ◌∷◌, map, Option, Some, None, refl, sym, ◌∙◌, ap, subst, arith, common_steps, nat_tests, if◌then◌else◌, option_map, bytes_eq, Uid, entry, ListRow, refusal, reply, request, ListedMessage, Mailbox, Lists}
+use Rattle.mail_ops.proofs.Common.{AreWellFormed, listing_row, First, RunEvent, Run, PartAnswers, mailbox_named, message_in, LogRow, BoxMeaning, row_at, MapBox, listed_row, ShowLists, meaning_named, lists_by}
+use Rattle.std.proofs.Common.{find}
+use Rattle.list_machine.specs.Machine.{set_flags}
 use Rattle.entry_steps.proofs.AppendListLemmas.{flagged_by}
 use Rattle.mail_ops.proofs.NamedListLemmas.{ShownBox, ShowsBox, shows_box}
 

@@ -1,17 +1,8 @@
 -- The rows that an entry leaves of those that a mailbox lists: each had the record that it has.
-use Rattle.std.proofs.Common.{◌≡◌, ◌<◌, ◌==◌, ℕ, Bool, true, false, cond, not, List, [], ◌∷◌, map, Option, Some, None, refl, sym, ◌∙◌, ap, arith}
-use Rattle.std.proofs.lemmas.Grind.{common_steps}
-use Rattle.std.proofs.lemmas.Bool.Decides.{nat_tests}
-use Rattle.std.specs.Prelude.{find, filter}
-use Rattle.std.specs.Option.{option_or}
-use Rattle.std.proofs.lemmas.Bool.{eqb-true, ne_eqb}
+use Rattle.mail_ops.proofs.Common.{◌≡◌, ◌<◌, ◌==◌, ℕ, Bool, true, false, cond, not, List, [], ◌∷◌, map, Option, Some, None, refl, sym, ◌∙◌, ap, arith, common_steps, nat_tests, find, filter, option_or, eqb-true, ne_eqb, BoxEntry, entry, MapUid, Uid, LogRow, BoxMeaning, row_at, row_changed}
+use Rattle.mail_ops.proofs.Common.{box_applied}
 use Rattle.std.proofs.lemmas.List.Folds.{find-append}
-use Rattle.mdbox_base.specs.declared.entries.BoxEntry.{BoxEntry}
-use Rattle.mdbox_base.specs.declared.entries.BoxEntry.TheVariants as entry
 use Rattle.mdbox_base.specs.declared.ids.Guid.{Guid}
-use Rattle.mdbox_base.specs.declared.ids.MapUid.{MapUid}
-use Rattle.mdbox_base.specs.declared.ids.Uid.{Uid}
-use Rattle.model_meaning.specs.BoxMeaning.{LogRow, BoxMeaning, row_at, row_changed, box_applied}
 use Rattle.model_meaning.proofs.AppliedLemmas.{rows_by_added, rows_by_flagged, rows_by_removed}
 
 -- the row that was found before, of one that is found behind the entry

@@ -1,26 +1,11 @@
 -- What the source of a message that is added to a mailbox lists with its UID: an entry leaves no other message there.
-use Rattle.std.proofs.Common.{◌≡◌, ◌≤◌, ◌<◌, ◌==◌, ℕ, Bool, true, false, cond, List, [], ◌∷◌, Option, Some, refl, sym, ◌∙◌, ap, subst, arith}
+use Rattle.mail_ops.proofs.Common.{◌≡◌, ◌≤◌, ◌<◌, ◌==◌, ℕ, Bool, true, false, cond, List, [], ◌∷◌, Option, Some, refl, sym, ◌∙◌, ap, subst, arith, option_map, eqb-true, History, Faults, BoxEntry, box_entry, MapEntry, BoxNo, MapUid, Uid, meanings_by, LogRow, BoxMeaning, row_at, box_applied, MapBox}
+use Rattle.mail_ops.proofs.Common.{MapMeaning, map_applied, meaning_numbered, KeepsUid, KeepsUids, StoreValue, indexes_of, NamesStay, names_stay_same, MapTook, AddsRow, RaisesRow, added_copy, raising_of, RemovesRow}
 use Rattle.std.specs.Prelude.{max}
-use Rattle.std.specs.Option.{IfSome, option_map}
-use Rattle.std.proofs.lemmas.Bool.{eqb-true}
-use Rattle.disk_model.specs.Disk.{History, Faults}
-use Rattle.mdbox_base.specs.declared.entries.BoxEntry.{BoxEntry}
-use Rattle.mdbox_base.specs.declared.entries.BoxEntry.TheVariants as box_entry
-use Rattle.mdbox_base.specs.declared.entries.MapEntry.{MapEntry}
-use Rattle.mdbox_base.specs.declared.ids.BoxNo.{BoxNo}
-use Rattle.mdbox_base.specs.declared.ids.MapUid.{MapUid}
-use Rattle.mdbox_base.specs.declared.ids.Uid.{Uid}
-use Rattle.model_appends.specs.Appending.{meanings_by}
-use Rattle.model_meaning.specs.BoxMeaning.{LogRow, BoxMeaning, row_at, box_applied}
-use Rattle.model_meaning.specs.MapMeaning.{MapBox, MapMeaning, map_applied, numbers_of}
-use Rattle.model_store.specs.Listing.{meaning_numbered}
-use Rattle.store_core.specs.Keeping.{KeepsUid, KeepsUids}
-use Rattle.store_core.specs.Value.{StoreValue, indexes_of, list_numbered}
-use Rattle.task_claims.specs.Leaving.{NamesStay}
-use Rattle.task_claims.proofs.NameLemmas.{names_stay, names_stay_same}
-use Rattle.mail_ops.specs.Appends.{MapTook}
-use Rattle.mail_ops.specs.Copying.{AddsRow, RaisesRow, added_copy, raising_of}
-use Rattle.mail_ops.specs.Expunging.{RemovesRow}
+use Rattle.std.specs.Option.{IfSome}
+use Rattle.model_meaning.specs.MapMeaning.{numbers_of}
+use Rattle.store_core.specs.Value.{list_numbered}
+use Rattle.task_claims.proofs.NameLemmas.{names_stay}
 use Rattle.mail_ops.specs.Messages.{KeepsNamed}
 use Rattle.mail_ops.proofs.KeptRowLemmas.{KeepsRows, WasListed, addition_keeps, flagging_keeps, removal_keeps}
 

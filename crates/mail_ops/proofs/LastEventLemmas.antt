@@ -1,23 +1,13 @@
 -- The last event of a request, the part behind it, and what the request's events tell with one more.
-use Rattle.std.proofs.Common.{◌≡◌, ◌==◌, ℕ, Bool, true, false, cond, List, [], ◌∷◌, ◌++◌, Option, Some, None, refl, sym, ◌∙◌, ap, subst, arith}
-use Rattle.std.specs.Prelude.{filter, flat_map, fold, nat_lt, if◌then◌else◌}
-use Rattle.std.specs.Option.{option_or}
-use Rattle.std.proofs.lemmas.Bool.{eq-eqb}
-use Rattle.std.proofs.lemmas.Bool.Decides.{nat_tests}
-use Rattle.std.proofs.lemmas.Grind.{common_steps, flat_map-append}
+use Rattle.mail_ops.proofs.Common.{◌≡◌, ◌==◌, ℕ, Bool, true, false, cond, List, [], ◌∷◌, ◌++◌, Option, Some, None, refl, sym, ◌∙◌, ap, subst, arith, filter, flat_map, nat_lt, if◌then◌else◌, option_or, eq-eqb, nat_tests, common_steps, MapEntry, map_entry, MapUid, Refusal, Reply, Request, equal_is}
+use Rattle.mail_ops.proofs.Common.{EventPart, BoxAppend, RunEvent, Run, and_then, own_events, source_of, uid_copied, Around, last_refusal, next_part, own_more, EndsInPart}
+use Rattle.std.specs.Prelude.{fold}
+use Rattle.std.proofs.lemmas.Grind.{flat_map-append}
 use Rattle.std.proofs.lemmas.List.{append-nil}
 use Rattle.std.proofs.lemmas.List.Sums.{fold-append}
-use Rattle.mdbox_base.specs.declared.entries.MapEntry.{MapEntry}
-use Rattle.mdbox_base.specs.declared.entries.MapEntry.TheVariants as map_entry
-use Rattle.mdbox_base.specs.declared.ids.MapUid.{MapUid}
-use Rattle.mdbox_base.specs.declared.replies.Refusal.{Refusal}
-use Rattle.mdbox_base.specs.declared.replies.Reply.{Reply}
-use Rattle.mdbox_base.specs.declared.requests.Request.{Request}
-use Rattle.model_meaning.proofs.MapPlaceLemmas.{equal_is}
-use Rattle.list_machine.specs.Run.{EventPart, BoxAppend, RunEvent, Run, and_then, first_in, last_in, own_events, source_of, uid_added, uid_copied, uid_in}
-use Rattle.journal.specs.Events.{Around, behind_event, last_refusal, next_part, part_behind, uid_held, uid_raised}
-use Rattle.journal.proofs.OwnEventLemmas.{own_more}
-use Rattle.mail_ops.specs.MakeStages.{EndsInPart, WasNotRefused}
+use Rattle.list_machine.specs.Run.{first_in, last_in, uid_added, uid_in}
+use Rattle.journal.specs.Events.{behind_event, part_behind, uid_held, uid_raised}
+use Rattle.mail_ops.specs.MakeStages.{WasNotRefused}
 
 -- ---- refusals
 

@@ -1,52 +1,21 @@
 -- What each event of a copy, a move or an expunge leaves to the tasks beside it.
-use Rattle.std.proofs.Common.{◌≡◌, ◌≤◌, ◌+◌, ◌-◌, ◌||◌, ◌==◌, ℕ, Bool, true, false, cond, List, [], ◌∷◌, Option, Some, refl, sym, ◌∙◌, ap, subst, arith}
-use Rattle.std.specs.Str.{bytes_eq}
-use Rattle.std.specs.Option.{option_map_or}
-use Rattle.std.proofs.lemmas.Bool.{eqb-true}
-use Rattle.disk_model.specs.Disk.{History, Faults}
-use Rattle.mdbox_base.specs.declared.entries.BoxEntry.{BoxEntry}
-use Rattle.mdbox_base.specs.declared.entries.BoxEntry.TheVariants as box_entry
-use Rattle.mdbox_base.specs.declared.entries.MapEntry.{MapEntry}
-use Rattle.mdbox_base.specs.declared.ids.BoxNo.{BoxNo}
-use Rattle.mdbox_base.specs.declared.ids.MapUid.{MapUid}
-use Rattle.mdbox_base.specs.declared.ids.Uid.{Uid}
-use Rattle.mdbox_base.specs.declared.progress.Did.{Did}
-use Rattle.mdbox_base.specs.declared.progress.Progress.{Progress}
-use Rattle.mdbox_base.specs.declared.progress.Progress.TheVariants as progress
-use Rattle.mdbox_base.specs.declared.replies.Reply.TheVariants as reply
-use Rattle.model_meaning.specs.BoxMeaning.{LogRow, BoxMeaning}
-use Rattle.model_meaning.specs.MapMeaning.{MapMeaning, MapRecord, record_at, map_applied}
-use Rattle.model_appends.specs.Appending.{meanings_by}
+use Rattle.mail_ops.proofs.Common.{◌≡◌, ◌≤◌, ◌+◌, ◌||◌, ◌==◌, ℕ, Bool, true, false, cond, List, [], ◌∷◌, Option, Some, refl, sym, ◌∙◌, ap, subst, arith, bytes_eq, option_map_or, eqb-true, History, Faults, BoxEntry, box_entry, MapEntry, BoxNo, MapUid, Uid, Did, Progress, progress, reply, LogRow}
+use Rattle.mail_ops.proofs.Common.{BoxMeaning, MapMeaning, MapRecord, record_at, map_applied, meanings_by, refs_in, due_at, KeepsMail, KeepsUids, IsStore, StoreValue, indexes_of, no_claims, one_due, BoxTook, MapTook, lowering_of, copy_claims, expunge_claims, move_claims, CopiesOn, AddsRow}
+use Rattle.mail_ops.proofs.Common.{IsNotRaised, RaisesRow, added_copy, raising_of, ExpungesOn, RemovesRow, IsRowOf, MovesOn, CopyStage, copy_stage, NotDone, not_done, ExpungeStage, MoveStage, move_stage, fall, names_stay_same}
+use Rattle.std.proofs.Common.{◌-◌}
 use Rattle.model_appends.specs.Amounts.{bit, more_due}
 use Rattle.model_octets.proofs.SearchLemmas.{text_yes}
-use Rattle.model_store.specs.Listing.{refs_in}
-use Rattle.store_core.specs.Dues.{due_at}
-use Rattle.store_core.specs.Keeping.{KeepsMail, KeepsUids}
-use Rattle.store_core.specs.Running.{IsStore}
-use Rattle.store_core.specs.Value.{StoreValue, indexes_of, references_to}
-use Rattle.task_claims.specs.Claims.{Claims, Due, no_claims}
+use Rattle.store_core.specs.Value.{references_to}
+use Rattle.task_claims.specs.Claims.{Claims, Due}
 use Rattle.task_claims.specs.Leaving.{LeavesOthers, LeavesUnlisted, RaisesNone, SameButCounts}
 use Rattle.task_claims.proofs.CountedLemmas.{lowered_same, raised_same, same_map, unraised_by, unraised_lower, unraised_same}
 use Rattle.task_claims.proofs.RestLemmas.{mail_same, rest_leaves}
-use Rattle.task_steps.specs.ExpungeStages.{one_due}
-use Rattle.mail_ops.specs.Appends.{BoxTook, MapTook, lowering_of}
-use Rattle.mail_ops.specs.Claims.{copy_claims, expunge_claims, move_claims}
-use Rattle.mail_ops.specs.Copy.{CopiesOn, CopyValue}
-use Rattle.mail_ops.specs.Copying.{AddsRow, IsNotRaised, RaisesRow, added_copy, raising_of}
-use Rattle.mail_ops.specs.Expunging.{ExpungesOn, ExpungeValue, IsNotRemoved, RemovesRow}
-use Rattle.mail_ops.specs.Messages.{IsRowOf}
-use Rattle.mail_ops.specs.Moving.{MovesOn, MoveValue}
-use Rattle.mail_ops.specs.declared.copy.CopyStage.{CopyStage}
-use Rattle.mail_ops.specs.declared.copy.CopyStage.TheVariants as copy_stage
-use Rattle.mail_ops.specs.declared.event.NotDone.{NotDone}
-use Rattle.mail_ops.specs.declared.event.NotDone.TheVariants as not_done
-use Rattle.mail_ops.specs.declared.expunging.ExpungeStage.{ExpungeStage}
+use Rattle.mail_ops.specs.Copy.{CopyValue}
+use Rattle.mail_ops.specs.Expunging.{ExpungeValue, IsNotRemoved}
+use Rattle.mail_ops.specs.Moving.{MoveValue}
 use Rattle.mail_ops.specs.declared.expunging.ExpungeStage.TheVariants as expunge_stage
-use Rattle.mail_ops.specs.declared.moving.MoveStage.{MoveStage}
-use Rattle.mail_ops.specs.declared.moving.MoveStage.TheVariants as move_stage
-use Rattle.task_steps.proofs.EventLaws.{fall}
 use Rattle.mail_ops.proofs.OnlyLogsLemmas.{same_mail}
-use Rattle.task_claims.proofs.NameLemmas.{names_stay, names_stay_same}
+use Rattle.task_claims.proofs.NameLemmas.{names_stay}
 use Rattle.mail_ops.proofs.KeptUidLemmas.{addition_left, highest_rises, removal_left, same_highest, took_keeps}
 use Rattle.mail_ops.proofs.MessageLemmas.{record_of_row}
 use Rattle.mail_ops.proofs.UnlistedLemmas.{addition_lists, entry_refs, flag_lists, listed_counts, removal_lists}

@@ -1,3 +1,4 @@
+pub mod Common
 pub mod CopyCallLemmas
 pub mod CopyFirstLemmas
 pub mod CopyLastLemmas

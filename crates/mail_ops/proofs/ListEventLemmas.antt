@@ -1,24 +1,8 @@
 -- A listing as an event, which changes nothing.
-use Rattle.std.proofs.lemmas.List.Elements.{All-nil}
-use Rattle.std.proofs.Common.{◌≡◌, ℕ, false, List, Some, refl, arith}
-use Rattle.mdbox_base.specs.declared.progress.Did.TheVariants as did
-use Rattle.mdbox_base.specs.declared.requests.Request.TheVariants as request
-use Rattle.mdbox_base.specs.declared.replies.ListRow.{ListRow}
-use Rattle.mdbox_base.specs.declared.replies.Refusal.TheVariants as refusal
-use Rattle.mdbox_base.specs.declared.replies.Reply.{Reply}
-use Rattle.mdbox_base.specs.declared.replies.Reply.TheVariants as reply
-use Rattle.mdbox_base.specs.declared.script.Half.TheVariants as half
-use Rattle.disk_model.specs.Disk.{told_calls}
-use Rattle.model_lists.specs.Lists.{Lists}
-use Rattle.list_machine.specs.Run.{First, RunEvent, event_of, Run, own_events}
-use Rattle.list_machine.specs.Machine.{PartAnswers}
-use Rattle.journal.specs.Events.{Around}
-use Rattle.task_steps.specs.Step.{Seen, ShowsSeen, HasComeTo, DidEvent, HasNotBegun}
-use Rattle.task_steps.proofs.SeenLemmas.{tells_itself}
-use Rattle.task_steps.proofs.EventLaws.{did_own, ends_well, own_event, some_reply}
-use Rattle.task_steps.proofs.KeptStoreLemmas.{comes_along}
-use Rattle.task_steps.proofs.OneEventLemmas.{first_reply, first_turn, IsPlain, next_first, refusal_last}
-use Rattle.task_steps.proofs.UnmovedLemmas.{mail_still, nothing}
+use Rattle.mail_ops.proofs.Common.{All-nil, ◌≡◌, ℕ, false, List, Some, refl, arith, did, request, ListRow, refusal, Reply, reply, half, told_calls, Lists, First, RunEvent, event_of, Run, own_events, PartAnswers, Around, Seen, ShowsSeen, HasComeTo, HasNotBegun, tells_itself, did_own, ends_well}
+use Rattle.mail_ops.proofs.Common.{own_event, some_reply, comes_along, first_reply, IsPlain, refusal_last, mail_still, nothing}
+use Rattle.task_steps.specs.Step.{DidEvent}
+use Rattle.task_steps.proofs.OneEventLemmas.{first_turn, next_first}
 
 pub list_is_plain : (name : List ℕ) → IsPlain (request.List name)
 list_is_plain name = record { found = λ around run event. tt; finds = λ around event. tt; memory = refl; behind = λ why. refl; half_is = refl; halves_are = refl }

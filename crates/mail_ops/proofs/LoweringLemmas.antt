@@ -1,29 +1,13 @@
 -- A count that is lowered, by the clause of a step.
-use Rattle.std.proofs.Common.{◌≡◌, ◌≤◌, ◌+◌, ◌-◌, ◌==◌, ◌||◌, ℕ, Bool, false, cond, List, [], ◌∷◌, Option, refl, sym, ◌∙◌, ap, subst, arith}
-use Rattle.std.specs.Prelude.{All}
-use Rattle.std.proofs.lemmas.Grind.{common_steps}
-use Rattle.std.proofs.lemmas.Bool.Decides.{nat_tests}
-use Rattle.std.proofs.lemmas.Bool.{eq-eqb}
-use Rattle.disk_model.specs.Disk.{History, Faults, told_calls, Grows}
-use Rattle.mdbox_base.specs.declared.entries.Highest.{Highest}
-use Rattle.mdbox_base.specs.declared.entries.MapEntry.{MapEntry}
-use Rattle.mdbox_base.specs.declared.ids.MapUid.{MapUid}
+use Rattle.mail_ops.proofs.Common.{◌≡◌, ◌≤◌, ◌+◌, ◌==◌, ◌||◌, ℕ, Bool, false, cond, List, [], ◌∷◌, Option, refl, sym, ◌∙◌, ap, subst, arith, All, common_steps, nat_tests, eq-eqb, History, Faults, told_calls, Grows, Highest, MapEntry, MapUid, Lists, BoxMeaning, MapBox, MapMeaning, map_applied}
+use Rattle.mail_ops.proofs.Common.{no_numbers, ShowLists, RunEvent, Run, and_then, drawn_also, map_of, due_at, StoreValue, indexes_of, one_due, Seen, ShowsSeen, HasComeTo, All-nil, All-cons, MapFits, lowering_of, MapTook, seen_of}
+use Rattle.std.proofs.Common.{◌-◌}
 use Rattle.model_appends.specs.Amounts.{bit, due_by}
-use Rattle.model_lists.specs.Lists.{Lists}
-use Rattle.model_meaning.specs.BoxMeaning.{BoxMeaning}
-use Rattle.model_meaning.specs.MapMeaning.{MapBox, MapMeaning, map_applied, no_numbers}
-use Rattle.model_store.specs.Listing.{ShowLists}
-use Rattle.list_machine.specs.Run.{RunEvent, Run, and_then, drawn_also, map_of}
 use Rattle.journal.specs.Makes.{HasCome}
 use Rattle.journal.proofs.RunLemmas.{comes_on_with, drawn_none}
-use Rattle.store_core.specs.Dues.{due_at}
-use Rattle.store_core.specs.Value.{StoreValue, indexes_of}
-use Rattle.task_steps.specs.ExpungeStages.{one_due}
-use Rattle.task_steps.specs.Step.{Seen, ShowsSeen, HasComeTo, Leads}
-use Rattle.std.proofs.lemmas.List.Elements.{All-nil, All-cons}
-use Rattle.model_meaning.specs.MapFits.{HasRecord, MapFits}
-use Rattle.mail_ops.specs.Appends.{lowering_of, MapAppends, MapTook}
-use Rattle.store_seen.specs.Seeing.{seen_of}
+use Rattle.task_steps.specs.Step.{Leads}
+use Rattle.model_meaning.specs.MapFits.{HasRecord}
+use Rattle.mail_ops.specs.Appends.{MapAppends}
 
 -- the run with an event that adds this entry to the map log has come to where the store stands
 pub comes_with : (run : Run) (event : RunEvent) (entry : MapEntry) (old new : Seen) → HasComeTo run old → new.map ≡ map_applied entry old.map → new.drawn ≡ old.drawn → Grows old.history new.history → event.moment ≡ told_calls new.history → event.map_entries ≡ entry ∷ [] → event.drew ≡ no_numbers

@@ -1,33 +1,14 @@
 -- What the calls of a make ask and tell of a store.
-use Rattle.std.proofs.Common.{◌≡◌, ◌≤◌, ◌<◌, ◌+◌, ◌==◌, ◌||◌, ℕ, Bool, true, false, cond, List, [], ◌∷◌, Option, Some, None, refl, sym, ◌∙◌, ap, subst, arith}
-use Rattle.std.proofs.lemmas.Bool.Decides.{nat_tests}
-use Rattle.std.specs.Prelude.{◌≢◌, All, is_some, length, nat_le}
-use Rattle.std.specs.Option.{option_or}
-use Rattle.std.specs.Str.{bytes_eq}
-use Rattle.std.proofs.lemmas.Grind.{common_steps}
-use Rattle.std.proofs.lemmas.List.Elements.{All-nil, All-cons}
+use Rattle.mail_ops.proofs.Common.{◌≡◌, ◌≤◌, ◌<◌, ◌+◌, ◌==◌, ◌||◌, ℕ, Bool, true, false, cond, List, [], ◌∷◌, Option, Some, None, refl, sym, ◌∙◌, ap, subst, arith, nat_tests, All, is_some, length, nat_le, option_or, bytes_eq, common_steps, All-nil, All-cons, History, Faults, Grows, NoFault}
+use Rattle.mail_ops.proofs.Common.{IsNumber, Refusal, refusal, MailIsKept, Lists, BoxMeaning, MapBox, MapMeaning, meaning_named, IsSettledFor, Leaves, refused_where, has_made_log, IsStore, StoreValue, indexes_of, list_named, OpenBox, naming_refusal, making_refusal, with_drawn_box, MadeLogSo}
+use Rattle.std.specs.Prelude.{◌≢◌}
 use Rattle.std.proofs.lemmas.Slice.Eq.{bytes_eq-Decides}
-use Rattle.disk_model.specs.Disk.{History, Faults, Grows}
-use Rattle.disk_model.specs.FaultCounts.{NoFault}
 use Rattle.disk_model.specs.declared.name.FileName.TheVariants as file
 use Rattle.gate_log.specs.Log.{NamedButFor}
-use Rattle.mdbox_base.specs.Words.{IsNumber}
-use Rattle.mdbox_base.specs.declared.replies.Refusal.{Refusal}
-use Rattle.mdbox_base.specs.declared.replies.Refusal.TheVariants as refusal
-use Rattle.model_kept.specs.Kept.{MailIsKept}
-use Rattle.model_lists.specs.Lists.{Lists}
-use Rattle.model_meaning.specs.BoxMeaning.{BoxMeaning}
 use Rattle.model_meaning.specs.MapFits.{FitsMade}
-use Rattle.model_meaning.specs.MapMeaning.{MapBox, MapMeaning}
-use Rattle.model_store.specs.Listing.{meaning_named}
-use Rattle.model_store.specs.Settled.{IsSettledFor, Leaves}
-use Rattle.list_machine.specs.Machine.{refused_where}
 use Rattle.store_core.specs.Dues.{KeepsStored}
-use Rattle.store_core.specs.MadeLogs.{IsUnnamed, has_made_log}
-use Rattle.store_core.specs.Running.{AreBoxLogs, IsStore}
-use Rattle.store_core.specs.Value.{StoreValue, indexes_of, list_named}
-use Rattle.store_core.specs.declared.store.OpenBox.{OpenBox}
-use Rattle.mail_ops.specs.Making.{naming_refusal, making_refusal, with_drawn_box, MadeLogSo}
+use Rattle.store_core.specs.MadeLogs.{IsUnnamed}
+use Rattle.store_core.specs.Running.{AreBoxLogs}
 
 -- ---- the first event
 

@@ -1,23 +1,8 @@
 -- What a make looks at: the checks of its events, by what the store has.
-use Rattle.std.proofs.Common.{◌≡◌, ℕ, Bool, true, false, List, [], ◌∷◌, suc, Option, Some, None, refl, sym, ◌∙◌, ap, arith}
-use Rattle.std.proofs.lemmas.Grind.{common_steps}
-use Rattle.std.proofs.lemmas.Bool.Decides.{nat_tests}
-use Rattle.std.specs.Prelude.{nat_le, length, is_some}
-use Rattle.std.specs.Option.{option_or}
-use Rattle.disk_model.specs.Disk.{History, Faults}
-use Rattle.mdbox_base.specs.declared.entries.Highest.{Highest}
-use Rattle.mdbox_base.specs.declared.replies.Refusal.{Refusal}
-use Rattle.mdbox_base.specs.declared.replies.Refusal.TheVariants as refusal
-use Rattle.model_lists.specs.Lists.{Lists}
-use Rattle.model_meaning.specs.BoxMeaning.{BoxMeaning}
-use Rattle.model_meaning.specs.MapMeaning.{MapBox}
-use Rattle.model_store.specs.Listing.{ShowLists}
-use Rattle.list_machine.specs.Run.{First, Run}
-use Rattle.list_machine.specs.Machine.{IsNewName, RoomForMailbox, NextMailbox, Check, first_refusal, is_step, mailbox_named, make_checks, refused_where}
-use Rattle.store_core.specs.Value.{StoreValue, indexes_of, list_named}
-use Rattle.task_steps.specs.Step.{HasComeTo}
-use Rattle.mail_ops.specs.Making.{naming_refusal, making_refusal}
-use Rattle.store_seen.specs.Seeing.{seen_of}
+use Rattle.mail_ops.proofs.Common.{◌≡◌, ℕ, Bool, true, false, List, [], ◌∷◌, Option, Some, None, refl, sym, ◌∙◌, ap, arith, common_steps, nat_tests, nat_le, length, is_some, option_or, History, Faults, Highest, Refusal, refusal, Lists, BoxMeaning, MapBox, ShowLists, First, Run, first_refusal}
+use Rattle.mail_ops.proofs.Common.{is_step, mailbox_named, refused_where, StoreValue, indexes_of, list_named, HasComeTo, naming_refusal, making_refusal, seen_of}
+use Rattle.std.proofs.Common.{suc}
+use Rattle.list_machine.specs.Machine.{IsNewName, RoomForMailbox, NextMailbox, Check, make_checks}
 use Rattle.mail_ops.proofs.MakeStageLemmas.{naming_part}
 use Rattle.mail_ops.proofs.NamedListLemmas.{ShowsBox, shows_box}
 

@@ -1,41 +1,22 @@
 -- What a make claims, and what its events leave to the tasks beside it.
-use Rattle.std.proofs.Common.{◌≡◌, ◌≤◌, ◌+◌, ◌==◌, ◌||◌, ℕ, Bool, true, false, not, cond, List, [], ◌∷◌, ◌++◌, map, Option, refl, sym, ◌∙◌, ap, subst, arith}
-use Rattle.std.proofs.lemmas.Grind.{common_steps}
-use Rattle.std.proofs.lemmas.Bool.Decides.{nat_tests}
-use Rattle.std.specs.Prelude.{count_by}
+use Rattle.mail_ops.proofs.Common.{◌≡◌, ◌≤◌, ◌+◌, ◌==◌, ◌||◌, ℕ, Bool, true, false, not, cond, List, [], ◌∷◌, ◌++◌, map, Option, refl, sym, ◌∙◌, ap, subst, arith, common_steps, nat_tests, count_by, bytes_eq, eq-eqb, eqb-true, History, BoxNo, Progress, progress, Reply, reply, BoxMeaning, box_meaning}
+use Rattle.mail_ops.proofs.Common.{MapMeaning, refs_in, Moves, amounts_in, KeepsUids, has_made_log, StoreValue, indexes_of, OpenBox, NamesStay, SyncsMail, map_entry, names_stay_same, IsReadyToMake, not_done, MakeStage, fall}
 use Rattle.std.specs.List.{list_any}
-use Rattle.std.specs.Str.{bytes_eq}
-use Rattle.std.proofs.lemmas.Bool.{eq-eqb, eqb-true}
 use Rattle.std.proofs.lemmas.List.Sums.{sum_by-append}
-use Rattle.disk_model.specs.Disk.{History}
 use Rattle.gate_log.specs.State.{LogState}
-use Rattle.mdbox_base.specs.declared.ids.BoxNo.{BoxNo}
-use Rattle.mdbox_base.specs.declared.progress.Progress.{Progress}
-use Rattle.mdbox_base.specs.declared.progress.Progress.TheVariants as progress
-use Rattle.mdbox_base.specs.declared.replies.Reply.{Reply}
-use Rattle.mdbox_base.specs.declared.replies.Reply.TheVariants as reply
-use Rattle.model_meaning.specs.BoxMeaning.{BoxMeaning, box_meaning}
-use Rattle.model_meaning.specs.MapMeaning.{MapMeaning}
 use Rattle.model_meaning.proofs.AppliedLemmas.{records_by_mailbox}
-use Rattle.model_store.specs.Listing.{refs_in}
-use Rattle.store_core.specs.Dues.{Moves, no_amounts, amounts_in}
-use Rattle.store_core.specs.Keeping.{KeepsUids}
-use Rattle.store_core.specs.MadeLogs.{has_made_log, without_box}
-use Rattle.store_core.specs.Value.{StoreValue, indexes_of, references_to}
-use Rattle.store_core.specs.declared.store.OpenBox.{OpenBox}
+use Rattle.store_core.specs.Dues.{no_amounts}
+use Rattle.store_core.specs.MadeLogs.{without_box}
+use Rattle.store_core.specs.Value.{references_to}
 use Rattle.task_claims.specs.Claims.{ClaimsNothing, Due, Emptied, Held, Made, MovesClaims, Pinned, PlacingPieces, Removing, Taken, amount_in, one_if}
-use Rattle.task_claims.specs.Leaving.{NamesStay, LeavesOthers, RaisesNone, SameButCounts, SyncsMail, but_count}
+use Rattle.task_claims.specs.Leaving.{LeavesOthers, RaisesNone, SameButCounts, but_count}
 use Rattle.task_claims.proofs.CountedLemmas.{same_map, unraised_same}
 use Rattle.task_claims.proofs.RestLemmas.{rest_leaves}
-use Rattle.mdbox_base.specs.declared.entries.MapEntry.TheVariants as map_entry
-use Rattle.task_claims.proofs.NameLemmas.{names_stay_named, names_stay_same}
+use Rattle.task_claims.proofs.NameLemmas.{names_stay_named}
 use Rattle.mail_ops.proofs.KeptUidLemmas.{highest_rises, same_highest}
 use Rattle.mail_ops.specs.Claims.{own_log_of, make_claims}
-use Rattle.mail_ops.specs.Making.{IsReadyToMake, KeepsAllButLogs, MakeAnswers, MakesLog}
-use Rattle.mail_ops.specs.declared.event.NotDone.TheVariants as not_done
-use Rattle.mail_ops.specs.declared.making.MakeStage.{MakeStage}
+use Rattle.mail_ops.specs.Making.{KeepsAllButLogs, MakeAnswers, MakesLog}
 use Rattle.mail_ops.specs.declared.making.MakeStage.TheVariants as make_stage
-use Rattle.task_steps.proofs.EventLaws.{fall}
 
 -- ---- logs that were made
 

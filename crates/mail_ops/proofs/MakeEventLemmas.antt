@@ -1,42 +1,19 @@
 -- The events of a make that name no mailbox, by the clause of a step.
-use Rattle.std.proofs.lemmas.List.Elements.{All-nil}
-use Rattle.std.proofs.lemmas.Bool.Decides.{nat_tests}
-use Rattle.std.proofs.Common.{◌≡◌, ◌≤◌, ◌<◌, ◌+◌, ℕ, Bool, true, false, List, [], ◌∷◌, ◌++◌, Option, Some, None, refl, sym, ◌∙◌, ap, arith, inl, inr}
-use Rattle.std.specs.Prelude.{nat_le, length, slice_get}
-use Rattle.std.proofs.lemmas.Grind.{common_steps}
-use Rattle.disk_model.specs.Disk.{History, Faults, told_calls, Grows}
-use Rattle.mdbox_base.specs.declared.entries.Highest.{Highest}
-use Rattle.mdbox_base.specs.declared.ids.BoxNo.{BoxNo}
-use Rattle.mdbox_base.specs.declared.progress.Did.{Did}
-use Rattle.mdbox_base.specs.declared.progress.Did.TheVariants as did
-use Rattle.mdbox_base.specs.declared.replies.Refusal.{Refusal}
-use Rattle.mdbox_base.specs.declared.replies.Refusal.TheVariants as refusal
-use Rattle.mdbox_base.specs.declared.replies.Reply.{Reply}
-use Rattle.mdbox_base.specs.declared.replies.Reply.TheVariants as reply
-use Rattle.mdbox_base.specs.declared.requests.Request.TheVariants as request
-use Rattle.mdbox_base.specs.declared.script.Half.TheVariants as half
-use Rattle.model_lists.specs.Lists.{Lists}
-use Rattle.model_meaning.specs.MapMeaning.{MapMeaning, no_numbers}
-use Rattle.list_machine.specs.Run.{EventPart, First, Last, StartsOver, RunEvent, event_of, Run, and_then, own_events, map_of, drawn_also}
-use Rattle.list_machine.specs.Machine.{is_step}
-use Rattle.journal.specs.Journal.{halves_of, half_of, IsReplyOf}
-use Rattle.journal.specs.Events.{Around, is_overtaken, next_part, behind_make}
+use Rattle.mail_ops.proofs.Common.{All-nil, nat_tests, ◌≡◌, ◌≤◌, ◌<◌, ◌+◌, ℕ, Bool, true, false, List, [], ◌∷◌, ◌++◌, Option, Some, None, refl, sym, ◌∙◌, ap, arith, inl, inr, nat_le, length, slice_get, common_steps, History, Faults, told_calls, Grows, Highest, BoxNo, Did, did, Refusal, refusal}
+use Rattle.mail_ops.proofs.Common.{Reply, reply, request, half, Lists, MapMeaning, no_numbers, EventPart, First, Last, StartsOver, RunEvent, event_of, Run, and_then, own_events, map_of, drawn_also, is_step, halves_of, IsReplyOf, Around, next_part, StoreValue, indexes_of, MailIsKept, Seen, ShowsSeen}
+use Rattle.mail_ops.proofs.Common.{HasComeTo, Steps, TellsSame, naming_refusal, making_refusal, with_drawn_box, IsStoppedSo, HasChangedDisk, FellChanging, MadeLogSo, CanBeNamed, seen_of, MakeStage, stage, CanRefuse, did_check, did_fall, did_forget, did_own, did_stop, ends_well, fall, no_reply}
+use Rattle.mail_ops.proofs.Common.{own_event, refuses, replied_so, stands_by, stays_left, comes_along, stays_itself, first_reply, never_more, mail_still, nothing, due_as_before}
+use Rattle.journal.specs.Journal.{half_of}
+use Rattle.journal.specs.Events.{is_overtaken, behind_make}
 use Rattle.journal.specs.Makes.{HasCome}
-use Rattle.store_core.specs.Value.{StoreValue, indexes_of}
-use Rattle.model_kept.specs.Kept.{MailIsKept}
-use Rattle.task_steps.specs.Step.{Seen, ShowsSeen, HasComeTo, Leads, Steps}
-use Rattle.task_steps.specs.Tells.{TellsSame}
+use Rattle.task_steps.specs.Step.{Leads}
 use Rattle.task_steps.proofs.SeenLemmas.{comes_to_on}
 use Rattle.mail_ops.specs.MakeStages.{IsToMakeLog, HasMadeLog}
-use Rattle.mail_ops.specs.Making.{IsAtMake, naming_refusal, making_refusal, with_drawn_box, RemovesLog, IsStoppedSo, ChangesDisk, HasChangedDisk, FellChanging, same_lists, MadeLogSo, CanBeNamed}
-use Rattle.store_seen.specs.Seeing.{seen_of}
-use Rattle.mail_ops.specs.declared.making.MakeStage.{MakeStage}
-use Rattle.mail_ops.specs.declared.making.MakeStage.TheVariants as stage
-use Rattle.task_steps.proofs.EventLaws.{CanRefuse, did_check, did_fall, did_forget, did_own, did_stop, ends_well, fall, LeftBy, no_reply, own_event, refusal_event, refuses, replied_so, stands_by, stays_left}
-use Rattle.task_steps.proofs.KeptStoreLemmas.{comes_along, comes_drawn, stays_itself, StaysSo}
-use Rattle.task_steps.proofs.OneEventLemmas.{first_reply, never_more}
-use Rattle.task_steps.proofs.UnmovedLemmas.{leaves_none, mail_still, nothing}
-use Rattle.store_seen.proofs.SeeingLemmas.{due_as_before, tells_as_before}
+use Rattle.mail_ops.specs.Making.{IsAtMake, RemovesLog, ChangesDisk, same_lists}
+use Rattle.task_steps.proofs.EventLaws.{LeftBy, refusal_event}
+use Rattle.task_steps.proofs.KeptStoreLemmas.{comes_drawn, StaysSo}
+use Rattle.task_steps.proofs.UnmovedLemmas.{leaves_none}
+use Rattle.store_seen.proofs.SeeingLemmas.{tells_as_before}
 use Rattle.mail_ops.proofs.FlagEventLemmas.{shown_on}
 use Rattle.mail_ops.proofs.MakeCheckLemmas.{naming_checked, making_checked, naming_steps, making_steps}
 use Rattle.mail_ops.proofs.MakeStageLemmas.{first_next, naming_part, naming_next, makes_log_then, starts_over_then}

@@ -1,23 +1,11 @@
 -- What the events of a make leave to other tasks, and the log that it has made.
-use Rattle.std.proofs.Common.{◌≡◌, ◌≤◌, ◌<◌, ◌==◌, ◌||◌, ℕ, Bool, true, false, cond, List, [], ◌∷◌, ◌++◌, length, Option, Some, refl, sym, ◌∙◌, ap, subst, arith}
-use Rattle.std.proofs.lemmas.Grind.{common_steps}
-use Rattle.std.proofs.lemmas.Bool.Decides.{nat_tests}
-use Rattle.std.proofs.lemmas.Bool.{eq-eqb, ne_eqb}
-use Rattle.disk_model.specs.Disk.{History}
-use Rattle.mdbox_base.specs.declared.entries.MapEntry.TheVariants as map_entry
-use Rattle.mdbox_base.specs.declared.ids.BoxNo.{BoxNo}
-use Rattle.model_meaning.specs.BoxMeaning.{BoxMeaning, box_meaning}
-use Rattle.model_meaning.specs.MapMeaning.{MapBox, MapMeaning}
-use Rattle.model_store.specs.Listing.{meaning_numbered}
-use Rattle.store_core.specs.Keeping.{KeepsUids}
-use Rattle.store_core.specs.MadeLogs.{has_made_log}
-use Rattle.store_core.specs.Running.{IsStore}
-use Rattle.store_core.specs.Value.{StoreValue, indexes_of}
+use Rattle.mail_ops.proofs.Common.{◌≡◌, ◌≤◌, ◌<◌, ◌==◌, ◌||◌, ℕ, Bool, true, false, cond, List, [], ◌∷◌, ◌++◌, Option, Some, refl, sym, ◌∙◌, ap, subst, arith, common_steps, nat_tests, eq-eqb, ne_eqb, History, map_entry, BoxNo, BoxMeaning, box_meaning, MapBox, MapMeaning, meaning_numbered, KeepsUids}
+use Rattle.mail_ops.proofs.Common.{has_made_log, IsStore, StoreValue, indexes_of, IsReadyToMake, NamesLog, stage}
+use Rattle.std.proofs.Common.{length}
 use Rattle.store_core.proofs.NamingLemmas.{one_box_more, box_named}
 use Rattle.mail_ops.proofs.CountingLemmas.{one_meaning_each}
 use Rattle.mail_ops.proofs.KeptUidLemmas.{highest_rises, kept_on}
-use Rattle.mail_ops.specs.Making.{IsReadyToMake, MakesLog, NamesLog}
-use Rattle.mail_ops.specs.declared.making.MakeStage.TheVariants as stage
+use Rattle.mail_ops.specs.Making.{MakesLog}
 
 -- ---- logs
 

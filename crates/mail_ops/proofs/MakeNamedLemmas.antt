@@ -1,41 +1,19 @@
 -- The event of a make that names its mailbox, by the clause of a step.
-use Rattle.model_meaning.specs.MapFits.{MapFits}
+use Rattle.mail_ops.proofs.Common.{MapFits, ◌≡◌, ◌≤◌, ◌<◌, ℕ, Bool, true, false, List, [], ◌∷◌, ◌++◌, Option, Some, None, refl, sym, ◌∙◌, ap, subst, arith, inl, All, All-nil, All-cons, History, Faults, told_calls, IsNumber, Highest, map_entry, BoxNo, did, refusal, Reply, reply, request, half}
+use Rattle.mail_ops.proofs.Common.{Mailbox, Lists, AreWellFormed, BoxMeaning, box_meaning, MapRecord, MapBox, MapMeaning, map_applied, no_numbers, ShowLists, Last, RunEvent, event_of, Run, own_events, first_refusal, answers_well, IsReplyOf, due_at, IsStore, StoreValue, indexes_of, ShowsSeen}
+use Rattle.mail_ops.proofs.Common.{HasComeTo, NamesLog, IsStoppedSo, CanBeNamed, HasChangedDisk, FellChanging, seen_of, MakeStage, stage, did_fall, did_own, ends_well, own_event, some_reply, stays_left, never_more}
 use Rattle.mail_ops.proofs.MakeCallLemmas.{naming_fits}
-use Rattle.std.proofs.Common.{◌≡◌, ◌≤◌, ◌<◌, ℕ, Bool, true, false, List, [], ◌∷◌, ◌++◌, Option, Some, None, refl, sym, ◌∙◌, ap, subst, arith, inl}
-use Rattle.std.specs.Prelude.{All}
-use Rattle.std.proofs.lemmas.List.Elements.{All-nil, All-cons, All-head, All-tail}
-use Rattle.disk_model.specs.Disk.{History, Faults, told_calls}
-use Rattle.mdbox_base.specs.Words.{IsName, IsNumber}
-use Rattle.mdbox_base.specs.declared.entries.Highest.{Highest}
-use Rattle.mdbox_base.specs.declared.entries.MapEntry.TheVariants as map_entry
-use Rattle.mdbox_base.specs.declared.ids.BoxNo.{BoxNo}
-use Rattle.mdbox_base.specs.declared.progress.Did.TheVariants as did
-use Rattle.mdbox_base.specs.declared.replies.Refusal.TheVariants as refusal
-use Rattle.mdbox_base.specs.declared.replies.Reply.{Reply}
-use Rattle.mdbox_base.specs.declared.replies.Reply.TheVariants as reply
-use Rattle.mdbox_base.specs.declared.requests.Request.TheVariants as request
-use Rattle.mdbox_base.specs.declared.script.Half.TheVariants as half
-use Rattle.model_lists.specs.Lists.{Mailbox, Lists, AreWellFormed, empty_mailbox}
-use Rattle.model_meaning.specs.BoxMeaning.{BoxMeaning, box_meaning}
-use Rattle.model_meaning.specs.MapMeaning.{MapRecord, MapBox, MapMeaning, map_applied, no_numbers}
+use Rattle.std.proofs.lemmas.List.Elements.{All-head, All-tail}
+use Rattle.mdbox_base.specs.Words.{IsName}
+use Rattle.model_lists.specs.Lists.{empty_mailbox}
 use Rattle.model_meaning.specs.Sound.{IsSoundMapBox}
-use Rattle.model_store.specs.Listing.{ShowsMailbox, ShowLists}
-use Rattle.list_machine.specs.Run.{Last, RunEvent, event_of, Run, own_events}
-use Rattle.list_machine.specs.Machine.{IsMade, first_refusal, make_checks}
-use Rattle.list_machine.proofs.MachineOrderLemmas.{answers_well}
-use Rattle.journal.specs.Journal.{IsReplyOf}
+use Rattle.model_store.specs.Listing.{ShowsMailbox}
+use Rattle.list_machine.specs.Machine.{IsMade, make_checks}
 use Rattle.journal.specs.Events.{number_of}
-use Rattle.store_core.specs.Dues.{number_beside, due_at}
-use Rattle.store_core.specs.Running.{IsStore}
-use Rattle.store_core.specs.Value.{StoreValue, indexes_of}
+use Rattle.store_core.specs.Dues.{number_beside}
 use Rattle.store_core.proofs.NamingLemmas.{same_records, one_box_more, box_named}
-use Rattle.task_steps.specs.Step.{ShowsSeen, HasComeTo}
-use Rattle.mail_ops.specs.Making.{NamesLog, IsStoppedSo, CanBeNamed, HasChangedDisk, FellChanging, with_mailbox}
-use Rattle.store_seen.specs.Seeing.{seen_of}
-use Rattle.mail_ops.specs.declared.making.MakeStage.{MakeStage}
-use Rattle.mail_ops.specs.declared.making.MakeStage.TheVariants as stage
-use Rattle.task_steps.proofs.EventLaws.{did_fall, did_own, ends_well, one_reply, own_event, some_reply, stays_left}
-use Rattle.task_steps.proofs.OneEventLemmas.{never_more}
+use Rattle.mail_ops.specs.Making.{with_mailbox}
+use Rattle.task_steps.proofs.EventLaws.{one_reply}
 use Rattle.mail_ops.proofs.LoweringLemmas.{comes_with, one_fits}
 use Rattle.mail_ops.proofs.MakeCheckLemmas.{naming_checked}
 use Rattle.mail_ops.proofs.MakeEventLemmas.{MakeClause, naming_refuses, in_turn, above_not, stopped_stays, stopped_shows}

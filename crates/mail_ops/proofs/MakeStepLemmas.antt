@@ -1,36 +1,11 @@
 -- What the step of a make says, event by event.
-use Rattle.std.proofs.Common.{◌≡◌, ◌≤◌, ◌<◌, ◌+◌, ℕ, Bool, true, false, cond, List, Option, Some, None, refl, sym, ◌∙◌, ap, subst, arith, inl, inr}
-use Rattle.std.proofs.lemmas.Bool.Decides.{nat_tests}
-use Rattle.std.specs.Prelude.{◌⊎◌, nat_lt}
-use Rattle.std.proofs.lemmas.Grind.{common_steps}
-use Rattle.disk_model.specs.Disk.{History, Faults}
-use Rattle.mdbox_base.specs.Words.{IsName, IsNumber}
-use Rattle.mdbox_base.specs.declared.ids.BoxNo.{BoxNo}
-use Rattle.mdbox_base.specs.declared.progress.Did.{Did}
-use Rattle.mdbox_base.specs.declared.progress.Did.TheVariants as did
-use Rattle.mdbox_base.specs.declared.progress.Progress.{Progress}
-use Rattle.mdbox_base.specs.declared.progress.Progress.TheVariants as progress
-use Rattle.mdbox_base.specs.declared.replies.Refusal.{Refusal}
-use Rattle.mdbox_base.specs.declared.replies.Refusal.TheVariants as refusal
-use Rattle.mdbox_base.specs.declared.replies.Reply.TheVariants as reply
-use Rattle.mdbox_base.specs.declared.script.Half.TheVariants as half
-use Rattle.model_lists.specs.Lists.{Lists}
-use Rattle.store_core.specs.Dues.{Moves, no_amounts, amounts_in}
-use Rattle.store_core.specs.Keeping.{KeepsMail, KeepsUids}
-use Rattle.store_core.specs.MadeLogs.{IsUnnamed, has_made_log, without_box}
-use Rattle.store_core.specs.Running.{IsStore}
-use Rattle.store_core.specs.Value.{StoreValue, indexes_of}
-use Rattle.store_core.proofs.DueLemmas.{moves_as}
-use Rattle.task_steps.specs.Step.{ended_by}
-use Rattle.mail_ops.specs.Event.{refusal_told, told_as}
-use Rattle.mail_ops.specs.Making.{MakeValue, naming_refusal, making_refusal, IsReadyToMake, KeepsAllButLogs, make_left, with_drawn_box, NamesLog, RemovesLog, IsLogNotMade, IsStoppedSo, MakeAnswers, HasChangedDisk, FellChanging, same_lists, with_mailbox, MadeLogSo, FellIfStopped, CanBeNamed, MakesOn}
-use Rattle.mail_ops.specs.declared.event.NotDone.{NotDone}
-use Rattle.mail_ops.specs.declared.event.NotDone.TheVariants as not_done
-use Rattle.mail_ops.specs.declared.making.MakeStage.{MakeStage}
-use Rattle.mail_ops.specs.declared.making.MakeStage.TheVariants as stage
-use Rattle.task_claims.specs.Leaving.{SyncsMail}
-use Rattle.mail_ops.specs.OnlyLogs.{ChangesOnlyLogs}
-use Rattle.store_seen.proofs.SeeingLemmas.{due_as_before}
+use Rattle.mail_ops.proofs.Common.{◌≡◌, ◌≤◌, ◌<◌, ◌+◌, ℕ, Bool, true, false, cond, List, Option, Some, None, refl, sym, ◌∙◌, ap, subst, arith, inl, inr, nat_tests, ◌⊎◌, nat_lt, common_steps, History, Faults, IsNumber, BoxNo, Did, did, Progress, progress, Refusal, refusal, reply, half, Lists, Moves}
+use Rattle.mail_ops.proofs.Common.{amounts_in, KeepsMail, KeepsUids, has_made_log, IsStore, StoreValue, indexes_of, moves_as, ended_by, refusal_told, told_as, naming_refusal, making_refusal, IsReadyToMake, with_drawn_box, NamesLog, IsStoppedSo, HasChangedDisk, FellChanging, MadeLogSo, CanBeNamed}
+use Rattle.mail_ops.proofs.Common.{NotDone, not_done, MakeStage, stage, SyncsMail, ChangesOnlyLogs, due_as_before}
+use Rattle.mdbox_base.specs.Words.{IsName}
+use Rattle.store_core.specs.Dues.{no_amounts}
+use Rattle.store_core.specs.MadeLogs.{IsUnnamed, without_box}
+use Rattle.mail_ops.specs.Making.{MakeValue, KeepsAllButLogs, make_left, RemovesLog, IsLogNotMade, MakeAnswers, same_lists, with_mailbox, FellIfStopped, MakesOn}
 use Rattle.mail_ops.proofs.OnlyLogsLemmas.{done_keeps, fell_keeps, idle_keeps, mail_named, spared_none, took_spares}
 use Rattle.mail_ops.proofs.KeptUidLemmas.{logs_keep, same_keeps}
 use Rattle.mail_ops.proofs.MakeCheckLemmas.{naming_steps, making_steps}

@@ -1,34 +1,19 @@
 -- The message of a row, in the lists that a store shows, and the record that stores it.
-use Rattle.std.proofs.Common.{◌≡◌, ◌==◌, ℕ, Bool, true, false, cond, List, [], ◌∷◌, map, Option, Some, None, refl, sym, ◌∙◌, ap, subst, All, arith, inl, inr}
-use Rattle.std.proofs.lemmas.Grind.{common_steps}
-use Rattle.std.proofs.lemmas.Bool.Decides.{nat_tests}
-use Rattle.std.specs.Prelude.{find, option_and_then, ◌⊎◌, is_some, if◌then◌else◌}
+use Rattle.mail_ops.proofs.Common.{◌≡◌, ◌==◌, ℕ, Bool, true, false, cond, List, [], ◌∷◌, map, Option, Some, None, refl, sym, ◌∙◌, ap, subst, arith, inl, inr, common_steps, nat_tests, find, ◌⊎◌, is_some, if◌then◌else◌, option_map, option_map_or, bytes_eq, eq-eqb, History, BoxEntry, ListRow, Refusal}
+use Rattle.mail_ops.proofs.Common.{refusal, ListedMessage, Mailbox, Lists, AreWellFormed, listing_row, LogRow, BoxMeaning, box_meaning, row_at, MapRecord, MapBox, MapMeaning, map_meaning, record_at, record_of, equal_is, listed_row, ShowLists, meaning_named, Run, HasMailbox, HasUid, first_refusal}
+use Rattle.mail_ops.proofs.Common.{mailbox_named, message_in, IsStore, StoreValue, indexes_of, list_named, number_named, missing_message, IsRowOf}
+use Rattle.std.proofs.Common.{All}
+use Rattle.std.specs.Prelude.{option_and_then}
 use Rattle.std.specs.List.{AllByRecursion}
-use Rattle.std.specs.Option.{option_map, option_map_or}
-use Rattle.std.specs.Str.{bytes_eq}
-use Rattle.std.proofs.lemmas.Bool.{eq-eqb}
 use Rattle.std.proofs.lemmas.List.Elements.{All-contains}
-use Rattle.disk_model.specs.Disk.{Files, History}
-use Rattle.mdbox_base.specs.declared.entries.BoxEntry.{BoxEntry}
-use Rattle.mdbox_base.specs.declared.replies.ListRow.{ListRow}
-use Rattle.mdbox_base.specs.declared.replies.Refusal.{Refusal}
-use Rattle.mdbox_base.specs.declared.replies.Refusal.TheVariants as refusal
-use Rattle.model_lists.specs.Lists.{ListedMessage, Mailbox, Lists, AreWellFormed, listing_row}
-use Rattle.model_meaning.specs.BoxMeaning.{LogRow, BoxMeaning, box_meaning, rows_after, row_at}
-use Rattle.model_meaning.specs.MapMeaning.{MapRecord, MapBox, MapMeaning, map_meaning, record_at, record_of}
+use Rattle.disk_model.specs.Disk.{Files}
+use Rattle.model_meaning.specs.BoxMeaning.{rows_after}
 use Rattle.model_meaning.specs.Sound.{IsSoundMap}
-use Rattle.model_meaning.proofs.MapPlaceLemmas.{equal_is}
 use Rattle.model_meaning.proofs.MapSoundLemmas.{map_sound}
 use Rattle.model_octets.proofs.SearchLemmas.{found_is, found_one, text_is, text_yes}
-use Rattle.model_store.specs.Listing.{listed_row, ShowLists, meaning_named}
 use Rattle.model_store.specs.Opening.{HasItsRecord}
 use Rattle.model_store.specs.Stands.{StoresMessage, IsListed, AreListed, IsMailbox, AreMailboxes}
-use Rattle.list_machine.specs.Run.{Run}
-use Rattle.list_machine.specs.Machine.{HasMailbox, HasUid, first_refusal, has_name, has_number, mailbox_named, message_in, message_at, message_numbered}
-use Rattle.store_core.specs.Running.{IsStore}
-use Rattle.store_core.specs.Value.{StoreValue, indexes_of, list_named}
-use Rattle.task_claims.specs.Leaving.{number_named}
-use Rattle.mail_ops.specs.Messages.{missing_message, IsRowOf}
+use Rattle.list_machine.specs.Machine.{has_name, has_number, message_at, message_numbered}
 use Rattle.mail_ops.proofs.FlagListLemmas.{numbered, found_row, none_there, some_there}
 use Rattle.mail_ops.proofs.NamedListLemmas.{ShownBox, ShowsBox, shows_box}
 

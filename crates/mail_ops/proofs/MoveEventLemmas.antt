@@ -1,53 +1,17 @@
 -- The events of a move that a copy doesn't have, by the clause of a step.
-use Rattle.std.proofs.lemmas.List.Elements.{All-nil}
-use Rattle.std.proofs.Common.{◌≡◌, ◌≤◌, ◌+◌, ℕ, Bool, true, false, List, [], ◌∷◌, ◌++◌, Option, Some, None, refl, sym, ◌∙◌, ap, subst, arith, inl}
-use Rattle.std.specs.Prelude.{length, slice_get, is_none}
-use Rattle.std.proofs.lemmas.Bool.{ne_eqb}
-use Rattle.disk_model.specs.Disk.{History, Faults, told_calls}
-use Rattle.mdbox_base.specs.declared.entries.BoxEntry.TheVariants as box_entry
-use Rattle.mdbox_base.specs.declared.ids.MapUid.{MapUid}
-use Rattle.mdbox_base.specs.declared.ids.Uid.{Uid}
-use Rattle.mdbox_base.specs.declared.progress.Did.TheVariants as did
-use Rattle.mdbox_base.specs.declared.replies.Refusal.{Refusal}
-use Rattle.mdbox_base.specs.declared.replies.Refusal.TheVariants as refusal
-use Rattle.mdbox_base.specs.declared.replies.Reply.{Reply}
-use Rattle.mdbox_base.specs.declared.replies.Reply.TheVariants as reply
-use Rattle.mdbox_base.specs.declared.requests.Request.TheVariants as request
-use Rattle.mdbox_base.specs.declared.script.Half.TheVariants as half
-use Rattle.model_lists.specs.Lists.{ListedMessage, Lists, AreWellFormed}
-use Rattle.model_appends.specs.Appending.{lists_by, meanings_by}
-use Rattle.model_meaning.specs.BoxMeaning.{LogRow}
-use Rattle.model_meaning.specs.MapMeaning.{MapMeaning, record_of, no_numbers}
-use Rattle.model_store.specs.Listing.{ShowLists}
-use Rattle.model_store.specs.Settled.{IsSettledFor, Leaves}
-use Rattle.list_machine.specs.Run.{Last, SecondHalf, GivesBack, RunEvent, event_of, Run, and_then, map_of, own_events, source_of}
+use Rattle.mail_ops.proofs.Common.{All-nil, ◌≡◌, ◌≤◌, ◌+◌, ℕ, Bool, true, false, List, [], ◌∷◌, ◌++◌, Option, Some, None, refl, sym, ◌∙◌, ap, subst, arith, inl, length, slice_get, ne_eqb, History, Faults, told_calls, box_entry, MapUid, Uid, did, Refusal, refusal, Reply, reply, request, half}
+use Rattle.mail_ops.proofs.Common.{ListedMessage, Lists, AreWellFormed, lists_by, meanings_by, LogRow, MapMeaning, record_of, no_numbers, ShowLists, IsSettledFor, Leaves, Last, GivesBack, RunEvent, event_of, Run, and_then, map_of, own_events, source_of, answers_well, halves_of, Around, is_elsewhere}
+use Rattle.mail_ops.proofs.Common.{last_refusal, own_other, due_at, IsStore, StoreValue, indexes_of, one_due, number_named, HasComeTo, IsKept, tells_itself, MapTook, MapFell, lowering_of, IsHolding, added_copy, AddsRow, RemovesRow, FellRemoving, IsRowOf, missing_message, seen_of, CanRefuse}
+use Rattle.mail_ops.proofs.Common.{did_fall, did_own, did_stop, ends_well, no_reply, own_event, refuses, replied_so, some_reply, stands_by, stays_left, comes_along, never_more, mail_still, nothing}
+use Rattle.std.specs.Prelude.{is_none}
+use Rattle.list_machine.specs.Run.{SecondHalf}
 use Rattle.list_machine.specs.Machine.{add_message, expunge_from, message_numbered}
-use Rattle.list_machine.proofs.MachineOrderLemmas.{answers_well}
-use Rattle.journal.specs.Journal.{halves_of}
-use Rattle.journal.specs.Events.{Around, RemovesIfThere, is_elsewhere, last_refusal, lowers}
-use Rattle.journal.proofs.OwnEventLemmas.{own_other}
+use Rattle.journal.specs.Events.{RemovesIfThere, lowers}
 use Rattle.entry_steps.proofs.AppendListLemmas.{removed_from}
-use Rattle.store_core.specs.Dues.{due_at}
-use Rattle.store_core.specs.Running.{IsStore}
-use Rattle.store_core.specs.Value.{StoreValue, indexes_of}
-use Rattle.task_steps.specs.ExpungeStages.{one_due}
-use Rattle.task_claims.specs.Leaving.{number_named}
-use Rattle.task_steps.specs.Step.{HasComeTo, IsKept}
-use Rattle.task_steps.proofs.SeenLemmas.{tells_itself}
-use Rattle.mail_ops.specs.Appends.{MapTook, MapFell, lowering_of}
-use Rattle.mail_ops.specs.CopyStages.{IsHolding}
-use Rattle.mail_ops.specs.Copying.{added_copy, AddsRow}
-use Rattle.mail_ops.specs.Expunging.{RemovesRow, FellRemoving}
-use Rattle.mail_ops.specs.Messages.{IsRowOf, missing_message}
 use Rattle.mail_ops.specs.MoveStages.{HasCopied, HasMoved}
-use Rattle.store_seen.specs.Seeing.{seen_of}
 use Rattle.mail_ops.proofs.CopyFirstLemmas.{CopyingClause, place_free}
 use Rattle.mail_ops.proofs.CopyLastLemmas.{copy_known, adding, added_due, ended_due, is_copied, brings_copy, named_in, place_refuses, lowered_ends}
 use Rattle.mail_ops.proofs.CopyPartLemmas.{adds_next}
-use Rattle.task_steps.proofs.EventLaws.{CanRefuse, did_fall, did_own, did_stop, ends_well, no_reply, own_event, refuses, replied_so, some_reply, stands_by, stays_left}
-use Rattle.task_steps.proofs.KeptStoreLemmas.{comes_along}
-use Rattle.task_steps.proofs.OneEventLemmas.{never_more}
-use Rattle.task_steps.proofs.UnmovedLemmas.{mail_still, nothing}
 use Rattle.mail_ops.proofs.FlagEventLemmas.{shown_on}
 use Rattle.mail_ops.proofs.FlagListLemmas.{shown_number}
 use Rattle.mail_ops.proofs.LastEventLemmas.{copied_by, copied_new, copied_still, ends_in, ends_still, held_by, held_same, last_before, source_by, source_same, unrefused_then}

@@ -1,41 +1,12 @@
 -- What the step of a move says of each event.
-use Rattle.std.proofs.Common.{◌≡◌, ◌<◌, ◌+◌, ℕ, Bool, true, false, List, Option, Some, None, refl, sym, subst, arith, inl, inr}
-use Rattle.std.specs.Prelude.{◌⊎◌}
-use Rattle.disk_model.specs.Disk.{History, Faults}
-use Rattle.mdbox_base.specs.declared.ids.BoxNo.{BoxNo}
-use Rattle.mdbox_base.specs.declared.ids.MapUid.{MapUid}
-use Rattle.mdbox_base.specs.declared.ids.Uid.{Uid}
-use Rattle.mdbox_base.specs.declared.progress.Did.{Did}
-use Rattle.mdbox_base.specs.declared.progress.Did.TheVariants as did
-use Rattle.mdbox_base.specs.declared.progress.Progress.{Progress}
-use Rattle.mdbox_base.specs.declared.progress.Progress.TheVariants as progress
-use Rattle.mdbox_base.specs.declared.replies.Refusal.{Refusal}
-use Rattle.mdbox_base.specs.declared.replies.Refusal.TheVariants as refusal
-use Rattle.mdbox_base.specs.declared.replies.Reply.TheVariants as reply
-use Rattle.mdbox_base.specs.declared.requests.Request.TheVariants as request
-use Rattle.mdbox_base.specs.declared.script.Half.TheVariants as half
-use Rattle.store_core.specs.Dues.{due_at, Moves, amounts_in}
-use Rattle.store_core.specs.Keeping.{KeepsRest}
-use Rattle.store_core.specs.Running.{IsStore}
-use Rattle.store_core.specs.Value.{StoreValue}
-use Rattle.store_core.proofs.DueLemmas.{moves_as}
-use Rattle.task_steps.specs.ExpungeStages.{one_due}
-use Rattle.task_steps.specs.Step.{ended_by}
-use Rattle.mail_ops.specs.Appends.{MapTook, MapFell, lowering_of}
-use Rattle.mail_ops.specs.Copying.{copy_refusal, RaisesRow, IsRaiseRefusal, MayBeRaised, IsNotRaised, AddsRow, FellAdding}
-use Rattle.mail_ops.specs.OnlyLogs.{ChangesOnlyLogs}
-use Rattle.mail_ops.specs.Event.{refusal_told, told_as}
-use Rattle.mail_ops.specs.Expunging.{RemovesRow, FellRemoving}
-use Rattle.mail_ops.specs.Messages.{missing_message}
-use Rattle.mail_ops.specs.Moving.{IsAtMove, move_amounts, move_left, IsReadyToMove, MoveAnswers}
-use Rattle.mail_ops.specs.declared.event.NotDone.TheVariants as not_done
-use Rattle.mail_ops.specs.declared.event.NotDone.{NotDone}
+use Rattle.mail_ops.proofs.Common.{◌≡◌, ◌<◌, ◌+◌, ℕ, Bool, true, false, List, Option, Some, None, refl, sym, subst, arith, inl, inr, ◌⊎◌, History, Faults, BoxNo, MapUid, Uid, Did, did, Progress, progress, Refusal, refusal, reply, request, half, due_at, Moves, amounts_in, KeepsRest, IsStore}
+use Rattle.mail_ops.proofs.Common.{StoreValue, moves_as, one_due, ended_by, MapTook, MapFell, lowering_of, copy_refusal, RaisesRow, IsRaiseRefusal, IsNotRaised, AddsRow, FellAdding, ChangesOnlyLogs, refusal_told, told_as, RemovesRow, FellRemoving, missing_message, IsReadyToMove, not_done, NotDone}
+use Rattle.mail_ops.proofs.Common.{MoveStage, due_as_before, names_stay_same}
+use Rattle.mail_ops.specs.Copying.{MayBeRaised}
+use Rattle.mail_ops.specs.Moving.{IsAtMove, move_amounts, move_left, MoveAnswers}
 use Rattle.mail_ops.specs.declared.moving.MoveStage.TheVariants as stage
-use Rattle.mail_ops.specs.declared.moving.MoveStage.{MoveStage}
 use Rattle.mail_ops.proofs.CopyFirstLemmas.{CopyingClause, back_runs, raise_done, raise_fell, raise_refused, raise_steps, raise_unremembered}
 use Rattle.mail_ops.proofs.CopyLastLemmas.{added_due, add_fell, back_fell, given_back}
-use Rattle.store_seen.proofs.SeeingLemmas.{due_as_before}
-use Rattle.task_claims.proofs.NameLemmas.{names_stay_same}
 use Rattle.mail_ops.proofs.KeptUidLemmas.{addition_left, fallen_keeps, named_keeps, raised_source}
 use Rattle.mail_ops.proofs.LoweringLemmas.{ended_moves, held_still, lowered_due, raised_covers, raised_moves}
 use Rattle.mail_ops.proofs.MoveEventLemmas.{move_added, move_gone, move_removed, move_broken, move_unlowered, move_lowered}

@@ -1,21 +1,8 @@
 -- The parts of a move: its first half is that of a request that copies, and what stands behind it.
-use Rattle.std.proofs.Common.{◌≡◌, ◌||◌, ℕ, Bool, true, List, [], ◌∷◌, Option, Some, None, refl, ◌∙◌, ap, arith}
-use Rattle.std.proofs.lemmas.Grind.{common_steps}
-use Rattle.std.proofs.lemmas.Bool.Decides.{nat_tests}
-use Rattle.std.specs.Prelude.{is_some, nat_lt, length, if◌then◌else◌}
-use Rattle.mdbox_base.specs.declared.ids.MapUid.{MapUid}
-use Rattle.mdbox_base.specs.declared.ids.Uid.{Uid}
-use Rattle.mdbox_base.specs.declared.replies.Refusal.{Refusal}
-use Rattle.mdbox_base.specs.declared.replies.Refusal.TheVariants as refusal
-use Rattle.mdbox_base.specs.declared.replies.Reply.{Reply}
-use Rattle.mdbox_base.specs.declared.replies.Reply.TheVariants as reply
-use Rattle.mdbox_base.specs.declared.requests.Request.TheVariants as request
-use Rattle.mdbox_base.specs.declared.script.Half.TheVariants as half
-use Rattle.list_machine.specs.Run.{EventPart, Last, SecondHalf, GivesBack, BoxAppend, Run, own_events, uid_copied}
-use Rattle.list_machine.specs.Machine.{is_step}
-use Rattle.journal.specs.Journal.{IsReplyOf}
-use Rattle.journal.specs.Events.{Around, behind_copy, behind_move, behind_refused, ends_with_count, is_elsewhere, last_refusal, next_part}
-use Rattle.mail_ops.specs.MakeStages.{EndsInPart}
+use Rattle.mail_ops.proofs.Common.{◌≡◌, ◌||◌, ℕ, Bool, true, List, [], ◌∷◌, Option, Some, None, refl, ◌∙◌, ap, arith, common_steps, nat_tests, is_some, nat_lt, length, if◌then◌else◌, MapUid, Uid, Refusal, refusal, Reply, reply, request, half, EventPart, Last, GivesBack, BoxAppend, Run, own_events}
+use Rattle.mail_ops.proofs.Common.{uid_copied, is_step, IsReplyOf, Around, is_elsewhere, last_refusal, next_part, EndsInPart}
+use Rattle.list_machine.specs.Run.{SecondHalf}
+use Rattle.journal.specs.Events.{behind_copy, behind_move, behind_refused, ends_with_count}
 use Rattle.mail_ops.specs.MoveStages.{HasCopied, HasMoved}
 use Rattle.mail_ops.proofs.CopyPartLemmas.{IsCopying, adding_part}
 use Rattle.mail_ops.proofs.LastEventLemmas.{next_behind}

@@ -1,24 +1,7 @@
 -- What the step of a move says, by its stage.
-use Rattle.std.proofs.Common.{◌≡◌, ℕ, true, false, List, Option, Some, refl, sym, subst, inl, inr}
-use Rattle.std.specs.Prelude.{◌⊎◌}
-use Rattle.disk_model.specs.Disk.{History, Faults}
-use Rattle.mdbox_base.specs.declared.ids.Uid.{Uid}
-use Rattle.mdbox_base.specs.declared.progress.Did.{Did}
-use Rattle.mdbox_base.specs.declared.progress.Did.TheVariants as did
-use Rattle.mdbox_base.specs.declared.progress.Progress.{Progress}
-use Rattle.mdbox_base.specs.declared.progress.Progress.TheVariants as progress
-use Rattle.mdbox_base.specs.declared.replies.Refusal.TheVariants as refusal
-use Rattle.mdbox_base.specs.declared.replies.Reply.TheVariants as reply
-use Rattle.mdbox_base.specs.declared.requests.Request.TheVariants as request
-use Rattle.mdbox_base.specs.declared.script.Half.TheVariants as half
-use Rattle.store_core.specs.Running.{IsStore}
-use Rattle.store_core.specs.Value.{StoreValue}
-use Rattle.task_steps.specs.Step.{IsKept}
-use Rattle.task_steps.proofs.SeenLemmas.{not_begun_stays}
-use Rattle.mail_ops.specs.Copying.{copy_refusal}
-use Rattle.mail_ops.specs.Moving.{MoveValue, IsAtMove, IsReadyToMove, MovesOn}
+use Rattle.mail_ops.proofs.Common.{◌≡◌, ℕ, true, false, List, Option, Some, refl, sym, subst, inl, inr, ◌⊎◌, History, Faults, Uid, Did, did, Progress, progress, refusal, reply, request, half, IsStore, StoreValue, IsKept, not_begun_stays, copy_refusal, IsReadyToMove, MovesOn, MoveStage}
+use Rattle.mail_ops.specs.Moving.{MoveValue, IsAtMove}
 use Rattle.mail_ops.specs.declared.moving.MoveStage.TheVariants as stage
-use Rattle.mail_ops.specs.declared.moving.MoveStage.{MoveStage}
 use Rattle.mail_ops.proofs.CopyFirstLemmas.{CopyingClause, raise_stopped}
 use Rattle.mail_ops.proofs.CopyLastLemmas.{add_stopped, add_refused, add_unremembered, back_stopped, holding_kept, giving_back_kept}
 use Rattle.mail_ops.proofs.MoveEventLemmas.{removal_stopped, lowering_stopped, copied_kept, moved_kept}

@@ -1,14 +1,8 @@
 -- A mailbox that is found by name, in what the logs mean and in the lists that they show.
-use Rattle.std.proofs.Common.{◌≡◌, ℕ, Bool, true, false, cond, List, [], ◌∷◌, map, Option, Some, None, refl, sym, ◌∙◌, ap, subst}
-use Rattle.std.specs.Str.{bytes_eq}
+use Rattle.mail_ops.proofs.Common.{◌≡◌, ℕ, Bool, true, false, cond, List, [], ◌∷◌, map, Option, Some, None, refl, sym, ◌∙◌, ap, subst, bytes_eq, Mailbox, Lists, listing_row, First, RunEvent, Run, PartAnswers, mailbox_named, BoxMeaning, MapBox, listed_row, ShowLists, meaning_named}
 use Rattle.std.proofs.lemmas.Bool.{cond-true, cond-false}
 use Rattle.mdbox_base.specs.declared.requests.Request.TheVariants.{List as ListBox}
-use Rattle.model_lists.specs.Lists.{Mailbox, Lists, listing_row}
-use Rattle.list_machine.specs.Run.{First, RunEvent, Run}
-use Rattle.list_machine.specs.Machine.{PartAnswers, mailbox_named}
-use Rattle.model_meaning.specs.BoxMeaning.{BoxMeaning}
-use Rattle.model_meaning.specs.MapMeaning.{MapBox}
-use Rattle.model_store.specs.Listing.{listed_row, ShowLists, meaning_named, listing_of}
+use Rattle.model_store.specs.Listing.{listing_of}
 
 -- a mailbox that is found by name has the next UID, and the messages, that its log means
 pub record ShownBox (name : List ℕ) (lists : Lists) (m : BoxMeaning) : Type 0 where

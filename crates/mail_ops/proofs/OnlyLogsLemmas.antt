@@ -1,31 +1,15 @@
 -- Events that change no more than logs: that did nothing, that made an append, and in which a change of the disk failed.
-use Rattle.std.proofs.Common.{◌≡◌, ◌≤◌, ◌↔◌, ◌∙◌, ℕ, true, false, List, Option, Some, None, refl, arith, inr, ap}
-use Rattle.disk_model.specs.Disk.{History, Faults}
-use Rattle.disk_model.specs.FaultCounts.{NoFault}
+use Rattle.mail_ops.proofs.Common.{◌≡◌, ◌≤◌, ◌∙◌, ℕ, true, false, List, Option, Some, None, refl, arith, inr, ap, History, Faults, NoFault, BoxEntry, MapEntry, Progress, progress, Refusal, refusal, Reply, reply, MailIsKept, MapMeaning, KeepsMail, KeepsRest, StoreValue, SyncsMail, BoxFell, BoxTook}
+use Rattle.mail_ops.proofs.Common.{MapFell, MapTook, ChangesOnlyLogs, fall}
+use Rattle.std.proofs.Common.{◌↔◌}
 use Rattle.disk_model.specs.declared.name.FileName.TheVariants as file
 use Rattle.gate_log.specs.Log.{NamedButFor}
 use Rattle.mdbox_base.specs.Streams.{Rose}
-use Rattle.mdbox_base.specs.declared.entries.BoxEntry.{BoxEntry}
-use Rattle.mdbox_base.specs.declared.entries.MapEntry.{MapEntry}
-use Rattle.mdbox_base.specs.declared.progress.Progress.{Progress}
-use Rattle.mdbox_base.specs.declared.progress.Progress.TheVariants as progress
-use Rattle.mdbox_base.specs.declared.replies.Refusal.{Refusal}
-use Rattle.mdbox_base.specs.declared.replies.Refusal.TheVariants as refusal
-use Rattle.mdbox_base.specs.declared.replies.Reply.{Reply}
-use Rattle.mdbox_base.specs.declared.replies.Reply.TheVariants as reply
-use Rattle.model_kept.specs.Kept.{MailIsKept}
 use Rattle.model_kept.proofs.KeptLemmas.{kept_begins}
-use Rattle.model_meaning.specs.MapMeaning.{MapMeaning}
-use Rattle.store_core.specs.Keeping.{KeepsMail, KeepsRest}
-use Rattle.store_core.specs.Value.{StoreValue}
-use Rattle.task_claims.specs.Leaving.{SyncsMail}
 use Rattle.task_claims.proofs.RestLemmas.{mail_same}
-use Rattle.mail_ops.specs.Appends.{BoxFell, BoxTook, MapFell, MapTook}
-use Rattle.mail_ops.specs.OnlyLogs.{ChangesOnlyLogs}
 use Rattle.mail_ops.specs.SparedMail.{SparesMail}
 use Rattle.mail_ops.specs.declared.task.TaskStage.{TaskStage}
 use Rattle.mail_ops.specs.declared.task.TaskStage.TheVariants as task_stage
-use Rattle.task_steps.proofs.EventLaws.{fall}
 
 -- ---- files
 

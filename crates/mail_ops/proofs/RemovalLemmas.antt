@@ -1,34 +1,12 @@
 -- A message that is removed from the log of its mailbox, or whose removal failed.
-use Rattle.std.proofs.Common.{◌≡◌, ◌+◌, ℕ, false, List, [], ◌∷◌, Option, Some, None, refl, ◌∙◌, ap, subst, arith}
-use Rattle.std.specs.Option.{option_map_or}
-use Rattle.disk_model.specs.Disk.{History, Faults}
-use Rattle.mdbox_base.specs.declared.entries.BoxEntry.{BoxEntry}
-use Rattle.mdbox_base.specs.declared.entries.BoxEntry.TheVariants as entry
-use Rattle.mdbox_base.specs.declared.entries.Highest.{Highest}
-use Rattle.mdbox_base.specs.declared.entries.MapEntry.{MapEntry}
-use Rattle.mdbox_base.specs.declared.ids.Uid.{Uid}
+use Rattle.mail_ops.proofs.Common.{◌≡◌, ◌+◌, ℕ, false, List, [], ◌∷◌, Option, Some, None, refl, ◌∙◌, ap, subst, arith, option_map_or, History, Faults, BoxEntry, entry, Highest, MapEntry, Uid, lists_by, meanings_by, Lists, AreWellFormed, LogRow, BoxMeaning, row_at, MapMeaning, record_of, ShowLists}
+use Rattle.mail_ops.proofs.Common.{Run, HasMailbox, HasUid, first_refusal, Brings, due_at, IsStore, StoreValue, indexes_of, one_due, HasComeTo, TellsSame, BoxFell, MapTook, MapFell, IsRowOf, seen_of, due_as_before, fall}
 use Rattle.model_appends.specs.Amounts.{more_due, due_by_box}
-use Rattle.model_appends.specs.Appending.{lists_by, meanings_by}
-use Rattle.model_lists.specs.Lists.{Lists, AreWellFormed}
-use Rattle.model_meaning.specs.BoxMeaning.{LogRow, BoxMeaning, row_at}
-use Rattle.model_meaning.specs.MapMeaning.{MapMeaning, record_of}
-use Rattle.model_store.specs.Listing.{ShowLists}
-use Rattle.list_machine.specs.Run.{Run}
-use Rattle.list_machine.specs.Machine.{expunge, HasMailbox, HasUid, first_refusal}
+use Rattle.list_machine.specs.Machine.{expunge}
 use Rattle.journal.specs.Events.{IsRecord}
 use Rattle.entry_steps.proofs.AppendListLemmas.{removed_by}
-use Rattle.store_core.specs.Append.{Brings}
-use Rattle.store_core.specs.Dues.{due_at}
-use Rattle.store_core.specs.Running.{IsStore}
-use Rattle.store_core.specs.Value.{StoreValue, indexes_of}
-use Rattle.task_steps.specs.ExpungeStages.{one_due}
-use Rattle.task_steps.specs.Step.{HasComeTo}
-use Rattle.task_steps.specs.Tells.{TellsSame}
-use Rattle.mail_ops.specs.Appends.{BoxAppends, BoxFell, MapTook, MapFell}
-use Rattle.mail_ops.specs.Messages.{IsRowOf}
-use Rattle.store_seen.specs.Seeing.{seen_of}
-use Rattle.store_seen.proofs.SeeingLemmas.{due_as_before, tells_as_before}
-use Rattle.task_steps.proofs.EventLaws.{fall}
+use Rattle.mail_ops.specs.Appends.{BoxAppends}
+use Rattle.store_seen.proofs.SeeingLemmas.{tells_as_before}
 use Rattle.task_steps.proofs.KeptStoreLemmas.{StaysSo}
 use Rattle.mail_ops.proofs.MessageLemmas.{ShownRow, shown_row, shown_guid, RecordOfRow, record_of_row}
 use Rattle.mail_ops.proofs.ShownEntryLemmas.{shown_entry}

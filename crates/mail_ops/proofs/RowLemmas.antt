@@ -1,10 +1,6 @@
 -- Rows of a listing that are gathered one by one.
-use Rattle.std.proofs.Common.{◌≡◌, List, [], ◌∷◌, ◌++◌, map, sym, ◌∙◌, ap}
-use Rattle.std.proofs.lemmas.List.{map-append, map-id}
-use Rattle.mdbox_base.specs.declared.replies.ListRow.{ListRow}
-use Rattle.model_meaning.specs.BoxMeaning.{LogRow}
-use Rattle.model_store.specs.Listing.{listed_row}
-use Rattle.box_index.specs.Row.{row_of}
+use Rattle.mail_ops.proofs.Common.{◌≡◌, List, [], ◌∷◌, ◌++◌, map, sym, ◌∙◌, ap, map-append, ListRow, LogRow, listed_row, row_of}
+use Rattle.std.proofs.lemmas.List.{map-id}
 use Rattle.box_index.specs.declared.index.BoxRow.{BoxRow}
 
 -- one row more

@@ -1,15 +1,10 @@
 -- Lists that are shown, with an entry more in the log of a mailbox.
-use Rattle.std.proofs.Common.{◌≡◌, ◌==◌, ℕ, Bool, true, false, not, cond, List, [], ◌∷◌, ◌++◌, map, refl, sym, ◌∙◌, ap}
-use Rattle.std.specs.Prelude.{max, filter}
-use Rattle.std.proofs.lemmas.List.{map-append}
-use Rattle.mdbox_base.specs.declared.entries.BoxEntry.{BoxEntry}
-use Rattle.mdbox_base.specs.declared.entries.BoxEntry.TheVariants as entry
-use Rattle.mdbox_base.specs.declared.replies.ListRow.{ListRow}
-use Rattle.model_lists.specs.Lists.{ListedMessage, Mailbox, Lists, listing_row}
-use Rattle.model_meaning.specs.BoxMeaning.{LogRow, BoxMeaning, row_made, row_removed, row_changed, next_named, box_applied}
-use Rattle.model_meaning.specs.MapMeaning.{MapBox}
-use Rattle.model_appends.specs.Appending.{message_made, message_removed, message_changed, mailbox_by, lists_by, meanings_by}
-use Rattle.model_store.specs.Listing.{listed_row, ShowsMailbox, ShowLists}
+use Rattle.mail_ops.proofs.Common.{◌≡◌, ◌==◌, ℕ, Bool, true, false, not, cond, List, [], ◌∷◌, ◌++◌, map, refl, sym, ◌∙◌, ap, filter, map-append, BoxEntry, entry, ListRow, ListedMessage, Mailbox, Lists, listing_row, LogRow, BoxMeaning, row_changed, box_applied, MapBox, lists_by, meanings_by}
+use Rattle.mail_ops.proofs.Common.{listed_row, ShowLists}
+use Rattle.std.specs.Prelude.{max}
+use Rattle.model_meaning.specs.BoxMeaning.{row_made, row_removed, next_named}
+use Rattle.model_appends.specs.Appending.{message_made, message_removed, message_changed, mailbox_by}
+use Rattle.model_store.specs.Listing.{ShowsMailbox}
 use Rattle.mail_ops.proofs.FlagListLemmas.{flag_row}
 
 -- the message that an entry makes is that of its row

@@ -1,22 +1,11 @@
 -- A copy, a move, an expunge and a make stay ready beside every event of every other task.
-use Rattle.std.proofs.Common.{◌≡◌, ◌==◌, ℕ, List, refl, arith}
-use Rattle.std.proofs.lemmas.Bool.{eq-eqb}
-use Rattle.std.proofs.Common.{ap}
-use Rattle.mdbox_base.specs.declared.ids.Uid.{Uid}
+use Rattle.mail_ops.proofs.Common.{◌≡◌, ◌==◌, ℕ, List, refl, arith, eq-eqb, ap, Uid, copy_claims, expunge_claims, move_claims, expunge_amounts, IsReadyToMake, IsReadyToMove, AreDueIn, CopyStage, ExpungeStage, MakeStage, MoveStage}
 use Rattle.task_claims.specs.Claims.{one_if}
 use Rattle.task_claims.specs.Stable.{IsStable}
 use Rattle.task_claims.proofs.LeftLemmas.{due_left, log_left}
-use Rattle.mail_ops.specs.Claims.{copy_claims, expunge_claims, make_claims, move_claims}
+use Rattle.mail_ops.specs.Claims.{make_claims}
 use Rattle.mail_ops.specs.Copy.{IsReadyToCopy}
-use Rattle.mail_ops.specs.Expunging.{expunge_amounts}
-use Rattle.mail_ops.specs.Making.{IsReadyToMake}
-use Rattle.mail_ops.specs.Moving.{IsReadyToMove}
-use Rattle.mail_ops.specs.Owing.{AreDueIn}
-use Rattle.mail_ops.specs.declared.copy.CopyStage.{CopyStage}
-use Rattle.mail_ops.specs.declared.expunging.ExpungeStage.{ExpungeStage}
-use Rattle.mail_ops.specs.declared.making.MakeStage.{MakeStage}
 use Rattle.mail_ops.specs.declared.making.MakeStage.TheVariants as make_stage
-use Rattle.mail_ops.specs.declared.moving.MoveStage.{MoveStage}
 use Rattle.mail_ops.proofs.ReadyLemmas.{moved_kept, source_kept}
 
 pub copy_stable : {D : Type 0} → (name : List ℕ) (uid : Uid) (now : CopyStage) → IsStable {D = D} (copy_claims now) (λ store history. IsReadyToCopy name uid now store)

@@ -1,12 +1,5 @@
 -- A step, by the stage of its task.
-use Rattle.std.proofs.Common.{◌≡◌, Some, subst}
-use Rattle.journal.specs.Events.{Around}
-use Rattle.mdbox_base.specs.declared.progress.Did.{Did}
-use Rattle.mdbox_base.specs.declared.replies.Reply.{Reply}
-use Rattle.mdbox_base.specs.declared.requests.Request.{Request}
-use Rattle.task_steps.specs.Step.{Seen, HasNotBegun, IsKept, Steps}
-use Rattle.task_steps.proofs.SeenLemmas.{not_begun_stays}
-use Rattle.task_steps.proofs.OneEventLemmas.{never_more}
+use Rattle.mail_ops.proofs.Common.{◌≡◌, Some, subst, Around, Did, Reply, Request, Seen, HasNotBegun, IsKept, Steps, not_begun_stays, never_more}
 use Rattle.mail_ops.specs.Task.{IsAt}
 use Rattle.mail_ops.specs.declared.task.TaskStage.{TaskStage}
 use Rattle.mail_ops.specs.declared.task.TaskStage.TheVariants as stage

@@ -1,14 +1,5 @@
 -- Answers, refusals and parts that are told apart.
-use Rattle.std.proofs.Common.{◌≡◌, true, Some, None, arith}
-use Rattle.std.proofs.lemmas.Bool.Decides.{nat_tests}
-use Rattle.std.proofs.lemmas.Grind.{common_steps}
-use Rattle.mdbox_base.specs.declared.progress.Progress.TheVariants as progress
-use Rattle.mdbox_base.specs.declared.replies.Refusal.{Refusal}
-use Rattle.mdbox_base.specs.declared.replies.Refusal.TheVariants as refusal
-use Rattle.mdbox_base.specs.declared.replies.Reply.{Reply}
-use Rattle.mdbox_base.specs.declared.replies.Reply.TheVariants as reply
-use Rattle.list_machine.specs.Run.{EventPart}
-use Rattle.list_machine.specs.Machine.{is_step}
+use Rattle.mail_ops.proofs.Common.{◌≡◌, true, Some, None, arith, nat_tests, common_steps, progress, Refusal, refusal, Reply, reply, EventPart, is_step}
 
 pub more_is : (given : Reply) → progress.More ≡ progress.Done given → ⊥
 more_is given e = cc e

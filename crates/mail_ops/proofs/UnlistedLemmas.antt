@@ -1,18 +1,9 @@
 -- Messages that no mailbox lists stay unlisted.
-use Rattle.std.proofs.Common.{◌≡◌, ◌≤◌, ◌+◌, ◌==◌, ℕ, Bool, true, false, cond, not, List, [], ◌∷◌, ◌++◌, map, Some, None, refl, sym, ◌∙◌, ap, subst, arith}
-use Rattle.std.specs.Prelude.{find, filter, count_by}
-use Rattle.std.specs.Str.{bytes_eq}
-use Rattle.std.proofs.lemmas.List.Sums.{sum_by-cons, sum_by-append}
-use Rattle.mdbox_base.specs.declared.entries.BoxEntry.{BoxEntry}
-use Rattle.mdbox_base.specs.declared.entries.BoxEntry.TheVariants as box_entry
+use Rattle.mail_ops.proofs.Common.{◌≡◌, ◌≤◌, ◌+◌, ◌==◌, ℕ, Bool, true, false, cond, not, List, [], ◌∷◌, ◌++◌, map, Some, None, refl, sym, ◌∙◌, ap, subst, arith, find, filter, count_by, bytes_eq, sum_by-cons, BoxEntry, box_entry, MapUid, Uid, meanings_by, LogRow, BoxMeaning, row_at, row_changed}
+use Rattle.mail_ops.proofs.Common.{box_applied, MapBox, meaning_named, refs_in}
+use Rattle.std.proofs.lemmas.List.Sums.{sum_by-append}
 use Rattle.mdbox_base.specs.declared.ids.Guid.{Guid}
-use Rattle.mdbox_base.specs.declared.ids.MapUid.{MapUid}
-use Rattle.mdbox_base.specs.declared.ids.Uid.{Uid}
-use Rattle.model_appends.specs.Appending.{meanings_by}
-use Rattle.model_meaning.specs.BoxMeaning.{LogRow, BoxMeaning, row_at, row_changed, box_applied}
-use Rattle.model_meaning.specs.MapMeaning.{MapBox}
 use Rattle.model_meaning.proofs.AppliedLemmas.{rows_by_added, rows_by_flagged, rows_by_removed}
-use Rattle.model_store.specs.Listing.{meaning_named, refs_in}
 
 abbrev pub has_guid : List ℕ → LogRow → Bool
 has_guid guid row = bytes_eq row.guid guid

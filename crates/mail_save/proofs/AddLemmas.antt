@@ -1,16 +1,8 @@
 -- Where a message is added: a mailbox has one number and one next UID.
-use Rattle.std.proofs.Common.{◌≡◌, ℕ, List, Option, Some, sym, ◌∙◌, ap, subst}
-use Rattle.disk_model.specs.Disk.{History}
+use Rattle.mail_save.proofs.Common.{◌≡◌, ℕ, List, Option, Some, sym, ◌∙◌, ap, subst, History, Uid, lists_by, Lists, BoxMeaning, IsSettledFor, Leaves, StoreValue, entry_added, Added}
 use Rattle.mdbox_base.specs.declared.ids.BoxNo.{BoxNo}
-use Rattle.mdbox_base.specs.declared.ids.Uid.{Uid}
-use Rattle.model_appends.specs.Appending.{lists_by}
-use Rattle.model_lists.specs.Lists.{Lists}
-use Rattle.model_meaning.specs.BoxMeaning.{BoxMeaning}
-use Rattle.model_store.specs.Settled.{IsSettledFor, Leaves}
 use Rattle.store_core.specs.Append.{Brings}
-use Rattle.store_core.specs.Value.{StoreValue}
-use Rattle.mail_save.specs.Added.{HasRoomUnder, entry_added}
-use Rattle.mail_save.specs.declared.add.Added.{Added}
+use Rattle.mail_save.specs.Added.{HasRoomUnder}
 
 one_number : (a b : ℕ) → Some a ≡ Some b → a ≡ b
 one_number a b e = cc e

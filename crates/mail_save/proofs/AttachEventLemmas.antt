@@ -1,47 +1,24 @@
 -- The events by which the instances of a message's attachments are found, one after another.
-use Rattle.std.specs.Prelude.{if◌then◌else◌, IsSome, slice_get}
-use Rattle.std.proofs.Common.{◌≡◌, ◌<◌, ◌≤◌, ◌+◌, ◌-◌, ℕ, zero, suc, Bool, true, false, inl, inr, List, [], ◌∷◌, Option, Some, None, length, refl, sym, ◌∙◌, ap, subst, arith}
+use Rattle.mail_save.proofs.Common.{if◌then◌else◌, IsSome, slice_get, ◌≡◌, ◌<◌, ◌≤◌, ◌+◌, ◌-◌, ℕ, Bool, true, false, inl, inr, List, [], ◌∷◌, Option, Some, None, length, refl, sym, ◌∙◌, ap, subst, arith, IsPrepared, Detached, Prepared, Faults, History, NoFault, InstRow, did, progress, Refusal}
+use Rattle.mail_save.proofs.Common.{refusal, MailIsKept, kept_begins, Lists, IsSettledFor, Leaves, AreHeld, AreOfParts, AttachingValue, next_attachment, next_candidate, nothing_found, parts_left, with_compared, with_found, IsLaid, unknown_guid, ids_in, after_placing, holders_in, KnownInstance}
+use Rattle.mail_save.proofs.Common.{leaves_none, KeepsStored, due_at, KeepsInstances, MovesHolds, holds_of, StoreValue, HasHoldRoom, save_amounts, WritesAttachment, AreAttached, AttachesNext, AttachesNone, Saves, SavedParts, stage}
+use Rattle.std.proofs.Common.{zero, suc}
 use Rattle.std.proofs.lemmas.Bool.{true≢false}
-use Rattle.attach_detach.specs.Prepared.{IsPrepared}
-use Rattle.attach_detach.specs.declared.message.Detached.{Detached}
-use Rattle.attach_detach.specs.declared.message.Prepared.{Prepared}
-use Rattle.disk_model.specs.Disk.{Faults, Grows, History}
-use Rattle.disk_model.specs.FaultCounts.{NoFault}
+use Rattle.disk_model.specs.Disk.{Grows}
 use Rattle.disk_model.proofs.MomentLemmas.{if_told-all}
-use Rattle.mdbox_base.specs.declared.entries.InstRow.{InstRow}
-use Rattle.mdbox_base.specs.declared.progress.Did.TheVariants as did
-use Rattle.mdbox_base.specs.declared.progress.Progress.TheVariants as progress
-use Rattle.mdbox_base.specs.declared.replies.Refusal.{Refusal}
-use Rattle.mdbox_base.specs.declared.replies.Refusal.TheVariants as refusal
-use Rattle.model_kept.specs.Kept.{MailIsKept}
-use Rattle.model_kept.proofs.KeptLemmas.{kept_begins}
-use Rattle.model_lists.specs.Lists.{Lists}
-use Rattle.model_store.specs.Settled.{IsSettledFor, Leaves}
-use Rattle.save_instances.specs.Attaching.{AreHeld, AreOfParts, AttachingValue, IsAttaching, attach_events_left, next_attachment, next_candidate, nothing_found, parts_left, with_compared, with_found}
-use Rattle.saved_message.specs.Laid.{IsLaid}
-use Rattle.saved_message.specs.Region.{unknown_guid, unknown_ids}
-use Rattle.saved_message.specs.Saved.{ids_in}
-use Rattle.sis_store.specs.Instances.{after_placing, holders_in}
-use Rattle.sis_store.specs.declared.instance.KnownInstance.{KnownInstance}
-use Rattle.store_core.proofs.BoxCrashLemmas.{leaves_none}
+use Rattle.save_instances.specs.Attaching.{IsAttaching, attach_events_left}
+use Rattle.saved_message.specs.Region.{unknown_ids}
 use Rattle.store_core.proofs.DueLemmas.{keeps_itself}
-use Rattle.store_core.specs.Dues.{KeepsStored, due_at}
-use Rattle.store_core.specs.Keeping.{KeepsInstances, MovesHolds, holds_of}
 use Rattle.store_core.specs.StoreInstances.{with_placed}
-use Rattle.store_core.specs.Value.{StoreValue}
 use Rattle.mail_save.proofs.HeldInstanceLemmas.{same_keeps}
 use Rattle.mail_save.proofs.HeldLemmas.{nothing_moves}
 use Rattle.mail_save.proofs.MailFileLemmas.{mail_itself}
 use Rattle.mail_save.proofs.OtherLemmas.{keeps_same}
 use Rattle.mail_save.proofs.SaveEventLemmas.{more_runs}
 use Rattle.mail_save.proofs.StoringLemmas.{spared_kept}
-use Rattle.mail_save.specs.Held.{HasHoldRoom, save_amounts}
-use Rattle.mail_save.specs.MailFiles.{WritesAttachment}
-use Rattle.mail_save.specs.Parts.{AreAttached, AreBeingAttached}
-use Rattle.mail_save.specs.SaveEffects.{AttachesNext, AttachesNone, LaysOut, NamesFound, after_comparing}
-use Rattle.mail_save.specs.Task.{IsAttachedSoFar, Saves}
-use Rattle.mail_save.specs.declared.first.SavedParts.{SavedParts}
-use Rattle.mail_save.specs.declared.task.SaveStage.TheVariants as stage
+use Rattle.mail_save.specs.Parts.{AreBeingAttached}
+use Rattle.mail_save.specs.SaveEffects.{LaysOut, NamesFound, after_comparing}
+use Rattle.mail_save.specs.Task.{IsAttachedSoFar}
 
 -- ---- what an event changes of the store
 

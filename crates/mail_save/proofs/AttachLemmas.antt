@@ -1,37 +1,22 @@
 -- One attachment's instance after another: what an event makes of them.
-use Rattle.std.specs.Prelude.{◌⊎◌, if◌then◌else◌, IsSome, Contains}
-use Rattle.std.specs.Str.{bytes_eq}
-use Rattle.std.proofs.Common.{◌≡◌, ◌≢◌, ◌<◌, ◌≤◌, ◌+◌, ◌-◌, ℕ, Bool, true, false, cond, inl, inr, List, [], ◌∷◌, ◌++◌, Option, Some, None, length, refl, sym, ◌∙◌, ap, subst, arith, length-append}
+use Rattle.mail_save.proofs.Common.{if◌then◌else◌, IsSome, Contains, bytes_eq, ◌≡◌, ◌≢◌, ◌<◌, ◌≤◌, ◌+◌, ◌-◌, ℕ, Bool, true, false, cond, inl, inr, List, [], ◌∷◌, ◌++◌, Option, Some, None, length, refl, sym, ◌∙◌, ap, subst, arith, sum_by-cons, Detached, DiskState, History, IfTold, reading, FileName}
+use Rattle.mail_save.proofs.Common.{Mail, Inst, between-map, if_told-map, InstRow, Hash, InstId, Lists, IsSettledFor, Leaves, AttachingValue, next_attachment, next_candidate, part_row, parts_left, with_compared, with_found, AreInstances, InstancesValue, holders_in, next_id, instance_file}
+use Rattle.mail_save.proofs.Common.{KnownInstance, MovesHolds, holds_of, StoreValue, IsSameOrSynced, HasHoldRoom, WritesAttachment}
+use Rattle.std.specs.Prelude.{◌⊎◌}
+use Rattle.std.proofs.Common.{length-append}
 use Rattle.std.proofs.lemmas.Bool.{cases_lt}
-use Rattle.std.proofs.lemmas.List.Sums.{sum_by-cons}
-use Rattle.attach_detach.specs.declared.message.Detached.{Detached}
-use Rattle.disk_model.specs.Disk.{DiskState, History, IfTold, IsIdle, Keeps, named, reading}
-use Rattle.disk_model.specs.declared.name.FileName.{FileName}
-use Rattle.disk_model.specs.declared.name.FileName.TheVariants.{Mail, Inst}
-use Rattle.disk_model.proofs.BetweenLemmas.{between-map}
+use Rattle.disk_model.specs.Disk.{IsIdle, Keeps, named}
 use Rattle.disk_model.proofs.IdleLemmas.{idle-images}
-use Rattle.disk_model.proofs.MomentLemmas.{if_told-map}
-use Rattle.mdbox_base.specs.declared.entries.InstRow.{InstRow}
-use Rattle.mdbox_base.specs.declared.ids.Hash.{Hash}
-use Rattle.mdbox_base.specs.declared.ids.InstId.{InstId}
-use Rattle.model_lists.specs.Lists.{Lists}
 use Rattle.model_store.specs.Safe.{Safe}
-use Rattle.model_store.specs.Settled.{IsSettledFor, Leaves}
 use Rattle.model_store.proofs.SettledLemmas.{settled_safe}
 use Rattle.save_instances.proofs.FoundLemmas.{holds_push}
-use Rattle.save_instances.specs.Attaching.{AttachingValue, next_attachment, next_candidate, part_row, parts_left, with_compared, with_found}
-use Rattle.sis_store.specs.Instances.{AreInstances, InstancesValue, HasDrawnNumber, holders_in, next_id}
-use Rattle.sis_store.specs.OnDisk.{OnlyNamesSynced, instance_file, next_instance_file}
-use Rattle.sis_store.specs.declared.instance.KnownInstance.{KnownInstance}
+use Rattle.sis_store.specs.Instances.{HasDrawnNumber}
+use Rattle.sis_store.specs.OnDisk.{OnlyNamesSynced, next_instance_file}
 use Rattle.sis_store.proofs.IdLemmas.{is_within, same_id}
-use Rattle.store_core.specs.Keeping.{MovesHolds, holds_of}
 use Rattle.store_core.specs.StoreInstances.{AreInstancesThere, HasKnownInstances}
-use Rattle.store_core.specs.Value.{StoreValue}
 use Rattle.store_core.proofs.MailChangeLemmas.{named_reads}
-use Rattle.task_claims.specs.Leaving.{IsSameOrSynced}
 use Rattle.mail_save.proofs.MailFileLemmas.{mail_idle}
-use Rattle.mail_save.specs.Held.{HasHoldRoom}
-use Rattle.mail_save.specs.MailFiles.{AddsInstance, WritesAttachment}
+use Rattle.mail_save.specs.MailFiles.{AddsInstance}
 
 -- ---- the next attachment
 

@@ -1,17 +1,14 @@
 -- An attachment's octets are no more than those of its message.
-use Rattle.std.proofs.Common.{◌≡◌, ◌≤◌, ◌+◌, ◌*◌, ◌/◌, ◌-◌, ℕ, List, [], ◌∷◌, All, Option, Some, None, drop, map, take, length, ap, arith}
-use Rattle.std.specs.Prelude.{filter, min}
+use Rattle.mail_save.proofs.Common.{◌≡◌, ◌≤◌, ◌+◌, ◌-◌, ℕ, List, [], ◌∷◌, All, Option, Some, None, drop, map, take, length, ap, arith, filter, All-cons, All-nil, All-weaker, IsPrepared, Detached, Prepared, parts_in}
+use Rattle.std.proofs.Common.{◌*◌, ◌/◌}
+use Rattle.std.specs.Prelude.{min}
 use Rattle.std.proofs.lemmas.List.{length-drop, length-take}
-use Rattle.std.proofs.lemmas.List.Elements.{All-cons, All-nil, All-weaker}
-use Rattle.attach_detach.specs.Prepared.{IsPrepared, piece_of}
-use Rattle.attach_detach.specs.declared.message.Detached.{Detached}
-use Rattle.attach_detach.specs.declared.message.Prepared.{Prepared}
+use Rattle.attach_detach.specs.Prepared.{piece_of}
 use Rattle.mdbox_base.specs.declared.metadata.LineForm.{LineForm}
 use Rattle.model_attach.specs.Detached.{AreCut, IsInstance}
 use Rattle.model_base64.proofs.Base64Lemmas.{at_least, length-padded}
 use Rattle.model_base64.specs.Base64Text.{IsCanonical, in_lines, line_break, padded}
 use Rattle.model_mime.specs.Lines.{range}
-use Rattle.model_mime.specs.Parts.{parts_in}
 use Rattle.model_mime.specs.declared.mime.Coding.{Coding}
 use Rattle.model_mime.specs.declared.mime.Part.{Part}
 

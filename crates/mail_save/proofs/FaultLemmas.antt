@@ -1,17 +1,8 @@
 -- Which calls of the disk failed in an event that was refused.
-use Rattle.std.specs.Prelude.{◌⊎◌, nat_le, if◌then◌else◌}
-use Rattle.std.specs.Option.{option_or}
-use Rattle.std.proofs.Common.{◌≡◌, ℕ, Bool, true, false, inl, inr, List, Option, Some, None, length, refl, sym, ◌∙◌, ap}
-use Rattle.disk_model.specs.Disk.{Faults}
-use Rattle.disk_model.specs.FaultCounts.{ChangeFaultCounted, NoFault, ReadFaultCounted}
-use Rattle.mdbox_base.specs.declared.progress.Progress.TheVariants as progress
-use Rattle.mdbox_base.specs.declared.replies.Refusal.{Refusal}
-use Rattle.mdbox_base.specs.declared.replies.Refusal.TheVariants as refusal
-use Rattle.mdbox_base.specs.declared.replies.Reply.TheVariants as reply
-use Rattle.model_meaning.specs.BoxMeaning.{BoxMeaning}
-use Rattle.store_core.specs.Value.{StoreValue, list_named}
-use Rattle.mail_save.specs.Events.{box_refusal, save_refusal, uid_refusal}
-use Rattle.mail_save.specs.Task.{FaultsAt}
+use Rattle.mail_save.proofs.Common.{nat_le, if◌then◌else◌, option_or, ◌≡◌, ℕ, Bool, true, false, inl, inr, List, Option, Some, None, length, refl, sym, ◌∙◌, ap, Faults, ChangeFaultCounted, NoFault, progress, Refusal, refusal, reply, BoxMeaning, StoreValue, list_named, box_refusal, save_refusal}
+use Rattle.mail_save.proofs.Common.{uid_refusal, FaultsAt}
+use Rattle.std.specs.Prelude.{◌⊎◌}
+use Rattle.disk_model.specs.FaultCounts.{ReadFaultCounted}
 
 -- a read, a change, or none
 pub refused_faults : (why : Refusal) (began ended : Faults) → (why ≡ refusal.ReadFault → ReadFaultCounted (Unit {0}) began ended) → (why ≡ refusal.Stopped → ChangeFaultCounted (Unit {0}) began ended)

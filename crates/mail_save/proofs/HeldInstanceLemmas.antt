@@ -1,28 +1,17 @@
 -- The instances that a delivery has found stay so, as other files change, and its record may name them.
-use Rattle.std.proofs.Common.{◌≡◌, ◌≤◌, ℕ, List, [], ◌∷◌, All, Option, length, sym, subst, arith}
-use Rattle.std.proofs.lemmas.List.Elements.{All-cons, All-head, All-nil, All-tail, All-weaker}
-use Rattle.disk_model.specs.Disk.{History, Between, IfTold}
-use Rattle.disk_model.specs.declared.name.FileName.TheVariants as file
-use Rattle.disk_model.proofs.BetweenLemmas.{between-map, between-on}
-use Rattle.disk_model.proofs.MomentLemmas.{if_told-map}
-use Rattle.mdbox_base.specs.declared.entries.InstRow.{InstRow}
+use Rattle.mail_save.proofs.Common.{◌≡◌, ◌≤◌, ℕ, List, [], ◌∷◌, All, Option, length, sym, subst, arith, All-cons, All-head, All-nil, All-tail, All-weaker, History, Between, IfTold, file, between-map, between-on, if_told-map, InstRow, AreHeld, InstancesValue, KeepsFirm, KeepsInstances, IsKnownRow}
+use Rattle.mail_save.proofs.Common.{StoreValue, HasAppended, ReadsSameMail, TakesWithHeader, AreAttached, IsAttached, SavedParts}
 use Rattle.save_instances.proofs.FoundLemmas.{of_parts_kept, rows_first, rows_known}
-use Rattle.save_instances.specs.Attaching.{AreHeld}
 use Rattle.saved_message.proofs.ReferenceLemmas.{parts_few}
-use Rattle.sis_store.specs.Instances.{InstancesValue}
 use Rattle.store_core.proofs.InstanceAppendLemmas.{of_known}
 use Rattle.store_core.proofs.InstanceKeepingLemmas.{kept_same, names_same}
 use Rattle.store_core.proofs.KnownInstanceLemmas.{firm_same}
-use Rattle.store_core.specs.Keeping.{KeepsFirm, KeepsInstances, ReadsInstances, SyncsInstances}
-use Rattle.store_core.specs.StoreInstances.{AreInstancesFirm, IsFirmInstance, IsFirstKnown, IsKnownRow}
-use Rattle.store_core.specs.Value.{StoreValue}
+use Rattle.store_core.specs.Keeping.{ReadsInstances, SyncsInstances}
+use Rattle.store_core.specs.StoreInstances.{AreInstancesFirm, IsFirmInstance, IsFirstKnown}
 use Rattle.mail_save.specs.Left.{HoldsInstances}
-use Rattle.mail_save.specs.MailFiles.{HasAppended, ReadsOtherMail, ReadsSameMail, TakesWithHeader}
-use Rattle.mail_save.specs.Parts.{AreAttached}
+use Rattle.mail_save.specs.MailFiles.{ReadsOtherMail}
 use Rattle.mail_save.specs.Record.{MayBeNamed}
-use Rattle.mail_save.specs.Task.{IsAttached}
 use Rattle.mail_save.proofs.MailFileLemmas.{synced_reads}
-use Rattle.mail_save.specs.declared.first.SavedParts.{SavedParts}
 
 -- ---- what leaves the instances leaves those that are held
 

@@ -1,16 +1,7 @@
 -- What is due for a delivery, by event.
-use Rattle.std.proofs.Common.{◌≡◌, ◌≤◌, ◌+◌, ◌-◌, ◌==◌, ℕ, Bool, true, false, cond, inl, inr, ◌∙◌, ap, subst, arith}
+use Rattle.mail_save.proofs.Common.{◌≡◌, ◌≤◌, ◌+◌, ◌-◌, ◌==◌, ℕ, Bool, true, false, cond, inl, inr, ◌∙◌, ap, subst, arith, cases_eq, cond-false, cond-true, eq-eqb, ne_eqb, MapUid, Refusal, bit, MapMeaning, Moves, amounts_in, due_at, number_beside, StoreValue, one_due, StoresNone, SavedAt}
 use Rattle.std.specs.Prelude.{◌||◌}
-use Rattle.std.proofs.lemmas.Bool.{cases_eq, cond-false, cond-true, eq-eqb, ne_eqb}
-use Rattle.mdbox_base.specs.declared.ids.MapUid.{MapUid}
-use Rattle.mdbox_base.specs.declared.replies.Refusal.{Refusal}
-use Rattle.model_appends.specs.Amounts.{bit}
-use Rattle.model_meaning.specs.MapMeaning.{MapMeaning}
-use Rattle.store_core.specs.Dues.{Amounts, Moves, amounts_in, due_at, number_beside}
-use Rattle.store_core.specs.Value.{StoreValue}
-use Rattle.task_steps.specs.ExpungeStages.{one_due}
-use Rattle.mail_save.specs.SaveEffects.{StoresNone}
-use Rattle.mail_save.specs.declared.place.SavedAt.{SavedAt}
+use Rattle.store_core.specs.Dues.{Amounts}
 
 -- nothing is held before or behind it
 pub nothing_moves : {D : Type 0} → (mine mine_now : Amounts) (old new : StoreValue D) → ((uid : ℕ) → mine.due uid ≡ mine_now.due uid) → ((uid : ℕ) → due_at uid new ≡ due_at uid old) → Moves mine mine_now (amounts_in old) (amounts_in new)

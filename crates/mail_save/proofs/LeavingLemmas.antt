@@ -1,45 +1,23 @@
 -- What a delivery leaves of records, storage files and instances to the tasks beside it, by what an event makes of them.
-use Rattle.std.proofs.Common.{◌≡◌, ◌≢◌, ◌≤◌, ◌+◌, ◌==◌, ℕ, cond, List, [], ◌∷◌, ◌++◌, take, drop, length, map, get_or, Option, Some, None, All, inl, inr, refl, sym, ◌∙◌, ap, subst, arith}
-use Rattle.std.specs.Prelude.{◌⊎◌, filter, find}
-use Rattle.std.specs.Option.{option_map}
-use Rattle.std.proofs.lemmas.Bool.{cases_eq, cond-false, ne_eqb}
-use Rattle.std.proofs.lemmas.List.{append-nil, drop-append-le, length-append, length-drop, take-append-le}
-use Rattle.std.proofs.lemmas.List.Elements.{All-append, All-cons, All-nil}
+use Rattle.mail_save.proofs.Common.{◌≡◌, ◌≢◌, ◌≤◌, ◌+◌, ◌==◌, ℕ, cond, List, [], ◌∷◌, ◌++◌, take, drop, length, map, Option, Some, None, All, inl, inr, refl, sym, ◌∙◌, ap, subst, arith, filter, find, option_map, cases_eq, cond-false, ne_eqb, length-append, All-append, All-cons, All-nil, Detached}
+use Rattle.mail_save.proofs.Common.{DiskState, History, Between, reading, FileName, Mail, Inst, between-both, between-map, InstRow, FileNo, MapUid, MapMeaning, MapRecord, map_applied, number_at, record_at, files_of, part_row, next_id, instance_file, file-other, FilesValue, end_in, ending_at}
+use Rattle.mail_save.proofs.Common.{file_in, released_in, IsAddedTo, MailFile, Take, Known, New, Full, KeepsInstances, KeepsUids, StoreValue, Claims, IsSameOrSynced, LeavesOthers, LeavesUnlisted, HoldsRegion, HasAppended, ReadsSameMail, TakesWithHeader, WritesAttachment, entry_stored, PlacesParts}
+use Rattle.mail_save.proofs.Common.{TakesFileFor, TookAs, saved_row, SavedParts, SavedAt}
+use Rattle.std.proofs.Common.{get_or}
+use Rattle.std.specs.Prelude.{◌⊎◌}
+use Rattle.std.proofs.lemmas.List.{append-nil, drop-append-le, length-drop, take-append-le}
 use Rattle.std.proofs.lemmas.Option.{same_Some}
-use Rattle.attach_detach.specs.declared.message.Detached.{Detached}
-use Rattle.disk_model.specs.Disk.{DiskState, History, Between, reading}
-use Rattle.disk_model.specs.declared.name.FileName.{FileName}
-use Rattle.disk_model.specs.declared.name.FileName.TheVariants.{Mail, Inst}
-use Rattle.disk_model.proofs.BetweenLemmas.{between-both, between-if, between-map}
-use Rattle.mdbox_base.specs.declared.entries.InstRow.{InstRow}
-use Rattle.mdbox_base.specs.declared.ids.FileNo.{FileNo}
-use Rattle.mdbox_base.specs.declared.ids.MapUid.{MapUid}
+use Rattle.disk_model.proofs.BetweenLemmas.{between-if}
 use Rattle.model_appends.proofs.AppendMapLemmas.{find_first}
 use Rattle.model_meaning.proofs.AppliedLemmas.{records_by_stored}
-use Rattle.model_meaning.specs.MapMeaning.{MapMeaning, MapRecord, map_applied, number_at, record_at}
-use Rattle.model_store.specs.Settled.{files_of}
-use Rattle.save_instances.specs.Attaching.{part_row}
-use Rattle.sis_store.specs.Instances.{next_id}
-use Rattle.sis_store.specs.OnDisk.{instance_file}
-use Rattle.storage_files.proofs.FileListLemmas.{file-other}
-use Rattle.storage_files.specs.Files.{FilesValue, end_in, ending_at, file_in, released_in, with_pins}
-use Rattle.storage_files.specs.OnDisk.{IsAddedTo, IsAsKnown}
-use Rattle.storage_files.specs.declared.file.MailFile.{MailFile}
-use Rattle.storage_files.specs.declared.file.Take.{Take}
-use Rattle.storage_files.specs.declared.file.Take.TheVariants.{Known, New, Full}
-use Rattle.store_core.specs.Keeping.{KeepsInstances, KeepsUids}
-use Rattle.store_core.specs.Value.{StoreValue}
+use Rattle.storage_files.specs.Files.{with_pins}
+use Rattle.storage_files.specs.OnDisk.{IsAsKnown}
 use Rattle.task_claims.proofs.CountedLemmas.{all_same, found_same, rows_same, same_map, unraised_same}
 use Rattle.task_claims.proofs.NameLemmas.{names_stay}
 use Rattle.task_claims.proofs.RestLemmas.{instance_kept}
-use Rattle.task_claims.specs.Claims.{Claims}
-use Rattle.task_claims.specs.Leaving.{HasRegionOctets, HaveSameInstances, IsSameOrSynced, LeavesOthers, LeavesRecord, LeavesUnlisted, OthersTook, RaisesNone, SameButCounts, but_count, records_within}
-use Rattle.mail_save.specs.Left.{HoldsRegion}
-use Rattle.mail_save.specs.MailFiles.{AddsInstance, HasAppended, ReadsSameMail, TakesWithHeader, WritesAttachment}
-use Rattle.mail_save.specs.Record.{entry_stored}
-use Rattle.mail_save.specs.SaveEffects.{AreEndsSame, PlacesParts, TakesFileFor, TookAs, saved_row}
-use Rattle.mail_save.specs.declared.first.SavedParts.{SavedParts}
-use Rattle.mail_save.specs.declared.place.SavedAt.{SavedAt}
+use Rattle.task_claims.specs.Leaving.{HasRegionOctets, HaveSameInstances, LeavesRecord, OthersTook, RaisesNone, SameButCounts, but_count, records_within}
+use Rattle.mail_save.specs.MailFiles.{AddsInstance}
+use Rattle.mail_save.specs.SaveEffects.{AreEndsSame}
 use Rattle.mail_save.proofs.MailFileLemmas.{synced_reads}
 use Rattle.mail_save.proofs.SaveFileLemmas.{released_other, taken_other}
 use Rattle.mail_save.proofs.SaveNumberLemmas.{DrawsNumbers}

@@ -1,26 +1,12 @@
 -- What an event says that lets the instances go which were found: what it said before it did.
-use Rattle.std.proofs.Common.{◌≡◌, ◌<◌, ◌+◌, ℕ, List, false, true, Option, sym, ◌∙◌, ap, subst, arith}
-use Rattle.std.specs.Prelude.{◌↔◌}
-use Rattle.disk_model.specs.Disk.{Faults, Grows, History}
-use Rattle.mdbox_base.specs.declared.entries.InstRow.{InstRow}
-use Rattle.mdbox_base.specs.declared.ids.InstId.{InstId}
-use Rattle.mdbox_base.specs.declared.progress.Did.{Did}
-use Rattle.mdbox_base.specs.declared.progress.Progress.{Progress}
-use Rattle.mdbox_base.specs.declared.progress.Progress.TheVariants as progress
-use Rattle.sis_store.specs.Instances.{InstancesValue, holders_in}
-use Rattle.model_kept.specs.Kept.{MailIsKept}
-use Rattle.store_core.specs.Dues.{Moves, amounts_in}
-use Rattle.store_core.specs.Keeping.{KeepsInstances, MovesHolds}
-use Rattle.store_core.specs.Value.{StoreValue}
+use Rattle.mail_save.proofs.Common.{◌≡◌, ◌<◌, ◌+◌, ℕ, List, false, true, Option, sym, ◌∙◌, ap, subst, arith, ◌↔◌, Faults, History, InstRow, InstId, Did, Progress, progress, InstancesValue, holders_in, MailIsKept, Moves, amounts_in, KeepsInstances, MovesHolds, StoreValue, found_let_go, save_amounts}
+use Rattle.mail_save.proofs.Common.{IsReadyToSave, AreSpared, LetsGo, SaveEffects, FaultsAt, HasLeft, RepliesAt, Saves, stopped_reply, SaveStage}
+use Rattle.disk_model.specs.Disk.{Grows}
 use Rattle.store_core.proofs.InstanceKeepingLemmas.{kept_both}
-use Rattle.save_instances.specs.Attaching.{found_let_go}
-use Rattle.mail_save.specs.Held.{save_amounts, save_holds}
+use Rattle.mail_save.specs.Held.{save_holds}
 use Rattle.mail_save.specs.MailFiles.{WritesMail}
 use Rattle.mail_save.specs.Others.{KeepsOthers}
-use Rattle.mail_save.specs.Ready.{IsReadyToSave}
-use Rattle.mail_save.specs.SaveEffects.{AreSpared, LetsGo, SaveEffects}
-use Rattle.mail_save.specs.Task.{FaultsAt, HasLeft, MomentsAt, RepliesAt, RestsAt, Saves, save_events_left, saved_did, stopped_reply}
-use Rattle.mail_save.specs.declared.task.SaveStage.{SaveStage}
+use Rattle.mail_save.specs.Task.{MomentsAt, RestsAt, save_events_left, saved_did}
 
 -- ---- what stays
 

@@ -2,6 +2,7 @@ pub mod AddLemmas
 pub mod AttachEventLemmas
 pub mod AttachLemmas
 pub mod AttachmentSizeLemmas
+pub mod Common
 pub mod FaultLemmas
 pub mod HeldInstanceLemmas
 pub mod HeldLemmas

@@ -1,19 +1,12 @@
 -- What the events of a delivery make of the storage files on the disk.
-use Rattle.std.proofs.Common.{◌≡◌, ◌≢◌, ℕ, List, Option, Some, None, inl, inr, refl, sym, ◌∙◌, ap, subst}
-use Rattle.disk_model.specs.Disk.{DiskState, FileState, History, IfTold, IsIdle, Between, Keeps, SameButFor, reading}
-use Rattle.disk_model.specs.declared.name.FileName.TheVariants.{Mail, Inst}
-use Rattle.disk_model.proofs.BetweenLemmas.{between-begins, between-map}
-use Rattle.mdbox_base.specs.declared.replies.Refusal.{Refusal}
-use Rattle.mdbox_base.specs.declared.replies.Refusal.TheVariants as refusal
-use Rattle.storage_files.specs.Files.{end_in}
-use Rattle.storage_files.specs.OnDisk.{IsAddedTo, OthersAreNamed}
+use Rattle.mail_save.proofs.Common.{◌≡◌, ◌≢◌, ℕ, List, Option, Some, None, inl, inr, refl, sym, ◌∙◌, ap, subst, DiskState, History, IfTold, Between, reading, Mail, Inst, between-map, Refusal, refusal, end_in, IsAddedTo, StoreValue, IsSameOrSynced, HasAppended, TakesWithHeader, ReadsSameMail}
+use Rattle.mail_save.proofs.Common.{StoresNone, TakesNone, SavedAt}
+use Rattle.disk_model.specs.Disk.{FileState, IsIdle, Keeps, SameButFor}
+use Rattle.disk_model.proofs.BetweenLemmas.{between-begins}
+use Rattle.storage_files.specs.OnDisk.{OthersAreNamed}
 use Rattle.store_core.proofs.MailChangeLemmas.{named_reads}
 use Rattle.store_core.specs.Keeping.{KeepsMail}
-use Rattle.store_core.specs.Value.{StoreValue}
-use Rattle.task_claims.specs.Leaving.{IsSameOrSynced}
-use Rattle.mail_save.specs.MailFiles.{HasAppended, TakesWithHeader, ReadsOtherMail, ReadsSameMail}
-use Rattle.mail_save.specs.SaveEffects.{StoresNone, TakesNone}
-use Rattle.mail_save.specs.declared.place.SavedAt.{SavedAt}
+use Rattle.mail_save.specs.MailFiles.{ReadsOtherMail}
 
 -- a file whose name was synced at most reads as it did
 pub synced_reads : (a b : FileState) → IsSameOrSynced a b → reading b ≡ reading a

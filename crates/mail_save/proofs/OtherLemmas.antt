@@ -1,31 +1,14 @@
 -- What an event of a delivery keeps for other deliveries.
-use Rattle.std.proofs.Common.{◌≡◌, ◌≢◌, ◌-◌, ℕ, Bool, true, false, List, [], ◌∷◌, All, inl, inr, refl, sym, ◌∙◌, ap, subst, arith}
-use Rattle.std.specs.Option.{option_and_then, option_map_or}
-use Rattle.std.specs.Prelude.{if◌then◌else◌, ◌+◌, Option}
+use Rattle.mail_save.proofs.Common.{◌≡◌, ◌≢◌, ◌-◌, ℕ, Bool, true, false, List, [], ◌∷◌, All, inl, inr, refl, sym, ◌∙◌, ap, subst, arith, option_and_then, option_map_or, if◌then◌else◌, All-nil, All-cons, All-append, All-weaker, InstRow, MapEntry, FileNo, MapUid, Refusal, IsFree, MapRecord}
+use Rattle.mail_save.proofs.Common.{MapMeaning, map_applied, number_at, file-before_begun, file-other, FilesValue, end_in, ending_at, file_in, is_taken_in, place_begun_in, MailFile, StoreValue, HoldsRegion, entry_stored, entry_lowered, IsLeftAlone, LowersRecord, PlacesParts, StoresNone}
+use Rattle.mail_save.proofs.Common.{StoresPlaced, TakesFileFor, TakesNone, saved_row, Added, SavedParts, SavedAt, SaveStage, stage}
+use Rattle.std.specs.Prelude.{◌+◌, Option}
 use Rattle.std.proofs.lemmas.Bool.{false≢true}
-use Rattle.std.proofs.lemmas.List.Elements.{All-nil, All-cons, All-append, All-weaker}
-use Rattle.mdbox_base.specs.declared.entries.InstRow.{InstRow}
-use Rattle.mdbox_base.specs.declared.entries.MapEntry.{MapEntry}
-use Rattle.mdbox_base.specs.declared.ids.FileNo.{FileNo}
-use Rattle.mdbox_base.specs.declared.ids.MapUid.{MapUid}
-use Rattle.mdbox_base.specs.declared.replies.Refusal.{Refusal}
 use Rattle.model_meaning.proofs.KeptRowLemmas.{kept_all, kept_rows}
-use Rattle.model_meaning.specs.MapFits.{IsApart, IsFree}
-use Rattle.model_meaning.specs.MapMeaning.{MapRecord, MapMeaning, map_applied, number_at, record_changed, record_made, record_rules, has_map_uid}
-use Rattle.storage_files.proofs.FileListLemmas.{file-before_begun, file-other}
-use Rattle.storage_files.specs.Files.{FilesValue, end_in, ending_at, file_in, is_taken_in, place_begun_in}
-use Rattle.storage_files.specs.declared.file.MailFile.{MailFile}
-use Rattle.store_core.specs.Value.{StoreValue}
+use Rattle.model_meaning.specs.MapFits.{IsApart}
+use Rattle.model_meaning.specs.MapMeaning.{record_changed, record_made, record_rules, has_map_uid}
 use Rattle.mail_save.proofs.SaveFileLemmas.{released_other, taken_other}
-use Rattle.mail_save.specs.Left.{HoldsRegion}
 use Rattle.mail_save.specs.Others.{IsOwnFile, KeepsOthers}
-use Rattle.mail_save.specs.Record.{entry_stored, entry_lowered}
-use Rattle.mail_save.specs.SaveEffects.{IsLeftAlone, LowersRecord, PlacesParts, StoresNone, StoresPlaced, TakesFileFor, TakesNone, saved_row}
-use Rattle.mail_save.specs.declared.add.Added.{Added}
-use Rattle.mail_save.specs.declared.first.SavedParts.{SavedParts}
-use Rattle.mail_save.specs.declared.place.SavedAt.{SavedAt}
-use Rattle.mail_save.specs.declared.task.SaveStage.{SaveStage}
-use Rattle.mail_save.specs.declared.task.SaveStage.TheVariants as stage
 
 -- ---- records of the map
 

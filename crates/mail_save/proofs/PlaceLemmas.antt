@@ -1,25 +1,12 @@
 -- Where messages are placed: the GUID of a place, and the files that are known then.
-use Rattle.std.proofs.Common.{◌≡◌, ◌<◌, ◌+◌, ◌^◌, ℕ, true, List, [], ◌++◌, Option, Some, All, refl, sym, ◌∙◌, ap, subst, append_assoc, append-nil, arith, take, drop, length}
+use Rattle.mail_save.proofs.Common.{◌≡◌, ◌<◌, ◌+◌, ◌^◌, ℕ, true, List, [], ◌++◌, Option, Some, All, refl, sym, ◌∙◌, ap, subst, append_assoc, append-nil, arith, take, drop, length, w32, to_be_bytes, bytes_eq, length-append, bytes_eq-Decides, drop-append_seam, History, Lists, IsFree, IsSettledFor}
+use Rattle.mail_save.proofs.Common.{Leaves, leaves_none, MapMeaning, is_own, number_at, end_in, is_taken_in, place_begun_in, StoreValue, indexes_of, HoldsFile, HoldsRegion, IsLeftAlone, SavedAt}
 use Rattle.std.specs.Prelude.{◌≢◌}
-use Rattle.std.specs.Int.{w32, to_be_bytes, from_be_bytes}
-use Rattle.std.specs.Str.{bytes_eq}
-use Rattle.std.proofs.lemmas.List.{length-append}
-use Rattle.std.proofs.lemmas.Slice.Eq.{bytes_eq-Decides}
+use Rattle.std.specs.Int.{from_be_bytes}
 use Rattle.std.proofs.lemmas.Nat.{from_be_bytes-to_be_bytes_4}
-use Rattle.std.proofs.Math.Seq.{take-append_seam, drop-append_seam}
-use Rattle.disk_model.specs.Disk.{History}
-use Rattle.model_lists.specs.Lists.{Lists}
-use Rattle.model_meaning.specs.MapFits.{IsFree}
-use Rattle.model_store.specs.Settled.{IsSettledFor, Leaves}
-use Rattle.store_core.proofs.BoxCrashLemmas.{leaves_none}
-use Rattle.model_meaning.specs.MapMeaning.{MapMeaning, is_own, number_at}
+use Rattle.std.proofs.Math.Seq.{take-append_seam}
 use Rattle.saved_message.specs.Region.{guid_of_place}
-use Rattle.storage_files.specs.Files.{end_in, is_taken_in, place_begun_in}
 use Rattle.store_core.specs.Files.{IsNewPlace}
-use Rattle.store_core.specs.Value.{StoreValue, indexes_of}
-use Rattle.mail_save.specs.Left.{HoldsFile, HoldsRegion}
-use Rattle.mail_save.specs.SaveEffects.{IsLeftAlone}
-use Rattle.mail_save.specs.declared.place.SavedAt.{SavedAt}
 
 seam_take : (a b : List ℕ) (n : ℕ) → length a ≡ n → take n (a ++ b) ≡ a
 seam_take a b n long = subst (λ (k : ℕ). take k (a ++ b) ≡ a) long (take-append_seam a b)

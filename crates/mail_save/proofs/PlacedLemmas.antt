@@ -1,36 +1,16 @@
 -- A region that was placed is ready to be stored, on a settled disk.
-use Rattle.std.proofs.Common.{◌≡◌, ◌⊎◌, ◌==◌, ℕ, ◌++◌, true, false, List, Option, Some, None, inl, inr, refl, sym, ◌∙◌, ap, subst}
-use Rattle.std.specs.List.{list_any}
-use Rattle.std.specs.Option.{option_map_or}
-use Rattle.attach_detach.specs.declared.message.Prepared.{Prepared}
-use Rattle.disk_model.specs.Disk.{DiskState, History, IfTold, IsThere, MayLeave, reading}
-use Rattle.disk_model.specs.declared.name.FileName.{FileName}
-use Rattle.disk_model.specs.declared.name.FileName.TheVariants.{Mail}
-use Rattle.disk_model.proofs.BetweenLemmas.{between-on}
+use Rattle.mail_save.proofs.Common.{◌≡◌, ◌⊎◌, ◌==◌, ℕ, ◌++◌, true, false, List, Option, Some, None, inl, inr, refl, sym, ◌∙◌, ap, subst, list_any, option_map_or, Prepared, DiskState, History, IfTold, reading, FileName, Mail, between-on, InstRow, MapUid, Lists, MapMeaning, IsSettledFor, files_of}
+use Rattle.mail_save.proofs.Common.{HasWritten, taken-there, IsAddedTo, MailFile, Own, IsReadyToStore, IsStore, StoreValue, HoldsRegion, HasAppended, IsLeftSoOrGone, IsPlacedReady, entry_stored, saved_row, SavedAt}
+use Rattle.disk_model.specs.Disk.{IsThere, MayLeave}
 use Rattle.disk_model.proofs.FirmLemmas.{reads_there}
-use Rattle.mdbox_base.specs.declared.entries.InstRow.{InstRow}
-use Rattle.mdbox_base.specs.declared.ids.MapUid.{MapUid}
 use Rattle.model_appends.specs.Appending.{LeavesAsRead}
-use Rattle.model_lists.specs.Lists.{Lists}
-use Rattle.model_meaning.specs.MapMeaning.{MapMeaning, map_meaning}
+use Rattle.model_meaning.specs.MapMeaning.{map_meaning}
 use Rattle.model_store.proofs.StandsLemmas.{map_same}
-use Rattle.model_store.specs.Settled.{IsSettled, IsSettledFor, files_of}
+use Rattle.model_store.specs.Settled.{IsSettled}
 use Rattle.saved_message.proofs.StoredLemmas.{hashes_own, written_detached}
-use Rattle.saved_message.specs.Saved.{HasWritten}
-use Rattle.storage_files.proofs.KnownLemmas.{taken-there}
-use Rattle.storage_files.specs.OnDisk.{IsAddedTo}
-use Rattle.storage_files.specs.declared.file.MailFile.{MailFile}
-use Rattle.store_core.proofs.MailChangeLemmas.{Own, region_firm}
+use Rattle.store_core.proofs.MailChangeLemmas.{region_firm}
 use Rattle.store_core.specs.Files.{MayGrow}
-use Rattle.store_core.specs.MapAppend.{IsReadyToStore, IsSyncedRegion}
-use Rattle.store_core.specs.Running.{IsStore}
-use Rattle.store_core.specs.Value.{StoreValue}
-use Rattle.mail_save.specs.Left.{HoldsRegion}
-use Rattle.mail_save.specs.MailFiles.{HasAppended}
-use Rattle.mail_save.specs.Ready.{IsLeftSoOrGone, IsPlacedReady}
-use Rattle.mail_save.specs.Record.{entry_stored}
-use Rattle.mail_save.specs.SaveEffects.{saved_row}
-use Rattle.mail_save.specs.declared.place.SavedAt.{SavedAt}
+use Rattle.store_core.specs.MapAppend.{IsSyncedRegion}
 
 -- ---- behind the event that places it
 

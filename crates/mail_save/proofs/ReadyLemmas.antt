@@ -1,53 +1,28 @@
 -- What events of a delivery leave ready for the next one.
-use Rattle.std.proofs.Common.{◌≡◌, ◌==◌, ◌≢◌, ◌<◌, ◌+◌, ◌∷◌, ◌++◌, ℕ, Bool, false, List, [], map, Option, All, refl, sym, ◌∙◌, ap, subst, arith, take, drop, length, inl, inr}
+use Rattle.mail_save.proofs.Common.{◌≡◌, ◌==◌, ◌≢◌, ◌<◌, ◌+◌, ◌∷◌, ◌++◌, ℕ, Bool, false, List, [], map, Option, All, refl, sym, ◌∙◌, ap, subst, arith, take, drop, length, inl, inr, AllByRecursion, bytes_eq, cond-false, eq-eqb, ne_eqb, length-append, All-nil, All-cons, All-contains, All-head}
+use Rattle.mail_save.proofs.Common.{All-tail, All-weaker, sum_by-cons, bytes_eq-Decides, drop-append_seam, DiskState, History, IfTold, file, between-on, if_told-map, BoxEntry, InstRow, MapUid, LogRow, BoxMeaning, MapRecord, MapMeaning, files_of, StoresMessage, Detached, Prepared, InstId, AreOfParts}
+use Rattle.mail_save.proofs.Common.{IsLaid, HasWritten, ids_in, KnownInstance, KeepsStored, due_at, number_beside, IsStore, StoreValue, indexes_of, references_to, IsSameOrSynced, entry_added, ReadsSameMail, IsLeftSoOrGone, IsPlacedReady, LetsGo, StoresPlaced, saved_row, Added, SavedAt}
 use Rattle.std.specs.Prelude.{cond, count_by}
-use Rattle.std.specs.List.{AllByRecursion}
-use Rattle.std.specs.Str.{bytes_eq}
-use Rattle.std.proofs.lemmas.Bool.{cases_Bool, cond-false, eq-eqb, ne_eqb}
-use Rattle.std.proofs.lemmas.List.{length-append}
-use Rattle.std.proofs.lemmas.List.Elements.{All-nil, All-cons, All-contains, All-head, All-tail, All-weaker}
-use Rattle.std.proofs.lemmas.List.Sums.{sum_by-cons}
-use Rattle.std.proofs.lemmas.Slice.Eq.{bytes_eq-Decides}
-use Rattle.std.proofs.Math.Seq.{drop-append_seam, take-length}
-use Rattle.disk_model.specs.Disk.{DiskState, History, IfTold}
-use Rattle.disk_model.specs.declared.name.FileName.TheVariants as file
-use Rattle.disk_model.proofs.BetweenLemmas.{between-on}
-use Rattle.disk_model.proofs.MomentLemmas.{if_told-map, if_told-both}
-use Rattle.mdbox_base.specs.declared.entries.BoxEntry.{BoxEntry}
-use Rattle.mdbox_base.specs.declared.entries.InstRow.{InstRow}
-use Rattle.mdbox_base.specs.declared.ids.MapUid.{MapUid}
+use Rattle.std.proofs.lemmas.Bool.{cases_Bool}
+use Rattle.std.proofs.Math.Seq.{take-length}
+use Rattle.disk_model.proofs.MomentLemmas.{if_told-both}
 use Rattle.model_appends.specs.Appending.{message_made}
-use Rattle.model_meaning.specs.BoxMeaning.{LogRow, BoxMeaning, box_meaning, rows_after, row_made}
-use Rattle.model_meaning.specs.MapMeaning.{MapRecord, MapMeaning, map_meaning}
+use Rattle.model_meaning.specs.BoxMeaning.{box_meaning, rows_after, row_made}
+use Rattle.model_meaning.specs.MapMeaning.{map_meaning}
 use Rattle.model_octets.proofs.SearchLemmas.{found_one}
 use Rattle.model_store.specs.Listing.{refs_in}
 use Rattle.model_store.specs.Opening.{HasItsRecord}
-use Rattle.model_store.specs.Settled.{files_of}
-use Rattle.model_store.specs.Stands.{AreListed, StoresMessage}
-use Rattle.attach_detach.specs.declared.message.Detached.{Detached}
-use Rattle.attach_detach.specs.declared.message.Prepared.{Prepared}
-use Rattle.mdbox_base.specs.declared.ids.InstId.{InstId}
+use Rattle.model_store.specs.Stands.{AreListed}
 use Rattle.model_store.specs.Stands.{HasInstances}
 use Rattle.save_instances.proofs.FoundLemmas.{rows_there}
-use Rattle.save_instances.specs.Attaching.{AreOfParts}
 use Rattle.saved_message.proofs.StoredLemmas.{written_stores}
-use Rattle.saved_message.specs.Laid.{AreSixteen, IsLaid, LaidValue}
-use Rattle.saved_message.specs.Saved.{AreInstancesOf, CanBeWritten, HasWritten, ids_in}
-use Rattle.sis_store.specs.declared.instance.KnownInstance.{KnownInstance}
+use Rattle.saved_message.specs.Laid.{AreSixteen, LaidValue}
+use Rattle.saved_message.specs.Saved.{AreInstancesOf, CanBeWritten}
 use Rattle.model_meaning.specs.Sound.{IsSoundRecord}
-use Rattle.store_core.specs.Dues.{KeepsStored, due_at, number_beside}
 use Rattle.store_core.specs.Files.{EndsWith}
-use Rattle.store_core.specs.Running.{IsStore}
-use Rattle.store_core.specs.Value.{StoreValue, indexes_of, references_to}
-use Rattle.task_claims.specs.Leaving.{IsSameOrSynced}
 use Rattle.mail_save.proofs.MailFileLemmas.{synced_reads}
 use Rattle.mail_save.proofs.SaveUnlistedLemmas.{is_sound}
-use Rattle.mail_save.specs.Added.{entry_added}
-use Rattle.mail_save.specs.MailFiles.{ReadsSameMail}
-use Rattle.mail_save.specs.Ready.{IsLeftSoOrGone, IsPlacedReady, IsRecordReady}
-use Rattle.mail_save.specs.SaveEffects.{LetsGo, StoresPlaced, saved_row}
-use Rattle.mail_save.specs.declared.add.Added.{Added}
-use Rattle.mail_save.specs.declared.place.SavedAt.{SavedAt}
+use Rattle.mail_save.specs.Ready.{IsRecordReady}
 
 -- ---- the region that was placed
 

@@ -1,33 +1,16 @@
 -- A message that was placed can be stored in the map.
-use Rattle.std.proofs.Common.{◌≡◌, ◌≤◌, ◌+◌, ◌==◌, ◌&&◌, ℕ, Bool, true, false, not, inl, inr, List, [], ◌∷◌, Option, Some, None, All, refl, sym, ◌∙◌, ap, subst, arith, length}
-use Rattle.std.specs.Prelude.{AllPairs, if◌then◌else◌}
-use Rattle.std.specs.List.{AllByRecursion}
-use Rattle.std.specs.Option.{option_map, option_map_or, option_and_then}
-use Rattle.std.proofs.lemmas.Bool.{cases_eq, cond-false, ne_eqb}
-use Rattle.std.proofs.lemmas.List.Elements.{All-nil, All-cons, All-head, All-tail, recursion_from_All}
-use Rattle.disk_model.specs.Disk.{Files, History, IfTold}
-use Rattle.disk_model.specs.declared.name.FileName.TheVariants as file
-use Rattle.disk_model.proofs.MomentLemmas.{if_told-map}
+use Rattle.mail_save.proofs.Common.{◌≡◌, ◌≤◌, ◌+◌, ◌==◌, ◌&&◌, ℕ, Bool, true, false, not, inl, inr, List, [], ◌∷◌, Option, Some, None, All, refl, sym, ◌∙◌, ap, subst, arith, length, if◌then◌else◌, AllByRecursion, option_map, option_map_or, option_and_then, cases_eq, cond-false, ne_eqb, All-nil}
+use Rattle.mail_save.proofs.Common.{All-cons, All-head, All-tail, History, IfTold, file, if_told-map, InstRow, MapUid, RowInRange, MapRecord, is_own, number_at, guid_file, files_of, AreFilesInOrder, end_in, file_in, taken-there, MailFile, IsReadyToStore, IsStore, StoreValue, HoldsRegion}
+use Rattle.mail_save.proofs.Common.{entry_stored, SavedAt}
+use Rattle.std.specs.Prelude.{AllPairs}
+use Rattle.std.proofs.lemmas.List.Elements.{recursion_from_All}
+use Rattle.disk_model.specs.Disk.{Files}
 use Rattle.mdbox_base.specs.Words.{IsNumber}
-use Rattle.mdbox_base.specs.declared.entries.InstRow.{InstRow}
-use Rattle.mdbox_base.specs.declared.ids.MapUid.{MapUid}
 use Rattle.model_appends.specs.MapAppending.{stored_row}
-use Rattle.model_logs.specs.Entries.{RowInRange}
 use Rattle.model_meaning.specs.MapFits.{AgreesOn, FitsStored}
-use Rattle.model_meaning.specs.MapMeaning.{MapRecord, is_own, number_at, guid_file}
 use Rattle.model_store.specs.Safe.{LiesInFile}
-use Rattle.model_store.specs.Settled.{files_of}
-use Rattle.storage_files.specs.Files.{AreFilesInOrder, end_in, file_in}
 use Rattle.storage_files.specs.OnDisk.{IsAsKnown}
-use Rattle.storage_files.proofs.KnownLemmas.{taken-there}
-use Rattle.storage_files.specs.declared.file.MailFile.{MailFile}
 use Rattle.store_core.specs.Files.{EndsBehind, LiesBelowEnd}
-use Rattle.store_core.specs.MapAppend.{IsReadyToStore}
-use Rattle.store_core.specs.Running.{IsStore}
-use Rattle.store_core.specs.Value.{StoreValue}
-use Rattle.mail_save.specs.Left.{HoldsRegion}
-use Rattle.mail_save.specs.Record.{entry_stored}
-use Rattle.mail_save.specs.declared.place.SavedAt.{SavedAt}
 
 -- ---- numbers
 

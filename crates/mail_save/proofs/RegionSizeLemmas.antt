@@ -1,17 +1,9 @@
 -- How long a message's region is, and the header before the first.
-use Rattle.std.proofs.Common.{◌≤◌, ◌<◌, ◌^◌, ℕ, List, [], ◌∷◌, Option, ap, arith, length}
-use Rattle.std.proofs.lemmas.List.{length-append}
-use Rattle.disk_model.specs.Disk.{History}
+use Rattle.mail_save.proofs.Common.{◌≤◌, ◌<◌, ◌^◌, ℕ, List, [], ◌∷◌, Option, ap, arith, length, length-append, History, IsName, unknown_guid, ids_in, StoreValue, IsAttached, SavedParts}
 use Rattle.mdbox_base.specs.Numbers.{hex_text}
-use Rattle.mdbox_base.specs.Words.{IsName}
 use Rattle.model_octets.proofs.HexTextLemmas.{hex_text_is_hex}
 use Rattle.model_storage.specs.WrittenFile.{written_header}
 use Rattle.saved_message.proofs.StoredLemmas.{laid_short}
-use Rattle.saved_message.specs.Region.{unknown_guid}
-use Rattle.saved_message.specs.Saved.{ids_in}
-use Rattle.store_core.specs.Value.{StoreValue}
-use Rattle.mail_save.specs.Task.{IsAttached}
-use Rattle.mail_save.specs.declared.first.SavedParts.{SavedParts}
 
 header_long : (time : ℕ) → time < 2 ^ 64 → length (written_header time) ≤ 40
 header_long time small = let hex = hex_text_is_hex time small in let a = length-append (hex_text time) (10 ∷ []) in omega (arith, a, hex.short)

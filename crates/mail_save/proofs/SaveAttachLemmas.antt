@@ -1,45 +1,14 @@
 -- What the events did that find the instances of a message's attachments, by the clause of a step.
-use Rattle.std.proofs.Common.{◌≡◌, ◌≤◌, ◌<◌, ◌+◌, ◌⊎◌, ◌&&◌, ◌||◌, ℕ, Bool, true, false, List, [], ◌∷◌, length, Option, Some, None, refl, sym, ◌∙◌, ap, subst, arith, inl, inr}
-use Rattle.std.specs.Prelude.{IsSome, is_some, nat_le, slice_get, if◌then◌else◌}
-use Rattle.std.specs.List.{list_any}
-use Rattle.std.specs.Str.{bytes_eq}
-use Rattle.std.proofs.lemmas.Grind.{common_steps}
+use Rattle.mail_save.proofs.Common.{◌≡◌, ◌≤◌, ◌<◌, ◌+◌, ◌⊎◌, ◌&&◌, ◌||◌, ℕ, Bool, true, false, List, [], ◌∷◌, length, Option, Some, None, refl, sym, ◌∙◌, ap, subst, arith, inl, inr, IsSome, is_some, nat_le, slice_get, if◌then◌else◌, list_any, bytes_eq, common_steps, bytes_eq-Decides, Detached}
+use Rattle.mail_save.proofs.Common.{History, Faults, Highest, InstRow, Did, did, progress, Refusal, refusal, reply, request, half, MapMeaning, no_numbers, Compares, PlacesInstance, is_one_of, is_step, Around, is_same_instance, drawn_none, AttachingValue, next_attachment, next_candidate, part_row}
+use Rattle.mail_save.proofs.Common.{with_compared, with_found, next_id, end_in, knows_instance, StoreValue, indexes_of, seen_of, Lasts, step_calm, AttachesNext, AttachesNone, HasItsParts, IsAtSave, StepsWithRoom, around_saving, IsTakingFile, FaultsAt, stopped_reply, SavedParts, SaveStage, stage}
 use Rattle.std.proofs.lemmas.Option.{slice_get_within}
-use Rattle.std.proofs.lemmas.Slice.Eq.{bytes_eq-Decides}
-use Rattle.attach_detach.specs.declared.message.Detached.{Detached}
-use Rattle.disk_model.specs.Disk.{History, Faults}
 use Rattle.disk_model.specs.FaultCounts.{ReadFaultCounted}
-use Rattle.mdbox_base.specs.declared.entries.Highest.{Highest}
-use Rattle.mdbox_base.specs.declared.entries.InstRow.{InstRow}
-use Rattle.mdbox_base.specs.declared.progress.Did.{Did}
-use Rattle.mdbox_base.specs.declared.progress.Did.TheVariants as did
-use Rattle.mdbox_base.specs.declared.progress.Progress.TheVariants as progress
-use Rattle.mdbox_base.specs.declared.replies.Refusal.{Refusal}
-use Rattle.mdbox_base.specs.declared.replies.Refusal.TheVariants as refusal
-use Rattle.mdbox_base.specs.declared.replies.Reply.TheVariants as reply
-use Rattle.mdbox_base.specs.declared.requests.Request.TheVariants as request
-use Rattle.mdbox_base.specs.declared.script.Half.TheVariants as half
-use Rattle.model_meaning.specs.MapMeaning.{MapMeaning, no_numbers}
-use Rattle.list_machine.specs.Run.{Compares, PlacesInstance, is_one_of}
-use Rattle.list_machine.specs.Machine.{is_step}
-use Rattle.journal.specs.Events.{Around}
-use Rattle.journal.specs.Found.{is_same_instance}
-use Rattle.journal.proofs.RunLemmas.{drawn_none}
-use Rattle.save_instances.specs.Attaching.{AttachingValue, next_attachment, next_candidate, part_row, with_compared, with_found}
-use Rattle.sis_store.specs.Instances.{next_id}
-use Rattle.storage_files.specs.Files.{end_in}
-use Rattle.store_core.specs.Knows.{knows_instance}
-use Rattle.store_core.specs.Value.{StoreValue, indexes_of}
-use Rattle.store_seen.specs.Seeing.{seen_of}
-use Rattle.task_steps.proofs.EventLaws.{Lasts, same_changes, same_reads, step_calm}
+use Rattle.task_steps.proofs.EventLaws.{same_changes, same_reads}
 use Rattle.mail_save.specs.Events.{instance_refusal}
-use Rattle.mail_save.specs.SaveEffects.{AttachesNext, AttachesNone, ComparesNext, NamesFound, PlacesNext}
-use Rattle.mail_save.specs.SaveSeen.{HasItsParts, IsAtSave, StepsWithRoom, around_saving, count_detachable}
-use Rattle.mail_save.specs.SaveStages.{IsTakingFile}
-use Rattle.mail_save.specs.Task.{FaultsAt, IsAttachRefusal, failing_did, stopped_reply}
-use Rattle.mail_save.specs.declared.first.SavedParts.{SavedParts}
-use Rattle.mail_save.specs.declared.task.SaveStage.{SaveStage}
-use Rattle.mail_save.specs.declared.task.SaveStage.TheVariants as stage
+use Rattle.mail_save.specs.SaveEffects.{ComparesNext, NamesFound, PlacesNext}
+use Rattle.mail_save.specs.SaveSeen.{count_detachable}
+use Rattle.mail_save.specs.Task.{IsAttachRefusal, failing_did}
 use Rattle.mail_save.proofs.SaveClauseLemmas.{EventOf, DeliveryClause, with_did}
 use Rattle.mail_save.proofs.SaveDidLemmas.{or_none, HasRun, StaysSo}
 use Rattle.mail_save.proofs.SaveFrontLemmas.{SeesAround, compares_part, found_with, places_part}

@@ -1,39 +1,16 @@
 -- The claims of a delivery, by event.
-use Rattle.std.proofs.Common.{◌≡◌, ◌≢◌, ◌+◌, ◌==◌, ℕ, Bool, true, false, List, [], ◌∷◌, ◌++◌, Option, Some, None, refl, sym, ◌∙◌, ap, subst, arith, inl, inr}
-use Rattle.std.specs.Prelude.{◌&&◌, ◌↔◌, is_some, length}
-use Rattle.std.specs.List.{list_any}
-use Rattle.std.specs.Option.{option_map_or, option_and_then}
-use Rattle.std.proofs.lemmas.Bool.{cases_eq, eq-eqb, ne_eqb}
-use Rattle.disk_model.specs.Disk.{History, Faults}
-use Rattle.mdbox_base.specs.declared.entries.InstRow.{InstRow}
-use Rattle.mdbox_base.specs.declared.ids.FileNo.{FileNo}
-use Rattle.mdbox_base.specs.declared.progress.Did.{Did}
-use Rattle.mdbox_base.specs.declared.progress.Progress.{Progress}
-use Rattle.mdbox_base.specs.declared.progress.Progress.TheVariants as progress
-use Rattle.mdbox_base.specs.declared.replies.Refusal.{Refusal}
-use Rattle.mdbox_base.specs.declared.replies.Refusal.TheVariants as refusal
-use Rattle.mdbox_base.specs.declared.replies.Reply.{Reply}
-use Rattle.mdbox_base.specs.declared.replies.Reply.TheVariants as reply
-use Rattle.save_instances.specs.Attaching.{AttachingValue}
-use Rattle.storage_files.specs.Files.{AreFilesInOrder, FilesValue, IsTakeFor, end_in, ending_at, file_begun, file_in, given_back, is_doomed_in, is_emptied_in, is_taken_in, pins_in, place_begun_in, released_in, with_taken}
-use Rattle.storage_files.specs.declared.file.MailFile.{MailFile}
-use Rattle.storage_files.specs.declared.file.Take.{Take}
-use Rattle.storage_files.specs.declared.file.Take.TheVariants.{Known, New, Full}
-use Rattle.store_core.proofs.KeptFileLemmas.{none_begun}
-use Rattle.store_core.specs.Dues.{Moves, amounts_in}
-use Rattle.store_core.specs.Keeping.{MovesHolds}
-use Rattle.store_core.specs.Value.{StoreValue}
+use Rattle.mail_save.proofs.Common.{◌≡◌, ◌≢◌, ◌+◌, ◌==◌, ℕ, Bool, true, false, List, [], ◌∷◌, ◌++◌, Option, Some, None, refl, sym, ◌∙◌, ap, subst, arith, inl, inr, ◌↔◌, is_some, list_any, option_map_or, option_and_then, cases_eq, eq-eqb, ne_eqb, History, Faults, InstRow, FileNo, Did, Progress}
+use Rattle.mail_save.proofs.Common.{progress, Refusal, refusal, Reply, reply, AttachingValue, AreFilesInOrder, FilesValue, IsTakeFor, end_in, ending_at, file_begun, file_in, given_back, is_doomed_in, is_taken_in, place_begun_in, released_in, with_taken, MailFile, Take, Known, New, Full, none_begun}
+use Rattle.mail_save.proofs.Common.{Moves, amounts_in, MovesHolds, StoreValue, Due, Held, Taken, one_if, save_claims, save_amounts, HoldsRegion, AttachesNext, AttachesNone, IsLeftAlone, LetsGo, PlacesParts, SaveEffects, StoresNone, TakesFileFor, TakesNone, TookAs, roomy_files, taken_files, HasLeft}
+use Rattle.mail_save.proofs.Common.{RepliesAt, Saves, stopped_reply, SavedParts, SavedAt, SaveStage, stage}
+use Rattle.std.specs.Prelude.{◌&&◌, length}
+use Rattle.storage_files.specs.Files.{is_emptied_in, pins_in}
 use Rattle.store_core.specs.declared.store.OpenBox.{OpenBox}
-use Rattle.task_claims.specs.Claims.{ClaimsNothing, Due, Emptied, Held, Made, MovesClaims, Pinned, PlacingPieces, Removing, Taken, one_if}
-use Rattle.mail_save.specs.Claims.{own_file_of, save_claims}
-use Rattle.mail_save.specs.Held.{save_amounts, save_holds}
-use Rattle.mail_save.specs.Left.{HoldsRegion}
-use Rattle.mail_save.specs.SaveEffects.{AreOthersTaken, AttachesNext, AttachesNone, IsLeftAlone, LetsGo, PlacesParts, SaveEffects, StoresNone, TakesFileFor, TakesNone, TookAs, roomy_files, taken_files}
-use Rattle.mail_save.specs.Task.{EndsSave, HasLeft, RepliesAt, Saves, stopped_reply}
-use Rattle.mail_save.specs.declared.first.SavedParts.{SavedParts}
-use Rattle.mail_save.specs.declared.place.SavedAt.{SavedAt}
-use Rattle.mail_save.specs.declared.task.SaveStage.{SaveStage}
-use Rattle.mail_save.specs.declared.task.SaveStage.TheVariants as stage
+use Rattle.task_claims.specs.Claims.{ClaimsNothing, Emptied, Made, MovesClaims, Pinned, PlacingPieces, Removing}
+use Rattle.mail_save.specs.Claims.{own_file_of}
+use Rattle.mail_save.specs.Held.{save_holds}
+use Rattle.mail_save.specs.SaveEffects.{AreOthersTaken}
+use Rattle.mail_save.specs.Task.{EndsSave}
 use Rattle.mail_save.proofs.LettingLemmas.{let_go_store}
 use Rattle.mail_save.proofs.SaveEventLemmas.{refused_is, unfallen}
 use Rattle.mail_save.proofs.SaveFileLemmas.{released_as, released_free, taken_unemptied, value_begun, value_changed}

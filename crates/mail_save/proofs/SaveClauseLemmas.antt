@@ -1,35 +1,8 @@
 -- The clause of a step of a delivery: what it stands on, and that instances may be let go as the event ends.
-use Rattle.std.proofs.Common.{◌≡◌, ◌<◌, ◌^◌, ℕ, Bool, true, false, List, length, Option, sym, ◌∙◌, ap, subst}
-use Rattle.std.specs.Prelude.{◌↔◌}
-use Rattle.disk_model.specs.Disk.{History, Faults, IfTold}
-use Rattle.mdbox_base.specs.Words.{IsOctets}
-use Rattle.mdbox_base.specs.declared.entries.InstRow.{InstRow}
-use Rattle.mdbox_base.specs.declared.progress.Did.{Did}
-use Rattle.mdbox_base.specs.declared.progress.Did.TheVariants as did
-use Rattle.mdbox_base.specs.declared.progress.Progress.{Progress}
-use Rattle.mdbox_base.specs.declared.replies.Reply.{Reply}
-use Rattle.mdbox_base.specs.declared.requests.Request.{Request}
-use Rattle.mdbox_base.specs.declared.requests.Request.TheVariants as request
-use Rattle.model_lists.specs.Lists.{Lists}
-use Rattle.list_machine.specs.Run.{RunEvent, Run, and_then}
-use Rattle.journal.specs.Events.{Around}
-use Rattle.save_instances.specs.Attaching.{found_let_go}
-use Rattle.sis_store.specs.Instances.{AreInstances}
-use Rattle.storage_files.specs.Files.{AreFilesInOrder}
-use Rattle.store_core.proofs.MailChangeLemmas.{Own}
-use Rattle.store_core.specs.Knows.{knows_instance}
-use Rattle.store_core.specs.Running.{IsStore}
-use Rattle.store_core.specs.StoreInstances.{AreInstancesKept}
-use Rattle.sis_store.specs.declared.instance.KnownInstance.{KnownInstance}
-use Rattle.store_core.specs.Value.{StoreValue}
-use Rattle.task_steps.proofs.EventLaws.{fall, Lasts}
-use Rattle.task_steps.specs.Step.{Seen, HasComeTo, FindsRoom, Leads, Fell, Went, EndsRequest, DidEvent, Steps, ended_by}
-use Rattle.store_seen.specs.Seeing.{seen_of}
-use Rattle.mail_save.specs.Ready.{IsReadyToSave}
-use Rattle.mail_save.specs.SaveEffects.{LetsGo}
-use Rattle.mail_save.specs.SaveSeen.{HasItsParts, IsAtSave, StepsWithRoom, around_saving}
-use Rattle.mail_save.specs.Task.{FaultsAt, HasLeft, MomentsAt, RepliesAt, RestsAt, saved_did, stopped_reply}
-use Rattle.mail_save.specs.declared.task.SaveStage.{SaveStage}
+use Rattle.mail_save.proofs.Common.{◌≡◌, ◌<◌, ◌^◌, ℕ, Bool, true, false, List, length, Option, sym, ◌∙◌, ap, subst, ◌↔◌, History, Faults, IfTold, IsOctets, InstRow, Did, did, Progress, Reply, Request, request, Lists, RunEvent, Run, and_then, Around, found_let_go, AreInstances, AreFilesInOrder, Own}
+use Rattle.mail_save.proofs.Common.{knows_instance, IsStore, AreInstancesKept, KnownInstance, StoreValue, fall, Lasts, Seen, HasComeTo, Leads, seen_of, IsReadyToSave, LetsGo, HasItsParts, IsAtSave, StepsWithRoom, around_saving, FaultsAt, HasLeft, RepliesAt, stopped_reply, SaveStage}
+use Rattle.task_steps.specs.Step.{FindsRoom, Fell, Went, EndsRequest, DidEvent, Steps, ended_by}
+use Rattle.mail_save.specs.Task.{MomentsAt, RestsAt, saved_did}
 use Rattle.mail_save.proofs.SeenInstanceLemmas.{knows_let_go}
 
 -- ---- an event

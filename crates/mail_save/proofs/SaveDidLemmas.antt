@@ -1,33 +1,16 @@
 -- Events of a delivery, by the clause of a step: which files and GUIDs the run knows then, and what an event did.
-use Rattle.std.proofs.Common.{◌≡◌, ◌≤◌, ◌+◌, ◌&&◌, ◌||◌, ℕ, Bool, true, false, not, List, [], ◌∷◌, ◌++◌, ◌⊎◌, Option, Some, None, refl, sym, ◌∙◌, ap, subst, arith, inl, inr}
-use Rattle.std.specs.Prelude.{flat_map}
-use Rattle.std.specs.List.{list_any}
-use Rattle.std.specs.Str.{bytes_eq}
-use Rattle.std.proofs.lemmas.Grind.{flat_map-append}
+use Rattle.mail_save.proofs.Common.{◌≡◌, ◌≤◌, ◌+◌, ◌&&◌, ◌||◌, ℕ, Bool, true, false, not, List, [], ◌∷◌, ◌++◌, ◌⊎◌, Option, Some, None, refl, sym, ◌∙◌, ap, subst, arith, inl, inr, flat_map, list_any, bytes_eq, flat_map-append, list_any-append, told_calls, NoFault, Highest, InstRow, MapEntry, did}
+use Rattle.mail_save.proofs.Common.{Refusal, refusal, Reply, reply, Request, Lists, MapMeaning, map_applied, EventPart, RunEvent, Run, and_then, map_of, drawn_also, is_one_of, Around, is_same_instance, Seen, ShowsSeen, HasComeTo, Leads, Lasts, unstepped, comes_drawn}
 use Rattle.std.proofs.lemmas.List.{append-nil}
-use Rattle.std.proofs.lemmas.List.Folds.{list_any-append}
-use Rattle.disk_model.specs.Disk.{told_calls}
-use Rattle.disk_model.specs.FaultCounts.{NoFault}
-use Rattle.mdbox_base.specs.declared.entries.Highest.{Highest}
-use Rattle.mdbox_base.specs.declared.entries.InstRow.{InstRow}
-use Rattle.mdbox_base.specs.declared.entries.MapEntry.{MapEntry}
-use Rattle.mdbox_base.specs.declared.progress.Did.TheVariants as did
-use Rattle.mdbox_base.specs.declared.replies.Refusal.{Refusal}
-use Rattle.mdbox_base.specs.declared.replies.Refusal.TheVariants as refusal
-use Rattle.mdbox_base.specs.declared.replies.Reply.{Reply}
-use Rattle.mdbox_base.specs.declared.replies.Reply.TheVariants as reply
-use Rattle.mdbox_base.specs.declared.requests.Request.{Request}
-use Rattle.model_lists.specs.Lists.{Lists}
-use Rattle.model_meaning.specs.MapMeaning.{MapMeaning, map_applied, named_instances}
-use Rattle.list_machine.specs.Run.{EventPart, RunEvent, Run, before, and_then, map_of, drawn_also, is_one_of, is_unpinning}
-use Rattle.journal.specs.Events.{Around, makes_step, begun_in, ended_in}
-use Rattle.journal.specs.Found.{is_known_file, is_known_instance, is_same_instance}
+use Rattle.model_meaning.specs.MapMeaning.{named_instances}
+use Rattle.list_machine.specs.Run.{before, is_unpinning}
+use Rattle.journal.specs.Events.{makes_step, begun_in, ended_in}
+use Rattle.journal.specs.Found.{is_known_file, is_known_instance}
 use Rattle.journal.specs.Makes.{HasCome}
 use Rattle.journal.proofs.RunLemmas.{comes_on_with}
-use Rattle.task_steps.specs.Step.{Seen, ShowsSeen, was_given, KeepsTasks, HasComeTo, Leads, and_told, GivesNew, DidEvent}
+use Rattle.task_steps.specs.Step.{was_given, KeepsTasks, and_told, GivesNew, DidEvent}
 use Rattle.task_steps.proofs.SeenLemmas.{pins_still, used_still, doomed_still, file_still_known, file_now_known, gone_still, places_known, never_used, never_gone, due_more, there_before}
-use Rattle.task_steps.proofs.EventLaws.{did_part, DoesPart, ends_well, Lasts, LeftBy, no_reply, refusal_event, stands_by, unstepped}
-use Rattle.task_steps.proofs.KeptStoreLemmas.{comes_drawn}
+use Rattle.task_steps.proofs.EventLaws.{did_part, DoesPart, ends_well, LeftBy, no_reply, refusal_event, stands_by}
 
 -- ---- small facts
 

@@ -1,33 +1,8 @@
 -- What any step of a delivery did.
-use Rattle.std.proofs.Common.{◌≡◌, ◌<◌, ◌^◌, ℕ, true, false, List, length, Option, Some, None, refl, ap, subst}
-use Rattle.std.specs.Prelude.{is_none}
-use Rattle.disk_model.specs.Disk.{History, Faults, IfTold}
-use Rattle.mdbox_base.specs.Words.{IsOctets}
-use Rattle.mdbox_base.specs.declared.entries.InstRow.{InstRow}
-use Rattle.mdbox_base.specs.declared.progress.Did.{Did}
-use Rattle.mdbox_base.specs.declared.progress.Did.TheVariants as did
-use Rattle.mdbox_base.specs.declared.progress.Progress.{Progress}
-use Rattle.mdbox_base.specs.declared.progress.Progress.TheVariants as progress
-use Rattle.mdbox_base.specs.declared.replies.Reply.TheVariants as reply
-use Rattle.mdbox_base.specs.declared.requests.Request.TheVariants as request
-use Rattle.list_machine.specs.Run.{First, Compares, PlacesInstance, TakesFile, PlacesMessage, StoresRecord, GivesBack}
-use Rattle.journal.specs.Events.{Around}
-use Rattle.save_instances.specs.Attaching.{next_candidate}
-use Rattle.sis_store.specs.Instances.{AreInstances}
-use Rattle.storage_files.specs.Files.{AreFilesInOrder}
-use Rattle.store_core.specs.Running.{IsStore}
-use Rattle.store_core.specs.StoreInstances.{AreInstancesKept}
-use Rattle.store_core.specs.Value.{StoreValue}
-use Rattle.store_seen.specs.Seeing.{seen_of}
+use Rattle.mail_save.proofs.Common.{◌≡◌, ◌<◌, ◌^◌, ℕ, true, false, List, length, Option, Some, None, refl, ap, subst, is_none, History, Faults, IfTold, IsOctets, InstRow, Did, did, Progress, progress, reply, request, First, Compares, PlacesInstance, TakesFile, PlacesMessage, StoresRecord, GivesBack}
+use Rattle.mail_save.proofs.Common.{Around, next_candidate, AreInstances, AreFilesInOrder, IsStore, AreInstancesKept, StoreValue, seen_of, IsReadyToSave, SaveEffects, HasItsParts, StepsWithRoom, around_saving, IsAtSave, room_at, Own, IsTakingFile, HasLeft, Saves, stopped_reply, SaveStage, stage}
 use Rattle.task_steps.specs.Step.{ended_by}
-use Rattle.mail_save.specs.Ready.{IsReadyToSave}
-use Rattle.mail_save.specs.SaveEffects.{SaveEffects}
-use Rattle.mail_save.specs.SaveSeen.{HasItsParts, StepsWithRoom, around_saving, IsAtSave, room_at}
-use Rattle.store_core.proofs.MailChangeLemmas.{Own}
-use Rattle.mail_save.specs.SaveStages.{IsTakingFile}
-use Rattle.mail_save.specs.Task.{SaveValue, HasLeft, Saves, stopped_reply}
-use Rattle.mail_save.specs.declared.task.SaveStage.{SaveStage}
-use Rattle.mail_save.specs.declared.task.SaveStage.TheVariants as stage
+use Rattle.mail_save.specs.Task.{SaveValue}
 use Rattle.mail_save.proofs.SaveAttachLemmas.{attaching_on, attaching_refused, attaching_whole, is_left}
 use Rattle.mail_save.proofs.SaveClauseLemmas.{EventOf, DeliveryClause, before_letting, lets_go_does}
 use Rattle.mail_save.proofs.SaveLastLemmas.{unsaved_stopped}

@@ -1,26 +1,9 @@
 -- The events of a delivery: what each one tells.
-use Rattle.std.proofs.Common.{◌≡◌, ◌≤◌, ◌<◌, ◌+◌, ℕ, Bool, true, false, inl, inr, List, Option, Some, None, Ok, Err, refl, sym, ◌∙◌, ap, subst, arith, length}
-use Rattle.std.specs.Prelude.{◌==◌, ◌⊎◌, ◌↔◌, if◌then◌else◌, nat_le, Result}
-use Rattle.std.specs.Option.{option_or}
-use Rattle.std.proofs.lemmas.Bool.{cond-true, cond-false, eq-eqb}
-use Rattle.std.proofs.lemmas.Grind.{common_steps}
-use Rattle.disk_model.specs.Disk.{Faults, History}
-use Rattle.disk_model.specs.FaultCounts.{ChangeFaultCounted}
-use Rattle.mdbox_base.specs.declared.ids.Guid.{Guid}
-use Rattle.mdbox_base.specs.declared.ids.Uid.{Uid}
-use Rattle.mdbox_base.specs.declared.progress.Did.{Did}
-use Rattle.mdbox_base.specs.declared.progress.Did.TheVariants as did
-use Rattle.mdbox_base.specs.declared.progress.Progress.{Progress}
-use Rattle.mdbox_base.specs.declared.progress.Progress.TheVariants as progress
-use Rattle.mdbox_base.specs.declared.replies.Refusal.{Refusal}
-use Rattle.mdbox_base.specs.declared.replies.Refusal.TheVariants as refusal
-use Rattle.mdbox_base.specs.declared.replies.Reply.{Reply}
-use Rattle.mdbox_base.specs.declared.replies.Reply.TheVariants as reply
-use Rattle.model_meaning.specs.BoxMeaning.{BoxMeaning}
-use Rattle.store_core.specs.Value.{StoreValue, list_named}
-use Rattle.mail_save.specs.Events.{box_refusal, save_refusal, uid_refusal}
-use Rattle.mail_save.specs.Task.{SaveValue, Saves, giving_did, stopped_reply}
-use Rattle.mail_save.specs.declared.task.SaveStage.{SaveStage}
+use Rattle.mail_save.proofs.Common.{◌≡◌, ◌≤◌, ◌<◌, ◌+◌, ℕ, Bool, true, false, inl, inr, List, Option, Some, None, Err, refl, sym, ◌∙◌, ap, subst, arith, length, ◌↔◌, if◌then◌else◌, nat_le, option_or, cond-true, cond-false, eq-eqb, common_steps, Faults, History, ChangeFaultCounted, Guid, Uid, Did}
+use Rattle.mail_save.proofs.Common.{did, Progress, progress, Refusal, refusal, Reply, reply, BoxMeaning, StoreValue, list_named, box_refusal, save_refusal, uid_refusal, Saves, stopped_reply, SaveStage}
+use Rattle.std.proofs.Common.{Ok}
+use Rattle.std.specs.Prelude.{◌==◌, ◌⊎◌, Result}
+use Rattle.mail_save.specs.Task.{SaveValue, giving_did}
 
 -- ---- answers
 

@@ -1,18 +1,11 @@
 -- What the events of a delivery make of what is known of the storage files.
-use Rattle.std.proofs.Common.{◌≡◌, ◌≢◌, ◌==◌, ℕ, Bool, true, false, List, [], ◌∷◌, ◌++◌, Option, Some, None, refl, sym, ◌∙◌, ap, subst, inl, inr}
-use Rattle.std.specs.Prelude.{is_some, if◌then◌else◌}
-use Rattle.std.specs.Option.{option_map, option_map_or, option_and_then}
-use Rattle.std.proofs.lemmas.Bool.{cases_eq, false≢true}
+use Rattle.mail_save.proofs.Common.{◌≡◌, ◌≢◌, ◌==◌, ℕ, Bool, true, false, List, [], ◌∷◌, ◌++◌, Option, Some, None, refl, sym, ◌∙◌, ap, subst, inl, inr, is_some, if◌then◌else◌, option_map, option_map_or, option_and_then, cases_eq, FileNo, file-before_begun, file-begun, file-other, AreFilesInOrder}
+use Rattle.mail_save.proofs.Common.{FilesValue, IsTakeFor, changed_in, end_in, ending_at, file_begun, file_in, given_back, is_taken_in, place_begun_in, released_in, with_taken, without_file, MailFile, Take, Known, New, Full, StoreValue, TookAs, roomy_files, taken_files}
+use Rattle.std.proofs.lemmas.Bool.{false≢true}
 use Rattle.std.proofs.lemmas.Option.{slice_get-get_or}
-use Rattle.mdbox_base.specs.declared.ids.FileNo.{FileNo}
 use Rattle.model_octets.proofs.PairLemmas.{found_holds}
-use Rattle.storage_files.proofs.FileListLemmas.{KeepsNumber, file-before_begun, file-begun, file-found, file-here, file-other}
-use Rattle.storage_files.specs.Files.{AreFilesInOrder, FilesValue, IsTakeFor, IsUsedFile, changed_in, end_in, ending_at, file_begun, file_in, given_back, is_taken_in, place_begun_in, released_in, with_taken, without_file}
-use Rattle.storage_files.specs.declared.file.MailFile.{MailFile}
-use Rattle.storage_files.specs.declared.file.Take.{Take}
-use Rattle.storage_files.specs.declared.file.Take.TheVariants.{Known, New, Full}
-use Rattle.store_core.specs.Value.{StoreValue}
-use Rattle.mail_save.specs.SaveEffects.{TookAs, roomy_files, taken_files}
+use Rattle.storage_files.proofs.FileListLemmas.{KeepsNumber, file-found, file-here}
+use Rattle.storage_files.specs.Files.{IsUsedFile}
 
 -- ---- one file changes
 

@@ -1,40 +1,21 @@
 -- The events of a delivery up to that which stores the message, by the clause of a step.
-use Rattle.std.proofs.Common.{◌≡◌, ◌≤◌, ◌<◌, ◌+◌, ◌⊎◌, ◌==◌, ◌||◌, ℕ, Bool, true, false, not, cond, List, [], ◌∷◌, ◌++◌, Option, Some, None, refl, sym, ◌∙◌, ap, subst, append_assoc, arith, inl, inr}
-use Rattle.std.specs.Prelude.{◌≢◌, nat_lt, nat_le, is_none, is_some, length, filter, flat_map, All, if◌then◌else◌}
-use Rattle.std.specs.List.{AllByRecursion, list_any}
-use Rattle.std.specs.Option.{IfSome, option_map_or, option_or}
-use Rattle.std.specs.Str.{bytes_eq}
-use Rattle.std.proofs.lemmas.Bool.{eq-eqb}
-use Rattle.std.proofs.lemmas.Grind.{common_steps, flat_map-append}
+use Rattle.mail_save.proofs.Common.{◌≡◌, ◌≤◌, ◌<◌, ◌+◌, ◌⊎◌, ◌==◌, ◌||◌, ℕ, Bool, true, false, not, cond, List, [], ◌∷◌, ◌++◌, Option, Some, None, refl, sym, ◌∙◌, ap, subst, append_assoc, arith, inl, inr, nat_lt, nat_le, is_none, is_some, filter, flat_map, if◌then◌else◌, AllByRecursion, list_any}
+use Rattle.mail_save.proofs.Common.{option_map_or, option_or, bytes_eq, eq-eqb, common_steps, flat_map-append, All-nil, All-cons, All-append, list_any-append, bytes_eq-Decides, told_calls, IsOctets, Highest, InstRow, did, refusal, request, Lists, MapFits, MapMeaning, map_applied, no_numbers}
+use Rattle.mail_save.proofs.Common.{guid_file, number_at, parts_in, First, Compares, PlacesInstance, TakesFile, PlacesMessage, StoresRecord, Last, RunEvent, Run, and_then, own_events, map_of, drawn_of, drawn_also, is_one_of, first_refusal, refused_where, part_checks, Around, next_part, FindsPlace}
+use Rattle.mail_save.proofs.Common.{fall, comes_drawn, one_due, Seen, ShowsSeen, HasComeTo, HasNotBegun, drawn_none, StepsWithRoom, AreAttachedSoFar, HasAttached, IsTakingFile, IsPlacingMessage, IsStoringMessage, IsAddingMessage}
+use Rattle.std.specs.Prelude.{◌≢◌, length, All}
+use Rattle.std.specs.Option.{IfSome}
 use Rattle.std.proofs.lemmas.List.{append-nil}
-use Rattle.std.proofs.lemmas.List.Elements.{All-nil, All-cons, All-append, filter-append}
-use Rattle.std.proofs.lemmas.List.Folds.{list_any-append}
-use Rattle.std.proofs.lemmas.Slice.Eq.{bytes_eq-Decides}
-use Rattle.disk_model.specs.Disk.{told_calls}
-use Rattle.mdbox_base.specs.Words.{IsOctets}
-use Rattle.mdbox_base.specs.declared.entries.Highest.{Highest}
-use Rattle.mdbox_base.specs.declared.entries.InstRow.{InstRow}
+use Rattle.std.proofs.lemmas.List.Elements.{filter-append}
 use Rattle.mdbox_base.specs.declared.entries.MapEntry.TheVariants as map_entry
-use Rattle.mdbox_base.specs.declared.progress.Did.TheVariants as did
-use Rattle.mdbox_base.specs.declared.replies.Refusal.TheVariants as refusal
-use Rattle.mdbox_base.specs.declared.requests.Request.TheVariants as request
-use Rattle.model_lists.specs.Lists.{Lists}
-use Rattle.model_meaning.specs.MapFits.{MapFits}
-use Rattle.model_meaning.specs.MapMeaning.{MapMeaning, map_applied, no_numbers, guid_file, instance_number, number_at, is_sealed}
-use Rattle.model_mime.specs.Parts.{parts_in}
-use Rattle.list_machine.specs.Run.{First, Compares, PlacesInstance, TakesFile, PlacesMessage, StoresRecord, Last, RunEvent, event_of, Run, and_then, own_events, given_by_others, map_of, drawn_of, drawn_also, is_one_of}
-use Rattle.list_machine.specs.Machine.{first_refusal, refused_where, part_checks}
-use Rattle.journal.specs.Events.{Around, next_part, instances_found}
-use Rattle.journal.specs.Found.{FindsPlace, IsFreeFile, is_known_instance, is_taken}
+use Rattle.model_meaning.specs.MapMeaning.{instance_number, is_sealed}
+use Rattle.list_machine.specs.Run.{event_of, given_by_others}
+use Rattle.journal.specs.Events.{instances_found}
+use Rattle.journal.specs.Found.{IsFreeFile, is_known_instance, is_taken}
 use Rattle.journal.proofs.OwnEventLemmas.{own_more}
-use Rattle.task_steps.proofs.EventLaws.{fall, own_event}
-use Rattle.task_steps.proofs.KeptStoreLemmas.{comes_drawn}
-use Rattle.task_steps.specs.ExpungeStages.{one_due}
-use Rattle.task_steps.specs.Step.{Seen, ShowsSeen, was_given, HasComeTo, FindsRoom, HasNotBegun}
+use Rattle.task_steps.proofs.EventLaws.{own_event}
+use Rattle.task_steps.specs.Step.{was_given, FindsRoom}
 use Rattle.task_steps.proofs.SeenLemmas.{no_guids, is_new}
-use Rattle.journal.proofs.RunLemmas.{drawn_none}
-use Rattle.mail_save.specs.SaveSeen.{StepsWithRoom}
-use Rattle.mail_save.specs.SaveStages.{AreAttachedSoFar, HasAttached, IsTakingFile, IsPlacingMessage, IsStoringMessage, IsAddingMessage}
 use Rattle.mail_save.proofs.SaveRunLemmas.{attaches_next, found_in, part_after, takes_next, places_next, stores_next, taken_file, given_guid, found_rows}
 use Rattle.mail_save.proofs.SaveDidLemmas.{or_none, some_part, given_more, HasRun, KeepsTelling, TellsMore, comes_stored, comes_to_more, tells_on, quiet_on}
 

@@ -1,45 +1,21 @@
 -- The last events of a delivery, by the clause of a step: the message is added, or refused, and its record given back.
-use Rattle.std.proofs.Common.{◌≡◌, ◌≤◌, ◌<◌, ◌+◌, ◌^◌, ℕ, Bool, true, false, List, [], ◌∷◌, ◌++◌, ◌⊎◌, Option, Some, None, refl, sym, ◌∙◌, ap, subst, append_assoc, arith, inl, inr}
-use Rattle.std.specs.Prelude.{find, length, if◌then◌else◌, slice_get}
-use Rattle.std.specs.Option.{option_map, option_or}
-use Rattle.std.specs.Str.{bytes_eq}
-use Rattle.std.proofs.lemmas.List.Elements.{All-nil, All-cons}
-use Rattle.disk_model.specs.Disk.{told_calls}
-use Rattle.disk_model.specs.FaultCounts.{NoFault}
+use Rattle.mail_save.proofs.Common.{◌≡◌, ◌≤◌, ◌<◌, ◌+◌, ◌^◌, ℕ, Bool, true, false, List, [], ◌∷◌, ◌++◌, ◌⊎◌, Option, Some, None, refl, sym, ◌∙◌, ap, subst, append_assoc, arith, inl, inr, find, if◌then◌else◌, slice_get, option_map, option_or, bytes_eq, All-nil, All-cons, told_calls, NoFault}
+use Rattle.mail_save.proofs.Common.{box_entry, Guid, Uid, did, Refusal, refusal, Reply, reply, half, Lists, lists_by, meanings_by, BoxMeaning, MapFits, MapBox, MapMeaning, map_applied, no_numbers, ShowLists, IsSettledFor, Leaves, Last, GivesBack, RunEvent, Run, and_then, map_of, own_events}
+use Rattle.mail_save.proofs.Common.{first_refusal, part_checks, is_step, Around, FindsPlace, drawn_none, one_due, Seen, ShowsSeen, Lasts, step_calm, unstepped, comes_drawn, box_refusal, StepsWithRoom, IsAddingMessage, IsLoweringCount}
+use Rattle.std.specs.Prelude.{length}
 use Rattle.mdbox_base.specs.Streams.{Rose}
-use Rattle.mdbox_base.specs.declared.entries.BoxEntry.TheVariants as box_entry
 use Rattle.mdbox_base.specs.declared.entries.MapEntry.TheVariants as map_entry
-use Rattle.mdbox_base.specs.declared.ids.Guid.{Guid}
-use Rattle.mdbox_base.specs.declared.ids.Uid.{Uid}
-use Rattle.mdbox_base.specs.declared.progress.Did.TheVariants as did
-use Rattle.mdbox_base.specs.declared.replies.Refusal.{Refusal}
-use Rattle.mdbox_base.specs.declared.replies.Refusal.TheVariants as refusal
-use Rattle.mdbox_base.specs.declared.replies.Reply.{Reply}
-use Rattle.mdbox_base.specs.declared.replies.Reply.TheVariants as reply
-use Rattle.mdbox_base.specs.declared.script.Half.TheVariants as half
-use Rattle.model_lists.specs.Lists.{Mailbox, Lists, refs_of}
-use Rattle.model_appends.specs.Appending.{lists_by, meanings_by}
-use Rattle.model_meaning.specs.BoxMeaning.{BoxMeaning}
-use Rattle.model_meaning.specs.MapFits.{MapFits}
-use Rattle.model_meaning.specs.MapMeaning.{MapBox, MapMeaning, map_applied, no_numbers}
-use Rattle.model_store.specs.Listing.{ShowLists, meaning_named}
-use Rattle.model_store.specs.Settled.{IsSettledFor, Leaves}
-use Rattle.list_machine.specs.Run.{Last, GivesBack, RunEvent, event_of, Run, and_then, map_of, own_events}
-use Rattle.list_machine.specs.Machine.{first_refusal, part_checks, is_step, IsDelivered, add_message}
+use Rattle.model_lists.specs.Lists.{Mailbox, refs_of}
+use Rattle.model_store.specs.Listing.{meaning_named}
+use Rattle.list_machine.specs.Run.{event_of}
+use Rattle.list_machine.specs.Machine.{IsDelivered, add_message}
 use Rattle.list_machine.proofs.MachineOrderLemmas.{answers_well}
 use Rattle.journal.specs.Journal.{halves_of, IsReplyOf}
-use Rattle.journal.specs.Events.{Around, adds_to, lowers}
-use Rattle.journal.specs.Found.{FindsPlace}
-use Rattle.journal.proofs.RunLemmas.{drawn_none}
-use Rattle.task_steps.specs.ExpungeStages.{one_due}
-use Rattle.task_steps.specs.Step.{Seen, ShowsSeen}
+use Rattle.journal.specs.Events.{adds_to, lowers}
 use Rattle.task_steps.proofs.SeenLemmas.{no_guids}
-use Rattle.task_steps.proofs.EventLaws.{CanRefuse, did_check, did_fall, did_forget, did_part, did_stop, ends_well, Lasts, no_reply, own_event, refusal_event, refuses, replied_so, some_reply, stands_by, step_calm, stopped_answer, unstepped}
-use Rattle.task_steps.proofs.KeptStoreLemmas.{comes_drawn}
+use Rattle.task_steps.proofs.EventLaws.{CanRefuse, did_check, did_fall, did_forget, did_part, did_stop, ends_well, no_reply, own_event, refusal_event, refuses, replied_so, some_reply, stands_by, stopped_answer}
 use Rattle.task_steps.proofs.OneEventLemmas.{first_reply, never_more}
-use Rattle.mail_save.specs.Events.{box_refusal}
-use Rattle.mail_save.specs.SaveSeen.{StepsWithRoom}
-use Rattle.mail_save.specs.SaveStages.{IsAddingMessage, IsLoweringCount, IsOwnGuid}
+use Rattle.mail_save.specs.SaveStages.{IsOwnGuid}
 use Rattle.mail_save.proofs.SaveRunLemmas.{adds_next, gives_back_behind, gives_back_next, given_before, held_stored, held_refused, saved_refusal, lowered_refusal}
 use Rattle.mail_save.proofs.SaveDidLemmas.{some_part, HasRun, KeepsTelling, StaysSo, comes_stored, comes_to_more, refused_left, tells_on}
 use Rattle.mail_save.proofs.SaveFrontLemmas.{SeesAround, finds_place, own_first}

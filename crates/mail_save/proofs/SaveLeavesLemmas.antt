@@ -1,37 +1,12 @@
 -- What each event of a delivery leaves to the tasks beside it.
-use Rattle.std.proofs.Common.{◌≡◌, ◌≤◌, ◌<◌, ◌==◌, ℕ, Bool, true, false, List, [], ◌∷◌, Option, Some, None, inl, inr, refl, sym, ◌∙◌, ap, subst, arith}
-use Rattle.std.specs.Prelude.{◌↔◌, ◌&&◌, length}
-use Rattle.std.specs.Option.{option_map_or}
-use Rattle.std.proofs.lemmas.Bool.{eq-eqb}
-use Rattle.disk_model.specs.Disk.{History, Faults}
-use Rattle.mdbox_base.specs.declared.entries.InstRow.{InstRow}
-use Rattle.mdbox_base.specs.declared.ids.FileNo.{FileNo}
-use Rattle.mdbox_base.specs.declared.progress.Did.{Did}
-use Rattle.mdbox_base.specs.declared.progress.Progress.{Progress}
-use Rattle.mdbox_base.specs.declared.progress.Progress.TheVariants as progress
-use Rattle.mdbox_base.specs.declared.replies.Refusal.{Refusal}
-use Rattle.mdbox_base.specs.declared.replies.Reply.TheVariants as reply
-use Rattle.model_meaning.specs.MapMeaning.{MapMeaning}
-use Rattle.save_instances.specs.Attaching.{next_attachment, next_candidate}
-use Rattle.storage_files.proofs.KnownLemmas.{taken-there}
-use Rattle.storage_files.specs.Files.{AreFilesInOrder, IsTakeFor, end_in, file_in, is_doomed_in, is_emptied_in, is_taken_in, pins_in}
-use Rattle.storage_files.specs.declared.file.MailFile.{MailFile}
-use Rattle.storage_files.specs.declared.file.Take.{Take}
-use Rattle.storage_files.specs.declared.file.Take.TheVariants.{Known, New, Full}
-use Rattle.store_core.proofs.KeptFileLemmas.{none_begun}
-use Rattle.store_core.specs.Dues.{due_at}
-use Rattle.store_core.specs.Keeping.{KeepsInstances, KeepsUids}
-use Rattle.store_core.specs.Running.{IsStore}
-use Rattle.store_core.specs.Value.{StoreValue, indexes_of, references_to}
+use Rattle.mail_save.proofs.Common.{◌≡◌, ◌≤◌, ◌<◌, ◌==◌, ℕ, Bool, true, false, List, [], ◌∷◌, Option, Some, None, inl, inr, refl, sym, ◌∙◌, ap, subst, arith, ◌↔◌, option_map_or, eq-eqb, History, Faults, InstRow, FileNo, Did, Progress, progress, Refusal, reply, MapMeaning, next_attachment}
+use Rattle.mail_save.proofs.Common.{next_candidate, taken-there, AreFilesInOrder, IsTakeFor, end_in, file_in, is_doomed_in, is_taken_in, MailFile, Take, Known, New, Full, none_begun, due_at, KeepsInstances, KeepsUids, IsStore, StoreValue, indexes_of, references_to, Claims, Taken, one_if}
+use Rattle.mail_save.proofs.Common.{LeavesOthers, LeavesUnlisted, save_claims, IsLeftAlone, LetsGo, SaveEffects, StoresNone, TakesFileFor, TakesNone, TookAs, HasLeft, RepliesAt, Saves, stopped_reply, SaveStage, stage}
+use Rattle.std.specs.Prelude.{◌&&◌, length}
+use Rattle.storage_files.specs.Files.{is_emptied_in, pins_in}
 use Rattle.task_claims.proofs.CountedLemmas.{lowered_same, unraised_lower}
-use Rattle.task_claims.specs.Claims.{Claims, Taken, one_if}
-use Rattle.task_claims.specs.Leaving.{LeavesOthers, LeavesUnlisted, OthersTook}
-use Rattle.mail_save.specs.Claims.{save_claims}
+use Rattle.task_claims.specs.Leaving.{OthersTook}
 use Rattle.mail_save.specs.MailFiles.{WritesMail}
-use Rattle.mail_save.specs.SaveEffects.{IsLeftAlone, LetsGo, SaveEffects, StoresNone, TakesFileFor, TakesNone, TookAs}
-use Rattle.mail_save.specs.Task.{HasLeft, RepliesAt, Saves, stopped_reply}
-use Rattle.mail_save.specs.declared.task.SaveStage.{SaveStage}
-use Rattle.mail_save.specs.declared.task.SaveStage.TheVariants as stage
 use Rattle.mail_save.proofs.AttachEventLemmas.{IsAttachChange, attached_change, unattached_change}
 use Rattle.mail_save.proofs.LeavingLemmas.{LeavesMailBut, LeavesRecords, counts_leave, same_leave, leaves_by, mail_appended, mail_attached, mail_same, mail_taken, placing_known, released_known, same_known, stored_leave, taking_known}
 use Rattle.mail_save.proofs.SaveClaimLemmas.{stopped_runs}

@@ -1,28 +1,16 @@
 -- A mailbox that a message is added to, in the lists that a store shows.
-use Rattle.std.proofs.Common.{◌≡◌, ◌<◌, ◌+◌, ◌==◌, ℕ, Bool, true, false, cond, List, [], ◌∷◌, ◌++◌, map, length, Option, Some, None, refl, sym, ◌∙◌, ap, subst, arith}
-use Rattle.std.specs.Prelude.{nat_le, max, find, if◌then◌else◌}
-use Rattle.std.specs.Option.{option_map, option_or}
-use Rattle.std.specs.Str.{bytes_eq}
-use Rattle.std.proofs.lemmas.Bool.{cond-true, cond-false}
-use Rattle.std.proofs.lemmas.Grind.{common_steps}
+use Rattle.mail_save.proofs.Common.{◌≡◌, ◌<◌, ◌+◌, ◌==◌, ℕ, Bool, true, false, cond, List, [], ◌∷◌, ◌++◌, map, length, Option, Some, None, refl, sym, ◌∙◌, ap, subst, arith, nat_le, find, if◌then◌else◌, option_map, option_or, bytes_eq, cond-true, cond-false, common_steps, box_entry, BoxEntry, Guid}
+use Rattle.mail_save.proofs.Common.{MapUid, Uid, refusal, Lists, LogRow, BoxMeaning, box_applied, MapBox, lists_by, meanings_by, ShowLists, Run, first_refusal, refused_where, box_refusal}
+use Rattle.std.specs.Prelude.{max}
 use Rattle.std.proofs.lemmas.List.{length-map, map-append}
-use Rattle.mdbox_base.specs.declared.entries.BoxEntry.TheVariants as box_entry
-use Rattle.mdbox_base.specs.declared.entries.BoxEntry.{BoxEntry}
-use Rattle.mdbox_base.specs.declared.ids.Guid.{Guid}
-use Rattle.mdbox_base.specs.declared.ids.MapUid.{MapUid}
-use Rattle.mdbox_base.specs.declared.ids.Uid.{Uid}
 use Rattle.mdbox_base.specs.declared.replies.ListRow.{ListRow}
-use Rattle.mdbox_base.specs.declared.replies.Refusal.TheVariants as refusal
-use Rattle.model_lists.specs.Lists.{ListedMessage, Mailbox, Lists, AreWellFormed, listing_row}
-use Rattle.model_meaning.specs.BoxMeaning.{LogRow, BoxMeaning, box_applied}
-use Rattle.model_meaning.specs.MapMeaning.{MapBox}
+use Rattle.model_lists.specs.Lists.{ListedMessage, Mailbox, AreWellFormed, listing_row}
 use Rattle.model_meaning.proofs.AppliedLemmas.{only_adds}
-use Rattle.model_appends.specs.Appending.{mailbox_by, lists_by, meanings_by}
-use Rattle.model_store.specs.Listing.{listed_row, ShowsMailbox, ShowLists, meaning_named}
-use Rattle.list_machine.specs.Run.{Run}
-use Rattle.list_machine.specs.Machine.{Check, HasMailbox, RoomForMessage, NextUid, first_refusal, refused_where, mailbox_named, add_message}
+use Rattle.model_appends.specs.Appending.{mailbox_by}
+use Rattle.model_store.specs.Listing.{listed_row, ShowsMailbox, meaning_named}
+use Rattle.list_machine.specs.Machine.{Check, HasMailbox, RoomForMessage, NextUid, mailbox_named, add_message}
 use Rattle.entry_steps.proofs.AppendListLemmas.{added_by}
-use Rattle.mail_save.specs.Events.{full_refusal, box_refusal}
+use Rattle.mail_save.specs.Events.{full_refusal}
 
 -- ---- the mailbox that is found
 

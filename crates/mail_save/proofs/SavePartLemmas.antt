@@ -1,18 +1,12 @@
 -- How many parts of a message a delivery detaches.
-use Rattle.std.proofs.Common.{◌≡◌, ℕ, suc, List, [], ◌∷◌, length, Option, refl, sym, ◌∙◌, ap}
-use Rattle.std.specs.Prelude.{filter, map}
+use Rattle.mail_save.proofs.Common.{◌≡◌, ℕ, List, [], ◌∷◌, length, Option, refl, sym, ◌∙◌, ap, filter, IsPrepared, Prepared, History, parts_in, StoreValue, IsReadyToSave, HasItsParts, SaveStage, stage}
+use Rattle.std.proofs.Common.{suc}
+use Rattle.std.specs.Prelude.{map}
 use Rattle.std.proofs.lemmas.List.{length-map}
-use Rattle.attach_detach.specs.Prepared.{IsPrepared, piece_of}
-use Rattle.attach_detach.specs.declared.message.Prepared.{Prepared}
-use Rattle.disk_model.specs.Disk.{History}
+use Rattle.attach_detach.specs.Prepared.{piece_of}
 use Rattle.model_attach.specs.Detached.{AreCut, Piece}
-use Rattle.model_mime.specs.Parts.{parts_in}
 use Rattle.model_mime.specs.declared.mime.Part.{Part}
-use Rattle.store_core.specs.Value.{StoreValue}
-use Rattle.mail_save.specs.Ready.{IsReadyToSave}
-use Rattle.mail_save.specs.SaveSeen.{HasItsParts, count_detachable}
-use Rattle.mail_save.specs.declared.task.SaveStage.{SaveStage}
-use Rattle.mail_save.specs.declared.task.SaveStage.TheVariants as stage
+use Rattle.mail_save.specs.SaveSeen.{count_detachable}
 
 -- a piece is cut out for each part
 one_each : (message : List ℕ) (at : ℕ) (parts : List Part) (pieces : List Piece) (body : List ℕ) → AreCut message at parts pieces body → length pieces ≡ length parts

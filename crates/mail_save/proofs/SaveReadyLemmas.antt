@@ -1,27 +1,12 @@
 -- A delivery stays ready from event to event.
-use Rattle.std.proofs.Common.{◌≡◌, ◌≤◌, ◌+◌, ℕ, List, length, Option, ap, arith}
-use Rattle.attach_detach.specs.Prepared.{IsPrepared}
-use Rattle.attach_detach.specs.declared.message.Prepared.{Prepared}
-use Rattle.disk_model.specs.Disk.{Faults, History}
-use Rattle.mdbox_base.specs.declared.ids.InstId.{InstId}
-use Rattle.mdbox_base.specs.declared.progress.Did.{Did}
-use Rattle.mdbox_base.specs.declared.progress.Progress.{Progress}
-use Rattle.mdbox_base.specs.declared.progress.Progress.TheVariants as progress
+use Rattle.mail_save.proofs.Common.{◌≡◌, ◌≤◌, ◌+◌, ℕ, List, length, Option, ap, arith, IsPrepared, Prepared, Faults, History, InstId, Did, Progress, progress, AttachingValue, next_attachment, nothing_found, parts_left, holds_of, StoreValue, Claims, Held, LeavesOthers, save_claims, HasHoldRoom}
+use Rattle.mail_save.proofs.Common.{HasLeft, IsAttached, Saves, SavedParts, SaveStage, stage}
 use Rattle.save_instances.proofs.FoundLemmas.{holds_few}
 use Rattle.save_instances.proofs.AttachCountLemmas.{none_more}
-use Rattle.save_instances.specs.Attaching.{AttachingValue, attach_events_left, next_attachment, nothing_found, parts_left}
+use Rattle.save_instances.specs.Attaching.{attach_events_left}
 use Rattle.saved_message.proofs.ReferenceLemmas.{parts_few}
 use Rattle.sis_store.proofs.IdLemmas.{is_within}
-use Rattle.store_core.specs.Keeping.{holds_of}
-use Rattle.store_core.specs.Value.{StoreValue}
-use Rattle.task_claims.specs.Claims.{Claims, Held}
-use Rattle.task_claims.specs.Leaving.{LeavesOthers}
-use Rattle.mail_save.specs.Claims.{save_claims}
-use Rattle.mail_save.specs.Held.{HasHoldRoom}
-use Rattle.mail_save.specs.Task.{HasKept, HasLeft, IsAttached, IsAttachedSoFar, IsReadyToDeliver, Saves, holds_to_come, save_events_left}
-use Rattle.mail_save.specs.declared.first.SavedParts.{SavedParts}
-use Rattle.mail_save.specs.declared.task.SaveStage.{SaveStage}
-use Rattle.mail_save.specs.declared.task.SaveStage.TheVariants as stage
+use Rattle.mail_save.specs.Task.{HasKept, IsAttachedSoFar, IsReadyToDeliver, holds_to_come, save_events_left}
 use Rattle.mail_save.proofs.AttachLemmas.{next_is}
 
 -- ---- room for holds

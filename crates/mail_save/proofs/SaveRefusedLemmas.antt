@@ -1,30 +1,15 @@
 -- Events of a delivery that were refused, by the clause of a step.
-use Rattle.std.proofs.Common.{◌≡◌, ◌<◌, ◌+◌, ℕ, Bool, true, false, List, [], ◌∷◌, ◌⊎◌, Option, Some, None, refl, sym, ◌∙◌, ap, inl, inr}
-use Rattle.std.specs.Prelude.{nat_lt, nat_le, is_none, is_some, length, slice_get, if◌then◌else◌}
-use Rattle.std.specs.Option.{option_or}
+use Rattle.mail_save.proofs.Common.{◌≡◌, ◌<◌, ◌+◌, ℕ, Bool, true, false, List, [], ◌∷◌, ◌⊎◌, Option, Some, None, refl, sym, ◌∙◌, ap, inl, inr, nat_lt, nat_le, is_none, is_some, slice_get, if◌then◌else◌, option_or, Highest, InstRow, did, Refusal, refusal, Reply, reply, Request, request, half, Lists}
+use Rattle.mail_save.proofs.Common.{no_numbers, EventPart, First, Compares, PlacesInstance, TakesFile, PlacesMessage, StoresRecord, GivesBack, RunEvent, Run, own_events, drawn_of, first_refusal, refused_where, part_checks, is_step, Around, next_part, FindsPlace, Seen, ShowsSeen, HasComeTo}
+use Rattle.mail_save.proofs.Common.{HasNotBegun, Leads, step_calm, unstepped, StepsWithRoom, IsTakingFile, IsPlacingMessage, IsStoringMessage, IsLoweringCount}
+use Rattle.std.specs.Prelude.{length}
 use Rattle.mdbox_base.specs.Streams.{Rose}
-use Rattle.mdbox_base.specs.declared.entries.Highest.{Highest}
-use Rattle.mdbox_base.specs.declared.entries.InstRow.{InstRow}
-use Rattle.mdbox_base.specs.declared.progress.Did.TheVariants as did
-use Rattle.mdbox_base.specs.declared.replies.Refusal.{Refusal}
-use Rattle.mdbox_base.specs.declared.replies.Refusal.TheVariants as refusal
-use Rattle.mdbox_base.specs.declared.replies.Reply.{Reply}
-use Rattle.mdbox_base.specs.declared.replies.Reply.TheVariants as reply
-use Rattle.mdbox_base.specs.declared.requests.Request.{Request}
-use Rattle.mdbox_base.specs.declared.requests.Request.TheVariants as request
-use Rattle.mdbox_base.specs.declared.script.Half.TheVariants as half
-use Rattle.model_lists.specs.Lists.{Lists}
-use Rattle.model_meaning.specs.MapMeaning.{no_numbers}
-use Rattle.list_machine.specs.Run.{EventPart, First, Compares, PlacesInstance, TakesFile, PlacesMessage, StoresRecord, GivesBack, RunEvent, Run, own_events, drawn_of}
-use Rattle.list_machine.specs.Machine.{first_refusal, refused_where, part_checks, is_step}
 use Rattle.journal.specs.Journal.{IsReplyOf}
-use Rattle.journal.specs.Events.{Around, next_part, behind_refused, has_memory, reads_octets, draws}
-use Rattle.journal.specs.Found.{FindsPlace, has_looked}
-use Rattle.task_steps.specs.Step.{Seen, ShowsSeen, HasComeTo, HasNotBegun, Leads, Stops}
-use Rattle.task_steps.proofs.EventLaws.{CanRefuse, did_check, did_fall, did_forget, did_misread, did_stop, misread_answer, refuses, replied_so, step_calm, stopped_answer, unstepped}
+use Rattle.journal.specs.Events.{behind_refused, has_memory, reads_octets, draws}
+use Rattle.journal.specs.Found.{has_looked}
+use Rattle.task_steps.specs.Step.{Stops}
+use Rattle.task_steps.proofs.EventLaws.{CanRefuse, did_check, did_fall, did_forget, did_misread, did_stop, misread_answer, refuses, replied_so, stopped_answer}
 use Rattle.task_steps.proofs.OneEventLemmas.{first_reply, never_more}
-use Rattle.mail_save.specs.SaveSeen.{StepsWithRoom}
-use Rattle.mail_save.specs.SaveStages.{IsTakingFile, IsPlacingMessage, IsStoringMessage, IsLoweringCount}
 use Rattle.mail_save.proofs.SaveRunLemmas.{attaches_next, takes_next, places_next, stores_next, gives_back_next}
 use Rattle.mail_save.proofs.SaveDidLemmas.{HasRun, StaysSo, refused_left}
 use Rattle.mail_save.proofs.SaveFrontLemmas.{SeesAround, finds_place}

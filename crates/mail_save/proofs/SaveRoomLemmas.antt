@@ -1,13 +1,9 @@
 -- Which storage file has room for a message, and what a store tells of it.
-use Rattle.std.proofs.Common.{◌≡◌, ◌≤◌, ◌<◌, ◌+◌, ◌==◌, ◌&&◌, ◌||◌, ℕ, Bool, true, false, not, List, [], ◌∷◌, ◌⊎◌, Option, Some, None, refl, ◌∙◌, ap, subst, arith, inl, inr}
-use Rattle.std.specs.Prelude.{nat_le, nat_lt, All, AllPairs, Contains, if◌then◌else◌}
-use Rattle.std.specs.Option.{option_map_or, option_or}
-use Rattle.std.proofs.lemmas.Bool.{eq-eqb, ne_eqb, cond-false, cond-true}
-use Rattle.std.proofs.lemmas.Grind.{common_steps}
-use Rattle.std.proofs.lemmas.List.Elements.{All-head, All-tail, Contains-append_cases, Contains-push_cases}
+use Rattle.mail_save.proofs.Common.{◌≡◌, ◌≤◌, ◌<◌, ◌+◌, ◌==◌, ◌&&◌, ◌||◌, ℕ, Bool, true, false, not, List, [], ◌∷◌, ◌⊎◌, Option, Some, None, refl, ◌∙◌, ap, subst, arith, inl, inr, nat_le, nat_lt, Contains, if◌then◌else◌, option_map_or, option_or, eq-eqb, ne_eqb, cond-false, cond-true, common_steps}
+use Rattle.mail_save.proofs.Common.{All-head, All-tail, MayBeTakenFor, file_in, MailFile}
+use Rattle.std.specs.Prelude.{All, AllPairs}
+use Rattle.std.proofs.lemmas.List.Elements.{Contains-append_cases, Contains-push_cases}
 use Rattle.model_octets.proofs.PairLemmas.{pairs_head, pairs_tail}
-use Rattle.storage_files.specs.Files.{MayBeTakenFor, file_in}
-use Rattle.storage_files.specs.declared.file.MailFile.{MailFile}
 use Rattle.mail_save.specs.SaveSeen.{has_room_for, room_among}
 
 abbrev pub Rising : List MailFile → Type 0

@@ -1,69 +1,23 @@
 -- What each event of a delivery did, by the clause of a step.
-use Rattle.std.proofs.Common.{◌≡◌, ◌≤◌, ◌<◌, ◌+◌, ◌^◌, ◌==◌, ◌&&◌, ◌||◌, ℕ, Bool, true, false, List, [], ◌∷◌, ◌++◌, ◌⊎◌, length, Option, Some, None, refl, sym, ◌∙◌, ap, subst, arith, inl, inr}
-use Rattle.std.specs.Prelude.{◌≢◌, ◌↔◌, nat_le, is_some, is_none, All, if◌then◌else◌}
-use Rattle.std.specs.List.{list_any}
-use Rattle.std.specs.Option.{option_map_or, option_or}
-use Rattle.std.specs.Str.{bytes_eq}
-use Rattle.std.proofs.lemmas.Bool.{cases_eq}
+use Rattle.mail_save.proofs.Common.{◌≡◌, ◌≤◌, ◌<◌, ◌+◌, ◌^◌, ◌==◌, ◌&&◌, ◌||◌, ℕ, Bool, true, false, List, [], ◌∷◌, ◌++◌, ◌⊎◌, length, Option, Some, None, refl, sym, ◌∙◌, ap, subst, arith, inl, inr, ◌↔◌, nat_le, is_some, is_none, if◌then◌else◌, list_any, option_map_or, option_or, bytes_eq, cases_eq}
+use Rattle.mail_save.proofs.Common.{Prepared, History, Faults, ChangeFaultCounted, IsOctets, BoxEntry, box_entry, Highest, InstRow, FileNo, Guid, MapUid, Uid, Did, did, progress, Refusal, refusal, reply, request, half, lists_by, meanings_by, Lists, BoxMeaning, MapMeaning, no_numbers, guid_file}
+use Rattle.mail_save.proofs.Common.{IsSettledFor, Leaves, First, TakesFile, PlacesMessage, StoresRecord, GivesBack, RunEvent, Run, drawn_of, is_one_of, first_refusal, refused_where, part_checks, is_step, Around, is_same_instance, drawn_none, ShowLists, AttachingValue, nothing_found, InstancesValue}
+use Rattle.mail_save.proofs.Common.{FilesValue, IsTakeFor, MayBeTakenFor, changed_in, end_in, ending_at, file_begun, file_in, with_taken, Take, Known, New, Full, due_at, knows_instance, StoreValue, indexes_of, list_named, references_to, leaves_none, none_begun, seen_of, Lasts, step_calm, HasComeTo}
+use Rattle.mail_save.proofs.Common.{HasNotBegun, entry_added, box_refusal, save_refusal, uid_refusal, AddsStored, IsLeftAlone, PlacesParts, StoresPlaced, TakesFileFor, TookAs, TakesNone, StoresNone, LowersRecord, roomy_files, taken_files, around_saving, IsAtSave, StepsWithRoom, room_at}
+use Rattle.mail_save.proofs.Common.{IsTakingFile, IsPlacingMessage, IsStoringMessage, IsAddingMessage, IsLoweringCount, FaultsAt, RepliesAt, stopped_reply, Added, SavedParts, SavedAt, SaveStage, stage}
+use Rattle.std.specs.Prelude.{◌≢◌, All}
 use Rattle.std.proofs.lemmas.Bool.Decides.{nat_tests}
-use Rattle.attach_detach.specs.declared.message.Prepared.{Prepared}
-use Rattle.disk_model.specs.Disk.{History, Faults}
-use Rattle.disk_model.specs.FaultCounts.{ChangeFaultCounted}
-use Rattle.mdbox_base.specs.Words.{IsOctets}
-use Rattle.mdbox_base.specs.declared.entries.BoxEntry.{BoxEntry}
-use Rattle.mdbox_base.specs.declared.entries.BoxEntry.TheVariants as box_entry
-use Rattle.mdbox_base.specs.declared.entries.Highest.{Highest}
-use Rattle.mdbox_base.specs.declared.entries.InstRow.{InstRow}
 use Rattle.mdbox_base.specs.declared.ids.BoxNo.{BoxNo}
-use Rattle.mdbox_base.specs.declared.ids.FileNo.{FileNo}
-use Rattle.mdbox_base.specs.declared.ids.Guid.{Guid}
-use Rattle.mdbox_base.specs.declared.ids.MapUid.{MapUid}
-use Rattle.mdbox_base.specs.declared.ids.Uid.{Uid}
-use Rattle.mdbox_base.specs.declared.progress.Did.{Did}
-use Rattle.mdbox_base.specs.declared.progress.Did.TheVariants as did
-use Rattle.mdbox_base.specs.declared.progress.Progress.TheVariants as progress
-use Rattle.mdbox_base.specs.declared.replies.Refusal.{Refusal}
-use Rattle.mdbox_base.specs.declared.replies.Refusal.TheVariants as refusal
-use Rattle.mdbox_base.specs.declared.replies.Reply.TheVariants as reply
-use Rattle.mdbox_base.specs.declared.requests.Request.TheVariants as request
-use Rattle.mdbox_base.specs.declared.script.Half.TheVariants as half
-use Rattle.model_appends.specs.Appending.{lists_by, meanings_by}
-use Rattle.model_lists.specs.Lists.{Lists}
-use Rattle.model_meaning.specs.BoxMeaning.{BoxMeaning}
-use Rattle.model_meaning.specs.MapMeaning.{MapMeaning, no_numbers, guid_file}
-use Rattle.model_store.specs.Settled.{IsSettledFor, Leaves}
-use Rattle.list_machine.specs.Run.{First, TakesFile, PlacesMessage, StoresRecord, GivesBack, RunEvent, Run, drawn_of, is_one_of}
-use Rattle.list_machine.specs.Machine.{NextMapUid, first_refusal, refused_where, part_checks, is_step, is_used_up}
-use Rattle.journal.specs.Events.{Around, draws}
-use Rattle.journal.specs.Found.{is_same_instance}
-use Rattle.journal.proofs.RunLemmas.{drawn_none}
-use Rattle.model_store.specs.Listing.{ShowLists}
-use Rattle.save_instances.specs.Attaching.{AttachingValue, nothing_found}
-use Rattle.sis_store.specs.Instances.{InstancesValue}
-use Rattle.storage_files.specs.Files.{FilesValue, IsTakeFor, MayBeTakenFor, changed_in, end_in, ending_at, file_begun, file_in, with_taken}
-use Rattle.storage_files.specs.declared.file.Take.{Take}
-use Rattle.storage_files.specs.declared.file.Take.TheVariants.{Known, New, Full}
-use Rattle.store_core.specs.Dues.{due_at}
-use Rattle.store_core.specs.Knows.{knows_instance, may_have_given}
-use Rattle.store_core.specs.Value.{StoreValue, indexes_of, list_named, references_to}
-use Rattle.store_core.proofs.BoxCrashLemmas.{leaves_none}
-use Rattle.store_core.proofs.KeptFileLemmas.{none_begun}
+use Rattle.list_machine.specs.Machine.{NextMapUid, is_used_up}
+use Rattle.journal.specs.Events.{draws}
+use Rattle.store_core.specs.Knows.{may_have_given}
 use Rattle.store_core.proofs.ShownLemmas.{refs_shown}
-use Rattle.store_seen.specs.Seeing.{may_be_used, seen_of}
-use Rattle.task_steps.proofs.EventLaws.{Lasts, same_changes, same_reads, step_calm}
-use Rattle.task_steps.specs.Step.{HasComeTo, HasNotBegun}
-use Rattle.mail_save.specs.Added.{HasRoomUnder, entry_added}
-use Rattle.mail_save.specs.Events.{box_refusal, save_refusal, uid_refusal}
-use Rattle.mail_save.specs.SaveEffects.{AddsStored, LaysOut, IsLeftAlone, PlacesParts, StoresPlaced, TakesFileFor, TookAs, TakesNone, GivesFileBack, StoresNone, LowersRecord, roomy_files, taken_files}
-use Rattle.mail_save.specs.SaveSeen.{around_saving, IsAtSave, StepsWithRoom, room_at}
-use Rattle.mail_save.specs.SaveStages.{IsTakingFile, IsPlacingMessage, IsStoringMessage, IsAddingMessage, IsLoweringCount}
-use Rattle.mail_save.specs.Task.{FaultsAt, RepliesAt, stopped_reply, failing_did, refused_did, giving_did}
-use Rattle.mail_save.specs.declared.add.Added.{Added}
-use Rattle.mail_save.specs.declared.first.SavedParts.{SavedParts}
-use Rattle.mail_save.specs.declared.place.SavedAt.{SavedAt}
+use Rattle.store_seen.specs.Seeing.{may_be_used}
+use Rattle.task_steps.proofs.EventLaws.{same_changes, same_reads}
+use Rattle.mail_save.specs.Added.{HasRoomUnder}
+use Rattle.mail_save.specs.SaveEffects.{LaysOut, GivesFileBack}
+use Rattle.mail_save.specs.Task.{failing_did, refused_did, giving_did}
 use Rattle.mail_save.specs.declared.record.LowerRoom.{LowerRoom}
-use Rattle.mail_save.specs.declared.task.SaveStage.{SaveStage}
-use Rattle.mail_save.specs.declared.task.SaveStage.TheVariants as stage
 use Rattle.mail_save.proofs.HeldInstanceLemmas.{rows_firm}
 use Rattle.mail_save.proofs.PlacedLemmas.{placed_stores}
 use Rattle.mail_save.proofs.SaveClauseLemmas.{EventOf, DeliveryClause, with_did}

@@ -1,42 +1,17 @@
 -- A store before and after an event of a delivery, as the event sees it.
-use Rattle.std.proofs.Common.{◌≡◌, ◌≤◌, ◌<◌, ◌+◌, ◌-◌, ◌^◌, ◌==◌, ◌&&◌, ◌||◌, ℕ, Bool, true, false, not, List, [], ◌∷◌, ◌++◌, length, Option, Some, None, refl, sym, ◌∙◌, ap, subst, arith, inl, inr}
-use Rattle.std.specs.Prelude.{◌/◌, ◌%◌, nat_le, nat_lt, is_some, ◌≢◌, All, if◌then◌else◌, cond}
-use Rattle.std.specs.Int.{w32, to_be_bytes}
-use Rattle.std.specs.Option.{option_map, option_map_or, option_and_then}
-use Rattle.std.proofs.lemmas.Bool.{cases_eq, eq-eqb, ne_eqb, cond-false}
-use Rattle.std.proofs.lemmas.Grind.{common_steps}
-use Rattle.std.proofs.lemmas.List.{length-append}
-use Rattle.std.proofs.lemmas.List.Elements.{All-nil, All-cons, All-head, All-tail, All-append}
-use Rattle.disk_model.specs.Disk.{History, Faults}
-use Rattle.mdbox_base.specs.Words.{IsOctets}
-use Rattle.mdbox_base.specs.declared.entries.Highest.{Highest}
-use Rattle.mdbox_base.specs.declared.entries.InstRow.{InstRow}
-use Rattle.mdbox_base.specs.declared.ids.FileNo.{FileNo}
-use Rattle.mdbox_base.specs.declared.ids.MapUid.{MapUid}
-use Rattle.model_appends.specs.Amounts.{bit}
-use Rattle.model_lists.specs.Lists.{Lists}
-use Rattle.model_meaning.specs.BoxMeaning.{BoxMeaning}
-use Rattle.model_meaning.specs.MapMeaning.{MapBox, MapMeaning, no_numbers, is_own, guid_file, number_at, is_sealed}
-use Rattle.model_store.specs.Listing.{ShowLists}
-use Rattle.model_store.specs.Settled.{IsSettledFor, Leaves}
-use Rattle.list_machine.specs.Run.{drawn_also}
-use Rattle.storage_files.specs.Files.{AreFilesInOrder, changed_in, end_in, ending_at, file_begun, file_in, given_back, is_doomed_in, released_in, with_taken, without_file}
-use Rattle.storage_files.proofs.FileListLemmas.{KeepsNumber, file-before_begun, file-begun, file-here, file-other}
-use Rattle.storage_files.specs.declared.file.MailFile.{MailFile}
+use Rattle.mail_save.proofs.Common.{◌≡◌, ◌≤◌, ◌<◌, ◌+◌, ◌-◌, ◌^◌, ◌==◌, ◌&&◌, ◌||◌, ℕ, Bool, true, false, not, List, [], ◌∷◌, ◌++◌, length, Option, Some, None, refl, sym, ◌∙◌, ap, subst, arith, inl, inr, nat_le, nat_lt, is_some, if◌then◌else◌, w32, to_be_bytes, option_map, option_map_or}
+use Rattle.mail_save.proofs.Common.{option_and_then, cases_eq, eq-eqb, ne_eqb, cond-false, common_steps, length-append, All-nil, All-cons, All-head, All-tail, All-append, History, Faults, IsOctets, Highest, InstRow, FileNo, MapUid, bit, Lists, BoxMeaning, MapBox, MapMeaning, no_numbers, is_own}
+use Rattle.mail_save.proofs.Common.{guid_file, number_at, ShowLists, IsSettledFor, Leaves, drawn_also, AreFilesInOrder, changed_in, end_in, ending_at, file_begun, file_in, given_back, is_doomed_in, released_in, with_taken, without_file, file-before_begun, file-begun, file-other, MailFile}
+use Rattle.mail_save.proofs.Common.{AreInstances, due_at, number_beside, knows_instance, IsStore, StoreValue, indexes_of, seen_of, fall, Lasts, one_due, ShowsSeen, around_saving, room_at, SaveStage, stage}
+use Rattle.std.specs.Prelude.{◌/◌, ◌%◌, ◌≢◌, All, cond}
+use Rattle.model_meaning.specs.MapMeaning.{is_sealed}
+use Rattle.storage_files.proofs.FileListLemmas.{KeepsNumber, file-here}
 use Rattle.saved_message.specs.Region.{guid_of_place}
-use Rattle.sis_store.specs.Instances.{AreInstances}
-use Rattle.store_core.specs.Dues.{due_at, number_beside}
-use Rattle.store_core.specs.Knows.{knows_instance, may_have_given}
-use Rattle.store_core.specs.Running.{IsStore}
-use Rattle.store_core.specs.Value.{StoreValue, indexes_of}
-use Rattle.store_seen.specs.Seeing.{may_be_barred, may_be_used, seen_of}
-use Rattle.task_steps.proofs.EventLaws.{fall, Lasts}
-use Rattle.task_steps.specs.ExpungeStages.{one_due}
-use Rattle.task_steps.specs.Step.{IsSettledIn, ShowsSeen}
+use Rattle.store_core.specs.Knows.{may_have_given}
+use Rattle.store_seen.specs.Seeing.{may_be_barred, may_be_used}
+use Rattle.task_steps.specs.Step.{IsSettledIn}
 use Rattle.mail_save.specs.SaveEffects.{AreEndsSame}
-use Rattle.mail_save.specs.SaveSeen.{around_saving, candidate_at, room_at}
-use Rattle.mail_save.specs.declared.task.SaveStage.{SaveStage}
-use Rattle.mail_save.specs.declared.task.SaveStage.TheVariants as stage
+use Rattle.mail_save.specs.SaveSeen.{candidate_at}
 use Rattle.mail_save.proofs.PlaceLemmas.{own_place, file_of_place, offset_of_place}
 use Rattle.mail_save.proofs.SaveDidLemmas.{HasRun, KeepsTelling, StaysSo}
 use Rattle.mail_save.proofs.SaveFileLemmas.{value_changed}

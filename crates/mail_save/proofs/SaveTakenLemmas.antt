@@ -1,19 +1,10 @@
 -- A storage file that an event of a delivery has taken, and that it hasn't given back, is claimed.
-use Rattle.std.proofs.Common.{◌≡◌, ◌≤◌, ◌==◌, ◌&&◌, ◌||◌, ℕ, Bool, true, false, List, [], ◌∷◌, ◌++◌, refl, sym, ◌∙◌, ap, append_assoc, arith}
-use Rattle.std.specs.Prelude.{is_none}
-use Rattle.std.specs.List.{AllByRecursion, list_any}
-use Rattle.std.proofs.lemmas.Bool.{eqb-true, eq-eqb, ne_eqb}
-use Rattle.std.proofs.lemmas.List.Folds.{list_any-append}
+use Rattle.mail_save.proofs.Common.{◌≡◌, ◌≤◌, ◌==◌, ◌&&◌, ◌||◌, ℕ, Bool, true, false, List, [], ◌∷◌, ◌++◌, refl, sym, ◌∙◌, ap, append_assoc, arith, is_none, AllByRecursion, list_any, eq-eqb, ne_eqb, list_any-append, Run, RunEvent, is_one_of, own_events, InstRow, Reply, Taken, one_if, save_claims}
+use Rattle.mail_save.proofs.Common.{IsAtSave, AreAttachedSoFar, HasAttached, SaveStage, stage}
+use Rattle.std.proofs.lemmas.Bool.{eqb-true}
 use Rattle.journal.specs.Found.{gave_back, is_storing, took_file}
-use Rattle.list_machine.specs.Run.{Run, RunEvent, TakenFile, is_one_of, own_events}
-use Rattle.mdbox_base.specs.declared.entries.InstRow.{InstRow}
-use Rattle.mdbox_base.specs.declared.replies.Reply.{Reply}
-use Rattle.task_claims.specs.Claims.{Taken, one_if}
-use Rattle.mail_save.specs.Claims.{save_claims}
-use Rattle.mail_save.specs.SaveSeen.{IsAtSave}
-use Rattle.mail_save.specs.SaveStages.{AreAttachedSoFar, HasAttached, HasStored, TookFile}
-use Rattle.mail_save.specs.declared.task.SaveStage.{SaveStage}
-use Rattle.mail_save.specs.declared.task.SaveStage.TheVariants as stage
+use Rattle.list_machine.specs.Run.{TakenFile}
+use Rattle.mail_save.specs.SaveStages.{HasStored, TookFile}
 
 and_no : (b : Bool) → (b && false) ≡ false
 and_no true = refl

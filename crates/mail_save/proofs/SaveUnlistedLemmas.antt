@@ -1,34 +1,15 @@
 -- A record that no mailbox lists and that isn't the delivery's own stays unlisted, with as much due.
-use Rattle.std.proofs.Common.{◌≡◌, ◌≤◌, ◌<◌, ◌+◌, ◌-◌, ◌==◌, ℕ, Bool, true, false, cond, List, [], ◌∷◌, ◌++◌, Option, Some, refl, sym, ◌∙◌, ap, subst, arith}
+use Rattle.mail_save.proofs.Common.{◌≡◌, ◌≤◌, ◌<◌, ◌+◌, ◌-◌, ◌==◌, ℕ, Bool, true, false, cond, List, [], ◌∷◌, ◌++◌, Option, Some, refl, sym, ◌∙◌, ap, subst, arith, bytes_eq, eq-eqb, ne_eqb, All-contains, sum_by-cons, History, MapUid, Uid, bit, meanings_by, BoxMeaning, LogRow, box_applied, HasRecord}
+use Rattle.mail_save.proofs.Common.{MapBox, MapMeaning, MapRecord, record_at, due_at, IsStore, StoreValue, indexes_of, Claims, Due, LeavesUnlisted, one_due, entry_added, AddsStored, LowersRecord, StoresPlaced, Added, SavedAt, InstRow}
 use Rattle.std.specs.Prelude.{◌||◌, count_by}
-use Rattle.std.specs.Str.{bytes_eq}
-use Rattle.std.proofs.lemmas.Bool.{eq-eqb, eqb-true, ne_eqb}
-use Rattle.std.proofs.lemmas.List.Elements.{All-contains}
-use Rattle.std.proofs.lemmas.List.Sums.{sum_by-append, sum_by-cons}
-use Rattle.disk_model.specs.Disk.{History}
-use Rattle.mdbox_base.specs.declared.ids.MapUid.{MapUid}
-use Rattle.mdbox_base.specs.declared.ids.Uid.{Uid}
-use Rattle.model_appends.specs.Amounts.{bit}
-use Rattle.model_appends.specs.Appending.{meanings_by}
+use Rattle.std.proofs.lemmas.Bool.{eqb-true}
+use Rattle.std.proofs.lemmas.List.Sums.{sum_by-append}
 use Rattle.model_meaning.proofs.AppliedLemmas.{rows_by_added}
 use Rattle.model_meaning.proofs.MapSoundLemmas.{map_sound}
-use Rattle.model_meaning.specs.BoxMeaning.{BoxMeaning, LogRow, box_applied}
-use Rattle.model_meaning.specs.MapFits.{HasRecord}
-use Rattle.model_meaning.specs.MapMeaning.{MapBox, MapMeaning, MapRecord, record_at, record_of}
+use Rattle.model_meaning.specs.MapMeaning.{record_of}
 use Rattle.model_meaning.specs.Sound.{IsSoundMap, IsSoundRecord}
 use Rattle.model_octets.proofs.SearchLemmas.{found_is, found_one, text_is, text_yes}
 use Rattle.model_store.specs.Listing.{refs_in}
-use Rattle.store_core.specs.Dues.{due_at}
-use Rattle.store_core.specs.Running.{IsStore}
-use Rattle.store_core.specs.Value.{StoreValue, indexes_of}
-use Rattle.task_claims.specs.Claims.{Claims, Due}
-use Rattle.task_claims.specs.Leaving.{LeavesUnlisted}
-use Rattle.task_steps.specs.ExpungeStages.{one_due}
-use Rattle.mail_save.specs.Added.{entry_added}
-use Rattle.mail_save.specs.SaveEffects.{AddsStored, LowersRecord, StoresPlaced}
-use Rattle.mail_save.specs.declared.add.Added.{Added}
-use Rattle.mail_save.specs.declared.place.SavedAt.{SavedAt}
-use Rattle.mdbox_base.specs.declared.entries.InstRow.{InstRow}
 
 -- the mailboxes stay, and what is due of such a record
 pub same_unlisted : {D : Type 0} → (mine : Claims) (old new : StoreValue D) → indexes_of new.boxes ≡ indexes_of old.boxes → ((uid : ℕ) → mine (Due uid) ≡ 0 → (rec : MapRecord) → record_at old.map uid ≡ Some rec → due_at uid new ≡ due_at uid old) → LeavesUnlisted mine old new

@@ -1,34 +1,23 @@
 -- Which instances a store knows, as an event sees it: also after some were held, let go, or placed.
-use Rattle.std.proofs.Common.{◌≡◌, ◌≤◌, ◌<◌, ◌+◌, ◌-◌, ◌==◌, ◌&&◌, ◌||◌, ℕ, Bool, true, false, not, List, [], ◌∷◌, ◌++◌, ◌⊎◌, length, take, drop, Option, Some, None, refl, sym, ◌∙◌, ap, subst, append_assoc, append-nil, arith, inl, inr}
-use Rattle.std.specs.Prelude.{Contains, cond, nat_le, if◌then◌else◌}
-use Rattle.std.specs.Int.{w32, from_be_bytes, to_be_bytes}
-use Rattle.std.specs.Option.{option_map, option_map_or}
-use Rattle.std.specs.Str.{bytes_eq}
-use Rattle.std.proofs.Math.Seq.{take-append_seam, drop-append_seam}
+use Rattle.mail_save.proofs.Common.{◌≡◌, ◌≤◌, ◌<◌, ◌+◌, ◌-◌, ◌==◌, ◌&&◌, ◌||◌, ℕ, Bool, true, false, not, List, [], ◌∷◌, ◌++◌, ◌⊎◌, length, take, drop, Option, Some, None, refl, sym, ◌∙◌, ap, subst, append_assoc, append-nil, arith, inl, inr, Contains, nat_le, if◌then◌else◌, w32, to_be_bytes}
+use Rattle.mail_save.proofs.Common.{option_map, option_map_or, bytes_eq, drop-append_seam, common_steps, length-append, All-contains, All-weaker, bytes_eq-Decides, Detached, InstRow, Hash, InstId, is_same_instance, is_own, number_at, AttachingValue, found_let_go, next_attachment, next_candidate}
+use Rattle.mail_save.proofs.Common.{part_row, AreInstances, InstancesValue, after_placing, holders_in, next_id, KnownInstance, knows_instance, AreInstancesKept, StoreValue}
+use Rattle.std.specs.Prelude.{cond}
+use Rattle.std.specs.Int.{from_be_bytes}
+use Rattle.std.proofs.Math.Seq.{take-append_seam}
 use Rattle.std.proofs.lemmas.Bool.Decides.{nat_tests}
-use Rattle.std.proofs.lemmas.Grind.{common_steps}
-use Rattle.std.proofs.lemmas.List.{length-append}
-use Rattle.std.proofs.lemmas.List.Elements.{All-contains, All-contains_itself, All-weaker}
+use Rattle.std.proofs.lemmas.List.Elements.{All-contains_itself}
 use Rattle.std.proofs.lemmas.Nat.{from_be_bytes-to_be_bytes_4}
-use Rattle.std.proofs.lemmas.Slice.Eq.{bytes_eq-Decides}
-use Rattle.attach_detach.specs.declared.message.Detached.{Detached}
-use Rattle.mdbox_base.specs.declared.entries.InstRow.{InstRow}
-use Rattle.mdbox_base.specs.declared.ids.Hash.{Hash}
-use Rattle.mdbox_base.specs.declared.ids.InstId.{InstId}
 use Rattle.mdbox_base.specs.declared.ids.StoreId.{StoreId}
-use Rattle.journal.specs.Found.{is_same_instance}
-use Rattle.model_meaning.specs.MapMeaning.{instance_number, is_own, number_at, own_number}
-use Rattle.save_instances.specs.Attaching.{AttachingValue, candidate_for, candidate_held, compared_to, found_let_go, next_attachment, next_candidate, part_row}
-use Rattle.sis_store.specs.Instances.{AreInstances, InstancesValue, after_placing, candidate_in, holders_in, instance_in, instance_placed, next_id, numbered_id, with_holders, with_instance}
-use Rattle.sis_store.specs.declared.instance.KnownInstance.{KnownInstance}
+use Rattle.model_meaning.specs.MapMeaning.{instance_number, own_number}
+use Rattle.save_instances.specs.Attaching.{candidate_for, candidate_held, compared_to}
+use Rattle.sis_store.specs.Instances.{candidate_in, instance_in, instance_placed, numbered_id, with_holders, with_instance}
 use Rattle.sis_store.proofs.CandidateLemmas.{candidate_row}
 use Rattle.sis_store.proofs.IdLemmas.{all-with, instance-in, same_id}
 use Rattle.sis_store.proofs.KeysLemmas.{found-among, kept-placed}
 use Rattle.store_core.proofs.KnownInstanceLemmas.{row_held}
 use Rattle.store_core.proofs.PlacedInstanceLemmas.{new_known, next_is_new, still_known}
-use Rattle.store_core.specs.Knows.{knows_instance, may_be_gone}
-use Rattle.store_core.specs.StoreInstances.{AreInstancesKept}
-use Rattle.store_core.specs.Value.{StoreValue}
+use Rattle.store_core.specs.Knows.{may_be_gone}
 
 -- ---- known ones
 

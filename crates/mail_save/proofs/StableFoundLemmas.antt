@@ -1,24 +1,14 @@
 -- The instances that a delivery has found stay found beside every event of every other task.
-use Rattle.std.proofs.Common.{◌≡◌, ◌≤◌, ℕ, true, cond, List, [], ◌∷◌, length, get_or, All, Option, Some, refl, sym, ◌∙◌, ap, subst, arith}
-use Rattle.std.specs.Str.{bytes_eq}
-use Rattle.std.proofs.lemmas.List.Elements.{All-cons, All-head, All-nil, All-tail}
+use Rattle.mail_save.proofs.Common.{◌≡◌, ◌≤◌, ℕ, true, cond, List, [], ◌∷◌, length, All, Option, Some, refl, sym, ◌∙◌, ap, subst, arith, bytes_eq, All-cons, All-head, All-nil, All-tail, Detached, DiskState, History, Between, reading, between-both, between-map, between-on, InstRow, InstId, AreHeld}
+use Rattle.mail_save.proofs.Common.{AreOfParts, AttachingValue, instance_file, holds_of, IsKnownRow, StoreValue, Claims, Held, one_if, Beside}
+use Rattle.std.proofs.Common.{get_or}
 use Rattle.std.proofs.lemmas.List.Sums.{get_or-le-sum_by}
-use Rattle.attach_detach.specs.declared.message.Detached.{Detached}
-use Rattle.disk_model.specs.Disk.{DiskState, History, Between, reading}
-use Rattle.disk_model.proofs.BetweenLemmas.{between-both, between-map, between-on}
-use Rattle.mdbox_base.specs.declared.entries.InstRow.{InstRow}
-use Rattle.mdbox_base.specs.declared.ids.InstId.{InstId}
 use Rattle.mdbox_base.specs.declared.ids.StoreId.{StoreId}
 use Rattle.model_octets.proofs.SearchLemmas.{text_yes}
-use Rattle.save_instances.specs.Attaching.{AreHeld, AreOfParts, AttachingValue, IsAttaching}
+use Rattle.save_instances.specs.Attaching.{IsAttaching}
 use Rattle.sis_store.specs.Comparing.{IsUnlikeCompared}
-use Rattle.sis_store.specs.OnDisk.{instance_file}
-use Rattle.store_core.specs.Keeping.{holds_of}
-use Rattle.store_core.specs.StoreInstances.{IsFirstKnown, IsFirstWith, IsKnownRow}
-use Rattle.store_core.specs.Value.{StoreValue}
-use Rattle.task_claims.specs.Claims.{Claims, Held, one_if}
+use Rattle.store_core.specs.StoreInstances.{IsFirstKnown, IsFirstWith}
 use Rattle.task_claims.specs.Leaving.{LeavesInstance}
-use Rattle.task_claims.specs.Stable.{Beside}
 use Rattle.task_claims.proofs.LeftLemmas.{held_left, instance_left}
 use Rattle.mail_save.specs.Left.{HoldsInstances}
 

@@ -1,41 +1,23 @@
 -- The file that a delivery has taken, the region that it has placed, and the record that it has stored stay so beside every event of
 -- every other task.
-use Rattle.std.proofs.Common.{◌≡◌, ◌≢◌, ◌≤◌, ◌+◌, ◌==◌, ℕ, Bool, true, false, cond, List, [], ◌∷◌, map, All, Option, Some, None, refl, sym, ◌∙◌, ap, subst, arith, inl, inr}
-use Rattle.std.specs.Prelude.{◌⊎◌, filter}
-use Rattle.std.specs.Option.{option_and_then, option_map}
-use Rattle.std.proofs.lemmas.Bool.{eq-eqb}
-use Rattle.std.proofs.lemmas.List.Elements.{All-cons, All-head, All-nil, All-tail}
-use Rattle.attach_detach.specs.declared.message.Prepared.{Prepared}
-use Rattle.disk_model.specs.Disk.{DiskState, FileState, Files, History, MayLeave, reading}
-use Rattle.disk_model.specs.declared.name.FileName.TheVariants.{Mail}
-use Rattle.disk_model.proofs.BetweenLemmas.{between-both, between-on}
+use Rattle.mail_save.proofs.Common.{◌≡◌, ◌≢◌, ◌≤◌, ◌+◌, ◌==◌, ℕ, Bool, true, false, cond, List, [], ◌∷◌, map, All, Option, Some, None, refl, sym, ◌∙◌, ap, subst, arith, inl, inr, filter, option_and_then, option_map, eq-eqb, All-cons, All-head, All-nil, All-tail, Prepared, DiskState, History}
+use Rattle.mail_save.proofs.Common.{reading, Mail, between-both, between-on, InstRow, IsFree, MapMeaning, MapRecord, files_of, StoresMessage, HasWritten, ids_in, end_in, file_in, place_begun_in, MailFile, due_at, IsKnownRow, StoreValue, references_to, Claims, Due, Taken, IsSameOrSynced, Beside}
+use Rattle.mail_save.proofs.Common.{entry_added, HoldsFile, HoldsRegion, IsLeftSoOrGone, IsPlacedReady, saved_row, Added, SavedAt}
+use Rattle.std.specs.Prelude.{◌⊎◌}
+use Rattle.disk_model.specs.Disk.{FileState, Files, MayLeave}
 use Rattle.disk_model.proofs.OneFileLemmas.{named-narrows}
-use Rattle.mdbox_base.specs.declared.entries.InstRow.{InstRow}
 use Rattle.model_appends.specs.Appending.{message_made}
 use Rattle.model_meaning.specs.BoxMeaning.{row_made}
-use Rattle.model_meaning.specs.MapFits.{IsApart, IsFree}
-use Rattle.model_meaning.specs.MapMeaning.{MapMeaning, MapRecord}
-use Rattle.model_store.specs.Settled.{files_of}
-use Rattle.model_store.specs.Stands.{AreListed, HasInstances, StoresMessage}
+use Rattle.model_meaning.specs.MapFits.{IsApart}
+use Rattle.model_store.specs.Stands.{AreListed, HasInstances}
 use Rattle.saved_message.specs.Laid.{AreSixteen}
 use Rattle.saved_message.specs.Region.{written_region}
-use Rattle.saved_message.specs.Saved.{AreInstancesOf, HasWritten, ids_in}
-use Rattle.storage_files.specs.Files.{end_in, file_in, place_begun_in, with_pins}
-use Rattle.storage_files.specs.declared.file.MailFile.{MailFile}
-use Rattle.store_core.specs.Dues.{due_at}
-use Rattle.store_core.specs.StoreInstances.{IsKnownRow}
-use Rattle.store_core.specs.Value.{StoreValue, references_to}
+use Rattle.saved_message.specs.Saved.{AreInstancesOf}
+use Rattle.storage_files.specs.Files.{with_pins}
 use Rattle.task_claims.proofs.LeftLemmas.{record_left, taken_left}
 use Rattle.task_claims.proofs.StoredLemmas.{KeepsRow, instances_on, row_kept, stores_on}
-use Rattle.task_claims.specs.Claims.{Claims, Due, Taken}
-use Rattle.task_claims.specs.Leaving.{IsSameOrSynced, but_count, known_but_pins, records_within}
-use Rattle.task_claims.specs.Stable.{Beside}
-use Rattle.mail_save.specs.Added.{entry_added}
-use Rattle.mail_save.specs.Left.{HoldsFile, HoldsRegion}
-use Rattle.mail_save.specs.Ready.{IsLeftSoOrGone, IsPlacedReady, IsRecordReady}
-use Rattle.mail_save.specs.SaveEffects.{saved_row}
-use Rattle.mail_save.specs.declared.add.Added.{Added}
-use Rattle.mail_save.specs.declared.place.SavedAt.{SavedAt}
+use Rattle.task_claims.specs.Leaving.{but_count, known_but_pins, records_within}
+use Rattle.mail_save.specs.Ready.{IsRecordReady}
 use Rattle.mail_save.proofs.MailFileLemmas.{synced_reads}
 use Rattle.mail_save.proofs.StableFoundLemmas.{AreRead, HoldsThese, all_claimed, rows_read}
 

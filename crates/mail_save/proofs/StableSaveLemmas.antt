@@ -1,22 +1,9 @@
 -- A delivery stays ready beside every event of every other task.
-use Rattle.std.proofs.Common.{◌≡◌, ◌≤◌, ◌==◌, ℕ, List, length, Option, refl, ◌∙◌, ap, arith}
-use Rattle.std.proofs.lemmas.Bool.{eq-eqb}
-use Rattle.disk_model.specs.Disk.{History}
-use Rattle.mdbox_base.specs.declared.ids.MapUid.{MapUid}
-use Rattle.model_meaning.specs.MapFits.{HasRecord}
-use Rattle.model_meaning.specs.MapMeaning.{MapRecord}
-use Rattle.save_instances.specs.Attaching.{AttachingValue}
-use Rattle.store_core.specs.Dues.{due_at}
-use Rattle.store_core.specs.Value.{StoreValue}
+use Rattle.mail_save.proofs.Common.{◌≡◌, ◌≤◌, ◌==◌, ℕ, List, length, Option, refl, ◌∙◌, ap, arith, eq-eqb, History, MapUid, HasRecord, MapRecord, AttachingValue, due_at, StoreValue, Claims, Due, one_if, Beside, save_claims, AreAttached, IsAttached, SavedParts, SaveStage, stage}
 use Rattle.task_claims.proofs.LeftLemmas.{due_left, record_left}
-use Rattle.task_claims.specs.Claims.{Claims, Due, one_if}
-use Rattle.task_claims.specs.Stable.{Beside, IsStable}
-use Rattle.mail_save.specs.Claims.{save_claims}
-use Rattle.mail_save.specs.Parts.{AreAttached, AreBeingAttached}
-use Rattle.mail_save.specs.Task.{IsAttached, IsReadyToDeliver}
-use Rattle.mail_save.specs.declared.first.SavedParts.{SavedParts}
-use Rattle.mail_save.specs.declared.task.SaveStage.{SaveStage}
-use Rattle.mail_save.specs.declared.task.SaveStage.TheVariants as stage
+use Rattle.task_claims.specs.Stable.{IsStable}
+use Rattle.mail_save.specs.Parts.{AreBeingAttached}
+use Rattle.mail_save.specs.Task.{IsReadyToDeliver}
 use Rattle.mail_save.proofs.StableFoundLemmas.{HoldsThese, all_claimed, attaching_left, holds_left, parts_left_so, still_held}
 use Rattle.mail_save.proofs.StableRegionLemmas.{file_left, placed_left, region_left, stored_left}
 

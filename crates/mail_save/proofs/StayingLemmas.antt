@@ -1,10 +1,5 @@
 -- Storage files and instances that stay over the calls of an event.
-use Rattle.std.proofs.Common.{◌≡◌, Option, sym, subst}
-use Rattle.disk_model.specs.Disk.{History}
-use Rattle.model_kept.specs.Kept.{MailIsKept}
-use Rattle.model_kept.proofs.KeptLemmas.{kept_begins}
-use Rattle.model_meaning.specs.MapMeaning.{MapMeaning}
-use Rattle.store_core.specs.Value.{StoreValue}
+use Rattle.mail_save.proofs.Common.{◌≡◌, Option, sym, subst, History, MailIsKept, kept_begins, MapMeaning, StoreValue}
 
 -- nothing has happened
 pub kept_same : {D : Type 0} → (history : D → Option History) (m : MapMeaning) (old new : D) → new ≡ old → MailIsKept m (history old) (history new)

@@ -1,29 +1,11 @@
 -- What storing a record, and lowering its count, make of a store.
-use Rattle.std.proofs.Common.{◌≡◌, ◌≤◌, ◌+◌, ℕ, List, [], Option, Some, None, Ok, Err, inl, inr, refl, sym, ◌∙◌, ap, subst, arith}
+use Rattle.mail_save.proofs.Common.{◌≡◌, ◌≤◌, ◌+◌, ℕ, List, [], Option, Some, None, Err, inl, inr, refl, sym, ◌∙◌, ap, subst, arith, All-nil, All-cons, History, Between, between-map, Highest, InstRow, MapEntry, MapUid, Refusal, refusal, HasRecord, MapFits, MapRecord, MapMeaning, map_applied}
+use Rattle.mail_save.proofs.Common.{record_at, files_of, StoresMessage, end_in, is_taken_in, released_in, due_at, KeepsStored, KeepsFirm, StoreValue, indexes_of, uid_refusal, entry_stored, entry_lowered, AreSpared, IsLeftAlone, LowersRecord, StoresNone, StoresPlaced, saved_row, SavedAt}
+use Rattle.std.proofs.Common.{Ok}
 use Rattle.std.specs.Prelude.{◌⊎◌, IfOk, IfErr, Result}
-use Rattle.std.proofs.lemmas.List.Elements.{All-nil, All-cons}
-use Rattle.disk_model.specs.Disk.{History, Between}
-use Rattle.disk_model.proofs.BetweenLemmas.{between-map}
-use Rattle.mdbox_base.specs.declared.entries.Highest.{Highest}
-use Rattle.mdbox_base.specs.declared.entries.InstRow.{InstRow}
-use Rattle.mdbox_base.specs.declared.entries.MapEntry.{MapEntry}
-use Rattle.mdbox_base.specs.declared.ids.MapUid.{MapUid}
-use Rattle.mdbox_base.specs.declared.replies.Refusal.{Refusal}
-use Rattle.mdbox_base.specs.declared.replies.Refusal.TheVariants as refusal
 use Rattle.model_appends.specs.Amounts.{due_by}
-use Rattle.model_meaning.specs.MapFits.{HasRecord, MapFits}
-use Rattle.model_meaning.specs.MapMeaning.{MapRecord, MapMeaning, map_applied, record_at}
-use Rattle.model_store.specs.Settled.{files_of}
-use Rattle.model_store.specs.Stands.{StoresMessage}
-use Rattle.storage_files.specs.Files.{end_in, is_taken_in, released_in}
-use Rattle.store_core.specs.Dues.{due_at, KeepsStored}
-use Rattle.store_core.specs.Keeping.{KeepsFirm}
 use Rattle.store_core.specs.MapAppend.{drawn_by}
-use Rattle.store_core.specs.Value.{StoreValue, indexes_of}
-use Rattle.mail_save.specs.Events.{uid_refusal}
-use Rattle.mail_save.specs.Record.{entry_stored, entry_lowered}
-use Rattle.mail_save.specs.SaveEffects.{AreSpared, GivesFileBack, IsLeftAlone, LowersRecord, StoresNone, StoresPlaced, saved_row}
-use Rattle.mail_save.specs.declared.place.SavedAt.{SavedAt}
+use Rattle.mail_save.specs.SaveEffects.{GivesFileBack}
 use Rattle.mail_save.proofs.FaultLemmas.{uid_unread}
 use Rattle.mail_save.proofs.TakingLemmas.{released_others}
 

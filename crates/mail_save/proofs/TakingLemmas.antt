@@ -1,24 +1,13 @@
 -- What taking a storage file makes of a store, and giving it back.
-use Rattle.std.proofs.Common.{◌≡◌, ◌≢◌, ◌≤◌, ◌+◌, ℕ, Bool, true, false, List, [], ◌∷◌, ◌++◌, length, Option, Some, None, refl, sym, ◌∙◌, ap, subst, arith, inl, inr}
-use Rattle.std.specs.Prelude.{◌⊎◌, Contains, slice_get, is_some, if◌then◌else◌}
-use Rattle.std.specs.Option.{option_map_or, option_and_then}
+use Rattle.mail_save.proofs.Common.{◌≡◌, ◌≢◌, ◌≤◌, ◌+◌, ℕ, Bool, true, false, List, [], ◌∷◌, ◌++◌, length, Option, Some, None, refl, sym, ◌∙◌, ap, subst, arith, inl, inr, Contains, slice_get, is_some, if◌then◌else◌, option_map_or, option_and_then, History, FileNo, Refusal, refusal, MailFile, Take}
+use Rattle.mail_save.proofs.Common.{Known, New, Full, AreFilesInOrder, IsTakeFor, MayBeTakenFor, changed_in, end_in, ending_at, file_begun, file_in, given_back, is_taken_in, place_begun_in, released_in, with_taken, without_file, file-other, file-begun, file-before_begun, taken-there, none_begun}
+use Rattle.mail_save.proofs.Common.{IsStore, StoreValue, HoldsFile, TakesFileFor, TakesNone, roomy_files}
+use Rattle.std.specs.Prelude.{◌⊎◌}
 use Rattle.std.proofs.lemmas.Option.{slice_get-get_or}
-use Rattle.disk_model.specs.Disk.{History}
-use Rattle.mdbox_base.specs.declared.ids.FileNo.{FileNo}
-use Rattle.mdbox_base.specs.declared.replies.Refusal.{Refusal}
-use Rattle.mdbox_base.specs.declared.replies.Refusal.TheVariants as refusal
-use Rattle.storage_files.specs.declared.file.MailFile.{MailFile}
-use Rattle.storage_files.specs.declared.file.Take.{Take}
-use Rattle.storage_files.specs.declared.file.Take.TheVariants.{Known, New, Full}
-use Rattle.storage_files.specs.Files.{AreFilesInOrder, IsTakeFor, IsGiven, MayBeTakenFor, after_take, changed_in, end_in, ending_at, file_begun, file_in, given_back, is_taken_in, place_begun_in, released_in, with_taken, without_file}
-use Rattle.storage_files.proofs.FileListLemmas.{file-found, file-other, file-without, file-begun, file-before_begun, ends-kept, ends-other, ends-here, ends-begun}
-use Rattle.storage_files.proofs.KnownLemmas.{taken-there}
-use Rattle.store_core.proofs.KeptFileLemmas.{none_begun}
-use Rattle.store_core.specs.Running.{IsStore}
-use Rattle.store_core.specs.Value.{StoreValue}
+use Rattle.storage_files.specs.Files.{IsGiven, after_take}
+use Rattle.storage_files.proofs.FileListLemmas.{file-found, file-without, ends-kept, ends-other, ends-here, ends-begun}
 use Rattle.mail_save.proofs.SaveFileLemmas.{known_unbegun, new_unbegun}
-use Rattle.mail_save.specs.Left.{HoldsFile}
-use Rattle.mail_save.specs.SaveEffects.{FailsToMake, FindsNoNumber, TakesFileFor, TakesNone, roomy_files}
+use Rattle.mail_save.specs.SaveEffects.{FailsToMake, FindsNoNumber}
 
 -- the store with room for taking a file, behind a file that was taken, and behind one that was made
 abbrev pub roomier_store : {D : Type 0} → StoreValue D → StoreValue D

@@ -1,49 +1,17 @@
 -- What a purge says that removes a file in which no message lies.
-use Rattle.std.proofs.Common.{◌≡◌, ◌≤◌, ◌<◌, ◌+◌, ◌==◌, ◌&&◌, ◌⊎◌, ℕ, zero, suc, Bool, true, false, cond, List, [], ◌∷◌, length, Option, Some, None, refl, sym, ◌∙◌, ap, subst, arith, inl, inr, All}
-use Rattle.std.specs.Prelude.{IsSome, is_some}
-use Rattle.std.specs.List.{list_any}
-use Rattle.std.specs.Option.{option_and_then, option_map_or}
-use Rattle.std.proofs.lemmas.Bool.{cases_eq, eq-eqb, eqb-true, ne_eqb}
-use Rattle.std.proofs.lemmas.List.Elements.{All-contains, All-head, All-tail}
-use Rattle.std.proofs.lemmas.List.Sums.{sum_by-cons}
-use Rattle.disk_model.specs.Disk.{Faults, Grows, History, SameButFor}
-use Rattle.disk_model.specs.FaultCounts.{NoFault}
-use Rattle.disk_model.specs.declared.name.FileName.TheVariants as file
-use Rattle.mdbox_base.specs.declared.ids.FileNo.{FileNo}
-use Rattle.mdbox_base.specs.declared.progress.Did.TheVariants as did
-use Rattle.mdbox_base.specs.declared.progress.Progress.TheVariants as progress
-use Rattle.mdbox_base.specs.declared.replies.Refusal.TheVariants as refusal
-use Rattle.mdbox_base.specs.declared.replies.Reply.TheVariants as reply
-use Rattle.model_kept.specs.Kept.{MailIsKept}
-use Rattle.model_lists.specs.Lists.{Lists}
-use Rattle.model_meaning.specs.MapMeaning.{MapRecord}
-use Rattle.model_octets.proofs.SearchLemmas.{found_one}
-use Rattle.model_store.specs.Settled.{IsSettledFor, Leaves}
-use Rattle.storage_files.specs.Files.{AreFilesInOrder, IsUsedFile, end_in, file_in, is_doomed_in, is_emptied_in, is_taken_in, pins_in, place_begun_in}
-use Rattle.storage_files.specs.declared.file.MailFile.{MailFile}
-use Rattle.storage_files.proofs.FileListLemmas.{file-gone, file-without}
+use Rattle.purge_task.proofs.Common.{◌≡◌, ◌≤◌, ◌<◌, ◌+◌, ◌==◌, ◌&&◌, ℕ, zero, suc, Bool, true, false, cond, List, [], ◌∷◌, length, Option, Some, None, refl, sym, ◌∙◌, ap, subst, arith, inl, inr, All, IsSome, is_some, list_any, option_and_then, option_map_or, cases_eq, eq-eqb, eqb-true, ne_eqb}
+use Rattle.purge_task.proofs.Common.{All-contains, All-head, All-tail, sum_by-cons, Faults, Grows, History, SameButFor, NoFault, file, FileNo, did, progress, refusal, reply, MailIsKept, Lists, MapRecord, found_one, IsSettledFor, Leaves, AreFilesInOrder, IsUsedFile, end_in, file_in, is_doomed_in}
+use Rattle.purge_task.proofs.Common.{is_emptied_in, is_taken_in, pins_in, place_begun_in, MailFile, file-gone, file-without, AreElsewhere, StoreValue, firm_same, Due, Emptied, Held, Made, MovesClaims, Pinned, PlacingPieces, Removing, Taken, Thing, amount_in, is_to_remove, one_if, LeavesOthers}
+use Rattle.purge_task.proofs.Common.{MayOnlyGrow, OthersTook, claims_of_sources, purge_claims, sources_left, IsPurgeStep, PurgeSteps, AreSourcesApart, HasPurged, IsBeginningFirst, IsToBegin, PurgeValue, IsNextStage, went_on, PurgeStage, stage, Source, Work, fall, IsStore}
+use Rattle.std.proofs.Common.{◌⊎◌}
 use Rattle.store_core.specs.Files.{ArePinsOfRecords}
-use Rattle.store_core.specs.Removing.{AreElsewhere}
-use Rattle.store_core.specs.Value.{StoreValue}
 use Rattle.store_core.proofs.InstanceKeepingLemmas.{syncs_placed}
-use Rattle.store_core.proofs.KnownInstanceLemmas.{firm_same}
-use Rattle.task_claims.specs.Claims.{Due, Emptied, Held, Made, MovesClaims, Pinned, PlacingPieces, Removing, Taken, Thing, amount_in, is_to_remove, one_if}
-use Rattle.task_claims.specs.Leaving.{LeavesOthers, MayOnlyGrow, OthersTook}
-use Rattle.purge_task.specs.Claims.{claims_of_sources, purge_claims, sources_left}
-use Rattle.purge_task.specs.Clause.{IsPurgeStep, PurgeSteps}
-use Rattle.purge_task.specs.Keeping.{AreSourcesApart, HasPurged, IsBareFirst, IsBeginningFirst, IsToBegin, PurgeValue}
-use Rattle.purge_task.specs.Stages.{IsNextStage, went_on}
-use Rattle.purge_task.specs.declared.task.PurgeStage.{PurgeStage}
-use Rattle.purge_task.specs.declared.task.PurgeStage.TheVariants as stage
-use Rattle.purge_task.specs.declared.work.Source.{Source}
-use Rattle.purge_task.specs.declared.work.Work.{Work}
+use Rattle.purge_task.specs.Keeping.{IsBareFirst}
 use Rattle.purge_task.proofs.BareLemmas.{bare_steps}
-use Rattle.task_steps.proofs.EventLaws.{fall}
 use Rattle.purge_task.proofs.LeavingLemmas.{removal_leaves}
 use Rattle.purge_task.proofs.RemovalCallLemmas.{next_claims, ready_next, same_in}
 use Rattle.purge_task.proofs.RemovalLemmas.{none_in}
 use Rattle.purge_task.proofs.RemovalSeenLemmas.{without}
-use Rattle.store_core.specs.Running.{IsStore}
 use Rattle.purge_task.proofs.SameRegionLemmas.{regions_but}
 
 -- ---- a file that is taken to be emptied

@@ -1,30 +1,7 @@
 -- The clause of an event of a purge that removes a storage file in which no message lies.
-use Rattle.std.proofs.Common.{◌≡◌, ◌≤◌, ◌<◌, ◌+◌, ◌==◌, ℕ, Bool, false, List, [], ◌∷◌, ◌++◌, Option, Some, None, refl, sym, ◌∙◌, ap, subst}
-use Rattle.std.specs.Prelude.{nat_lt, if◌then◌else◌}
-use Rattle.std.specs.List.{list_any}
-use Rattle.std.specs.Option.{option_map_or}
-use Rattle.std.proofs.lemmas.List.Elements.{All-head, All-tail}
-use Rattle.disk_model.specs.Disk.{Faults, History, told_calls}
-use Rattle.mdbox_base.specs.declared.ids.FileNo.{FileNo}
-use Rattle.mdbox_base.specs.declared.progress.Did.{Did}
-use Rattle.mdbox_base.specs.declared.progress.Did.TheVariants as did
-use Rattle.mdbox_base.specs.declared.requests.Request.TheVariants as request
-use Rattle.model_meaning.specs.MapMeaning.{MapMeaning}
-use Rattle.model_octets.proofs.PairLemmas.{pairs_head}
-use Rattle.list_machine.specs.Run.{MakesTarget, RemovesFile, RunEvent, Switches, TakenFile, and_then, is_one_of, map_of, own_events}
-use Rattle.journal.specs.Events.{Around, is_done, next_part, next_taken, purge_goes_on}
-use Rattle.storage_files.specs.Files.{pins_in}
-use Rattle.store_core.specs.Removing.{AreElsewhere}
-use Rattle.store_core.specs.Value.{StoreValue}
-use Rattle.purge_task.specs.Claims.{sources_left}
-use Rattle.purge_task.specs.Clause.{PurgeSteps, around_purging, seen_by_purge}
-use Rattle.purge_task.specs.Keeping.{AreSourcesApart, PurgeValue}
-use Rattle.purge_task.specs.Stages.{GoesOnBehind, HaveCopied, HaveTaken, IsAtPurge, IsAtPurgeStage, IsNextStage, IsPurging, told_taken, went_on}
-use Rattle.purge_task.specs.declared.task.PurgeStage.{PurgeStage}
-use Rattle.purge_task.specs.declared.task.PurgeStage.TheVariants as stage
-use Rattle.purge_task.specs.declared.work.Source.{Source}
-use Rattle.purge_task.specs.declared.work.Work.{Work}
-use Rattle.task_steps.proofs.EventLaws.{DidBy, stands_by}
+use Rattle.purge_task.proofs.Common.{◌≡◌, ◌≤◌, ◌<◌, ◌+◌, ◌==◌, ℕ, Bool, false, List, [], ◌∷◌, ◌++◌, Option, Some, None, refl, sym, ◌∙◌, ap, subst, nat_lt, if◌then◌else◌, list_any, option_map_or, All-head, All-tail, Faults, History, told_calls, FileNo, Did, did, request, MapMeaning, pairs_head}
+use Rattle.purge_task.proofs.Common.{MakesTarget, RemovesFile, RunEvent, Switches, TakenFile, and_then, is_one_of, map_of, own_events, Around, is_done, next_part, next_taken, purge_goes_on, pins_in, AreElsewhere, StoreValue, sources_left, PurgeSteps, around_purging, seen_by_purge, AreSourcesApart}
+use Rattle.purge_task.proofs.Common.{PurgeValue, GoesOnBehind, HaveCopied, HaveTaken, IsAtPurge, IsAtPurgeStage, IsNextStage, IsPurging, told_taken, went_on, PurgeStage, stage, Source, Work, DidBy, stands_by}
 use Rattle.purge_task.proofs.PartLemmas.{next_goes_on, next_is}
 use Rattle.purge_task.proofs.RemovalLemmas.{CountsRemoval, LeavesSettled, did_removal, none_in, removed_way, removes_taken}
 use Rattle.purge_task.proofs.RemovalSeenLemmas.{removal_event, without}

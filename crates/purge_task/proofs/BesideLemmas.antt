@@ -1,26 +1,10 @@
 -- Where a purge stands, beside events of other tasks.
-use Rattle.std.proofs.Common.{◌≡◌, ◌≤◌, ◌==◌, ℕ, Bool, false, List, [], ◌∷◌, ◌++◌, Option, refl, ap, arith, All}
-use Rattle.std.specs.Prelude.{◌≢◌, drop, if◌then◌else◌}
-use Rattle.std.specs.List.{list_any}
-use Rattle.std.proofs.lemmas.Bool.{eq-eqb}
-use Rattle.std.proofs.lemmas.List.Elements.{All-cons, All-head, All-nil, All-tail}
-use Rattle.std.proofs.lemmas.List.Sums.{sum_by-cons}
-use Rattle.disk_model.specs.Disk.{History}
-use Rattle.mdbox_base.specs.declared.entries.MapPlace.{MapPlace}
-use Rattle.mdbox_base.specs.declared.replies.Reply.{Reply}
-use Rattle.list_machine.specs.Run.{EventPart, Run, RunEvent, and_then, is_one_of, own_events}
-use Rattle.store_core.specs.Value.{StoreValue}
-use Rattle.task_claims.specs.Claims.{Claims, Emptied}
-use Rattle.task_claims.specs.Leaving.{records_within}
+use Rattle.purge_task.proofs.Common.{◌≡◌, ◌≤◌, ◌==◌, ℕ, Bool, false, List, [], ◌∷◌, ◌++◌, Option, refl, ap, arith, All, if◌then◌else◌, list_any, eq-eqb, All-cons, All-head, All-nil, All-tail, sum_by-cons, History, MapPlace, Reply, EventPart, Run, RunEvent, and_then, is_one_of, own_events}
+use Rattle.purge_task.proofs.Common.{StoreValue, Claims, Emptied, records_within, claims_of_sources, purge_claims, sources_left, PurgeValue, CopiesBehind, GoesOnBehind, HaveCopied, IsAtPurge, IsAtPurgeStage, IsAtSwitched, IsPurging, RemovesBehind, PurgeStage, stage, Source}
+use Rattle.std.specs.Prelude.{◌≢◌, drop}
 use Rattle.task_claims.specs.Stable.{Beside}
 use Rattle.task_claims.proofs.LeftLemmas.{emptied_left}
 use Rattle.task_steps.specs.Step.{GivesNew}
-use Rattle.purge_task.specs.Claims.{claims_of_sources, purge_claims, sources_left}
-use Rattle.purge_task.specs.Keeping.{PurgeValue}
-use Rattle.purge_task.specs.Stages.{CopiesBehind, GoesOnBehind, HaveCopied, IsAtPurge, IsAtPurgeStage, IsAtSwitched, IsPurging, RemovesBehind}
-use Rattle.purge_task.specs.declared.task.PurgeStage.{PurgeStage}
-use Rattle.purge_task.specs.declared.task.PurgeStage.TheVariants as stage
-use Rattle.purge_task.specs.declared.work.Source.{Source}
 use Rattle.purge_task.proofs.KeptLemmas.{purge_stays}
 use Rattle.purge_task.proofs.WithinLemmas.{uids_within}
 

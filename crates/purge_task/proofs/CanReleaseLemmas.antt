@@ -1,25 +1,9 @@
 -- What a purge has taken can be given back.
-use Rattle.std.proofs.Common.{◌≡◌, ◌≢◌, ◌<◌, ◌||◌, ℕ, Bool, true, false, List, [], ◌∷◌, get_or, Option, Some, None, refl, sym, ◌∙◌, ap, subst, arith, inl, inr, All}
-use Rattle.std.specs.Prelude.{AllPairs, is_some, if◌then◌else◌}
-use Rattle.std.specs.Option.{IfSome, option_map, option_map_or}
-use Rattle.std.proofs.lemmas.Bool.{cases_eq}
-use Rattle.disk_model.specs.Disk.{History}
-use Rattle.std.proofs.lemmas.List.Elements.{All-cons, All-head, All-nil, All-tail}
-use Rattle.mdbox_base.specs.declared.ids.FileNo.{FileNo}
-use Rattle.model_octets.proofs.PairLemmas.{pairs_head, pairs_tail}
-use Rattle.storage_files.specs.Files.{IsUsedFile, changed_in, end_in, ending_at, file_in, given_back, is_emptied_in, is_taken_in, released_in, without_file}
-use Rattle.storage_files.specs.declared.file.MailFile.{MailFile}
-use Rattle.storage_files.proofs.FileListLemmas.{file-here, file-other, file-without}
-use Rattle.store_core.specs.Value.{StoreValue}
-use Rattle.purge_task.specs.Claims.{sources_left}
-use Rattle.purge_task.specs.Keeping.{AreSourcesApart, HasPurged, IsCopyingFirst, IsTargetToMake, IsToBegin}
-use Rattle.purge_task.specs.Switched.{target_released}
-use Rattle.purge_task.specs.Taken.{CanRelease, source_released}
-use Rattle.purge_task.specs.declared.task.PurgeStage.TheVariants as stage
-use Rattle.purge_task.specs.declared.work.Source.{Source}
-use Rattle.purge_task.specs.declared.work.Work.{Work}
+use Rattle.purge_task.proofs.Common.{◌≡◌, ◌≢◌, ◌<◌, ◌||◌, ℕ, Bool, true, false, List, [], ◌∷◌, get_or, Option, Some, None, refl, sym, ◌∙◌, ap, subst, arith, inl, inr, All, AllPairs, is_some, if◌then◌else◌, IfSome, option_map, option_map_or, cases_eq, History, All-cons, All-head, All-nil, All-tail}
+use Rattle.purge_task.proofs.Common.{FileNo, pairs_head, pairs_tail, IsUsedFile, changed_in, end_in, ending_at, file_in, given_back, is_emptied_in, is_taken_in, released_in, without_file, MailFile, file-here, file-other, file-without, StoreValue, sources_left, AreSourcesApart, HasPurged}
+use Rattle.purge_task.proofs.Common.{IsCopyingFirst, IsTargetToMake, IsToBegin, target_released, CanRelease, stage, Source, Work, fall}
+use Rattle.purge_task.specs.Taken.{source_released}
 use Rattle.purge_task.proofs.BareCallLemmas.{emptied_file, untaken_in}
-use Rattle.task_steps.proofs.EventLaws.{fall}
 
 -- it is emptied, and its target is taken
 pub record IsHeldIn (files : List MailFile) (source : Source) : Type 0 where

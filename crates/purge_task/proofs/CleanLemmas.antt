@@ -1,27 +1,12 @@
 -- Whether a file is clean, by what is said of its messages and by what it begins with.
-use Rattle.std.proofs.Common.{◌≡◌, ℕ, ◌+◌, ◌<◌, ◌≤◌, ◌&&◌, ◌||◌, Bool, true, false, cond, not, Option, Some, None, List, [], ◌∷◌, length, take, All, refl, sym, ap, subst, ◌∙◌, arith}
-use Rattle.std.specs.Prelude.{Result, Ok, Err, IfOk, IsSome, IsTrue, ◌↔◌, nat_lt, sum_by}
-use Rattle.std.specs.List.{list_any}
-use Rattle.std.specs.Option.{option_map, option_map_or, option_and_then}
-use Rattle.std.proofs.lemmas.List.Elements.{All-head, All-tail}
-use Rattle.std.proofs.lemmas.List.Sums.{sum_by-cons}
-use Rattle.disk_model.specs.Disk.{DiskState, Files, History, IfTold, reading}
-use Rattle.disk_model.specs.declared.name.FileName.TheVariants.{Mail}
-use Rattle.journal.specs.QuietPurge.{IsClean, IsCleanFile}
-use Rattle.list_machine.specs.Run.{is_copied_from}
-use Rattle.mdbox_base.specs.declared.replies.Refusal.{Refusal}
-use Rattle.model_meaning.specs.MapMeaning.{MapRecord, MapMeaning}
-use Rattle.model_meaning.specs.Sound.{IsSoundMap}
-use Rattle.model_storage.specs.StorageFile.{IsHeaderLine}
-use Rattle.model_store.specs.Settled.{files_of}
-use Rattle.storage_files.specs.declared.file.MailFile.{MailFile}
-use Rattle.storage_files.specs.Files.{end_in, file_in, is_doomed_in, is_emptied_in, is_sealed_in, is_taken_in}
+use Rattle.purge_task.proofs.Common.{◌≡◌, ℕ, ◌+◌, ◌<◌, ◌≤◌, ◌&&◌, ◌||◌, Bool, true, false, cond, not, Option, Some, None, List, [], ◌∷◌, length, take, All, refl, sym, ap, subst, ◌∙◌, arith, Result, Ok, Err, IfOk, IsSome, nat_lt, sum_by, list_any, option_map, option_map_or, option_and_then, All-head}
+use Rattle.purge_task.proofs.Common.{All-tail, sum_by-cons, DiskState, Files, History, IfTold, reading, Mail, IsClean, IsCleanFile, is_copied_from, Refusal, MapRecord, MapMeaning, IsSoundMap, IsHeaderLine, files_of, MailFile, end_in, file_in, is_doomed_in, is_emptied_in, is_taken_in, IsStore}
+use Rattle.purge_task.proofs.Common.{StoreValue, AreContents, IsFoundFile, IsFullToEnd, MayBeEmptied, FoundFile}
+use Rattle.std.specs.Prelude.{IsTrue, ◌↔◌}
+use Rattle.storage_files.specs.Files.{is_sealed_in}
 use Rattle.storage_files.specs.OnDisk.{piece_read}
-use Rattle.store_core.specs.Running.{IsStore}
-use Rattle.store_core.specs.Value.{StoreValue}
-use Rattle.purge_task.specs.Found.{AreContents, IsFilled, IsFoundFile, IsFullToEnd, IsHeaderOf, MayBeEmptied}
+use Rattle.purge_task.specs.Found.{IsFilled, IsHeaderOf}
 use Rattle.purge_task.specs.declared.contents.Contents.{Contents}
-use Rattle.purge_task.specs.declared.finding.FoundFile.{FoundFile}
 use Rattle.purge_task.proofs.HeaderLemmas.{begins_as_read, line_as_read, line_some, line_short, too_few}
 use Rattle.purge_task.proofs.WalkLemmas.{below}
 

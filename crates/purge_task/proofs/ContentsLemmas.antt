@@ -1,16 +1,8 @@
 -- What is said of a file's messages, one after another.
-use Rattle.std.proofs.Common.{◌≡◌, ◌≢◌, inl, inr, ℕ, zero, suc, ◌+◌, ◌<◌, ◌≤◌, ◌==◌, ◌&&◌, ◌||◌, Bool, true, false, cond, Option, Some, None, List, [], ◌∷◌, ◌++◌, get_or, All, refl, sym, ap, subst, ◌∙◌, arith}
-use Rattle.std.specs.Prelude.{nat_lt, ◌⊎◌, Contains, sum_by, is_none}
-use Rattle.std.specs.Option.{option_map, option_or}
-use Rattle.std.proofs.lemmas.List.Elements.{All-nil, All-cons, All-head, All-tail, All-push, All-contains, All-weaker, Contains-push, Contains-append_left}
-use Rattle.list_machine.specs.Run.{is_copied_from}
-use Rattle.journal.specs.QuietPurge.{RunTo}
-use Rattle.model_meaning.specs.MapMeaning.{MapRecord, MapMeaning}
-use Rattle.model_meaning.specs.Sound.{IsSoundMap}
-use Rattle.map_rows.specs.declared.rows.MapRow.{MapRow}
-use Rattle.map_index.specs.Shown.{record_from, shown_record}
-use Rattle.model_meaning.proofs.MapPlaceLemmas.{equal_is, equal_yes}
-use Rattle.purge_task.specs.Found.{AreContents, IsFilled, wanted_octets, with_message}
+use Rattle.purge_task.proofs.Common.{◌≡◌, ◌≢◌, inl, inr, ℕ, zero, suc, ◌+◌, ◌<◌, ◌≤◌, ◌==◌, ◌&&◌, ◌||◌, Bool, true, false, cond, Option, Some, None, List, [], ◌∷◌, ◌++◌, get_or, All, refl, sym, ap, subst, ◌∙◌, arith, nat_lt, ◌⊎◌, Contains, sum_by, option_map, option_or, All-nil, All-cons, All-head}
+use Rattle.purge_task.proofs.Common.{All-tail, All-push, All-contains, All-weaker, Contains-push, Contains-append_left, is_copied_from, RunTo, MapRecord, MapMeaning, IsSoundMap, MapRow, record_from, shown_record, equal_is, equal_yes, AreContents}
+use Rattle.std.specs.Prelude.{is_none}
+use Rattle.purge_task.specs.Found.{IsFilled, wanted_octets, with_message}
 use Rattle.purge_task.specs.declared.contents.Contents.{Contents}
 use Rattle.purge_task.proofs.WalkLemmas.{IsFoundRow, HasNoRow, upto, in_all, both, below, below_is, found_row, none_found, sound_row, more_walked, all_walked, sum_walked, sum_begins, sum_ends, sum_same}
 

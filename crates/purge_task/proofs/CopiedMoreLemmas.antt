@@ -1,22 +1,11 @@
 -- What a purge has copied, with one message more.
-use Rattle.std.proofs.Common.{◌≡◌, ◌≢◌, ◌≤◌, ◌<◌, ◌+◌, ◌==◌, ◌&&◌, ◌||◌, ◌⊎◌, ℕ, Bool, true, false, not, List, [], ◌∷◌, ◌++◌, length, refl, sym, ◌∙◌, ap, subst, arith, inl, inr, All, Option, Some}
-use Rattle.std.specs.Prelude.{AllPairs, Contains, nat_le, nat_lt, sum_by, if◌then◌else◌}
-use Rattle.std.specs.List.{list_any}
-use Rattle.std.specs.Option.{option_map_or}
-use Rattle.std.proofs.lemmas.Bool.{cases_lt, eq-eqb}
-use Rattle.std.proofs.lemmas.Grind.{common_steps}
-use Rattle.std.proofs.lemmas.List.Elements.{All-cons, All-contains, All-contains_itself, All-head, All-nil, All-push, All-tail, All-weaker}
-use Rattle.std.proofs.lemmas.List.Kept.{AllPairs-cons}
-use Rattle.std.proofs.lemmas.List.Sums.{get_or-le-sum_by, sum_by-cons}
-use Rattle.mdbox_base.specs.declared.entries.MapPlace.{MapPlace}
-use Rattle.model_meaning.specs.MapFits.{HasRecord, size_at}
-use Rattle.model_meaning.specs.MapMeaning.{MapMeaning, MapRecord, record_at}
-use Rattle.model_meaning.specs.Sound.{AreApart, IsSoundMap, IsSoundRecord}
-use Rattle.model_octets.proofs.PairLemmas.{pairs_head, pairs_nil, pairs_push, pairs_tail}
-use Rattle.list_machine.specs.Run.{is_copied_from}
-use Rattle.purge_task.specs.Copied.{IsNextWanted}
-use Rattle.purge_task.specs.Keeping.{AreCopiedUpTo, AreCopiesInRow, target_header}
-use Rattle.map_rows.specs.declared.rows.MapRow.{MapRow}
+use Rattle.purge_task.proofs.Common.{◌≡◌, ◌≢◌, ◌≤◌, ◌<◌, ◌+◌, ◌==◌, ◌&&◌, ◌||◌, ℕ, Bool, true, false, not, List, [], ◌∷◌, ◌++◌, length, refl, sym, ◌∙◌, ap, subst, arith, inl, inr, All, Option, Some, AllPairs, Contains, nat_le, nat_lt, sum_by, if◌then◌else◌, list_any, option_map_or, cases_lt, eq-eqb}
+use Rattle.purge_task.proofs.Common.{common_steps, All-cons, All-contains, All-contains_itself, All-head, All-nil, All-push, All-tail, All-weaker, AllPairs-cons, sum_by-cons, MapPlace, HasRecord, size_at, MapMeaning, MapRecord, record_at, IsSoundMap, IsSoundRecord, pairs_head, pairs_nil, pairs_push}
+use Rattle.purge_task.proofs.Common.{pairs_tail, is_copied_from, IsNextWanted, AreCopiedUpTo, target_header, MapRow}
+use Rattle.std.proofs.Common.{◌⊎◌}
+use Rattle.std.proofs.lemmas.List.Sums.{get_or-le-sum_by}
+use Rattle.model_meaning.specs.Sound.{AreApart}
+use Rattle.purge_task.specs.Keeping.{AreCopiesInRow}
 use Rattle.purge_task.proofs.CopyLemmas.{next_contained}
 use Rattle.purge_task.proofs.RunLemmas.{any_push}
 

@@ -1,22 +1,8 @@
 -- The copies in a target, with one message more, stand there octet for octet.
-use Rattle.std.proofs.Common.{◌≡◌, ◌≢◌, ◌≤◌, ◌+◌, ◌==◌, ℕ, List, [], ◌∷◌, ◌++◌, length, take, drop, Some, refl, sym, ◌∙◌, ap, subst, arith}
-use Rattle.std.proofs.lemmas.List.{length-drop, length-take-le, take-take}
-use Rattle.std.proofs.lemmas.List.Elements.{All-contains, All-push, All-weaker}
-use Rattle.disk_model.specs.Disk.{DiskState, reading}
-use Rattle.disk_model.specs.declared.name.FileName.{FileName}
-use Rattle.disk_model.specs.declared.name.FileName.TheVariants as file
-use Rattle.mdbox_base.specs.declared.entries.MapPlace.{MapPlace}
-use Rattle.model_appends.specs.MapAppending.{AreCopied, IsCopiedTo}
-use Rattle.model_meaning.specs.MapFits.{HasRecord}
-use Rattle.model_meaning.specs.MapMeaning.{MapMeaning, MapRecord, record_at}
-use Rattle.model_octets.proofs.SearchLemmas.{found_one}
-use Rattle.model_store.specs.Settled.{files_of}
-use Rattle.map_index.specs.Shown.{shown_record}
-use Rattle.map_rows.specs.declared.rows.MapRow.{MapRow}
-use Rattle.storage_files.specs.OnDisk.{IsPieceAdded}
-use Rattle.store_core.specs.Removing.{AreElsewhere}
+use Rattle.purge_task.proofs.Common.{◌≡◌, ◌≢◌, ◌≤◌, ◌+◌, ◌==◌, ℕ, List, [], ◌∷◌, ◌++◌, length, take, drop, Some, refl, sym, ◌∙◌, ap, subst, arith, length-drop, length-take-le, All-contains, All-push, All-weaker, DiskState, reading, FileName, file, MapPlace, AreCopied, IsCopiedTo, HasRecord}
+use Rattle.purge_task.proofs.Common.{MapMeaning, MapRecord, record_at, found_one, files_of, shown_record, MapRow, IsPieceAdded, AreElsewhere, IsRegionAdded}
+use Rattle.std.proofs.lemmas.List.{take-take}
 use Rattle.store_core.proofs.MailChangeLemmas.{part_behind}
-use Rattle.purge_task.specs.Copied.{IsRegionAdded}
 
 length_both : (xs ys : List ℕ) → length (xs ++ ys) ≡ length xs + length ys
 length_both [] ys = omega arith

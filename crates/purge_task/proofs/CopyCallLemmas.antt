@@ -1,51 +1,17 @@
 -- What a purge says that copies a message.
-use Rattle.std.proofs.Common.{◌≡◌, ◌≢◌, ◌≤◌, ◌<◌, ◌+◌, ◌==◌, ◌++◌, ℕ, Bool, false, cond, List, [], ◌∷◌, length, Option, Some, None, All, refl, sym, ◌∙◌, ap, subst, arith}
+use Rattle.purge_task.proofs.Common.{◌≡◌, ◌≢◌, ◌≤◌, ◌<◌, ◌+◌, ◌==◌, ◌++◌, ℕ, Bool, false, cond, List, [], ◌∷◌, length, Option, Some, None, All, refl, sym, ◌∙◌, ap, subst, arith, IfSome, option_and_then, option_map, option_map_or, AllPairs-cons, sum_by-cons, Between, DiskState, Faults, Grows}
+use Rattle.purge_task.proofs.Common.{History, IfTold, MayLeave, SameButFor, reading, NoFault, FileName, file, between-both, between-on, MapPlace, FileNo, did, progress, refusal, reply, MapRow, AreCopied, MailIsKept, Lists, MapMeaning, record_at, IsSoundMap, pairs_head, pairs_tail, IsSettledFor}
+use Rattle.purge_task.proofs.Common.{Leaves, files_of, FilesValue, IsUsedFile, changed_in, end_in, ending_at, is_emptied_in, file-other, StoreValue, Due, Emptied, Held, Made, MovesClaims, Pinned, PlacingPieces, Removing, Taken, Thing, LeavesOthers, claims_of_sources, claims_of_target, purge_claims}
+use Rattle.purge_task.proofs.Common.{sources_left, IsPurgeStep, PurgeSteps, IsRegionAdded, IsSourceWith, IsTargetAt, NotesCopy, messages_in, AreCopiedUpTo, AreSourcesApart, HasPurged, HasSwitchRoom, HasTargetHeader, IsCopyingFirst, IsCopyingTo, IsSourceCopied, PurgeValue, PurgeStage, stage, Source}
+use Rattle.purge_task.proofs.Common.{Work, fall, IsStore}
 use Rattle.std.specs.Prelude.{vec_capacity}
-use Rattle.std.specs.Option.{IfSome, option_and_then, option_map, option_map_or}
-use Rattle.std.proofs.lemmas.List.Kept.{AllPairs-cons}
-use Rattle.std.proofs.lemmas.List.Sums.{sum_by-cons}
-use Rattle.disk_model.specs.Disk.{Between, DiskState, Faults, Grows, History, IfTold, MayLeave, SameButFor, reading}
-use Rattle.disk_model.specs.FaultCounts.{NoFault}
-use Rattle.disk_model.specs.declared.name.FileName.{FileName}
-use Rattle.disk_model.specs.declared.name.FileName.TheVariants as file
-use Rattle.disk_model.proofs.BetweenLemmas.{between-both, between-on}
 use Rattle.disk_model.proofs.MomentLemmas.{if_told-both}
-use Rattle.mdbox_base.specs.declared.entries.MapPlace.{MapPlace}
-use Rattle.mdbox_base.specs.declared.ids.FileNo.{FileNo}
-use Rattle.mdbox_base.specs.declared.progress.Did.TheVariants as did
-use Rattle.mdbox_base.specs.declared.progress.Progress.TheVariants as progress
-use Rattle.mdbox_base.specs.declared.replies.Refusal.TheVariants as refusal
-use Rattle.mdbox_base.specs.declared.replies.Reply.TheVariants as reply
-use Rattle.map_rows.specs.declared.rows.MapRow.{MapRow}
-use Rattle.model_appends.specs.MapAppending.{AreCopied}
-use Rattle.model_kept.specs.Kept.{MailIsKept}
-use Rattle.model_lists.specs.Lists.{Lists}
-use Rattle.model_meaning.specs.MapMeaning.{MapMeaning, record_at}
-use Rattle.model_meaning.specs.Sound.{IsSoundMap}
-use Rattle.model_octets.proofs.PairLemmas.{pairs_head, pairs_tail}
-use Rattle.model_store.specs.Settled.{IsSettledFor, Leaves, files_of}
-use Rattle.storage_files.specs.Files.{FilesValue, IsUsedFile, changed_in, end_in, ending_at, is_emptied_in}
 use Rattle.storage_files.specs.OnDisk.{IsAsKnown}
-use Rattle.storage_files.proofs.FileListLemmas.{file-other}
-use Rattle.store_core.specs.Value.{StoreValue}
-use Rattle.task_claims.specs.Claims.{Due, Emptied, Held, Made, MovesClaims, Pinned, PlacingPieces, Removing, Taken, Thing}
-use Rattle.task_claims.specs.Leaving.{LeavesOthers}
-use Rattle.purge_task.specs.Claims.{claims_of_sources, claims_of_target, purge_claims, sources_left}
-use Rattle.purge_task.specs.Clause.{IsPurgeStep, PurgeSteps}
-use Rattle.purge_task.specs.Copied.{IsRegionAdded, IsSourceWith, IsTargetAt, NotesCopy}
-use Rattle.purge_task.specs.Found.{messages_in}
-use Rattle.purge_task.specs.Keeping.{AreCopiedUpTo, AreSourcesApart, HasPurged, HasSwitchRoom, HasTargetHeader, IsCopyingFirst, IsCopyingTo, IsSourceCopied, PurgeValue}
-use Rattle.purge_task.specs.declared.task.PurgeStage.{PurgeStage}
-use Rattle.purge_task.specs.declared.task.PurgeStage.TheVariants as stage
-use Rattle.purge_task.specs.declared.work.Source.{Source}
-use Rattle.purge_task.specs.declared.work.Work.{Work}
 use Rattle.purge_task.proofs.CopiedOctetsLemmas.{copied_octets}
 use Rattle.purge_task.proofs.CopyStepLemmas.{copy_steps}
 use Rattle.purge_task.proofs.CopyingLemmas.{HasMore, IsCopyingOne, each_still, grown_amount, grown_ends, grown_keeps, grown_of, header_before, later_targets, more_copied, more_grows, target_untaken}
-use Rattle.task_steps.proofs.EventLaws.{fall}
 use Rattle.purge_task.proofs.RegionLemmas.{with_end}
 use Rattle.purge_task.proofs.TargetLeavingLemmas.{one_file_leaves, same_others}
-use Rattle.store_core.specs.Running.{IsStore}
 use Rattle.purge_task.proofs.SameRegionLemmas.{regions_but}
 
 -- ---- what is noted

@@ -1,24 +1,8 @@
 -- The event of a purge that copies a message.
-use Rattle.std.proofs.Common.{◌≡◌, ◌≤◌, ◌<◌, ◌+◌, ◌==◌, ◌&&◌, ◌||◌, ℕ, Bool, true, false, not, List, [], ◌∷◌, Some, refl, sym, ◌∙◌, ap, subst, arith, All, inl, inr}
-use Rattle.std.specs.Prelude.{Contains, filter, nat_lt, if◌then◌else◌}
-use Rattle.std.specs.List.{list_any}
-use Rattle.std.proofs.lemmas.Bool.{cases_lt, eq-eqb, eqb-true, ne_eqb}
-use Rattle.std.proofs.lemmas.Grind.{common_steps}
-use Rattle.std.proofs.lemmas.List.Elements.{All-cons, All-contains, All-contains_itself, All-head, All-nil, All-tail, All-weaker, Contains-append_right}
-use Rattle.mdbox_base.specs.declared.entries.MapPlace.{MapPlace}
-use Rattle.model_meaning.specs.MapFits.{HasRecord}
-use Rattle.model_meaning.specs.MapMeaning.{MapMeaning, MapRecord, record_at}
-use Rattle.model_meaning.specs.Sound.{IsSoundMap, IsSoundRecord}
-use Rattle.model_octets.proofs.SearchLemmas.{among, found_one}
-use Rattle.model_store.proofs.OpeningSafeLemmas.{at_uid}
-use Rattle.list_machine.specs.Run.{RunEvent, is_copied_from, is_one_of}
+use Rattle.purge_task.proofs.Common.{◌≡◌, ◌≤◌, ◌<◌, ◌+◌, ◌==◌, ◌&&◌, ◌||◌, ℕ, Bool, true, false, not, List, [], ◌∷◌, Some, refl, sym, ◌∙◌, ap, subst, arith, All, inl, inr, Contains, filter, nat_lt, if◌then◌else◌, list_any, cases_lt, eq-eqb, eqb-true, ne_eqb, common_steps, All-cons, All-contains}
+use Rattle.purge_task.proofs.Common.{All-contains_itself, All-head, All-nil, All-tail, All-weaker, Contains-append_right, MapPlace, HasRecord, MapMeaning, MapRecord, record_at, IsSoundMap, IsSoundRecord, among, found_one, at_uid, RunEvent, is_copied_from, is_one_of, MapRow, AreUnwantedFrom}
+use Rattle.purge_task.proofs.Common.{IsNextWanted, AreCopiedUpTo, HaveCopied, Source, fall}
 use Rattle.journal.specs.Events.{IsCopiedNext}
-use Rattle.map_rows.specs.declared.rows.MapRow.{MapRow}
-use Rattle.purge_task.specs.Copied.{AreUnwantedFrom, IsNextWanted}
-use Rattle.purge_task.specs.Keeping.{AreCopiedUpTo}
-use Rattle.purge_task.specs.Stages.{HaveCopied}
-use Rattle.purge_task.specs.declared.work.Source.{Source}
-use Rattle.task_steps.proofs.EventLaws.{fall}
 
 -- ---- tests
 

@@ -1,21 +1,8 @@
 -- There is room in a source's list for one copy more: it has no more copies than the file has records.
-use Rattle.std.proofs.Common.{◌≡◌, ◌≢◌, ◌≤◌, ◌<◌, ◌+◌, ◌==◌, ℕ, Bool, true, false, not, cond, List, [], ◌∷◌, ◌++◌, length, refl, sym, ◌∙◌, ap, subst, arith, All, inl, inr}
-use Rattle.std.specs.Prelude.{AllPairs, Contains, count_by, filter, vec_capacity, if◌then◌else◌}
-use Rattle.std.proofs.lemmas.Bool.{eq-eqb, eqb-true, ne_eqb}
+use Rattle.purge_task.proofs.Common.{◌≡◌, ◌≢◌, ◌≤◌, ◌<◌, ◌+◌, ◌==◌, ℕ, Bool, true, false, not, cond, List, [], ◌∷◌, ◌++◌, length, refl, sym, ◌∙◌, ap, subst, arith, All, inl, inr, AllPairs, Contains, count_by, filter, if◌then◌else◌, eq-eqb, eqb-true, ne_eqb, All-cons, All-head, All-nil, All-tail}
+use Rattle.purge_task.proofs.Common.{All-weaker, sum_by-cons, MapPlace, HasRecord, MapMeaning, MapRecord, IsSoundMap, pairs_head, pairs_tail, among, found_one, MapRow, IsNextWanted, messages_in, AreCopiedUpTo, Source}
+use Rattle.std.specs.Prelude.{vec_capacity}
 use Rattle.std.proofs.lemmas.List.{length-append}
-use Rattle.std.proofs.lemmas.List.Elements.{All-cons, All-head, All-nil, All-tail, All-weaker}
-use Rattle.std.proofs.lemmas.List.Sums.{sum_by-cons}
-use Rattle.mdbox_base.specs.declared.entries.MapPlace.{MapPlace}
-use Rattle.model_meaning.specs.MapFits.{HasRecord}
-use Rattle.model_meaning.specs.MapMeaning.{MapMeaning, MapRecord}
-use Rattle.model_meaning.specs.Sound.{IsSoundMap}
-use Rattle.model_octets.proofs.PairLemmas.{pairs_head, pairs_tail}
-use Rattle.model_octets.proofs.SearchLemmas.{among, found_one}
-use Rattle.map_rows.specs.declared.rows.MapRow.{MapRow}
-use Rattle.purge_task.specs.Copied.{IsNextWanted}
-use Rattle.purge_task.specs.Found.{messages_in}
-use Rattle.purge_task.specs.Keeping.{AreCopiedUpTo}
-use Rattle.purge_task.specs.declared.work.Source.{Source}
 use Rattle.purge_task.proofs.CopiedMoreLemmas.{copied_more}
 use Rattle.purge_task.proofs.CopyLemmas.{kept_of}
 

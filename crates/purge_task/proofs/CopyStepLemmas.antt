@@ -1,39 +1,11 @@
 -- The clause of an event of a purge that copies a message.
-use Rattle.std.proofs.Common.{◌≡◌, ◌≤◌, ◌<◌, ◌==◌, ◌||◌, ℕ, Bool, true, false, List, [], ◌∷◌, ◌++◌, length, map, Option, Some, None, refl, sym, ◌∙◌, ap, subst, arith, All}
-use Rattle.std.specs.Prelude.{◌≢◌, Contains, filter, nat_lt, sum_by, if◌then◌else◌}
-use Rattle.std.specs.List.{list_any}
-use Rattle.std.proofs.lemmas.Bool.{eq-eqb, ne_eqb}
-use Rattle.std.proofs.lemmas.Grind.{common_steps}
-use Rattle.std.proofs.lemmas.List.{append-nil}
-use Rattle.std.proofs.lemmas.List.Elements.{All-cons, All-contains_itself, All-head, All-nil, All-tail, All-weaker}
-use Rattle.disk_model.specs.Disk.{Faults, History, told_calls}
-use Rattle.mdbox_base.specs.declared.entries.MapPlace.{MapPlace}
-use Rattle.mdbox_base.specs.declared.progress.Did.{Did}
-use Rattle.mdbox_base.specs.declared.progress.Did.TheVariants as did
-use Rattle.mdbox_base.specs.declared.replies.Reply.{Reply}
-use Rattle.mdbox_base.specs.declared.requests.Request.TheVariants as request
-use Rattle.model_meaning.specs.MapMeaning.{MapMeaning, MapRecord, record_at}
-use Rattle.model_meaning.specs.Sound.{IsSoundMap}
-use Rattle.model_octets.proofs.PairLemmas.{pairs_head}
-use Rattle.model_store.proofs.OpeningSafeLemmas.{at_uid}
-use Rattle.list_machine.specs.Run.{CopiesMessage, Run, RunEvent, Switches, TakenFile, and_then, dropped_in, event_of, how_many, is_one_of, own_events}
-use Rattle.journal.specs.Events.{Around, IsCopiedNext, copies_left, is_done, last_refusal, next_part, next_taken}
-use Rattle.journal.proofs.OwnEventLemmas.{own_more}
-use Rattle.map_rows.specs.declared.rows.MapRow.{MapRow}
-use Rattle.storage_files.specs.Files.{FilesValue}
-use Rattle.store_core.specs.Value.{StoreValue}
-use Rattle.task_steps.specs.Step.{HasComeTo}
-use Rattle.purge_task.specs.Claims.{sources_left}
-use Rattle.purge_task.specs.Clause.{PurgeSteps, around_purging, seen_by_purge}
-use Rattle.purge_task.specs.Copied.{IsNextWanted, IsSourceWith}
-use Rattle.purge_task.specs.Keeping.{AreSourcesApart, AreCopiedUpTo, PurgeValue}
-use Rattle.purge_task.specs.Stages.{CopiesBehind, HaveCopied, HaveTaken, IsAtPurge, IsAtPurgeStage, IsPurging, told_taken}
-use Rattle.purge_task.specs.declared.task.PurgeStage.{PurgeStage}
-use Rattle.purge_task.specs.declared.task.PurgeStage.TheVariants as stage
-use Rattle.purge_task.specs.declared.work.Source.{Source}
-use Rattle.purge_task.specs.declared.work.Work.{Work}
+use Rattle.purge_task.proofs.Common.{◌≡◌, ◌≤◌, ◌<◌, ◌==◌, ◌||◌, ℕ, Bool, true, false, List, [], ◌∷◌, ◌++◌, length, map, Option, Some, None, refl, sym, ◌∙◌, ap, subst, arith, All, Contains, filter, nat_lt, sum_by, if◌then◌else◌, list_any, eq-eqb, ne_eqb, common_steps, append-nil, All-cons}
+use Rattle.purge_task.proofs.Common.{All-contains_itself, All-head, All-nil, All-tail, All-weaker, Faults, History, told_calls, MapPlace, Did, did, Reply, request, MapMeaning, MapRecord, record_at, IsSoundMap, pairs_head, at_uid, CopiesMessage, Run, RunEvent, Switches, TakenFile, and_then}
+use Rattle.purge_task.proofs.Common.{dropped_in, event_of, how_many, is_one_of, own_events, Around, is_done, last_refusal, next_part, next_taken, own_more, MapRow, FilesValue, StoreValue, HasComeTo, sources_left, PurgeSteps, around_purging, seen_by_purge, IsNextWanted, IsSourceWith, AreSourcesApart}
+use Rattle.purge_task.proofs.Common.{AreCopiedUpTo, PurgeValue, CopiesBehind, HaveCopied, HaveTaken, IsAtPurge, IsAtPurgeStage, IsPurging, told_taken, PurgeStage, stage, Source, Work, DidBy, stands_by}
+use Rattle.std.specs.Prelude.{◌≢◌}
+use Rattle.journal.specs.Events.{IsCopiedNext, copies_left}
 use Rattle.purge_task.proofs.CopyLemmas.{is_left, next_contained, next_is_left}
-use Rattle.task_steps.proofs.EventLaws.{DidBy, stands_by}
 use Rattle.purge_task.proofs.EventLemmas.{did_next}
 use Rattle.purge_task.proofs.PartLemmas.{copies_some, last_with, next_copies, next_is}
 use Rattle.purge_task.proofs.RemovalLemmas.{LeavesSettled}

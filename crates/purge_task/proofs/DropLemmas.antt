@@ -1,49 +1,13 @@
 -- What a purge makes of the map, event by event.
-use Rattle.std.proofs.Common.{◌≡◌, ◌≢◌, ◌≤◌, ◌<◌, ◌+◌, ◌==◌, ◌||◌, ◌⊎◌, ℕ, Bool, true, false, not, cond, List, [], ◌∷◌, length, map, Option, Some, None, refl, sym, ◌∙◌, ap, subst, arith, get_or, inl, inr, All}
-use Rattle.std.specs.Prelude.{AllPairs, Contains, Err, IfOk, Ok, OnErr, Result, count_by, filter, if◌then◌else◌}
-use Rattle.std.specs.List.Sorted.{IsStrictlyIncreasing}
-use Rattle.std.proofs.lemmas.Bool.{eqb-true, ne_eqb}
-use Rattle.std.proofs.lemmas.List.Elements.{All-contains, All-contains_itself, All-head, All-tail, Contains-append_right}
-use Rattle.std.proofs.lemmas.List.{length-map}
-use Rattle.std.proofs.lemmas.List.Kept.{AllPairs-from_increasing}
-use Rattle.std.proofs.lemmas.List.Sums.{sum_by-cons}
-use Rattle.disk_model.specs.Disk.{History}
-use Rattle.journal.specs.QuietPurge.{apart_from_place}
-use Rattle.mdbox_base.specs.declared.entries.MapEntry.TheVariants as map_entry
-use Rattle.mdbox_base.specs.declared.entries.MapPlace.{MapPlace}
-use Rattle.mdbox_base.specs.declared.ids.FileNo.{FileNo}
-use Rattle.mdbox_base.specs.declared.ids.MapUid.{MapUid}
-use Rattle.mdbox_base.specs.declared.progress.Progress.{Progress}
-use Rattle.mdbox_base.specs.declared.replies.Refusal.{Refusal}
-use Rattle.model_meaning.specs.MapFits.{HasRecord, MapFits}
-use Rattle.model_meaning.specs.MapMeaning.{MapMeaning, MapRecord, has_map_uid, is_sealed, moved_record, place_given, record_at}
-use Rattle.model_meaning.specs.Sound.{IsSoundMap}
+use Rattle.purge_task.proofs.Common.{◌≡◌, ◌≢◌, ◌≤◌, ◌<◌, ◌+◌, ◌==◌, ◌||◌, ℕ, Bool, true, false, not, cond, List, [], ◌∷◌, length, map, Option, Some, None, refl, sym, ◌∙◌, ap, subst, arith, get_or, inl, inr, All, AllPairs, Contains, Err, IfOk, Ok, Result, count_by, filter, if◌then◌else◌}
+use Rattle.purge_task.proofs.Common.{IsStrictlyIncreasing, eqb-true, ne_eqb, All-contains, All-contains_itself, All-head, All-tail, Contains-append_right, length-map, AllPairs-from_increasing, sum_by-cons, History, apart_from_place, map_entry, MapPlace, FileNo, MapUid, Progress, Refusal, HasRecord}
+use Rattle.purge_task.proofs.Common.{MapFits, MapMeaning, MapRecord, has_map_uid, is_sealed, moved_record, place_given, record_at, IsSoundMap, equal_yes, pairs_head, pairs_tail, found_one, at_uid, MailFile, AreFilesInOrder, is_emptied_in, IsStore, StoreValue, store_sound, answer_of, came_to}
+use Rattle.purge_task.proofs.Common.{DropsUnwanted, TellsCounts, PurgeValue, IsNextStage, went_on, IsBehindSwitch, answer_of_switch, came_by_switch, IsSwitched, target_named, source_taken, take_all, taken_to_empty, target_drawn, SwitchedFile, Switched, PurgeStage, stage, Source, Work, fall}
+use Rattle.std.proofs.Common.{◌⊎◌}
+use Rattle.std.specs.Prelude.{OnErr}
 use Rattle.model_meaning.proofs.AppliedLemmas.{boxes_by_purged}
-use Rattle.model_meaning.proofs.MapPlaceLemmas.{equal_yes}
-use Rattle.model_octets.proofs.PairLemmas.{pairs_head, pairs_tail}
-use Rattle.model_octets.proofs.SearchLemmas.{found_one}
-use Rattle.model_store.proofs.OpeningSafeLemmas.{at_uid}
-use Rattle.storage_files.specs.declared.file.MailFile.{MailFile}
-use Rattle.storage_files.specs.Files.{AreFilesInOrder, is_emptied_in}
-use Rattle.store_core.specs.Running.{IsStore}
-use Rattle.store_core.specs.Value.{StoreValue}
-use Rattle.store_core.proofs.BoxAppendLemmas.{store_sound}
-use Rattle.purge_task.specs.Clause.{answer_of, came_to}
-use Rattle.purge_task.specs.Dropped.{DropsUnwanted, TellsCounts}
-use Rattle.purge_task.specs.Keeping.{PurgeValue}
-use Rattle.purge_task.specs.Stages.{IsNextStage, went_on}
-use Rattle.purge_task.specs.SwitchEvent.{IsBehindSwitch, answer_of_switch, came_by_switch}
-use Rattle.purge_task.specs.Switched.{IsSwitched, target_named}
-use Rattle.purge_task.specs.Taken.{source_taken, take_all, taken_to_empty, target_drawn}
-use Rattle.purge_task.specs.declared.switch_event.SwitchedFile.{SwitchedFile}
-use Rattle.purge_task.specs.declared.switching.Switched.{Switched}
-use Rattle.purge_task.specs.declared.task.PurgeStage.{PurgeStage}
-use Rattle.purge_task.specs.declared.task.PurgeStage.TheVariants as stage
-use Rattle.purge_task.specs.declared.work.Source.{Source}
-use Rattle.purge_task.specs.declared.work.Work.{Work}
 use Rattle.purge_task.proofs.BareCallLemmas.{IsEmptiedFile, emptied_file}
 use Rattle.purge_task.proofs.CopyLemmas.{kept_of}
-use Rattle.task_steps.proofs.EventLaws.{fall}
 use Rattle.purge_task.proofs.FreeInstanceLemmas.{any_has}
 use Rattle.purge_task.proofs.SwitchFitLemmas.{StandsFor, mapped_all, no_more, record_here}
 use Rattle.purge_task.proofs.SwitchRowLemmas.{IsLeftAlone, alone, map_switched, rows_are}

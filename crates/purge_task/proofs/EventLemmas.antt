@@ -1,31 +1,16 @@
 -- What an event of a purge is, in a run and on a disk.
-use Rattle.std.proofs.Common.{◌≡◌, ℕ, false, List, [], length, Some, None, refl, sym, ◌∙◌, ap, arith}
-use Rattle.std.specs.Prelude.{All, slice_get}
-use Rattle.std.proofs.lemmas.List.Elements.{All-nil}
-use Rattle.disk_model.specs.Disk.{Grows, told_calls}
-use Rattle.disk_model.specs.FaultCounts.{NoFault}
-use Rattle.mdbox_base.specs.declared.progress.Did.TheVariants as did
-use Rattle.mdbox_base.specs.declared.progress.Progress.TheVariants as progress
-use Rattle.mdbox_base.specs.declared.replies.Refusal.{Refusal}
-use Rattle.mdbox_base.specs.declared.replies.Refusal.TheVariants as refusal
-use Rattle.mdbox_base.specs.declared.replies.Reply.{Reply}
-use Rattle.mdbox_base.specs.declared.replies.Reply.TheVariants as reply
-use Rattle.mdbox_base.specs.declared.requests.Request.TheVariants as request
-use Rattle.mdbox_base.specs.declared.script.Half.TheVariants as half
-use Rattle.model_kept.specs.Kept.{MailIsKept}
-use Rattle.model_lists.specs.Lists.{Lists}
-use Rattle.model_meaning.specs.MapFits.{MapFits}
-use Rattle.model_meaning.specs.MapMeaning.{no_numbers}
-use Rattle.list_machine.specs.Run.{EventPart, First, Last, Run, RunEvent, and_then, event_of, map_of, own_events}
-use Rattle.list_machine.specs.Machine.{ArePurged, checks_of, first_refusal}
+use Rattle.purge_task.proofs.Common.{◌≡◌, ℕ, false, List, [], length, Some, None, refl, sym, ◌∙◌, ap, arith, slice_get, All-nil, Grows, told_calls, NoFault, did, progress, Refusal, refusal, Reply, reply, request, half, MailIsKept, Lists, MapFits, no_numbers, EventPart, First, Last, Run, RunEvent}
+use Rattle.purge_task.proofs.Common.{and_then, event_of, map_of, own_events, first_refusal, Around, last_refusal, next_part, DidEvent, HasComeTo, Seen, ShowsSeen, DidBy, fall, mail_still}
+use Rattle.std.specs.Prelude.{All}
+use Rattle.list_machine.specs.Machine.{ArePurged, checks_of}
 use Rattle.journal.specs.Journal.{halves_of}
-use Rattle.journal.specs.Events.{Around, DidPart, Finds, TellsFiles, behind_event, is_step_part, last_refusal, next_part}
+use Rattle.journal.specs.Events.{DidPart, Finds, TellsFiles, behind_event, is_step_part}
 use Rattle.journal.specs.Found.{AgreesWithRun, has_looked}
-use Rattle.task_steps.specs.Step.{DidEvent, HasComeTo, Leads, Seen, ShowsSeen}
-use Rattle.task_steps.proofs.EventLaws.{CanRefuse, did_own, did_part, DidBy, ends_well, fall, no_reply, own_event, refusal_event, refuses, some_reply, unstepped}
+use Rattle.task_steps.specs.Step.{Leads}
+use Rattle.task_steps.proofs.EventLaws.{CanRefuse, did_own, did_part, ends_well, no_reply, own_event, refusal_event, refuses, some_reply, unstepped}
 use Rattle.task_steps.proofs.KeptStoreLemmas.{comes_along}
 use Rattle.task_steps.proofs.OneEventLemmas.{first_reply}
-use Rattle.task_steps.proofs.UnmovedLemmas.{mail_still, nothing}
+use Rattle.task_steps.proofs.UnmovedLemmas.{nothing}
 use Rattle.task_steps.proofs.SeenLemmas.{no_guids, tells_itself}
 use Rattle.purge_task.proofs.PartLemmas.{last_with}
 

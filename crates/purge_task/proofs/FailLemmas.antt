@@ -1,30 +1,9 @@
 -- Events of a purge that are refused: a change of the disk failed, or a message can't be read.
-use Rattle.std.proofs.Common.{◌≡◌, ◌≤◌, ℕ, Bool, inl, true, false, List, [], Option, Some, refl, sym, subst}
-use Rattle.disk_model.specs.Disk.{Faults, Grows, History, told_calls}
+use Rattle.purge_task.proofs.Common.{◌≡◌, ◌≤◌, ℕ, Bool, inl, true, false, List, [], Option, Some, refl, sym, subst, Faults, Grows, History, told_calls, Did, did, Refusal, refusal, Reply, reply, request, MailIsKept, Lists, MapMeaning, no_numbers, IsSettledFor, Leaves, EventPart, First, Run}
+use Rattle.purge_task.proofs.Common.{own_events, Around, next_part, FilesValue, StoreValue, DidEvent, HasComeTo, HasNotBegun, Seen, ShowsSeen, never_more, next_first, PurgeSteps, around_purging, seen_by_purge, PurgeValue, IsAtPurge, IsAtPurgeStage, PurgeStage, stage}
 use Rattle.mdbox_base.specs.Streams.{Rose}
-use Rattle.mdbox_base.specs.declared.progress.Did.{Did}
-use Rattle.mdbox_base.specs.declared.progress.Did.TheVariants as did
-use Rattle.mdbox_base.specs.declared.replies.Refusal.{Refusal}
-use Rattle.mdbox_base.specs.declared.replies.Refusal.TheVariants as refusal
-use Rattle.mdbox_base.specs.declared.replies.Reply.{Reply}
-use Rattle.mdbox_base.specs.declared.replies.Reply.TheVariants as reply
-use Rattle.mdbox_base.specs.declared.requests.Request.TheVariants as request
-use Rattle.model_kept.specs.Kept.{MailIsKept}
-use Rattle.model_lists.specs.Lists.{Lists}
-use Rattle.model_meaning.specs.MapMeaning.{MapMeaning, no_numbers}
-use Rattle.model_store.specs.Settled.{IsSettledFor, Leaves}
-use Rattle.list_machine.specs.Run.{EventPart, First, Run, own_events}
-use Rattle.journal.specs.Events.{Around, next_part, reads_octets}
-use Rattle.storage_files.specs.Files.{FilesValue}
-use Rattle.store_core.specs.Value.{StoreValue}
-use Rattle.task_steps.specs.Step.{DidEvent, HasComeTo, HasNotBegun, Seen, ShowsSeen}
+use Rattle.journal.specs.Events.{reads_octets}
 use Rattle.task_steps.proofs.EventLaws.{did_fall, did_forget, did_misread, Lasts, LeftBy, refusal_event, replied_so, same_changes, same_reads}
-use Rattle.task_steps.proofs.OneEventLemmas.{never_more, next_first}
-use Rattle.purge_task.specs.Clause.{PurgeSteps, around_purging, seen_by_purge}
-use Rattle.purge_task.specs.Keeping.{PurgeValue}
-use Rattle.purge_task.specs.Stages.{IsAtPurge, IsAtPurgeStage}
-use Rattle.purge_task.specs.declared.task.PurgeStage.{PurgeStage}
-use Rattle.purge_task.specs.declared.task.PurgeStage.TheVariants as stage
 use Rattle.purge_task.proofs.EventLemmas.{purge_refuses}
 use Rattle.purge_task.proofs.RemovalLemmas.{LeavesSettled}
 use Rattle.purge_task.proofs.SameSeenLemmas.{TellsNoLess, same_comes, with_state}

@@ -1,15 +1,9 @@
 -- Known instances that are counted, one after another.
-use Rattle.std.proofs.Common.{◌≡◌, ◌≤◌, ◌<◌, ◌+◌, ℕ, zero, suc, Bool, true, false, cond, List, [], ◌∷◌, length, get_or, Option, Some, None, refl, sym, ◌∙◌, ap, subst, arith, inl, inr}
-use Rattle.std.specs.Prelude.{AllPairs, find, nat_le}
-use Rattle.std.specs.Option.{option_map}
+use Rattle.purge_task.proofs.Common.{◌≡◌, ◌≤◌, ◌<◌, ◌+◌, ℕ, zero, suc, Bool, true, false, cond, List, [], ◌∷◌, length, get_or, Option, Some, None, refl, sym, ◌∙◌, ap, subst, arith, inl, inr, AllPairs, find, nat_le, option_map, cases_eq, cases_lt, nat_tests, InstId, found_none, found_one}
+use Rattle.purge_task.proofs.Common.{KnownInstance}
 use Rattle.std.specs.Ordering.{is_lt, ordering_reverse}
 use Rattle.std.specs.declared.cmp.Ordering.{Ordering}
 use Rattle.std.specs.declared.cmp.Ordering.TheVariants.{Less}
-use Rattle.std.proofs.lemmas.Bool.{cases_eq, cases_lt}
-use Rattle.std.proofs.lemmas.Bool.Decides.{nat_tests}
-use Rattle.mdbox_base.specs.declared.ids.InstId.{InstId}
-use Rattle.model_octets.proofs.SearchLemmas.{found_none, found_one}
-use Rattle.sis_store.specs.declared.instance.KnownInstance.{KnownInstance}
 use Rattle.sis_store.specs.Instances.{IsIdBefore, instance_past, is_id_past}
 use Rattle.sis_store.proofs.IdLemmas.{by_octets, less_lt, lt_less, not_before_itself, turned}
 

@@ -1,25 +1,13 @@
 -- The files that a purge finds, one after another in order of number.
-use Rattle.std.proofs.Common.{◌≡◌, inl, inr, ℕ, ◌+◌, ◌-◌, ◌<◌, ◌≤◌, ◌==◌, ◌&&◌, Bool, true, false, cond, Option, Some, None, List, [], ◌∷◌, ◌++◌, length, All, refl, sym, ap, subst, ◌∙◌, arith}
-use Rattle.std.specs.Prelude.{AllPairs, ◌⊎◌, Contains, find, is_some, IsSome}
-use Rattle.std.specs.List.Sorted.{IsStrictlyIncreasing}
-use Rattle.std.specs.Option.{option_map, option_map_or, option_to_list}
-use Rattle.std.proofs.lemmas.Bool.{cases_lt, cases_Bool, and_from}
-use Rattle.std.proofs.lemmas.List.{append-nil, get_or_append_left, get_or_push, length_push, map-append}
-use Rattle.std.proofs.lemmas.List.Elements.{All-nil, All-cons, All-push, All-weaker, Contains-push, Contains-append_left}
-use Rattle.disk_model.specs.Disk.{History, IfTold, IsIdle}
+use Rattle.purge_task.proofs.Common.{◌≡◌, inl, inr, ℕ, ◌+◌, ◌-◌, ◌<◌, ◌≤◌, ◌==◌, ◌&&◌, Bool, true, false, cond, Option, Some, None, List, [], ◌∷◌, ◌++◌, length, All, refl, sym, ap, subst, ◌∙◌, arith, AllPairs, ◌⊎◌, Contains, find, is_some, IsSome, IsStrictlyIncreasing, option_map, option_map_or}
+use Rattle.purge_task.proofs.Common.{cases_lt, cases_Bool, append-nil, All-nil, All-cons, All-push, All-weaker, Contains-push, Contains-append_left, History, IfTold, IsIdle, IsCleanFile, FileNo, equal_is, equal_yes, pairs_head, pairs_tail, found_holds, files_of, MailFile, end_in, StoreValue}
+use Rattle.purge_task.proofs.Common.{greatest, Found, AreAllBut, HasFound, IsFoundFile, IsFullToEnd, MayBeEmptied, found_numbers, FoundFile}
+use Rattle.std.specs.Option.{option_to_list}
+use Rattle.std.proofs.lemmas.Bool.{and_from}
+use Rattle.std.proofs.lemmas.List.{get_or_append_left, get_or_push, length_push, map-append}
 use Rattle.disk_model.proofs.IdleLemmas.{idle-back}
-use Rattle.journal.specs.QuietPurge.{IsCleanFile}
-use Rattle.mdbox_base.specs.declared.ids.FileNo.{FileNo}
-use Rattle.model_meaning.proofs.MapPlaceLemmas.{equal_is, equal_yes}
-use Rattle.model_octets.proofs.PairLemmas.{pairs_head, pairs_tail, found_holds}
-use Rattle.model_store.specs.Settled.{files_of}
-use Rattle.storage_files.specs.declared.file.MailFile.{MailFile}
-use Rattle.storage_files.specs.Files.{end_in, file_past, is_number_past}
-use Rattle.store_core.specs.Value.{StoreValue}
-use Rattle.model_meaning.specs.MapMeaning.{greatest}
-use Rattle.purge_task.specs.declared.finding.Found.{Found}
-use Rattle.purge_task.specs.Found.{AreAllBut, AreUncleanFound, HasFound, targets_in, IsFileFound, IsFoundFile, IsFullToEnd, MayBeEmptied, found_numbers}
-use Rattle.purge_task.specs.declared.finding.FoundFile.{FoundFile}
+use Rattle.storage_files.specs.Files.{file_past, is_number_past}
+use Rattle.purge_task.specs.Found.{AreUncleanFound, targets_in, IsFileFound}
 use Rattle.purge_task.proofs.WalkLemmas.{both, below_is, not_below, not_below_is, unequal}
 
 -- ---- the file that comes next

@@ -1,25 +1,11 @@
 -- The files that a purge finds are those that its run says it has to take.
-use Rattle.std.proofs.Common.{◌≡◌, ◌≤◌, ◌<◌, ◌+◌, ◌==◌, ◌||◌, ◌⊎◌, ℕ, Bool, true, false, List, [], ◌∷◌, Option, Some, None, refl, sym, ◌∙◌, ap, subst, arith, All, inl, inr}
-use Rattle.std.specs.Prelude.{◌≢◌, AllPairs, Contains, IsSome, is_some}
-use Rattle.std.specs.Option.{option_and_then, option_map_or}
-use Rattle.std.proofs.lemmas.Bool.{eq-eqb}
-use Rattle.std.proofs.lemmas.List.Elements.{All-cons, All-contains, All-contains_itself, All-head, All-nil, All-tail, All-weaker, Contains-append_right}
-use Rattle.disk_model.specs.Disk.{Faults, History}
-use Rattle.model_meaning.specs.MapMeaning.{MapMeaning, MapRecord, is_sealed}
-use Rattle.model_meaning.specs.Sound.{IsSoundMap, IsSoundRecord}
-use Rattle.model_octets.proofs.SearchLemmas.{among}
-use Rattle.list_machine.specs.Run.{Run}
+use Rattle.purge_task.proofs.Common.{◌≡◌, ◌≤◌, ◌<◌, ◌+◌, ◌==◌, ◌||◌, ℕ, Bool, true, false, List, [], ◌∷◌, Option, Some, None, refl, sym, ◌∙◌, ap, subst, arith, All, inl, inr, AllPairs, Contains, IsSome, is_some, option_and_then, option_map_or, eq-eqb, All-cons, All-contains, All-contains_itself}
+use Rattle.purge_task.proofs.Common.{All-head, All-nil, All-tail, All-weaker, Contains-append_right, Faults, History, MapMeaning, MapRecord, is_sealed, IsSoundMap, IsSoundRecord, among, Run, RunTo, file_in, is_emptied_in, is_taken_in, MailFile, AreFilesKept, knows_file, StoreValue, HasComeTo}
+use Rattle.purge_task.proofs.Common.{seen_by_purge, AreAllBut, IsFullToEnd, MayBeEmptied, fall}
+use Rattle.std.proofs.Common.{◌⊎◌}
+use Rattle.std.specs.Prelude.{◌≢◌}
 use Rattle.journal.specs.Found.{FindsFiles, HasGap, IsFreeFile, is_named_file}
-use Rattle.journal.specs.QuietPurge.{RunTo}
-use Rattle.storage_files.specs.Files.{file_in, is_emptied_in, is_taken_in}
-use Rattle.storage_files.specs.declared.file.MailFile.{MailFile}
-use Rattle.store_core.specs.Files.{AreFilesKept}
-use Rattle.store_core.specs.Knows.{knows_file}
-use Rattle.store_core.specs.Value.{StoreValue}
-use Rattle.task_steps.specs.Step.{HasComeTo}
-use Rattle.purge_task.specs.Clause.{TellsUses, seen_by_purge}
-use Rattle.purge_task.specs.Found.{AreAllBut, IsFullToEnd, MayBeEmptied}
-use Rattle.task_steps.proofs.EventLaws.{fall}
+use Rattle.purge_task.specs.Clause.{TellsUses}
 use Rattle.purge_task.proofs.FreeInstanceLemmas.{any_has}
 
 -- ---- regions in a row

@@ -1,64 +1,23 @@
 -- What a purge says at its first event.
-use Rattle.std.proofs.Common.{◌≡◌, ◌≢◌, ◌≤◌, ◌<◌, ◌+◌, ◌*◌, ◌==◌, ◌&&◌, ◌||◌, ◌⊎◌, ℕ, Bool, true, false, List, [], ◌∷◌, ◌++◌, length, map, get_or, Option, Some, None, refl, sym, ◌∙◌, ap, subst, arith, All, inl, inr}
-use Rattle.std.specs.Prelude.{AllPairs, Contains, Err, IsErrOf, Result, count_by, sum_by, if◌then◌else◌}
-use Rattle.std.specs.List.{AllZip, list_any}
-use Rattle.std.specs.Option.{option_map, option_map_or}
-use Rattle.std.proofs.lemmas.List.{append-nil, length-map}
-use Rattle.std.proofs.lemmas.Bool.{eqb-true}
-use Rattle.std.proofs.lemmas.List.Elements.{All-contains, All-head, All-tail, All-weaker}
-use Rattle.std.proofs.lemmas.List.Kept.{AllPairs-from_increasing}
-use Rattle.std.proofs.lemmas.List.Sums.{count_by-le-length, sum_by-cons}
-use Rattle.disk_model.specs.Disk.{DiskState, Faults, History, IsIdle, reading}
-use Rattle.disk_model.specs.FaultCounts.{NoFault, ReadFaultCounted}
-use Rattle.disk_model.specs.declared.name.FileName.TheVariants as file
-use Rattle.disk_model.proofs.BetweenLemmas.{between-map}
-use Rattle.gate_log.specs.State.{LogState}
+use Rattle.purge_task.proofs.Common.{◌≡◌, ◌≢◌, ◌≤◌, ◌<◌, ◌+◌, ◌*◌, ◌==◌, ◌&&◌, ◌||◌, ℕ, Bool, true, false, List, [], ◌∷◌, ◌++◌, length, map, get_or, Option, Some, None, refl, sym, ◌∙◌, ap, subst, arith, All, inl, inr, AllPairs, Contains, Err, Result, count_by, sum_by, if◌then◌else◌, AllZip}
+use Rattle.purge_task.proofs.Common.{list_any, option_map, option_map_or, append-nil, length-map, eqb-true, All-contains, All-head, All-tail, All-weaker, AllPairs-from_increasing, count_by-le-length, sum_by-cons, DiskState, Faults, History, IsIdle, reading, NoFault, file, between-map, LogState}
+use Rattle.purge_task.proofs.Common.{Highest, did, request, half, progress, Refusal, refusal, Reply, reply, Around, next_part, targets_of, First, Run, TakenFile, is_copied_from, own_events, target_length, with_targets, MapMeaning, MapRecord, IsSoundMap, IsSoundRecord, pairs_head, pairs_tail}
+use Rattle.purge_task.proofs.Common.{found_one, MailFile, AreFilesInOrder, FilesValue, end_in, file_in, is_doomed_in, is_emptied_in, is_taken_in, pins_in, to_empty, with_pins, KeepsFirm, KeepsInstances, ReadsInstances, IsStore, StoreValue, store_sound, kept_same, firm_same, Claims, Due, Emptied}
+use Rattle.purge_task.proofs.Common.{Held, Made, MovesClaims, Pinned, PlacingPieces, Removing, Taken, Thing, amount_in, is_to_remove, one_if, IsSameOrSynced, LeavesOthers, OthersTook, unraised_same, instance_kept, none_placed, claims_of_sources, purge_claims, sources_left, DidEvent, HasNotBegun}
+use Rattle.purge_task.proofs.Common.{never_more, next_first, IsPurgeStep, PurgeSteps, around_purging, came_to, seen_by_purge, uncounted, AreAllBut, HasFound, IsFoundFile, IsFullToEnd, found_numbers, AreSourcesApart, HasPurged, IsBeginningFirst, IsToBegin, PurgeValue, IsNewSource, IsAtPurge}
+use Rattle.purge_task.proofs.Common.{IsAtPurgeStage, IsNextStage, CanTake, CanTakeAll, take_all, targets_given, Found, FoundFile, PurgeStage, stage, Source, Work, fall, files_to_empty}
+use Rattle.std.proofs.Common.{◌⊎◌}
+use Rattle.std.specs.Prelude.{IsErrOf}
+use Rattle.disk_model.specs.FaultCounts.{ReadFaultCounted}
 use Rattle.mdbox_base.specs.Streams.{Rose}
-use Rattle.mdbox_base.specs.declared.entries.Highest.{Highest}
-use Rattle.mdbox_base.specs.declared.progress.Did.TheVariants as did
-use Rattle.mdbox_base.specs.declared.requests.Request.TheVariants as request
-use Rattle.mdbox_base.specs.declared.script.Half.TheVariants as half
-use Rattle.mdbox_base.specs.declared.progress.Progress.TheVariants as progress
-use Rattle.mdbox_base.specs.declared.replies.Refusal.{Refusal}
-use Rattle.mdbox_base.specs.declared.replies.Refusal.TheVariants as refusal
-use Rattle.mdbox_base.specs.declared.replies.Reply.{Reply}
-use Rattle.mdbox_base.specs.declared.replies.Reply.TheVariants as reply
-use Rattle.journal.specs.Events.{Around, next_part, targets_of}
-use Rattle.list_machine.specs.Run.{First, Run, TakenFile, is_copied_from, own_events, target_length, with_targets}
 use Rattle.model_kept.proofs.KeptLemmas.{kept_idle}
-use Rattle.model_meaning.specs.MapMeaning.{MapMeaning, MapRecord}
-use Rattle.model_meaning.specs.Sound.{IsSoundMap, IsSoundRecord}
 use Rattle.model_meaning.proofs.MapSoundLemmas.{greatest_fits}
-use Rattle.model_octets.proofs.PairLemmas.{all_map, pairs_head, pairs_map, pairs_tail}
-use Rattle.model_octets.proofs.SearchLemmas.{found_one}
-use Rattle.storage_files.specs.declared.file.MailFile.{MailFile}
-use Rattle.storage_files.specs.Files.{AreFilesInOrder, FilesValue, end_in, file_in, is_doomed_in, is_emptied_in, is_taken_in, pins_in, to_empty, with_pins}
-use Rattle.store_core.specs.Keeping.{KeepsFirm, KeepsInstances, ReadsInstances, SyncsInstances}
-use Rattle.store_core.specs.Running.{IsStore}
-use Rattle.store_core.specs.Value.{StoreValue}
-use Rattle.store_core.proofs.BoxAppendLemmas.{store_sound}
-use Rattle.store_core.proofs.InstanceKeepingLemmas.{kept_same}
-use Rattle.store_core.proofs.KnownInstanceLemmas.{firm_same}
-use Rattle.task_claims.specs.Claims.{Claims, Due, Emptied, Held, Made, MovesClaims, Pinned, PlacingPieces, Removing, Taken, Thing, amount_in, is_to_remove, one_if}
-use Rattle.task_claims.specs.Leaving.{IsSameOrSynced, LeavesOthers, OthersTook, SyncsMail}
-use Rattle.task_claims.proofs.CountedLemmas.{unraised_same}
-use Rattle.task_claims.proofs.RestLemmas.{instance_kept, none_placed, record_kept}
-use Rattle.purge_task.specs.Claims.{claims_of_sources, purge_claims, sources_left}
-use Rattle.task_steps.specs.Step.{DidEvent, HasNotBegun}
-use Rattle.task_steps.proofs.OneEventLemmas.{never_more, next_first}
-use Rattle.purge_task.specs.Clause.{IsPurgeStep, PurgeSteps, around_purging, came_to, seen_by_purge, uncounted}
-use Rattle.purge_task.specs.Found.{AreAllBut, AreUncleanFound, FindsUnclean, HasFound, IsFindRefusal, IsFoundFile, IsFullToEnd, LacksTargets, found_numbers, targets_in}
-use Rattle.purge_task.specs.Keeping.{AreSourcesApart, HasPurged, IsBeginningFirst, IsToBegin, PurgeValue}
-use Rattle.purge_task.specs.Reserved.{IsNewSource, IsNewWork}
-use Rattle.purge_task.specs.Stages.{IsAtPurge, IsAtPurgeStage, IsNextStage}
-use Rattle.purge_task.specs.Taken.{CanTake, CanTakeAll, take_all, targets_given}
-use Rattle.purge_task.specs.declared.finding.Found.{Found}
-use Rattle.purge_task.specs.declared.finding.FoundFile.{FoundFile}
-use Rattle.purge_task.specs.declared.task.PurgeStage.{PurgeStage}
-use Rattle.purge_task.specs.declared.task.PurgeStage.TheVariants as stage
-use Rattle.purge_task.specs.declared.work.Source.{Source}
-use Rattle.purge_task.specs.declared.work.Work.{Work}
-use Rattle.task_steps.proofs.EventLaws.{fall}
+use Rattle.model_octets.proofs.PairLemmas.{all_map, pairs_map}
+use Rattle.store_core.specs.Keeping.{SyncsInstances}
+use Rattle.task_claims.specs.Leaving.{SyncsMail}
+use Rattle.task_claims.proofs.RestLemmas.{record_kept}
+use Rattle.purge_task.specs.Found.{AreUncleanFound, FindsUnclean, IsFindRefusal, LacksTargets, targets_in}
+use Rattle.purge_task.specs.Reserved.{IsNewWork}
 use Rattle.purge_task.proofs.CopyLemmas.{kept_of}
 use Rattle.purge_task.proofs.FailLemmas.{memory_steps, unread_steps}
 use Rattle.purge_task.proofs.FirstLemmas.{IsBegunOf, with_begun}
@@ -74,7 +33,6 @@ use Rattle.purge_task.proofs.TakenLemmas.{given_long}
 use Rattle.purge_task.proofs.TakenStateLemmas.{TargetIsDrawn, are_apart, drawn_all, drawn_file, emptied_all, given_files, kept_all, rest_all}
 use Rattle.purge_task.proofs.WithinLemmas.{mapped_of}
 use Rattle.purge_task.proofs.TakenStoreLemmas.{FitsFound, FitsGiven, IsTakenWith, all_given, begins_with, begun_all, found_fit, highest_all, numbers_told, short_told, targets_told, wanted_told}
-use Rattle.purge_task.specs.Quiet.{files_to_empty}
 use Rattle.purge_task.proofs.SameRegionLemmas.{regions_idle}
 
 -- ---- what it leaves

@@ -1,25 +1,8 @@
 -- The first event of a purge, in a run.
-use Rattle.std.proofs.Common.{◌≡◌, ◌≤◌, ◌+◌, ◌&&◌, ℕ, Bool, true, false, List, [], ◌∷◌, length, map, Option, None, refl, sym, ◌∙◌, ap, arith, All, inl, inr}
-use Rattle.std.specs.Prelude.{◌⊎◌, is_some, nat_le, nat_lt}
-use Rattle.std.specs.Option.{option_and_then, option_or}
-use Rattle.std.proofs.lemmas.Grind.{common_steps}
-use Rattle.std.proofs.lemmas.List.Elements.{All-head, All-tail}
-use Rattle.disk_model.specs.Disk.{Faults, History, told_calls}
-use Rattle.gate_log.specs.State.{LogState}
-use Rattle.mdbox_base.specs.declared.replies.Refusal.{Refusal}
-use Rattle.mdbox_base.specs.declared.replies.Refusal.TheVariants as refusal
-use Rattle.model_lists.specs.Lists.{Lists}
-use Rattle.model_meaning.specs.MapMeaning.{MapMeaning, is_own, no_numbers, number_at}
-use Rattle.list_machine.specs.Run.{First, Run, RunEvent, TakenFile, and_then, drawn_of, event_of, is_one_of, target_length, with_targets}
-use Rattle.list_machine.specs.Machine.{TargetFits, first_refusal, purge_checks, refused_where}
-use Rattle.journal.specs.Events.{begun_in, ended_in}
-use Rattle.journal.specs.Makes.{HasCome}
-use Rattle.storage_files.specs.Files.{FilesValue, file_in, is_doomed_in, pins_in}
-use Rattle.storage_files.specs.declared.file.MailFile.{MailFile}
-use Rattle.store_core.specs.Value.{StoreValue}
-use Rattle.task_steps.specs.Step.{HasComeTo}
-use Rattle.task_steps.proofs.SeenLemmas.{doomed_still, file_still_known, given_still, gone_still, pins_still, placed_still, there_before, used_still}
-use Rattle.purge_task.specs.Clause.{seen_by_purge}
+use Rattle.purge_task.proofs.Common.{◌≡◌, ◌≤◌, ◌+◌, ◌&&◌, ℕ, Bool, true, false, List, [], ◌∷◌, length, map, Option, None, refl, sym, ◌∙◌, ap, arith, All, inl, inr, ◌⊎◌, is_some, nat_le, nat_lt, option_and_then, option_or, common_steps, All-head, All-tail, Faults, History, told_calls, LogState}
+use Rattle.purge_task.proofs.Common.{Refusal, refusal, Lists, MapMeaning, is_own, no_numbers, number_at, First, Run, RunEvent, TakenFile, and_then, drawn_of, event_of, is_one_of, target_length, with_targets, first_refusal, purge_checks, begun_in, ended_in, HasCome, FilesValue, file_in, is_doomed_in}
+use Rattle.purge_task.proofs.Common.{pins_in, MailFile, StoreValue, HasComeTo, doomed_still, file_still_known, given_still, gone_still, pins_still, placed_still, there_before, used_still, seen_by_purge}
+use Rattle.list_machine.specs.Machine.{TargetFits, refused_where}
 use Rattle.purge_task.proofs.RunLemmas.{sum_push}
 use Rattle.purge_task.proofs.SameSeenLemmas.{bars, is_before, uses}
 

@@ -1,33 +1,15 @@
 -- The first event of a purge that is refused for lack of numbers.
-use Rattle.std.proofs.Common.{◌≡◌, ◌<◌, ◌+◌, ℕ, Bool, true, false, List, [], ◌∷◌, ◌++◌, length, map, Option, Some, refl, sym, ◌∙◌, ap, subst, arith, inl, inr}
-use Rattle.std.specs.Prelude.{◌⊎◌, Contains, nat_lt, slice_get}
-use Rattle.std.specs.Option.{option_or}
-use Rattle.std.proofs.lemmas.Grind.{common_steps}
-use Rattle.std.proofs.lemmas.List.Elements.{All-nil}
-use Rattle.disk_model.specs.Disk.{Faults, Grows, told_calls}
-use Rattle.disk_model.specs.FaultCounts.{NoFault}
-use Rattle.mdbox_base.specs.declared.entries.Highest.{Highest}
-use Rattle.mdbox_base.specs.declared.progress.Did.TheVariants as did
-use Rattle.mdbox_base.specs.declared.replies.Refusal.{Refusal}
-use Rattle.mdbox_base.specs.declared.replies.Refusal.TheVariants as refusal
-use Rattle.mdbox_base.specs.declared.replies.Reply.{Reply}
-use Rattle.mdbox_base.specs.declared.replies.Reply.TheVariants as reply
-use Rattle.mdbox_base.specs.declared.requests.Request.TheVariants as request
-use Rattle.mdbox_base.specs.declared.script.Half.TheVariants as half
-use Rattle.model_lists.specs.Lists.{Lists}
-use Rattle.model_meaning.specs.MapMeaning.{MapMeaning}
-use Rattle.model_octets.proofs.SearchLemmas.{among}
-use Rattle.list_machine.specs.Run.{First, Run, RunEvent, TakenFile, and_then, drawn_of, event_of, map_of, own_events, target_length, with_targets}
-use Rattle.list_machine.specs.Machine.{TargetFits, first_refusal, purge_checks, refused_where}
+use Rattle.purge_task.proofs.Common.{◌≡◌, ◌<◌, ◌+◌, ℕ, Bool, true, false, List, [], ◌∷◌, ◌++◌, length, map, Option, Some, refl, sym, ◌∙◌, ap, subst, arith, inl, inr, ◌⊎◌, Contains, nat_lt, slice_get, option_or, common_steps, All-nil, Faults, Grows, told_calls, NoFault, Highest, did, Refusal}
+use Rattle.purge_task.proofs.Common.{refusal, Reply, reply, request, half, Lists, MapMeaning, among, First, Run, RunEvent, TakenFile, and_then, drawn_of, event_of, map_of, own_events, target_length, with_targets, first_refusal, purge_checks, Around, HasCome, DidEvent, HasComeTo, Seen, ShowsSeen}
+use Rattle.purge_task.proofs.Common.{MailIsKept, fall, next_first}
+use Rattle.list_machine.specs.Machine.{TargetFits, refused_where}
 use Rattle.journal.specs.Journal.{IsReplyOf, halves_of}
-use Rattle.journal.specs.Events.{Around}
 use Rattle.journal.specs.Found.{AgreesWithRun}
-use Rattle.journal.specs.Makes.{HasCome, Makes}
-use Rattle.task_steps.specs.Step.{DidEvent, HasComeTo, Leads, Seen, ShowsSeen}
+use Rattle.journal.specs.Makes.{Makes}
+use Rattle.task_steps.specs.Step.{Leads}
 use Rattle.task_steps.proofs.SeenLemmas.{no_guids}
-use Rattle.model_kept.specs.Kept.{MailIsKept}
-use Rattle.task_steps.proofs.EventLaws.{fall, refuses, some_refusal, some_reply, step_may}
-use Rattle.task_steps.proofs.OneEventLemmas.{next_first, refusal_last}
+use Rattle.task_steps.proofs.EventLaws.{refuses, some_refusal, some_reply, step_may}
+use Rattle.task_steps.proofs.OneEventLemmas.{refusal_last}
 
 abbrev pub full : Refusal
 full = refusal.StoreFull 4294967294

@@ -1,42 +1,11 @@
 -- The clause of the first event of a purge.
-use Rattle.std.proofs.Common.{◌≡◌, ◌≤◌, ◌<◌, ◌+◌, ◌==◌, ◌||◌, ℕ, false, List, [], ◌∷◌, ◌++◌, length, map, Option, Some, None, refl, sym, ◌∙◌, ap, subst, arith, All, inl, inr}
-use Rattle.std.specs.Prelude.{AllPairs, flat_map, sum_by}
-use Rattle.std.specs.List.{list_any}
-use Rattle.std.proofs.lemmas.Bool.{eq-eqb}
-use Rattle.std.proofs.lemmas.List.{append-nil}
-use Rattle.std.proofs.lemmas.List.Elements.{All-cons, All-head, All-nil, All-push, All-tail, All-weaker}
-use Rattle.disk_model.specs.Disk.{Faults, History, told_calls}
-use Rattle.gate_log.specs.State.{LogState}
-use Rattle.mdbox_base.specs.declared.entries.Highest.{Highest}
-use Rattle.mdbox_base.specs.declared.entries.MapEntry.{MapEntry}
-use Rattle.mdbox_base.specs.declared.entries.MapPlace.{MapPlace}
-use Rattle.mdbox_base.specs.declared.progress.Did.{Did}
-use Rattle.mdbox_base.specs.declared.progress.Did.TheVariants as did
-use Rattle.mdbox_base.specs.declared.replies.Reply.{Reply}
-use Rattle.mdbox_base.specs.declared.requests.Request.TheVariants as request
-use Rattle.model_meaning.specs.MapMeaning.{MapMeaning, MapRecord, map_meaning, no_numbers}
-use Rattle.model_meaning.specs.Sound.{IsSoundMap}
-use Rattle.list_machine.specs.Run.{Run, RunEvent, TakenFile, and_then, drawn_also, drawn_of, dropped_in, entries_of, how_many, is_one_of, map_of, own_events, target_length, with_targets}
-use Rattle.list_machine.specs.Machine.{first_refusal, purge_checks}
-use Rattle.journal.specs.Events.{Around, is_done, last_refusal, next_taken, targets_of}
-use Rattle.journal.specs.Makes.{HasCome}
-use Rattle.journal.proofs.OwnEventLemmas.{own_more}
+use Rattle.purge_task.proofs.Common.{◌≡◌, ◌≤◌, ◌<◌, ◌+◌, ◌==◌, ◌||◌, ℕ, false, List, [], ◌∷◌, ◌++◌, length, map, Option, Some, None, refl, sym, ◌∙◌, ap, subst, arith, All, inl, inr, AllPairs, flat_map, sum_by, list_any, eq-eqb, append-nil, All-cons, All-head, All-nil, All-push, All-tail, All-weaker}
+use Rattle.purge_task.proofs.Common.{Faults, History, told_calls, LogState, Highest, MapEntry, MapPlace, Did, did, Reply, request, MapMeaning, MapRecord, no_numbers, IsSoundMap, Run, RunEvent, TakenFile, and_then, drawn_of, dropped_in, how_many, is_one_of, map_of, own_events, target_length}
+use Rattle.purge_task.proofs.Common.{with_targets, first_refusal, purge_checks, Around, is_done, last_refusal, next_taken, targets_of, HasCome, own_more, FilesValue, AreFilesKept, StoreValue, HasNotBegun, next_first, sources_left, PurgeSteps, around_purging, seen_by_purge, AreAllBut, IsFullToEnd}
+use Rattle.purge_task.proofs.Common.{PurgeValue, GoesOnBehind, HaveCopied, HaveTaken, IsAtPurge, IsAtPurgeStage, IsNextStage, IsPurging, told_taken, PurgeStage, stage, Source, Work, DidBy, stands_by}
+use Rattle.model_meaning.specs.MapMeaning.{map_meaning}
+use Rattle.list_machine.specs.Run.{drawn_also, entries_of}
 use Rattle.journal.proofs.RunLemmas.{drawn_more, entries_more}
-use Rattle.storage_files.specs.Files.{FilesValue}
-use Rattle.store_core.specs.Files.{AreFilesKept}
-use Rattle.store_core.specs.Value.{StoreValue}
-use Rattle.task_steps.specs.Step.{HasNotBegun}
-use Rattle.task_steps.proofs.OneEventLemmas.{next_first}
-use Rattle.purge_task.specs.Claims.{sources_left}
-use Rattle.purge_task.specs.Clause.{PurgeSteps, around_purging, seen_by_purge}
-use Rattle.purge_task.specs.Found.{AreAllBut, IsFullToEnd}
-use Rattle.purge_task.specs.Keeping.{PurgeValue}
-use Rattle.purge_task.specs.Stages.{GoesOnBehind, HaveCopied, HaveTaken, IsAtPurge, IsAtPurgeStage, IsNextStage, IsPurging, told_taken}
-use Rattle.purge_task.specs.declared.task.PurgeStage.{PurgeStage}
-use Rattle.purge_task.specs.declared.task.PurgeStage.TheVariants as stage
-use Rattle.purge_task.specs.declared.work.Source.{Source}
-use Rattle.purge_task.specs.declared.work.Work.{Work}
-use Rattle.task_steps.proofs.EventLaws.{DidBy, stands_by}
 use Rattle.purge_task.proofs.EventLemmas.{did_next}
 use Rattle.purge_task.proofs.FindsLemmas.{finds_files}
 use Rattle.purge_task.proofs.FirstLemmas.{IsBegunOf, first_allowed, first_comes, first_event, with_begun}

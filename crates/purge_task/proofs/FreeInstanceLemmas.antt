@@ -1,33 +1,16 @@
 -- Which instance a purge finds: in a run, one that may be removed.
-use Rattle.std.proofs.Common.{◌≡◌, ◌≤◌, ◌==◌, ◌&&◌, ◌||◌, ℕ, Bool, true, false, not, List, [], ◌∷◌, Option, Some, None, All, refl, sym, ◌∙◌, ap, subst, arith, inl, inr}
-use Rattle.std.specs.Prelude.{Contains, cond, find}
-use Rattle.std.specs.List.{list_any}
-use Rattle.std.specs.Option.{option_map, option_map_or}
-use Rattle.std.specs.Str.{bytes_eq}
+use Rattle.purge_task.proofs.Common.{◌≡◌, ◌≤◌, ◌==◌, ◌&&◌, ◌||◌, ℕ, Bool, true, false, not, List, [], ◌∷◌, Option, Some, None, All, refl, sym, ◌∙◌, ap, subst, arith, inl, inr, Contains, find, list_any, option_map, option_map_or, bytes_eq, All-cons, All-contains, All-contains_itself, All-head}
+use Rattle.purge_task.proofs.Common.{All-nil, Contains-append_right, eq-eqb, eqb-true, Faults, History, is_instance_named, InstRow, InstId, MapMeaning, named_instances, pairs_head, pairs_tail, among, found_none, found_one, text_is, text_yes, Run, AreInstances, holders_in, instance_in, KnownInstance}
+use Rattle.purge_task.proofs.Common.{instance-in, same_id, is_useless, HasKnownInstances, IsKnownRow, StoreValue, HasComeTo, seen_by_purge, fall}
+use Rattle.std.specs.Prelude.{cond}
 use Rattle.std.specs.Ordering.{is_lt, nat_cmp}
 use Rattle.std.specs.Cmp.Lexicographic.{slice_cmp}
-use Rattle.std.proofs.lemmas.List.Elements.{All-cons, All-contains, All-contains_itself, All-head, All-nil, Contains-append_right}
-use Rattle.std.proofs.lemmas.Bool.{eq-eqb, eqb-true}
 use Rattle.std.specs.declared.cmp.Ordering.TheVariants.{Less, Greater}
-use Rattle.disk_model.specs.Disk.{Faults, History}
-use Rattle.map_index.specs.Shown.{is_instance_named}
-use Rattle.mdbox_base.specs.declared.entries.InstRow.{InstRow}
-use Rattle.mdbox_base.specs.declared.ids.InstId.{InstId}
-use Rattle.model_meaning.specs.MapMeaning.{MapMeaning, named_instances}
-use Rattle.model_octets.proofs.PairLemmas.{pairs_head, pairs_tail}
-use Rattle.model_octets.proofs.SearchLemmas.{among, found_none, found_one, text_is, text_yes}
-use Rattle.list_machine.specs.Run.{Run}
 use Rattle.journal.specs.Found.{FindsInstance, IsFreeInstance, is_held, is_pinned_instance, is_same_instance}
-use Rattle.sis_store.specs.Instances.{AreInstances, IsIdBefore, holders_in, instance_in}
-use Rattle.sis_store.specs.declared.instance.KnownInstance.{KnownInstance}
-use Rattle.sis_store.proofs.IdLemmas.{Rise, instance-in, less_lt, not_before_itself, same_id, turned}
+use Rattle.sis_store.specs.Instances.{IsIdBefore}
+use Rattle.sis_store.proofs.IdLemmas.{Rise, less_lt, not_before_itself, turned}
 use Rattle.store_core.specs.Knows.{knows_instance}
-use Rattle.store_core.specs.Removing.{is_useless}
-use Rattle.store_core.specs.StoreInstances.{HasKnownInstances, IsKnownRow}
-use Rattle.store_core.specs.Value.{StoreValue}
-use Rattle.task_steps.specs.Step.{HasComeTo}
-use Rattle.purge_task.specs.Clause.{TellsUses, next_useless_of, seen_by_purge}
-use Rattle.task_steps.proofs.EventLaws.{fall}
+use Rattle.purge_task.specs.Clause.{TellsUses, next_useless_of}
 
 -- ---- tests
 

@@ -1,29 +1,6 @@
 -- The clause of a first event of a purge that is refused for lack of numbers.
-use Rattle.std.proofs.Common.{◌≡◌, ◌<◌, ◌+◌, ℕ, false, List, length, map, Option, Some, refl, sym, ap, subst}
-use Rattle.std.specs.Prelude.{◌⊎◌, AllPairs, Contains}
-use Rattle.disk_model.specs.Disk.{Faults, History, told_calls}
-use Rattle.mdbox_base.specs.declared.entries.Highest.{Highest}
-use Rattle.mdbox_base.specs.declared.progress.Did.{Did}
-use Rattle.mdbox_base.specs.declared.progress.Did.TheVariants as did
-use Rattle.mdbox_base.specs.declared.replies.Reply.TheVariants as reply
-use Rattle.mdbox_base.specs.declared.requests.Request.TheVariants as request
-use Rattle.mdbox_base.specs.declared.script.Half.TheVariants as half
-use Rattle.model_meaning.specs.MapMeaning.{MapMeaning}
-use Rattle.model_meaning.specs.Sound.{IsSoundMap}
-use Rattle.list_machine.specs.Run.{RunEvent, TakenFile, drawn_of, map_of, target_length, with_targets}
-use Rattle.list_machine.specs.Machine.{first_refusal, purge_checks}
-use Rattle.journal.specs.Events.{Around}
-use Rattle.storage_files.specs.Files.{FilesValue}
-use Rattle.store_core.specs.Files.{AreFilesKept}
-use Rattle.store_core.specs.Value.{StoreValue}
-use Rattle.task_steps.specs.Step.{DidEvent, HasNotBegun}
-use Rattle.task_steps.proofs.OneEventLemmas.{never_more}
-use Rattle.purge_task.specs.Clause.{PurgeSteps, around_purging, seen_by_purge}
-use Rattle.purge_task.specs.Found.{AreAllBut, IsFullToEnd}
-use Rattle.purge_task.specs.Keeping.{PurgeValue}
-use Rattle.purge_task.specs.Stages.{IsAtPurgeStage}
-use Rattle.purge_task.specs.declared.task.PurgeStage.{PurgeStage}
-use Rattle.purge_task.specs.declared.task.PurgeStage.TheVariants as stage
+use Rattle.purge_task.proofs.Common.{◌≡◌, ◌<◌, ◌+◌, ℕ, false, List, length, map, Option, Some, refl, sym, ap, subst, ◌⊎◌, AllPairs, Contains, Faults, History, told_calls, Highest, Did, did, reply, request, half, MapMeaning, IsSoundMap, RunEvent, TakenFile, drawn_of, map_of, target_length}
+use Rattle.purge_task.proofs.Common.{with_targets, first_refusal, purge_checks, Around, FilesValue, AreFilesKept, StoreValue, DidEvent, HasNotBegun, never_more, PurgeSteps, around_purging, seen_by_purge, AreAllBut, IsFullToEnd, PurgeValue, IsAtPurgeStage, PurgeStage, stage}
 use Rattle.purge_task.proofs.FindsLemmas.{finds_files}
 use Rattle.purge_task.proofs.FirstRefusedLemmas.{did_lack, full, lacking_event, lacks_numbers}
 use Rattle.purge_task.proofs.RemovalLemmas.{LeavesSettled}

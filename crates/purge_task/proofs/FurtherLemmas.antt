@@ -1,22 +1,7 @@
 -- Each event of a file leaves fewer events, and counts the file where it dooms or removes it.
-use Rattle.std.proofs.Common.{◌≡◌, ◌≤◌, ◌+◌, ℕ, List, [], ◌∷◌, drop, length, Option, refl, sym, ap, subst, arith, inl, inr}
-use Rattle.std.specs.Prelude.{◌⊎◌}
-use Rattle.std.proofs.lemmas.List.Elements.{All-contains}
-use Rattle.disk_model.specs.Disk.{History}
-use Rattle.mdbox_base.specs.declared.ids.FileNo.{FileNo}
-use Rattle.map_rows.specs.declared.rows.MapRow.{MapRow}
-use Rattle.model_meaning.specs.MapMeaning.{MapMeaning}
-use Rattle.model_meaning.specs.Sound.{IsSoundMap, IsSoundRecord}
-use Rattle.store_core.specs.Value.{StoreValue}
-use Rattle.purge_task.specs.Claims.{sources_left}
-use Rattle.purge_task.specs.Copied.{IsNextWanted, NotesCopy}
-use Rattle.purge_task.specs.Keeping.{HasPurged, IsBeginningFirst, IsTargetFirst}
-use Rattle.purge_task.specs.Left.{IsFurther, events_before_instances, events_of_files, purge_files}
-use Rattle.purge_task.specs.Stages.{IsNextStage, went_on}
-use Rattle.purge_task.specs.declared.task.PurgeStage.{PurgeStage}
-use Rattle.purge_task.specs.declared.task.PurgeStage.TheVariants as stage
-use Rattle.purge_task.specs.declared.work.Source.{Source}
-use Rattle.purge_task.specs.declared.work.Work.{Work}
+use Rattle.purge_task.proofs.Common.{◌≡◌, ◌≤◌, ◌+◌, ℕ, List, [], ◌∷◌, drop, length, Option, refl, sym, ap, subst, arith, inl, inr, ◌⊎◌, All-contains, History, FileNo, MapRow, MapMeaning, IsSoundMap, IsSoundRecord, StoreValue, sources_left, IsNextWanted, NotesCopy, HasPurged, IsBeginningFirst}
+use Rattle.purge_task.proofs.Common.{IsTargetFirst, IsFurther, IsNextStage, went_on, PurgeStage, stage, Source, Work}
+use Rattle.purge_task.specs.Left.{events_before_instances, events_of_files, purge_files}
 use Rattle.purge_task.proofs.CopyLemmas.{next_contained}
 use Rattle.purge_task.proofs.StageLemmas.{left_on}
 

@@ -1,25 +1,12 @@
 -- What is claimed of storage files that a purge gives back, and what other tasks see of them.
-use Rattle.std.proofs.Common.{◌≡◌, ◌≢◌, ◌+◌, ◌==◌, ◌&&◌, ◌⊎◌, ℕ, zero, suc, Bool, true, false, cond, List, [], ◌∷◌, Option, Some, None, All, refl, sym, ◌∙◌, ap, subst, arith, inl, inr}
-use Rattle.std.specs.Prelude.{AllPairs, is_some, if◌then◌else◌}
-use Rattle.std.specs.Option.{IfSome, option_and_then, option_map, option_map_or}
-use Rattle.std.proofs.lemmas.Bool.{cases_eq, eq-eqb, ne_eqb}
-use Rattle.std.proofs.lemmas.List.Elements.{All-cons, All-contains, All-head, All-nil, All-tail}
-use Rattle.std.proofs.lemmas.List.Sums.{sum_by-cons}
-use Rattle.mdbox_base.specs.declared.ids.FileNo.{FileNo}
-use Rattle.model_octets.proofs.PairLemmas.{pairs_head, pairs_tail}
-use Rattle.model_octets.proofs.SearchLemmas.{found_one}
-use Rattle.storage_files.specs.Files.{IsUsedFile, changed_in, end_in, file_in, given_back, is_emptied_in, is_taken_in, released_in, without_file}
-use Rattle.storage_files.specs.declared.file.MailFile.{MailFile}
-use Rattle.storage_files.proofs.FileListLemmas.{ends-kept, ends-unmade, file-gone, file-here}
-use Rattle.store_core.specs.Value.{StoreValue}
-use Rattle.task_claims.specs.Claims.{Due, Emptied, Held, Made, Pinned, PlacingPieces, Removing, Taken, Thing, amount_in, one_if}
-use Rattle.purge_task.specs.Claims.{claims_of_sources, claims_of_target}
-use Rattle.purge_task.specs.Switched.{target_released}
-use Rattle.purge_task.specs.Taken.{all_released, source_released}
-use Rattle.purge_task.specs.declared.work.Source.{Source}
+use Rattle.purge_task.proofs.Common.{◌≡◌, ◌≢◌, ◌+◌, ◌==◌, ◌&&◌, ℕ, zero, suc, Bool, true, false, cond, List, [], ◌∷◌, Option, Some, None, All, refl, sym, ◌∙◌, ap, subst, arith, inl, inr, AllPairs, is_some, if◌then◌else◌, IfSome, option_and_then, option_map, option_map_or, cases_eq, eq-eqb, ne_eqb}
+use Rattle.purge_task.proofs.Common.{All-cons, All-contains, All-head, All-nil, All-tail, sum_by-cons, FileNo, pairs_head, pairs_tail, found_one, IsUsedFile, changed_in, end_in, file_in, given_back, is_emptied_in, is_taken_in, released_in, without_file, MailFile, ends-kept, file-gone, file-here}
+use Rattle.purge_task.proofs.Common.{StoreValue, Due, Emptied, Held, Made, Pinned, PlacingPieces, Removing, Taken, Thing, amount_in, one_if, claims_of_sources, claims_of_target, target_released, all_released, Source, fall}
+use Rattle.std.proofs.Common.{◌⊎◌}
+use Rattle.storage_files.proofs.FileListLemmas.{ends-unmade}
+use Rattle.purge_task.specs.Taken.{source_released}
 use Rattle.purge_task.proofs.BareCallLemmas.{IsEmptiedFile, emptied_file, untaken_in, unplaced_in}
 use Rattle.purge_task.proofs.CanReleaseLemmas.{AreClear, released_other, source_other}
-use Rattle.task_steps.proofs.EventLaws.{fall}
 use Rattle.purge_task.proofs.SameSeenLemmas.{TellsNoLess, bars, ends, is_before, tells_same, uses}
 use Rattle.purge_task.proofs.TakenClaimLemmas.{claims_cons}
 

@@ -1,48 +1,14 @@
 -- What a purge says that removes an instance, or replies.
-use Rattle.std.proofs.Common.{◌≡◌, ◌≢◌, ◌≤◌, ◌+◌, ◌==◌, ◌&&◌, ℕ, Bool, true, false, not, List, [], ◌∷◌, length, Option, Some, None, refl, sym, ◌∙◌, ap, subst, arith, inl, inr}
-use Rattle.std.specs.Prelude.{◌⊎◌, cond, find}
-use Rattle.std.specs.Option.{option_map, option_map_or}
-use Rattle.std.specs.Str.{bytes_eq}
-use Rattle.std.proofs.lemmas.List.Elements.{All-contains}
-use Rattle.std.proofs.lemmas.Bool.{cases_Bool, eqb-true}
-use Rattle.disk_model.specs.Disk.{Faults, Grows, History, SameButFor}
-use Rattle.disk_model.specs.declared.name.FileName.{FileName}
-use Rattle.disk_model.specs.declared.name.FileName.TheVariants as file
-use Rattle.disk_model.specs.FaultCounts.{ChangeFaultCounted, NoFault}
-use Rattle.disk_model.proofs.IdleLemmas.{idle-begins}
-use Rattle.map_index.specs.Shown.{is_instance_named}
-use Rattle.mdbox_base.specs.declared.ids.InstId.{InstId}
-use Rattle.mdbox_base.specs.declared.progress.Did.TheVariants as did
-use Rattle.mdbox_base.specs.declared.progress.Progress.{Progress}
-use Rattle.mdbox_base.specs.declared.progress.Progress.TheVariants as progress
-use Rattle.mdbox_base.specs.declared.replies.Refusal.TheVariants as refusal
-use Rattle.mdbox_base.specs.declared.replies.Reply.TheVariants as reply
-use Rattle.mdbox_base.specs.declared.script.Half.TheVariants as half
-use Rattle.model_kept.specs.Kept.{MailIsKept}
-use Rattle.model_lists.specs.Lists.{Lists}
-use Rattle.model_meaning.specs.MapMeaning.{MapMeaning, instance_number}
-use Rattle.model_octets.proofs.SearchLemmas.{found_one, text_is, text_yes}
-use Rattle.model_store.specs.Settled.{IsSettledFor, Leaves}
-use Rattle.sis_store.specs.Instances.{AreInstances, HasDrawnNumber, holders_in, instance_in, without_instance}
-use Rattle.sis_store.specs.OnDisk.{file_of, instance_file}
-use Rattle.sis_store.specs.declared.instance.KnownInstance.{KnownInstance}
-use Rattle.sis_store.proofs.IdLemmas.{instance-in, same_id}
-use Rattle.store_core.specs.Keeping.{KeepsFirm}
-use Rattle.store_core.specs.Removing.{is_useless, useless_past}
-use Rattle.store_core.specs.StoreInstances.{HasKnownInstances}
-use Rattle.store_core.specs.Value.{StoreValue}
+use Rattle.purge_task.proofs.Common.{◌≡◌, ◌≢◌, ◌≤◌, ◌+◌, ◌==◌, ◌&&◌, ℕ, Bool, true, false, not, List, [], ◌∷◌, length, Option, Some, None, refl, sym, ◌∙◌, ap, subst, arith, inl, inr, ◌⊎◌, find, option_map, option_map_or, bytes_eq, All-contains, cases_Bool, eqb-true, Faults, Grows, History}
+use Rattle.purge_task.proofs.Common.{SameButFor, FileName, file, NoFault, idle-begins, is_instance_named, InstId, did, Progress, progress, refusal, reply, half, MailIsKept, Lists, MapMeaning, instance_number, found_one, text_is, text_yes, IsSettledFor, Leaves, AreInstances, HasDrawnNumber}
+use Rattle.purge_task.proofs.Common.{holders_in, instance_in, without_instance, instance_file, KnownInstance, instance-in, same_id, KeepsFirm, is_useless, useless_past, HasKnownInstances, StoreValue, Due, Emptied, Held, Made, MovesClaims, Pinned, PlacingPieces, Removing, Taken, Thing, amount_in}
+use Rattle.purge_task.proofs.Common.{LeavesOthers, mail_still, purge_claims, IsPurgeStep, PurgeSteps, at_stage, HasPurged, PurgeValue, PurgeStage, stage, fall, IsStore}
+use Rattle.std.specs.Prelude.{cond}
+use Rattle.disk_model.specs.FaultCounts.{ChangeFaultCounted}
+use Rattle.sis_store.specs.OnDisk.{file_of}
 use Rattle.store_core.proofs.InstanceRemovalLemmas.{names_others}
 use Rattle.mdbox_base.specs.Words.{IsOctets}
-use Rattle.task_claims.specs.Claims.{Due, Emptied, Held, Made, MovesClaims, Pinned, PlacingPieces, Removing, Taken, Thing, amount_in}
-use Rattle.task_claims.specs.Leaving.{LeavesOthers}
 use Rattle.task_claims.proofs.RestLemmas.{idle_leaves}
-use Rattle.task_steps.proofs.UnmovedLemmas.{mail_still}
-use Rattle.purge_task.specs.Claims.{purge_claims}
-use Rattle.purge_task.specs.Clause.{IsPurgeStep, PurgeSteps, at_stage}
-use Rattle.purge_task.specs.Keeping.{HasPurged, PurgeValue}
-use Rattle.purge_task.specs.declared.task.PurgeStage.{PurgeStage}
-use Rattle.purge_task.specs.declared.task.PurgeStage.TheVariants as stage
-use Rattle.task_steps.proofs.EventLaws.{fall}
 use Rattle.purge_task.proofs.EventLemmas.{same_refusal}
 use Rattle.purge_task.proofs.FailLemmas.{fail_steps}
 use Rattle.purge_task.proofs.GoneLemmas.{gone_steps, last_steps}
@@ -50,7 +16,6 @@ use Rattle.purge_task.proofs.InstanceSeenLemmas.{none_with, other_with, without_
 use Rattle.purge_task.proofs.LeavingLemmas.{gone_leaves}
 use Rattle.purge_task.proofs.NumberLemmas.{drawn_id}
 use Rattle.purge_task.proofs.SameSeenLemmas.{tells_same}
-use Rattle.store_core.specs.Running.{IsStore}
 use Rattle.purge_task.proofs.SameRegionLemmas.{regions_gone, regions_idle}
 
 -- ---- which instance it is

@@ -1,38 +1,7 @@
 -- The events of a purge behind its files: an instance is removed, or the reply is given.
-use Rattle.std.proofs.Common.{◌≡◌, ◌≤◌, ◌+◌, ℕ, false, List, [], ◌∷◌, ◌++◌, length, Option, Some, None, refl, sym, ◌∙◌, ap, subst, arith}
-use Rattle.std.specs.Prelude.{find, is_some, sum_by, if◌then◌else◌}
-use Rattle.std.specs.Option.{option_map}
-use Rattle.std.proofs.lemmas.Bool.{eq-eqb}
-use Rattle.std.proofs.lemmas.List.{append-nil}
-use Rattle.std.proofs.lemmas.List.Elements.{All-nil}
-use Rattle.disk_model.specs.Disk.{Faults, History, told_calls}
-use Rattle.mdbox_base.specs.declared.entries.InstRow.{InstRow}
-use Rattle.mdbox_base.specs.declared.progress.Did.{Did}
-use Rattle.mdbox_base.specs.declared.progress.Did.TheVariants as did
-use Rattle.mdbox_base.specs.declared.script.Half.TheVariants as half
-use Rattle.mdbox_base.specs.declared.replies.Reply.{Reply}
-use Rattle.mdbox_base.specs.declared.replies.Reply.TheVariants as reply
-use Rattle.mdbox_base.specs.declared.requests.Request.TheVariants as request
-use Rattle.model_meaning.specs.MapMeaning.{instance_number}
-use Rattle.list_machine.specs.Run.{Last, RemovesInstance, Run, RunEvent, TakenFile, and_then, dropped_in, how_many, own_events}
-use Rattle.journal.specs.Events.{Around, last_refusal, next_part, next_taken, purge_goes_on}
-use Rattle.journal.proofs.OwnEventLemmas.{own_more}
-use Rattle.sis_store.specs.Instances.{AreInstances}
-use Rattle.sis_store.specs.declared.instance.KnownInstance.{KnownInstance}
-use Rattle.sis_store.proofs.IdLemmas.{instance-in}
-use Rattle.model_octets.proofs.SearchLemmas.{found_one}
-use Rattle.store_core.specs.Removing.{is_useless}
-use Rattle.store_core.specs.StoreInstances.{HasKnownInstances}
-use Rattle.store_core.specs.Value.{StoreValue}
-use Rattle.task_steps.specs.Step.{DidEvent}
-use Rattle.task_steps.proofs.OneEventLemmas.{never_more}
-use Rattle.purge_task.specs.Clause.{PurgeSteps, around_purging, seen_by_purge}
-use Rattle.purge_task.specs.Keeping.{PurgeValue}
-use Rattle.purge_task.specs.Stages.{GoesOnBehind, HaveTaken, IsAtPurge, IsAtPurgeStage, IsPurging}
-use Rattle.purge_task.specs.declared.task.PurgeStage.{PurgeStage}
-use Rattle.purge_task.specs.declared.task.PurgeStage.TheVariants as stage
-use Rattle.purge_task.specs.declared.work.Source.{Source}
-use Rattle.task_steps.proofs.EventLaws.{DidBy, stands_by}
+use Rattle.purge_task.proofs.Common.{◌≡◌, ◌≤◌, ◌+◌, ℕ, false, List, [], ◌∷◌, ◌++◌, length, Option, Some, None, refl, sym, ◌∙◌, ap, subst, arith, find, is_some, sum_by, if◌then◌else◌, option_map, eq-eqb, append-nil, All-nil, Faults, History, told_calls, InstRow, Did, did, half, Reply, reply, request}
+use Rattle.purge_task.proofs.Common.{instance_number, Last, RemovesInstance, Run, RunEvent, TakenFile, and_then, dropped_in, how_many, own_events, Around, last_refusal, next_part, next_taken, purge_goes_on, own_more, AreInstances, KnownInstance, instance-in, found_one, is_useless, HasKnownInstances}
+use Rattle.purge_task.proofs.Common.{StoreValue, DidEvent, never_more, PurgeSteps, around_purging, seen_by_purge, PurgeValue, GoesOnBehind, HaveTaken, IsAtPurge, IsAtPurgeStage, IsPurging, PurgeStage, stage, Source, DidBy, stands_by}
 use Rattle.purge_task.proofs.EventLemmas.{did_last, did_next}
 use Rattle.purge_task.proofs.FreeInstanceLemmas.{finds_none, finds_one}
 use Rattle.purge_task.proofs.InstanceSeenLemmas.{gone_comes, gone_event, without_it}

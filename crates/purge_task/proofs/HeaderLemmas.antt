@@ -1,13 +1,9 @@
 -- What a scan of a header line gives, and a file that begins with one.
-use Rattle.std.proofs.Common.{◌≡◌, ℕ, ◌<◌, ◌≤◌, List, [], ◌∷◌, ◌++◌, length, Option, Some, None, refl, sym, ap, subst, ◌∙◌, arith}
-use Rattle.std.specs.Prelude.{Result, Ok, Err, ◌⊎◌}
-use Rattle.std.proofs.Common.{inl, inr, ◌==◌, true, false}
-use Rattle.model_meaning.proofs.MapPlaceLemmas.{equal_is, equal_yes}
-use Rattle.std.proofs.lemmas.List.{append-nil}
+use Rattle.purge_task.proofs.Common.{◌≡◌, ℕ, ◌<◌, ◌≤◌, List, [], ◌∷◌, ◌++◌, length, Option, Some, None, refl, sym, ap, subst, ◌∙◌, arith, Result, Ok, Err, ◌⊎◌, inl, inr, ◌==◌, true, false, equal_is, equal_yes, append-nil, IsHeaderLine}
 use Rattle.model_storage.specs.declared.places.MessageAt.{MessageAt}
 use Rattle.model_storage.specs.declared.places.ScanError.{ScanError}
 use Rattle.model_storage.specs.declared.places.ScanError.TheVariants as scan
-use Rattle.model_storage.specs.StorageFile.{IsHeaderLine, IsFile, Message, ScanGives, HasPlaces, AreMessages, message_places_from}
+use Rattle.model_storage.specs.StorageFile.{IsFile, Message, ScanGives, HasPlaces, AreMessages, message_places_from}
 use Rattle.storage_files.specs.OnDisk.{piece_read}
 use Rattle.purge_task.specs.Found.{IsHeaderOf}
 

@@ -1,30 +1,10 @@
 -- What is seen of a store without one instance, in a run of which an event removed that.
-use Rattle.std.proofs.Common.{◌≡◌, ◌≤◌, ◌&&◌, ◌||◌, ℕ, Bool, true, false, not, List, [], ◌∷◌, ◌++◌, Option, Some, None, refl, sym, ◌∙◌, ap, subst, arith, inl, inr}
-use Rattle.std.specs.Prelude.{◌≢◌, ◌⊎◌, find, nat_le, if◌then◌else◌}
-use Rattle.std.specs.List.{list_any}
-use Rattle.std.specs.Option.{option_map_or}
-use Rattle.std.specs.Str.{bytes_eq}
-use Rattle.std.proofs.lemmas.Bool.{cases_Bool}
-use Rattle.std.proofs.lemmas.Grind.{common_steps}
-use Rattle.disk_model.specs.Disk.{Faults, History, told_calls}
-use Rattle.mdbox_base.specs.declared.entries.InstRow.{InstRow}
-use Rattle.mdbox_base.specs.declared.ids.InstId.{InstId}
-use Rattle.model_meaning.specs.MapMeaning.{instance_number, named_instances}
-use Rattle.model_octets.proofs.SearchLemmas.{text_is, text_yes}
-use Rattle.list_machine.specs.Run.{RemovesInstance, Run, RunEvent, and_then, before, event_of, is_one_of, map_of}
-use Rattle.journal.specs.Events.{begun_in, ended_in}
+use Rattle.purge_task.proofs.Common.{◌≡◌, ◌≤◌, ◌&&◌, ◌||◌, ℕ, Bool, true, false, not, List, [], ◌∷◌, ◌++◌, Option, Some, None, refl, sym, ◌∙◌, ap, subst, arith, inl, inr, ◌⊎◌, find, nat_le, if◌then◌else◌, list_any, option_map_or, bytes_eq, cases_Bool, common_steps, Faults, History, told_calls}
+use Rattle.purge_task.proofs.Common.{InstRow, InstId, instance_number, named_instances, text_is, text_yes, RemovesInstance, Run, RunEvent, and_then, before, event_of, is_one_of, map_of, begun_in, ended_in, HasCome, comes_on, has_id, instance_in, without_instance, KnownInstance, same_id, StoreValue}
+use Rattle.purge_task.proofs.Common.{HasComeTo, doomed_still, file_still_known, given_still, pins_still, there_before, used_still, seen_by_purge, fall}
+use Rattle.std.specs.Prelude.{◌≢◌}
 use Rattle.journal.specs.Found.{is_same_instance}
-use Rattle.journal.specs.Makes.{HasCome}
-use Rattle.journal.proofs.RunLemmas.{comes_on}
-use Rattle.sis_store.specs.Instances.{has_id, instance_in, without_instance}
-use Rattle.sis_store.specs.declared.instance.KnownInstance.{KnownInstance}
-use Rattle.sis_store.proofs.IdLemmas.{same_id}
 use Rattle.store_core.specs.Knows.{knows_instance}
-use Rattle.store_core.specs.Value.{StoreValue}
-use Rattle.task_steps.specs.Step.{HasComeTo}
-use Rattle.task_steps.proofs.SeenLemmas.{doomed_still, file_still_known, given_still, pins_still, there_before, used_still}
-use Rattle.purge_task.specs.Clause.{seen_by_purge}
-use Rattle.task_steps.proofs.EventLaws.{fall}
 use Rattle.purge_task.proofs.RunLemmas.{any_push, any_still, or_true, sum_push}
 
 abbrev pub gone_event : ℕ → ℕ → InstRow → ℕ → RunEvent

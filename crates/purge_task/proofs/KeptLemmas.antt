@@ -1,22 +1,9 @@
 -- The stages of a purge are kept by events of other requests, and lead from one to the next by its own.
-use Rattle.std.proofs.Common.{◌≡◌, ◌==◌, ◌||◌, ℕ, Bool, true, false, cond, List, [], ◌∷◌, ◌++◌, length, refl, sym, ◌∙◌, ap, subst, All}
-use Rattle.std.specs.Prelude.{filter, flat_map, sum_by}
-use Rattle.std.specs.List.{list_any}
-use Rattle.std.proofs.lemmas.Bool.{eq-eqb, ne_eqb}
-use Rattle.std.proofs.lemmas.List.Folds.{list_any-append}
-use Rattle.mdbox_base.specs.declared.replies.Reply.{Reply}
-use Rattle.list_machine.specs.Run.{EventPart, First, RemovesFile, RemovesInstance, Run, RunEvent, Switches, and_then, dropped_in, how_many, is_one_of, own_events}
-use Rattle.journal.specs.Events.{last_refusal}
+use Rattle.purge_task.proofs.Common.{◌≡◌, ◌==◌, ◌||◌, ℕ, Bool, true, false, cond, List, [], ◌∷◌, ◌++◌, length, refl, sym, ◌∙◌, ap, subst, All, filter, flat_map, sum_by, list_any, eq-eqb, ne_eqb, list_any-append, Reply, EventPart, First, RemovesFile, RemovesInstance, Run, RunEvent, Switches}
+use Rattle.purge_task.proofs.Common.{and_then, dropped_in, how_many, is_one_of, own_events, last_refusal, StoreValue, sources_left, PurgeValue, CopiesBehind, GoesOnBehind, HaveCopied, HaveTaken, IsAtPurge, IsAtPurgeStage, IsAtSwitched, IsPurging, RemovesBehind, PurgeStage, stage, Source}
 use Rattle.journal.proofs.OwnEventLemmas.{own_other}
-use Rattle.store_core.specs.Value.{StoreValue}
 use Rattle.task_steps.specs.Step.{IsKept}
 use Rattle.task_steps.proofs.SeenLemmas.{not_begun_stays, was_pinned_still}
-use Rattle.purge_task.specs.Claims.{sources_left}
-use Rattle.purge_task.specs.Keeping.{PurgeValue}
-use Rattle.purge_task.specs.Stages.{CopiesBehind, GoesOnBehind, HaveCopied, HaveTaken, IsAtPurge, IsAtPurgeStage, IsAtSwitched, IsPurging, RemovesBehind}
-use Rattle.purge_task.specs.declared.task.PurgeStage.{PurgeStage}
-use Rattle.purge_task.specs.declared.task.PurgeStage.TheVariants as stage
-use Rattle.purge_task.specs.declared.work.Source.{Source}
 
 -- ---- the last of its own events
 

@@ -1,38 +1,16 @@
 -- A storage file or an instance that is removed leaves to other tasks what is theirs.
-use Rattle.std.proofs.Common.{◌≡◌, ◌≢◌, ◌≤◌, ◌<◌, ◌+◌, ◌==◌, ◌&&◌, ℕ, Bool, true, false, not, List, [], ◌∷◌, ◌++◌, length, Option, Some, All, refl, sym, ◌∙◌, ap, subst, arith, inl, inr}
-use Rattle.std.specs.Prelude.{filter, if◌then◌else◌}
-use Rattle.std.specs.Option.{option_map, option_and_then}
-use Rattle.std.proofs.lemmas.Bool.{cases_eq, cases_Bool}
-use Rattle.std.proofs.lemmas.List.{append-nil}
-use Rattle.std.proofs.lemmas.List.Elements.{All-cons, All-contains, All-filter, All-head, All-nil, All-tail}
-use Rattle.disk_model.specs.Disk.{DiskState, History, SameButFor, reading}
-use Rattle.disk_model.specs.declared.name.FileName.{FileName}
-use Rattle.disk_model.specs.declared.name.FileName.TheVariants as file
-use Rattle.disk_model.proofs.BetweenLemmas.{between-map, between-on}
-use Rattle.mdbox_base.specs.declared.entries.InstRow.{InstRow}
+use Rattle.purge_task.proofs.Common.{◌≡◌, ◌≢◌, ◌≤◌, ◌<◌, ◌+◌, ◌==◌, ◌&&◌, ℕ, Bool, true, false, not, List, [], ◌∷◌, ◌++◌, length, Option, Some, All, refl, sym, ◌∙◌, ap, subst, arith, inl, inr, filter, if◌then◌else◌, option_map, option_and_then, cases_eq, cases_Bool, append-nil, All-cons}
+use Rattle.purge_task.proofs.Common.{All-contains, All-filter, All-head, All-nil, All-tail, DiskState, History, SameButFor, reading, FileName, file, between-map, between-on, InstRow, InstId, MapRecord, record_at, found_one, text_yes, files_of, HasDrawnNumber, has_id, holders_in, without_instance}
+use Rattle.purge_task.proofs.Common.{instance_file, KnownInstance, same_id, with_pins, MailFile, file-without, KeepsFirm, KeepsInstances, AreElsewhere, IsKnownRow, StoreValue, kept_same, Claims, Held, HasRegionOctets, HaveSameInstances, IsSameOrSynced, LeavesOthers, LeavesRecord, MayOnlyGrow}
+use Rattle.purge_task.proofs.Common.{OnlyGrows, OthersTook, unraised_same, instance_kept, none_placed}
 use Rattle.mdbox_base.specs.declared.ids.Hash.{Hash}
-use Rattle.mdbox_base.specs.declared.ids.InstId.{InstId}
 use Rattle.mdbox_base.specs.declared.ids.StoreId.{StoreId}
-use Rattle.model_meaning.specs.MapMeaning.{MapRecord, record_at}
-use Rattle.model_octets.proofs.SearchLemmas.{found_one, text_yes}
-use Rattle.model_store.specs.Settled.{files_of}
 use Rattle.sis_store.specs.Comparing.{IsUnlikeCompared}
-use Rattle.sis_store.specs.Instances.{HasDrawnNumber, has_id, holders_in, is_id_past, is_of_kind, without_instance}
-use Rattle.sis_store.specs.OnDisk.{instance_file}
-use Rattle.sis_store.specs.declared.instance.KnownInstance.{KnownInstance}
-use Rattle.sis_store.proofs.IdLemmas.{same_id}
-use Rattle.storage_files.specs.Files.{with_pins}
-use Rattle.storage_files.specs.declared.file.MailFile.{MailFile}
-use Rattle.storage_files.proofs.FileListLemmas.{file-without}
-use Rattle.store_core.specs.Keeping.{KeepsFirm, KeepsInstances}
-use Rattle.store_core.specs.Removing.{AreElsewhere, NameOthers}
-use Rattle.store_core.specs.StoreInstances.{IsFirstKnown, IsKnownRow, IsOtherThan}
-use Rattle.store_core.specs.Value.{StoreValue}
-use Rattle.store_core.proofs.InstanceKeepingLemmas.{kept_same, reads_placed}
-use Rattle.task_claims.specs.Claims.{Claims, Held}
-use Rattle.task_claims.specs.Leaving.{HasRegionOctets, HaveSameInstances, IsSameOrSynced, LeavesFile, LeavesInstance, LeavesOthers, LeavesRecord, MayOnlyGrow, OnlyGrows, OthersTook}
-use Rattle.task_claims.proofs.CountedLemmas.{unraised_same}
-use Rattle.task_claims.proofs.RestLemmas.{instance_kept, none_placed}
+use Rattle.sis_store.specs.Instances.{is_id_past, is_of_kind}
+use Rattle.store_core.specs.Removing.{NameOthers}
+use Rattle.store_core.specs.StoreInstances.{IsFirstKnown, IsOtherThan}
+use Rattle.store_core.proofs.InstanceKeepingLemmas.{reads_placed}
+use Rattle.task_claims.specs.Leaving.{LeavesFile, LeavesInstance}
 use Rattle.purge_task.proofs.InstanceSeenLemmas.{other_with, without_it}
 use Rattle.purge_task.proofs.RemovalSeenLemmas.{without}
 

@@ -3,6 +3,7 @@ pub mod BareLemmas
 pub mod BesideLemmas
 pub mod CanReleaseLemmas
 pub mod CleanLemmas
+pub mod Common
 pub mod ContentsLemmas
 pub mod CopiedMoreLemmas
 pub mod CopiedOctetsLemmas

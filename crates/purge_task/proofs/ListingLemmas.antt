@@ -1,28 +1,17 @@
 -- The lists of an entry that switches a file.
-use Rattle.std.proofs.Common.{◌≡◌, ◌≢◌, inl, inr, ℕ, zero, suc, ◌+◌, ◌<◌, ◌≤◌, ◌==◌, Bool, true, false, cond, Option, Some, None, List, [], ◌∷◌, ◌++◌, length, get_or, filter, map, All, refl, sym, ap, subst, ◌∙◌, arith}
-use Rattle.std.specs.Prelude.{AllPairs, ◌⊎◌, Contains, find, nat_lt, sum_by}
-use Rattle.std.specs.List.{list_any}
-use Rattle.std.specs.List.Sorted.{IsNonDecreasingBy, IsPermutation, IsStrictlyIncreasing}
-use Rattle.std.specs.Option.{option_map, option_map_or}
-use Rattle.std.proofs.lemmas.Bool.{cases_eq}
-use Rattle.std.proofs.lemmas.List.{length_push, length-map}
-use Rattle.std.proofs.lemmas.List.Elements.{All-nil, All-head, All-tail, All-push, All-contains, All-weaker, All-contains_itself, All-filter, filter_passes, Contains-push}
-use Rattle.std.proofs.lemmas.List.Folds.{list_any_at, list_any-append}
+use Rattle.purge_task.proofs.Common.{◌≡◌, ◌≢◌, inl, inr, ℕ, zero, suc, ◌+◌, ◌<◌, ◌≤◌, ◌==◌, Bool, true, false, cond, Option, Some, None, List, [], ◌∷◌, ◌++◌, length, get_or, map, All, refl, sym, ap, subst, ◌∙◌, arith, AllPairs, ◌⊎◌, Contains, find, nat_lt, sum_by, list_any, IsStrictlyIncreasing}
+use Rattle.purge_task.proofs.Common.{option_map, option_map_or, cases_eq, length-map, All-nil, All-head, All-tail, All-push, All-contains, All-weaker, All-contains_itself, All-filter, Contains-push, list_any-append, MapUid, MapPlace, HasRecord, MapRecord, MapMeaning, has_map_uid, record_at}
+use Rattle.purge_task.proofs.Common.{IsSoundMap, equal_is, equal_yes, pairs_head, pairs_tail, pairs_nil, pairs_push, MapRow, record_from, shown_record, messages_in, AreSwitchLists, is_wanted_at}
+use Rattle.std.proofs.Common.{filter}
+use Rattle.std.specs.List.Sorted.{IsNonDecreasingBy, IsPermutation}
+use Rattle.std.proofs.lemmas.List.{length_push}
+use Rattle.std.proofs.lemmas.List.Elements.{filter_passes}
+use Rattle.std.proofs.lemmas.List.Folds.{list_any_at}
 use Rattle.std.proofs.lemmas.List.Kept.{AllPairs-filter}
 use Rattle.std.proofs.lemmas.List.Sorted.{All-permutation, Contains-permutation, list_any-IsPermutation}
-use Rattle.mdbox_base.specs.declared.ids.MapUid.{MapUid}
-use Rattle.mdbox_base.specs.declared.entries.MapPlace.{MapPlace}
-use Rattle.model_meaning.specs.MapFits.{HasRecord}
-use Rattle.model_meaning.specs.MapMeaning.{MapRecord, MapMeaning, has_map_uid, record_at}
-use Rattle.model_meaning.specs.Sound.{IsSoundMap}
-use Rattle.model_meaning.proofs.MapPlaceLemmas.{equal_is, equal_yes}
-use Rattle.model_octets.proofs.PairLemmas.{pairs_head, pairs_tail, pairs_nil, pairs_push}
 use Rattle.map_rows.specs.Orders.{times}
 use Rattle.map_rows.proofs.SwitchLemmas.{times_permuted}
-use Rattle.map_rows.specs.declared.rows.MapRow.{MapRow}
-use Rattle.map_index.specs.Shown.{record_from, shown_record}
-use Rattle.purge_task.specs.Found.{messages_in}
-use Rattle.purge_task.specs.Switched.{AreDropped, AreSwitchLists, AreMoved, AreUnwanted, is_wanted_at}
+use Rattle.purge_task.specs.Switched.{AreDropped, AreMoved, AreUnwanted}
 use Rattle.purge_task.proofs.WalkLemmas.{IsFoundRow, upto, below, below_is, unequal, found_row, none_found, sound_row, more_walked, all_walked, sum_walked, sum_within}
 
 -- ---- numbers that differ, in order

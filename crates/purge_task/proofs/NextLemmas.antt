@@ -1,12 +1,5 @@
 -- The next wanted message of a file.
-use Rattle.std.proofs.Common.{◌≡◌, inl, inr, ℕ, ◌+◌, ◌<◌, ◌≤◌, Some, None, get_or, All, sym, ap, subst, ◌∙◌, arith}
-use Rattle.std.specs.Option.{option_map}
-use Rattle.std.proofs.lemmas.Bool.{cases_lt}
-use Rattle.model_meaning.specs.MapMeaning.{MapMeaning}
-use Rattle.model_meaning.specs.Sound.{IsSoundMap}
-use Rattle.map_rows.specs.declared.rows.MapRow.{MapRow}
-use Rattle.map_index.specs.Shown.{record_from, shown_record}
-use Rattle.purge_task.specs.Copied.{AreUnwantedFrom, IsNextWanted}
+use Rattle.purge_task.proofs.Common.{◌≡◌, inl, inr, ℕ, ◌+◌, ◌<◌, ◌≤◌, Some, None, get_or, All, sym, ap, subst, ◌∙◌, arith, option_map, cases_lt, MapMeaning, IsSoundMap, MapRow, record_from, shown_record, AreUnwantedFrom, IsNextWanted}
 use Rattle.purge_task.proofs.ListingLemmas.{record_there}
 use Rattle.purge_task.proofs.WalkLemmas.{found_row, none_found, more_walked, all_walked}
 

@@ -1,19 +1,17 @@
 -- The running number of an instance of this store's form, by its id's octets.
-use Rattle.std.specs.Prelude.{◌&&◌, not, if◌then◌else◌}
+use Rattle.purge_task.proofs.Common.{if◌then◌else◌, ◌≡◌, ◌<◌, ◌≤◌, ◌+◌, ◌==◌, ℕ, Bool, true, false, List, [], ◌∷◌, ◌++◌, length, take, drop, refl, sym, ◌∙◌, ap, arith, nat_tests, common_steps, length-drop, InstId, instance_number, is_own, number_at, HasDrawnNumber}
+use Rattle.std.specs.Prelude.{◌&&◌, not}
 use Rattle.std.specs.Int.{w32, to_be_bytes}
-use Rattle.std.proofs.Common.{◌≡◌, ◌<◌, ◌≤◌, ◌+◌, ◌^◌, ◌==◌, ℕ, Bool, true, false, List, [], ◌∷◌, ◌++◌, length, take, drop, refl, sym, ◌∙◌, ap, arith}
-use Rattle.std.proofs.lemmas.Bool.Decides.{nat_tests}
-use Rattle.std.proofs.lemmas.Grind.{common_steps}
-use Rattle.std.proofs.lemmas.List.{take-append-drop, length-take, length-drop, drop-drop, take_all}
+use Rattle.std.proofs.Common.{◌^◌}
+use Rattle.std.proofs.lemmas.List.{take-append-drop, length-take, drop-drop, take_all}
 use Rattle.std.proofs.lemmas.List.Elements.{All-take, All-drop}
 use Rattle.std.proofs.lemmas.Nat.{be_bytes_4}
 use Rattle.std.proofs.lemmas.Slice.Eq.{bytes_eq-Decides}
 use Rattle.mdbox_base.specs.Words.{IsOctets}
-use Rattle.mdbox_base.specs.declared.ids.InstId.{InstId}
 use Rattle.mdbox_base.specs.declared.ids.StoreId.{StoreId}
 use Rattle.model_logs.proofs.LogHeadLemmas.{octet_at, number_below}
-use Rattle.model_meaning.specs.MapMeaning.{instance_number, is_own, number_at, own_number}
-use Rattle.sis_store.specs.Instances.{HasDrawnNumber, numbered_id}
+use Rattle.model_meaning.specs.MapMeaning.{own_number}
+use Rattle.sis_store.specs.Instances.{numbered_id}
 
 -- ---- by id
 

@@ -1,17 +1,10 @@
 -- Which part of a purge comes next, by its own events.
-use Rattle.std.proofs.Common.{◌≡◌, ◌==◌, ◌||◌, ℕ, Bool, true, false, not, cond, List, [], ◌∷◌, ◌++◌, map, Option, Some, None, refl, sym, ◌∙◌, ap, subst, All}
-use Rattle.std.specs.Prelude.{find, filter, nat_lt, is_some, if◌then◌else◌}
-use Rattle.std.specs.List.{list_any}
-use Rattle.std.specs.Option.{option_or}
-use Rattle.std.proofs.lemmas.Bool.{eqb-true}
-use Rattle.std.proofs.lemmas.List.Elements.{All-cons, All-nil, All-head, All-tail}
-use Rattle.mdbox_base.specs.declared.replies.Refusal.{Refusal}
+use Rattle.purge_task.proofs.Common.{◌≡◌, ◌==◌, ◌||◌, ℕ, Bool, true, false, not, cond, List, [], ◌∷◌, ◌++◌, map, Option, Some, None, refl, sym, ◌∙◌, ap, subst, All, find, filter, nat_lt, is_some, if◌then◌else◌, list_any, option_or, eqb-true, All-cons, All-nil, All-head, All-tail, Refusal, request}
+use Rattle.purge_task.proofs.Common.{CopiesMessage, EventPart, First, Last, MakesTarget, RemovesFile, RemovesInstance, Run, RunEvent, Switches, TakenFile, map_of, own_events, Around, is_done, last_refusal, next_part, next_taken, purge_goes_on, was_pinned, CopiesBehind, GoesOnBehind, HaveTaken}
+use Rattle.purge_task.proofs.Common.{RemovesBehind, told_taken, Source}
 use Rattle.mdbox_base.specs.declared.requests.Request.{Request}
-use Rattle.mdbox_base.specs.declared.requests.Request.TheVariants as request
-use Rattle.list_machine.specs.Run.{CopiesMessage, EventPart, First, Last, MakesTarget, RemovesFile, RemovesInstance, Run, RunEvent, Switches, TakenFile, map_of, own_events}
-use Rattle.journal.specs.Events.{Around, behind_event, behind_purge, is_done, last_refusal, next_part, next_taken, purge_copies, purge_goes_on, was_pinned}
-use Rattle.purge_task.specs.Stages.{CopiesBehind, GoesOnBehind, HaveTaken, IsLastOf, RemovesBehind, told_taken}
-use Rattle.purge_task.specs.declared.work.Source.{Source}
+use Rattle.journal.specs.Events.{behind_event, behind_purge, purge_copies}
+use Rattle.purge_task.specs.Stages.{IsLastOf}
 
 -- ---- the last of some events
 

@@ -1,52 +1,19 @@
 -- What the events of a purge say of a purge beside no other task.
-use Rattle.std.proofs.Common.{◌≡◌, ◌≢◌, ◌<◌, ◌+◌, ℕ, Bool, true, false, List, [], ◌∷◌, length, Option, Some, None, refl, sym, ◌∙◌, ap, subst, arith, All}
+use Rattle.purge_task.proofs.Common.{◌≡◌, ◌≢◌, ◌<◌, ◌+◌, ℕ, Bool, true, false, List, [], ◌∷◌, length, Option, Some, None, refl, sym, ◌∙◌, ap, subst, arith, All, option_map, option_map_or, length-drop, length-take-le, All-cons, All-head, All-weaker, Between, DiskState, Files, History, IfTold, Keeps}
+use Rattle.purge_task.proofs.Common.{SameButFor, named, reading, FileName, file, between-both, between-if, FileNo, did, progress, MapRow, AreCopied, MapMeaning, is_sealed, record_at, equal_yes, pairs_head, LiesInFile, files_of, AreFilesInOrder, IsUsedFile, end_in, file_in, is_doomed_in}
+use Rattle.purge_task.proofs.Common.{is_emptied_in, is_taken_in, pins_in, OthersAreNamed, MailFile, AreFilesKept, AreElsewhere, IsStore, StoreValue, store_sound, named_reads, MovesClaims, Pinned, claims_of_switched, claims_of_target, purge_claims, sources_left, at_stage, IsRegionAdded, HasPurged}
+use Rattle.purge_task.proofs.Common.{IsBeginningFirst, IsToBegin, PurgeValue, target_header, HoldsCopied, HoldsCopies, IsAtHand, IsOnlyTask, IsQuietFrom, IsQuietSoFar, KeepsQuiet, StaysQuiet, sources_to_empty, IsNextStage, went_on, IsBehindSwitch, IsToSwitch, IsUnwantedFirst, IsFirst, IsSwitched}
+use Rattle.purge_task.proofs.Common.{IsTargetWritten, ReadsMail, Switched, PurgeStage, stage, Source, Work, fall}
 use Rattle.std.specs.Prelude.{drop, take}
-use Rattle.std.specs.Option.{option_map, option_map_or}
-use Rattle.std.proofs.lemmas.List.{length-drop, length-take-le}
-use Rattle.std.proofs.lemmas.List.Elements.{All-cons, All-head, All-weaker}
-use Rattle.disk_model.specs.Disk.{Between, DiskState, Files, History, IfTold, Keeps, SameButFor, named, reading}
-use Rattle.disk_model.specs.declared.name.FileName.{FileName}
-use Rattle.disk_model.specs.declared.name.FileName.TheVariants as file
-use Rattle.disk_model.proofs.BetweenLemmas.{between-both, between-if, between-since}
-use Rattle.mdbox_base.specs.declared.ids.FileNo.{FileNo}
-use Rattle.mdbox_base.specs.declared.progress.Did.TheVariants as did
-use Rattle.mdbox_base.specs.declared.progress.Progress.TheVariants as progress
-use Rattle.map_rows.specs.declared.rows.MapRow.{MapRow}
-use Rattle.model_appends.specs.MapAppending.{AreCopied}
-use Rattle.model_meaning.specs.MapMeaning.{MapMeaning, is_sealed, record_at}
-use Rattle.model_meaning.proofs.MapPlaceLemmas.{equal_yes}
-use Rattle.model_octets.proofs.PairLemmas.{pairs_head}
-use Rattle.model_store.specs.Safe.{LiesInFile}
-use Rattle.model_store.specs.Settled.{files_of}
-use Rattle.storage_files.specs.Files.{AreFilesInOrder, IsUsedFile, end_in, file_in, is_doomed_in, is_emptied_in, is_taken_in, pins_in}
-use Rattle.storage_files.specs.OnDisk.{IsAsKnown, OthersAreNamed}
-use Rattle.storage_files.specs.declared.file.MailFile.{MailFile}
-use Rattle.store_core.specs.Files.{AreFilesKept}
-use Rattle.store_core.specs.Removing.{AreElsewhere}
-use Rattle.store_core.specs.Running.{IsStore}
-use Rattle.store_core.specs.Value.{StoreValue}
-use Rattle.store_core.proofs.BoxAppendLemmas.{store_sound}
-use Rattle.store_core.proofs.MailChangeLemmas.{named_reads}
-use Rattle.task_claims.specs.Claims.{HasNoTask, MovesClaims, Pinned}
+use Rattle.disk_model.proofs.BetweenLemmas.{between-since}
+use Rattle.storage_files.specs.OnDisk.{IsAsKnown}
+use Rattle.task_claims.specs.Claims.{HasNoTask}
 use Rattle.task_claims.proofs.OpenedLemmas.{none_claimed}
-use Rattle.purge_task.specs.Claims.{claims_of_switched, claims_of_target, purge_claims, sources_left}
-use Rattle.purge_task.specs.Clause.{at_stage}
-use Rattle.purge_task.specs.Copied.{IsRegionAdded}
-use Rattle.purge_task.specs.Keeping.{HasPurged, IsBeginningFirst, IsToBegin, PurgeValue, target_header}
-use Rattle.purge_task.specs.Quiet.{HoldsCopied, HoldsCopies, IsAtHand, IsOnlyTask, IsQuietFrom, IsQuietSoFar, KeepsQuiet, StaysQuiet, sources_to_empty}
-use Rattle.purge_task.specs.Stages.{IsNextStage, went_on}
-use Rattle.purge_task.specs.SwitchEvent.{IsBehindSwitch, IsToSwitch, IsUnwantedFirst}
-use Rattle.purge_task.specs.Switched.{IsFirst, IsSwitched, IsTargetWritten, IsWritten, ReadsMail}
-use Rattle.purge_task.specs.declared.switching.Switched.{Switched}
-use Rattle.purge_task.specs.declared.task.PurgeStage.{PurgeStage}
-use Rattle.purge_task.specs.declared.task.PurgeStage.TheVariants as stage
-use Rattle.purge_task.specs.declared.work.Source.{Source}
-use Rattle.purge_task.specs.declared.work.Work.{Work}
+use Rattle.purge_task.specs.Switched.{IsWritten}
 use Rattle.purge_task.proofs.BareCallLemmas.{IsBareOne, emptied_file}
 use Rattle.purge_task.proofs.CopyCallLemmas.{IsNotedFor}
 use Rattle.purge_task.proofs.CopyingLemmas.{IsCopyingOne}
 use Rattle.purge_task.proofs.DropLemmas.{drops_both, emptied_unsealed, switch_drops}
-use Rattle.task_steps.proofs.EventLaws.{fall}
 use Rattle.purge_task.proofs.QuietEventLemmas.{ChangesFile, one_counted, quiet_bare, quiet_copied, quiet_made, quiet_removed}
 use Rattle.purge_task.proofs.QuietSwitchLemmas.{IsSwitchedQuietly, quiet_switched}
 use Rattle.purge_task.proofs.RemovalCallLemmas.{IsRemovingOne, doomed_file}

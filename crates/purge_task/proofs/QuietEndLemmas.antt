@@ -1,36 +1,10 @@
 -- What a purge beside no other task has done in the end.
-use Rattle.std.proofs.Common.{◌≡◌, ◌≤◌, ◌==◌, ◌&&◌, ◌||◌, ℕ, Bool, true, false, not, List, [], ◌∷◌, length, map, Option, Some, None, refl, sym, ◌∙◌, ap, subst, arith, inl, inr, All}
-use Rattle.std.specs.Prelude.{Contains, filter, find, if◌then◌else◌}
-use Rattle.std.specs.Option.{option_map}
-use Rattle.std.specs.List.{list_any}
-use Rattle.std.specs.Str.{bytes_eq}
-use Rattle.std.proofs.lemmas.Bool.{eqb-true}
-use Rattle.std.proofs.lemmas.List.{append-nil}
-use Rattle.std.proofs.lemmas.List.Elements.{All-cons, All-nil, All-contains, All-contains_itself, All-head, All-tail, All-weaker, Contains-append_right}
-use Rattle.disk_model.specs.Disk.{DiskState, Files}
-use Rattle.disk_model.specs.declared.name.FileName.TheVariants as file
-use Rattle.journal.specs.QuietPurge.{AllHaveSameOctets, HasSameOctets, PurgesQuietly, apart_from_place, goes}
-use Rattle.list_machine.specs.Run.{is_one_of}
-use Rattle.mdbox_base.specs.declared.entries.InstRow.{InstRow}
-use Rattle.mdbox_base.specs.declared.ids.InstId.{InstId}
-use Rattle.map_index.specs.Shown.{is_instance_named}
-use Rattle.model_meaning.specs.MapMeaning.{MapMeaning, MapRecord, is_sealed, named_instances}
-use Rattle.model_meaning.proofs.MapPlaceLemmas.{equal_yes}
-use Rattle.model_octets.proofs.SearchLemmas.{found_none, text_is}
-use Rattle.model_store.specs.Safe.{LiesInFile}
-use Rattle.model_store.specs.Settled.{files_of}
-use Rattle.sis_store.specs.Instances.{instance_in}
-use Rattle.sis_store.specs.OnDisk.{instance_file}
-use Rattle.sis_store.specs.declared.instance.KnownInstance.{KnownInstance}
-use Rattle.store_core.specs.Removing.{is_useless, useless_past}
-use Rattle.store_core.specs.StoreInstances.{AreInstancesThere, IsKnownRow}
-use Rattle.store_core.specs.Value.{StoreValue}
-use Rattle.purge_task.specs.Clause.{at_stage}
-use Rattle.purge_task.specs.Keeping.{PurgeValue}
-use Rattle.purge_task.specs.Quiet.{IsQuietSoFar, stays_beside}
-use Rattle.purge_task.specs.declared.task.PurgeStage.TheVariants as stage
+use Rattle.purge_task.proofs.Common.{◌≡◌, ◌≤◌, ◌==◌, ◌&&◌, ◌||◌, ℕ, Bool, true, false, not, List, [], ◌∷◌, length, map, Option, Some, None, refl, sym, ◌∙◌, ap, subst, arith, inl, inr, All, Contains, filter, find, if◌then◌else◌, option_map, list_any, bytes_eq, eqb-true, append-nil, All-cons, All-nil}
+use Rattle.purge_task.proofs.Common.{All-contains, All-contains_itself, All-head, All-tail, All-weaker, Contains-append_right, DiskState, Files, file, HasSameOctets, apart_from_place, is_one_of, InstRow, InstId, is_instance_named, MapMeaning, MapRecord, is_sealed, named_instances, equal_yes}
+use Rattle.purge_task.proofs.Common.{found_none, text_is, LiesInFile, files_of, instance_in, instance_file, KnownInstance, is_useless, useless_past, IsKnownRow, StoreValue, at_stage, PurgeValue, IsQuietSoFar, stays_beside, stage, fall}
+use Rattle.journal.specs.QuietPurge.{AllHaveSameOctets, PurgesQuietly, goes}
+use Rattle.store_core.specs.StoreInstances.{AreInstancesThere}
 use Rattle.purge_task.proofs.CopyLemmas.{kept_of}
-use Rattle.task_steps.proofs.EventLaws.{fall}
 use Rattle.purge_task.proofs.QuietLemmas.{emptied_dropped, emptied_rows, emptied_stay}
 use Rattle.purge_task.proofs.WithinLemmas.{mapped_of}
 

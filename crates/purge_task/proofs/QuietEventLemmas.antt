@@ -1,30 +1,10 @@
 -- The events of a purge beside no other task that make a target, copy a message, or remove a storage file.
-use Rattle.std.proofs.Common.{◌≡◌, ◌≢◌, ◌≤◌, ◌<◌, ◌+◌, ◌==◌, ◌&&◌, ◌||◌, ◌⊎◌, ◌++◌, ℕ, Bool, true, false, not, List, [], ◌∷◌, length, map, Some, None, refl, sym, ◌∙◌, ap, subst, arith, inl, inr, All}
-use Rattle.std.specs.Prelude.{Contains, drop, filter, take}
-use Rattle.std.specs.List.{list_any}
-use Rattle.std.proofs.lemmas.Bool.{eqb-true}
-use Rattle.std.proofs.lemmas.List.{append-nil, take-append-le}
-use Rattle.std.proofs.lemmas.List.Elements.{All-cons, All-contains, All-contains_itself, All-head, All-tail, All-weaker}
-use Rattle.disk_model.specs.Disk.{Files}
-use Rattle.disk_model.specs.declared.name.FileName.TheVariants as file
-use Rattle.list_machine.specs.Run.{is_copied_from, is_one_of}
-use Rattle.mdbox_base.specs.declared.entries.MapPlace.{MapPlace}
-use Rattle.mdbox_base.specs.declared.ids.FileNo.{FileNo}
-use Rattle.model_meaning.specs.MapMeaning.{MapMeaning, MapRecord, is_sealed, record_at}
-use Rattle.model_octets.proofs.SearchLemmas.{among}
-use Rattle.store_core.specs.Removing.{AreElsewhere}
-use Rattle.store_core.specs.Value.{StoreValue}
-use Rattle.purge_task.specs.Claims.{sources_left}
-use Rattle.purge_task.specs.Clause.{at_stage}
-use Rattle.purge_task.specs.Copied.{IsSourceWith}
-use Rattle.purge_task.specs.Keeping.{PurgeValue, target_header}
-use Rattle.purge_task.specs.Quiet.{CopiesRunTo, HasEmptied, HaveWanted, HoldsCopied, HoldsCopies, IsOnlyTask, IsQuietSoFar, but_file, files_to_empty, sources_to_empty, stays_beside, with_file}
-use Rattle.purge_task.specs.Stages.{IsNextStage, went_on}
-use Rattle.purge_task.specs.Switched.{IsFirst}
-use Rattle.purge_task.specs.declared.task.PurgeStage.{PurgeStage}
-use Rattle.purge_task.specs.declared.task.PurgeStage.TheVariants as stage
-use Rattle.purge_task.specs.declared.work.Source.{Source}
-use Rattle.purge_task.specs.declared.work.Work.{Work}
+use Rattle.purge_task.proofs.Common.{◌≡◌, ◌≢◌, ◌≤◌, ◌<◌, ◌+◌, ◌==◌, ◌&&◌, ◌||◌, ◌++◌, ℕ, Bool, true, false, not, List, [], ◌∷◌, length, map, Some, None, refl, sym, ◌∙◌, ap, subst, arith, inl, inr, All, Contains, filter, list_any, eqb-true, append-nil, All-cons, All-contains, All-contains_itself}
+use Rattle.purge_task.proofs.Common.{All-head, All-tail, All-weaker, Files, file, is_copied_from, is_one_of, MapPlace, FileNo, MapMeaning, MapRecord, is_sealed, record_at, among, AreElsewhere, StoreValue, sources_left, at_stage, IsSourceWith, PurgeValue, target_header, CopiesRunTo, HasEmptied}
+use Rattle.purge_task.proofs.Common.{HaveWanted, HoldsCopied, HoldsCopies, IsOnlyTask, IsQuietSoFar, but_file, files_to_empty, sources_to_empty, stays_beside, with_file, IsNextStage, went_on, IsFirst, PurgeStage, stage, Source, Work}
+use Rattle.std.proofs.Common.{◌⊎◌}
+use Rattle.std.specs.Prelude.{drop, take}
+use Rattle.std.proofs.lemmas.List.{take-append-le}
 use Rattle.purge_task.proofs.CopyLemmas.{kept_of}
 use Rattle.purge_task.proofs.QuietEndLemmas.{none_within}
 use Rattle.purge_task.proofs.QuietFileLemmas.{append_long, quiet_changes}

@@ -1,20 +1,9 @@
 -- An event of a purge beside no other task that changes one storage file, and leaves the map as it is.
-use Rattle.std.proofs.Common.{◌≡◌, ◌≢◌, ◌+◌, ◌==◌, ◌⊎◌, ◌++◌, ℕ, Bool, true, false, List, [], ◌∷◌, length, Some, None, refl, sym, ◌∙◌, ap, subst, arith, inl, inr}
-use Rattle.std.specs.Prelude.{Contains}
-use Rattle.std.proofs.lemmas.Bool.{eqb-true}
-use Rattle.std.proofs.lemmas.List.Elements.{All-contains, Contains-append_cases}
-use Rattle.disk_model.specs.Disk.{Files}
-use Rattle.disk_model.specs.declared.name.FileName.TheVariants as file
-use Rattle.journal.specs.QuietPurge.{HasSameOctets, IsClean}
-use Rattle.list_machine.specs.Run.{is_one_of}
-use Rattle.model_meaning.specs.MapMeaning.{MapMeaning, MapRecord, is_sealed}
-use Rattle.model_meaning.proofs.MapPlaceLemmas.{equal_yes}
-use Rattle.store_core.specs.Removing.{AreElsewhere}
-use Rattle.store_core.specs.Value.{StoreValue}
-use Rattle.purge_task.specs.Dropped.{DropsUnwanted}
-use Rattle.purge_task.specs.Keeping.{PurgeValue}
-use Rattle.purge_task.specs.Quiet.{HasEmptied, HaveInstancesGone, HaveWanted, HoldsCopied, IsAtHand, IsOnlyTask, IsQuietSoFar, files_to_empty, sources_to_empty}
-use Rattle.task_steps.proofs.EventLaws.{fall}
+use Rattle.purge_task.proofs.Common.{◌≡◌, ◌≢◌, ◌+◌, ◌==◌, ◌++◌, ℕ, Bool, true, false, List, [], ◌∷◌, length, Some, None, refl, sym, ◌∙◌, ap, subst, arith, inl, inr, Contains, eqb-true, All-contains, Files, file, HasSameOctets, IsClean, is_one_of, MapMeaning, MapRecord, is_sealed, equal_yes}
+use Rattle.purge_task.proofs.Common.{AreElsewhere, StoreValue, DropsUnwanted, PurgeValue, HasEmptied, HaveWanted, HoldsCopied, IsAtHand, IsOnlyTask, IsQuietSoFar, files_to_empty, sources_to_empty, fall}
+use Rattle.std.proofs.Common.{◌⊎◌}
+use Rattle.std.proofs.lemmas.List.Elements.{Contains-append_cases}
+use Rattle.purge_task.specs.Quiet.{HaveInstancesGone}
 
 pub append_both : {X : Type 0} → (xs ys zs : List X) → (xs ++ ys) ++ zs ≡ xs ++ (ys ++ zs)
 append_both [] ys zs = refl

@@ -1,35 +1,14 @@
 -- The first event of a purge beside no other task, and those that remove an instance.
-use Rattle.std.proofs.Common.{◌≡◌, ◌≢◌, ◌+◌, ◌==◌, ◌&&◌, ◌||◌, ◌⊎◌, ◌++◌, ℕ, Bool, true, false, not, List, [], ◌∷◌, length, Option, Some, None, refl, sym, ◌∙◌, ap, subst, arith, inl, inr, All}
-use Rattle.std.specs.Prelude.{Contains, IsSome}
-use Rattle.std.specs.Option.{option_and_then, option_map, option_map_or}
-use Rattle.std.specs.Str.{bytes_eq}
-use Rattle.std.proofs.lemmas.List.Elements.{All-contains, All-contains_itself, All-weaker, Contains-append_left, Contains-push, Contains-push_cases}
-use Rattle.disk_model.specs.Disk.{Files}
-use Rattle.disk_model.specs.declared.name.FileName.{FileName}
-use Rattle.disk_model.specs.declared.name.FileName.TheVariants as file
-use Rattle.journal.specs.QuietPurge.{HasSameOctets, IsClean, IsCleanFile}
-use Rattle.list_machine.specs.Run.{is_one_of}
-use Rattle.model_meaning.specs.MapMeaning.{MapMeaning, MapRecord, is_sealed, record_at}
-use Rattle.model_meaning.specs.Sound.{IsSoundMap}
-use Rattle.model_meaning.proofs.MapPlaceLemmas.{equal_yes}
-use Rattle.model_octets.proofs.PairLemmas.{pairs_nil, pairs_push}
-use Rattle.model_octets.proofs.SearchLemmas.{text_is, text_yes}
-use Rattle.model_store.specs.Safe.{LiesInFile}
-use Rattle.model_store.proofs.OpeningSafeLemmas.{at_uid}
-use Rattle.storage_files.specs.Files.{end_in, file_in, is_doomed_in, is_emptied_in, is_sealed_in, is_taken_in, pins_in}
-use Rattle.storage_files.specs.declared.file.MailFile.{MailFile}
-use Rattle.store_core.specs.Value.{StoreValue}
-use Rattle.task_claims.specs.Claims.{Emptied, Pinned, Removing, Taken, one_if}
-use Rattle.purge_task.specs.Clause.{at_stage, uncounted}
-use Rattle.purge_task.specs.Dropped.{DropsUnwanted}
-use Rattle.purge_task.specs.Found.{AreAllBut, MayBeEmptied}
-use Rattle.purge_task.specs.Keeping.{PurgeValue}
-use Rattle.purge_task.specs.Quiet.{HasEmptied, HaveInstancesGone, HaveWanted, HoldsCopied, IsAtHand, IsOnlyTask, IsQuietSoFar, IsUncleanFile, files_to_empty, sources_to_empty}
-use Rattle.purge_task.specs.declared.task.PurgeStage.{PurgeStage}
-use Rattle.purge_task.specs.declared.task.PurgeStage.TheVariants as stage
+use Rattle.purge_task.proofs.Common.{◌≡◌, ◌≢◌, ◌+◌, ◌==◌, ◌&&◌, ◌||◌, ◌++◌, ℕ, Bool, true, false, not, List, [], ◌∷◌, length, Option, Some, None, refl, sym, ◌∙◌, ap, subst, arith, inl, inr, All, Contains, IsSome, option_and_then, option_map, option_map_or, bytes_eq, All-contains}
+use Rattle.purge_task.proofs.Common.{All-contains_itself, All-weaker, Contains-append_left, Contains-push, Files, FileName, file, HasSameOctets, IsClean, IsCleanFile, is_one_of, MapMeaning, MapRecord, is_sealed, record_at, IsSoundMap, equal_yes, pairs_nil, pairs_push, text_is, text_yes, LiesInFile}
+use Rattle.purge_task.proofs.Common.{at_uid, end_in, file_in, is_doomed_in, is_emptied_in, is_taken_in, pins_in, MailFile, StoreValue, Emptied, Pinned, Removing, Taken, one_if, at_stage, uncounted, DropsUnwanted, AreAllBut, MayBeEmptied, PurgeValue, HasEmptied, HaveWanted, HoldsCopied, IsAtHand}
+use Rattle.purge_task.proofs.Common.{IsOnlyTask, IsQuietSoFar, files_to_empty, sources_to_empty, PurgeStage, stage, fall}
+use Rattle.std.proofs.Common.{◌⊎◌}
+use Rattle.std.proofs.lemmas.List.Elements.{Contains-push_cases}
+use Rattle.storage_files.specs.Files.{is_sealed_in}
+use Rattle.purge_task.specs.Quiet.{HaveInstancesGone, IsUncleanFile}
 use Rattle.purge_task.proofs.CleanLemmas.{may_be_emptied}
 use Rattle.purge_task.proofs.DropLemmas.{drops_none}
-use Rattle.task_steps.proofs.EventLaws.{fall}
 use Rattle.purge_task.proofs.QuietEndLemmas.{none_within}
 use Rattle.purge_task.proofs.QuietLemmas.{emptied_none}
 use Rattle.purge_task.proofs.QuietSwitchLemmas.{emptied_as}

@@ -1,26 +1,11 @@
 -- What a purge beside no other task makes of the records of the map.
-use Rattle.std.proofs.Common.{◌≡◌, ◌≢◌, ◌+◌, ◌==◌, ◌&&◌, ◌||◌, ℕ, Bool, true, false, not, cond, List, [], ◌∷◌, length, map, Option, Some, None, refl, sym, ◌∙◌, ap, subst, arith, All}
-use Rattle.std.specs.Prelude.{Contains, count_by, filter, if◌then◌else◌}
-use Rattle.std.proofs.lemmas.Bool.{eqb-true}
-use Rattle.std.proofs.lemmas.List.{length-map}
-use Rattle.std.proofs.lemmas.List.Elements.{All-contains, All-contains_itself, All-head, All-tail, All-weaker}
-use Rattle.std.proofs.lemmas.List.Sums.{sum_by-cons}
-use Rattle.journal.specs.QuietPurge.{apart_from_place, goes}
-use Rattle.mdbox_base.specs.declared.entries.MapEntry.TheVariants as map_entry
-use Rattle.mdbox_base.specs.declared.entries.MapPlace.{MapPlace}
-use Rattle.mdbox_base.specs.declared.ids.FileNo.{FileNo}
-use Rattle.mdbox_base.specs.declared.ids.MapUid.{MapUid}
-use Rattle.model_meaning.specs.MapFits.{HasRecord, MapFits}
-use Rattle.model_meaning.specs.MapMeaning.{MapMeaning, MapRecord, has_map_uid, is_sealed, moved_record, place_given, record_at}
-use Rattle.model_meaning.specs.Sound.{IsSoundMap}
-use Rattle.model_meaning.proofs.MapPlaceLemmas.{equal_yes}
+use Rattle.purge_task.proofs.Common.{◌≡◌, ◌≢◌, ◌+◌, ◌==◌, ◌&&◌, ◌||◌, ℕ, Bool, true, false, not, cond, List, [], ◌∷◌, length, map, Option, Some, None, refl, sym, ◌∙◌, ap, subst, arith, All, Contains, count_by, filter, if◌then◌else◌, eqb-true, length-map, All-contains, All-contains_itself, All-head}
+use Rattle.purge_task.proofs.Common.{All-tail, All-weaker, sum_by-cons, apart_from_place, map_entry, MapPlace, FileNo, MapUid, HasRecord, MapFits, MapMeaning, MapRecord, has_map_uid, is_sealed, moved_record, place_given, record_at, IsSoundMap, equal_yes, at_uid, DropsUnwanted, HasEmptied, but_file}
+use Rattle.purge_task.proofs.Common.{stays_beside, with_file, fall}
+use Rattle.journal.specs.QuietPurge.{goes}
 use Rattle.model_octets.proofs.SearchLemmas.{both_same}
-use Rattle.model_store.proofs.OpeningSafeLemmas.{at_uid}
-use Rattle.purge_task.specs.Dropped.{DropsUnwanted}
-use Rattle.purge_task.specs.Quiet.{HasEmptied, but_file, stays_beside, with_file}
 use Rattle.purge_task.proofs.CopyLemmas.{kept_of}
 use Rattle.purge_task.proofs.DropLemmas.{left_or_gone, listed_one, same_apart}
-use Rattle.task_steps.proofs.EventLaws.{fall}
 use Rattle.purge_task.proofs.SwitchRowLemmas.{IsLeftAlone, alone, map_switched, rows_are}
 use Rattle.purge_task.proofs.WithinLemmas.{mapped_of}
 

@@ -1,47 +1,15 @@
 -- What the first event of a purge beside no other task says of it, those that remove instances, and the last.
-use Rattle.std.proofs.Common.{◌≡◌, ◌≢◌, ◌+◌, ℕ, Bool, true, false, cond, List, [], ◌∷◌, length, map, Option, Some, None, refl, sym, ◌∙◌, ap, subst, All}
-use Rattle.std.specs.Prelude.{Contains}
-use Rattle.std.specs.List.{list_any}
-use Rattle.std.specs.Option.{option_map, option_map_or}
-use Rattle.std.proofs.lemmas.List.Elements.{All-cons, All-contains, All-contains_itself, All-head, All-nil, All-tail, All-weaker}
-use Rattle.disk_model.specs.Disk.{DiskState, Files, History, IfTold, IsIdle, SameButFor, reading}
-use Rattle.disk_model.specs.declared.name.FileName.{FileName}
-use Rattle.disk_model.specs.declared.name.FileName.TheVariants as file
-use Rattle.disk_model.proofs.BetweenLemmas.{between-begins, between-if, between-since}
-use Rattle.journal.specs.QuietPurge.{IsCleanFile, PurgesQuietly}
-use Rattle.list_machine.specs.Run.{is_copied_from}
-use Rattle.mdbox_base.specs.declared.ids.FileNo.{FileNo}
-use Rattle.mdbox_base.specs.declared.ids.InstId.{InstId}
-use Rattle.mdbox_base.specs.declared.progress.Progress.TheVariants as progress
-use Rattle.mdbox_base.specs.declared.replies.Reply.TheVariants as reply
-use Rattle.model_meaning.specs.MapMeaning.{MapMeaning, greatest}
-use Rattle.model_octets.proofs.SearchLemmas.{found_one}
-use Rattle.model_store.specs.Safe.{IsThereWhole, LiesInFile}
-use Rattle.model_store.specs.Settled.{files_of}
-use Rattle.sis_store.specs.Instances.{AreInstances, instance_in}
+use Rattle.purge_task.proofs.Common.{◌≡◌, ◌≢◌, ◌+◌, ℕ, Bool, true, false, cond, List, [], ◌∷◌, length, map, Option, Some, None, refl, sym, ◌∙◌, ap, subst, All, Contains, list_any, option_map, option_map_or, All-cons, All-contains, All-contains_itself, All-head, All-nil, All-tail, All-weaker}
+use Rattle.purge_task.proofs.Common.{DiskState, Files, History, IfTold, IsIdle, SameButFor, reading, FileName, file, between-begins, between-if, IsCleanFile, is_copied_from, FileNo, InstId, progress, reply, MapMeaning, greatest, found_one, LiesInFile, files_of, AreInstances, instance_in}
+use Rattle.purge_task.proofs.Common.{KnownInstance, instance-in, end_in, is_useless, useless_past, IsStore, HasKnownInstances, StoreValue, store_sound, Held, MovesClaims, purge_claims, at_stage, uncounted, AreAllBut, found_numbers, PurgeValue, HaveWanted, IsQuietFrom, IsQuietSoFar, KeepsQuiet}
+use Rattle.purge_task.proofs.Common.{StaysQuiet, files_to_empty, sources_to_empty, IsNextStage, told_taken, targets_given, with_target, Found, FoundFile, PurgeStage, stage, Source, Work}
+use Rattle.disk_model.proofs.BetweenLemmas.{between-since}
+use Rattle.journal.specs.QuietPurge.{PurgesQuietly}
+use Rattle.model_store.specs.Safe.{IsThereWhole}
 use Rattle.sis_store.specs.OnDisk.{file_of}
-use Rattle.sis_store.specs.declared.instance.KnownInstance.{KnownInstance}
-use Rattle.sis_store.proofs.IdLemmas.{instance-in}
-use Rattle.storage_files.specs.Files.{end_in}
-use Rattle.store_core.specs.Removing.{is_useless, useless_past}
-use Rattle.store_core.specs.Running.{IsStore}
-use Rattle.store_core.specs.StoreInstances.{AreInstancesThere, HasKnownInstances}
-use Rattle.store_core.specs.Value.{StoreValue}
-use Rattle.store_core.proofs.BoxAppendLemmas.{store_sound}
-use Rattle.task_claims.specs.Claims.{Held, MovesClaims}
-use Rattle.purge_task.specs.Claims.{purge_claims}
-use Rattle.purge_task.specs.Clause.{at_stage, uncounted}
-use Rattle.purge_task.specs.Found.{AreAllBut, FindsUnclean, found_numbers}
-use Rattle.purge_task.specs.Keeping.{PurgeValue}
-use Rattle.purge_task.specs.Quiet.{HaveWanted, IsQuietFrom, IsQuietSoFar, HasBeenQuiet, KeepsQuiet, StaysQuiet, files_to_empty, sources_to_empty}
-use Rattle.purge_task.specs.Stages.{IsNextStage, told_taken}
-use Rattle.purge_task.specs.Taken.{targets_given, with_target}
-use Rattle.purge_task.specs.declared.finding.Found.{Found}
-use Rattle.purge_task.specs.declared.finding.FoundFile.{FoundFile}
-use Rattle.purge_task.specs.declared.task.PurgeStage.{PurgeStage}
-use Rattle.purge_task.specs.declared.task.PurgeStage.TheVariants as stage
-use Rattle.purge_task.specs.declared.work.Source.{Source}
-use Rattle.purge_task.specs.declared.work.Work.{Work}
+use Rattle.store_core.specs.StoreInstances.{AreInstancesThere}
+use Rattle.purge_task.specs.Found.{FindsUnclean}
+use Rattle.purge_task.specs.Quiet.{HasBeenQuiet}
 use Rattle.purge_task.proofs.FirstCallLemmas.{IsTakenFirst}
 use Rattle.purge_task.proofs.GoneCallLemmas.{IsUselessOne}
 use Rattle.purge_task.proofs.QuietCallLemmas.{from_stage, only_moves, quiet_at}

@@ -1,24 +1,7 @@
 -- Records keep the octets of their regions in each event of a purge.
-use Rattle.std.proofs.Common.{◌≡◌, ◌≢◌, ◌≤◌, ◌==◌, ℕ, List, [], ◌∷◌, Option, Some, None, refl, sym, ◌∙◌, ap, subst, All}
-use Rattle.std.specs.Prelude.{Contains, drop, take}
-use Rattle.std.proofs.lemmas.Bool.{eqb-true}
-use Rattle.std.proofs.lemmas.List.Elements.{All-contains}
-use Rattle.disk_model.specs.Disk.{Files}
-use Rattle.disk_model.specs.declared.name.FileName.TheVariants as file
-use Rattle.journal.specs.QuietPurge.{HasSameOctets}
-use Rattle.mdbox_base.specs.declared.entries.MapPlace.{MapPlace}
-use Rattle.mdbox_base.specs.declared.ids.FileNo.{FileNo}
-use Rattle.mdbox_base.specs.declared.ids.MapUid.{MapUid}
-use Rattle.model_appends.specs.MapAppending.{AreCopied, IsCopiedTo}
-use Rattle.model_meaning.specs.MapFits.{HasRecord}
-use Rattle.model_meaning.specs.MapMeaning.{MapMeaning, MapRecord, moved_record, place_given, record_at}
-use Rattle.model_meaning.specs.Sound.{IsSoundMap}
-use Rattle.model_octets.proofs.SearchLemmas.{found_one}
-use Rattle.model_store.specs.Safe.{LiesInFile}
-use Rattle.model_store.proofs.OpeningSafeLemmas.{at_uid}
-use Rattle.store_core.specs.Removing.{AreElsewhere}
-use Rattle.purge_task.specs.Quiet.{HaveSameRegions}
-use Rattle.purge_task.specs.Switched.{AreSwitchLists, target_named}
+use Rattle.purge_task.proofs.Common.{◌≡◌, ◌≢◌, ◌≤◌, ◌==◌, ℕ, List, [], ◌∷◌, Option, Some, None, refl, sym, ◌∙◌, ap, subst, All, Contains, eqb-true, All-contains, Files, file, HasSameOctets, MapPlace, FileNo, MapUid, AreCopied, IsCopiedTo, HasRecord, MapMeaning, MapRecord, moved_record, place_given}
+use Rattle.purge_task.proofs.Common.{record_at, IsSoundMap, found_one, LiesInFile, at_uid, AreElsewhere, HaveSameRegions, AreSwitchLists, target_named}
+use Rattle.std.specs.Prelude.{drop, take}
 use Rattle.purge_task.proofs.QuietTargetLemmas.{came_of}
 use Rattle.purge_task.proofs.SwitchRowLemmas.{map_switched}
 

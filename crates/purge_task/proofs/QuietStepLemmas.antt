@@ -1,23 +1,7 @@
 -- What a part of a step says of a purge beside no other task, the step says.
-use Rattle.std.proofs.Common.{◌≡◌, ◌∙◌, Option, sym, ap, subst}
-use Rattle.std.specs.Prelude.{Result}
-use Rattle.disk_model.specs.Disk.{Files, History}
-use Rattle.disk_model.proofs.BetweenLemmas.{between-map}
-use Rattle.mdbox_base.specs.declared.progress.Did.{Did}
-use Rattle.mdbox_base.specs.declared.progress.Progress.{Progress}
-use Rattle.mdbox_base.specs.declared.progress.Progress.TheVariants as progress
-use Rattle.mdbox_base.specs.declared.replies.Refusal.{Refusal}
-use Rattle.mdbox_base.specs.declared.replies.Reply.TheVariants as reply
-use Rattle.model_meaning.specs.MapMeaning.{MapMeaning}
-use Rattle.model_store.specs.Settled.{files_of}
-use Rattle.store_core.specs.Value.{StoreValue}
-use Rattle.purge_task.specs.Clause.{answer_of, at_stage, came_to}
-use Rattle.purge_task.specs.Keeping.{PurgeValue}
-use Rattle.purge_task.specs.Quiet.{HasBeenQuiet, IsQuietFrom, KeepsQuiet, StaysQuiet}
-use Rattle.purge_task.specs.SwitchEvent.{answer_of_switch, came_by_switch}
-use Rattle.purge_task.specs.declared.switch_event.SwitchedFile.{SwitchedFile}
-use Rattle.purge_task.specs.declared.task.PurgeStage.{PurgeStage}
-use Rattle.purge_task.specs.declared.task.PurgeStage.TheVariants as stage
+use Rattle.purge_task.proofs.Common.{◌≡◌, ◌∙◌, Option, sym, ap, subst, Result, Files, History, between-map, Did, Progress, progress, Refusal, reply, MapMeaning, files_of, StoreValue, answer_of, at_stage, came_to, PurgeValue, IsQuietFrom, KeepsQuiet, StaysQuiet, answer_of_switch, came_by_switch}
+use Rattle.purge_task.proofs.Common.{SwitchedFile, PurgeStage, stage}
+use Rattle.purge_task.specs.Quiet.{HasBeenQuiet}
 use Rattle.purge_task.proofs.StepLemmas.{came_counts, switched_same}
 
 -- A part's answer, and the task that came to it.

@@ -1,40 +1,12 @@
 -- The event of a purge beside no other task that switches a storage file.
-use Rattle.std.proofs.Common.{◌≡◌, ◌≢◌, ◌≤◌, ◌<◌, ◌+◌, ◌==◌, ◌&&◌, ◌||◌, ◌⊎◌, ◌++◌, ℕ, zero, suc, Bool, true, false, not, List, [], ◌∷◌, length, map, Option, Some, None, refl, sym, ◌∙◌, ap, subst, arith, inl, inr, All}
-use Rattle.std.specs.Prelude.{AllPairs, Contains, drop, filter, nat_lt, if◌then◌else◌}
-use Rattle.std.specs.List.{list_any}
-use Rattle.std.specs.List.Sorted.{IsStrictlyIncreasing}
-use Rattle.std.proofs.lemmas.Bool.{eqb-true, ne_eqb}
-use Rattle.std.proofs.lemmas.List.Elements.{All-contains, All-contains_itself, All-head, All-tail, All-weaker, Contains-append_right}
-use Rattle.std.proofs.lemmas.List.Folds.{list_any-append}
-use Rattle.std.proofs.lemmas.List.Kept.{AllPairs-from_increasing}
-use Rattle.disk_model.specs.Disk.{Files}
-use Rattle.disk_model.specs.declared.name.FileName.TheVariants as file
-use Rattle.journal.specs.QuietPurge.{IsClean}
-use Rattle.list_machine.specs.Run.{is_copied_from, is_one_of}
-use Rattle.mdbox_base.specs.declared.entries.MapPlace.{MapPlace}
-use Rattle.mdbox_base.specs.declared.ids.FileNo.{FileNo}
-use Rattle.mdbox_base.specs.declared.progress.Did.TheVariants as did
-use Rattle.model_appends.specs.MapAppending.{AreCopied}
-use Rattle.model_meaning.specs.MapFits.{HasRecord}
-use Rattle.model_meaning.specs.MapMeaning.{MapMeaning, MapRecord, is_sealed, moved_record, place_given}
-use Rattle.model_meaning.specs.Sound.{IsSoundMap}
-use Rattle.model_meaning.proofs.MapPlaceLemmas.{equal_is, equal_yes}
-use Rattle.model_octets.proofs.PairLemmas.{pairs_head, pairs_tail}
-use Rattle.model_octets.proofs.SearchLemmas.{among, both_same}
-use Rattle.model_store.specs.Safe.{LiesInFile}
-use Rattle.store_core.specs.Removing.{AreElsewhere}
-use Rattle.store_core.specs.Value.{StoreValue}
-use Rattle.purge_task.specs.Claims.{sources_left}
-use Rattle.purge_task.specs.Dropped.{DropsUnwanted}
-use Rattle.purge_task.specs.Keeping.{PurgeValue, target_header}
-use Rattle.purge_task.specs.Quiet.{CopiesRunTo, HasEmptied, HaveSameRegions, HaveWanted, HoldsCopies, IsAtHand, IsOnlyTask, IsQuietSoFar, but_file, files_to_empty, sources_to_empty, stays_beside, with_file}
-use Rattle.purge_task.specs.Switched.{IsFirst, IsSwitched, target_named}
-use Rattle.purge_task.specs.declared.switching.Switched.{Switched}
-use Rattle.purge_task.specs.declared.task.PurgeStage.TheVariants as stage
-use Rattle.purge_task.specs.declared.work.Source.{Source}
-use Rattle.purge_task.specs.declared.work.Work.{Work}
+use Rattle.purge_task.proofs.Common.{◌≡◌, ◌≢◌, ◌≤◌, ◌<◌, ◌+◌, ◌==◌, ◌&&◌, ◌||◌, ◌++◌, ℕ, zero, suc, Bool, true, false, not, List, [], ◌∷◌, length, map, Option, Some, None, refl, sym, ◌∙◌, ap, subst, arith, inl, inr, All, AllPairs, Contains, filter, nat_lt, if◌then◌else◌, list_any}
+use Rattle.purge_task.proofs.Common.{IsStrictlyIncreasing, eqb-true, ne_eqb, All-contains, All-contains_itself, All-head, All-tail, All-weaker, Contains-append_right, list_any-append, AllPairs-from_increasing, Files, file, IsClean, is_copied_from, is_one_of, MapPlace, FileNo, did, AreCopied}
+use Rattle.purge_task.proofs.Common.{HasRecord, MapMeaning, MapRecord, is_sealed, moved_record, place_given, IsSoundMap, equal_is, equal_yes, pairs_head, pairs_tail, among, LiesInFile, AreElsewhere, StoreValue, sources_left, DropsUnwanted, PurgeValue, target_header, CopiesRunTo, HasEmptied}
+use Rattle.purge_task.proofs.Common.{HaveSameRegions, HaveWanted, HoldsCopies, IsAtHand, IsOnlyTask, IsQuietSoFar, but_file, files_to_empty, sources_to_empty, stays_beside, with_file, IsFirst, IsSwitched, target_named, Switched, stage, Source, Work, fall}
+use Rattle.std.proofs.Common.{◌⊎◌}
+use Rattle.std.specs.Prelude.{drop}
+use Rattle.model_octets.proofs.SearchLemmas.{both_same}
 use Rattle.purge_task.proofs.CopyLemmas.{kept_of}
-use Rattle.task_steps.proofs.EventLaws.{fall}
 use Rattle.purge_task.proofs.QuietEndLemmas.{none_within, within_one}
 use Rattle.purge_task.proofs.QuietFileLemmas.{append_both, append_long, gone_same}
 use Rattle.purge_task.proofs.QuietLemmas.{emptied_more, filter_alike}

@@ -1,30 +1,13 @@
 -- A target that holds its copies is clean as soon as the map names them.
-use Rattle.std.proofs.Common.{◌≡◌, ◌≢◌, ◌≤◌, ◌<◌, ◌+◌, ◌==◌, ◌⊎◌, ℕ, Bool, true, false, not, List, [], ◌∷◌, length, map, Option, Some, None, refl, sym, ◌∙◌, ap, subst, arith, inl, inr, All}
-use Rattle.std.specs.Prelude.{AllPairs, Contains, codes, filter, take}
+use Rattle.purge_task.proofs.Common.{◌≡◌, ◌≢◌, ◌≤◌, ◌<◌, ◌+◌, ◌==◌, ℕ, Bool, true, false, not, List, [], ◌∷◌, length, map, Option, Some, None, refl, sym, ◌∙◌, ap, subst, arith, inl, inr, All, AllPairs, Contains, filter, eqb-true, All-cons, All-contains, All-contains_itself, All-head, All-nil}
+use Rattle.purge_task.proofs.Common.{All-tail, All-weaker, Contains-append_right, AllPairs-cons, AllPairs-from_increasing, Files, file, IsClean, RunTo, map_entry, MapPlace, FileNo, MapUid, HasRecord, MapMeaning, MapRecord, has_map_uid, moved_record, place_given, record_at, IsSoundMap, equal_is}
+use Rattle.purge_task.proofs.Common.{equal_yes, pairs_head, pairs_nil, pairs_tail, among, found_one, IsHeaderLine, at_uid, AreElsewhere, target_header, CopiesRunTo, HoldsCopies, AreSwitchLists}
+use Rattle.std.proofs.Common.{◌⊎◌}
+use Rattle.std.specs.Prelude.{codes, take}
 use Rattle.std.proofs.Math.Dec.{lit≤}
-use Rattle.std.proofs.lemmas.Bool.{eqb-true}
-use Rattle.std.proofs.lemmas.List.Elements.{All-cons, All-contains, All-contains_itself, All-head, All-nil, All-tail, All-weaker, Contains-append_right}
-use Rattle.std.proofs.lemmas.List.Kept.{AllPairs-cons, AllPairs-from_increasing}
-use Rattle.disk_model.specs.Disk.{Files}
-use Rattle.disk_model.specs.declared.name.FileName.TheVariants as file
-use Rattle.journal.specs.QuietPurge.{IsClean, RunTo}
-use Rattle.mdbox_base.specs.declared.entries.MapEntry.TheVariants as map_entry
-use Rattle.mdbox_base.specs.declared.entries.MapPlace.{MapPlace}
-use Rattle.mdbox_base.specs.declared.ids.FileNo.{FileNo}
-use Rattle.mdbox_base.specs.declared.ids.MapUid.{MapUid}
-use Rattle.model_meaning.specs.MapFits.{HasRecord}
-use Rattle.model_meaning.specs.MapMeaning.{MapMeaning, MapRecord, has_map_uid, moved_record, place_given, record_at, record_rules}
-use Rattle.model_meaning.specs.Sound.{IsSoundMap}
+use Rattle.model_meaning.specs.MapMeaning.{record_rules}
 use Rattle.model_meaning.proofs.KeptRowLemmas.{kept_all}
-use Rattle.model_meaning.proofs.MapPlaceLemmas.{equal_is, equal_yes}
-use Rattle.model_octets.proofs.PairLemmas.{pairs_head, pairs_nil, pairs_tail}
-use Rattle.model_octets.proofs.SearchLemmas.{among, found_is, found_one}
-use Rattle.model_storage.specs.StorageFile.{IsHeaderLine}
-use Rattle.model_store.proofs.OpeningSafeLemmas.{at_uid}
-use Rattle.store_core.specs.Removing.{AreElsewhere}
-use Rattle.purge_task.specs.Keeping.{target_header}
-use Rattle.purge_task.specs.Quiet.{CopiesRunTo, HoldsCopies}
-use Rattle.purge_task.specs.Switched.{AreSwitchLists}
+use Rattle.model_octets.proofs.SearchLemmas.{found_is}
 use Rattle.purge_task.proofs.CopyLemmas.{kept_of}
 use Rattle.purge_task.proofs.DropLemmas.{listed_one}
 use Rattle.purge_task.proofs.SwitchRowLemmas.{map_switched, rows_are}

@@ -1,14 +1,10 @@
 -- Calls that read, and calls one after another, as a message is copied.
-use Rattle.std.proofs.Common.{inl, Option, Some, None, sym, subst, arith}
-use Rattle.std.specs.Prelude.{◌⊎◌}
-use Rattle.disk_model.specs.Disk.{DiskState, History, IsIdle, Grows}
+use Rattle.purge_task.proofs.Common.{inl, Option, Some, None, sym, subst, arith, ◌⊎◌, DiskState, History, IsIdle, Grows, Lists, IsSettledFor, Leaves, KeepsStored}
 use Rattle.disk_model.proofs.IdleLemmas.{idle-between, idle-images}
 use Rattle.disk_model.proofs.MomentLemmas.{each_image-then}
-use Rattle.model_lists.specs.Lists.{Lists}
 use Rattle.model_store.specs.Safe.{Safe}
-use Rattle.model_store.specs.Settled.{IsSettled, IsSettledFor, Leaves}
+use Rattle.model_store.specs.Settled.{IsSettled}
 use Rattle.model_store.proofs.SettledLemmas.{settled_safe}
-use Rattle.store_core.specs.Dues.{KeepsStored}
 
 pub idle_leaves : (lists : Lists) (old new : Option History) → IsIdle old new → IsSettledFor lists old → Leaves lists lists old new
 idle_leaves lists None new idle settled = absurd settled

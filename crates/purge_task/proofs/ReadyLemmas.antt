@@ -1,21 +1,7 @@
 -- A file that a purge has begun or copied is ready to be switched.
-use Rattle.std.proofs.Common.{◌≡◌, ◌≢◌, ◌≤◌, ◌<◌, ◌+◌, ◌==◌, true, List, length, Option, None, sym, subst, arith, inl, inr, All}
-use Rattle.std.specs.Prelude.{AllPairs}
-use Rattle.std.specs.List.{list_any}
-use Rattle.std.proofs.lemmas.Bool.{cases_lt}
-use Rattle.std.proofs.lemmas.List.Elements.{All-nil, All-weaker}
-use Rattle.disk_model.specs.Disk.{History}
-use Rattle.mdbox_base.specs.declared.entries.MapPlace.{MapPlace}
-use Rattle.mdbox_base.specs.declared.ids.FileNo.{FileNo}
-use Rattle.model_meaning.specs.MapFits.{HasRecord}
-use Rattle.model_meaning.specs.MapMeaning.{MapRecord}
-use Rattle.model_octets.proofs.PairLemmas.{pairs_nil}
-use Rattle.store_core.specs.Value.{StoreValue}
-use Rattle.purge_task.specs.Copied.{AreUnwantedFrom}
-use Rattle.purge_task.specs.Keeping.{IsSourceCopied, IsTargetToMake, IsToBegin, IsUnwanted, target_header}
-use Rattle.purge_task.specs.Switched.{IsReadyToSwitch, IsTargetWritten, IsWritten}
-use Rattle.purge_task.specs.declared.work.Source.{Source}
-use Rattle.purge_task.specs.declared.work.Work.{Work}
+use Rattle.purge_task.proofs.Common.{◌≡◌, ◌≢◌, ◌≤◌, ◌<◌, ◌+◌, ◌==◌, true, List, length, Option, None, sym, subst, arith, inl, inr, All, AllPairs, list_any, cases_lt, All-nil, All-weaker, History, MapPlace, FileNo, HasRecord, MapRecord, pairs_nil, StoreValue, AreUnwantedFrom, IsSourceCopied}
+use Rattle.purge_task.proofs.Common.{IsTargetToMake, IsToBegin, IsUnwanted, target_header, IsReadyToSwitch, IsTargetWritten, Source, Work}
+use Rattle.purge_task.specs.Switched.{IsWritten}
 use Rattle.purge_task.proofs.CopiedMoreLemmas.{in_row_follow}
 
 -- one of which no message is wanted

@@ -1,36 +1,16 @@
 -- A region that is copied piece by piece.
-use Rattle.std.proofs.Common.{◌≡◌, ◌≢◌, inl, inr, ℕ, ◌+◌, ◌-◌, ◌<◌, ◌≤◌, ◌==◌, Bool, true, false, cond, List, [], ◌∷◌, ◌++◌, length, take, drop, replicate, Option, Some, None, refl, sym, ap, subst, ◌∙◌, arith, append_assoc}
-use Rattle.std.specs.Prelude.{min, ◌⊎◌, Result, Ok, Err, IsErrOf, All, AllPairs}
-use Rattle.std.proofs.lemmas.List.Elements.{All-weaker}
-use Rattle.std.specs.Option.{option_map, option_and_then}
-use Rattle.std.proofs.lemmas.List.{append-nil, take-append-drop, take-take, drop-take, drop-drop, length-take-le, length-drop}
-use Rattle.disk_model.specs.Disk.{DiskState, FileState, Faults, History, IfTold, IsIdle, Between, SameButFor, Grows, reading}
-use Rattle.disk_model.specs.FaultCounts.{NoFault}
-use Rattle.disk_model.specs.declared.name.FileName.{FileName}
-use Rattle.disk_model.specs.declared.name.FileName.TheVariants.{Mail}
-use Rattle.disk_model.proofs.BetweenLemmas.{between-then, between-both, between-begins, between-map, between-same}
-use Rattle.disk_model.proofs.IdleLemmas.{idle-begins}
+use Rattle.purge_task.proofs.Common.{◌≡◌, ◌≢◌, inl, inr, ℕ, ◌+◌, ◌-◌, ◌<◌, ◌≤◌, ◌==◌, Bool, true, false, cond, List, [], ◌∷◌, ◌++◌, length, take, drop, Option, Some, None, refl, sym, ap, subst, ◌∙◌, arith, append_assoc, ◌⊎◌, Result, Ok, Err, AllPairs, All-weaker, option_map, option_and_then}
+use Rattle.purge_task.proofs.Common.{append-nil, length-take-le, length-drop, DiskState, FileState, Faults, History, IfTold, IsIdle, Between, SameButFor, Grows, reading, NoFault, FileName, Mail, between-both, between-begins, between-map, idle-begins, Refusal, refusal, MailIsKept, kept_then, Lists}
+use Rattle.purge_task.proofs.Common.{MapMeaning, IsSoundMap, IsSoundRecord, equal_is, found_holds, pairs_head, pairs_tail, LiesInFile, IsSettledFor, Leaves, files_of, MapRow, MailFile, AreFilesInOrder, changed_in, end_in, ending_at, file_in, place_begun_in, IsPieceAdded, file-here, KeepsStored}
+use Rattle.purge_task.proofs.Common.{IsStore, StoreValue, IsRegionAdded, IsTargetAt}
+use Rattle.std.proofs.Common.{replicate}
+use Rattle.std.specs.Prelude.{min, IsErrOf, All}
+use Rattle.std.proofs.lemmas.List.{take-append-drop, take-take, drop-take, drop-drop}
+use Rattle.disk_model.proofs.BetweenLemmas.{between-then, between-same}
 use Rattle.disk_model.proofs.FaultCountLemmas.{no_fault-of_counts, no_fault-then}
-use Rattle.mdbox_base.specs.declared.replies.Refusal.{Refusal}
-use Rattle.mdbox_base.specs.declared.replies.Refusal.TheVariants as refusal
-use Rattle.model_kept.specs.Kept.{MailIsKept}
-use Rattle.model_kept.proofs.KeptLemmas.{ReadsImage, kept_begins, kept_then}
-use Rattle.model_lists.specs.Lists.{Lists}
-use Rattle.model_meaning.specs.MapMeaning.{MapMeaning}
-use Rattle.model_meaning.specs.Sound.{IsSoundMap, IsSoundRecord}
-use Rattle.model_meaning.proofs.MapPlaceLemmas.{equal_is}
-use Rattle.model_octets.proofs.PairLemmas.{found_holds, pairs_head, pairs_tail}
-use Rattle.model_store.specs.Safe.{LiesInFile}
-use Rattle.model_store.specs.Settled.{IsSettledFor, Leaves, files_of}
-use Rattle.map_rows.specs.declared.rows.MapRow.{MapRow}
-use Rattle.storage_files.specs.declared.file.MailFile.{MailFile}
-use Rattle.storage_files.specs.Files.{AreFilesInOrder, changed_in, end_in, ending_at, file_in, place_begun_in}
-use Rattle.storage_files.specs.OnDisk.{IsPieceAdded}
-use Rattle.storage_files.proofs.FileListLemmas.{changed-none, ends-here, file-here}
-use Rattle.store_core.specs.Dues.{KeepsStored}
-use Rattle.store_core.specs.Running.{IsStore}
-use Rattle.store_core.specs.Value.{StoreValue}
-use Rattle.purge_task.specs.Copied.{CopyFaultCounted, IsCopyRefusal, IsRegionAdded, IsShownRow, IsTargetAt, whole_piece}
+use Rattle.model_kept.proofs.KeptLemmas.{ReadsImage, kept_begins}
+use Rattle.storage_files.proofs.FileListLemmas.{changed-none, ends-here}
+use Rattle.purge_task.specs.Copied.{CopyFaultCounted, IsCopyRefusal, IsShownRow, whole_piece}
 use Rattle.purge_task.proofs.ReadingLemmas.{idle_leaves, leaves_then}
 
 -- ---- octets piece by piece

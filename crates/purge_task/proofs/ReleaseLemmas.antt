@@ -1,8 +1,5 @@
 -- What a purge gives back of what it has taken.
-use Rattle.std.proofs.Common.{◌≡◌, List}
-use Rattle.store_core.specs.Value.{StoreValue}
-use Rattle.purge_task.specs.Taken.{CanRelease, all_released}
-use Rattle.purge_task.specs.declared.work.Source.{Source}
+use Rattle.purge_task.proofs.Common.{◌≡◌, List, StoreValue, CanRelease, all_released, Source}
 
 -- Of these files only those are still to be given back. No more of the store has changed than who has taken its storage files.
 pub record IsReleasedTo {D : Type 0} (left sources : List Source) (initial store : StoreValue D) : Type 0 where

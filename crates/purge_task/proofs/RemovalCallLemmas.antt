@@ -1,45 +1,15 @@
 -- What a purge says that removes a file which it has switched.
-use Rattle.std.proofs.Common.{◌≡◌, ◌≢◌, ◌≤◌, ◌<◌, ◌+◌, ◌==◌, ◌&&◌, ℕ, Bool, true, false, List, [], ◌∷◌, length, Option, Some, None, refl, sym, ◌∙◌, ap, subst, arith, inl, inr, All}
-use Rattle.std.specs.Prelude.{IsSome, drop, is_some}
-use Rattle.std.specs.Option.{IfSome, option_and_then, option_map_or}
-use Rattle.std.proofs.lemmas.Bool.{cases_eq, eq-eqb, eqb-true, ne_eqb}
-use Rattle.std.proofs.lemmas.List.Elements.{All-cons, All-contains, All-head, All-nil, All-tail}
-use Rattle.disk_model.specs.Disk.{Faults, Grows, History, SameButFor}
-use Rattle.disk_model.specs.FaultCounts.{NoFault}
-use Rattle.disk_model.specs.declared.name.FileName.TheVariants as file
-use Rattle.mdbox_base.specs.declared.ids.FileNo.{FileNo}
-use Rattle.mdbox_base.specs.declared.progress.Did.TheVariants as did
-use Rattle.mdbox_base.specs.declared.progress.Progress.TheVariants as progress
-use Rattle.mdbox_base.specs.declared.replies.Refusal.TheVariants as refusal
-use Rattle.mdbox_base.specs.declared.replies.Reply.TheVariants as reply
-use Rattle.model_kept.specs.Kept.{MailIsKept}
-use Rattle.model_lists.specs.Lists.{Lists}
-use Rattle.model_octets.proofs.PairLemmas.{pairs_head, pairs_tail}
-use Rattle.model_octets.proofs.SearchLemmas.{found_one}
-use Rattle.model_store.specs.Settled.{IsSettledFor, Leaves}
-use Rattle.storage_files.specs.Files.{AreFilesInOrder, IsUsedFile, end_in, file_in, is_doomed_in, is_emptied_in, is_taken_in, pins_in, place_begun_in, without_file}
-use Rattle.storage_files.specs.declared.file.MailFile.{MailFile}
-use Rattle.storage_files.proofs.FileListLemmas.{file-gone, file-without}
-use Rattle.store_core.specs.Removing.{AreElsewhere}
-use Rattle.store_core.specs.Value.{StoreValue}
+use Rattle.purge_task.proofs.Common.{◌≡◌, ◌≢◌, ◌≤◌, ◌<◌, ◌+◌, ◌==◌, ◌&&◌, ℕ, Bool, true, false, List, [], ◌∷◌, length, Option, Some, None, refl, sym, ◌∙◌, ap, subst, arith, inl, inr, All, IsSome, is_some, IfSome, option_and_then, option_map_or, cases_eq, eq-eqb, eqb-true, ne_eqb, All-cons}
+use Rattle.purge_task.proofs.Common.{All-contains, All-head, All-nil, All-tail, Faults, Grows, History, SameButFor, NoFault, file, FileNo, did, progress, refusal, reply, MailIsKept, Lists, pairs_head, pairs_tail, found_one, IsSettledFor, Leaves, AreFilesInOrder, IsUsedFile, end_in, file_in}
+use Rattle.purge_task.proofs.Common.{is_doomed_in, is_emptied_in, is_taken_in, pins_in, place_begun_in, without_file, MailFile, file-gone, file-without, AreElsewhere, StoreValue, firm_same, Due, Emptied, Held, Made, MovesClaims, Pinned, PlacingPieces, Removing, Taken, Thing, amount_in, is_to_remove}
+use Rattle.purge_task.proofs.Common.{one_if, LeavesOthers, MayOnlyGrow, OthersTook, claims_of_sources, claims_of_switched, purge_claims, sources_left, IsPurgeStep, PurgeSteps, AreSourcesApart, HasPurged, IsBeginningFirst, IsRemovingFirst, IsTargetToMake, IsToBegin, PurgeValue, IsNextStage, went_on}
+use Rattle.purge_task.proofs.Common.{PurgeStage, stage, Source, Work, fall, IsStore}
+use Rattle.std.specs.Prelude.{drop}
 use Rattle.store_core.proofs.InstanceKeepingLemmas.{syncs_placed}
-use Rattle.store_core.proofs.KnownInstanceLemmas.{firm_same}
-use Rattle.task_claims.specs.Claims.{Due, Emptied, Held, Made, MovesClaims, Pinned, PlacingPieces, Removing, Taken, Thing, amount_in, is_to_remove, one_if}
-use Rattle.task_claims.specs.Leaving.{LeavesOthers, MayOnlyGrow, OthersTook}
-use Rattle.purge_task.specs.Claims.{claims_of_sources, claims_of_switched, purge_claims, sources_left}
-use Rattle.purge_task.specs.Clause.{IsPurgeStep, PurgeSteps}
-use Rattle.purge_task.specs.Keeping.{AreSourcesApart, HasPurged, IsBeginningFirst, IsRemovingFirst, IsTargetToMake, IsToBegin, PurgeValue}
-use Rattle.purge_task.specs.Stages.{IsNextStage, went_on}
-use Rattle.purge_task.specs.declared.task.PurgeStage.{PurgeStage}
-use Rattle.purge_task.specs.declared.task.PurgeStage.TheVariants as stage
-use Rattle.purge_task.specs.declared.work.Source.{Source}
-use Rattle.purge_task.specs.declared.work.Work.{Work}
-use Rattle.task_steps.proofs.EventLaws.{fall}
 use Rattle.purge_task.proofs.LeavingLemmas.{removal_leaves}
 use Rattle.purge_task.proofs.RemovalLemmas.{removing_steps}
 use Rattle.purge_task.proofs.RemovalSeenLemmas.{without}
 use Rattle.purge_task.proofs.StageLemmas.{left_on}
-use Rattle.store_core.specs.Running.{IsStore}
 use Rattle.purge_task.proofs.SameRegionLemmas.{regions_but}
 
 -- ---- a file that is doomed

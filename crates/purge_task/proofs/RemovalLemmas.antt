@@ -1,37 +1,13 @@
 -- An event of a purge that removes a storage file.
-use Rattle.std.proofs.Common.{◌≡◌, ◌≤◌, ◌+◌, ◌==◌, ◌||◌, ℕ, Bool, true, false, List, [], ◌∷◌, ◌++◌, length, map, Option, Some, None, refl, sym, ◌∙◌, ap, subst, arith, All}
-use Rattle.std.specs.Prelude.{◌≢◌, flat_map, nat_lt, sum_by, if◌then◌else◌}
-use Rattle.std.specs.List.{list_any}
-use Rattle.std.specs.Option.{option_map, option_or}
-use Rattle.std.proofs.lemmas.Bool.{eq-eqb, ne_eqb}
-use Rattle.std.proofs.lemmas.List.{append-nil}
-use Rattle.std.proofs.lemmas.List.Elements.{All-head, All-nil, All-tail, All-weaker}
-use Rattle.disk_model.specs.Disk.{Faults, Grows, History, told_calls}
-use Rattle.disk_model.specs.FaultCounts.{NoFault}
-use Rattle.mdbox_base.specs.declared.progress.Did.TheVariants as did
-use Rattle.mdbox_base.specs.declared.replies.Reply.{Reply}
-use Rattle.mdbox_base.specs.declared.requests.Request.TheVariants as request
-use Rattle.model_kept.specs.Kept.{MailIsKept}
-use Rattle.model_lists.specs.Lists.{Lists}
-use Rattle.model_meaning.specs.MapMeaning.{MapMeaning, MapRecord}
-use Rattle.model_store.specs.Settled.{IsSettledFor, Leaves}
-use Rattle.list_machine.specs.Run.{EventPart, First, RemovesFile, RemovesInstance, Run, RunEvent, Switches, TakenFile, and_then, dropped_in, first_in, how_many, is_one_of, own_events}
-use Rattle.journal.specs.Events.{Around, doomed_last, file_to_remove, is_done, last_refusal, next_part, next_taken, was_pinned}
-use Rattle.journal.proofs.OwnEventLemmas.{own_more}
-use Rattle.storage_files.specs.Files.{pins_in}
-use Rattle.store_core.specs.Removing.{AreElsewhere}
-use Rattle.store_core.specs.Value.{StoreValue}
-use Rattle.task_steps.specs.Step.{HasComeTo, ShowsSeen}
+use Rattle.purge_task.proofs.Common.{◌≡◌, ◌≤◌, ◌+◌, ◌==◌, ◌||◌, ℕ, Bool, true, false, List, [], ◌∷◌, ◌++◌, length, map, Option, Some, None, refl, sym, ◌∙◌, ap, subst, arith, All, flat_map, nat_lt, sum_by, if◌then◌else◌, list_any, option_map, option_or, eq-eqb, ne_eqb, append-nil, All-head, All-nil}
+use Rattle.purge_task.proofs.Common.{All-tail, All-weaker, Faults, Grows, History, told_calls, NoFault, did, Reply, request, MailIsKept, Lists, MapMeaning, MapRecord, IsSettledFor, Leaves, EventPart, First, RemovesFile, RemovesInstance, Run, RunEvent, Switches, TakenFile, and_then, dropped_in}
+use Rattle.purge_task.proofs.Common.{how_many, is_one_of, own_events, Around, is_done, last_refusal, next_part, next_taken, was_pinned, own_more, pins_in, AreElsewhere, StoreValue, HasComeTo, ShowsSeen, sources_left, PurgeSteps, around_purging, seen_by_purge, PurgeValue, GoesOnBehind, HaveCopied}
+use Rattle.purge_task.proofs.Common.{HaveTaken, IsAtPurge, IsAtPurgeStage, IsAtSwitched, IsNextStage, IsPurging, RemovesBehind, told_taken, went_on, PurgeStage, stage, Source, Work, DidBy, fall, stands_by}
+use Rattle.std.specs.Prelude.{◌≢◌}
+use Rattle.list_machine.specs.Run.{first_in}
+use Rattle.journal.specs.Events.{doomed_last, file_to_remove}
 use Rattle.task_steps.proofs.SeenLemmas.{pinned_as}
-use Rattle.purge_task.specs.Claims.{sources_left}
-use Rattle.purge_task.specs.Clause.{PurgeSteps, around_purging, seen_by_purge}
-use Rattle.purge_task.specs.Keeping.{PurgeValue}
-use Rattle.purge_task.specs.Stages.{GoesOnBehind, HaveCopied, HaveTaken, IsAtPurge, IsAtPurgeStage, IsAtSwitched, IsNextStage, IsLastOf, IsPurging, RemovesBehind, told_taken, went_on}
-use Rattle.purge_task.specs.declared.task.PurgeStage.{PurgeStage}
-use Rattle.purge_task.specs.declared.task.PurgeStage.TheVariants as stage
-use Rattle.purge_task.specs.declared.work.Source.{Source}
-use Rattle.purge_task.specs.declared.work.Work.{Work}
-use Rattle.task_steps.proofs.EventLaws.{DidBy, fall, stands_by}
+use Rattle.purge_task.specs.Stages.{IsLastOf}
 use Rattle.purge_task.proofs.EventLemmas.{did_next}
 use Rattle.purge_task.proofs.PartLemmas.{goes_on_some, last_with, next_removes}
 use Rattle.purge_task.proofs.RemovalSeenLemmas.{removal_comes, removal_event, without}

@@ -1,26 +1,11 @@
 -- What is seen of a store without one storage file, in a run of which an event removed that.
-use Rattle.std.proofs.Common.{◌≡◌, ◌≤◌, ◌==◌, ◌&&◌, ◌||◌, ℕ, Bool, true, false, not, List, [], ◌∷◌, ◌++◌, Option, None, refl, sym, ◌∙◌, ap, subst, arith, inl, inr}
-use Rattle.std.specs.Prelude.{◌≢◌, is_some, nat_le, nat_lt}
-use Rattle.std.specs.List.{list_any}
-use Rattle.std.specs.Option.{option_map_or, option_and_then}
-use Rattle.std.proofs.lemmas.Bool.{cases_eq}
-use Rattle.std.proofs.lemmas.Grind.{common_steps}
-use Rattle.disk_model.specs.Disk.{Faults, History, told_calls}
-use Rattle.model_meaning.specs.MapMeaning.{MapMeaning, is_own, is_sealed, number_at}
-use Rattle.list_machine.specs.Run.{RemovesFile, Run, RunEvent, and_then, before, event_of, is_doomed, is_one_of, map_of}
-use Rattle.journal.specs.Events.{begun_in, ended_in}
+use Rattle.purge_task.proofs.Common.{◌≡◌, ◌≤◌, ◌==◌, ◌&&◌, ◌||◌, ℕ, Bool, true, false, not, List, [], ◌∷◌, ◌++◌, Option, None, refl, sym, ◌∙◌, ap, subst, arith, inl, inr, is_some, nat_le, nat_lt, list_any, option_map_or, option_and_then, cases_eq, common_steps, Faults, History, told_calls}
+use Rattle.purge_task.proofs.Common.{MapMeaning, is_own, is_sealed, number_at, RemovesFile, Run, RunEvent, and_then, before, event_of, is_one_of, map_of, begun_in, ended_in, HasCome, comes_on, file_in, is_doomed_in, pins_in, without_file, MailFile, file-gone, file-without, knows_file, StoreValue}
+use Rattle.purge_task.proofs.Common.{may_be_used, HasComeTo, was_used, given_still, gone_still, pins_still, placed_still, seen_by_purge}
+use Rattle.std.specs.Prelude.{◌≢◌}
+use Rattle.list_machine.specs.Run.{is_doomed}
 use Rattle.journal.specs.Found.{is_known_file}
-use Rattle.journal.specs.Makes.{HasCome}
-use Rattle.journal.proofs.RunLemmas.{comes_on}
-use Rattle.storage_files.specs.Files.{file_in, is_doomed_in, pins_in, without_file}
-use Rattle.storage_files.specs.declared.file.MailFile.{MailFile}
-use Rattle.storage_files.proofs.FileListLemmas.{file-gone, file-without}
-use Rattle.store_core.specs.Knows.{knows_file}
-use Rattle.store_core.specs.Value.{StoreValue}
-use Rattle.store_seen.specs.Seeing.{may_be_barred, may_be_used}
-use Rattle.task_steps.specs.Step.{HasComeTo, was_used}
-use Rattle.task_steps.proofs.SeenLemmas.{given_still, gone_still, pins_still, placed_still}
-use Rattle.purge_task.specs.Clause.{seen_by_purge}
+use Rattle.store_seen.specs.Seeing.{may_be_barred}
 use Rattle.purge_task.proofs.RunLemmas.{any_now, any_still, one_itself, one_other, sum_push}
 
 abbrev pub removal_event : ℕ → ℕ → ℕ → ℕ → RunEvent

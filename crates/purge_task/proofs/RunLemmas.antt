@@ -1,17 +1,11 @@
 -- What a run tells with one event more, and what the own events of a purge add up to.
-use Rattle.std.proofs.Common.{◌≡◌, ◌<◌, ◌+◌, ◌==◌, ◌||◌, ℕ, Bool, true, false, List, [], ◌∷◌, ◌++◌, map, refl, sym, ◌∙◌, ap, subst, arith, All, inl, inr}
-use Rattle.std.specs.Prelude.{◌≢◌, flat_map, sum_by, if◌then◌else◌}
-use Rattle.std.specs.List.{list_any}
-use Rattle.std.proofs.lemmas.Bool.{cases_eq, eq-eqb, ne_eqb}
+use Rattle.purge_task.proofs.Common.{◌≡◌, ◌<◌, ◌+◌, ◌==◌, ◌||◌, ℕ, Bool, true, false, List, [], ◌∷◌, ◌++◌, map, refl, sym, ◌∙◌, ap, subst, arith, All, inl, inr, flat_map, sum_by, if◌then◌else◌, list_any, cases_eq, eq-eqb, ne_eqb, append-nil, All-cons, All-nil, All-head, All-tail, All-weaker}
+use Rattle.purge_task.proofs.Common.{list_any-append, sum_by-cons, RunEvent, TakenFile, how_many, is_one_of, is_done, HaveTaken, told_taken, Source}
+use Rattle.std.specs.Prelude.{◌≢◌}
 use Rattle.std.proofs.lemmas.Grind.{flat_map-append}
-use Rattle.std.proofs.lemmas.List.{append-nil, append_assoc}
-use Rattle.std.proofs.lemmas.List.Elements.{All-append, All-cons, All-nil, All-head, All-tail, All-weaker}
-use Rattle.std.proofs.lemmas.List.Folds.{list_any-append}
-use Rattle.std.proofs.lemmas.List.Sums.{sum_by-append, sum_by-cons}
-use Rattle.list_machine.specs.Run.{RunEvent, TakenFile, how_many, is_one_of}
-use Rattle.journal.specs.Events.{is_done}
-use Rattle.purge_task.specs.Stages.{HaveTaken, told_taken}
-use Rattle.purge_task.specs.declared.work.Source.{Source}
+use Rattle.std.proofs.lemmas.List.{append_assoc}
+use Rattle.std.proofs.lemmas.List.Elements.{All-append}
+use Rattle.std.proofs.lemmas.List.Sums.{sum_by-append}
 
 pub or_none : (b : Bool) → (b || false) ≡ b
 or_none true = refl

@@ -1,24 +1,6 @@
 -- Records keep the octets of their regions where at most one file changes, in which none of them lies.
-use Rattle.std.proofs.Common.{◌≡◌, ◌≢◌, ℕ, false, List, get_or, Option, Some, None, refl, sym, ◌∙◌, ap, subst, All}
-use Rattle.std.specs.Prelude.{Contains}
-use Rattle.std.proofs.lemmas.List.Elements.{All-contains, All-weaker}
-use Rattle.disk_model.specs.Disk.{Between, DiskState, Files, History, IfTold, IsIdle, SameButFor, named, reading}
-use Rattle.disk_model.specs.declared.name.FileName.{FileName}
-use Rattle.disk_model.specs.declared.name.FileName.TheVariants as file
-use Rattle.disk_model.proofs.BetweenLemmas.{between-if, between-map}
-use Rattle.journal.specs.QuietPurge.{HasSameOctets}
-use Rattle.model_meaning.specs.MapMeaning.{MapMeaning, MapRecord, record_at}
-use Rattle.model_meaning.specs.Sound.{IsSoundMap}
-use Rattle.model_store.specs.Safe.{LiesInFile}
-use Rattle.model_store.specs.Settled.{files_of}
-use Rattle.model_store.proofs.OpeningSafeLemmas.{at_uid}
-use Rattle.storage_files.specs.OnDisk.{OthersAreNamed}
-use Rattle.store_core.specs.Removing.{AreElsewhere}
-use Rattle.store_core.specs.Running.{IsStore}
-use Rattle.store_core.specs.Value.{StoreValue}
-use Rattle.store_core.proofs.BoxAppendLemmas.{store_sound}
-use Rattle.store_core.proofs.MailChangeLemmas.{named_reads}
-use Rattle.purge_task.specs.Quiet.{HaveSameRegions}
+use Rattle.purge_task.proofs.Common.{◌≡◌, ◌≢◌, ℕ, false, List, get_or, Option, Some, None, refl, sym, ◌∙◌, ap, subst, All, Contains, All-contains, All-weaker, Between, DiskState, Files, History, IfTold, IsIdle, SameButFor, named, reading, FileName, file, between-if, between-map, HasSameOctets}
+use Rattle.purge_task.proofs.Common.{MapMeaning, MapRecord, record_at, IsSoundMap, LiesInFile, files_of, at_uid, OthersAreNamed, AreElsewhere, IsStore, StoreValue, store_sound, named_reads, HaveSameRegions}
 
 -- each lies in its file
 pub lie_told : {D : Type 0} → (store : StoreValue D) (history : Option History) → IsStore history store → store.stopped ≡ false → IfTold history (λ now. All (LiesInFile (files_of now)) store.map.records)

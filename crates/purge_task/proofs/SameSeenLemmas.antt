@@ -1,22 +1,9 @@
 -- What is seen of a store whose storage files tell no less, in a run of which an event left them.
-use Rattle.std.proofs.Common.{◌≡◌, ◌≤◌, ◌&&◌, ℕ, Bool, true, false, List, [], Option, Some, refl, sym, ◌∙◌, ap, subst, arith, inl, inr}
-use Rattle.std.specs.Prelude.{◌≢◌, ◌⊎◌, is_some, nat_le, nat_lt}
-use Rattle.std.specs.Option.{option_map_or, option_and_then}
-use Rattle.std.proofs.lemmas.Bool.{cases_eq}
-use Rattle.std.proofs.lemmas.Grind.{common_steps}
-use Rattle.disk_model.specs.Disk.{Faults, History, told_calls}
-use Rattle.model_meaning.specs.MapMeaning.{is_own, no_numbers, number_at}
-use Rattle.list_machine.specs.Run.{Run, RunEvent, and_then, is_one_of}
-use Rattle.journal.specs.Events.{begun_in, ended_in}
-use Rattle.journal.specs.Makes.{HasCome}
-use Rattle.journal.proofs.RunLemmas.{comes_on}
-use Rattle.storage_files.specs.Files.{FilesValue, file_in, is_doomed_in, pins_in}
-use Rattle.storage_files.specs.declared.file.MailFile.{MailFile}
-use Rattle.store_core.specs.Value.{StoreValue}
-use Rattle.task_steps.specs.Step.{HasComeTo}
+use Rattle.purge_task.proofs.Common.{◌≡◌, ◌≤◌, ◌&&◌, ℕ, Bool, true, false, List, [], Option, Some, refl, sym, ◌∙◌, ap, subst, arith, inl, inr, ◌⊎◌, is_some, nat_le, nat_lt, option_map_or, option_and_then, cases_eq, common_steps, Faults, History, told_calls, is_own, no_numbers, number_at, Run}
+use Rattle.purge_task.proofs.Common.{RunEvent, and_then, is_one_of, begun_in, ended_in, HasCome, comes_on, FilesValue, file_in, is_doomed_in, pins_in, MailFile, StoreValue, HasComeTo, doomed_still, file_still_known, given_still, gone_still, pins_still, placed_still, there_before, used_still}
+use Rattle.purge_task.proofs.Common.{seen_by_purge}
+use Rattle.std.specs.Prelude.{◌≢◌}
 use Rattle.task_steps.specs.Tells.{LeavesFiles}
-use Rattle.task_steps.proofs.SeenLemmas.{doomed_still, file_still_known, given_still, gone_still, pins_still, placed_still, there_before, used_still}
-use Rattle.purge_task.specs.Clause.{seen_by_purge}
 use Rattle.purge_task.proofs.RunLemmas.{sum_push}
 
 -- the store with other files, that runs or doesn't

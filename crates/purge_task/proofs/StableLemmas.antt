@@ -1,39 +1,15 @@
 -- A purge stays ready for its next event beside every event of every other task.
-use Rattle.std.proofs.Common.{◌≡◌, ◌≢◌, ◌≤◌, ◌<◌, ◌+◌, ◌==◌, ◌&&◌, ℕ, zero, suc, ◌-◌, Bool, true, false, List, [], ◌∷◌, drop, length, take, get_or, Option, Some, None, refl, sym, ◌∙◌, ap, subst, arith, All, inl, inr}
-use Rattle.std.specs.Prelude.{if◌then◌else◌}
-use Rattle.std.specs.List.{list_any}
-use Rattle.std.specs.Option.{IfSome, option_and_then, option_map, option_map_or}
-use Rattle.std.proofs.lemmas.Bool.{cases_eq, eq-eqb, eqb-true}
-use Rattle.std.proofs.lemmas.List.Elements.{All-cons, All-contains, All-head, All-nil, All-tail}
-use Rattle.std.proofs.lemmas.List.Sums.{sum_by-cons}
-use Rattle.disk_model.specs.Disk.{DiskState, FileState, History, MayLeave, reading}
-use Rattle.disk_model.specs.declared.name.FileName.TheVariants.{Mail}
-use Rattle.disk_model.proofs.BetweenLemmas.{between-both, between-on}
+use Rattle.purge_task.proofs.Common.{◌≡◌, ◌≢◌, ◌≤◌, ◌<◌, ◌+◌, ◌==◌, ◌&&◌, ℕ, zero, suc, ◌-◌, Bool, true, false, List, [], ◌∷◌, drop, length, take, get_or, Option, Some, None, refl, sym, ◌∙◌, ap, subst, arith, All, inl, inr, if◌then◌else◌, list_any, IfSome, option_and_then, option_map, option_map_or}
+use Rattle.purge_task.proofs.Common.{cases_eq, eq-eqb, eqb-true, All-cons, All-contains, All-head, All-nil, All-tail, sum_by-cons, DiskState, FileState, History, MayLeave, reading, Mail, between-both, between-on, MapPlace, FileNo, AreCopied, IsCopiedTo, HasRecord, size_at, MapMeaning, MapRecord}
+use Rattle.purge_task.proofs.Common.{record_at, found_one, files_of, MailFile, AreFilesInOrder, file_in, is_taken_in, pins_in, with_pins, IsStore, StoreValue, store_sound, named_reads, Claims, Emptied, Removing, Taken, one_if, IsSameOrSynced, LeavesOthers, but_count, records_within}
+use Rattle.purge_task.proofs.Common.{claims_of_sources, claims_of_switched, purge_claims, sources_left, AreCopiedUpTo, HasPurged, HasSwitchRoom, HasTargetHeader, IsBeginningFirst, IsCopyingFirst, IsCopyingTo, IsRemovingFirst, IsTargetToMake, IsToBegin, PurgeValue, target_header, PurgeStage, stage}
+use Rattle.purge_task.proofs.Common.{Source, Work}
 use Rattle.disk_model.proofs.OneFileLemmas.{named-narrows}
-use Rattle.mdbox_base.specs.declared.entries.MapPlace.{MapPlace}
-use Rattle.mdbox_base.specs.declared.ids.FileNo.{FileNo}
-use Rattle.model_appends.specs.MapAppending.{AreCopied, IsCopiedTo}
-use Rattle.model_meaning.specs.MapFits.{HasRecord, size_at}
-use Rattle.model_meaning.specs.MapMeaning.{MapMeaning, MapRecord, record_at}
-use Rattle.model_octets.proofs.SearchLemmas.{found_one}
-use Rattle.model_store.specs.Settled.{files_of}
-use Rattle.storage_files.specs.declared.file.MailFile.{MailFile}
-use Rattle.storage_files.specs.Files.{AreFilesInOrder, file_in, is_taken_in, pins_in, with_pins}
-use Rattle.store_core.specs.Running.{IsStore}
-use Rattle.store_core.specs.Value.{StoreValue}
-use Rattle.store_core.proofs.BoxAppendLemmas.{store_sound}
-use Rattle.store_core.proofs.MailChangeLemmas.{named_reads}
-use Rattle.task_claims.specs.Claims.{Claims, Emptied, Removing, Taken, one_if}
-use Rattle.task_claims.specs.Leaving.{IsSameOrSynced, LeavesOthers, but_count, known_but_pins, records_within}
+use Rattle.task_claims.specs.Leaving.{known_but_pins}
 use Rattle.task_claims.specs.Stable.{Beside}
 use Rattle.task_claims.proofs.LeftLemmas.{emptied_left, removing_left, taken_left}
-use Rattle.purge_task.specs.Claims.{claims_of_sources, claims_of_switched, purge_claims, sources_left}
-use Rattle.purge_task.specs.Keeping.{AreCopiedUpTo, AreCopiesInRow, HasCountRoom, HasPurged, HasSwitchRoom, HasTargetHeader, IsBeginningFirst, IsCopyingFirst, IsCopyingTo, IsReadyToPurge, IsRemovingFirst, IsTargetToMake, IsToBegin, IsToMake, PurgeValue, target_header}
+use Rattle.purge_task.specs.Keeping.{AreCopiesInRow, HasCountRoom, IsReadyToPurge, IsToMake}
 use Rattle.purge_task.specs.Left.{purge_left}
-use Rattle.purge_task.specs.declared.task.PurgeStage.{PurgeStage}
-use Rattle.purge_task.specs.declared.task.PurgeStage.TheVariants as stage
-use Rattle.purge_task.specs.declared.work.Source.{Source}
-use Rattle.purge_task.specs.declared.work.Work.{Work}
 use Rattle.purge_task.proofs.WithinCountLemmas.{AreAlikeWithin, each_within, elsewhere_within, fits_within, is_so, messages_within, target_within, unwanted_within}
 
 -- ---- what is known of a file

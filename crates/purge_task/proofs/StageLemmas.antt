@@ -1,15 +1,6 @@
 -- The stage to which a purge goes on behind a file.
-use Rattle.std.proofs.Common.{◌≡◌, ◌+◌, ℕ, zero, suc, List, [], ◌∷◌, sym, ◌∙◌, ap, subst, arith, inl, inr}
+use Rattle.purge_task.proofs.Common.{◌≡◌, ◌+◌, ℕ, zero, suc, List, [], ◌∷◌, sym, ◌∙◌, ap, subst, arith, inl, inr, Reply, Run, StoreValue, sources_left, PurgeValue, GoesOnBehind, IsAtPurge, IsAtPurgeStage, IsNextStage, IsPurging, went_on, PurgeStage, Source, Work}
 use Rattle.std.specs.Prelude.{drop}
-use Rattle.mdbox_base.specs.declared.replies.Reply.{Reply}
-use Rattle.list_machine.specs.Run.{Run}
-use Rattle.store_core.specs.Value.{StoreValue}
-use Rattle.purge_task.specs.Claims.{sources_left}
-use Rattle.purge_task.specs.Keeping.{PurgeValue}
-use Rattle.purge_task.specs.Stages.{GoesOnBehind, IsAtPurge, IsAtPurgeStage, IsNextStage, IsPurging, went_on}
-use Rattle.purge_task.specs.declared.task.PurgeStage.{PurgeStage}
-use Rattle.purge_task.specs.declared.work.Source.{Source}
-use Rattle.purge_task.specs.declared.work.Work.{Work}
 
 one_more : (n : ℕ) (xs : List Source) (source : Source) (left : List Source) → drop n xs ≡ source ∷ left → drop (suc n) xs ≡ left
 one_more zero [] source left e = absurd (cc e)

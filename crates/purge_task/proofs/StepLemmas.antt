@@ -1,45 +1,16 @@
 -- The parts of a purge's step, put together.
-use Rattle.std.proofs.Common.{◌≡◌, ◌≢◌, ◌≤◌, ◌<◌, ◌+◌, ◌*◌, ◌==◌, ℕ, zero, suc, Bool, true, false, not, List, [], ◌∷◌, ◌++◌, length, filter, Option, Some, None, refl, sym, ◌∙◌, ap, subst, arith, inl, inr, All}
-use Rattle.std.specs.Prelude.{◌||◌, ◌⊎◌, Contains, Err, IfOk, IsSome, Ok, Result, cond, is_some}
-use Rattle.std.specs.List.{list_any}
-use Rattle.std.specs.Option.{option_map}
-use Rattle.std.proofs.lemmas.Bool.{eq-eqb, ne_eqb}
-use Rattle.std.proofs.lemmas.List.Elements.{All-cons, All-head, All-nil, All-tail}
-use Rattle.disk_model.specs.Disk.{Faults, History}
-use Rattle.map_index.specs.Shown.{record_from, shown_record}
-use Rattle.map_rows.specs.declared.rows.MapRow.{MapRow}
-use Rattle.mdbox_base.specs.declared.ids.FileNo.{FileNo}
-use Rattle.mdbox_base.specs.declared.ids.InstId.{InstId}
-use Rattle.mdbox_base.specs.declared.progress.Did.{Did}
-use Rattle.mdbox_base.specs.declared.progress.Did.TheVariants as did
-use Rattle.mdbox_base.specs.declared.progress.Progress.{Progress}
-use Rattle.mdbox_base.specs.declared.progress.Progress.TheVariants as progress
-use Rattle.mdbox_base.specs.declared.replies.Refusal.{Refusal}
-use Rattle.mdbox_base.specs.declared.replies.Refusal.TheVariants as refusal
-use Rattle.mdbox_base.specs.declared.replies.Reply.{Reply}
-use Rattle.mdbox_base.specs.declared.replies.Reply.TheVariants as reply
-use Rattle.list_machine.specs.Run.{EventPart, Run}
-use Rattle.journal.specs.Events.{Around}
-use Rattle.model_meaning.specs.MapMeaning.{MapMeaning, MapRecord}
-use Rattle.model_octets.proofs.SearchLemmas.{among, found_one}
-use Rattle.sis_store.specs.Instances.{has_id, instance_in, without_instance}
-use Rattle.sis_store.specs.declared.instance.KnownInstance.{KnownInstance}
-use Rattle.store_core.specs.Removing.{AreElsewhere}
-use Rattle.store_core.specs.Value.{StoreValue}
+use Rattle.purge_task.proofs.Common.{◌≡◌, ◌≢◌, ◌≤◌, ◌<◌, ◌+◌, ◌*◌, ◌==◌, ℕ, zero, suc, Bool, true, false, not, List, [], ◌∷◌, ◌++◌, length, Option, Some, None, refl, sym, ◌∙◌, ap, subst, arith, inl, inr, All, ◌⊎◌, Contains, Err, IfOk, IsSome, Ok, Result, is_some, list_any, option_map, eq-eqb}
+use Rattle.purge_task.proofs.Common.{ne_eqb, All-cons, All-head, All-nil, All-tail, Faults, History, record_from, shown_record, MapRow, FileNo, InstId, Did, did, Progress, progress, Refusal, refusal, Reply, reply, EventPart, Run, Around, MapMeaning, MapRecord, among, found_one, has_id, instance_in}
+use Rattle.purge_task.proofs.Common.{without_instance, KnownInstance, AreElsewhere, StoreValue, purge_claims, sources_left, IsPurgeStep, PurgeSteps, answer_of, at_stage, came_to, AreUnwantedFrom, IsNextWanted, HasPurged, IsBeginningFirst, IsCopyingFirst, IsTargetFirst, PurgeValue, IsFurther}
+use Rattle.purge_task.proofs.Common.{GoesOnBehind, CopiesBehind, IsAtPurgeStage, IsAtSwitched, IsPurging, RemovesBehind, IsToSwitch, IsUnwantedFirst, answer_of_switch, came_by_switch, SwitchedFile, PurgeStage, stage, Source, Work, fall}
+use Rattle.std.proofs.Common.{filter}
+use Rattle.std.specs.Prelude.{◌||◌, cond}
 use Rattle.task_steps.specs.Step.{ended_by}
-use Rattle.purge_task.specs.Claims.{purge_claims, sources_left}
-use Rattle.purge_task.specs.Clause.{IsPurgeStep, PurgeSteps, answer_of, at_stage, came_to, did_of_refusal}
-use Rattle.purge_task.specs.Copied.{AreUnwantedFrom, IsNextWanted, IsNextWantedFirst}
-use Rattle.purge_task.specs.Keeping.{HasLowCounts, HasPurged, IsBareFirst, IsBeginningFirst, IsCopyingFirst, IsReadyToPurge, IsTargetFirst, LeavesLess, PurgeValue}
-use Rattle.purge_task.specs.Left.{IsFurther, events_before_instances, purge_files}
-use Rattle.purge_task.specs.Stages.{GoesOnBehind, CopiesBehind, IsAtPurgeStage, IsAtSwitched, IsPurging, RemovesBehind}
-use Rattle.purge_task.specs.SwitchEvent.{IsCopiedFirst, IsToSwitch, IsUnwantedFirst, answer_of_switch, came_by_switch}
-use Rattle.purge_task.specs.declared.switch_event.SwitchedFile.{SwitchedFile}
-use Rattle.purge_task.specs.declared.task.PurgeStage.{PurgeStage}
-use Rattle.purge_task.specs.declared.task.PurgeStage.TheVariants as stage
-use Rattle.purge_task.specs.declared.work.Source.{Source}
-use Rattle.purge_task.specs.declared.work.Work.{Work}
-use Rattle.task_steps.proofs.EventLaws.{fall}
+use Rattle.purge_task.specs.Clause.{did_of_refusal}
+use Rattle.purge_task.specs.Copied.{IsNextWantedFirst}
+use Rattle.purge_task.specs.Keeping.{HasLowCounts, IsBareFirst, IsReadyToPurge, LeavesLess}
+use Rattle.purge_task.specs.Left.{events_before_instances, purge_files}
+use Rattle.purge_task.specs.SwitchEvent.{IsCopiedFirst}
 use Rattle.purge_task.proofs.FreeInstanceLemmas.{any_has}
 use Rattle.purge_task.proofs.StableLemmas.{left_stays}
 use Rattle.purge_task.proofs.WalkLemmas.{found_row, none_found}

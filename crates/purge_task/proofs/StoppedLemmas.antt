@@ -1,30 +1,9 @@
 -- A purge of a store that is stopped.
-use Rattle.std.proofs.Common.{◌≡◌, ℕ, List, [], ◌∷◌, Some, true, refl, sym, ◌∙◌, subst, arith, Option}
-use Rattle.disk_model.specs.Disk.{Faults, History}
-use Rattle.mdbox_base.specs.declared.progress.Did.{Did}
-use Rattle.mdbox_base.specs.declared.progress.Did.TheVariants as did
-use Rattle.mdbox_base.specs.declared.progress.Progress.TheVariants as progress
-use Rattle.mdbox_base.specs.declared.replies.Refusal.TheVariants as refusal
-use Rattle.mdbox_base.specs.declared.replies.Reply.{Reply}
-use Rattle.mdbox_base.specs.declared.replies.Reply.TheVariants as reply
-use Rattle.mdbox_base.specs.declared.requests.Request.TheVariants as request
-use Rattle.list_machine.specs.Run.{EventPart, First, RemovesFile, Run, own_events}
-use Rattle.journal.specs.Events.{Around, next_part, next_taken}
-use Rattle.store_core.specs.Value.{StoreValue}
-use Rattle.task_steps.specs.Step.{DidEvent}
-use Rattle.purge_task.specs.Claims.{sources_left}
-use Rattle.purge_task.specs.Clause.{IsPurgeStep, PurgeSteps, around_purging, seen_by_purge}
-use Rattle.purge_task.specs.Keeping.{PurgeValue}
-use Rattle.purge_task.specs.Stages.{IsAtPurgeStage, IsAtSwitched}
-use Rattle.purge_task.specs.declared.task.PurgeStage.{PurgeStage}
-use Rattle.purge_task.specs.declared.task.PurgeStage.TheVariants as stage
-use Rattle.purge_task.specs.declared.work.Source.{Source}
-use Rattle.task_steps.proofs.EventLaws.{did_stop, fall}
-use Rattle.task_steps.proofs.OneEventLemmas.{never_more, next_first}
-use Rattle.task_steps.proofs.UnmovedLemmas.{mail_still}
+use Rattle.purge_task.proofs.Common.{◌≡◌, ℕ, List, [], ◌∷◌, Some, true, refl, sym, ◌∙◌, subst, arith, Option, Faults, History, Did, did, progress, refusal, Reply, reply, request, EventPart, First, RemovesFile, Run, own_events, Around, next_part, next_taken, StoreValue, DidEvent, sources_left}
+use Rattle.purge_task.proofs.Common.{IsPurgeStep, PurgeSteps, around_purging, seen_by_purge, PurgeValue, IsAtPurgeStage, IsAtSwitched, PurgeStage, stage, Source, fall, never_more, next_first, mail_still, idle-begins}
+use Rattle.task_steps.proofs.EventLaws.{did_stop}
 use Rattle.purge_task.proofs.EventLemmas.{purge_refuses, same_refusal}
 use Rattle.purge_task.proofs.PartLemmas.{copies_some, goes_on_some, next_copies, next_goes_on, next_removes}
-use Rattle.disk_model.proofs.IdleLemmas.{idle-begins}
 
 -- a purge that stands at a stage has a next part
 pub next_some : {D : Type 0} → (around : Around) (s : PurgeStage) (t : PurgeValue) (store : StoreValue D) (run : Run) (place : ℕ) (said : List Reply) → IsAtPurgeStage s t store run place said → (part : EventPart) × (next_part around run request.Purge (own_events place run) ≡ Some part)

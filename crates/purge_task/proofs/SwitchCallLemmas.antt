@@ -1,67 +1,20 @@
 -- What a purge says that switches a storage file.
-use Rattle.std.proofs.Common.{◌≡◌, ◌≢◌, ◌≤◌, ◌<◌, ◌+◌, ◌==◌, ◌&&◌, ◌⊎◌, ℕ, Bool, true, false, not, List, [], ◌∷◌, length, Option, Some, None, refl, sym, ◌∙◌, ap, subst, arith, get_or, inl, inr, All}
-use Rattle.std.specs.Prelude.{AllPairs, drop, filter, is_some, nat_le, nat_lt, if◌then◌else◌}
-use Rattle.std.specs.List.{list_any}
-use Rattle.std.specs.Option.{IfSome, option_and_then, option_map_or}
-use Rattle.std.proofs.lemmas.Bool.{cases_Bool, cases_lt, eq-eqb, eqb-true, ne_eqb}
-use Rattle.std.proofs.lemmas.List.{drop_all}
-use Rattle.std.proofs.lemmas.List.Elements.{All-cons, All-contains, All-head, All-nil, All-tail}
-use Rattle.std.proofs.lemmas.Grind.{common_steps}
-use Rattle.std.proofs.lemmas.List.Kept.{AllPairs-cons}
-use Rattle.std.proofs.lemmas.List.Sums.{count_by-le-length}
-use Rattle.disk_model.specs.Disk.{Faults, Grows, History}
+use Rattle.purge_task.proofs.Common.{◌≡◌, ◌≢◌, ◌≤◌, ◌<◌, ◌+◌, ◌==◌, ◌&&◌, ℕ, Bool, true, false, not, List, [], ◌∷◌, length, Option, Some, None, refl, sym, ◌∙◌, ap, subst, arith, get_or, inl, inr, All, AllPairs, filter, is_some, nat_le, nat_lt, if◌then◌else◌, list_any, IfSome, option_and_then}
+use Rattle.purge_task.proofs.Common.{option_map_or, cases_Bool, cases_lt, eq-eqb, eqb-true, ne_eqb, drop_all, All-cons, All-contains, All-head, All-nil, All-tail, common_steps, AllPairs-cons, count_by-le-length, Faults, Grows, History, LogState, map_entry, MapPlace, FileNo, MapUid, did, progress}
+use Rattle.purge_task.proofs.Common.{refusal, Reply, reply, request, MailIsKept, Lists, MapFits, MapMeaning, MapRecord, record_at, IsSoundMap, pairs_head, pairs_tail, found_one, IsSettledFor, Leaves, CopiesMessage, EventPart, MakesTarget, RemovesFile, Run, RunEvent, Switches, TakenFile}
+use Rattle.purge_task.proofs.Common.{is_copied_from, is_one_of, map_of, own_events, next_part, next_taken, purge_goes_on, AreFilesInOrder, FilesValue, file_in, is_doomed_in, is_emptied_in, pins_in, MailFile, IsSpared, due_at, KeepsFirm, AreElsewhere, IsStore, StoreValue, store_sound, may_be_used}
+use Rattle.purge_task.proofs.Common.{Due, Emptied, Held, Made, Pinned, PlacingPieces, Removing, Taken, Thing, one_if, records_within, HasComeTo, claims_of_sources, claims_of_switched, claims_of_target, purge_claims, sources_left, IsPurgeStep, PurgeSteps, around_purging, seen_by_purge}
+use Rattle.purge_task.proofs.Common.{AreSourcesApart, HasPurged, IsBeginningFirst, IsCopyingFirst, IsRemovingFirst, IsTargetToMake, IsToBegin, PurgeValue, messages_in, IsFurther, CopiesBehind, GoesOnBehind, HaveCopied, IsAtPurge, IsAtPurgeStage, IsPurging, told_taken, went_on, IsBehindSwitch}
+use Rattle.purge_task.proofs.Common.{IsToSwitch, IsUnwantedFirst, AreSwitchLists, IsReadyToSwitch, IsSwitched, IsTargetWritten, KeepsButTarget, ReadsMail, files_switched, target_named, target_synced, Switched, PurgeStage, stage, Source, Work, fall}
+use Rattle.std.proofs.Common.{◌⊎◌}
+use Rattle.std.specs.Prelude.{drop}
 use Rattle.disk_model.specs.FaultCounts.{ChangeFaultCounted}
-use Rattle.gate_log.specs.State.{LogState}
-use Rattle.mdbox_base.specs.declared.entries.MapEntry.TheVariants as map_entry
-use Rattle.mdbox_base.specs.declared.entries.MapPlace.{MapPlace}
-use Rattle.mdbox_base.specs.declared.ids.FileNo.{FileNo}
-use Rattle.mdbox_base.specs.declared.ids.MapUid.{MapUid}
-use Rattle.mdbox_base.specs.declared.progress.Did.TheVariants as did
-use Rattle.mdbox_base.specs.declared.progress.Progress.TheVariants as progress
-use Rattle.mdbox_base.specs.declared.replies.Refusal.TheVariants as refusal
-use Rattle.mdbox_base.specs.declared.replies.Reply.{Reply}
-use Rattle.mdbox_base.specs.declared.replies.Reply.TheVariants as reply
-use Rattle.mdbox_base.specs.declared.requests.Request.TheVariants as request
 use Rattle.map_index.specs.Kept.{IsMapInOrder}
-use Rattle.model_kept.specs.Kept.{MailIsKept}
-use Rattle.model_lists.specs.Lists.{Lists}
-use Rattle.model_meaning.specs.MapFits.{MapFits}
-use Rattle.model_meaning.specs.MapMeaning.{MapMeaning, MapRecord, record_at}
-use Rattle.model_meaning.specs.Sound.{IsSoundMap}
-use Rattle.model_octets.proofs.PairLemmas.{pairs_head, pairs_tail}
-use Rattle.model_octets.proofs.SearchLemmas.{found_one}
-use Rattle.model_store.specs.Settled.{IsSettledFor, Leaves}
-use Rattle.list_machine.specs.Run.{CopiesMessage, EventPart, MakesTarget, RemovesFile, Run, RunEvent, Switches, TakenFile, is_copied_from, is_one_of, map_of, own_events}
-use Rattle.journal.specs.Events.{copies_left, next_part, next_taken, purge_goes_on}
-use Rattle.storage_files.specs.Files.{AreFilesInOrder, FilesValue, file_in, is_doomed_in, is_emptied_in, pins_in}
-use Rattle.storage_files.specs.declared.file.MailFile.{MailFile}
-use Rattle.store_core.specs.Dues.{IsSpared, due_at}
-use Rattle.store_core.specs.Keeping.{KeepsFirm}
-use Rattle.store_core.specs.Removing.{AreElsewhere}
-use Rattle.store_core.specs.Running.{IsStore}
-use Rattle.store_core.specs.Value.{StoreValue}
-use Rattle.store_core.proofs.BoxAppendLemmas.{store_sound}
+use Rattle.journal.specs.Events.{copies_left}
 use Rattle.store_core.proofs.SwitchLemmas.{none_left}
-use Rattle.store_seen.specs.Seeing.{may_be_used}
-use Rattle.task_claims.specs.Claims.{Due, Emptied, Held, Made, Pinned, PlacingPieces, Removing, Taken, Thing, one_if}
-use Rattle.task_claims.specs.Leaving.{records_within}
-use Rattle.task_steps.specs.Step.{HasComeTo}
-use Rattle.purge_task.specs.Claims.{claims_of_sources, claims_of_switched, claims_of_target, purge_claims, sources_left}
-use Rattle.purge_task.specs.Clause.{IsPurgeStep, PurgeSteps, around_purging, seen_by_purge}
-use Rattle.purge_task.specs.Keeping.{AreSourcesApart, HasPurged, IsBeginningFirst, IsCopyingFirst, IsRemovingFirst, IsTargetToMake, IsToBegin, PurgeValue}
-use Rattle.purge_task.specs.Found.{messages_in}
-use Rattle.purge_task.specs.Left.{IsFurther}
 use Rattle.purge_task.specs.Reserved.{HasListRoom}
-use Rattle.purge_task.specs.Stages.{CopiesBehind, GoesOnBehind, HaveCopied, IsAtPurge, IsAtPurgeStage, IsPurging, told_taken, went_on}
-use Rattle.purge_task.specs.SwitchEvent.{IsBehindSwitch, IsCopiedFirst, IsToSwitch, IsUnwantedFirst}
-use Rattle.purge_task.specs.Switched.{AreSwitchLists, IsReadyToSwitch, IsSwitched, IsTargetWritten, KeepsButTarget, ReadsMail, files_switched, target_named, target_synced}
-use Rattle.purge_task.specs.declared.switching.Switched.{Switched}
-use Rattle.purge_task.specs.declared.task.PurgeStage.{PurgeStage}
-use Rattle.purge_task.specs.declared.task.PurgeStage.TheVariants as stage
-use Rattle.purge_task.specs.declared.work.Source.{Source}
-use Rattle.purge_task.specs.declared.work.Work.{Work}
+use Rattle.purge_task.specs.SwitchEvent.{IsCopiedFirst}
 use Rattle.purge_task.proofs.BareCallLemmas.{IsEmptiedFile, emptied_file}
-use Rattle.task_steps.proofs.EventLaws.{fall}
 use Rattle.purge_task.proofs.EventLemmas.{same_refusal}
 use Rattle.purge_task.proofs.FailLemmas.{fail_steps}
 use Rattle.purge_task.proofs.FurtherLemmas.{further_switch_on, further_switch_removing}

@@ -1,47 +1,19 @@
 -- What a purge that switches a storage file claims, and what it leaves to other tasks.
-use Rattle.std.proofs.Common.{◌≡◌, ◌≢◌, ◌≤◌, ◌<◌, ◌+◌, ◌==◌, ◌&&◌, ◌⊎◌, ◌++◌, ℕ, Bool, true, false, cond, List, [], ◌∷◌, Option, Some, None, refl, sym, ◌∙◌, ap, subst, arith, inl, inr}
-use Rattle.std.specs.Prelude.{Contains, drop, is_some, max, take}
-use Rattle.std.specs.Option.{IfSome, option_and_then, option_map, option_map_or}
-use Rattle.std.proofs.lemmas.Bool.{cases_Bool, cases_eq, eq-eqb, eqb-true, ne_eqb}
-use Rattle.std.proofs.lemmas.Grind.{common_steps}
-use Rattle.std.proofs.lemmas.List.{append-nil}
-use Rattle.std.proofs.lemmas.List.Elements.{All-cons, All-nil}
-use Rattle.std.proofs.lemmas.List.Sums.{sum_by-cons}
-use Rattle.disk_model.specs.Disk.{Between, DiskState, History, IfTold, reading}
-use Rattle.disk_model.specs.declared.name.FileName.TheVariants as file
-use Rattle.disk_model.proofs.BetweenLemmas.{between-map}
-use Rattle.gate_log.specs.State.{LogState}
-use Rattle.mdbox_base.specs.declared.entries.InstRow.{InstRow}
-use Rattle.mdbox_base.specs.declared.entries.MapEntry.TheVariants as map_entry
-use Rattle.mdbox_base.specs.declared.entries.MapPlace.{MapPlace}
-use Rattle.mdbox_base.specs.declared.ids.FileNo.{FileNo}
-use Rattle.mdbox_base.specs.declared.ids.MapUid.{MapUid}
-use Rattle.model_appends.specs.MapAppending.{AreCopied, IsCopiedTo}
+use Rattle.purge_task.proofs.Common.{◌≡◌, ◌≢◌, ◌≤◌, ◌<◌, ◌+◌, ◌==◌, ◌&&◌, ◌++◌, ℕ, Bool, true, false, cond, List, [], ◌∷◌, Option, Some, None, refl, sym, ◌∙◌, ap, subst, arith, inl, inr, Contains, is_some, max, IfSome, option_and_then, option_map, option_map_or, cases_Bool, cases_eq, eq-eqb}
+use Rattle.purge_task.proofs.Common.{eqb-true, ne_eqb, common_steps, append-nil, All-cons, All-nil, sum_by-cons, Between, DiskState, History, IfTold, reading, file, between-map, LogState, InstRow, map_entry, MapPlace, FileNo, MapUid, AreCopied, IsCopiedTo, MapFits, MapMeaning, MapRecord}
+use Rattle.purge_task.proofs.Common.{moved_record, place_given, record_at, IsSoundMap, found_one, files_of, instance_file, file_in, given_back, is_doomed_in, is_emptied_in, is_taken_in, made_doomed, pins_in, place_begun_in, with_pins, MailFile, IsSpared, due_at, KeepsFirm, KeepsInstances}
+use Rattle.purge_task.proofs.Common.{ReadsInstances, IsStore, StoreValue, store_sound, kept_same, Claims, Due, Emptied, Held, Made, Pinned, PlacingPieces, Removing, Taken, Thing, amount_in, is_to_remove, one_if, HasRegionOctets, HaveSameInstances, IsSameOrSynced, LeavesOthers, LeavesRecord}
+use Rattle.purge_task.proofs.Common.{OthersTook, instance_kept, none_placed, claims_of_sources, claims_of_target, KeepsButTarget, ReadsMail, files_switched, target_named, Source}
+use Rattle.std.proofs.Common.{◌⊎◌}
+use Rattle.std.specs.Prelude.{drop, take}
 use Rattle.model_appends.proofs.AppendPurgeLemmas.{place_found}
 use Rattle.model_meaning.specs.BoxMeaning.{LogRow, row_at}
-use Rattle.model_meaning.specs.MapFits.{MapFits}
-use Rattle.model_meaning.specs.MapMeaning.{MapBox, MapMeaning, MapRecord, moved_record, place_given, record_at}
-use Rattle.model_meaning.specs.Sound.{IsSoundMap}
-use Rattle.model_octets.proofs.SearchLemmas.{found_one}
-use Rattle.model_store.specs.Settled.{files_of}
-use Rattle.sis_store.specs.OnDisk.{instance_file}
-use Rattle.storage_files.specs.Files.{file_in, given_back, is_doomed_in, is_emptied_in, is_taken_in, made_doomed, pins_in, place_begun_in, with_pins}
-use Rattle.storage_files.specs.declared.file.MailFile.{MailFile}
-use Rattle.store_core.specs.Dues.{IsSpared, due_at}
-use Rattle.store_core.specs.Keeping.{KeepsFirm, KeepsInstances, ReadsInstances}
-use Rattle.store_core.specs.Running.{IsStore}
+use Rattle.model_meaning.specs.MapMeaning.{MapBox}
 use Rattle.model_store.specs.Listing.{meaning_numbered}
-use Rattle.store_core.specs.Value.{StoreValue, indexes_of}
-use Rattle.store_core.proofs.BoxAppendLemmas.{store_sound}
+use Rattle.store_core.specs.Value.{indexes_of}
 use Rattle.store_core.proofs.DueLemmas.{due_record}
-use Rattle.store_core.proofs.InstanceKeepingLemmas.{kept_same}
-use Rattle.task_claims.specs.Claims.{Claims, Due, Emptied, Held, Made, OthersClaim, Pinned, PlacingPieces, Removing, Taken, Thing, amount_in, is_to_remove, one_if}
-use Rattle.task_claims.specs.Leaving.{HasRegionOctets, HaveSameInstances, IsSameOrSynced, LeavesOthers, LeavesRecord, OthersTook}
+use Rattle.task_claims.specs.Claims.{OthersClaim}
 use Rattle.task_claims.proofs.NameLemmas.{names_stay}
-use Rattle.task_claims.proofs.RestLemmas.{instance_kept, none_placed}
-use Rattle.purge_task.specs.Claims.{claims_of_sources, claims_of_target}
-use Rattle.purge_task.specs.Switched.{KeepsButTarget, ReadsMail, files_switched, target_named}
-use Rattle.purge_task.specs.declared.work.Source.{Source}
 use Rattle.purge_task.proofs.BareCallLemmas.{IsEmptiedFile, undoomed_in, unplaced_in, untaken_in}
 use Rattle.purge_task.proofs.SwitchFileLemmas.{IsOtherThere, IsWrittenFile, at_target, switched_at, switched_file, switched_doomed, switched_ends, switched_keeps_other, switched_other, switched_pins, written_undoomed, written_unemptied}
 use Rattle.purge_task.proofs.SwitchRowLemmas.{came_from, count_stays, guids_switched, map_switched, moved_elsewhere, place_alone, within_as, within_switched}

@@ -1,16 +1,7 @@
 -- What is known of the storage files where one was switched.
-use Rattle.std.proofs.Common.{◌≡◌, ◌≢◌, ◌==◌, ℕ, Bool, true, false, List, Option, Some, None, refl, sym, ◌∙◌, ap, subst, inl, inr, All}
-use Rattle.std.specs.Prelude.{is_some, nat_lt, if◌then◌else◌}
-use Rattle.std.specs.Option.{option_and_then, option_map, option_map_or}
-use Rattle.std.proofs.lemmas.Bool.{cases_eq, eq-eqb, ne_eqb}
-use Rattle.std.proofs.lemmas.List.Elements.{All-contains}
-use Rattle.mdbox_base.specs.declared.ids.FileNo.{FileNo}
-use Rattle.model_octets.proofs.SearchLemmas.{found_one}
-use Rattle.storage_files.specs.Files.{IsUsedFile, changed_in, end_in, file_in, given_back, is_doomed_in, is_taken_in, made_doomed, pins_in, placing_ended, released_in, without_file}
-use Rattle.storage_files.specs.declared.file.MailFile.{MailFile}
-use Rattle.storage_files.proofs.FileListLemmas.{ends-kept, file-here, file-other}
-use Rattle.purge_task.specs.Switched.{files_switched}
-use Rattle.task_steps.proofs.EventLaws.{fall}
+use Rattle.purge_task.proofs.Common.{◌≡◌, ◌≢◌, ◌==◌, ℕ, Bool, true, false, List, Option, Some, None, refl, sym, ◌∙◌, ap, subst, inl, inr, All, is_some, nat_lt, if◌then◌else◌, option_and_then, option_map, option_map_or, cases_eq, eq-eqb, ne_eqb, All-contains, FileNo, found_one, IsUsedFile}
+use Rattle.purge_task.proofs.Common.{changed_in, end_in, file_in, given_back, is_doomed_in, is_taken_in, made_doomed, pins_in, released_in, without_file, MailFile, ends-kept, file-here, file-other, files_switched, fall}
+use Rattle.storage_files.specs.Files.{placing_ended}
 use Rattle.purge_task.proofs.SwitchSeenLemmas.{IsDoomedOf}
 
 -- ---- a target that is there

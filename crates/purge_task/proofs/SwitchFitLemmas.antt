@@ -1,29 +1,14 @@
 -- The entry that switches a file fits, and there is room for it.
-use Rattle.std.proofs.Common.{◌≡◌, ◌≢◌, inl, inr, ℕ, zero, suc, ◌+◌, ◌*◌, ◌^◌, ◌<◌, ◌≤◌, ◌==◌, ◌||◌, ◌&&◌, Bool, true, false, cond, not, Option, Some, None, List, [], ◌∷◌, length, get_or, map, All, refl, sym, ap, subst, ◌∙◌, arith}
-use Rattle.std.specs.Prelude.{AllPairs, ◌⊎◌, Contains, count_by}
-use Rattle.std.specs.List.{list_any}
-use Rattle.std.specs.Option.{option_map_or}
-use Rattle.std.proofs.lemmas.Bool.{cases_lt, cases_eq}
-use Rattle.std.proofs.lemmas.List.{get_or_default, length-map}
-use Rattle.std.proofs.lemmas.List.Elements.{All-nil, All-cons, All-head, All-tail, All-contains, All-contains_itself, recursion_from_All}
+use Rattle.purge_task.proofs.Common.{◌≡◌, ◌≢◌, inl, inr, ℕ, zero, suc, ◌+◌, ◌*◌, ◌<◌, ◌≤◌, ◌==◌, ◌||◌, ◌&&◌, Bool, true, false, cond, not, Option, Some, None, List, [], ◌∷◌, length, get_or, map, All, refl, sym, ap, subst, ◌∙◌, arith, AllPairs, ◌⊎◌, Contains, count_by, list_any, option_map_or}
+use Rattle.purge_task.proofs.Common.{cases_lt, cases_eq, get_or_default, length-map, All-nil, All-cons, All-head, All-tail, All-contains, All-contains_itself, AllPairs-from_increasing, sum_by-cons, count_by-le-length, FileNo, MapUid, map_entry, MapPlace, HasRecord, size_at, MapRecord, MapMeaning}
+use Rattle.purge_task.proofs.Common.{has_map_uid, record_at, IsSoundMap, IsSoundRecord, equal_is, equal_yes, found_holds, pairs_head, pairs_tail, AreElsewhere, messages_in, AreSwitchLists, target_named}
+use Rattle.std.proofs.Common.{◌^◌}
+use Rattle.std.proofs.lemmas.List.Elements.{recursion_from_All}
 use Rattle.std.proofs.lemmas.List.Folds.{list_any_at, list_any_none}
-use Rattle.std.proofs.lemmas.List.Kept.{AllPairs-from_increasing}
-use Rattle.std.proofs.lemmas.List.Sums.{sum_by-cons, count_by-le-length}
 use Rattle.mdbox_base.specs.Words.{IsNumber}
-use Rattle.mdbox_base.specs.declared.ids.FileNo.{FileNo}
-use Rattle.mdbox_base.specs.declared.ids.MapUid.{MapUid}
-use Rattle.mdbox_base.specs.declared.entries.MapEntry.TheVariants as map_entry
-use Rattle.mdbox_base.specs.declared.entries.MapPlace.{MapPlace}
 use Rattle.log_records.proofs.EntrySizeLemmas.{purged_size}
 use Rattle.model_logs.specs.Entries.{map_text, MapInRange}
-use Rattle.model_meaning.specs.MapFits.{ArePlacedApart, FitsPlace, FitsPurged, FitsTarget, HasRecord, IsMovedOrDropped, size_at}
-use Rattle.model_meaning.specs.MapMeaning.{MapRecord, MapMeaning, has_map_uid, record_at}
-use Rattle.model_meaning.specs.Sound.{IsSoundMap, IsSoundRecord}
-use Rattle.model_meaning.proofs.MapPlaceLemmas.{equal_is, equal_yes}
-use Rattle.model_octets.proofs.PairLemmas.{found_holds, pairs_head, pairs_tail}
-use Rattle.store_core.specs.Removing.{AreElsewhere}
-use Rattle.purge_task.specs.Found.{messages_in}
-use Rattle.purge_task.specs.Switched.{AreSwitchLists, target_named}
+use Rattle.model_meaning.specs.MapFits.{ArePlacedApart, FitsPlace, FitsPurged, FitsTarget, IsMovedOrDropped}
 use Rattle.purge_task.proofs.ListingLemmas.{mapped_at, record_there}
 use Rattle.purge_task.proofs.WalkLemmas.{unequal}
 

@@ -1,40 +1,23 @@
 -- What was copied is synced, and the entry that names it can be appended.
-use Rattle.std.proofs.Common.{◌≡◌, inl, inr, ℕ, ◌+◌, ◌<◌, ◌≤◌, ◌==◌, Bool, true, false, Option, Some, None, List, [], ◌∷◌, length, get_or, drop, All, refl, sym, ap, subst, ◌∙◌, arith}
-use Rattle.std.specs.Option.{option_map, option_map_or, option_and_then}
+use Rattle.purge_task.proofs.Common.{◌≡◌, inl, inr, ℕ, ◌+◌, ◌<◌, ◌≤◌, ◌==◌, Bool, true, false, Option, Some, None, List, [], ◌∷◌, length, get_or, drop, All, refl, sym, ap, subst, ◌∙◌, arith, option_map, option_map_or, option_and_then, cases_eq, cases_lt, cases_Bool, drop_all, drop_more, All-nil}
+use Rattle.purge_task.proofs.Common.{All-contains, All-weaker, DiskState, Files, History, IfTold, Keeps, MayLeave, reading, file, FileNo, MapUid, MapEntry, MapPlace, AreCopied, IsCopiedTo, HasRecord, MapRecord, MapMeaning, IsSoundMap, equal_is, found_holds, files_of, MailFile, AreFilesInOrder}
+use Rattle.purge_task.proofs.Common.{IsUsedFile, changed_in, end_in, file_in, is_doomed_in, is_emptied_in, is_taken_in, ends-kept, file-here, file-other, IsStore, StoreValue, store_sound, sources_left, AreSwitchLists, IsFirst, IsReadyToSwitch, IsTargetWritten, ReadsMail, target_named, target_synced}
+use Rattle.purge_task.proofs.Common.{Source, Work}
 use Rattle.std.specs.Vec.{with_item}
-use Rattle.std.proofs.lemmas.Bool.{cases_eq, cases_lt, cases_Bool}
-use Rattle.std.proofs.lemmas.List.{drop_all, drop_more, drop-set}
+use Rattle.std.proofs.lemmas.List.{drop-set}
 use Rattle.std.proofs.Common.{set}
-use Rattle.std.proofs.lemmas.List.Elements.{All-nil, All-contains, All-weaker}
-use Rattle.disk_model.specs.Disk.{DiskState, Files, History, IfTold, IsImage, Keeps, MayLeave, reading}
-use Rattle.disk_model.specs.declared.name.FileName.TheVariants as file
+use Rattle.disk_model.specs.Disk.{IsImage}
 use Rattle.mdbox_base.specs.Words.{IsNumber}
-use Rattle.mdbox_base.specs.declared.ids.FileNo.{FileNo}
-use Rattle.mdbox_base.specs.declared.ids.MapUid.{MapUid}
-use Rattle.mdbox_base.specs.declared.entries.MapEntry.{MapEntry}
-use Rattle.mdbox_base.specs.declared.entries.MapPlace.{MapPlace}
-use Rattle.model_appends.specs.MapAppending.{AreCopied, AreCopiesSynced, IsCopiedTo}
+use Rattle.model_appends.specs.MapAppending.{AreCopiesSynced}
 use Rattle.model_logs.specs.Entries.{map_text}
-use Rattle.model_meaning.specs.MapFits.{FitsPurged, HasRecord}
-use Rattle.model_meaning.specs.MapMeaning.{MapRecord, MapMeaning}
-use Rattle.model_meaning.specs.Sound.{IsSoundMap}
-use Rattle.model_meaning.proofs.MapPlaceLemmas.{equal_is}
-use Rattle.model_octets.proofs.PairLemmas.{found_holds}
-use Rattle.model_store.specs.Settled.{files_of, HasSameRegion}
-use Rattle.storage_files.specs.declared.file.MailFile.{MailFile}
-use Rattle.storage_files.specs.Files.{AreFilesInOrder, IsUsedFile, changed_in, end_in, file_in, is_doomed_in, is_emptied_in, is_taken_in, placing_ended}
-use Rattle.storage_files.proofs.FileListLemmas.{ends-kept, file-here, file-other}
+use Rattle.model_meaning.specs.MapFits.{FitsPurged}
+use Rattle.model_store.specs.Settled.{HasSameRegion}
+use Rattle.storage_files.specs.Files.{placing_ended}
 use Rattle.store_core.specs.Files.{LiesBelowEnd}
-use Rattle.store_core.specs.Running.{IsStore}
-use Rattle.store_core.specs.Value.{StoreValue}
-use Rattle.store_core.proofs.BoxAppendLemmas.{store_sound}
 use Rattle.map_index.specs.Kept.{IsMapInOrder}
-use Rattle.purge_task.specs.Claims.{sources_left}
 use Rattle.purge_task.specs.Reserved.{IsPresent}
 use Rattle.purge_task.specs.declared.work.Present.{Present}
-use Rattle.purge_task.specs.Switched.{AreSwitchLists, IsSwitchEntry, IsFirst, IsListable, SpendsFirst, mid_of, IsReadyAppend, IsReadyToSwitch, IsTargetWritten, KeepsTarget, ReadsMail, target_named, target_synced}
-use Rattle.purge_task.specs.declared.work.Source.{Source}
-use Rattle.purge_task.specs.declared.work.Work.{Work}
+use Rattle.purge_task.specs.Switched.{IsSwitchEntry, IsListable, SpendsFirst, mid_of, IsReadyAppend, KeepsTarget}
 use Rattle.purge_task.proofs.SwitchFitLemmas.{TargetFits, entry_fits, entry_in_range, entry_short, none_moved, record_here}
 
 -- ---- what is known of a file whose placing has ended

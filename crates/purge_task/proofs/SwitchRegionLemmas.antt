@@ -1,22 +1,7 @@
 -- Records keep the octets of their regions where a file is switched.
-use Rattle.std.proofs.Common.{◌≡◌, ℕ, false, List, [], Option, Some, None, refl, sym, ◌∙◌, subst, All}
-use Rattle.disk_model.specs.Disk.{Between, DiskState, History, IfTold, reading}
-use Rattle.disk_model.specs.declared.name.FileName.TheVariants as file
-use Rattle.disk_model.proofs.BetweenLemmas.{between-if}
+use Rattle.purge_task.proofs.Common.{◌≡◌, ℕ, false, List, [], Option, Some, None, refl, sym, ◌∙◌, subst, All, Between, DiskState, History, IfTold, reading, file, between-if, MapPlace, FileNo, MapUid, AreCopied, MapMeaning, LiesInFile, files_of, IsStore, StoreValue, store_sound, HaveSameRegions}
+use Rattle.purge_task.proofs.Common.{AreSwitchLists, IsTargetWritten, ReadsMail, target_named, Source}
 use Rattle.disk_model.proofs.MomentLemmas.{if_told-both}
-use Rattle.mdbox_base.specs.declared.entries.MapPlace.{MapPlace}
-use Rattle.mdbox_base.specs.declared.ids.FileNo.{FileNo}
-use Rattle.mdbox_base.specs.declared.ids.MapUid.{MapUid}
-use Rattle.model_appends.specs.MapAppending.{AreCopied}
-use Rattle.model_meaning.specs.MapMeaning.{MapMeaning}
-use Rattle.model_store.specs.Safe.{LiesInFile}
-use Rattle.model_store.specs.Settled.{files_of}
-use Rattle.store_core.specs.Running.{IsStore}
-use Rattle.store_core.specs.Value.{StoreValue}
-use Rattle.store_core.proofs.BoxAppendLemmas.{store_sound}
-use Rattle.purge_task.specs.Quiet.{HaveSameRegions}
-use Rattle.purge_task.specs.Switched.{AreSwitchLists, IsTargetWritten, ReadsMail, target_named}
-use Rattle.purge_task.specs.declared.work.Source.{Source}
 use Rattle.purge_task.proofs.QuietRegionLemmas.{switched_regions}
 use Rattle.purge_task.proofs.SameRegionLemmas.{lie_told}
 use Rattle.purge_task.proofs.SwitchRowLemmas.{map_switched}

@@ -1,28 +1,14 @@
 -- What is left of the records of a map where a storage file was switched.
-use Rattle.std.proofs.Common.{◌≡◌, ◌≢◌, ◌+◌, ◌==◌, ◌&&◌, ◌||◌, ◌⊎◌, ℕ, Bool, true, false, not, cond, List, [], ◌∷◌, length, map, Option, Some, None, refl, sym, ◌∙◌, ap, subst, arith, inl, inr, All}
-use Rattle.std.specs.Prelude.{Contains, count_by, filter, nat_lt, sum_by, if◌then◌else◌}
-use Rattle.std.proofs.lemmas.Bool.{cases_Bool, cond-false, cond-true, eq-eqb, eqb-true, ne_eqb}
-use Rattle.std.proofs.lemmas.List.Elements.{All-cons, All-contains, All-contains_itself, All-head, All-nil, All-tail, All-weaker}
-use Rattle.std.proofs.lemmas.List.Sums.{sum_by-cons}
-use Rattle.mdbox_base.specs.declared.ids.FileNo.{FileNo}
-use Rattle.mdbox_base.specs.declared.ids.MapUid.{MapUid}
-use Rattle.mdbox_base.specs.declared.entries.MapEntry.TheVariants as map_entry
-use Rattle.mdbox_base.specs.declared.entries.MapPlace.{MapPlace}
+use Rattle.purge_task.proofs.Common.{◌≡◌, ◌≢◌, ◌+◌, ◌==◌, ◌&&◌, ◌||◌, ℕ, Bool, true, false, not, cond, List, [], ◌∷◌, length, map, Option, Some, None, refl, sym, ◌∙◌, ap, subst, arith, inl, inr, All, Contains, count_by, filter, nat_lt, sum_by, if◌then◌else◌, cases_Bool, eq-eqb, eqb-true, ne_eqb}
+use Rattle.purge_task.proofs.Common.{All-cons, All-contains, All-contains_itself, All-head, All-nil, All-tail, All-weaker, sum_by-cons, FileNo, MapUid, map_entry, MapPlace, HasRecord, MapFits, MapMeaning, MapRecord, has_map_uid, map_applied, moved_record, place_given, record_at, IsSoundMap}
+use Rattle.purge_task.proofs.Common.{found_one, at_uid, is_copied_from, target_length, AreElsewhere, but_count, records_within, messages_in, IsUnwanted, target_named}
+use Rattle.std.proofs.Common.{◌⊎◌}
+use Rattle.std.proofs.lemmas.Bool.{cond-false, cond-true}
 use Rattle.model_appends.proofs.AppendPurgeLemmas.{place_found}
-use Rattle.model_meaning.specs.MapFits.{HasRecord, MapFits}
-use Rattle.model_meaning.specs.MapMeaning.{MapMeaning, MapRecord, has_map_uid, map_applied, moved_record, place_given, record_at, record_changed, record_rules}
-use Rattle.model_meaning.specs.Sound.{IsSoundMap}
+use Rattle.model_meaning.specs.MapMeaning.{record_changed, record_rules}
 use Rattle.model_meaning.proofs.AppliedLemmas.{records_by_purged}
 use Rattle.model_meaning.proofs.KeptRowLemmas.{kept_all, kept_rows}
 use Rattle.model_meaning.proofs.MapPlaceLemmas.{changed_same}
-use Rattle.model_octets.proofs.SearchLemmas.{found_one}
-use Rattle.model_store.proofs.OpeningSafeLemmas.{at_uid}
-use Rattle.list_machine.specs.Run.{is_copied_from, target_length}
-use Rattle.store_core.specs.Removing.{AreElsewhere}
-use Rattle.task_claims.specs.Leaving.{but_count, records_within}
-use Rattle.purge_task.specs.Found.{messages_in}
-use Rattle.purge_task.specs.Keeping.{IsUnwanted}
-use Rattle.purge_task.specs.Switched.{target_named}
 
 -- ---- the rows that stay, one by one
 

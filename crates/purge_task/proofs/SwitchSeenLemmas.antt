@@ -1,30 +1,11 @@
 -- What is seen of a store in which a storage file was switched, in a run of which an event switched it.
-use Rattle.std.proofs.Common.{◌≡◌, ◌≤◌, ◌&&◌, ◌||◌, ℕ, Bool, true, false, not, List, [], ◌∷◌, ◌++◌, Option, Some, None, refl, sym, ◌∙◌, ap, subst, arith, inl, inr}
-use Rattle.std.specs.Prelude.{◌≢◌, ◌⊎◌, is_some, nat_le}
-use Rattle.std.specs.List.{list_any}
-use Rattle.std.specs.Option.{option_map_or, option_and_then}
-use Rattle.std.proofs.lemmas.Bool.{cases_eq}
-use Rattle.std.proofs.lemmas.Grind.{common_steps}
-use Rattle.disk_model.specs.Disk.{Faults, History, told_calls}
-use Rattle.gate_log.specs.State.{LogState}
-use Rattle.mdbox_base.specs.declared.entries.Highest.{Highest}
-use Rattle.mdbox_base.specs.declared.ids.FileNo.{FileNo}
-use Rattle.mdbox_base.specs.declared.ids.MapUid.{MapUid}
-use Rattle.mdbox_base.specs.declared.entries.MapEntry.TheVariants as map_entry
-use Rattle.mdbox_base.specs.declared.entries.MapPlace.{MapPlace}
-use Rattle.model_meaning.specs.MapMeaning.{MapMeaning, is_own, map_applied, number_at}
-use Rattle.list_machine.specs.Run.{Run, RunEvent, Switches, and_then, event_of, is_doomed, is_one_of}
-use Rattle.journal.specs.Events.{begun_in, ended_in}
-use Rattle.journal.specs.Makes.{HasCome}
+use Rattle.purge_task.proofs.Common.{◌≡◌, ◌≤◌, ◌&&◌, ◌||◌, ℕ, Bool, true, false, not, List, [], ◌∷◌, ◌++◌, Option, Some, None, refl, sym, ◌∙◌, ap, subst, arith, inl, inr, ◌⊎◌, is_some, nat_le, list_any, option_map_or, option_and_then, cases_eq, common_steps, Faults, History, told_calls, LogState}
+use Rattle.purge_task.proofs.Common.{Highest, FileNo, MapUid, map_entry, MapPlace, MapMeaning, is_own, map_applied, number_at, Run, RunEvent, Switches, and_then, event_of, is_one_of, begun_in, ended_in, HasCome, FilesValue, file_in, is_doomed_in, pins_in, MailFile, due_at, StoreValue, may_be_used}
+use Rattle.purge_task.proofs.Common.{HasComeTo, was_used, file_still_known, given_still, gone_still, pins_still, placed_still, there_before, seen_by_purge}
+use Rattle.std.specs.Prelude.{◌≢◌}
+use Rattle.list_machine.specs.Run.{is_doomed}
 use Rattle.journal.proofs.RunLemmas.{comes_on_with, drawn_none}
-use Rattle.storage_files.specs.Files.{FilesValue, file_in, is_doomed_in, pins_in}
-use Rattle.storage_files.specs.declared.file.MailFile.{MailFile}
-use Rattle.store_core.specs.Dues.{due_at}
-use Rattle.store_core.specs.Value.{StoreValue}
-use Rattle.store_seen.specs.Seeing.{may_be_used}
-use Rattle.task_steps.specs.Step.{HasComeTo, was_used}
-use Rattle.task_steps.proofs.SeenLemmas.{file_still_known, first_doomed, given_still, gone_still, pins_still, placed_still, there_before}
-use Rattle.purge_task.specs.Clause.{seen_by_purge}
+use Rattle.task_steps.proofs.SeenLemmas.{first_doomed}
 use Rattle.purge_task.proofs.RunLemmas.{any_still, one_itself, one_other, sum_push}
 use Rattle.purge_task.proofs.SameSeenLemmas.{bars, is_before, uses}
 

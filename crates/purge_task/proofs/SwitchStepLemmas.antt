@@ -1,46 +1,15 @@
 -- The clause of an event of a purge that switches a storage file.
-use Rattle.std.proofs.Common.{◌≡◌, ◌≤◌, ◌<◌, ◌+◌, ◌==◌, ℕ, suc, zero, Bool, true, false, not, List, [], ◌∷◌, ◌++◌, length, Option, Some, None, refl, sym, ◌∙◌, ap, subst, arith, All, inl, inr}
-use Rattle.std.specs.Prelude.{◌≢◌, nat_lt, sum_by, if◌then◌else◌}
-use Rattle.std.specs.List.{list_any}
-use Rattle.std.specs.Option.{option_map_or}
-use Rattle.std.proofs.lemmas.Bool.{cases_Bool, eq-eqb}
-use Rattle.std.proofs.lemmas.Grind.{common_steps}
-use Rattle.std.proofs.lemmas.List.Elements.{All-cons, All-head, All-nil, All-tail, All-weaker}
-use Rattle.std.proofs.lemmas.List.Sums.{sum_by-cons}
-use Rattle.disk_model.specs.Disk.{Faults, History, told_calls}
-use Rattle.gate_log.specs.State.{LogState}
-use Rattle.mdbox_base.specs.declared.ids.FileNo.{FileNo}
-use Rattle.mdbox_base.specs.declared.ids.MapUid.{MapUid}
-use Rattle.mdbox_base.specs.declared.entries.MapEntry.TheVariants as map_entry
-use Rattle.mdbox_base.specs.declared.entries.MapPlace.{MapPlace}
-use Rattle.mdbox_base.specs.declared.progress.Did.{Did}
-use Rattle.mdbox_base.specs.declared.progress.Did.TheVariants as did
-use Rattle.mdbox_base.specs.declared.replies.Reply.{Reply}
-use Rattle.mdbox_base.specs.declared.requests.Request.TheVariants as request
-use Rattle.model_meaning.specs.MapFits.{HasRecord, MapFits}
-use Rattle.model_meaning.specs.MapMeaning.{MapBox, MapMeaning, MapRecord, map_applied}
-use Rattle.model_octets.proofs.PairLemmas.{pairs_head}
+use Rattle.purge_task.proofs.Common.{◌≡◌, ◌≤◌, ◌<◌, ◌+◌, ◌==◌, ℕ, suc, zero, Bool, true, false, not, List, [], ◌∷◌, ◌++◌, length, Option, Some, None, refl, sym, ◌∙◌, ap, subst, arith, All, inl, inr, nat_lt, sum_by, if◌then◌else◌, list_any, option_map_or, cases_Bool, eq-eqb, common_steps, All-cons}
+use Rattle.purge_task.proofs.Common.{All-head, All-nil, All-tail, All-weaker, sum_by-cons, Faults, History, told_calls, LogState, FileNo, MapUid, map_entry, MapPlace, Did, did, Reply, request, HasRecord, MapFits, MapMeaning, MapRecord, map_applied, pairs_head, EventPart, RemovesFile, Run, RunEvent}
+use Rattle.purge_task.proofs.Common.{Switches, and_then, dropped_in, how_many, is_one_of, map_of, own_events, Around, is_done, last_refusal, next_part, next_taken, purge_goes_on, was_pinned, own_more, FilesValue, pins_in, due_at, StoreValue, may_be_used, records_within, HasComeTo, was_used}
+use Rattle.purge_task.proofs.Common.{sources_left, PurgeSteps, around_purging, seen_by_purge, AreSourcesApart, PurgeValue, IsBehindSwitch, GoesOnBehind, HaveCopied, HaveTaken, IsAtPurge, IsAtPurgeStage, IsAtSwitched, IsPurging, RemovesBehind, told_taken, PurgeStage, Source, Work, DidBy, stands_by}
+use Rattle.std.specs.Prelude.{◌≢◌}
+use Rattle.model_meaning.specs.MapMeaning.{MapBox}
 use Rattle.model_store.specs.Listing.{ShowLists}
-use Rattle.list_machine.specs.Run.{EventPart, RemovesFile, Run, RunEvent, Switches, and_then, dropped_in, how_many, is_one_of, map_of, own_events}
-use Rattle.journal.specs.Events.{Around, behind_purge, is_done, last_refusal, next_part, next_taken, purge_goes_on, was_pinned}
-use Rattle.journal.proofs.OwnEventLemmas.{own_more}
-use Rattle.storage_files.specs.Files.{FilesValue, pins_in}
-use Rattle.store_core.specs.Dues.{due_at}
-use Rattle.store_core.specs.Value.{StoreValue, indexes_of}
-use Rattle.store_seen.specs.Seeing.{may_be_used}
-use Rattle.task_claims.specs.Leaving.{records_within}
-use Rattle.task_steps.specs.Step.{HasComeTo, was_used}
+use Rattle.journal.specs.Events.{behind_purge}
+use Rattle.store_core.specs.Value.{indexes_of}
 use Rattle.task_steps.proofs.SeenLemmas.{first_doomed, never_used, pinned_as}
-use Rattle.purge_task.specs.Claims.{sources_left}
-use Rattle.purge_task.specs.Clause.{PurgeSteps, around_purging, seen_by_purge}
-use Rattle.purge_task.specs.Keeping.{AreSourcesApart, PurgeValue}
-use Rattle.purge_task.specs.SwitchEvent.{IsBehindSwitch}
-use Rattle.purge_task.specs.Stages.{GoesOnBehind, HaveCopied, HaveTaken, IsAtPurge, IsAtPurgeStage, IsAtSwitched, IsPurging, RemovesBehind, told_taken}
-use Rattle.purge_task.specs.declared.task.PurgeStage.{PurgeStage}
-use Rattle.purge_task.specs.declared.work.Source.{Source}
-use Rattle.purge_task.specs.declared.work.Work.{Work}
 use Rattle.purge_task.proofs.CopyStepLemmas.{taken_noted}
-use Rattle.task_steps.proofs.EventLaws.{DidBy, stands_by}
 use Rattle.purge_task.proofs.EventLemmas.{did_next}
 use Rattle.purge_task.proofs.PartLemmas.{goes_on_some, last_with, next_is}
 use Rattle.purge_task.proofs.RemovalLemmas.{LeavesSettled}

@@ -1,28 +1,14 @@
 -- What a switch leaves, from the sync of the target to its release.
-use Rattle.std.proofs.Common.{◌≡◌, ◌≢◌, inl, inr, ℕ, ◌==◌, true, false, Option, Some, None, List, map, refl, sym, ap, subst, ◌∙◌}
+use Rattle.purge_task.proofs.Common.{◌≡◌, ◌≢◌, inl, inr, ℕ, ◌==◌, true, false, Option, Some, None, List, map, refl, sym, ap, subst, ◌∙◌, option_map_or, cases_eq, Between, DiskState, History, IfTold, Keeps, MayLeave, SameButFor, reading, FileName, file, between-begins, between-both, between-map}
+use Rattle.purge_task.proofs.Common.{FileNo, MapEntry, MapFits, MapRecord, MapMeaning, map_applied, record_at, MailFile, changed_in, is_taken_in, made_doomed, pins_in, file-other, IsSpared, KeepsStored, due_at, KeepsFirm, StoreValue, firm_same, IsSwitched, IsTargetWritten, KeepsButTarget, ReadsMail}
+use Rattle.purge_task.proofs.Common.{files_switched, target_released, target_synced, Switched, Source}
 use Rattle.std.specs.Prelude.{IfSome}
-use Rattle.std.specs.Option.{option_map_or}
-use Rattle.std.proofs.lemmas.Bool.{cases_eq}
-use Rattle.disk_model.specs.Disk.{Between, DiskState, History, IfTold, Keeps, MayLeave, SameButFor, reading}
-use Rattle.disk_model.specs.declared.name.FileName.{FileName}
-use Rattle.disk_model.specs.declared.name.FileName.TheVariants as file
-use Rattle.disk_model.proofs.BetweenLemmas.{between-begins, between-both, between-map, between-then}
-use Rattle.mdbox_base.specs.declared.ids.FileNo.{FileNo}
-use Rattle.mdbox_base.specs.declared.entries.MapEntry.{MapEntry}
-use Rattle.model_meaning.specs.MapFits.{MapFits}
-use Rattle.model_meaning.specs.MapMeaning.{MapRecord, MapMeaning, map_applied, record_at}
-use Rattle.storage_files.specs.declared.file.MailFile.{MailFile}
-use Rattle.storage_files.specs.Files.{changed_in, is_taken_in, made_doomed, pins_in}
+use Rattle.disk_model.proofs.BetweenLemmas.{between-then}
 use Rattle.storage_files.specs.OnDisk.{IsSyncedFile}
-use Rattle.storage_files.proofs.FileListLemmas.{file-other}
-use Rattle.store_core.specs.Dues.{IsSpared, KeepsStored, due_at, leak_at}
-use Rattle.store_core.specs.Keeping.{KeepsFirm, KeepsMail}
-use Rattle.store_core.specs.Value.{StoreValue}
+use Rattle.store_core.specs.Dues.{leak_at}
+use Rattle.store_core.specs.Keeping.{KeepsMail}
 use Rattle.store_core.proofs.InstanceKeepingLemmas.{firm_both}
-use Rattle.store_core.proofs.KnownInstanceLemmas.{firm_same}
-use Rattle.purge_task.specs.Switched.{IsSwitchEntry, IsPlacingIn, IsSwitched, IsTargetWritten, KeepsButTarget, KeepsTarget, ReadsMail, dropped_count, mid_of, files_switched, target_released, target_synced}
-use Rattle.purge_task.specs.declared.switching.Switched.{Switched}
-use Rattle.purge_task.specs.declared.work.Source.{Source}
+use Rattle.purge_task.specs.Switched.{IsSwitchEntry, IsPlacingIn, KeepsTarget, dropped_count, mid_of}
 use Rattle.purge_task.proofs.SwitchReadyLemmas.{synced_or}
 
 -- ---- the target is synced

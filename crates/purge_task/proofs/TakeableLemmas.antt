@@ -1,23 +1,7 @@
 -- What was found can be taken.
-use Rattle.std.proofs.Common.{◌≡◌, ◌==◌, Option, ℕ, ◌<◌, ◌≤◌, Bool, cond, None, List, [], ◌∷◌, get_or, All, refl, sym, ap, subst, arith}
-use Rattle.std.specs.Prelude.{AllPairs, count_by}
-use Rattle.std.specs.List.{AllZip}
-use Rattle.std.proofs.lemmas.List.{length-map}
-use Rattle.std.proofs.lemmas.List.Elements.{All-nil, All-cons, All-head, All-tail}
-use Rattle.std.proofs.lemmas.List.Kept.{AllPairs-cons, AllPairs-from_increasing}
-use Rattle.std.proofs.lemmas.List.Sums.{sum_by-cons}
-use Rattle.disk_model.specs.Disk.{History}
-use Rattle.model_octets.proofs.PairLemmas.{found_holds, pairs_head, pairs_nil, pairs_tail}
-use Rattle.model_meaning.proofs.MapPlaceLemmas.{equal_is}
-use Rattle.storage_files.specs.declared.file.MailFile.{MailFile}
-use Rattle.store_core.specs.Value.{StoreValue}
-use Rattle.purge_task.specs.Found.{HasFound, MayBeEmptied, found_numbers}
-use Rattle.purge_task.specs.Reserved.{IsNewSource, IsNewWork}
-use Rattle.purge_task.specs.Taken.{CanTake, CanTakeAll}
-use Rattle.purge_task.specs.declared.finding.Found.{Found}
-use Rattle.purge_task.specs.declared.finding.FoundFile.{FoundFile}
-use Rattle.purge_task.specs.declared.work.Source.{Source}
-use Rattle.purge_task.specs.declared.work.Work.{Work}
+use Rattle.purge_task.proofs.Common.{◌≡◌, ◌==◌, Option, ℕ, ◌<◌, ◌≤◌, Bool, cond, None, List, [], ◌∷◌, get_or, All, refl, sym, ap, subst, arith, AllPairs, count_by, AllZip, length-map, All-nil, All-cons, All-head, All-tail, AllPairs-cons, AllPairs-from_increasing, sum_by-cons, History, found_holds}
+use Rattle.purge_task.proofs.Common.{pairs_head, pairs_nil, pairs_tail, equal_is, MailFile, StoreValue, HasFound, MayBeEmptied, found_numbers, IsNewSource, CanTake, CanTakeAll, Found, FoundFile, Source, Work}
+use Rattle.purge_task.specs.Reserved.{IsNewWork}
 use Rattle.purge_task.proofs.ListingLemmas.{mapped_at}
 
 -- what holds of each file that was found holds of each source

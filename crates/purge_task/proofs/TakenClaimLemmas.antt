@@ -1,20 +1,8 @@
 -- By its first event a purge claims the files that it empties and their targets, and nothing else.
-use Rattle.std.proofs.Common.{◌≡◌, ◌≢◌, inl, inr, ℕ, ◌+◌, ◌≤◌, ◌==◌, ◌&&◌, Bool, true, false, cond, Option, Some, None, List, [], ◌∷◌, ◌++◌, All, refl, sym, ap, subst, ◌∙◌, arith}
-use Rattle.std.specs.Prelude.{is_some}
-use Rattle.std.specs.Option.{option_and_then, option_map, option_map_or}
-use Rattle.std.proofs.lemmas.Bool.{cases_eq}
-use Rattle.std.proofs.lemmas.List.Elements.{All-head, All-tail, All-weaker}
-use Rattle.std.proofs.lemmas.List.Sums.{sum_by-cons}
-use Rattle.mdbox_base.specs.declared.ids.FileNo.{FileNo}
-use Rattle.model_meaning.proofs.MapPlaceLemmas.{equal_yes}
-use Rattle.storage_files.specs.declared.file.MailFile.{MailFile}
-use Rattle.storage_files.specs.Files.{changed_in, file_begun, file_in, to_empty}
-use Rattle.storage_files.proofs.FileListLemmas.{file-here, file-other}
-use Rattle.store_core.specs.Value.{StoreValue}
-use Rattle.task_claims.specs.Claims.{Claims, MovesClaims, Thing, Due, Pinned, Taken, Emptied, PlacingPieces, Removing, Held, Made, amount_in, no_claims, one_if}
-use Rattle.purge_task.specs.Claims.{claims_of_sources}
-use Rattle.purge_task.specs.Taken.{CanTake, CanTakeAll, taken_to_empty, source_taken, take_all, targets_given, target_drawn, with_target}
-use Rattle.purge_task.specs.declared.work.Source.{Source}
+use Rattle.purge_task.proofs.Common.{◌≡◌, ◌≢◌, inl, inr, ℕ, ◌+◌, ◌≤◌, ◌==◌, ◌&&◌, Bool, true, false, cond, Option, Some, None, List, [], ◌∷◌, ◌++◌, All, refl, sym, ap, subst, ◌∙◌, arith, is_some, option_and_then, option_map, option_map_or, cases_eq, All-head, All-tail, All-weaker, sum_by-cons}
+use Rattle.purge_task.proofs.Common.{FileNo, equal_yes, MailFile, changed_in, file_begun, file_in, to_empty, file-here, file-other, StoreValue, Claims, MovesClaims, Thing, Due, Pinned, Taken, Emptied, PlacingPieces, Removing, Held, Made, amount_in, one_if, claims_of_sources, CanTake, CanTakeAll}
+use Rattle.purge_task.proofs.Common.{taken_to_empty, source_taken, take_all, targets_given, target_drawn, with_target, Source}
+use Rattle.task_claims.specs.Claims.{no_claims}
 use Rattle.purge_task.proofs.TakenLemmas.{highest_step, rest_step}
 use Rattle.purge_task.proofs.TakenStateLemmas.{below_changed, below_step, found_before, found_last, next_highest}
 use Rattle.purge_task.proofs.WalkLemmas.{unequal}

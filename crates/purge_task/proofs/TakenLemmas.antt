@@ -1,17 +1,10 @@
 -- The files that a purge takes, one after another.
-use Rattle.std.proofs.Common.{◌≡◌, ◌≢◌, ℕ, ◌+◌, ◌<◌, ◌≤◌, ◌==◌, Bool, true, false, cond, Some, None, List, [], ◌∷◌, ◌++◌, length, get_or, set, take, drop, All, refl, sym, ap, subst, ◌∙◌, arith, append_assoc}
-use Rattle.std.specs.Prelude.{count_by}
-use Rattle.std.proofs.lemmas.List.{append-nil, drop_more, drop_all, take_more, take_all, set_at, get_or_at, length-take-le}
-use Rattle.std.proofs.lemmas.List.Elements.{All-head, All-tail}
-use Rattle.std.proofs.lemmas.List.Sums.{fold_push, sum_by-cons, sum_by_push}
-use Rattle.model_octets.proofs.PairLemmas.{pairs_head, pairs_tail}
-use Rattle.storage_files.specs.declared.file.MailFile.{MailFile}
-use Rattle.storage_files.specs.Files.{changed_in, file_begun, file_in, to_empty}
-use Rattle.storage_files.proofs.FileListLemmas.{file-other}
-use Rattle.store_core.specs.Value.{StoreValue}
-use Rattle.purge_task.specs.Taken.{CanTake, CanTakeAll, taken_to_empty, source_taken, targets_given, target_drawn, with_target}
+use Rattle.purge_task.proofs.Common.{◌≡◌, ◌≢◌, ℕ, ◌+◌, ◌<◌, ◌≤◌, ◌==◌, Bool, true, false, cond, Some, None, List, [], ◌∷◌, ◌++◌, length, get_or, take, drop, All, refl, sym, ap, subst, ◌∙◌, arith, append_assoc, count_by, append-nil, drop_more, drop_all, length-take-le, All-head, All-tail}
+use Rattle.purge_task.proofs.Common.{sum_by-cons, pairs_head, pairs_tail, MailFile, changed_in, file_begun, file_in, to_empty, file-other, StoreValue, CanTake, CanTakeAll, taken_to_empty, source_taken, targets_given, target_drawn, with_target, Source}
+use Rattle.std.proofs.Common.{set}
+use Rattle.std.proofs.lemmas.List.{take_more, take_all, set_at, get_or_at}
+use Rattle.std.proofs.lemmas.List.Sums.{fold_push, sum_by_push}
 use Rattle.purge_task.specs.Taken.{take_all as all_taken}
-use Rattle.purge_task.specs.declared.work.Source.{Source}
 
 -- ---- one more
 

@@ -1,19 +1,8 @@
 -- What is known of the storage files behind the first event: each source is emptied, each target is taken and not made, and all else is as it was.
-use Rattle.std.proofs.Common.{◌≡◌, ◌≢◌, ℕ, ◌+◌, ◌<◌, ◌≤◌, ◌==◌, Bool, true, false, cond, Option, Some, None, List, [], ◌∷◌, ◌++◌, get_or, All, refl, sym, ap, subst, ◌∙◌, arith}
-use Rattle.std.specs.Prelude.{AllPairs, IfSome}
-use Rattle.std.specs.Option.{option_map}
-use Rattle.std.proofs.lemmas.List.Elements.{All-nil, All-cons, All-head, All-tail, All-weaker, All-append}
-use Rattle.std.proofs.lemmas.List.Kept.{AllPairs-cons}
-use Rattle.mdbox_base.specs.declared.ids.FileNo.{FileNo}
-use Rattle.model_meaning.proofs.MapPlaceLemmas.{equal_yes}
-use Rattle.model_octets.proofs.PairLemmas.{pairs_head, pairs_tail, pairs_nil}
-use Rattle.storage_files.specs.declared.file.MailFile.{MailFile}
-use Rattle.storage_files.specs.Files.{changed_in, file_begun, file_in, to_empty}
-use Rattle.storage_files.proofs.FileListLemmas.{file-here, file-other}
-use Rattle.store_core.specs.Value.{StoreValue}
-use Rattle.purge_task.specs.Keeping.{AreSourcesApart}
-use Rattle.purge_task.specs.Taken.{taken_to_empty, source_taken, take_all, targets_given, target_drawn, with_target}
-use Rattle.purge_task.specs.declared.work.Source.{Source}
+use Rattle.purge_task.proofs.Common.{◌≡◌, ◌≢◌, ℕ, ◌+◌, ◌<◌, ◌≤◌, ◌==◌, Bool, true, false, cond, Option, Some, None, List, [], ◌∷◌, ◌++◌, get_or, All, refl, sym, ap, subst, ◌∙◌, arith, AllPairs, option_map, All-nil, All-cons, All-head, All-tail, All-weaker, AllPairs-cons, FileNo, equal_yes}
+use Rattle.purge_task.proofs.Common.{pairs_head, pairs_tail, pairs_nil, MailFile, changed_in, file_begun, file_in, to_empty, file-here, file-other, StoreValue, AreSourcesApart, taken_to_empty, source_taken, take_all, targets_given, target_drawn, with_target, Source}
+use Rattle.std.specs.Prelude.{IfSome}
+use Rattle.std.proofs.lemmas.List.Elements.{All-append}
 use Rattle.purge_task.proofs.TakenLemmas.{highest_step}
 use Rattle.purge_task.proofs.WalkLemmas.{unequal}
 

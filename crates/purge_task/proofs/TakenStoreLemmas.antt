@@ -1,28 +1,10 @@
 -- What a purge has behind its first event: the sources with their targets, ready to begin, in a store of which nothing else has changed.
-use Rattle.std.proofs.Common.{◌≡◌, ◌≢◌, ◌≤◌, ◌+◌, ◌*◌, ◌&&◌, ◌||◌, ℕ, Bool, true, false, cond, List, [], ◌∷◌, ◌++◌, length, map, fold, Option, Some, None, refl, sym, ◌∙◌, ap, subst, arith, All, inl, inr}
-use Rattle.std.specs.Prelude.{IfSome, count_by, max, nat_lt, if◌then◌else◌}
-use Rattle.std.specs.List.{AllZip, list_any}
-use Rattle.std.specs.Option.{option_and_then, option_map, option_map_or}
-use Rattle.std.proofs.lemmas.Bool.{cases_eq, eq-eqb}
-use Rattle.std.proofs.lemmas.Bool.Decides.{nat_tests}
-use Rattle.std.proofs.lemmas.List.Elements.{All-cons, All-filter, All-head, All-nil, All-tail, All-weaker}
-use Rattle.std.proofs.lemmas.List.Sums.{sum_by-cons}
-use Rattle.list_machine.specs.Run.{TakenFile, is_copied_from, target_length, with_targets}
-use Rattle.journal.specs.Events.{targets_of}
-use Rattle.mdbox_base.specs.declared.ids.FileNo.{FileNo}
-use Rattle.model_meaning.specs.MapMeaning.{MapMeaning, MapRecord, greatest}
-use Rattle.storage_files.specs.declared.file.MailFile.{MailFile}
-use Rattle.storage_files.specs.Files.{changed_in, file_begun, file_in, is_emptied_in, to_empty}
-use Rattle.storage_files.proofs.FileListLemmas.{file-here, file-other}
-use Rattle.store_core.specs.Value.{StoreValue}
-use Rattle.purge_task.specs.Found.{IsFoundFile, found_numbers, messages_in}
-use Rattle.purge_task.specs.Keeping.{IsTargetToMake, IsToBegin, IsUnwanted}
-use Rattle.purge_task.specs.Reserved.{HasListRoom, IsNewSource}
-use Rattle.purge_task.specs.Stages.{told_taken}
-use Rattle.purge_task.specs.Taken.{source_taken, take_all, taken_to_empty, target_drawn, targets_given, with_target}
-use Rattle.purge_task.specs.declared.finding.FoundFile.{FoundFile}
-use Rattle.purge_task.specs.declared.work.Source.{Source}
-use Rattle.purge_task.specs.declared.work.Work.{Work}
+use Rattle.purge_task.proofs.Common.{◌≡◌, ◌≢◌, ◌≤◌, ◌+◌, ◌*◌, ◌&&◌, ◌||◌, ℕ, Bool, true, false, cond, List, [], ◌∷◌, ◌++◌, length, map, fold, Option, Some, None, refl, sym, ◌∙◌, ap, subst, arith, All, inl, inr, count_by, max, nat_lt, if◌then◌else◌, AllZip, list_any, option_and_then, option_map}
+use Rattle.purge_task.proofs.Common.{option_map_or, cases_eq, eq-eqb, nat_tests, All-cons, All-filter, All-head, All-nil, All-tail, All-weaker, sum_by-cons, TakenFile, is_copied_from, target_length, with_targets, targets_of, FileNo, MapMeaning, MapRecord, greatest, MailFile, changed_in, file_begun}
+use Rattle.purge_task.proofs.Common.{file_in, is_emptied_in, to_empty, file-here, file-other, StoreValue, IsFoundFile, found_numbers, messages_in, IsTargetToMake, IsToBegin, IsUnwanted, IsNewSource, told_taken, source_taken, take_all, taken_to_empty, target_drawn, targets_given, with_target}
+use Rattle.purge_task.proofs.Common.{FoundFile, Source, Work}
+use Rattle.std.specs.Prelude.{IfSome}
+use Rattle.purge_task.specs.Reserved.{HasListRoom}
 use Rattle.purge_task.proofs.FirstLemmas.{IsBegunOf}
 use Rattle.purge_task.proofs.SameSeenLemmas.{bars, is_before, uses}
 use Rattle.purge_task.proofs.TakeableLemmas.{zip_all}

@@ -1,31 +1,9 @@
 -- An event that makes a target, or adds to it, leaves to other tasks what is theirs.
-use Rattle.std.proofs.Common.{◌≡◌, ◌≢◌, ◌≤◌, ◌==◌, ℕ, List, [], ◌∷◌, ◌++◌, Option, Some, refl, sym, ◌∙◌, ap, subst, arith, inl, inr}
-use Rattle.std.specs.Option.{option_map, option_and_then}
-use Rattle.std.proofs.lemmas.Bool.{cases_eq}
-use Rattle.std.proofs.lemmas.List.{append-nil}
-use Rattle.std.proofs.lemmas.List.Elements.{All-cons, All-contains, All-nil}
-use Rattle.disk_model.specs.Disk.{Between, DiskState, FileState, History, SameButFor, named, reading}
-use Rattle.disk_model.specs.declared.name.FileName.{FileName}
-use Rattle.disk_model.specs.declared.name.FileName.TheVariants as file
-use Rattle.disk_model.proofs.BetweenLemmas.{between-map}
-use Rattle.mdbox_base.specs.declared.entries.InstRow.{InstRow}
-use Rattle.model_meaning.specs.MapMeaning.{MapRecord, record_at}
-use Rattle.model_octets.proofs.SearchLemmas.{found_one}
-use Rattle.model_store.specs.Settled.{files_of}
-use Rattle.sis_store.specs.OnDisk.{instance_file}
-use Rattle.storage_files.specs.Files.{FilesValue, end_in, file_in, with_pins}
-use Rattle.storage_files.specs.OnDisk.{OthersAreNamed}
-use Rattle.storage_files.specs.declared.file.MailFile.{MailFile}
-use Rattle.store_core.specs.Keeping.{KeepsFirm, KeepsInstances, ReadsInstances, SyncsInstances}
-use Rattle.store_core.specs.Removing.{AreElsewhere}
-use Rattle.store_core.specs.Value.{StoreValue}
-use Rattle.store_core.proofs.InstanceKeepingLemmas.{kept_same}
-use Rattle.store_core.proofs.KnownInstanceLemmas.{firm_same}
-use Rattle.store_core.proofs.MailChangeLemmas.{named_reads}
-use Rattle.task_claims.specs.Claims.{Claims}
-use Rattle.task_claims.specs.Leaving.{HasRegionOctets, HaveSameInstances, IsSameOrSynced, LeavesFile, LeavesOthers, LeavesRecord, MayOnlyGrow, OnlyGrows, OthersTook}
-use Rattle.task_claims.proofs.CountedLemmas.{unraised_same}
-use Rattle.task_claims.proofs.RestLemmas.{instance_kept, none_placed}
+use Rattle.purge_task.proofs.Common.{◌≡◌, ◌≢◌, ◌≤◌, ◌==◌, ℕ, List, [], ◌∷◌, ◌++◌, Option, Some, refl, sym, ◌∙◌, ap, subst, arith, inl, inr, option_map, option_and_then, cases_eq, append-nil, All-cons, All-contains, All-nil, Between, DiskState, FileState, History, SameButFor, named, reading}
+use Rattle.purge_task.proofs.Common.{FileName, file, between-map, InstRow, MapRecord, record_at, found_one, files_of, instance_file, FilesValue, end_in, file_in, with_pins, OthersAreNamed, MailFile, KeepsFirm, KeepsInstances, ReadsInstances, AreElsewhere, StoreValue, kept_same, firm_same}
+use Rattle.purge_task.proofs.Common.{named_reads, Claims, HasRegionOctets, HaveSameInstances, IsSameOrSynced, LeavesOthers, LeavesRecord, MayOnlyGrow, OnlyGrows, OthersTook, unraised_same, instance_kept, none_placed}
+use Rattle.store_core.specs.Keeping.{SyncsInstances}
+use Rattle.task_claims.specs.Leaving.{LeavesFile}
 use Rattle.purge_task.proofs.TargetSeenLemmas.{with_files}
 
 -- each other file is as it was, or its name was synced

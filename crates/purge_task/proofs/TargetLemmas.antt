@@ -1,34 +1,8 @@
 -- The event of a purge that makes a target.
-use Rattle.std.proofs.Common.{◌≡◌, ◌≤◌, ◌==◌, ℕ, Bool, true, false, List, [], ◌∷◌, ◌++◌, length, Option, Some, None, refl, sym, ◌∙◌, ap, subst, arith, All}
-use Rattle.std.specs.Prelude.{nat_lt, sum_by, if◌then◌else◌}
-use Rattle.std.specs.List.{list_any}
-use Rattle.std.specs.Option.{option_map_or}
-use Rattle.std.proofs.lemmas.Bool.{eq-eqb}
-use Rattle.std.proofs.lemmas.Grind.{common_steps}
-use Rattle.std.proofs.lemmas.List.{append-nil}
-use Rattle.std.proofs.lemmas.List.Elements.{All-nil, All-weaker}
-use Rattle.disk_model.specs.Disk.{Faults, History, told_calls}
-use Rattle.mdbox_base.specs.declared.ids.FileNo.{FileNo}
-use Rattle.mdbox_base.specs.declared.progress.Did.{Did}
-use Rattle.mdbox_base.specs.declared.progress.Did.TheVariants as did
-use Rattle.mdbox_base.specs.declared.replies.Reply.{Reply}
-use Rattle.mdbox_base.specs.declared.requests.Request.TheVariants as request
-use Rattle.model_meaning.specs.MapMeaning.{MapRecord, is_own, number_at}
-use Rattle.list_machine.specs.Run.{MakesTarget, Run, RunEvent, Switches, RemovesFile, TakenFile, and_then, dropped_in, how_many, is_one_of, map_of, own_events}
-use Rattle.journal.specs.Events.{Around, last_refusal, next_part, next_taken, purge_goes_on}
-use Rattle.journal.proofs.OwnEventLemmas.{own_more}
-use Rattle.storage_files.specs.Files.{FilesValue}
-use Rattle.store_core.specs.Value.{StoreValue}
-use Rattle.task_steps.specs.Step.{HasComeTo, was_given, was_used}
-use Rattle.purge_task.specs.Claims.{sources_left}
-use Rattle.purge_task.specs.Clause.{PurgeSteps, around_purging, seen_by_purge}
-use Rattle.purge_task.specs.Keeping.{PurgeValue}
-use Rattle.purge_task.specs.Stages.{CopiesBehind, GoesOnBehind, HaveCopied, HaveTaken, IsAtPurge, IsAtPurgeStage, IsPurging, told_taken}
-use Rattle.purge_task.specs.declared.task.PurgeStage.{PurgeStage}
-use Rattle.purge_task.specs.declared.task.PurgeStage.TheVariants as stage
-use Rattle.purge_task.specs.declared.work.Source.{Source}
-use Rattle.purge_task.specs.declared.work.Work.{Work}
-use Rattle.task_steps.proofs.EventLaws.{DidBy, stands_by}
+use Rattle.purge_task.proofs.Common.{◌≡◌, ◌≤◌, ◌==◌, ℕ, Bool, true, false, List, [], ◌∷◌, ◌++◌, length, Option, Some, None, refl, sym, ◌∙◌, ap, subst, arith, All, nat_lt, sum_by, if◌then◌else◌, list_any, option_map_or, eq-eqb, common_steps, append-nil, All-nil, All-weaker, Faults, History}
+use Rattle.purge_task.proofs.Common.{told_calls, FileNo, Did, did, Reply, request, MapRecord, is_own, number_at, MakesTarget, Run, RunEvent, Switches, RemovesFile, TakenFile, and_then, dropped_in, how_many, is_one_of, map_of, own_events, Around, last_refusal, next_part, next_taken, purge_goes_on}
+use Rattle.purge_task.proofs.Common.{own_more, FilesValue, StoreValue, HasComeTo, was_given, was_used, sources_left, PurgeSteps, around_purging, seen_by_purge, PurgeValue, CopiesBehind, GoesOnBehind, HaveCopied, HaveTaken, IsAtPurge, IsAtPurgeStage, IsPurging, told_taken, PurgeStage, stage, Source}
+use Rattle.purge_task.proofs.Common.{Work, DidBy, stands_by}
 use Rattle.purge_task.proofs.EventLemmas.{did_next}
 use Rattle.purge_task.proofs.PartLemmas.{copies_some, last_with, next_goes_on, next_is}
 use Rattle.purge_task.proofs.RemovalLemmas.{LeavesSettled}

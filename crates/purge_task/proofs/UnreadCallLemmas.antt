@@ -1,38 +1,12 @@
 -- What a purge says that can't copy a message: one that can't be read, so that all that was taken is given back, or one of which a write
 -- failed.
-use Rattle.std.proofs.Common.{◌≡◌, ◌≢◌, ◌≤◌, ◌<◌, ◌+◌, ◌⊎◌, ℕ, Bool, true, false, List, [], ◌∷◌, get_or, Option, Some, None, All, refl, sym, ◌∙◌, ap, subst, arith, inl, inr}
-use Rattle.std.specs.Prelude.{AllPairs, Err, Result, is_some}
-use Rattle.std.specs.Option.{IfSome, option_and_then, option_map_or}
-use Rattle.std.proofs.lemmas.List.Elements.{All-cons, All-head, All-nil, All-tail}
-use Rattle.disk_model.specs.Disk.{Between, Faults, Grows, History, SameButFor}
-use Rattle.disk_model.specs.declared.name.FileName.TheVariants as file
-use Rattle.mdbox_base.specs.declared.ids.FileNo.{FileNo}
-use Rattle.mdbox_base.specs.declared.progress.Did.TheVariants as did
-use Rattle.mdbox_base.specs.declared.progress.Progress.TheVariants as progress
-use Rattle.mdbox_base.specs.declared.replies.Refusal.{Refusal}
-use Rattle.mdbox_base.specs.declared.replies.Refusal.TheVariants as refusal
-use Rattle.mdbox_base.specs.declared.replies.Reply.TheVariants as reply
-use Rattle.map_rows.specs.declared.rows.MapRow.{MapRow}
-use Rattle.list_machine.specs.Run.{CopiesMessage}
-use Rattle.model_kept.specs.Kept.{MailIsKept}
-use Rattle.model_lists.specs.Lists.{Lists}
-use Rattle.model_meaning.specs.Sound.{IsSoundMap}
-use Rattle.model_store.specs.Settled.{IsSettledFor, Leaves}
-use Rattle.storage_files.specs.Files.{FilesValue, IsUsedFile, changed_in, end_in, ending_at, file_in}
-use Rattle.storage_files.specs.declared.file.MailFile.{MailFile}
-use Rattle.storage_files.proofs.FileListLemmas.{file-other}
-use Rattle.store_core.specs.Value.{StoreValue}
-use Rattle.task_claims.specs.Claims.{Emptied, MovesClaims, Removing, Taken, Thing, amount_in, no_claims, one_if}
-use Rattle.task_claims.specs.Leaving.{LeavesOthers, OthersTook}
-use Rattle.purge_task.specs.Claims.{claims_of_sources, claims_of_target, purge_claims, sources_left}
-use Rattle.purge_task.specs.Clause.{IsPurgeStep, answer_of, came_to}
-use Rattle.purge_task.specs.Copied.{CopyFaultCounted, IsCopyRefusal, IsTargetAt}
-use Rattle.purge_task.specs.Keeping.{HasPurged, IsTargetToMake, IsToBegin, PurgeValue}
-use Rattle.purge_task.specs.Taken.{CanRelease, all_released}
-use Rattle.purge_task.specs.declared.task.PurgeStage.{PurgeStage}
-use Rattle.purge_task.specs.declared.task.PurgeStage.TheVariants as stage
-use Rattle.purge_task.specs.declared.work.Source.{Source}
-use Rattle.purge_task.specs.declared.work.Work.{Work}
+use Rattle.purge_task.proofs.Common.{◌≡◌, ◌≢◌, ◌≤◌, ◌<◌, ◌+◌, ℕ, Bool, true, false, List, [], ◌∷◌, get_or, Option, Some, None, All, refl, sym, ◌∙◌, ap, subst, arith, inl, inr, AllPairs, Err, Result, is_some, IfSome, option_and_then, option_map_or, All-cons, All-head, All-nil, All-tail, Between}
+use Rattle.purge_task.proofs.Common.{Faults, Grows, History, SameButFor, file, FileNo, did, progress, Refusal, refusal, reply, MapRow, CopiesMessage, MailIsKept, Lists, IsSoundMap, IsSettledFor, Leaves, FilesValue, IsUsedFile, changed_in, end_in, ending_at, file_in, MailFile, file-other, StoreValue}
+use Rattle.purge_task.proofs.Common.{Emptied, MovesClaims, Removing, Taken, Thing, amount_in, one_if, LeavesOthers, OthersTook, claims_of_sources, claims_of_target, purge_claims, sources_left, IsPurgeStep, answer_of, came_to, IsTargetAt, HasPurged, IsTargetToMake, IsToBegin, PurgeValue, CanRelease}
+use Rattle.purge_task.proofs.Common.{all_released, PurgeStage, stage, Source, Work, IsStore}
+use Rattle.std.proofs.Common.{◌⊎◌}
+use Rattle.task_claims.specs.Claims.{no_claims}
+use Rattle.purge_task.specs.Copied.{CopyFaultCounted, IsCopyRefusal}
 use Rattle.purge_task.proofs.CanReleaseLemmas.{AreClear, IsHeldIn, copying_held, grown_held, held_clear, held_release}
 use Rattle.purge_task.proofs.CopyStepLemmas.{next_copy}
 use Rattle.purge_task.proofs.CopyingLemmas.{HasMore, IsCopyingOne, each_still, grown_amount, grown_ends, grown_keeps, grown_of, later_targets, more_grows, target_untaken}
@@ -42,7 +16,6 @@ use Rattle.purge_task.proofs.RegionLemmas.{with_end}
 use Rattle.purge_task.proofs.SameSeenLemmas.{tells_grown, with_state}
 use Rattle.purge_task.proofs.TargetCallLemmas.{unmade_file, unmade_unplaced}
 use Rattle.purge_task.proofs.TargetLeavingLemmas.{files_leave, same_others}
-use Rattle.store_core.specs.Running.{IsStore}
 use Rattle.purge_task.proofs.SameRegionLemmas.{regions_but}
 use Rattle.purge_task.proofs.EventLemmas.{same_refusal}
 

@@ -1,18 +1,11 @@
 -- The records of a storage file, one after another in order of offset.
-use Rattle.std.proofs.Common.{◌≡◌, inl, inr, ℕ, zero, suc, ◌+◌, ◌<◌, ◌≤◌, ◌==◌, ◌&&◌, Bool, true, false, cond, Some, None, List, [], ◌∷◌, length, get_or, filter, fold, All, refl, sym, ap, subst, ◌∙◌, arith}
-use Rattle.std.specs.Prelude.{nat_le, nat_lt, AllPairs, ◌⊎◌, Contains, sum_by}
-use Rattle.std.specs.Option.{option_map}
-use Rattle.std.proofs.lemmas.Bool.{cases_lt, cases_eq}
-use Rattle.std.proofs.lemmas.Bool.Decides.{nat_tests}
-use Rattle.std.proofs.lemmas.List.{get_or_default}
-use Rattle.std.proofs.lemmas.List.Elements.{All-nil, All-cons, All-head, All-tail, All-filter, filter_passes, All-contains, All-contains_itself}
-use Rattle.std.proofs.lemmas.List.Sums.{sum_by-cons}
-use Rattle.model_meaning.specs.MapMeaning.{MapRecord, MapMeaning}
-use Rattle.model_meaning.specs.Sound.{AreApart, IsSoundMap, IsSoundRecord}
-use Rattle.map_rows.specs.declared.rows.MapRow.{MapRow}
-use Rattle.map_index.specs.Shown.{record_from, shown_record}
+use Rattle.purge_task.proofs.Common.{◌≡◌, inl, inr, ℕ, zero, suc, ◌+◌, ◌<◌, ◌≤◌, ◌==◌, ◌&&◌, Bool, true, false, cond, Some, None, List, [], ◌∷◌, length, get_or, fold, All, refl, sym, ap, subst, ◌∙◌, arith, nat_le, nat_lt, AllPairs, ◌⊎◌, Contains, sum_by, option_map, cases_lt, cases_eq, nat_tests}
+use Rattle.purge_task.proofs.Common.{get_or_default, All-nil, All-cons, All-head, All-tail, All-filter, All-contains, All-contains_itself, sum_by-cons, MapRecord, MapMeaning, IsSoundMap, IsSoundRecord, MapRow, record_from, shown_record, equal_is, equal_yes}
+use Rattle.std.proofs.Common.{filter}
+use Rattle.std.proofs.lemmas.List.Elements.{filter_passes}
+use Rattle.model_meaning.specs.Sound.{AreApart}
 use Rattle.map_index.proofs.ShownLemmas.{shown_behind, none_behind}
-use Rattle.model_meaning.proofs.MapPlaceLemmas.{turned, equal_is, equal_yes}
+use Rattle.model_meaning.proofs.MapPlaceLemmas.{turned}
 use Rattle.map_rows.specs.Lookups.{nearer, least, is_from}
 
 -- ---- tests

@@ -1,20 +1,7 @@
 -- Records in a storage file that stay in it, of which none that had no count has one: what of them counts is no more.
-use Rattle.std.proofs.Common.{◌≡◌, ◌≢◌, ◌≤◌, ◌==◌, ◌&&◌, ℕ, Bool, true, false, cond, List, [], ◌∷◌, map, Some, refl, sym, ◌∙◌, ap, subst, arith, All}
-use Rattle.std.specs.Prelude.{Contains, filter, nat_le, nat_lt, sum_by, if◌then◌else◌}
-use Rattle.std.specs.Option.{option_map_or}
-use Rattle.std.proofs.lemmas.Bool.{eqb-true}
-use Rattle.std.proofs.lemmas.List.Elements.{All-contains, All-contains_itself, All-head, All-tail, All-weaker}
-use Rattle.std.proofs.lemmas.List.Sums.{sum_by-cons}
-use Rattle.std.proofs.lemmas.Bool.Decides.{nat_tests}
-use Rattle.list_machine.specs.Run.{is_copied_from, target_length}
-use Rattle.model_meaning.specs.MapMeaning.{MapMeaning, MapRecord, record_at}
-use Rattle.model_meaning.specs.Sound.{IsSoundMap}
-use Rattle.model_octets.proofs.SearchLemmas.{found_one}
-use Rattle.store_core.specs.Removing.{AreElsewhere}
-use Rattle.task_claims.specs.Leaving.{RaisesNone, but_count, records_within}
-use Rattle.purge_task.specs.Found.{messages_in}
-use Rattle.purge_task.specs.Keeping.{IsUnwanted}
-use Rattle.purge_task.specs.Switched.{is_wanted_at}
+use Rattle.purge_task.proofs.Common.{◌≡◌, ◌≢◌, ◌≤◌, ◌==◌, ◌&&◌, ℕ, Bool, true, false, cond, List, [], ◌∷◌, map, Some, refl, sym, ◌∙◌, ap, subst, arith, All, Contains, filter, nat_le, nat_lt, sum_by, if◌then◌else◌, option_map_or, eqb-true, All-contains, All-contains_itself, All-head, All-tail}
+use Rattle.purge_task.proofs.Common.{All-weaker, sum_by-cons, nat_tests, is_copied_from, target_length, MapMeaning, MapRecord, record_at, IsSoundMap, found_one, AreElsewhere, but_count, records_within, messages_in, IsUnwanted, is_wanted_at}
+use Rattle.task_claims.specs.Leaving.{RaisesNone}
 use Rattle.purge_task.proofs.ListingLemmas.{record_there}
 use Rattle.purge_task.proofs.WithinLemmas.{of_kept, of_mapped, was_within}
 

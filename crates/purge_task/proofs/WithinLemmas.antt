@@ -1,11 +1,7 @@
 -- Records in a storage file that stay in it: what holds of their map uids holds still.
-use Rattle.std.proofs.Common.{◌≡◌, ◌==◌, ◌⊎◌, ℕ, Bool, true, false, List, [], ◌∷◌, map, refl, ◌∙◌, ap, subst, arith, All, inl, inr}
-use Rattle.std.specs.Prelude.{Contains, filter, if◌then◌else◌}
-use Rattle.std.proofs.lemmas.Bool.{eq-eqb}
-use Rattle.std.proofs.lemmas.List.Elements.{All-contains, All-contains_itself, All-head, All-weaker, Contains-append_right}
-use Rattle.model_meaning.specs.MapMeaning.{MapMeaning, MapRecord}
-use Rattle.model_octets.proofs.SearchLemmas.{among}
-use Rattle.task_claims.specs.Leaving.{but_count, records_within}
+use Rattle.purge_task.proofs.Common.{◌≡◌, ◌==◌, ℕ, Bool, true, false, List, [], ◌∷◌, map, refl, ◌∙◌, ap, subst, arith, All, inl, inr, Contains, filter, if◌then◌else◌, eq-eqb, All-contains, All-contains_itself, All-head, All-weaker, Contains-append_right, MapMeaning, MapRecord, among, but_count}
+use Rattle.purge_task.proofs.Common.{records_within}
+use Rattle.std.proofs.Common.{◌⊎◌}
 use Rattle.purge_task.proofs.CopyLemmas.{kept_of}
 
 none_contained : {X : Type 0} → (x : X) → Contains [] x → ⊥

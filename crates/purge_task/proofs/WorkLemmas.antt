@@ -1,17 +1,10 @@
 -- The lists of what a purge works on.
-use Rattle.std.proofs.Common.{◌≡◌, inl, inr, ℕ, zero, suc, ◌+◌, ◌<◌, ◌≤◌, Some, None, List, [], ◌∷◌, ◌++◌, Vec, Global, length, get_or, take, drop, refl, sym, ap, subst, ◌∙◌, arith}
-use Rattle.std.specs.Prelude.{slice_get}
+use Rattle.purge_task.proofs.Common.{◌≡◌, inl, inr, ℕ, zero, suc, ◌+◌, ◌<◌, ◌≤◌, Some, None, List, [], ◌∷◌, ◌++◌, length, get_or, take, drop, refl, sym, ap, subst, ◌∙◌, arith, slice_get, AllZip, cases_lt, drop_more, drop_all, MapRow, sources_left, IsSourceWith, NotesCopy, IsNewSource, FoundFile}
+use Rattle.purge_task.proofs.Common.{Source, Work}
+use Rattle.std.proofs.Common.{Vec, Global}
 use Rattle.std.specs.Vec.{with_item}
-use Rattle.std.specs.List.{AllZip}
-use Rattle.std.proofs.lemmas.Bool.{cases_lt}
-use Rattle.std.proofs.lemmas.List.{drop_more, drop_all, drop-set, take_all}
-use Rattle.map_rows.specs.declared.rows.MapRow.{MapRow}
-use Rattle.purge_task.specs.Claims.{sources_left}
-use Rattle.purge_task.specs.Copied.{IsSourceWith, NotesCopy}
-use Rattle.purge_task.specs.Reserved.{HasRoomForCopy, IsNewSource}
-use Rattle.purge_task.specs.declared.finding.FoundFile.{FoundFile}
-use Rattle.purge_task.specs.declared.work.Source.{Source}
-use Rattle.purge_task.specs.declared.work.Work.{Work}
+use Rattle.std.proofs.lemmas.List.{drop-set, take_all}
+use Rattle.purge_task.specs.Reserved.{HasRoomForCopy}
 
 pub drop_head : {X : Type 0} → (xs : List X) (i : ℕ) (x : X) → slice_get xs i ≡ Some x → drop i xs ≡ x ∷ drop (i + 1) xs
 drop_head [] i x e = absurd (let w : None ≡ Some x = e in cc w)

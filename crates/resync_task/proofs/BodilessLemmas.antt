@@ -1,14 +1,13 @@
 -- A message and the same without its body: its header tells no octets, and its block of metadata follows.
-use Rattle.std.proofs.Common.{◌≡◌, ◌≤◌, ◌+◌, ℕ, List, [], ◌∷◌, ◌++◌, length, take, drop, Some, refl, sym, ◌∙◌, ap, subst, arith, append_assoc, length-append}
-use Rattle.std.specs.Prelude.{codes, Bool, IsTrue, ◌↔◌, IfOk, Result, Ok, Err}
-use Rattle.std.proofs.lemmas.List.{length-take-le, length-drop, take-append-drop, drop-drop}
+use Rattle.resync_task.proofs.Common.{◌≡◌, ◌≤◌, ◌+◌, ℕ, List, [], ◌∷◌, ◌++◌, length, take, drop, Some, refl, sym, ◌∙◌, ap, subst, arith, length-append, IsTrue, ◌↔◌, Result, Ok, Err, length-take-le, length-drop, drop-drop, Message, IsMessage, IsMessageWith, bodiless_header}
+use Rattle.std.proofs.Common.{append_assoc}
+use Rattle.std.specs.Prelude.{codes, Bool, IfOk}
+use Rattle.std.proofs.lemmas.List.{take-append-drop}
 use Rattle.std.proofs.Math.Seq.{take-add}
 use borrow.Rule.Slice.PartMut.{put_mid}
 use Rattle.model_octets.proofs.PiecesLemmas.{split_same}
 use Rattle.mdbox_base.specs.Numbers.{IsHex, hex_from}
-use Rattle.model_storage.specs.StorageFile.{Line, Message, IsBlock, IsMessage, IsMessageHeader}
-use Rattle.resync_task.specs.Damage.{IsMessageWith}
-use Rattle.resync_task.specs.Window.{bodiless_header}
+use Rattle.model_storage.specs.StorageFile.{Line, IsBlock, IsMessageHeader}
 use Rattle.resync_task.proofs.RegionLemmas.{behind_front, header_length, in_front}
 
 -- ---- the parts of a header

@@ -1,31 +1,16 @@
 -- What the entry of a resync asks.
-use Rattle.std.proofs.Common.{◌≡◌, ◌<◌, ◌≤◌, ◌+◌, ◌==◌, ℕ, Bool, true, false, List, [], ◌∷◌, length, refl, sym, ◌∙◌, ap, subst, arith}
-use Rattle.std.specs.Prelude.{All, Option, sum_by, count_by, if◌then◌else◌}
+use Rattle.resync_task.proofs.Common.{◌≡◌, ◌<◌, ◌≤◌, ◌+◌, ◌==◌, ℕ, Bool, true, false, List, [], ◌∷◌, length, refl, sym, ◌∙◌, ap, subst, arith, All, sum_by, count_by, if◌then◌else◌, All-nil, All-cons, All-head, All-tail, All-contains, All-weaker, DiskState, History, Faults, file, MapCount, entry}
+use Rattle.resync_task.proofs.Common.{BoxEntry, LogRow, BoxMeaning, MapRecord, MapMeaning, IsSoundRecord, map_sound, listed_of, MapFits, PutsRight, corrected_map, many_corrected, wrong_beside, wrong_of, due_at, listed_at, IsStore, listed_meant, StoreValue, indexes_of}
+use Rattle.std.specs.Prelude.{Option}
 use Rattle.std.specs.List.{AllByRecursion}
-use Rattle.std.proofs.lemmas.List.Elements.{All-nil, All-cons, All-head, All-tail, All-contains, All-weaker}
-use Rattle.disk_model.specs.Disk.{DiskState, History, Faults}
-use Rattle.disk_model.specs.declared.name.FileName.TheVariants as file
 use Rattle.disk_model.proofs.BetweenLemmas.{between-begins}
-use Rattle.mdbox_base.specs.declared.entries.MapCount.{MapCount}
-use Rattle.mdbox_base.specs.declared.entries.MapEntry.TheVariants as entry
-use Rattle.mdbox_base.specs.declared.entries.BoxEntry.{BoxEntry}
 use Rattle.model_logs.specs.Entries.{MapInRange}
-use Rattle.model_meaning.specs.BoxMeaning.{LogRow, BoxMeaning}
-use Rattle.model_meaning.specs.MapMeaning.{MapRecord, MapMeaning, map_applied}
-use Rattle.model_meaning.specs.Sound.{IsSoundRecord}
-use Rattle.model_meaning.proofs.MapSoundLemmas.{map_sound}
-use Rattle.model_store.specs.Opening.{listed_of}
-use Rattle.model_meaning.specs.MapFits.{MapFits}
-use Rattle.resync_task.specs.Correcting.{PutsRight}
-use Rattle.resync_task.specs.Stages.{corrected_map, many_corrected}
+use Rattle.model_meaning.specs.MapMeaning.{map_applied}
 use Rattle.task_steps.proofs.UnmovedLemmas.{leaves_none, mail_still}
-use Rattle.resync_task.specs.WrongCounts.{wrong_beside, wrong_of}
 use Rattle.resync_task.proofs.WrongCountLemmas.{IsWrong, as_right, all_wrong, fits_map, many_in_map}
-use Rattle.store_core.specs.Dues.{due_at, listed_at}
-use Rattle.store_core.specs.Running.{CoverDues, IsStore}
-use Rattle.store_core.proofs.DueLemmas.{AreNumbers, at_own_place, dues_each, listed_meant}
+use Rattle.store_core.specs.Running.{CoverDues}
+use Rattle.store_core.proofs.DueLemmas.{AreNumbers, at_own_place, dues_each}
 use Rattle.store_core.specs.Keeping.{KeepsRest}
-use Rattle.store_core.specs.Value.{StoreValue, indexes_of}
 use Rattle.resync_task.proofs.StoreCountLemmas.{uids_rise}
 
 pub entry_fits : {D : Type 0} → (history : Option History) (store : StoreValue D) (counts : List MapCount) → IsStore history store → counts ≡ wrong_of store → MapFits store.map (entry.T counts)

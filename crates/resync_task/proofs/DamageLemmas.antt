@@ -1,21 +1,14 @@
 -- Reading the regions of a file's records, one after another in order of offset.
-use Rattle.std.proofs.Common.{◌≡◌, ◌≤◌, ◌<◌, ◌+◌, ◌⊎◌, ℕ, Bool, true, false, List, [], ◌∷◌, ◌++◌, length, Option, Some, None, refl, sym, ◌∙◌, ap, subst, arith, inl, inr, length-append}
-use Rattle.std.specs.Prelude.{All, AllPairs, Contains, filter, ◌≢◌}
+use Rattle.resync_task.proofs.Common.{◌≡◌, ◌≤◌, ◌<◌, ◌+◌, ◌⊎◌, ℕ, Bool, true, false, List, [], ◌∷◌, ◌++◌, length, Option, Some, None, refl, sym, ◌∙◌, ap, subst, arith, inl, inr, length-append, All, AllPairs, Contains, ◌≢◌, All-nil, All-cons, All-weaker, All-contains, All-contains_itself, History}
+use Rattle.resync_task.proofs.Common.{MapRow, shown_record, HasRecord, MapMeaning, MapRecord, record_at, IsSoundMap, IsSoundRecord, map_sound, IsStore, StoreValue, HasDamagedRegion, TellsWhole}
+use Rattle.std.specs.Prelude.{filter}
 use Rattle.std.specs.Option.{option_map}
-use Rattle.std.proofs.lemmas.List.Elements.{All-nil, All-cons, All-append, All-weaker, All-contains, All-contains_itself, Contains-append_left, Contains-append_right}
-use Rattle.disk_model.specs.Disk.{History}
-use Rattle.map_index.specs.Shown.{MapRow, shown_record}
+use Rattle.std.proofs.lemmas.List.Elements.{All-append, Contains-append_left, Contains-append_right}
 use Rattle.map_index.proofs.ShownLemmas.{shown_behind, none_behind}
 use Rattle.map_rows.specs.Lookups.{is_from, least}
 use Rattle.model_octets.proofs.PairLemmas.{pairs_nil, pairs_push}
-use Rattle.model_meaning.specs.MapFits.{HasRecord}
-use Rattle.model_meaning.specs.MapMeaning.{MapMeaning, MapRecord, record_at}
-use Rattle.model_meaning.specs.Sound.{IsSoundMap, IsSoundRecord}
-use Rattle.model_meaning.proofs.MapSoundLemmas.{map_sound}
 use Rattle.model_store.proofs.OpeningSafeLemmas.{at_uid}
-use Rattle.store_core.specs.Running.{IsStore}
-use Rattle.store_core.specs.Value.{StoreValue}
-use Rattle.resync_task.specs.Damage.{AreDamaged, HasDamagedRegion, HasWholeRegion, TellsWhole}
+use Rattle.resync_task.specs.Damage.{AreDamaged, HasWholeRegion}
 use Rattle.resync_task.proofs.WalkLemmas.{nearest_there, walk_end, walk_on}
 
 -- the map of a store is sound

@@ -1,17 +1,12 @@
 -- How the last event of a resync is told that is refused.
-use Rattle.std.proofs.Common.{◌≡◌, ℕ, List, length, Option, Err, refl, sym, subst, arith}
-use Rattle.disk_model.specs.Disk.{History, Faults}
+use Rattle.resync_task.proofs.Common.{◌≡◌, ℕ, List, length, Option, refl, sym, subst, arith, History, Faults, did, refusal, reply, StoreValue, ResyncAt, ToList, ToRead}
+use Rattle.std.proofs.Common.{Err}
 use Rattle.mdbox_base.specs.declared.progress.Did.{Did}
-use Rattle.mdbox_base.specs.declared.progress.Did.TheVariants as did
 use Rattle.mdbox_base.specs.declared.progress.Progress.{Progress}
 use Rattle.mdbox_base.specs.declared.progress.Progress.TheVariants as progress
-use Rattle.mdbox_base.specs.declared.replies.Refusal.TheVariants as refusal
-use Rattle.mdbox_base.specs.declared.replies.Reply.TheVariants as reply
-use Rattle.store_core.specs.Value.{StoreValue}
 use Rattle.store_core.specs.declared.error.StepError.{StepError}
 use Rattle.store_core.specs.declared.error.StepError.TheVariants as step_error
 use Rattle.resync_task.specs.Correcting.{Corrects}
-use Rattle.resync_task.specs.Stages.{ResyncAt, ToList, ToRead}
 use Rattle.resync_task.specs.Task.{ResyncsOn, stage_of}
 use Rattle.resync_task.specs.declared.task.ResyncStage.{ResyncStage}
 use Rattle.resync_task.specs.declared.task.ResyncStage.TheVariants as stage

@@ -1,20 +1,16 @@
 -- The files in which records have their regions, in order, and each once.
-use Rattle.std.proofs.Common.{◌≡◌, ◌≤◌, ◌<◌, ◌+◌, ◌==◌, ◌||◌, ◌⊎◌, ℕ, Bool, true, false, List, [], ◌∷◌, map, length, AllPairs, IsPermutation, append-nil, refl, sym, ◌∙◌, ap, subst, arith, inl, inr}
-use Rattle.std.specs.Prelude.{All, Contains}
+use Rattle.resync_task.proofs.Common.{◌≡◌, ◌≤◌, ◌<◌, ◌+◌, ◌==◌, ◌⊎◌, ℕ, Bool, true, false, List, [], ◌∷◌, map, length, append-nil, refl, sym, ◌∙◌, ap, subst, arith, inl, inr, All, Contains, eq-eqb, eqb-true, All-head, All-map, All-tail, All-weaker, All-contains_itself, MapMeaning, MapRecord}
+use Rattle.resync_task.proofs.Common.{IsSoundMap, IsSoundRecord, AreRecordFiles, region_file}
+use Rattle.std.proofs.Common.{◌||◌, AllPairs, IsPermutation}
 use Rattle.std.specs.List.{list_any, dedup}
 use Rattle.std.specs.List.Sorted.{IsSorted}
 use Rattle.std.specs.Ordering.{nat_cmp}
-use Rattle.std.proofs.lemmas.Bool.{eq-eqb, eqb-true}
-use Rattle.std.proofs.lemmas.List.Elements.{All-head, All-map, All-tail, All-weaker, All-contains_itself}
 use Rattle.std.proofs.lemmas.List.Filters.{All-dedup}
 use Rattle.std.proofs.lemmas.List.Sorted.{All-permutation}
-use Rattle.model_meaning.specs.MapMeaning.{MapMeaning, MapRecord}
-use Rattle.model_meaning.specs.Sound.{IsSoundMap, IsSoundRecord}
 use Rattle.model_octets.proofs.PairLemmas.{pairs_head, pairs_tail}
 use Rattle.model_octets.proofs.SearchLemmas.{among}
 use Rattle.journal.specs.Found.{is_named_file}
 use Rattle.store_files.proofs.NumberListLemmas.{numbers_rise, region_kept}
-use Rattle.resync_task.specs.Files.{AreRecordFiles, region_file}
 
 any_at : (p : MapRecord → Bool) (rows : List MapRecord) (row : MapRecord) → Contains rows row → p row ≡ true → list_any p rows ≡ true
 any_at p [] row c e = absurd (let k = c.1 in omega (arith, k))

@@ -1,28 +1,20 @@
 -- Events of a resync that change nothing but the disk of the store, by reading it.
-use Rattle.std.proofs.Common.{◌≡◌, ◌≤◌, ℕ, List, Option, Some, None, inl, refl, sym, ◌∙◌, ap, subst, arith}
+use Rattle.resync_task.proofs.Common.{◌≡◌, ◌≤◌, ℕ, List, Option, Some, None, inl, refl, sym, ◌∙◌, ap, subst, arith, DiskState, History, Faults, file, Lists, due_at, StoreValue, seen_of, no_claims, Leads, ShowsSeen, ReadsStoreOnly, StaysSo}
 use Rattle.std.specs.Prelude.{◌⊎◌}
-use Rattle.disk_model.specs.Disk.{DiskState, History, Faults, Grows, IsIdle}
-use Rattle.disk_model.specs.declared.name.FileName.TheVariants as file
+use Rattle.disk_model.specs.Disk.{Grows, IsIdle}
 use Rattle.disk_model.proofs.BetweenLemmas.{between-map}
 use Rattle.disk_model.proofs.IdleLemmas.{idle-images}
 use Rattle.model_kept.proofs.KeptLemmas.{kept_idle}
-use Rattle.model_lists.specs.Lists.{Lists}
 use Rattle.model_store.specs.Safe.{Safe}
 use Rattle.model_store.specs.Settled.{IsSettled, IsSettledFor, Leaves}
 use Rattle.model_store.proofs.SettledLemmas.{settled_safe}
-use Rattle.store_core.specs.Dues.{due_at}
 use Rattle.store_core.specs.Keeping.{KeepsRest}
-use Rattle.store_core.specs.Value.{StoreValue}
-use Rattle.store_seen.specs.Seeing.{seen_of}
 use Rattle.store_seen.proofs.SeeingLemmas.{tells_as_before}
-use Rattle.task_claims.specs.Claims.{Due, Emptied, Held, Made, MovesClaims, Pinned, PlacingPieces, Removing, Taken, Thing, amount_in, no_claims}
+use Rattle.task_claims.specs.Claims.{Due, Emptied, Held, Made, MovesClaims, Pinned, PlacingPieces, Removing, Taken, Thing, amount_in}
 use Rattle.task_claims.specs.Leaving.{IsSameOrSynced, LeavesOthers, SyncsMail}
 use Rattle.task_claims.proofs.CountedLemmas.{unraised_same}
 use Rattle.task_claims.proofs.RestLemmas.{rest_leaves, same_claims}
-use Rattle.task_steps.specs.Step.{Leads, ShowsSeen}
 use Rattle.resync_task.specs.Clause.{KeepsMessages}
-use Rattle.resync_task.specs.Reading.{ReadsStoreOnly}
-use Rattle.task_steps.proofs.KeptStoreLemmas.{StaysSo}
 
 -- ---- the disk
 

@@ -1,4 +1,5 @@
 pub mod BodilessLemmas
+pub mod Common
 pub mod CorrectingLemmas
 pub mod DamageLemmas
 pub mod EndLemmas

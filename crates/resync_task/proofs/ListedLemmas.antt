@@ -1,21 +1,15 @@
 -- A record has as many listed messages as its GUID has references.
-use Rattle.std.proofs.Common.{◌≡◌, ◌==◌, ℕ, Bool, cond, List, [], ◌∷◌, Option, Some, refl, sym, ◌∙◌, ap, subst, arith}
-use Rattle.std.specs.Prelude.{All, Contains, map, count_by}
+use Rattle.resync_task.proofs.Common.{◌≡◌, ◌==◌, ℕ, Bool, cond, List, [], ◌∷◌, Option, Some, refl, sym, ◌∙◌, ap, subst, arith, All, Contains, count_by, eqb-true, eq-eqb, All-head, All-tail, sum_by-cons, BoxEntry, LogRow, BoxMeaning, MapRecord, MapMeaning, record_at, IsSoundMap, map_sound, refs_in}
+use Rattle.resync_task.proofs.Common.{listed_of}
+use Rattle.std.specs.Prelude.{map}
 use Rattle.std.specs.List.{AllByRecursion}
 use Rattle.std.specs.Str.{bytes_eq}
-use Rattle.std.proofs.lemmas.Bool.{eqb-true, eq-eqb}
-use Rattle.std.proofs.lemmas.List.Elements.{All-head, All-tail}
-use Rattle.std.proofs.lemmas.List.Sums.{sum_by-cons}
-use Rattle.mdbox_base.specs.declared.entries.BoxEntry.{BoxEntry}
 use Rattle.mdbox_base.specs.declared.entries.MapEntry.{MapEntry}
 use Rattle.model_octets.proofs.SearchLemmas.{found_one, both_same, text_is, text_yes}
-use Rattle.model_meaning.specs.BoxMeaning.{LogRow, BoxMeaning, box_meaning, rows_after}
-use Rattle.model_meaning.specs.MapMeaning.{MapRecord, MapMeaning, map_meaning, record_at, record_of}
-use Rattle.model_meaning.specs.Sound.{IsSoundMap}
-use Rattle.model_meaning.proofs.MapSoundLemmas.{map_sound}
+use Rattle.model_meaning.specs.BoxMeaning.{box_meaning, rows_after}
+use Rattle.model_meaning.specs.MapMeaning.{map_meaning, record_of}
 use Rattle.model_store.specs.GoodLogs.{AreGoodLogs}
-use Rattle.model_store.specs.Listing.{refs_in}
-use Rattle.model_store.specs.Opening.{HasItsRecord, listed_of}
+use Rattle.model_store.specs.Opening.{HasItsRecord}
 use Rattle.model_store.proofs.OpeningSafeLemmas.{at_uid}
 use Rattle.model_octets.proofs.SearchLemmas.{found_is}
 

@@ -1,16 +1,14 @@
 -- Which part of a resync comes next, by its own events.
-use Rattle.std.proofs.Common.{◌≡◌, ◌<◌, ◌+◌, ℕ, Bool, List, [], ◌∷◌, ◌++◌, ◌⊎◌, length, Option, Some, None, append-nil, refl, sym, ◌∙◌, ap, subst, arith, inl, inr}
-use Rattle.std.specs.Prelude.{sum_by, count_by, flat_map, nat_lt, if◌then◌else◌}
+use Rattle.resync_task.proofs.Common.{◌≡◌, ◌<◌, ◌+◌, ℕ, Bool, List, [], ◌∷◌, ◌++◌, ◌⊎◌, length, Option, Some, None, append-nil, refl, sym, ◌∙◌, ap, subst, arith, inl, inr, sum_by, count_by, if◌then◌else◌, sum_by-cons, Refusal, request, RunEvent, Run, own_events, Around, HasRead}
+use Rattle.std.specs.Prelude.{flat_map, nat_lt}
 use Rattle.std.specs.Option.{option_or}
 use Rattle.std.proofs.lemmas.Bool.{lt-ltb, le-ltb}
 use Rattle.std.proofs.lemmas.Grind.{flat_map-append}
-use Rattle.std.proofs.lemmas.List.Sums.{sum_by-cons, sum_by-append}
-use Rattle.mdbox_base.specs.declared.replies.Refusal.{Refusal}
+use Rattle.std.proofs.lemmas.List.Sums.{sum_by-append}
 use Rattle.mdbox_base.specs.declared.requests.Request.{Request}
-use Rattle.mdbox_base.specs.declared.requests.Request.TheVariants as request
-use Rattle.list_machine.specs.Run.{EventPart, First, ReadsFile, Last, RunEvent, Run, own_events}
-use Rattle.journal.specs.Events.{Around, next_part, behind_event, behind_resync, is_reading, file_left, last_refusal}
-use Rattle.resync_task.specs.Stages.{HasGoneOn, HasRead}
+use Rattle.list_machine.specs.Run.{EventPart, First, ReadsFile, Last}
+use Rattle.journal.specs.Events.{next_part, behind_event, behind_resync, is_reading, file_left, last_refusal}
+use Rattle.resync_task.specs.Stages.{HasGoneOn}
 
 pub next_behind : (around : Around) (run : Run) (q : Request) (front : List RunEvent) (last : RunEvent) → next_part around run q (front ++ last ∷ []) ≡ behind_event around run q last last.refused
 next_behind around run q [] last = refl

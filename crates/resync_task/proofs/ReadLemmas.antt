@@ -1,19 +1,9 @@
 -- What is read of a region, and what it tells of the record.
-use Rattle.std.proofs.Common.{◌≡◌, ◌≤◌, ◌+◌, ℕ, Bool, true, false, List, [], ◌++◌, length, take, drop, Option, Some, None, refl, sym, ◌∙◌, ap, subst, arith, length-append}
-use Rattle.std.specs.Prelude.{Ok, Err}
-use Rattle.std.proofs.lemmas.List.{length-take, length-drop}
-use Rattle.disk_model.specs.Disk.{DiskState, History, Faults, reading}
-use Rattle.disk_model.specs.FaultCounts.{NoFault}
-use Rattle.disk_model.specs.declared.name.FileName.TheVariants as file
+use Rattle.resync_task.proofs.Common.{◌≡◌, ◌≤◌, ◌+◌, ℕ, Bool, true, false, List, [], ◌++◌, length, take, drop, Option, Some, None, refl, sym, ◌∙◌, ap, subst, arith, length-append, Ok, Err, length-take, length-drop, DiskState, History, Faults, reading, NoFault, file, MapRecord, Message, IsMessage}
+use Rattle.resync_task.proofs.Common.{piece_read, StoreValue, IsMessageWith, TellsWhole, ReadsStoreOnly}
 use Rattle.disk_model.proofs.IdleLemmas.{idle-back, idle-begins, idle-then}
-use Rattle.model_meaning.specs.MapMeaning.{MapRecord}
-use Rattle.model_storage.specs.StorageFile.{Message, IsMessage}
 use Rattle.model_store.specs.Settled.{files_of}
 use Rattle.model_store.specs.Stands.{HoldsMessage}
-use Rattle.storage_files.specs.OnDisk.{piece_read}
-use Rattle.store_core.specs.Value.{StoreValue}
-use Rattle.resync_task.specs.Damage.{IsMessageWith, TellsWhole}
-use Rattle.resync_task.specs.Reading.{ReadsStoreOnly}
 use Rattle.resync_task.proofs.RegionLemmas.{header_length}
 
 -- ---- of a disk

@@ -1,30 +1,20 @@
 -- The events of a resync that are refused.
-use Rattle.std.proofs.Common.{◌≡◌, ◌≤◌, ◌<◌, ◌⊎◌, ℕ, Bool, true, false, List, [], length, Some, None, refl, sym, ◌∙◌, ap, subst, arith, inl, inr}
-use Rattle.std.specs.Prelude.{nat_lt, if◌then◌else◌}
+use Rattle.resync_task.proofs.Common.{◌≡◌, ◌≤◌, ◌<◌, ◌⊎◌, ℕ, Bool, true, false, List, [], length, Some, None, refl, sym, ◌∙◌, ap, subst, arith, inl, inr, if◌then◌else◌, NoFault, MapCount, did, Refusal, refusal, Reply, reply, request, half, Lists, RunEvent, Run, own_events, Around, Seen, ShowsSeen}
+use Rattle.resync_task.proofs.Common.{Leads, DidEvent, fall, StaysSo, ResyncAt, ToList, ToRead, HasRead, many_corrected, AreWrongCounts}
+use Rattle.std.specs.Prelude.{nat_lt}
 use Rattle.std.proofs.lemmas.Bool.{lt-ltb, le-ltb, cases_lt}
 use Rattle.disk_model.specs.Disk.{told_calls}
-use Rattle.disk_model.specs.FaultCounts.{NoFault}
 use Rattle.mdbox_base.specs.Streams.{Rose}
-use Rattle.mdbox_base.specs.declared.entries.MapCount.{MapCount}
-use Rattle.mdbox_base.specs.declared.progress.Did.TheVariants as did
-use Rattle.mdbox_base.specs.declared.replies.Refusal.{Refusal}
-use Rattle.mdbox_base.specs.declared.replies.Refusal.TheVariants as refusal
-use Rattle.mdbox_base.specs.declared.replies.Reply.{Reply}
-use Rattle.mdbox_base.specs.declared.replies.Reply.TheVariants as reply
-use Rattle.mdbox_base.specs.declared.requests.Request.TheVariants as request
-use Rattle.mdbox_base.specs.declared.script.Half.TheVariants as half
-use Rattle.model_lists.specs.Lists.{Lists}
 use Rattle.model_meaning.specs.MapMeaning.{no_numbers}
-use Rattle.list_machine.specs.Run.{EventPart, First, ReadsFile, Last, RunEvent, Run, own_events}
+use Rattle.list_machine.specs.Run.{EventPart, First, ReadsFile, Last}
 use Rattle.journal.specs.Journal.{half_of}
-use Rattle.journal.specs.Events.{Around, has_memory, next_part, reads_octets}
+use Rattle.journal.specs.Events.{has_memory, next_part, reads_octets}
 use Rattle.journal.specs.Found.{has_looked}
 use Rattle.journal.specs.Makes.{WouldMake}
-use Rattle.task_steps.specs.Step.{Seen, ShowsSeen, HasComeTo, Leads, Stops, DidEvent}
-use Rattle.task_steps.proofs.EventLaws.{CanRefuse, did_fall, did_forget, did_misread, did_stop, fall, refusal_event, refuses, replied_so, stays_left}
-use Rattle.task_steps.proofs.KeptStoreLemmas.{StaysSo}
+use Rattle.task_steps.specs.Step.{HasComeTo, Stops}
+use Rattle.task_steps.proofs.EventLaws.{CanRefuse, did_fall, did_forget, did_misread, did_stop, refusal_event, refuses, replied_so, stays_left}
 use Rattle.task_steps.proofs.OneEventLemmas.{next_first}
-use Rattle.resync_task.specs.Stages.{ResyncAt, ToList, ToRead, HasFilesLeft, HasRead, IsAtResync, correcting_event, many_corrected, AreWrongCounts}
+use Rattle.resync_task.specs.Stages.{HasFilesLeft, IsAtResync, correcting_event}
 use Rattle.resync_task.proofs.OwnResyncLemmas.{next_reads, next_corrects}
 use Rattle.resync_task.proofs.ResyncEventLemmas.{wrong_set, are_resynced}
 

@@ -1,17 +1,10 @@
 -- What the header of a region and what follows its body tell of the record.
-use Rattle.std.proofs.Common.{◌≡◌, ◌≤◌, ◌<◌, ◌+◌, ◌-◌, ℕ, Bool, true, false, List, ◌++◌, length, take, drop, Option, Some, None, refl, sym, ◌∙◌, ap, subst, arith}
-use Rattle.std.specs.Prelude.{IsTrue, ◌↔◌}
-use Rattle.std.proofs.lemmas.List.{length-take, length-take-le, length-drop, drop-take, take-take, drop-drop}
-use Rattle.disk_model.specs.Disk.{DiskState, History, reading}
-use Rattle.disk_model.specs.declared.name.FileName.TheVariants as file
-use Rattle.map_index.specs.Shown.{MapRow, shown_record}
-use Rattle.model_meaning.specs.MapMeaning.{MapRecord}
-use Rattle.model_storage.specs.StorageFile.{Message, IsMessage}
+use Rattle.resync_task.proofs.Common.{◌≡◌, ◌≤◌, ◌<◌, ◌+◌, ◌-◌, ℕ, Bool, true, false, List, ◌++◌, length, take, drop, Option, Some, None, refl, sym, ◌∙◌, ap, subst, arith, IsTrue, ◌↔◌, length-take, length-take-le, length-drop, take-take, drop-drop, DiskState, History, reading, file, MapRow}
+use Rattle.resync_task.proofs.Common.{shown_record, MapRecord, Message, IsMessage, piece_read, HasDamagedRegion, IsMessageWith, TellsWhole, EndsBefore, IsHeaderAt, bodiless_header}
+use Rattle.std.proofs.lemmas.List.{drop-take}
 use Rattle.model_store.specs.Settled.{files_of}
 use Rattle.model_store.specs.Stands.{HoldsMessage}
-use Rattle.storage_files.specs.OnDisk.{piece_read}
-use Rattle.resync_task.specs.Damage.{HasDamagedRegion, IsMessageWith, TellsWhole}
-use Rattle.resync_task.specs.Window.{EndsBefore, HasTail, IsHeaderAt, IsPieceAt, bodiless_header}
+use Rattle.resync_task.specs.Window.{HasTail, IsPieceAt}
 use Rattle.resync_task.proofs.BodilessLemmas.{body_told, ends_of, of_ends, size_parts, tail_some}
 use Rattle.resync_task.proofs.ReadLemmas.{holds_of, of_holds}
 

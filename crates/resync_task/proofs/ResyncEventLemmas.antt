@@ -1,39 +1,29 @@
 -- The events of a resync that go on or end it, by the clause of a task's step.
-use Rattle.std.proofs.Common.{◌≡◌, ◌≤◌, ◌<◌, ◌+◌, ◌==◌, ℕ, Bool, true, false, List, [], ◌∷◌, ◌++◌, length, Option, Some, None, refl, sym, ◌∙◌, ap, subst, arith}
-use Rattle.std.specs.Prelude.{slice_get, All, Contains, sum_by, ◌≢◌}
-use Rattle.std.proofs.lemmas.Bool.{eq-eqb, ne_eqb}
-use Rattle.std.proofs.lemmas.List.Elements.{All-nil}
-use Rattle.disk_model.specs.Disk.{History, told_calls, Grows}
-use Rattle.disk_model.specs.FaultCounts.{NoFault}
+use Rattle.resync_task.proofs.Common.{◌≡◌, ◌≤◌, ◌<◌, ◌+◌, ◌==◌, ℕ, Bool, true, false, List, [], ◌∷◌, ◌++◌, length, Option, Some, None, refl, sym, ◌∙◌, ap, subst, arith, All, Contains, sum_by, ◌≢◌, eq-eqb, All-nil, History, NoFault, MapCount, entry, did, refusal, Reply, reply, request, half, Lists}
+use Rattle.resync_task.proofs.Common.{MapMeaning, HasRecord, MapFits, RunEvent, Run, own_events, Around, Seen, ShowsSeen, Leads, DidEvent, StaysSo, ResyncAt, ToList, ToRead, HasRead, corrected_map, many_corrected, AreWrongCounts}
+use Rattle.std.specs.Prelude.{slice_get}
+use Rattle.std.proofs.lemmas.Bool.{ne_eqb}
+use Rattle.disk_model.specs.Disk.{told_calls, Grows}
 use Rattle.mdbox_base.specs.declared.entries.Highest.{Highest}
-use Rattle.mdbox_base.specs.declared.entries.MapCount.{MapCount}
-use Rattle.mdbox_base.specs.declared.entries.MapEntry.TheVariants as entry
-use Rattle.mdbox_base.specs.declared.progress.Did.TheVariants as did
-use Rattle.mdbox_base.specs.declared.replies.Refusal.TheVariants as refusal
-use Rattle.mdbox_base.specs.declared.replies.Reply.{Reply}
-use Rattle.mdbox_base.specs.declared.replies.Reply.TheVariants as reply
-use Rattle.mdbox_base.specs.declared.requests.Request.TheVariants as request
-use Rattle.mdbox_base.specs.declared.script.Half.TheVariants as half
 use Rattle.model_kept.specs.Kept.{MailIsKept}
-use Rattle.model_lists.specs.Lists.{Lists, refs_of}
-use Rattle.model_meaning.specs.MapMeaning.{MapMeaning, map_applied}
-use Rattle.model_meaning.specs.MapFits.{HasRecord, MapFits}
-use Rattle.list_machine.specs.Run.{RunEvent, Run, and_then, map_of, own_events, corrected_in}
+use Rattle.model_lists.specs.Lists.{refs_of}
+use Rattle.model_meaning.specs.MapMeaning.{map_applied}
+use Rattle.list_machine.specs.Run.{and_then, map_of, corrected_in}
 use Rattle.list_machine.specs.Machine.{AreResynced}
 use Rattle.journal.specs.Journal.{halves_of}
-use Rattle.journal.specs.Events.{Around, AreRight, corrects, file_left, begun_in, ended_in}
+use Rattle.journal.specs.Events.{AreRight, corrects, file_left, begun_in, ended_in}
 use Rattle.journal.specs.Found.{ListsFiles, FindsDamage}
 use Rattle.journal.specs.Makes.{HasCome}
 use Rattle.journal.proofs.OwnEventLemmas.{own_more, own_other}
 use Rattle.journal.proofs.RunLemmas.{comes_on_with, drawn_none}
-use Rattle.task_steps.specs.Step.{Seen, ShowsSeen, HasComeTo, Leads, and_told, DidEvent, IsKept}
+use Rattle.task_steps.specs.Step.{HasComeTo, and_told, IsKept}
 use Rattle.task_steps.specs.Tells.{LeavesFiles, TellsSame}
 use Rattle.task_steps.proofs.EventLaws.{DidBy, did_own, ends_well, no_reply, own_event, some_reply, stands_by, unstepped}
-use Rattle.task_steps.proofs.KeptStoreLemmas.{StaysSo, comes_along}
+use Rattle.task_steps.proofs.KeptStoreLemmas.{comes_along}
 use Rattle.task_steps.proofs.OneEventLemmas.{first_reply, next_first}
 use Rattle.task_steps.proofs.SeenLemmas.{comes_to_on, due_is, not_begun_stays, tells_itself}
 use Rattle.task_steps.proofs.UnmovedLemmas.{mail_still, nothing}
-use Rattle.resync_task.specs.Stages.{ResyncAt, ToList, ToRead, HasRead, IsAtResync, listing_event, reading_event, correcting_event, corrected_map, many_corrected, AreWrongCounts}
+use Rattle.resync_task.specs.Stages.{IsAtResync, listing_event, reading_event, correcting_event}
 use Rattle.resync_task.proofs.OwnResyncLemmas.{next_by, next_reads, next_corrects, read_none, read_more, nothing_refused}
 
 same_place : (n : ℕ) → (n == n) ≡ true

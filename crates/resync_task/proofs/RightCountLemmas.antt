@@ -1,38 +1,24 @@
 -- The last event of a resync: what it leaves to the tasks beside it, and that the counts are exact then.
-use Rattle.std.proofs.Common.{◌≡◌, ◌≤◌, ◌<◌, ◌+◌, ◌==◌, ℕ, false, List, [], ◌∷◌, Option, Some, map, refl, sym, ◌∙◌, ap, subst, arith}
-use Rattle.std.specs.Prelude.{Contains, count_by, max, sum_by}
+use Rattle.resync_task.proofs.Common.{◌≡◌, ◌≤◌, ◌<◌, ◌+◌, ◌==◌, ℕ, false, List, [], ◌∷◌, Option, Some, map, refl, sym, ◌∙◌, ap, subst, arith, Contains, count_by, sum_by, eqb-true, All-contains, All-nil, All-cons, History, Faults, MapCount, entry, Lists, BoxMeaning, LogRow, MapFits, MapMeaning}
+use Rattle.resync_task.proofs.Common.{MapRecord, count_given, records_by_counted, refs_in, listed_of, due_at, listed_at, IsStore, StoreValue, indexes_of, listed_meant, wrong_of, seen_of, no_claims, ShowsSeen, PutsRight, corrected_map, StaysSo}
+use Rattle.std.specs.Prelude.{max}
 use Rattle.std.specs.Option.{IfSome}
-use Rattle.std.proofs.lemmas.Bool.{eqb-true}
-use Rattle.std.proofs.lemmas.List.Elements.{All-contains, All-nil, All-cons}
-use Rattle.disk_model.specs.Disk.{History, Faults}
-use Rattle.mdbox_base.specs.declared.entries.MapCount.{MapCount}
-use Rattle.mdbox_base.specs.declared.entries.MapEntry.TheVariants as entry
 use Rattle.model_appends.specs.Amounts.{IsAccounted}
-use Rattle.model_lists.specs.Lists.{Lists}
-use Rattle.model_meaning.specs.BoxMeaning.{BoxMeaning, LogRow, row_at}
-use Rattle.model_meaning.specs.MapFits.{MapFits}
-use Rattle.model_meaning.specs.MapMeaning.{MapBox, MapMeaning, MapRecord, count_given, numbers_of}
-use Rattle.model_meaning.proofs.AppliedLemmas.{records_by_counted}
+use Rattle.model_meaning.specs.BoxMeaning.{row_at}
+use Rattle.model_meaning.specs.MapMeaning.{MapBox, numbers_of}
 use Rattle.model_octets.proofs.SearchLemmas.{found_one}
-use Rattle.model_store.specs.Listing.{ShowLists, meaning_numbered, refs_in}
-use Rattle.model_store.specs.Opening.{listed_of}
-use Rattle.store_core.specs.Dues.{due_at, leak_at, listed_at}
+use Rattle.model_store.specs.Listing.{ShowLists, meaning_numbered}
+use Rattle.store_core.specs.Dues.{leak_at}
 use Rattle.store_core.specs.Keeping.{KeepsUids}
-use Rattle.store_core.specs.Running.{IsStore}
-use Rattle.store_core.specs.Value.{StoreValue, indexes_of, list_numbered}
-use Rattle.store_core.proofs.DueLemmas.{listed_meant, store_counts}
-use Rattle.resync_task.specs.WrongCounts.{wrong_of}
-use Rattle.store_seen.specs.Seeing.{seen_of}
+use Rattle.store_core.specs.Value.{list_numbered}
+use Rattle.store_core.proofs.DueLemmas.{store_counts}
 use Rattle.store_seen.proofs.SeeingLemmas.{due_as_before, tells_as_before}
-use Rattle.task_claims.specs.Claims.{MovesClaims, no_claims}
+use Rattle.task_claims.specs.Claims.{MovesClaims}
 use Rattle.task_claims.specs.Leaving.{LeavesOthers, RaisesNone, SameButCounts, but_count}
 use Rattle.task_claims.proofs.NameLemmas.{names_stay}
 use Rattle.task_claims.proofs.RestLemmas.{mail_same, rest_amounts, rest_leaves, same_claims}
-use Rattle.task_steps.specs.Step.{ShowsSeen}
 use Rattle.task_steps.specs.Tells.{TellsSame}
-use Rattle.resync_task.specs.Correcting.{AreExact, FellCorrecting, KeepsCorrecting, PutsRight}
-use Rattle.resync_task.specs.Stages.{corrected_map}
-use Rattle.task_steps.proofs.KeptStoreLemmas.{StaysSo}
+use Rattle.resync_task.specs.Correcting.{AreExact, FellCorrecting, KeepsCorrecting}
 use Rattle.resync_task.proofs.ResyncEventLemmas.{CountsFit}
 use Rattle.resync_task.proofs.StoreCountLemmas.{uids_rise}
 use Rattle.resync_task.proofs.WrongCountLemmas.{right_in_map}

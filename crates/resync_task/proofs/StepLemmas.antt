@@ -1,42 +1,25 @@
 -- What the step of a resync says, event by event.
-use Rattle.std.proofs.Common.{◌≡◌, ◌≢◌, ◌≤◌, ◌<◌, ◌+◌, ◌||◌, ℕ, Bool, true, false, List, [], ◌∷◌, length, Option, Some, None, slice_get, refl, sym, ◌∙◌, ap, subst, arith, zero, suc}
-use Rattle.std.specs.Prelude.{All, Contains, count_by}
-use Rattle.std.proofs.lemmas.List.Elements.{All-weaker}
-use Rattle.disk_model.specs.Disk.{History, Faults}
+use Rattle.resync_task.proofs.Common.{◌≡◌, ◌≤◌, ◌<◌, ◌+◌, ℕ, Bool, true, false, List, [], ◌∷◌, length, Option, Some, None, refl, sym, ◌∙◌, ap, subst, arith, zero, suc, All, Contains, count_by, All-weaker, History, Faults, did, Refusal, refusal, Reply, reply, request, half, HasRecord, MapMeaning}
+use Rattle.resync_task.proofs.Common.{RunEvent, Run, own_events, Around, IsStore, StoreValue, wrong_of, seen_of, no_claims, DidEvent, PutsRight, HasDamagedRegion, AreRecordFiles, ResyncAt, ToList, ToRead, HasRead, many_corrected, ReadsStoreOnly, fall}
+use Rattle.std.proofs.Common.{◌≢◌, ◌||◌, slice_get}
 use Rattle.disk_model.specs.FaultCounts.{ReadFaultCounted}
 use Rattle.mdbox_base.specs.declared.progress.Did.{Did}
-use Rattle.mdbox_base.specs.declared.progress.Did.TheVariants as did
 use Rattle.mdbox_base.specs.declared.progress.Progress.{Progress}
 use Rattle.mdbox_base.specs.declared.progress.Progress.TheVariants as progress
-use Rattle.mdbox_base.specs.declared.replies.Refusal.{Refusal}
-use Rattle.mdbox_base.specs.declared.replies.Refusal.TheVariants as refusal
-use Rattle.mdbox_base.specs.declared.replies.Reply.{Reply}
-use Rattle.mdbox_base.specs.declared.replies.Reply.TheVariants as reply
-use Rattle.mdbox_base.specs.declared.requests.Request.TheVariants as request
-use Rattle.mdbox_base.specs.declared.script.Half.TheVariants as half
-use Rattle.model_meaning.specs.MapFits.{HasRecord}
-use Rattle.model_meaning.specs.MapMeaning.{MapMeaning}
-use Rattle.list_machine.specs.Run.{RunEvent, Run, map_of, own_events}
-use Rattle.journal.specs.Events.{Around, is_reading}
+use Rattle.list_machine.specs.Run.{map_of}
+use Rattle.journal.specs.Events.{is_reading}
 use Rattle.journal.specs.Found.{FindsDamage, ListsFiles, file_to_read, is_known_file, is_named_file}
-use Rattle.store_core.specs.Running.{IsStore}
-use Rattle.store_core.specs.Value.{StoreValue}
-use Rattle.resync_task.specs.WrongCounts.{wrong_of}
-use Rattle.store_seen.specs.Seeing.{seen_of}
-use Rattle.task_claims.specs.Claims.{no_claims}
 use Rattle.task_claims.specs.Stable.{MovesOwnClaims}
 use Rattle.task_claims.proofs.RestLemmas.{mail_same}
-use Rattle.task_steps.specs.Step.{DidEvent, ended_by}
+use Rattle.task_steps.specs.Step.{ended_by}
 use Rattle.task_steps.proofs.OneEventLemmas.{never_more}
 use Rattle.resync_task.specs.Clause.{CountsFaults, FindsResync, ResyncClause, ResyncKeeps}
-use Rattle.resync_task.specs.Correcting.{AreExact, FellCorrecting, PutsRight}
-use Rattle.resync_task.specs.Damage.{AreDamaged, HasDamagedRegion}
-use Rattle.resync_task.specs.Files.{AreRecordFiles}
-use Rattle.resync_task.specs.Stages.{ResyncAt, ToList, ToRead, HasFilesLeft, HasRead, many_corrected}
-use Rattle.resync_task.specs.Reading.{ReadsStoreOnly, ReadsNext}
+use Rattle.resync_task.specs.Correcting.{AreExact, FellCorrecting}
+use Rattle.resync_task.specs.Damage.{AreDamaged}
+use Rattle.resync_task.specs.Stages.{HasFilesLeft}
+use Rattle.resync_task.specs.Reading.{ReadsNext}
 use Rattle.resync_task.specs.Task.{ResyncsOn, resync_left}
 use Rattle.resync_task.proofs.CorrectingLemmas.{entry_fits, entry_many}
-use Rattle.task_steps.proofs.EventLaws.{fall}
 use Rattle.resync_task.proofs.IdleStoreLemmas.{idle_grows, reading_claims, reading_leaves, reading_leads, reading_mail, reading_rest, reading_shows, reading_stays}
 use Rattle.resync_task.proofs.RefusedResyncLemmas.{resync_broken, resync_faulted, resync_stopped, resync_unremembered}
 use Rattle.resync_task.proofs.ResyncEventLemmas.{corrects_then, lists_then, reads_then}

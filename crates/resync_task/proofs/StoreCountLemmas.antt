@@ -1,26 +1,12 @@
 -- The wrong counts of an open store are those that a resync puts right.
-use Rattle.std.proofs.Common.{◌≡◌, ◌<◌, ◌+◌, ◌==◌, ℕ, List, [], ◌∷◌, refl, sym, ◌∙◌, ap, subst, arith}
-use Rattle.std.specs.Prelude.{All, AllPairs, Contains, sum_by, count_by, ◌≢◌, Option}
-use Rattle.std.proofs.lemmas.List.Elements.{All-map, All-weaker, All-contains, All-contains_itself}
-use Rattle.disk_model.specs.Disk.{History}
-use Rattle.mdbox_base.specs.declared.entries.MapCount.{MapCount}
-use Rattle.model_lists.specs.Lists.{Lists, refs_of}
-use Rattle.model_meaning.specs.BoxMeaning.{LogRow, BoxMeaning}
-use Rattle.model_meaning.specs.MapFits.{HasRecord}
-use Rattle.model_meaning.specs.MapMeaning.{MapRecord, MapMeaning, count_given}
-use Rattle.model_meaning.proofs.AppliedLemmas.{records_by_counted}
-use Rattle.model_meaning.proofs.MapSoundLemmas.{map_sound}
-use Rattle.model_store.specs.Listing.{ShowLists, refs_in}
-use Rattle.resync_task.specs.Stages.{AreWrongCounts, corrected_map}
+use Rattle.resync_task.proofs.Common.{◌≡◌, ◌<◌, ◌+◌, ◌==◌, ℕ, List, [], ◌∷◌, refl, sym, ◌∙◌, ap, subst, arith, All, AllPairs, Contains, sum_by, count_by, ◌≢◌, All-map, All-weaker, All-contains, All-contains_itself, History, MapCount, Lists, LogRow, BoxMeaning, HasRecord, MapRecord, MapMeaning}
+use Rattle.resync_task.proofs.Common.{count_given, records_by_counted, map_sound, refs_in, AreWrongCounts, corrected_map, due_at, listed_at, IsStore, StoreValue, indexes_of, listed_meant, Seen, wrong_of}
+use Rattle.std.specs.Prelude.{Option}
+use Rattle.model_lists.specs.Lists.{refs_of}
+use Rattle.model_store.specs.Listing.{ShowLists}
 use Rattle.resync_task.proofs.ListedLemmas.{refs_are_listed}
 use Rattle.resync_task.proofs.WrongCountLemmas.{wrong_in_map, right_in_map}
-use Rattle.store_core.specs.Dues.{due_at, listed_at}
-use Rattle.store_core.specs.Running.{IsStore}
-use Rattle.store_core.specs.Value.{StoreValue, indexes_of}
-use Rattle.store_core.proofs.DueLemmas.{listed_meant}
 use Rattle.store_core.proofs.ShownLemmas.{refs_shown}
-use Rattle.task_steps.specs.Step.{Seen}
-use Rattle.resync_task.specs.WrongCounts.{wrong_of}
 
 -- the records whose counts are put right are those of the map, with their GUIDs
 pub record IsRowOf (rows : List MapRecord) (row : MapRecord) : Type 0 where

@@ -1,23 +1,14 @@
 -- Counts that aren't what is listed and due beside their records.
-use Rattle.std.proofs.Common.{◌≡◌, ◌==◌, ◌≤◌, ◌+◌, ℕ, suc, Bool, true, false, List, [], ◌∷◌, ◌++◌, length, take, zero, get_or, slice_get, All, Option, Some, None, refl, sym, ◌∙◌, ap, subst, arith, add-one}
+use Rattle.resync_task.proofs.Common.{◌≡◌, ◌==◌, ◌≤◌, ◌+◌, ℕ, suc, Bool, true, false, List, [], ◌∷◌, ◌++◌, length, take, zero, Option, Some, None, refl, sym, ◌∙◌, ap, subst, arith, shown_record, MapRow, Result, Ok, Err, AllPairs, count_by, sum_by, if◌then◌else◌, All-head, All-tail, All-cons}
+use Rattle.resync_task.proofs.Common.{All-nil, MapCount, LogRow, BoxMeaning, MapRecord, MapMeaning, History, BoxEntry, map_sound, listed_of, IsStore, due_at, listed_at, StoreValue, wrong_beside, wrong_of, listed_meant}
+use Rattle.std.proofs.Common.{get_or, slice_get, All, add-one}
 use Rattle.std.specs.Option.{option_map}
-use Rattle.map_index.specs.Shown.{shown_record, MapRow}
-use Rattle.std.specs.Prelude.{IfOk, Result, Ok, Err, AllPairs, count_by, sum_by, if◌then◌else◌}
-use Rattle.std.proofs.lemmas.List.Elements.{All-head, All-tail, All-cons, All-nil}
-use Rattle.mdbox_base.specs.declared.entries.MapCount.{MapCount}
-use Rattle.model_meaning.specs.BoxMeaning.{LogRow, BoxMeaning}
-use Rattle.model_meaning.specs.MapMeaning.{MapRecord, MapMeaning}
-use Rattle.disk_model.specs.Disk.{History}
-use Rattle.mdbox_base.specs.declared.entries.BoxEntry.{BoxEntry}
-use Rattle.model_meaning.proofs.MapSoundLemmas.{map_sound}
-use Rattle.model_store.specs.Opening.{listed_of}
-use Rattle.store_core.specs.Running.{CoverDues, IsStore}
-use Rattle.store_core.specs.Dues.{number_beside, due_at, listed_at}
-use Rattle.store_core.specs.Value.{StoreValue}
+use Rattle.std.specs.Prelude.{IfOk}
+use Rattle.store_core.specs.Running.{CoverDues}
+use Rattle.store_core.specs.Dues.{number_beside}
 use Rattle.store_core.specs.Beside.{StandBeside}
 use Rattle.store_core.proofs.BesideLemmas.{given_at, one_each_of, size_beside}
-use Rattle.resync_task.specs.WrongCounts.{wrong_beside, wrong_of}
-use Rattle.store_core.proofs.DueLemmas.{AreNumbers, RecordsRise, at_own_place, listed_meant}
+use Rattle.store_core.proofs.DueLemmas.{AreNumbers, RecordsRise, at_own_place}
 
 -- ---- the counts that differ
 

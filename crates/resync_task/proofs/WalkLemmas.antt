@@ -1,11 +1,11 @@
 -- The records of a storage file, one after another in order of offset.
-use Rattle.std.proofs.Common.{◌≡◌, inl, inr, ℕ, ◌+◌, ◌<◌, ◌≤◌, ◌==◌, ◌&&◌, Bool, true, false, cond, Some, None, List, [], ◌∷◌, get_or, filter, fold, All, refl, sym, ap, subst, ◌∙◌, arith}
-use Rattle.std.specs.Prelude.{nat_le, AllPairs, Contains, ◌⊎◌}
+use Rattle.resync_task.proofs.Common.{◌≡◌, inl, inr, ℕ, ◌+◌, ◌<◌, ◌≤◌, ◌==◌, Bool, true, false, cond, Some, None, List, [], ◌∷◌, refl, sym, ap, subst, ◌∙◌, arith, AllPairs, Contains, All-nil, All-cons, All-head, All-tail, All-contains_itself, MapRecord}
+use Rattle.std.proofs.Common.{◌&&◌, get_or, filter, fold, All}
+use Rattle.std.specs.Prelude.{nat_le, ◌⊎◌}
 use Rattle.std.proofs.lemmas.Bool.{cases_lt, cases_eq}
 use Rattle.std.proofs.lemmas.Bool.Decides.{nat_tests}
 use Rattle.std.proofs.lemmas.List.{get_or_default}
-use Rattle.std.proofs.lemmas.List.Elements.{All-nil, All-cons, All-head, All-tail, All-filter, All-contains_itself, filter_passes}
-use Rattle.model_meaning.specs.MapMeaning.{MapRecord}
+use Rattle.std.proofs.lemmas.List.Elements.{All-filter, filter_passes}
 use Rattle.model_meaning.specs.Sound.{AreApart}
 use Rattle.model_meaning.proofs.MapPlaceLemmas.{turned, equal_is, equal_yes}
 use Rattle.map_rows.specs.Lookups.{nearer, least, is_from}

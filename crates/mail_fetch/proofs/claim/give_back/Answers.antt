@@ -1,11 +1,4 @@
-use Rattle.std.proofs.Common.{◌≤◌, List, sym, ◌∙◌, subst}
-use Rattle.mdbox_base.specs.declared.entries.InstRow.{InstRow}
-use Rattle.mdbox_base.specs.declared.ids.InstId.{InstId}
-use Rattle.sis_store.specs.Instances.{holders_in}
-use Rattle.store_core.specs.Keeping.{holds_of}
-use Rattle.store_core.specs.Value.{StoreValue}
-use Rattle.storage_files.specs.Files.{pins_in}
-use Rattle.task_claims.specs.Claims.{Held}
+use Rattle.mail_fetch.proofs.Common.{◌≤◌, List, sym, ◌∙◌, subst, InstRow, InstId, holders_in, holds_of, StoreValue, pins_in, Held}
 use Rattle.mail_fetch.proofs.UseLemmas.{given_last, given_leaves, given_moves, given_removable, given_same, own_pinned}
 use Rattle.mail_fetch.proofs.claim.give_back.Goals as goal
 

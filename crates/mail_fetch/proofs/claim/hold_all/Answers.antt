@@ -1,7 +1,5 @@
-use Rattle.std.proofs.Common.{◌≤◌, ◌+◌, [], length, drop, get_or, refl, arith}
-use Rattle.mdbox_base.specs.declared.entries.InstRow.{InstRow}
+use Rattle.mail_fetch.proofs.Common.{◌≤◌, ◌+◌, [], length, drop, get_or, refl, arith, InstRow, held_for}
 use Rattle.save_instances.proofs.LetGoLemmas.{same_more}
-use Rattle.mail_fetch.specs.Claims.{held_for}
 use Rattle.mail_fetch.proofs.HoldLemmas.{held_all, held_more, holds_all, holds_more, next_has_room, next_is_known}
 use Rattle.mail_fetch.proofs.claim.hold_all.Goals as goal
 

@@ -1,6 +1,4 @@
-use Rattle.std.proofs.Common.{◌≡◌, drop}
-use Rattle.store_core.specs.Keeping.{KeepsInstances, MovesHolds, holds_of}
-use Rattle.mail_fetch.specs.Claims.{held_for}
+use Rattle.mail_fetch.proofs.Common.{◌≡◌, drop, KeepsInstances, MovesHolds, holds_of, held_for}
 use Rattle.mail_fetch.proofs.claim.hold_all.Given as goal
 
 -- those in front of the place are held

@@ -1,8 +1,5 @@
-use Rattle.mail_fetch.specs.Region.{RegionValue}
-use Rattle.std.proofs.Common.{◌≡◌, ℕ, Some, refl, sym, ◌∙◌, ap}
+use Rattle.mail_fetch.proofs.Common.{RegionValue, ◌≡◌, ℕ, Some, refl, sym, ◌∙◌, ap, LogRow, end_in}
 use Rattle.std.specs.Prelude.{option_copied}
-use Rattle.model_meaning.specs.BoxMeaning.{LogRow}
-use Rattle.storage_files.specs.Files.{end_in}
 use Rattle.mail_fetch.proofs.FirstEventLemmas.{absent_by, some_end, has_record, none_told, told_is, stored_same, pinned_by, ok_mapped}
 use Rattle.mail_fetch.proofs.first.find_message.Goals.{in_default-via-in-Some+in_default, in_default-via-in_default}
 use Rattle.mail_fetch.proofs.first.find_message.Goals as goal

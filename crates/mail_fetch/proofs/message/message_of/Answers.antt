@@ -1,7 +1,5 @@
-use Rattle.std.proofs.Common.{◌≡◌, [], length, refl, sym, ◌∙◌}
+use Rattle.mail_fetch.proofs.Common.{◌≡◌, [], length, refl, sym, ◌∙◌, octets_to_read, HoldsWhole}
 use Rattle.std.proofs.lemmas.List.{nil_from_length}
-use Rattle.mail_fetch.specs.Parts.{octets_to_read}
-use Rattle.mail_fetch.specs.Region.{HoldsWhole}
 use Rattle.mail_fetch.proofs.MessageLemmas.{found_in, holds_alone, listed_alone, holds_joined_as, none_joined_as, some_map, none_map}
 use Rattle.mail_fetch.proofs.message.message_of.Goals as goal
 

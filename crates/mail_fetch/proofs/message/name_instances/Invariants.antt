@@ -1,5 +1,4 @@
-use Rattle.std.proofs.Common.{length}
-use Rattle.model_store.specs.Stands.{NameInstances}
+use Rattle.mail_fetch.proofs.Common.{length, NameInstances}
 use Rattle.mail_fetch.proofs.message.name_instances.Given as goal
 
 abbrev pub invariant-loop-reference : goal.invariant-loop-reference

@@ -1,5 +1,4 @@
-use Rattle.std.proofs.Common.{◌≡◌, ◌+◌, take}
-use Rattle.std.specs.Prelude.{sum_by}
+use Rattle.mail_fetch.proofs.Common.{◌≡◌, ◌+◌, take, sum_by}
 use Rattle.mail_fetch.proofs.parts.octets_to_read.Given as goal
 
 abbrev pub invariant-loop-instance : goal.invariant-loop-instance

@@ -1,7 +1,4 @@
-use Rattle.std.proofs.Common.{◌≡◌, ◌∷◌, map, take, All}
-use Rattle.std.specs.Prelude.{filter}
-use Rattle.mail_fetch.specs.Parts.{has_octets, instance_part, region_part}
-use Rattle.mail_fetch.specs.Room.{IsPart}
+use Rattle.mail_fetch.proofs.Common.{◌≡◌, ◌∷◌, map, take, All, filter, has_octets, instance_part, region_part, IsPart}
 use Rattle.mail_fetch.proofs.parts.parts_to_read.Given as goal
 
 abbrev pub invariant-loop-row : goal.invariant-loop-row

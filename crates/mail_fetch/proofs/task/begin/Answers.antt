@@ -1,13 +1,5 @@
 use Rattle.std.specs.Prelude.{◌==◌, true}
-use Rattle.std.specs.List.{list_any}
-use Rattle.std.proofs.Common.{◌≡◌, ℕ, Some, All, sym, ◌∙◌, ap, subst}
-use Rattle.store_core.specs.StoreInstances.{IsKnownRow}
-use Rattle.task_claims.specs.Claims.{MovesClaims, no_claims}
-use Rattle.mail_fetch.specs.Claims.{claims_of_pinned, with_claims}
-use Rattle.storage_files.specs.Files.{end_in}
-use Rattle.mail_fetch.specs.Region.{RegionValue}
-use Rattle.mail_fetch.specs.declared.task.FetchStage.TheVariants as stage
-use Rattle.mail_fetch.specs.declared.parts.StoredAt.{StoredAt}
+use Rattle.mail_fetch.proofs.Common.{list_any, ◌≡◌, ℕ, Some, All, sym, ◌∙◌, ap, subst, IsKnownRow, MovesClaims, no_claims, claims_of_pinned, with_claims, end_in, RegionValue, stage, StoredAt}
 use Rattle.mail_fetch.proofs.FirstEventLemmas.{pinned_left, pinned_region, pinned_rows}
 use Rattle.mail_fetch.proofs.ReadyLemmas.{pinned_ready}
 use Rattle.mail_fetch.proofs.task.begin.Goals as goal

@@ -1,5 +1,4 @@
-use Rattle.std.proofs.Common.{inl}
-use Rattle.mail_fetch.specs.Events.{with_piece}
+use Rattle.mail_fetch.proofs.Common.{inl, with_piece}
 use Rattle.mail_fetch.proofs.LastPieceLemmas.{last_piece, goes_on_reading, left_on, fewer_on}
 use Rattle.mail_fetch.proofs.ReadyLemmas.{ready_on}
 use Rattle.mail_fetch.proofs.task.read_piece.Goals as goal

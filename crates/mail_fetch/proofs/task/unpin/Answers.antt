@@ -1,4 +1,4 @@
-use Rattle.mail_fetch.specs.Claims.{claims_of_pinned}
+use Rattle.mail_fetch.proofs.Common.{claims_of_pinned}
 use Rattle.mail_fetch.proofs.task.unpin.Goals as goal
 
 pub give_back-requires : goal.give_back-requires

@@ -1,10 +1,6 @@
-use Rattle.std.proofs.Common.{◌∙◌, sym, ap, subst, arith, refl, Err, ℕ, []}
-use Rattle.std.proofs.lemmas.List.Elements.{All-nil, All-cons}
-use Rattle.box_index.specs.Row.{row_of}
-use Rattle.mdbox_base.specs.declared.entries.BoxEntry.TheVariants as box_entry
+use Rattle.mail_ops.proofs.Common.{◌∙◌, sym, ap, subst, arith, refl, ℕ, [], All-nil, All-cons, row_of, box_entry, not_true, ok_is_none, BoxTook, BoxFell}
+use Rattle.std.proofs.Common.{Err}
 use Rattle.model_store.specs.Opening.{HasItsRecord}
-use Rattle.task_steps.proofs.OneEventLemmas.{not_true, ok_is_none}
-use Rattle.mail_ops.specs.Appends.{BoxTook, BoxFell}
 use Rattle.mail_ops.proofs.CopyCallLemmas.{row_sound, held_row}
 use Rattle.mail_ops.proofs.MessageLemmas.{record_of_row}
 use Rattle.mail_ops.proofs.copying.add.Goals as goal

@@ -1,9 +1,6 @@
-use Rattle.std.proofs.Common.{◌≡◌, ◌≤◌, ◌<◌, length, Some, ap, sym, ◌∙◌, subst}
+use Rattle.mail_ops.proofs.Common.{◌≡◌, ◌≤◌, ◌<◌, Some, ap, sym, ◌∙◌, subst, option_copied, option_map, row_of, BoxState, room_refusal}
+use Rattle.std.proofs.Common.{length}
 use Rattle.std.specs.Prelude.{IfOk, IfErr}
-use Rattle.std.specs.Option.{option_copied, option_map}
-use Rattle.box_index.specs.Row.{row_of}
-use Rattle.box_index.specs.State.{BoxState}
-use Rattle.mail_ops.specs.Copying.{room_refusal}
 use Rattle.mail_ops.proofs.CopyCallLemmas.{no_room_refuses}
 use Rattle.mail_ops.proofs.copying.find_copy.Goals as goal
 

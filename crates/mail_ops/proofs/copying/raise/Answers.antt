@@ -1,8 +1,4 @@
-use Rattle.std.proofs.Common.{ℕ, refl, ◌∙◌, sym, ap, subst, arith}
-use Rattle.box_index.specs.Row.{row_of}
-use Rattle.store_core.specs.Keeping.{KeepsUid}
-use Rattle.store_core.specs.Value.{indexes_of}
-use Rattle.task_steps.proofs.OneEventLemmas.{not_true, ok_is_none}
+use Rattle.mail_ops.proofs.Common.{ℕ, refl, ◌∙◌, sym, ap, subst, arith, row_of, KeepsUid, indexes_of, not_true, ok_is_none}
 use Rattle.mail_ops.proofs.CopyCallLemmas.{raise_fits, keeps_row}
 use Rattle.mail_ops.proofs.MessageLemmas.{from_source}
 use Rattle.mail_ops.proofs.copying.raise.Goals as goal

@@ -1,4 +1,4 @@
-use Rattle.std.proofs.Common.{arith}
+use Rattle.mail_ops.proofs.Common.{arith}
 use Rattle.mail_ops.proofs.CountingLemmas.{sum_record}
 use Rattle.mail_ops.proofs.counting.counted.Goals as goal
 

@@ -1,5 +1,5 @@
-use Rattle.std.proofs.Common.{◌≡◌, ◌≤◌, ◌*◌, take}
-use Rattle.std.specs.Prelude.{sum_by}
+use Rattle.mail_ops.proofs.Common.{◌≡◌, ◌≤◌, take, sum_by}
+use Rattle.std.proofs.Common.{◌*◌}
 use Rattle.mail_ops.proofs.counting.counted.Given as goal
 
 abbrev pub invariant-loop-place : goal.invariant-loop-place

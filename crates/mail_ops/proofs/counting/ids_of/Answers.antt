@@ -1,5 +1,4 @@
-use Rattle.std.proofs.Common.{sym, ◌∙◌, ap, map, ◌++◌, List}
-use Rattle.std.specs.Option.{option_copied}
+use Rattle.mail_ops.proofs.Common.{sym, ◌∙◌, ap, map, ◌++◌, List, option_copied}
 use Rattle.mdbox_base.specs.declared.entries.InstRow.{InstRow}
 use Rattle.mail_ops.proofs.CountingLemmas.{named_by}
 use Rattle.mail_ops.proofs.counting.ids_of.Goals as goal

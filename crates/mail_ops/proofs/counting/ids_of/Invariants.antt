@@ -1,5 +1,4 @@
-use Rattle.std.proofs.Common.{◌≡◌, map, take}
-use Rattle.std.specs.Prelude.{flat_map}
+use Rattle.mail_ops.proofs.Common.{◌≡◌, map, take, flat_map}
 use Rattle.mail_ops.proofs.counting.ids_of.Given as goal
 
 abbrev pub invariant-loop-place : goal.invariant-loop-place

@@ -1,5 +1,4 @@
-use Rattle.std.proofs.Common.{arith}
-use Rattle.store_core.specs.Value.{indexes_of}
+use Rattle.mail_ops.proofs.Common.{arith, indexes_of}
 use Rattle.mail_ops.proofs.CountingLemmas.{sum_listed}
 use Rattle.mail_ops.proofs.counting.listed.Goals as goal
 

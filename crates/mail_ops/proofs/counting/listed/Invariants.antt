@@ -1,6 +1,5 @@
-use Rattle.std.proofs.Common.{◌≡◌, ◌≤◌, ◌*◌, take, length}
-use Rattle.std.specs.Prelude.{sum_by}
-use Rattle.store_core.specs.Value.{indexes_of}
+use Rattle.mail_ops.proofs.Common.{◌≡◌, ◌≤◌, take, sum_by, indexes_of}
+use Rattle.std.proofs.Common.{◌*◌, length}
 use Rattle.mail_ops.proofs.counting.listed.Given as goal
 
 abbrev pub invariant-loop-place : goal.invariant-loop-place

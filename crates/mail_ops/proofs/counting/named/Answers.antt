@@ -1,7 +1,6 @@
-use Rattle.std.proofs.Common.{◌∙◌, ap}
+use Rattle.mail_ops.proofs.Common.{◌∙◌, ap, count_different}
 use Rattle.std.proofs.lemmas.Cmp.{nat_list_cmp_total}
 use Rattle.std.proofs.lemmas.Map.Views.{btree_set_len-from_list}
-use Rattle.list_machine.specs.Machine.{count_different}
 use Rattle.mail_ops.proofs.CountingLemmas.{different_ids}
 use Rattle.mail_ops.proofs.counting.named.Goals as goal
 

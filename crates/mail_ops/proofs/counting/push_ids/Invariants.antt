@@ -1,4 +1,4 @@
-use Rattle.std.proofs.Common.{◌≡◌, ◌++◌, map, take}
+use Rattle.mail_ops.proofs.Common.{◌≡◌, ◌++◌, map, take}
 use Rattle.mail_ops.proofs.counting.push_ids.Given as goal
 
 abbrev pub invariant-loop-instance : goal.invariant-loop-instance

@@ -1,16 +1,9 @@
-use Rattle.std.proofs.Common.{ap, sym, ◌∙◌, Err, [], refl, arith}
-use Rattle.std.specs.Option.{option_copied, option_map}
-use Rattle.box_index.specs.Row.{row_of}
-use Rattle.box_index.specs.State.{BoxState}
-use Rattle.mdbox_base.specs.declared.replies.Refusal.TheVariants as refusal
-use Rattle.store_seen.specs.Seeing.{seen_of}
-use Rattle.store_seen.proofs.SeeingLemmas.{due_as_before}
+use Rattle.mail_ops.proofs.Common.{ap, sym, ◌∙◌, [], refl, arith, option_copied, option_map, row_of, BoxState, refusal, seen_of, due_as_before, no_claims, fall, never_more, not_true, ok_is_none, plain_stopped}
+use Rattle.std.proofs.Common.{Err}
 use Rattle.mail_ops.proofs.FlagEventLemmas.{flag_is_plain, flags_known, brings_none, flag_done, flag_broken, none_of, some_of}
 use Rattle.mail_ops.proofs.RemovalLemmas.{store_tells}
 use Rattle.mail_ops.proofs.KeptUidLemmas.{flags_left}
-use Rattle.task_claims.specs.Claims.{no_claims}
-use Rattle.task_steps.proofs.EventLaws.{fall}
-use Rattle.task_steps.proofs.OneEventLemmas.{never_more, not_true, ok_is_none, plain_refused, plain_stopped}
+use Rattle.task_steps.proofs.OneEventLemmas.{plain_refused}
 use Rattle.mail_ops.proofs.OnlyLogsLemmas.{done_keeps, done_not, fell_keeps, halted_keeps, idle_keeps, refused_not, took_spares}
 use Rattle.mail_ops.proofs.LeavingLemmas.{flag_leaves, same_leaves}
 use Rattle.mail_ops.proofs.flagging.flag.Goals as goal

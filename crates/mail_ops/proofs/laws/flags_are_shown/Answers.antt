@@ -1,4 +1,4 @@
-use Rattle.std.proofs.Common.{refl}
+use Rattle.mail_ops.proofs.Common.{refl}
 use Rattle.mdbox_base.specs.declared.entries.BoxEntry.TheVariants.{F}
 use Rattle.mail_ops.proofs.FlagListLemmas.{no_mailbox, no_message, is_flagged}
 use Rattle.mail_ops.proofs.ShownEntryLemmas.{shown_entry}

@@ -1,4 +1,4 @@
-use Rattle.model_store.specs.Listing.{meaning_named}
+use Rattle.mail_ops.proofs.Common.{meaning_named}
 use Rattle.mail_ops.proofs.NamedListLemmas.{shows_box, answered}
 use Rattle.mail_ops.proofs.laws.listings_are_answered.Goals as goal
 

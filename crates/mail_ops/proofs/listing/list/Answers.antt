@@ -1,16 +1,6 @@
-use Rattle.std.proofs.Common.{ap, sym, ◌∙◌, subst, refl}
-use Rattle.std.specs.Option.{option_copied, option_map}
-use Rattle.box_index.specs.State.{BoxState}
-use Rattle.mdbox_base.specs.declared.replies.Refusal.TheVariants as refusal
-use Rattle.mdbox_base.specs.declared.replies.Reply.{Reply}
-use Rattle.mdbox_base.specs.declared.replies.Reply.TheVariants as reply
-use Rattle.mdbox_base.specs.declared.requests.Request.TheVariants as request
-use Rattle.list_machine.specs.Run.{First}
-use Rattle.list_machine.specs.Machine.{PartAnswers}
+use Rattle.mail_ops.proofs.Common.{ap, sym, ◌∙◌, subst, refl, option_copied, option_map, BoxState, refusal, Reply, reply, request, First, PartAnswers, indexes_of, never_more, plain_stopped, seen_of}
 use Rattle.model_store.specs.Listing.{listing_of}
-use Rattle.store_core.specs.Value.{indexes_of}
-use Rattle.task_steps.proofs.OneEventLemmas.{never_more, plain_forgets, plain_refused, plain_stopped}
-use Rattle.store_seen.specs.Seeing.{seen_of}
+use Rattle.task_steps.proofs.OneEventLemmas.{plain_forgets, plain_refused}
 use Rattle.mail_ops.proofs.ListEventLemmas.{list_is_plain, does_list}
 use Rattle.mail_ops.proofs.listing.list.Goals as goal
 

@@ -1,7 +1,6 @@
-use Rattle.std.proofs.Common.{List, ◌++◌, ◌∷◌, [], ◌∙◌, ap}
+use Rattle.mail_ops.proofs.Common.{List, ◌++◌, ◌∷◌, [], ◌∙◌, ap, ListRow}
 use Rattle.std.proofs.lemmas.Iterator.Consumers.{YieldsList-from_first, YieldsList-end}
 use Rattle.box_index.specs.declared.index.BoxRow.{BoxRow}
-use Rattle.mdbox_base.specs.declared.replies.ListRow.{ListRow}
 use Rattle.mail_ops.proofs.RowLemmas.{row_more, rows_all}
 use Rattle.mail_ops.proofs.listing.rows_of.Goals as goal
 

@@ -1,5 +1,4 @@
-use Rattle.std.proofs.Common.{arith}
-use Rattle.task_steps.proofs.OneEventLemmas.{not_true, ok_is_none}
+use Rattle.mail_ops.proofs.Common.{arith, not_true, ok_is_none}
 use Rattle.mail_ops.proofs.MakeCallLemmas.{log_made}
 use Rattle.mail_ops.proofs.making.make.Goals as goal
 

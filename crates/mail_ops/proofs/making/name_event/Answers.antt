@@ -1,4 +1,4 @@
-use Rattle.std.proofs.Common.{ap, arith}
+use Rattle.mail_ops.proofs.Common.{ap, arith}
 use Rattle.mail_ops.proofs.MakeCallLemmas.{naming_fits}
 use Rattle.mail_ops.proofs.making.name_event.Goals as goal
 

@@ -1,9 +1,5 @@
-use Rattle.std.proofs.Common.{sym, subst, Some, refl}
-use Rattle.mdbox_base.specs.declared.requests.Request.{Request}
-use Rattle.task_steps.specs.Step.{HasNotBegun, Steps}
+use Rattle.mail_ops.proofs.Common.{sym, subst, Some, refl, Request, HasNotBegun, Steps, seen_of, no_claims}
 use Rattle.mail_ops.specs.Requests.{Replies}
-use Rattle.store_seen.specs.Seeing.{seen_of}
-use Rattle.task_claims.specs.Claims.{no_claims}
 use Rattle.mail_ops.proofs.OnlyLogsLemmas.{ends_same, unchanged_keeps}
 use Rattle.mail_ops.proofs.LeavingLemmas.{same_leaves}
 use Rattle.mail_ops.proofs.task.only_event.Goals as goal

@@ -1,4 +1,4 @@
-use Rattle.model_kept.proofs.KeptLemmas.{kept_begins}
+use Rattle.mail_save.proofs.Common.{kept_begins}
 use Rattle.mail_save.proofs.AddLemmas.{adds_at, added_at}
 use Rattle.mail_save.proofs.MailFileLemmas.{mail_kept}
 use Rattle.mail_save.proofs.add.add_message.Goals as goal

@@ -1,8 +1,7 @@
 use Rattle.model_kept.proofs.KeptLemmas.{kept_idle}
-use Rattle.std.proofs.Common.{sym, ◌∙◌}
+use Rattle.mail_save.proofs.Common.{sym, ◌∙◌, next_attachment}
 use Rattle.mail_save.proofs.AttachLemmas.{compared_writes, idle_leaves, room_compared, room_found, writes_attachment}
 use Rattle.mail_save.proofs.MailFileLemmas.{mail_idle}
-use Rattle.save_instances.specs.Attaching.{next_attachment}
 use Rattle.mail_save.proofs.attach.attach_next.Goals as goal
 
 pub returns-in-Ok-clause-room : goal.returns-in-Ok-clause-room

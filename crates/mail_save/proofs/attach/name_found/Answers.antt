@@ -1,7 +1,4 @@
-use Rattle.std.proofs.Common.{List, refl, ◌∙◌, subst}
-use Rattle.mdbox_base.specs.declared.entries.InstRow.{InstRow}
-use Rattle.saved_message.specs.Laid.{IsLaid}
-use Rattle.saved_message.specs.Saved.{ids_in}
+use Rattle.mail_save.proofs.Common.{List, refl, ◌∙◌, subst, InstRow, IsLaid, ids_in}
 use Rattle.mail_save.proofs.attach.name_found.Goals as goal
 
 pub returns : goal.returns

@@ -1,7 +1,5 @@
-use Rattle.std.proofs.Common.{rules, ◌≡◌, ◌<◌, ◌+◌, ◌^◌, length, refl, ap, sym, ◌∙◌}
+use Rattle.mail_save.proofs.Common.{rules, ◌≡◌, ◌<◌, ◌+◌, ◌^◌, length, refl, ap, sym, ◌∙◌, option_and_then, end_in, ending_at, place_begun_in}
 use Rattle.storage_files.proofs.FileListLemmas.{ends-other}
-use Rattle.std.specs.Option.{option_and_then}
-use Rattle.storage_files.specs.Files.{end_in, ending_at, place_begun_in}
 use Rattle.mail_save.proofs.PlaceLemmas.{region_placed, place_named}
 use Rattle.mail_save.proofs.SaveFileLemmas.{value_changed}
 use Rattle.mail_save.proofs.place.place_region.Goals as goal

@@ -1,10 +1,8 @@
-use Rattle.std.proofs.Common.{ap, inl, refl, sym, subst, ◌∙◌}
+use Rattle.mail_save.proofs.Common.{ap, inl, refl, sym, subst, ◌∙◌, Mail, end_in}
 use Rattle.mail_save.proofs.StayingLemmas.{kept_same, kept_since}
 use Rattle.mail_save.proofs.PlaceLemmas.{unchanged_leaves, unchanged_settled}
 use Rattle.mail_save.proofs.TakingLemmas.{takes_known, takes_new, takes_failing, takes_full, holds_known, holds_new, took_known_unbegun, took_new_unbegun}
 use Rattle.mail_save.proofs.MailFileLemmas.{mail_unchanged, took_known, took_new}
-use Rattle.disk_model.specs.declared.name.FileName.TheVariants.{Mail}
-use Rattle.storage_files.specs.Files.{end_in}
 use Rattle.storage_files.specs.OnDisk.{OthersAreNamed}
 use Rattle.mail_save.proofs.place.take_file.Goals as goal
 

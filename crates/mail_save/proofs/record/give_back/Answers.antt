@@ -1,6 +1,5 @@
-use Rattle.std.proofs.Common.{refl, sym, subst}
-use Rattle.mdbox_base.specs.declared.entries.MapEntry.{MapEntry}
-use Rattle.store_core.specs.MapAppend.{IsReadyToStore, NamesFirm}
+use Rattle.mail_save.proofs.Common.{refl, sym, subst, MapEntry, IsReadyToStore}
+use Rattle.store_core.specs.MapAppend.{NamesFirm}
 use Rattle.mail_save.proofs.StoringLemmas.{left_alone, lowers_record}
 use Rattle.mail_save.proofs.MailFileLemmas.{mail_kept}
 use Rattle.mail_save.proofs.record.give_back.Goals as goal

@@ -1,5 +1,4 @@
-use Rattle.std.proofs.Common.{All, take}
-use Rattle.model_logs.specs.Entries.{RowInRange}
+use Rattle.mail_save.proofs.Common.{All, take, RowInRange}
 use Rattle.mail_save.proofs.record.known_rows.Given as goal
 
 abbrev pub invariant-loop-row : goal.invariant-loop-row

@@ -1,16 +1,9 @@
-use Rattle.std.proofs.Common.{rules, Err, inl, inr, List, [], Some, All, ◌≡◌, ◌∙◌, ap, sym, subst, refl}
-use Rattle.std.proofs.lemmas.List.Elements.{All-head}
-use Rattle.mdbox_base.specs.declared.entries.InstRow.{InstRow}
-use Rattle.model_logs.specs.Entries.{RowInRange}
-use Rattle.model_meaning.specs.MapMeaning.{MapRecord, record_at}
-use Rattle.model_store.specs.Settled.{IsSettledFor, Leaves}
-use Rattle.model_kept.specs.Kept.{MailIsKept}
+use Rattle.mail_save.proofs.Common.{rules, Err, inl, inr, List, [], Some, All, ◌≡◌, ◌∙◌, ap, sym, subst, refl, All-head, InstRow, RowInRange, MapRecord, record_at, IsSettledFor, Leaves, MailIsKept, AreSpared, saved_row}
 use Rattle.mail_save.proofs.StayingLemmas.{kept_same}
 use Rattle.mail_save.proofs.PlaceLemmas.{unchanged_leaves, unchanged_settled}
 use Rattle.mail_save.proofs.RecordLemmas.{rows_in_range, file_drawn, guid_drawn, record_fits, record_below, record_lies, ready_as}
 use Rattle.mail_save.proofs.SaveEventLemmas.{uids_full, unfallen}
 use Rattle.mail_save.proofs.StoringLemmas.{gives_back, left_alone, released_firm, spared_as, stores_placed}
-use Rattle.mail_save.specs.SaveEffects.{AreSpared, saved_row}
 use Rattle.mail_save.proofs.record.store_record.Goals.{in-Ok, in-Err-Stopped, in-Err-NoMemory}
 use Rattle.mail_save.proofs.record.store_record.Goals as goal
 

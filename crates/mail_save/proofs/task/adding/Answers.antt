@@ -1,8 +1,4 @@
-use Rattle.std.proofs.Common.{ap, sym, subst, refl, arith, ◌∙◌, ◌≡◌, ◌≤◌, Err, inl, inr}
-use Rattle.mdbox_base.specs.declared.replies.Refusal.TheVariants as refusal
-use Rattle.store_core.specs.Dues.{due_at}
-use Rattle.mail_save.specs.Task.{Saves}
-use Rattle.mail_save.specs.declared.task.SaveStage.TheVariants as stage
+use Rattle.mail_save.proofs.Common.{ap, sym, subst, refl, arith, ◌∙◌, ◌≡◌, ◌≤◌, Err, inl, inr, refusal, due_at, Saves, stage, save_amounts}
 use Rattle.mail_save.proofs.PlaceLemmas.{unchanged_settled}
 use Rattle.mail_save.proofs.SaveEventLemmas.{add_refused, done_goes_on, faults_by, is_false, more_runs, ok_apart, saved_runs, refused_stops, unfallen}
 use Rattle.mail_save.proofs.StoringLemmas.{left_unadded, spared_kept}
@@ -10,7 +6,6 @@ use Rattle.mail_save.proofs.FaultLemmas.{add_unread}
 use Rattle.mail_save.proofs.HeldInstanceLemmas.{same_keeps}
 use Rattle.mail_save.proofs.HeldLemmas.{nothing_moves, one_less}
 use Rattle.mail_save.proofs.LettingLemmas.{moves_same}
-use Rattle.mail_save.specs.Held.{save_amounts}
 use Rattle.mail_save.proofs.OtherLemmas.{keeps_same}
 use Rattle.mail_save.proofs.MailFileLemmas.{mail_unchanged}
 use Rattle.mail_save.proofs.task.adding.Goals as goal

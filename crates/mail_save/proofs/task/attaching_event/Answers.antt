@@ -1,11 +1,4 @@
-use Rattle.std.proofs.Common.{◌≡◌, List, Err, inl, inr, ap, sym, subst, refl, ◌∙◌}
-use Rattle.mdbox_base.specs.declared.entries.InstRow.{InstRow}
-use Rattle.mdbox_base.specs.declared.progress.Did.TheVariants as did
-use Rattle.mdbox_base.specs.declared.progress.Progress.TheVariants as progress
-use Rattle.mdbox_base.specs.declared.replies.Reply.TheVariants as reply
-use Rattle.save_instances.specs.Attaching.{next_attachment}
-use Rattle.store_core.specs.Dues.{due_at}
-use Rattle.store_core.specs.Keeping.{MovesHolds, holds_of}
+use Rattle.mail_save.proofs.Common.{◌≡◌, List, Err, inl, inr, ap, sym, subst, refl, ◌∙◌, InstRow, did, progress, reply, next_attachment, due_at, MovesHolds, holds_of, save_amounts, LetsGo, Saves, stage}
 use Rattle.mail_save.proofs.AttachEventLemmas.{HasAttached, attached_last, attached_more, unattached_change}
 use Rattle.mail_save.proofs.AttachLemmas.{next_or_none}
 use Rattle.mail_save.proofs.FaultLemmas.{refused_faults}
@@ -14,10 +7,6 @@ use Rattle.mail_save.proofs.LettingLemmas.{keeps_let_go, moves_then, saves_let_g
 use Rattle.mail_save.proofs.OtherLemmas.{keeps_same}
 use Rattle.mail_save.proofs.SaveEventLemmas.{done_goes_on, is_false, ok_apart, one_error, refused_stops}
 use Rattle.mail_save.proofs.StoringLemmas.{spared_kept}
-use Rattle.mail_save.specs.Held.{save_amounts}
-use Rattle.mail_save.specs.SaveEffects.{LetsGo}
-use Rattle.mail_save.specs.Task.{Saves}
-use Rattle.mail_save.specs.declared.task.SaveStage.TheVariants as stage
 use Rattle.mail_save.proofs.task.attaching_event.Goals as goal
 
 pub returns-in-Ok : goal.returns-in-Ok

@@ -1,13 +1,9 @@
-use Rattle.std.proofs.Common.{ap, sym, subst, refl, inl, inr}
-use Rattle.mdbox_base.specs.declared.replies.Refusal.TheVariants as refusal
-use Rattle.mail_save.specs.Task.{Saves}
-use Rattle.mail_save.specs.declared.task.SaveStage.TheVariants as stage
+use Rattle.mail_save.proofs.Common.{ap, sym, subst, refl, inl, inr, refusal, Saves, stage, save_amounts}
 use Rattle.mail_save.proofs.SaveEventLemmas.{done_goes_on, faults_by, gives_quietly, is_false, never_stops, never_true, refused_stops, unfallen}
 use Rattle.mail_save.proofs.FaultLemmas.{calm_faults}
 use Rattle.mail_save.proofs.HeldInstanceLemmas.{logged_keeps}
 use Rattle.mail_save.proofs.HeldLemmas.{one_less}
 use Rattle.mail_save.proofs.LettingLemmas.{moves_same}
-use Rattle.mail_save.specs.Held.{save_amounts}
 use Rattle.mail_save.proofs.OtherLemmas.{alone_keeps, lowering_keeps}
 use Rattle.mail_save.proofs.task.giving_back.Goals as goal
 

@@ -1,5 +1,4 @@
-use Rattle.std.proofs.Common.{sym, subst}
-use Rattle.mail_save.specs.Task.{Saves}
+use Rattle.mail_save.proofs.Common.{sym, subst, Saves}
 use Rattle.mail_save.proofs.task.next_event.Goals as goal
 
 pub returns-in-First : goal.returns-in-First

@@ -1,19 +1,7 @@
-use Rattle.std.proofs.Common.{rules, ◌<◌, ◌≤◌, ◌^◌, ◌∙◌, ap, sym, subst, refl, arith, ℕ, List, length}
-use Rattle.disk_model.specs.Disk.{IfTold}
-use Rattle.disk_model.specs.declared.name.FileName.TheVariants.{Mail}
-use Rattle.mdbox_base.specs.Words.{IsName}
-use Rattle.mdbox_base.specs.declared.entries.InstRow.{InstRow}
-use Rattle.mdbox_base.specs.declared.ids.FileNo.{FileNo}
-use Rattle.mdbox_base.specs.declared.progress.Progress.TheVariants as progress
-use Rattle.mdbox_base.specs.declared.replies.Refusal.TheVariants as refusal
-use Rattle.mdbox_base.specs.declared.replies.Reply.TheVariants as reply
+use Rattle.mail_save.proofs.Common.{rules, ◌<◌, ◌≤◌, ◌^◌, ◌∙◌, ap, sym, subst, refl, arith, ℕ, List, length, IfTold, Mail, IsName, InstRow, FileNo, progress, refusal, reply, AreHeld, unknown_guid, ids_in, due_at, MovesHolds, holds_of, save_amounts, HasAppended, IsLeftSoOrGone, LetsGo, PlacesParts}
+use Rattle.mail_save.proofs.Common.{Saves, stage}
 use Rattle.save_instances.proofs.FoundLemmas.{of_parts_kept}
-use Rattle.save_instances.specs.Attaching.{AreHeld}
-use Rattle.saved_message.specs.Region.{unknown_guid}
-use Rattle.saved_message.specs.Saved.{ids_in}
-use Rattle.store_core.specs.Dues.{due_at}
 use Rattle.store_core.specs.Files.{EndsWith}
-use Rattle.store_core.specs.Keeping.{MovesHolds, holds_of}
 use Rattle.mail_save.proofs.HeldInstanceLemmas.{held_same, holds_attached, is_attached_on, placed_keeps}
 use Rattle.mail_save.proofs.HeldLemmas.{nothing_moves}
 use Rattle.mail_save.proofs.LettingLemmas.{moves_same, moves_then, saves_let_go}
@@ -22,13 +10,7 @@ use Rattle.mail_save.proofs.ReadyLemmas.{instances_are, instances_there, region_
 use Rattle.mail_save.proofs.RegionSizeLemmas.{region_short}
 use Rattle.mail_save.proofs.SaveEventLemmas.{done_goes_on, faults_by, is_false, more_runs, never_true, refused_stops, unfallen}
 use Rattle.mail_save.proofs.StoringLemmas.{spared_kept}
-use Rattle.mail_save.specs.Held.{save_amounts}
-use Rattle.mail_save.specs.MailFiles.{HasAppended}
-use Rattle.mail_save.specs.Ready.{IsLeftSoOrGone}
 use Rattle.mail_save.proofs.PlacedLemmas.{appended_left}
-use Rattle.mail_save.specs.SaveEffects.{LetsGo, PlacesParts}
-use Rattle.mail_save.specs.Task.{Saves}
-use Rattle.mail_save.specs.declared.task.SaveStage.TheVariants as stage
 use Rattle.mail_save.proofs.task.placing.Goals as goal
 
 pub place_region-requires-clause-laid : goal.place_region-requires-clause-laid

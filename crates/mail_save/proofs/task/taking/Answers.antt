@@ -1,11 +1,4 @@
-use Rattle.std.proofs.Common.{rules, ◌≡◌, ◌<◌, ◌^◌, ◌∙◌, ap, sym, subst, refl, arith, ℕ, List, Err, length}
-use Rattle.mdbox_base.specs.Words.{IsName}
-use Rattle.mdbox_base.specs.declared.entries.InstRow.{InstRow}
-use Rattle.mdbox_base.specs.declared.progress.Progress.TheVariants as progress
-use Rattle.mdbox_base.specs.declared.replies.Reply.TheVariants as reply
-use Rattle.save_instances.specs.Attaching.{AreHeld}
-use Rattle.store_core.specs.Dues.{due_at}
-use Rattle.store_core.specs.Keeping.{MovesHolds, holds_of}
+use Rattle.mail_save.proofs.Common.{rules, ◌≡◌, ◌<◌, ◌^◌, ◌∙◌, ap, sym, subst, refl, arith, ℕ, List, Err, length, IsName, InstRow, progress, reply, AreHeld, due_at, MovesHolds, holds_of, save_amounts, HoldsFile, TakesWithHeader, LetsGo, TakesNone, Saves, stage}
 use Rattle.mail_save.proofs.FaultLemmas.{change_faults}
 use Rattle.mail_save.proofs.HeldInstanceLemmas.{attached_on, held_same, is_attached_on, same_keeps, taken_keeps}
 use Rattle.mail_save.proofs.HeldLemmas.{nothing_moves}
@@ -16,12 +9,6 @@ use Rattle.mail_save.proofs.RegionSizeLemmas.{header_short, region_short}
 use Rattle.mail_save.proofs.SaveEventLemmas.{done_goes_on, is_false, more_runs, ok_apart, one_error, refused_stops, unfallen}
 use Rattle.mail_save.proofs.StoringLemmas.{spared_kept}
 use Rattle.mail_save.proofs.TakingLemmas.{takes_as, untaken_instances, untaken_unread, untaken_why}
-use Rattle.mail_save.specs.Held.{save_amounts}
-use Rattle.mail_save.specs.Left.{HoldsFile}
-use Rattle.mail_save.specs.MailFiles.{TakesWithHeader}
-use Rattle.mail_save.specs.SaveEffects.{LetsGo, TakesNone}
-use Rattle.mail_save.specs.Task.{Saves}
-use Rattle.mail_save.specs.declared.task.SaveStage.TheVariants as stage
 use Rattle.mail_save.proofs.task.taking.Goals as goal
 
 pub overflow_cast-size : goal.overflow_cast-size

@@ -1,6 +1,4 @@
-use Rattle.std.proofs.Common.{◌≡◌, length, arith}
-use Rattle.std.proofs.lemmas.Grind.{common_steps}
-use Rattle.disk_model.proofs.IdleLemmas.{idle-begins}
+use Rattle.purge_task.proofs.Common.{◌≡◌, length, arith, common_steps, idle-begins}
 use Rattle.purge_task.proofs.CleanLemmas.{header_as_read, header_cut_off, header_too_long}
 use Rattle.purge_task.proofs.contents.is_header.Goals as goal
 

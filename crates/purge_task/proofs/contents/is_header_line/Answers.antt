@@ -1,4 +1,4 @@
-use Rattle.std.proofs.Common.{◌≡◌, true, false, sym, ◌∙◌}
+use Rattle.purge_task.proofs.Common.{◌≡◌, true, false, sym, ◌∙◌}
 use Rattle.purge_task.proofs.HeaderLemmas.{line_found, line_refused}
 use Rattle.purge_task.proofs.contents.is_header_line.Goals as goal
 

@@ -1,7 +1,4 @@
-use Rattle.std.proofs.Common.{refl, ap, ◌∙◌}
-use Rattle.store_core.proofs.BoxAppendLemmas.{store_sound}
-use Rattle.purge_task.specs.Claims.{sources_left}
-use Rattle.store_core.specs.Value.{StoreValue}
+use Rattle.purge_task.proofs.Common.{refl, ap, ◌∙◌, store_sound, sources_left, StoreValue}
 use Rattle.purge_task.proofs.DropLemmas.{map_given}
 use Rattle.purge_task.proofs.CopyCallLemmas.{copied_says, noted_for}
 use Rattle.purge_task.proofs.CopyingLemmas.{copying_one, first_left, may_copy}

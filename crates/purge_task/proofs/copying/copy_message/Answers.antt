@@ -1,6 +1,4 @@
-use Rattle.std.proofs.Common.{◌≡◌, ◌∙◌, refl, sym, subst, ℕ, Some}
-use Rattle.store_core.proofs.BoxAppendLemmas.{store_sound}
-use Rattle.purge_task.specs.Copied.{NotesCopy}
+use Rattle.purge_task.proofs.Common.{◌≡◌, ◌∙◌, refl, sym, subst, ℕ, Some, store_sound, NotesCopy}
 use Rattle.purge_task.proofs.RegionLemmas.{row_ends}
 use Rattle.purge_task.proofs.WorkLemmas.{noted_later}
 use Rattle.purge_task.proofs.copying.copy_message.Goals as goal

@@ -1,7 +1,5 @@
-use Rattle.std.proofs.Common.{subst, ap}
-use Rattle.model_kept.proofs.KeptLemmas.{kept_idle, kept_then}
-use Rattle.model_kept.specs.Kept.{MailIsKept}
-use Rattle.store_core.specs.Value.{StoreValue}
+use Rattle.purge_task.proofs.Common.{subst, ap, kept_then, MailIsKept, StoreValue}
+use Rattle.model_kept.proofs.KeptLemmas.{kept_idle}
 use Rattle.purge_task.proofs.ReadingLemmas.{idle_leaves, idle_settled, leaves_then}
 use Rattle.purge_task.proofs.copying.copy_piece.Goals as goal
 

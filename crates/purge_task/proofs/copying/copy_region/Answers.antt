@@ -1,5 +1,4 @@
-use Rattle.std.proofs.Common.{◌+◌, ◌∙◌, length, take, refl, subst, arith}
-use Rattle.store_core.proofs.BoxAppendLemmas.{store_sound}
+use Rattle.purge_task.proofs.Common.{◌+◌, ◌∙◌, length, take, refl, subst, arith, store_sound}
 use Rattle.purge_task.proofs.RegionLemmas.{IsCopying, begun_now, copying_begins, copying_fails, copying_more, counts_same, ends_now, piece_long, row_ends, same_end}
 use Rattle.purge_task.proofs.copying.copy_region.Goals as goal
 

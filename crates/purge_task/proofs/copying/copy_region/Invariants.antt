@@ -1,4 +1,4 @@
-use Rattle.std.proofs.Common.{◌-◌}
+use Rattle.purge_task.proofs.Common.{◌-◌}
 use Rattle.purge_task.proofs.RegionLemmas.{IsCopying}
 use Rattle.purge_task.proofs.copying.copy_region.Given as goal
 

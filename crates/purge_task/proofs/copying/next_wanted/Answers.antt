@@ -1,4 +1,4 @@
-use Rattle.std.proofs.Common.{sym, ◌∙◌, arith}
+use Rattle.purge_task.proofs.Common.{sym, ◌∙◌, arith}
 use Rattle.purge_task.proofs.NextLemmas.{next_begins, next_passes, next_is, next_ends}
 use Rattle.purge_task.proofs.WalkLemmas.{row_bounds}
 use Rattle.purge_task.proofs.copying.next_wanted.Goals as goal

@@ -1,4 +1,4 @@
-use Rattle.std.proofs.Common.{◌-◌}
+use Rattle.purge_task.proofs.Common.{◌-◌}
 use Rattle.purge_task.proofs.NextLemmas.{AreUnwantedBetween}
 use Rattle.purge_task.proofs.copying.next_wanted.Given as goal
 

@@ -1,4 +1,4 @@
-use Rattle.std.proofs.Common.{◌≤◌, take, All}
+use Rattle.purge_task.proofs.Common.{◌≤◌, take, All}
 use Rattle.purge_task.proofs.finding.count_targets.Given as goal
 
 abbrev pub invariant-loop-found : goal.invariant-loop-found

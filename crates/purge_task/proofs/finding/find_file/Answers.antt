@@ -1,11 +1,4 @@
-use Rattle.std.proofs.Common.{refl, sym, subst}
-use Rattle.disk_model.proofs.IdleLemmas.{idle-begins}
-use Rattle.journal.specs.QuietPurge.{IsCleanFile}
-use Rattle.model_meaning.specs.MapMeaning.{MapMeaning}
-use Rattle.model_meaning.specs.Sound.{IsSoundMap}
-use Rattle.model_store.specs.Settled.{files_of}
-use Rattle.store_core.proofs.BoxAppendLemmas.{store_sound}
-use Rattle.purge_task.specs.Found.{AreContents}
+use Rattle.purge_task.proofs.Common.{refl, sym, subst, idle-begins, IsCleanFile, MapMeaning, IsSoundMap, files_of, store_sound, AreContents}
 use Rattle.purge_task.proofs.CleanLemmas.{found_file, may_be_emptied, told_not}
 use Rattle.purge_task.proofs.finding.find_file.Goals as goal
 

@@ -1,7 +1,4 @@
-use Rattle.std.proofs.Common.{◌≡◌, fold, drop}
-use Rattle.std.specs.Prelude.{max}
-use Rattle.model_meaning.specs.MapMeaning.{greatest}
-use Rattle.purge_task.specs.declared.finding.FoundFile.{FoundFile}
+use Rattle.purge_task.proofs.Common.{◌≡◌, fold, drop, max, greatest, FoundFile}
 use Rattle.purge_task.proofs.finding.most_messages.Given as goal
 
 -- the greatest so far, and the rest

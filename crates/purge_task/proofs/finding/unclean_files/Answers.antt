@@ -1,8 +1,7 @@
-use Rattle.std.proofs.Common.{◌≡◌, ◌∙◌, refl, sym, subst, ap, Some, None, arith}
-use Rattle.std.specs.Prelude.{IsSome}
+use Rattle.purge_task.proofs.Common.{◌≡◌, ◌∙◌, refl, sym, subst, ap, Some, None, arith, IsSome, idle-begins, FilesValue, end_in}
 use Rattle.disk_model.proofs.FaultCountLemmas.{no_fault-then}
-use Rattle.disk_model.proofs.IdleLemmas.{idle-begins, idle-then}
-use Rattle.storage_files.specs.Files.{FilesValue, end_in, file_past}
+use Rattle.disk_model.proofs.IdleLemmas.{idle-then}
+use Rattle.storage_files.specs.Files.{file_past}
 use Rattle.purge_task.proofs.FindLemmas.{IsFoundUpTo, disk_then, fewer_left, files_same, find_begins, find_ends, find_more, found_back, found_same, next_below, next_passes, next_there}
 use Rattle.purge_task.proofs.finding.unclean_files.Goals as goal
 

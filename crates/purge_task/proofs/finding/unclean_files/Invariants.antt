@@ -1,7 +1,4 @@
-use Rattle.std.proofs.Common.{◌≡◌, ◌-◌}
-use Rattle.std.specs.Option.{option_map_or}
-use Rattle.disk_model.specs.Disk.{IsIdle}
-use Rattle.disk_model.specs.FaultCounts.{NoFault}
+use Rattle.purge_task.proofs.Common.{◌≡◌, ◌-◌, option_map_or, IsIdle, NoFault}
 use Rattle.purge_task.proofs.FindLemmas.{IsFoundUpTo}
 use Rattle.purge_task.proofs.finding.unclean_files.Given as goal
 

@@ -1,23 +1,12 @@
-use Rattle.std.proofs.Common.{◌≡◌, ◌∙◌, ℕ, List, drop, length, refl, sym, ap, subst, arith}
-use Rattle.std.specs.Prelude.{Err, Result}
+use Rattle.purge_task.proofs.Common.{◌≡◌, ◌∙◌, ℕ, List, drop, length, refl, sym, ap, subst, arith, Err, Result, IsIdle, NoFault, idle-begins, Refusal, StoreValue, IsPurgeStep, answer_of, came_to, uncounted, CanTakeAll, take_all, targets_given, PurgeStage, Source, KeepsQuiet}
 use Rattle.std.specs.Vec.{with_items}
 use Rattle.std.proofs.lemmas.List.{with_items_is}
 use Rattle.std.proofs.lemmas.Result.{err_from_is_err_and}
-use Rattle.disk_model.specs.Disk.{IsIdle}
-use Rattle.disk_model.specs.FaultCounts.{NoFault}
-use Rattle.disk_model.proofs.IdleLemmas.{idle-begins}
-use Rattle.mdbox_base.specs.declared.replies.Refusal.{Refusal}
-use Rattle.store_core.specs.Value.{StoreValue}
-use Rattle.purge_task.specs.Clause.{IsPurgeStep, answer_of, came_to, uncounted}
-use Rattle.purge_task.specs.Taken.{CanTakeAll, take_all, targets_given}
-use Rattle.purge_task.specs.declared.task.PurgeStage.{PurgeStage}
-use Rattle.purge_task.specs.declared.work.Source.{Source}
 use Rattle.purge_task.proofs.DropLemmas.{map_taken, next_begun}
 use Rattle.purge_task.proofs.FewInstanceLemmas.{true_le}
 use Rattle.purge_task.proofs.FirstCallLemmas.{few_taken, find_refused_says, known_taken, memory_says, most_fits, store_ready, store_taken, taken_says}
 use Rattle.purge_task.proofs.FurtherLemmas.{further_first}
 use Rattle.purge_task.proofs.QuietOuterLemmas.{begun_quiet}
-use Rattle.purge_task.specs.Quiet.{KeepsQuiet}
 use Rattle.purge_task.proofs.TakeableLemmas.{can_take_all}
 use Rattle.purge_task.proofs.TakenLemmas.{given_long}
 use Rattle.purge_task.proofs.first_event.begin.Goals as goal

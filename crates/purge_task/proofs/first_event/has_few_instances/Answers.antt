@@ -1,4 +1,4 @@
-use Rattle.std.proofs.Common.{◌∙◌, length, sym, arith}
+use Rattle.purge_task.proofs.Common.{◌∙◌, length, sym, arith}
 use Rattle.purge_task.proofs.FewInstanceLemmas.{all_passed, le_false, le_true, next_at, none_passed, one_passed}
 use Rattle.purge_task.proofs.first_event.has_few_instances.Goals as goal
 

@@ -1,4 +1,4 @@
-use Rattle.std.proofs.Common.{◌≤◌, ◌-◌}
+use Rattle.purge_task.proofs.Common.{◌≤◌, ◌-◌}
 use Rattle.purge_task.proofs.FewInstanceLemmas.{ArePassed}
 use Rattle.purge_task.proofs.first_event.has_few_instances.Given as goal
 

@@ -1,5 +1,4 @@
-use Rattle.std.proofs.Common.{ap, length, refl}
-use Rattle.purge_task.specs.declared.work.Work.{Work}
+use Rattle.purge_task.proofs.Common.{ap, length, refl, Work}
 use Rattle.purge_task.proofs.DropLemmas.{switch_begun, switch_drops}
 use Rattle.purge_task.proofs.SwitchCallLemmas.{few_dropped, further_switch, left_within, made_switch, ready_one, switch_failed, switch_says, switched_one, tells_either, to_switch_begun}
 use Rattle.purge_task.proofs.QuietCallLemmas.{switched_quiet}

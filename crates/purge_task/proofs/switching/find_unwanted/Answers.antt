@@ -1,5 +1,5 @@
-use Rattle.std.proofs.Common.{◌+◌, vec_capacity, inl, inr, refl, sym, subst, ◌∙◌, arith}
-use Rattle.std.proofs.lemmas.Bool.{cases_eq}
+use Rattle.purge_task.proofs.Common.{◌+◌, inl, inr, refl, sym, subst, ◌∙◌, arith, cases_eq}
+use Rattle.std.proofs.Common.{vec_capacity}
 use Rattle.purge_task.proofs.ListingLemmas.{AreUnwantedTo, unwanted_begins, unwanted_passes, unwanted_adds, room_for_one, unwanted_ends}
 use Rattle.purge_task.proofs.WalkLemmas.{row_bounds}
 use Rattle.purge_task.proofs.switching.find_unwanted.Goals as goal

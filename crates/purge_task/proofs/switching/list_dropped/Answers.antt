@@ -1,6 +1,6 @@
 use Rattle.std.proofs.Common.{rules}
 use Rattle.std.proofs.lemmas.List.Sorted.{IsNonDecreasingBy-from_sort_by_key}
-use Rattle.mdbox_base.specs.declared.ids.MapUid.{MapUid}
+use Rattle.purge_task.proofs.Common.{MapUid}
 use Rattle.purge_task.proofs.ListingLemmas.{dropped_are}
 use Rattle.purge_task.proofs.switching.list_dropped.Goals as goal
 

@@ -1,8 +1,7 @@
 use Rattle.std.proofs.Common.{rules}
 use Rattle.std.proofs.lemmas.Fn.{filter_same}
 use Rattle.std.proofs.lemmas.List.Sorted.{IsNonDecreasingBy-from_sort_by_key}
-use Rattle.mdbox_base.specs.declared.entries.MapPlace.{MapPlace}
-use Rattle.purge_task.specs.Switched.{is_wanted_at}
+use Rattle.purge_task.proofs.Common.{MapPlace, is_wanted_at}
 use Rattle.purge_task.proofs.ListingLemmas.{moved_are}
 use Rattle.purge_task.proofs.switching.list_moved.Goals as goal
 

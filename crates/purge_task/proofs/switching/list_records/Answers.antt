@@ -1,4 +1,4 @@
-use Rattle.std.proofs.Common.{refl}
+use Rattle.purge_task.proofs.Common.{refl}
 use Rattle.purge_task.proofs.ListingLemmas.{lists_are}
 use Rattle.purge_task.proofs.switching.list_records.Goals as goal
 

@@ -1,6 +1,5 @@
-use Rattle.std.proofs.Common.{ap}
+use Rattle.purge_task.proofs.Common.{ap, Source}
 use Rattle.purge_task.specs.Switched.{IsListable}
-use Rattle.purge_task.specs.declared.work.Source.{Source}
 use Rattle.purge_task.proofs.SwitchReadyLemmas.{spends}
 use Rattle.purge_task.proofs.switching.make_entry.Goals as goal
 

@@ -1,7 +1,4 @@
-use Rattle.std.proofs.Common.{◌∙◌, ap}
-use Rattle.mdbox_base.specs.declared.entries.MapEntry.TheVariants as map_entry
-use Rattle.purge_task.specs.Switched.{target_named}
-use Rattle.purge_task.specs.declared.work.Source.{Source}
+use Rattle.purge_task.proofs.Common.{◌∙◌, ap, map_entry, target_named, Source}
 use Rattle.purge_task.proofs.switching.spend.Goals as goal
 
 pub returns-clause-entry : goal.returns-clause-entry

@@ -1,20 +1,5 @@
-use Rattle.std.proofs.Common.{◌≡◌, ◌∙◌, ◌==◌, inl, inr, Option, length, sym, subst, ap, arith}
-use Rattle.mdbox_base.specs.declared.ids.FileNo.{FileNo}
-use Rattle.model_kept.proofs.KeptLemmas.{kept_then}
-use Rattle.model_kept.specs.Kept.{MailIsKept}
-use Rattle.model_meaning.specs.MapMeaning.{MapMeaning, record_at}
-use Rattle.model_meaning.specs.Sound.{IsSoundMap}
-use Rattle.model_store.specs.Settled.{IsSettledFor, Leaves}
-use Rattle.storage_files.specs.Files.{changed_in, made_doomed, pins_in}
-use Rattle.store_core.specs.Dues.{IsSpared, KeepsStored}
-use Rattle.store_core.specs.Keeping.{KeepsFirm}
-use Rattle.store_core.specs.Value.{StoreValue}
-use Rattle.store_core.proofs.BoxAppendLemmas.{store_sound}
-use Rattle.purge_task.specs.Claims.{sources_left}
-use Rattle.purge_task.specs.Switched.{IsSwitched, IsTargetWritten, KeepsButTarget, target_released, target_synced}
-use Rattle.purge_task.specs.declared.work.Source.{Source}
-use Rattle.purge_task.specs.declared.work.Work.{Work}
-use Rattle.task_steps.proofs.EventLaws.{fall}
+use Rattle.purge_task.proofs.Common.{◌≡◌, ◌∙◌, ◌==◌, inl, inr, Option, length, sym, subst, ap, arith, FileNo, kept_then, MailIsKept, MapMeaning, record_at, IsSoundMap, IsSettledFor, Leaves, changed_in, made_doomed, pins_in, IsSpared, KeepsStored, KeepsFirm, StoreValue, store_sound, sources_left}
+use Rattle.purge_task.proofs.Common.{IsSwitched, IsTargetWritten, KeepsButTarget, target_released, target_synced, Source, Work, fall}
 use Rattle.purge_task.proofs.ReadingLemmas.{leaves_then}
 use Rattle.purge_task.proofs.RegionLemmas.{keeps_then}
 use Rattle.purge_task.proofs.SwitchReadyLemmas.{heads, listable_of, prepared, spent_is}

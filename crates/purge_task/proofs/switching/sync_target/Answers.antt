@@ -1,7 +1,5 @@
-use Rattle.std.proofs.Common.{ap}
-use Rattle.disk_model.proofs.IdleLemmas.{idle-begins}
+use Rattle.purge_task.proofs.Common.{ap, idle-begins, StoreValue}
 use Rattle.model_kept.proofs.KeptLemmas.{kept_begins}
-use Rattle.store_core.specs.Value.{StoreValue}
 use Rattle.purge_task.proofs.ReadingLemmas.{idle_leaves}
 use Rattle.purge_task.proofs.SwitchedLemmas.{firm_synced, begins_kept, kept_synced}
 use Rattle.purge_task.proofs.switching.sync_target.Goals as goal

@@ -1,4 +1,4 @@
-use Rattle.std.proofs.Common.{drop}
+use Rattle.purge_task.proofs.Common.{drop}
 use Rattle.purge_task.proofs.ReleaseLemmas.{IsReleasedTo}
 use Rattle.purge_task.proofs.taking.give_back.Given as goal
 

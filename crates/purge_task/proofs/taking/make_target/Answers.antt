@@ -1,6 +1,4 @@
-use Rattle.std.proofs.Common.{ap, subst, sym}
-use Rattle.model_store.specs.Settled.{IsSettledFor}
-use Rattle.store_core.specs.Value.{StoreValue}
+use Rattle.purge_task.proofs.Common.{ap, subst, sym, IsSettledFor, StoreValue}
 use Rattle.purge_task.proofs.taking.make_target.Goals as goal
 
 pub returns-in-Ok-clause-settled : goal.returns-in-Ok-clause-settled

@@ -1,5 +1,4 @@
-use Rattle.std.proofs.Common.{◌∙◌, ◌<◌, length, get_or, arith}
-use Rattle.std.proofs.lemmas.List.{get_or_default}
+use Rattle.purge_task.proofs.Common.{◌∙◌, ◌<◌, length, get_or, arith, get_or_default}
 use Rattle.purge_task.proofs.TakenLemmas.{next_source, taken_more}
 use Rattle.purge_task.proofs.taking.take_files.Goals as goal
 

@@ -1,6 +1,4 @@
-use Rattle.std.proofs.Common.{ap, refl, sym, ◌∙◌, ◌≡◌}
-use Rattle.store_core.specs.Value.{StoreValue}
-use Rattle.purge_task.specs.declared.task.PurgeStage.TheVariants as stage
+use Rattle.purge_task.proofs.Common.{ap, refl, sym, ◌∙◌, ◌≡◌, StoreValue, stage}
 use Rattle.purge_task.proofs.FurtherLemmas.{target_further}
 use Rattle.purge_task.proofs.GoneCallLemmas.{failed_says}
 use Rattle.purge_task.proofs.TargetCallLemmas.{made_says, target_one}

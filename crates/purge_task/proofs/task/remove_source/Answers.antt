@@ -1,13 +1,5 @@
-use Rattle.std.proofs.Common.{ap, refl, subst, sym, ◌+◌, ◌∙◌, ◌≡◌}
+use Rattle.purge_task.proofs.Common.{ap, refl, subst, sym, ◌+◌, ◌∙◌, ◌≡◌, SameButFor, IfTold, reading, file, FileNo, is_doomed_in, IsNextStage, stage, Work, StoreValue}
 use Rattle.std.specs.Prelude.{drop, None}
-use Rattle.disk_model.specs.Disk.{SameButFor, IfTold, reading}
-use Rattle.disk_model.specs.declared.name.FileName.TheVariants as file
-use Rattle.mdbox_base.specs.declared.ids.FileNo.{FileNo}
-use Rattle.storage_files.specs.Files.{is_doomed_in}
-use Rattle.purge_task.specs.Stages.{IsNextStage}
-use Rattle.purge_task.specs.declared.task.PurgeStage.TheVariants as stage
-use Rattle.purge_task.specs.declared.work.Work.{Work}
-use Rattle.store_core.specs.Value.{StoreValue}
 use Rattle.purge_task.proofs.DropLemmas.{next_begun}
 use Rattle.purge_task.proofs.FurtherLemmas.{further_removed}
 use Rattle.purge_task.proofs.GoneCallLemmas.{failed_says}

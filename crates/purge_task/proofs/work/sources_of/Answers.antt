@@ -1,9 +1,6 @@
-use Rattle.std.proofs.Common.{◌+◌, ◌∷◌, ◌++◌, [], List, false, take, sym, subst}
-use Rattle.std.specs.List.{AllZip}
+use Rattle.purge_task.proofs.Common.{◌+◌, ◌∷◌, ◌++◌, [], List, false, take, sym, subst, AllZip, FoundFile, IsNewSource}
 use Rattle.std.proofs.lemmas.List.{take_more}
 use Rattle.purge_task.proofs.WorkLemmas.{zip_push}
-use Rattle.purge_task.specs.declared.finding.FoundFile.{FoundFile}
-use Rattle.purge_task.specs.Reserved.{IsNewSource}
 use Rattle.purge_task.proofs.work.sources_of.Goals as goal
 
 pub loop-found-preserved : goal.loop-found-preserved

@@ -1,6 +1,4 @@
-use Rattle.std.proofs.Common.{take}
-use Rattle.std.specs.List.{AllZip}
-use Rattle.purge_task.specs.Reserved.{IsNewSource}
+use Rattle.purge_task.proofs.Common.{take, AllZip, IsNewSource}
 use Rattle.purge_task.proofs.work.sources_of.Given as goal
 
 abbrev pub invariant-loop-found : goal.invariant-loop-found

@@ -1,6 +1,4 @@
-use Rattle.std.proofs.Common.{sym, ◌∙◌, ap, length, List}
-use Rattle.mdbox_base.specs.declared.entries.MapCount.{MapCount}
-use Rattle.resync_task.specs.WrongCounts.{wrong_of}
+use Rattle.resync_task.proofs.Common.{sym, ◌∙◌, ap, length, List, MapCount, wrong_of}
 use Rattle.task_steps.proofs.OneEventLemmas.{not_true, ok_is_none}
 use Rattle.resync_task.proofs.CorrectingLemmas.{append_rest, entry_due, entry_fits, entry_in_range, few_rows, no_length, right_none, some_taken}
 use Rattle.resync_task.proofs.correcting.put_right.Goals as goal

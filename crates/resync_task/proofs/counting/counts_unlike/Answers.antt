@@ -1,4 +1,4 @@
-use Rattle.std.proofs.Common.{◌+◌, arith}
+use Rattle.resync_task.proofs.Common.{◌+◌, arith}
 use Rattle.resync_task.proofs.UnlikeLemmas.{shown_there, wrong_on}
 use Rattle.resync_task.proofs.counting.counts_unlike.Goals as goal
 

@@ -1,6 +1,5 @@
-use Rattle.std.proofs.Common.{◌≡◌, ◌+◌, take}
+use Rattle.resync_task.proofs.Common.{◌≡◌, ◌+◌, take, wrong_beside}
 use Rattle.store_core.specs.Dues.{number_beside}
-use Rattle.resync_task.specs.WrongCounts.{wrong_beside}
 use Rattle.resync_task.proofs.counting.counts_unlike.Given as goal
 
 -- the wrong counts of the records so far

@@ -1,6 +1,5 @@
-use Rattle.std.proofs.Common.{List, ℕ, sym, subst}
+use Rattle.resync_task.proofs.Common.{List, ℕ, sym, subst, listed_at}
 use Rattle.store_core.specs.Beside.{StandBeside}
-use Rattle.store_core.specs.Dues.{listed_at}
 use Rattle.resync_task.proofs.UnlikeLemmas.{covers_seen, dues_seen, wrong_answered}
 use Rattle.resync_task.proofs.counting.wrong_counts.Goals as goal
 

@@ -1,6 +1,6 @@
-use Rattle.std.proofs.Common.{map, ◌∙◌, ap, take_all, arith}
+use Rattle.resync_task.proofs.Common.{map, ◌∙◌, ap, arith, region_file}
+use Rattle.std.proofs.Common.{take_all}
 use Rattle.store_files.proofs.NumberListLemmas.{region_file_next}
-use Rattle.resync_task.specs.Files.{region_file}
 use Rattle.resync_task.proofs.files.region_files.Goals as goal
 
 pub loop-place-preserved : goal.loop-place-preserved

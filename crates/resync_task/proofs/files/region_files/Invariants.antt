@@ -1,5 +1,4 @@
-use Rattle.std.proofs.Common.{◌≡◌, map, take}
-use Rattle.resync_task.specs.Files.{region_file}
+use Rattle.resync_task.proofs.Common.{◌≡◌, map, take, region_file}
 use Rattle.resync_task.proofs.files.region_files.Given as goal
 
 abbrev pub invariant-loop-place : goal.invariant-loop-place

@@ -1,5 +1,4 @@
-use Rattle.std.proofs.Common.{◌+◌, ℕ, arith, subst}
-use Rattle.resync_task.specs.Window.{EndsBefore, IsHeaderAt}
+use Rattle.resync_task.proofs.Common.{◌+◌, ℕ, arith, subst, EndsBefore, IsHeaderAt}
 use Rattle.resync_task.proofs.ReadLemmas.{only_then}
 use Rattle.resync_task.proofs.RegionEndLemmas.{row_ends, row_other, row_short}
 use Rattle.resync_task.proofs.WindowLemmas.{none_is, piece_back, some_is}

@@ -1,9 +1,7 @@
-use Rattle.std.proofs.Common.{◌+◌, ℕ, refl, sym, ◌∙◌, ap, subst, arith}
+use Rattle.resync_task.proofs.Common.{◌+◌, ℕ, refl, sym, ◌∙◌, ap, subst, arith, IsReadOf, MapRow}
 use Rattle.resync_task.proofs.DamageLemmas.{begins, ends, few_so_far, goes_on, many_then, AreSoFar, next_of, none_of, row_ends, store_sound}
 use Rattle.resync_task.proofs.ReadLemmas.{ok_apart, only_none, only_then, tells_before}
 use Rattle.resync_task.proofs.WindowLemmas.{has_none}
-use Rattle.resync_task.specs.Window.{IsReadOf}
-use Rattle.map_index.specs.Shown.{MapRow}
 use Rattle.resync_task.proofs.reading.read_file.Goals as goal
 use Rattle.resync_task.proofs.reading.read_file.Goals.{then-not-branch, else-not-branch}
 

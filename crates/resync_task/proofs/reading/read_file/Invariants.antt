@@ -1,7 +1,4 @@
-use Rattle.std.proofs.Common.{◌-◌}
-use Rattle.disk_model.specs.FaultCounts.{NoFault}
-use Rattle.resync_task.specs.Reading.{ReadsStoreOnly}
-use Rattle.resync_task.specs.Window.{IsReadOf}
+use Rattle.resync_task.proofs.Common.{◌-◌, NoFault, ReadsStoreOnly, IsReadOf}
 use Rattle.resync_task.proofs.DamageLemmas.{AreSoFar}
 use Rattle.resync_task.proofs.reading.read_file.Given as goal
 

@@ -1,4 +1,4 @@
-use Rattle.std.proofs.Common.{sym, ◌∙◌}
+use Rattle.resync_task.proofs.Common.{sym, ◌∙◌}
 use Rattle.resync_task.proofs.RegionLemmas.{end_of, if_none, no_place, none_stands, some_place}
 use Rattle.resync_task.proofs.region.one_message.Goals as goal
 

@@ -1,4 +1,4 @@
-use Rattle.std.proofs.Common.{refl, arith, length}
+use Rattle.resync_task.proofs.Common.{refl, arith, length}
 use Rattle.resync_task.proofs.BodilessLemmas.{no_message_of, body_is}
 use Rattle.resync_task.proofs.RegionLemmas.{if_none}
 use Rattle.resync_task.proofs.region.tail_of.Goals as goal

@@ -1,6 +1,5 @@
-use Rattle.std.proofs.Common.{rules, ◌≡◌, ◌+◌, ◌++◌, ◌↔◌, ℕ, List, length, take, drop, IsTrue, IfOk, sym, ◌∙◌, ap, subst, arith}
-use Rattle.std.proofs.lemmas.List.{length-take-le}
-use Rattle.resync_task.specs.Damage.{IsMessageWith}
+use Rattle.resync_task.proofs.Common.{◌≡◌, ◌+◌, ◌++◌, ℕ, List, length, take, drop, sym, ◌∙◌, ap, subst, arith, length-take-le, IsMessageWith}
+use Rattle.std.proofs.Common.{rules, ◌↔◌, IsTrue, IfOk}
 use Rattle.resync_task.proofs.BodilessLemmas.{bare_long, framed}
 use Rattle.resync_task.proofs.RegionLemmas.{behind_front}
 use Rattle.resync_task.proofs.window.is_ended.Goals as goal

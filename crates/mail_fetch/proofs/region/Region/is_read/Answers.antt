@@ -1,6 +1,4 @@
-use Rattle.std.proofs.Common.{◌∙◌, ap, arith}
-use Rattle.std.proofs.lemmas.Grind.{common_steps}
-use Rattle.mail_fetch.specs.Region.{RegionValue}
+use Rattle.mail_fetch.proofs.Common.{◌∙◌, ap, arith, common_steps, RegionValue}
 use Rattle.mail_fetch.proofs.PartLemmas.{read_all}
 use Rattle.mail_fetch.proofs.region.Region.is_read.Goals as goal
 

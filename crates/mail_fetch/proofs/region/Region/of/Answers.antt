@@ -1,9 +1,5 @@
-use Rattle.std.proofs.Common.{◌≡◌, ◌≤◌, length, List, All, ◌∙◌, sym, ap, subst, arith}
-use Rattle.std.specs.Prelude.{sum_by}
+use Rattle.mail_fetch.proofs.Common.{◌≡◌, ◌≤◌, length, List, All, ◌∙◌, sym, ap, subst, arith, sum_by, Part, octets_to_read, pieces_left, IsPart}
 use Rattle.std.proofs.lemmas.List.{nil_from_length}
-use Rattle.mail_fetch.specs.declared.parts.Part.{Part}
-use Rattle.mail_fetch.specs.Parts.{octets_to_read, pieces_left}
-use Rattle.mail_fetch.specs.Room.{IsPart}
 use Rattle.mail_fetch.specs.Task.{most_pieces}
 use Rattle.mail_fetch.proofs.PartLemmas.{few_pieces, total_of_parts}
 use Rattle.mail_fetch.proofs.region.Region.of.Goals.{then-instances-gt0, else-instances-gt0}

@@ -1,8 +1,6 @@
-use Rattle.std.proofs.Common.{◌≡◌, ◌<◌, ◌≤◌, ◌+◌, length, take, drop, refl, sym, ◌∙◌, ap, subst, arith}
+use Rattle.mail_fetch.proofs.Common.{◌≡◌, ◌<◌, ◌≤◌, ◌+◌, length, take, drop, refl, sym, ◌∙◌, ap, subst, arith, length-take, RegionValue, pieces_left}
 use Rattle.std.specs.Prelude.{vec_capacity}
-use Rattle.std.proofs.lemmas.List.{length-replicate, length-take}
-use Rattle.mail_fetch.specs.Region.{RegionValue}
-use Rattle.mail_fetch.specs.Parts.{pieces_left}
+use Rattle.std.proofs.lemmas.List.{length-replicate}
 use Rattle.mail_fetch.proofs.PartLemmas.{first_size, known_next, part_next, passed}
 use Rattle.mail_fetch.proofs.PieceLemmas.{room_behind, piece_joins, next_told, piece_seen, room_on}
 use Rattle.mail_fetch.proofs.region.Region.read_next.Goals as goal

@@ -1,10 +1,8 @@
-use Rattle.std.proofs.Common.{refl, sym, ◌∙◌, ap}
+use Rattle.mail_ops.proofs.Common.{refl, sym, ◌∙◌, ap, due_claims, fall}
 use Rattle.mail_ops.proofs.CopyStepLemmas.{copy_known_by, copy_ready, copy_stopped}
 use Rattle.mail_ops.proofs.OnlyLogsLemmas.{halted_keeps}
-use Rattle.task_claims.proofs.RestLemmas.{due_claims}
 use Rattle.mail_ops.specs.Copy.{copy_dues}
 use Rattle.mail_ops.proofs.EndedLemmas.{copy_ended}
-use Rattle.task_steps.proofs.EventLaws.{fall}
 use Rattle.mail_ops.proofs.LeavingLemmas.{copy_leaves_by}
 use Rattle.mail_ops.proofs.copy.CopyTask.step.Goals as goal
 

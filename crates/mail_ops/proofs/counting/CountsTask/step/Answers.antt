@@ -1,7 +1,5 @@
-use Rattle.std.proofs.Common.{sym, ◌∙◌, ap, length}
-use Rattle.std.specs.Prelude.{sum_by}
-use Rattle.list_machine.specs.Machine.{count_different}
-use Rattle.model_meaning.specs.MapMeaning.{MapMeaning}
+use Rattle.mail_ops.proofs.Common.{sym, ◌∙◌, ap, sum_by, count_different, MapMeaning}
+use Rattle.std.proofs.Common.{length}
 use Rattle.mail_ops.specs.Counting.{named_ids}
 use Rattle.mail_ops.proofs.CountsEventLemmas.{counts_stopped, counts_unremembered, counts_done}
 use Rattle.mail_ops.proofs.counting.CountsTask.step.Goals as goal

@@ -1,10 +1,8 @@
-use Rattle.std.proofs.Common.{refl, sym, ◌∙◌, ap}
+use Rattle.mail_ops.proofs.Common.{refl, sym, ◌∙◌, ap, due_claims, fall}
 use Rattle.mail_ops.proofs.ExpungeStepLemmas.{expunge_known, stopped_known}
 use Rattle.mail_ops.proofs.OnlyLogsLemmas.{halted_keeps}
-use Rattle.task_claims.proofs.RestLemmas.{due_claims}
 use Rattle.mail_ops.specs.Expunging.{expunge_dues}
 use Rattle.mail_ops.proofs.EndedLemmas.{expunge_ended}
-use Rattle.task_steps.proofs.EventLaws.{fall}
 use Rattle.mail_ops.proofs.LeavingLemmas.{expunge_leaves_by}
 use Rattle.mail_ops.proofs.expunging.ExpungeTask.step.Goals as goal
 

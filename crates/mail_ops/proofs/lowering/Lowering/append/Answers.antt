@@ -1,11 +1,6 @@
-use Rattle.std.proofs.Common.{◌∙◌, ap, sym, subst, arith}
-use Rattle.mdbox_base.specs.declared.entries.MapEntry.{MapEntry}
+use Rattle.mail_ops.proofs.Common.{◌∙◌, ap, sym, subst, arith, MapEntry, indexes_of, not_true, ok_is_none, MapFits, MapTook, lowering_of}
 use Rattle.model_logs.specs.Entries.{MapInRange}
 use Rattle.store_core.specs.MapAppend.{IsReadyToStore, NamesFirm, drawn_by}
-use Rattle.store_core.specs.Value.{indexes_of}
-use Rattle.task_steps.proofs.OneEventLemmas.{not_true, ok_is_none}
-use Rattle.model_meaning.specs.MapFits.{MapFits}
-use Rattle.mail_ops.specs.Appends.{MapTook, lowering_of}
 use Rattle.mail_ops.proofs.LoweringLemmas.{one_lowered_fits}
 use Rattle.mail_ops.proofs.lowering.Lowering.append.Goals as goal
 

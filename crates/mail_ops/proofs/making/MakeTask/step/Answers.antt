@@ -1,7 +1,6 @@
-use Rattle.std.proofs.Common.{refl, sym, ◌∙◌, ap}
+use Rattle.mail_ops.proofs.Common.{refl, sym, ◌∙◌, ap, fall}
 use Rattle.mail_ops.proofs.OnlyLogsLemmas.{halted_keeps}
 use Rattle.mail_ops.proofs.MakeStepLemmas.{make_known_by, make_stopped}
-use Rattle.task_steps.proofs.EventLaws.{fall}
 use Rattle.mail_ops.proofs.MakeClaimLemmas.{make_changes, make_ended, make_leaves, make_moves}
 use Rattle.mail_ops.proofs.making.MakeTask.step.Goals as goal
 

@@ -1,10 +1,8 @@
-use Rattle.std.proofs.Common.{refl, sym, ◌∙◌, ap}
+use Rattle.mail_ops.proofs.Common.{refl, sym, ◌∙◌, ap, due_claims, fall}
 use Rattle.mail_ops.proofs.MoveStepLemmas.{move_known_by, move_ready, move_stopped}
 use Rattle.mail_ops.proofs.OnlyLogsLemmas.{halted_keeps}
-use Rattle.task_claims.proofs.RestLemmas.{due_claims}
 use Rattle.mail_ops.specs.Moving.{move_dues}
 use Rattle.mail_ops.proofs.EndedLemmas.{move_ended}
-use Rattle.task_steps.proofs.EventLaws.{fall}
 use Rattle.mail_ops.proofs.LeavingLemmas.{move_leaves_by}
 use Rattle.mail_ops.proofs.moving.MoveTask.step.Goals as goal
 

@@ -1,7 +1,6 @@
-use Rattle.std.proofs.Common.{refl, ap}
+use Rattle.mail_ops.proofs.Common.{refl, ap, no_claims}
 use Rattle.mail_ops.proofs.OnlyLogsLemmas.{only_keeps}
 use Rattle.mail_ops.proofs.StageLemmas.{only_event}
-use Rattle.task_claims.specs.Claims.{no_claims}
 use Rattle.task_claims.proofs.RestLemmas.{rest_amounts, same_claims}
 use Rattle.mail_ops.proofs.task.OpsTask.step.Goals as goal
 

@@ -1,4 +1,4 @@
-use Rattle.std.proofs.Common.{rules, ◌<◌, ◌^◌, sym, ◌∙◌}
+use Rattle.mail_save.proofs.Common.{rules, ◌<◌, ◌^◌, sym, ◌∙◌}
 use Rattle.mail_save.proofs.SaveClaimLemmas.{save_ended, save_ends, save_moves, stopped_ends}
 use Rattle.mail_save.proofs.SaveDoesLemmas.{IsOpenStore, seen_does, seen_stopped}
 use Rattle.mail_save.proofs.SaveEventLemmas.{done_goes_on, seen_saves, unfallen}

@@ -1,5 +1,4 @@
-use Rattle.std.proofs.Common.{◌∙◌, sym}
-use Rattle.disk_model.proofs.IdleLemmas.{idle-begins}
+use Rattle.purge_task.proofs.Common.{◌∙◌, sym, idle-begins}
 use Rattle.purge_task.proofs.CleanLemmas.{clean_as_begins, unclean_unfilled}
 use Rattle.purge_task.proofs.contents.Contents.is_clean.Goals as goal
 

@@ -1,4 +1,4 @@
-use Rattle.std.proofs.Common.{sym, ◌∙◌, subst, arith}
+use Rattle.purge_task.proofs.Common.{sym, ◌∙◌, subst, arith}
 use Rattle.purge_task.proofs.ContentsLemmas.{IsWalked, walk_begins, walk_more, walk_ends}
 use Rattle.purge_task.proofs.WalkLemmas.{row_bounds}
 use Rattle.purge_task.proofs.contents.Contents.of.Goals as goal

@@ -1,4 +1,4 @@
-use Rattle.std.proofs.Common.{◌-◌}
+use Rattle.purge_task.proofs.Common.{◌-◌}
 use Rattle.purge_task.proofs.ContentsLemmas.{IsWalked}
 use Rattle.purge_task.proofs.contents.Contents.of.Given as goal
 

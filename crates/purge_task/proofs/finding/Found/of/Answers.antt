@@ -1,5 +1,4 @@
-use Rattle.std.proofs.Common.{◌∙◌, ap, arith}
-use Rattle.store_core.specs.Value.{StoreValue}
+use Rattle.purge_task.proofs.Common.{◌∙◌, ap, arith, StoreValue}
 use Rattle.purge_task.proofs.FindLemmas.{has_found}
 use Rattle.purge_task.proofs.finding.Found.of.Goals as goal
 

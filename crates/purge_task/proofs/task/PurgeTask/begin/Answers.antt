@@ -1,10 +1,6 @@
-use Rattle.std.proofs.Common.{refl, ◌∙◌, ap}
-use Rattle.purge_task.specs.Clause.{at_stage, uncounted}
-use Rattle.purge_task.specs.Keeping.{PurgeValue}
-use Rattle.purge_task.specs.declared.task.PurgeStage.TheVariants as stage
+use Rattle.purge_task.proofs.Common.{refl, ◌∙◌, ap, at_stage, uncounted, PurgeValue, stage, KeepsQuiet}
 use Rattle.purge_task.proofs.DropLemmas.{part_counts, part_tells}
 use Rattle.purge_task.proofs.StepLemmas.{first_part_low, part_left, part_says}
-use Rattle.purge_task.specs.Quiet.{KeepsQuiet}
 use Rattle.purge_task.proofs.QuietStepLemmas.{part_so}
 use Rattle.purge_task.proofs.task.PurgeTask.begin.Goals as goal
 

@@ -1,12 +1,6 @@
-use Rattle.std.proofs.Common.{◌≡◌, ◌+◌, ◌==◌, true, drop, refl, sym, ◌∙◌, ap, subst, arith}
-use Rattle.std.specs.List.{list_any}
-use Rattle.model_meaning.specs.MapMeaning.{MapMeaning}
-use Rattle.purge_task.specs.Clause.{at_stage}
-use Rattle.purge_task.specs.Keeping.{PurgeValue}
-use Rattle.purge_task.specs.declared.task.PurgeStage.TheVariants as stage
+use Rattle.purge_task.proofs.Common.{◌≡◌, ◌+◌, ◌==◌, true, drop, refl, sym, ◌∙◌, ap, subst, arith, list_any, MapMeaning, at_stage, PurgeValue, stage, KeepsQuiet}
 use Rattle.purge_task.proofs.DropLemmas.{part_drops, part_tells, switch_counts, switch_tells}
 use Rattle.purge_task.proofs.StepLemmas.{further_at, part_left, part_low, part_says, switch_left, switch_part, unwanted_first}
-use Rattle.purge_task.specs.Quiet.{KeepsQuiet}
 use Rattle.purge_task.proofs.QuietStepLemmas.{part_so, switch_so}
 use Rattle.purge_task.proofs.task.PurgeTask.begin_file.Goals as goal
 

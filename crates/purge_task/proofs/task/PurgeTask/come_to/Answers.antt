@@ -1,10 +1,4 @@
-use Rattle.std.proofs.Common.{sym, ◌∙◌, ap}
-use Rattle.std.specs.Prelude.{Result}
-use Rattle.mdbox_base.specs.declared.progress.Did.{Did}
-use Rattle.mdbox_base.specs.declared.replies.Refusal.{Refusal}
-use Rattle.purge_task.specs.Clause.{came_to}
-use Rattle.purge_task.specs.declared.task.PurgeStage.{PurgeStage}
-use Rattle.purge_task.specs.declared.task.PurgeStage.TheVariants as stage
+use Rattle.purge_task.proofs.Common.{sym, ◌∙◌, ap, Result, Did, Refusal, came_to, PurgeStage, stage}
 use Rattle.purge_task.proofs.StepLemmas.{came_err, came_ok}
 use Rattle.purge_task.proofs.task.PurgeTask.come_to.Goals as goal
 

@@ -1,13 +1,6 @@
-use Rattle.std.proofs.Common.{◌+◌, drop, refl, sym, subst, arith}
-use Rattle.model_meaning.specs.MapMeaning.{MapMeaning}
-use Rattle.model_meaning.specs.Sound.{IsSoundMap}
-use Rattle.store_core.proofs.BoxAppendLemmas.{store_sound}
-use Rattle.purge_task.specs.Clause.{at_stage}
-use Rattle.purge_task.specs.Copied.{AreUnwantedFrom}
-use Rattle.purge_task.specs.declared.task.PurgeStage.TheVariants as stage
+use Rattle.purge_task.proofs.Common.{◌+◌, drop, refl, sym, subst, arith, MapMeaning, IsSoundMap, store_sound, at_stage, AreUnwantedFrom, stage, KeepsQuiet}
 use Rattle.purge_task.proofs.DropLemmas.{part_drops, part_tells, switch_counts, switch_tells}
 use Rattle.purge_task.proofs.StepLemmas.{copied_first, further_at, part_left, part_low, part_says, switch_left, switch_part}
-use Rattle.purge_task.specs.Quiet.{KeepsQuiet}
 use Rattle.purge_task.proofs.QuietStepLemmas.{part_so, switch_so}
 use Rattle.purge_task.proofs.task.PurgeTask.copy_or_switch.Goals as goal
 

@@ -1,9 +1,6 @@
-use Rattle.std.proofs.Common.{refl, arith}
-use Rattle.purge_task.specs.Clause.{at_stage}
-use Rattle.purge_task.specs.declared.task.PurgeStage.TheVariants as stage
+use Rattle.purge_task.proofs.Common.{refl, arith, at_stage, stage, KeepsQuiet}
 use Rattle.purge_task.proofs.DropLemmas.{part_drops, part_tells}
 use Rattle.purge_task.proofs.StepLemmas.{part_left, part_low, part_says}
-use Rattle.purge_task.specs.Quiet.{KeepsQuiet}
 use Rattle.purge_task.proofs.QuietStepLemmas.{part_so}
 use Rattle.purge_task.proofs.task.PurgeTask.remove_switched.Goals as goal
 

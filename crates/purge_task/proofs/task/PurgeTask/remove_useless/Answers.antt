@@ -1,17 +1,7 @@
-use Rattle.std.proofs.Common.{◌≡◌, ◌+◌, false, refl, sym, ◌∙◌, ap, subst}
-use Rattle.mdbox_base.specs.declared.ids.InstId.{InstId}
-use Rattle.mdbox_base.specs.declared.progress.Progress.TheVariants as progress
-use Rattle.map_index.specs.Shown.{is_instance_named}
-use Rattle.sis_store.specs.Instances.{holders_in, instance_in}
-use Rattle.std.specs.Prelude.{IsSome}
-use Rattle.purge_task.specs.Clause.{at_stage}
-use Rattle.purge_task.specs.Keeping.{PurgeValue}
-use Rattle.purge_task.specs.declared.task.PurgeStage.TheVariants as stage
-use Rattle.store_core.specs.Value.{StoreValue}
+use Rattle.purge_task.proofs.Common.{◌≡◌, ◌+◌, false, refl, sym, ◌∙◌, ap, subst, InstId, progress, is_instance_named, holders_in, instance_in, IsSome, at_stage, PurgeValue, stage, StoreValue, KeepsQuiet}
 use Rattle.purge_task.proofs.DropLemmas.{same_drops}
 use Rattle.purge_task.proofs.GoneCallLemmas.{failed_says, gone_says, stage_as, useless_one}
 use Rattle.purge_task.proofs.StepLemmas.{gone_low}
-use Rattle.purge_task.specs.Quiet.{KeepsQuiet}
 use Rattle.purge_task.proofs.QuietFirstLemmas.{instance_counted}
 use Rattle.purge_task.proofs.QuietOuterLemmas.{gone_quiet}
 use Rattle.purge_task.proofs.task.PurgeTask.remove_useless.Goals as goal

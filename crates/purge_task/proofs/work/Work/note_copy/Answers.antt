@@ -1,4 +1,4 @@
-use Rattle.std.proofs.Common.{refl}
+use Rattle.purge_task.proofs.Common.{refl}
 use Rattle.purge_task.proofs.WorkLemmas.{noted}
 use Rattle.purge_task.proofs.work.Work.note_copy.Goals as goal
 

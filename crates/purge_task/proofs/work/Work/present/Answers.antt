@@ -1,6 +1,4 @@
-use Rattle.std.proofs.Common.{◌∙◌, ◌+◌, ◌∷◌, ap, sym, refl, drop, arith}
-use Rattle.std.proofs.lemmas.List.{drop_more}
-use Rattle.purge_task.specs.declared.work.Source.{Source}
+use Rattle.purge_task.proofs.Common.{◌∙◌, ◌+◌, ◌∷◌, ap, sym, refl, drop, arith, drop_more, Source}
 use Rattle.purge_task.proofs.work.Work.present.Goals as goal
 
 pub returns-clause-some : goal.returns-clause-some

@@ -1,6 +1,4 @@
-use Rattle.std.proofs.Common.{subst, arith}
-use Rattle.model_meaning.specs.MapMeaning.{MapMeaning}
-use Rattle.resync_task.specs.Files.{AreRecordFiles}
+use Rattle.resync_task.proofs.Common.{subst, arith, MapMeaning, AreRecordFiles}
 use Rattle.resync_task.proofs.DamageLemmas.{store_sound}
 use Rattle.resync_task.proofs.FileLemmas.{few_files}
 use Rattle.resync_task.proofs.reading.Reading.of.Goals as goal

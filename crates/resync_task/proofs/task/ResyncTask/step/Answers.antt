@@ -1,6 +1,5 @@
-use Rattle.std.proofs.Common.{sym, ◌∙◌, ap}
+use Rattle.resync_task.proofs.Common.{sym, ◌∙◌, ap, fall}
 use Rattle.resync_task.specs.Task.{ResyncValue, stage_of}
-use Rattle.task_steps.proofs.EventLaws.{fall}
 use Rattle.resync_task.proofs.StepLemmas.{resync_known, stopped_keeps, stopped_known}
 use Rattle.resync_task.proofs.task.ResyncTask.step.Goals as goal
 

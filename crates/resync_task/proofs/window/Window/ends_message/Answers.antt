@@ -1,7 +1,6 @@
-use Rattle.std.proofs.Common.{◌≤◌, ◌++◌, ◌↔◌, ℕ, List, length, take, drop, IsTrue, IfOk, sym, ◌∙◌, ap, subst, arith}
-use Rattle.std.proofs.lemmas.List.{length-take, length-drop, take-take}
-use Rattle.resync_task.specs.Damage.{IsMessageWith}
-use Rattle.resync_task.specs.Window.{WindowPart, bodiless_header}
+use Rattle.resync_task.proofs.Common.{◌≤◌, ◌++◌, ℕ, List, length, take, drop, sym, ◌∙◌, ap, subst, arith, length-take, length-drop, take-take, IsMessageWith, bodiless_header}
+use Rattle.std.proofs.Common.{◌↔◌, IsTrue, IfOk}
+use Rattle.resync_task.specs.Window.{WindowPart}
 use Rattle.resync_task.proofs.BodilessLemmas.{framed_answer}
 use Rattle.resync_task.proofs.WindowLemmas.{same_part}
 use Rattle.resync_task.proofs.window.Window.ends_message.Goals as goal

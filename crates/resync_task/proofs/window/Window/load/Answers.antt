@@ -1,5 +1,4 @@
-use Rattle.std.proofs.Common.{◌+◌, ◌-◌, drop, refl, arith}
-use Rattle.std.proofs.lemmas.List.{length-drop, length-take-le}
+use Rattle.resync_task.proofs.Common.{◌+◌, ◌-◌, drop, refl, arith, length-drop, length-take-le}
 use Rattle.resync_task.proofs.ReadLemmas.{only_none}
 use Rattle.resync_task.proofs.WindowLemmas.{has_piece, loaded, piece_on, window_of}
 use Rattle.resync_task.proofs.window.Window.load.Goals as goal
