@@ -1,10 +1,13 @@
 -- An event of a fetch moves no claims and leaves the others what is theirs, and a fetch that was replied claims nothing.
-use Rattle.mail_fetch.proofs.Common.{◌≡◌, ℕ, Bool, true, false, List, Option, Some, None, inl, inr, refl, sym, ◌∙◌, ap, subst, arith, DiskState, History, IsIdle, file, Progress, progress, Refusal, Reply, StoreValue, Claims, Due, Emptied, Held, Made, Pinned, PlacingPieces, Removing, Taken, Thing}
-use Rattle.mail_fetch.proofs.Common.{amount_in, IsSameOrSynced, LeavesOthers, unraised_same, fetch_claims, IsBegun, fetch_refusal, FetchStage, stage}
+use Rattle.mail_fetch.proofs.Common.{◌≡◌, ℕ, Bool, true, false, List, Option, Some, None, inl, inr, refl, sym, ◌∙◌, ap, subst, arith, DiskState, History, IsIdle, Progress, Refusal, Reply, StoreValue, Claims, Due, Emptied, Held, Made, Pinned, PlacingPieces, Removing, Taken, Thing, amount_in}
+use Rattle.mail_fetch.proofs.Common.{IsSameOrSynced, LeavesOthers, unraised_same, fetch_claims, IsBegun, fetch_refusal, FetchStage}
+use Rattle.disk_model.specs.declared.name.FileName.TheVariants as file
 use Rattle.disk_model.proofs.BetweenLemmas.{between-map}
+use Rattle.mdbox_base.specs.declared.progress.Progress.TheVariants as progress
 use Rattle.task_claims.specs.Claims.{ClaimsNothing}
 use Rattle.task_claims.specs.Leaving.{SyncsMail}
 use Rattle.task_claims.proofs.RestLemmas.{rest_leaves}
+use Rattle.mail_fetch.specs.declared.task.FetchStage.TheVariants as stage
 
 -- nothing but the device has changed
 pub same_amount : {D : Type 0} → (store : StoreValue D) (disk : D) (thing : Thing) → amount_in thing (record store { disk = disk }) ≡ amount_in thing store

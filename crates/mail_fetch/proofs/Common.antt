@@ -13,7 +13,6 @@ pub use Rattle.std.specs.Str.{bytes_eq}
 pub use Rattle.disk_model.proofs.IdleLemmas.{idle-begins}
 pub use Rattle.disk_model.specs.Disk.{DiskState, Faults, Files, Grows, History, IfTold, IsIdle, told_calls}
 pub use Rattle.disk_model.specs.FaultCounts.{NoFault}
-pub use Rattle.disk_model.specs.declared.name.FileName.TheVariants as file
 pub use Rattle.journal.proofs.OwnEventLemmas.{own_more, own_other}
 pub use Rattle.journal.specs.Events.{Around, behind_event, last_refusal, leaves_doomed, next_part, piece_left, pieces_to_read}
 pub use Rattle.journal.specs.Journal.{IsReplyOf, refusal_in}
@@ -24,14 +23,9 @@ pub use Rattle.mdbox_base.specs.declared.ids.FileNo.{FileNo}
 pub use Rattle.mdbox_base.specs.declared.ids.InstId.{InstId}
 pub use Rattle.mdbox_base.specs.declared.ids.Uid.{Uid}
 pub use Rattle.mdbox_base.specs.declared.metadata.ExtRef.{ExtRef}
-pub use Rattle.mdbox_base.specs.declared.progress.Did.TheVariants as did
 pub use Rattle.mdbox_base.specs.declared.progress.Progress.{Progress}
-pub use Rattle.mdbox_base.specs.declared.progress.Progress.TheVariants as progress
 pub use Rattle.mdbox_base.specs.declared.replies.Refusal.{Refusal}
-pub use Rattle.mdbox_base.specs.declared.replies.Refusal.TheVariants as refusal
 pub use Rattle.mdbox_base.specs.declared.replies.Reply.{Reply}
-pub use Rattle.mdbox_base.specs.declared.replies.Reply.TheVariants as reply
-pub use Rattle.mdbox_base.specs.declared.requests.Request.TheVariants as request
 pub use Rattle.model_lists.specs.Lists.{Lists}
 pub use Rattle.model_meaning.specs.BoxMeaning.{BoxMeaning, LogRow, row_at}
 pub use Rattle.model_meaning.specs.MapMeaning.{MapMeaning, MapRecord, named_instances, record_at}
@@ -70,4 +64,3 @@ pub use Rattle.mail_fetch.specs.Task.{HasPieceLeft, one_pin, seen_in}
 pub use Rattle.mail_fetch.specs.declared.parts.Part.{Part}
 pub use Rattle.mail_fetch.specs.declared.parts.StoredAt.{StoredAt}
 pub use Rattle.mail_fetch.specs.declared.task.FetchStage.{FetchStage}
-pub use Rattle.mail_fetch.specs.declared.task.FetchStage.TheVariants as stage

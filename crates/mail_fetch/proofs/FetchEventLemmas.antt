@@ -1,9 +1,12 @@
 -- The events of a fetch, which read the disk at most.
-use Rattle.mail_fetch.proofs.Common.{◌≡◌, ◌+◌, ℕ, Bool, true, false, List, [], ◌∷◌, ◌++◌, Option, Some, None, refl, sym, ◌∙◌, ap, subst, arith, inl, inr, if◌then◌else◌, All-nil, History, Faults, DiskState, IsIdle, told_calls, Grows, NoFault, InstRow, Uid, did, refusal, Reply, reply, request, Lists}
-use Rattle.mail_fetch.proofs.Common.{MapRecord, MapMeaning, IsSettledFor, Leaves, EventPart, First, ReadsPiece, Unpins, RunEvent, Run, and_then, is_one_of, own_events, PartAnswers, IsReplyOf, Around, next_part, behind_event, piece_left, pieces_to_read, KnownInstance, Seen, HasComeTo, pins_of}
-use Rattle.mail_fetch.proofs.Common.{unstepped}
+use Rattle.mail_fetch.proofs.Common.{◌≡◌, ◌+◌, ℕ, Bool, true, false, List, [], ◌∷◌, ◌++◌, Option, Some, None, refl, sym, ◌∙◌, ap, subst, arith, inl, inr, if◌then◌else◌, All-nil, History, Faults, DiskState, IsIdle, told_calls, Grows, NoFault, InstRow, Uid, Reply, Lists, MapRecord, MapMeaning}
+use Rattle.mail_fetch.proofs.Common.{IsSettledFor, Leaves, EventPart, First, ReadsPiece, Unpins, RunEvent, Run, and_then, is_one_of, own_events, PartAnswers, IsReplyOf, Around, next_part, behind_event, piece_left, pieces_to_read, KnownInstance, Seen, HasComeTo, pins_of, unstepped}
 use Rattle.std.specs.Prelude.{◌≢◌, ◌↔◌, ◌⊎◌}
 use Rattle.disk_model.proofs.IdleLemmas.{idle-images}
+use Rattle.mdbox_base.specs.declared.progress.Did.TheVariants as did
+use Rattle.mdbox_base.specs.declared.replies.Refusal.TheVariants as refusal
+use Rattle.mdbox_base.specs.declared.replies.Reply.TheVariants as reply
+use Rattle.mdbox_base.specs.declared.requests.Request.TheVariants as request
 use Rattle.mdbox_base.specs.declared.script.Half.TheVariants as half
 use Rattle.model_kept.proofs.KeptLemmas.{kept_idle}
 use Rattle.model_store.specs.Safe.{Safe}

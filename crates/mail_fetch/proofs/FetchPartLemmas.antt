@@ -1,10 +1,12 @@
 -- Which part of a fetch comes next, by its own events.
 use Rattle.mail_fetch.proofs.Common.{◌≡◌, ◌≤◌, ◌<◌, ◌==◌, ◌&&◌, ◌||◌, ℕ, Bool, true, false, not, cond, List, [], ◌∷◌, ◌++◌, ◌⊎◌, length, Option, Some, None, refl, sym, ◌∙◌, ap, subst, arith, inl, inr, All, sum_by, filter, nat_lt, if◌then◌else◌, list_any, option_or, eqb-true, common_steps, All-cons}
-use Rattle.mail_fetch.proofs.Common.{All-nil, All-head, All-tail, All-weaker, sum_by-cons, Uid, Refusal, refusal, Reply, request, EventPart, First, ReadsPiece, Unpins, RunEvent, Run, Pin, own_events, is_unpinning, has_unpinned, refusal_in, Around, next_part, behind_event, piece_left, last_refusal}
-use Rattle.mail_fetch.proofs.Common.{parts_to_read, pieces_left, one_pin, HasPinned, HasReadAllBut, UnpinsNext, StoredAt}
+use Rattle.mail_fetch.proofs.Common.{All-nil, All-head, All-tail, All-weaker, sum_by-cons, Uid, Refusal, Reply, EventPart, First, ReadsPiece, Unpins, RunEvent, Run, Pin, own_events, is_unpinning, has_unpinned, refusal_in, Around, next_part, behind_event, piece_left, last_refusal, parts_to_read}
+use Rattle.mail_fetch.proofs.Common.{pieces_left, one_pin, HasPinned, HasReadAllBut, UnpinsNext, StoredAt}
 use Rattle.std.specs.Prelude.{count_by, is_none}
 use Rattle.std.proofs.lemmas.List.Elements.{All-append}
+use Rattle.mdbox_base.specs.declared.replies.Refusal.TheVariants as refusal
 use Rattle.mdbox_base.specs.declared.requests.Request.{Request}
+use Rattle.mdbox_base.specs.declared.requests.Request.TheVariants as request
 use Rattle.list_machine.specs.Run.{is_unpinning_part}
 use Rattle.journal.specs.Events.{behind_fetch, behind_refused, is_piece}
 use Rattle.mail_fetch.proofs.OwnPinLemmas.{pins_at_all, own_pins}

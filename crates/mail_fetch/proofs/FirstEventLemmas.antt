@@ -1,7 +1,8 @@
 -- The message that the first event pins.
-use Rattle.mail_fetch.proofs.Common.{inr, ◌⊎◌, ◌≡◌, ◌≤◌, ◌==◌, ◌||◌, ℕ, Bool, true, false, cond, List, [], ◌∷◌, All, refl, Option, Some, None, sym, ◌∙◌, ap, subst, arith, if◌then◌else◌, is_some, list_any, option_map, option_map_or, eq-eqb, All-contains, History, FileNo, refusal, LogRow, BoxMeaning}
-use Rattle.mail_fetch.proofs.Common.{row_at, MapRecord, MapMeaning, record_at, found_one, end_in, IsStore, IsKnownRow, StoreValue, fetch_refusal, IsPinned, RegionValue, stored_at, HasPieceLeft, stage, StoredAt}
+use Rattle.mail_fetch.proofs.Common.{inr, ◌⊎◌, ◌≡◌, ◌≤◌, ◌==◌, ◌||◌, ℕ, Bool, true, false, cond, List, [], ◌∷◌, All, refl, Option, Some, None, sym, ◌∙◌, ap, subst, arith, if◌then◌else◌, is_some, list_any, option_map, option_map_or, eq-eqb, All-contains, History, FileNo, LogRow, BoxMeaning, row_at}
+use Rattle.mail_fetch.proofs.Common.{MapRecord, MapMeaning, record_at, found_one, end_in, IsStore, IsKnownRow, StoreValue, fetch_refusal, IsPinned, RegionValue, stored_at, HasPieceLeft, StoredAt}
 use Rattle.std.specs.Prelude.{find, Result, Ok, Err, IfOk, IsErrAnd, MatchResult}
+use Rattle.mdbox_base.specs.declared.replies.Refusal.TheVariants as refusal
 use Rattle.model_meaning.specs.MapMeaning.{map_meaning}
 use Rattle.model_meaning.specs.Sound.{IsSoundRecord}
 use Rattle.model_store.specs.Listing.{meaning_named}
@@ -10,6 +11,7 @@ use Rattle.store_core.specs.StoreInstances.{HasKnownInstances}
 use Rattle.store_core.specs.Value.{list_named}
 use Rattle.mail_fetch.specs.Events.{IsAbsent}
 use Rattle.mail_fetch.specs.Region.{unread}
+use Rattle.mail_fetch.specs.declared.task.FetchStage.TheVariants as stage
 use Rattle.mail_fetch.proofs.InstanceLemmas.{named_each}
 use Rattle.mail_fetch.proofs.PartLemmas.{octets_of_parts, pieces_of_parts, some_piece}
 use Rattle.mail_fetch.proofs.RecordLemmas.{row_has_record}

@@ -1,8 +1,9 @@
 -- The stage behind the last piece of a message.
-use Rattle.mail_fetch.proofs.Common.{◌≡◌, ◌<◌, ◌+◌, ℕ, suc, List, refl, ◌∙◌, sym, ap, subst, arith, All, Reply, with_piece, pieces_left, RegionValue, IsReplyFor, HasPieceLeft, StoredAt, stage}
+use Rattle.mail_fetch.proofs.Common.{◌≡◌, ◌<◌, ◌+◌, ℕ, suc, List, refl, ◌∙◌, sym, ap, subst, arith, All, Reply, with_piece, pieces_left, RegionValue, IsReplyFor, HasPieceLeft, StoredAt}
 use Rattle.std.proofs.Common.{zero}
 use Rattle.mail_fetch.specs.Events.{GoesOnWith}
 use Rattle.mail_fetch.specs.Parts.{HasSomeOctets}
+use Rattle.mail_fetch.specs.declared.task.FetchStage.TheVariants as stage
 use Rattle.mail_fetch.proofs.PartLemmas.{octets_after, pieces_after}
 
 pub last_piece : (region read : RegionValue) (from : StoredAt) (given : Reply) → read ≡ region → from ≡ read.from → pieces_left read.left ≡ 0 → IsReplyFor read.from read.octets given → GoesOnWith region (stage.Unpinning from given)

@@ -1,11 +1,12 @@
 -- The whole of a message that was read.
-use Rattle.mail_fetch.proofs.Common.{◌≡◌, ◌≤◌, ◌+◌, ◌-◌, ℕ, List, [], ◌∷◌, length, take, drop, Some, None, refl, sym, ◌∙◌, ap, subst, arith, All, length-take, All-cons, All-nil, InstRow, FileNo, ExtRef, refusal, reply, Message, Metadata, NameInstances, octets_to_read, HoldsWhole, IsStoredMessage}
-use Rattle.mail_fetch.proofs.Common.{StoredAt}
+use Rattle.mail_fetch.proofs.Common.{◌≡◌, ◌≤◌, ◌+◌, ◌-◌, ℕ, List, [], ◌∷◌, length, take, drop, Some, None, refl, sym, ◌∙◌, ap, subst, arith, All, length-take, All-cons, All-nil, InstRow, FileNo, ExtRef, Message, Metadata, NameInstances, octets_to_read, HoldsWhole, IsStoredMessage, StoredAt}
 use Rattle.std.specs.Prelude.{Option, IfNone, IfSome}
 use Rattle.std.specs.List.{AllByRecursion}
 use Rattle.std.proofs.lemmas.List.{drop-take, take-take}
 use Rattle.attach_join.specs.Behind.{octets_in}
 use Rattle.mdbox_base.specs.declared.metadata.LineForm.{LineForm}
+use Rattle.mdbox_base.specs.declared.replies.Refusal.TheVariants as refusal
+use Rattle.mdbox_base.specs.declared.replies.Reply.TheVariants as reply
 use Rattle.model_attach.specs.Rejoined.{IsWhole}
 use Rattle.model_base64.specs.Base64Text.{IsForm}
 use Rattle.model_storage.specs.References.{FormFits, ReferenceFits}

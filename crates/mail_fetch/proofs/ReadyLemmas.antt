@@ -1,12 +1,12 @@
 -- Behind each of its events a fetch is ready for the next.
 use Rattle.mail_fetch.proofs.Common.{◌≡◌, ◌≤◌, ◌+◌, ◌-◌, ℕ, suc, Bool, true, false, cond, List, [], ◌∷◌, length, map, Option, inl, inr, refl, sym, ◌∙◌, subst, arith, All, filter, All-cons, All-nil, All-head, All-tail, All-weaker, History, Faults, InstRow, IsKnownRow, StoreValue, AreIn, Claims}
 use Rattle.mail_fetch.proofs.Common.{MovesClaims, amount_in, no_claims, HasClaimed, IsReadyToFetch, claims_of_pinned, with_claims, IsPieceRead, IsPinned, with_piece, has_octets, instance_part, left_after, parts_to_read, pieces_left, region_part, RegionValue, stored_at, Part, StoredAt, FetchStage}
-use Rattle.mail_fetch.proofs.Common.{stage}
 use Rattle.std.proofs.Common.{zero}
 use Rattle.std.proofs.lemmas.List.Elements.{All-map}
 use Rattle.store_core.specs.StoreInstances.{HasKnownInstances}
 use Rattle.mail_fetch.specs.Claims.{IsClaimedPart, IsClaimedTo, IsReadyToRead}
 use Rattle.mail_fetch.specs.Events.{GoesOnWith}
+use Rattle.mail_fetch.specs.declared.task.FetchStage.TheVariants as stage
 use Rattle.mail_fetch.proofs.ClaimLemmas.{same_amount}
 use Rattle.mail_fetch.proofs.HoldLemmas.{rows_held}
 use Rattle.mail_fetch.proofs.InstanceLemmas.{named_each, parts_known}

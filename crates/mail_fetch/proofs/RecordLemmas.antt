@@ -1,12 +1,15 @@
 -- The message that a store lists and the record that stores it, in the lists that it shows.
-use Rattle.mail_fetch.proofs.Common.{◌≡◌, ◌==◌, ℕ, Bool, true, false, cond, List, [], ◌∷◌, map, Option, Some, None, refl, sym, ◌∙◌, ap, subst, All, option_map, bytes_eq, cond-true, All-contains, Files, Uid, refusal, reply, request, Lists, LogRow, BoxMeaning, row_at, MapRecord, MapMeaning}
-use Rattle.mail_fetch.proofs.Common.{named_instances, record_at, found_one, IsThereWhole, First, RunEvent, Run, PartAnswers}
+use Rattle.mail_fetch.proofs.Common.{◌≡◌, ◌==◌, ℕ, Bool, true, false, cond, List, [], ◌∷◌, map, Option, Some, None, refl, sym, ◌∙◌, ap, subst, All, option_map, bytes_eq, cond-true, All-contains, Files, Uid, Lists, LogRow, BoxMeaning, row_at, MapRecord, MapMeaning, named_instances, record_at}
+use Rattle.mail_fetch.proofs.Common.{found_one, IsThereWhole, First, RunEvent, Run, PartAnswers}
 use Rattle.std.proofs.Common.{find}
 use Rattle.std.specs.Prelude.{option_and_then}
 use Rattle.std.specs.List.{AllByRecursion}
 use Rattle.std.proofs.lemmas.Bool.{cond-false}
 use Rattle.mdbox_base.specs.declared.entries.BoxEntry.{BoxEntry}
 use Rattle.mdbox_base.specs.declared.replies.ListRow.{ListRow}
+use Rattle.mdbox_base.specs.declared.replies.Refusal.TheVariants as refusal
+use Rattle.mdbox_base.specs.declared.replies.Reply.TheVariants as reply
+use Rattle.mdbox_base.specs.declared.requests.Request.TheVariants as request
 use Rattle.model_lists.specs.Lists.{ListedMessage, Mailbox, listing_row}
 use Rattle.model_meaning.specs.BoxMeaning.{box_meaning, rows_after}
 use Rattle.model_meaning.specs.MapMeaning.{MapBox, record_of}

@@ -1,14 +1,19 @@
 -- What a fetch says that removes the file which it has unpinned.
 use Rattle.mail_fetch.proofs.Common.{◌≡◌, ◌≢◌, ◌≤◌, ◌<◌, ◌+◌, ◌==◌, ◌&&◌, ◌||◌, ◌⊎◌, ℕ, Bool, true, false, List, [], ◌∷◌, ◌++◌, length, Option, Some, None, refl, sym, ◌∙◌, ap, subst, arith, inl, inr, All, is_some, if◌then◌else◌, option_and_then, option_map, option_map_or, cases_eq, eq-eqb, eqb-true}
-use Rattle.mail_fetch.proofs.Common.{ne_eqb, All-cons, All-contains, All-head, All-nil, All-tail, DiskState, Faults, Grows, History, IfTold, NoFault, file, InstRow, FileNo, Uid, did, progress, refusal, Reply, reply, Lists, MapRecord, record_at, found_one, IsSettledFor, Leaves, files_of, end_in}
-use Rattle.mail_fetch.proofs.Common.{file_in, is_doomed_in, pins_in, MailFile, file-gone, file-without, KeepsInstances, AreElsewhere, StoreValue, Claims, Due, Emptied, Held, Made, MovesClaims, Pinned, PlacingPieces, Removing, Taken, Thing, amount_in, no_claims, one_if, IsSameOrSynced, LeavesOthers}
-use Rattle.mail_fetch.proofs.Common.{unraised_same, fetch_claims, FetchSteps, CanRemove, stage}
+use Rattle.mail_fetch.proofs.Common.{ne_eqb, All-cons, All-contains, All-head, All-nil, All-tail, DiskState, Faults, Grows, History, IfTold, NoFault, InstRow, FileNo, Uid, Reply, Lists, MapRecord, record_at, found_one, IsSettledFor, Leaves, files_of, end_in, file_in, is_doomed_in, pins_in, MailFile}
+use Rattle.mail_fetch.proofs.Common.{file-gone, file-without, KeepsInstances, AreElsewhere, StoreValue, Claims, Due, Emptied, Held, Made, MovesClaims, Pinned, PlacingPieces, Removing, Taken, Thing, amount_in, no_claims, one_if, IsSameOrSynced, LeavesOthers, unraised_same, fetch_claims, FetchSteps}
+use Rattle.mail_fetch.proofs.Common.{CanRemove}
 use Rattle.std.specs.Prelude.{IsSome}
 use Rattle.std.proofs.lemmas.List.{append-nil}
 use Rattle.disk_model.specs.Disk.{SameButFor, reading}
 use Rattle.disk_model.specs.FaultCounts.{ChangeFaultCounted}
 use Rattle.disk_model.specs.declared.name.FileName.{FileName}
+use Rattle.disk_model.specs.declared.name.FileName.TheVariants as file
 use Rattle.disk_model.proofs.BetweenLemmas.{between-map}
+use Rattle.mdbox_base.specs.declared.progress.Did.TheVariants as did
+use Rattle.mdbox_base.specs.declared.progress.Progress.TheVariants as progress
+use Rattle.mdbox_base.specs.declared.replies.Refusal.TheVariants as refusal
+use Rattle.mdbox_base.specs.declared.replies.Reply.TheVariants as reply
 use Rattle.model_kept.specs.Kept.{MailIsKept}
 use Rattle.sis_store.specs.OnDisk.{instance_file}
 use Rattle.storage_files.specs.Files.{AreFilesInOrder, IsUsedFile, is_emptied_in, is_taken_in, place_begun_in, with_pins, without_file}
@@ -20,6 +25,7 @@ use Rattle.task_claims.specs.Leaving.{HasRegionOctets, HaveSameInstances, Leaves
 use Rattle.task_claims.proofs.RestLemmas.{instance_kept, none_placed}
 use Rattle.mail_fetch.specs.Removal.{claims_of_removal}
 use Rattle.mail_fetch.specs.Task.{event_did}
+use Rattle.mail_fetch.specs.declared.task.FetchStage.TheVariants as stage
 use Rattle.mail_fetch.proofs.ClaimLemmas.{fall}
 use Rattle.mail_fetch.proofs.RemovalLemmas.{LeavesFailed, LeavesSettled, fail_steps, removing_steps}
 use Rattle.mail_fetch.proofs.RemovalSeenLemmas.{without}

@@ -1,7 +1,11 @@
 -- The event of a fetch that removes the file which it has unpinned.
-use Rattle.mail_fetch.proofs.Common.{◌≡◌, ◌≤◌, ℕ, true, false, List, [], ◌∷◌, Option, Some, None, refl, sym, ◌∙◌, subst, inl, inr, All-nil, Faults, Grows, History, told_calls, NoFault, FileNo, Uid, did, refusal, Reply, reply, request, Lists, MapMeaning, IsSettledFor, Leaves, RemovesFile, Run}
-use Rattle.mail_fetch.proofs.Common.{RunEvent, is_doomed, is_pinned, own_events, Around, next_part, IsReplyOf, StoreValue, Seen, unstepped, FetchSteps, CanRemove, IsTrueReply, seen_in, stage}
+use Rattle.mail_fetch.proofs.Common.{◌≡◌, ◌≤◌, ℕ, true, false, List, [], ◌∷◌, Option, Some, None, refl, sym, ◌∙◌, subst, inl, inr, All-nil, Faults, Grows, History, told_calls, NoFault, FileNo, Uid, Reply, Lists, MapMeaning, IsSettledFor, Leaves, RemovesFile, Run, RunEvent, is_doomed, is_pinned}
+use Rattle.mail_fetch.proofs.Common.{own_events, Around, next_part, IsReplyOf, StoreValue, Seen, unstepped, FetchSteps, CanRemove, IsTrueReply, seen_in}
 use Rattle.mdbox_base.specs.Streams.{Rose}
+use Rattle.mdbox_base.specs.declared.progress.Did.TheVariants as did
+use Rattle.mdbox_base.specs.declared.replies.Refusal.TheVariants as refusal
+use Rattle.mdbox_base.specs.declared.replies.Reply.TheVariants as reply
+use Rattle.mdbox_base.specs.declared.requests.Request.TheVariants as request
 use Rattle.model_kept.specs.Kept.{MailIsKept}
 use Rattle.model_meaning.specs.MapMeaning.{no_numbers}
 use Rattle.task_steps.specs.Tells.{TellsSame}
@@ -9,6 +13,7 @@ use Rattle.task_steps.proofs.EventLaws.{CanRefuse, did_fall, did_part, ends_well
 use Rattle.task_steps.proofs.KeptStoreLemmas.{StaysSo}
 use Rattle.task_steps.proofs.OneEventLemmas.{never_more}
 use Rattle.task_steps.proofs.SeenLemmas.{no_guids}
+use Rattle.mail_fetch.specs.declared.task.FetchStage.TheVariants as stage
 use Rattle.mail_fetch.proofs.FetchPartLemmas.{last_with}
 use Rattle.mail_fetch.proofs.LastPinLemmas.{both_true, leaves_is, next_removes, removes_by, removes_pins, some_pins}
 use Rattle.mail_fetch.proofs.RemovalSeenLemmas.{removal_comes, removal_event, without}

@@ -2,7 +2,7 @@
 use Rattle.mail_fetch.proofs.Common.{◌≡◌, ◌≢◌, ◌≤◌, ◌+◌, ◌==◌, ◌&&◌, ℕ, Bool, true, false, not, cond, List, [], ◌∷◌, ◌++◌, length, map, get_or, Option, Some, None, refl, sym, ◌∙◌, ap, subst, arith, All, filter, nat_lt, if◌then◌else◌, bytes_eq, cond-true, eq-eqb, eqb-true, ne_eqb, All-cons, All-nil}
 use Rattle.mail_fetch.proofs.Common.{All-head, All-tail, sum_by-cons, Faults, Files, History, InstRow, FileNo, InstId, Reply, MapRecord, files_of, Run, RunEvent, and_then, is_pinned, own_events, leaves_doomed, own_other, is_doomed_in, pins_in, piece_read, holds_of, AreElsewhere, IsKnownRow}
 use Rattle.mail_fetch.proofs.Common.{StoreValue, Held, Pinned, Removing, one_if, HasComeTo, HasClaimed, IsReadyToFetch, claims_of_pinned, fetch_claims, KnowsSource, instance_part, part_read, parts_read, parts_to_read, pieces_left, region_part, source_file, RegionValue, CanRemove, HasReadAllBut}
-use Rattle.mail_fetch.proofs.Common.{IsFrontOfStored, RemovesNext, UnpinsNext, one_pin, seen_in, Part, StoredAt, FetchStage, stage}
+use Rattle.mail_fetch.proofs.Common.{IsFrontOfStored, RemovesNext, UnpinsNext, one_pin, seen_in, Part, StoredAt, FetchStage}
 use Rattle.std.proofs.lemmas.List.{length-append}
 use Rattle.std.proofs.lemmas.Slice.Eq.{bytes_eq-Decides}
 use Rattle.disk_model.specs.declared.name.FileName.TheVariants.{Mail}
@@ -18,6 +18,7 @@ use Rattle.mail_fetch.specs.Removal.{claims_of_removal}
 use Rattle.mail_fetch.specs.Stages.{IsAtFetch, Reading, SparesFile}
 use Rattle.mail_fetch.specs.declared.parts.Source.{Source}
 use Rattle.mail_fetch.specs.declared.parts.Source.TheVariants as source
+use Rattle.mail_fetch.specs.declared.task.FetchStage.TheVariants as stage
 use Rattle.mail_fetch.proofs.HoldLemmas.{holds_few}
 use Rattle.mail_fetch.proofs.LastPinLemmas.{PinsFile, leaves_is, leaves_still, removes_pins}
 use Rattle.mail_fetch.proofs.PartLemmas.{reads_of_parts}

@@ -1,9 +1,13 @@
 -- What a fetch's step says, from one stage to another.
-use Rattle.mail_fetch.proofs.Common.{◌≡◌, ◌+◌, ◌-◌, ℕ, Bool, true, false, List, Option, Some, None, inl, inr, refl, sym, ◌∙◌, ap, subst, arith, if◌then◌else◌, option_map_or, cases_eq, cases_lt, Faults, History, IsIdle, NoFault, idle-begins, Uid, did, Progress, progress, Refusal, refusal, Reply}
-use Rattle.mail_fetch.proofs.Common.{reply, Around, end_in, is_doomed_in, pins_in, MailFile, file-gone, file-without, IsStore, StoreValue, MovesClaims, Thing, amount_in, no_claims, LeavesOthers, HasClaimed, IsReadyToFetch, claims_of_pinned, fetch_claims, with_claims, without_claims, FetchSteps}
-use Rattle.mail_fetch.proofs.Common.{IsBegun, IsPieceRead, fetch_refusal, left_after, pieces_left, RegionValue, is_last_pin, HasPieceLeft, StoredAt, FetchStage, stage}
+use Rattle.mail_fetch.proofs.Common.{◌≡◌, ◌+◌, ◌-◌, ℕ, Bool, true, false, List, Option, Some, None, inl, inr, refl, sym, ◌∙◌, ap, subst, arith, if◌then◌else◌, option_map_or, cases_eq, cases_lt, Faults, History, IsIdle, NoFault, idle-begins, Uid, Progress, Refusal, Reply, Around, end_in}
+use Rattle.mail_fetch.proofs.Common.{is_doomed_in, pins_in, MailFile, file-gone, file-without, IsStore, StoreValue, MovesClaims, Thing, amount_in, no_claims, LeavesOthers, HasClaimed, IsReadyToFetch, claims_of_pinned, fetch_claims, with_claims, without_claims, FetchSteps, IsBegun, IsPieceRead}
+use Rattle.mail_fetch.proofs.Common.{fetch_refusal, left_after, pieces_left, RegionValue, is_last_pin, HasPieceLeft, StoredAt, FetchStage}
 use Rattle.std.specs.Prelude.{◌<◌, ◌≤◌, ◌⊎◌}
 use Rattle.mdbox_base.specs.declared.progress.Did.{Did}
+use Rattle.mdbox_base.specs.declared.progress.Did.TheVariants as did
+use Rattle.mdbox_base.specs.declared.progress.Progress.TheVariants as progress
+use Rattle.mdbox_base.specs.declared.replies.Refusal.TheVariants as refusal
+use Rattle.mdbox_base.specs.declared.replies.Reply.TheVariants as reply
 use Rattle.sis_store.specs.Instances.{InstancesValue}
 use Rattle.storage_files.specs.Files.{FilesValue, without_file}
 use Rattle.task_claims.specs.Claims.{ClaimsNothing}
@@ -15,6 +19,7 @@ use Rattle.mail_fetch.specs.Events.{FetchesNext, IsUnpinned, NoChangeFault}
 use Rattle.mail_fetch.specs.Failed.{HasFailedRead}
 use Rattle.mail_fetch.specs.Removal.{with_file_gone}
 use Rattle.mail_fetch.specs.Task.{FetchValue, event_did, fetch_did}
+use Rattle.mail_fetch.specs.declared.task.FetchStage.TheVariants as stage
 use Rattle.mail_fetch.proofs.ClaimLemmas.{begun_ended, fall, more_is, reading_leaves, reading_moves}
 use Rattle.mail_fetch.proofs.UseLemmas.{doomed_still}
 use Rattle.mail_fetch.proofs.StepLemmas.{begin_steps, last_pin_steps, read_steps, stopped_steps, unpin_steps}

@@ -1,15 +1,20 @@
 -- The clause of a fetch's step, event by event.
 use Rattle.mail_fetch.proofs.Common.{◌≡◌, ◌≤◌, ◌<◌, ◌+◌, ◌-◌, ◌&&◌, ℕ, Bool, true, false, not, cond, List, [], ◌∷◌, ◌++◌, length, Option, Some, None, refl, sym, ◌∙◌, ap, subst, arith, inl, inr, length-append, is_some, nat_lt, sum_by, if◌then◌else◌, list_any, option_map, option_map_or, option_or}
-use Rattle.mail_fetch.proofs.Common.{All-nil, eq-eqb, ne_eqb, cases_lt, DiskState, History, Faults, Files, IfTold, IsIdle, told_calls, NoFault, idle-begins, InstRow, Uid, did, Progress, progress, Refusal, refusal, Reply, reply, request, Lists, LogRow, BoxMeaning, row_at, MapRecord, MapMeaning}
-use Rattle.mail_fetch.proofs.Common.{named_instances, IsThereWhole, files_of, First, ReadsPiece, Unpins, RemovesFile, Pin, RunEvent, Run, and_then, own_events, is_pinned, is_unpinning, has_unpinned, PartAnswers, refusal_in, IsReplyOf, Around, piece_left, leaves_doomed, last_refusal, pieces_to_read}
-use Rattle.mail_fetch.proofs.Common.{own_more, own_other, found_let_go, end_in, is_doomed_in, pins_in, IsStore, StoreValue, AreIn, Seen, HasComeTo, pins_of, unstepped, claims_of_pinned, held_for, with_claims, without_claims, FetchSteps, fetch_refusal, IsBegun, IsPinned, IsPieceRead, next_piece}
-use Rattle.mail_fetch.proofs.Common.{with_piece, left_after, parts_to_read, pieces_left, stored_at, RegionValue, IsReplyFor, is_last_pin, HasPinned, HasReadAllBut, RemovesNext, UnpinsNext, IsFrontOfStored, IsTrueReply, HasPieceLeft, one_pin, seen_in, StoredAt, FetchStage, stage}
+use Rattle.mail_fetch.proofs.Common.{All-nil, eq-eqb, ne_eqb, cases_lt, DiskState, History, Faults, Files, IfTold, IsIdle, told_calls, NoFault, idle-begins, InstRow, Uid, Progress, Refusal, Reply, Lists, LogRow, BoxMeaning, row_at, MapRecord, MapMeaning, named_instances, IsThereWhole, files_of}
+use Rattle.mail_fetch.proofs.Common.{First, ReadsPiece, Unpins, RemovesFile, Pin, RunEvent, Run, and_then, own_events, is_pinned, is_unpinning, has_unpinned, PartAnswers, refusal_in, IsReplyOf, Around, piece_left, leaves_doomed, last_refusal, pieces_to_read, own_more, own_other, found_let_go}
+use Rattle.mail_fetch.proofs.Common.{end_in, is_doomed_in, pins_in, IsStore, StoreValue, AreIn, Seen, HasComeTo, pins_of, unstepped, claims_of_pinned, held_for, with_claims, without_claims, FetchSteps, fetch_refusal, IsBegun, IsPinned, IsPieceRead, next_piece, with_piece, left_after, parts_to_read}
+use Rattle.mail_fetch.proofs.Common.{pieces_left, stored_at, RegionValue, IsReplyFor, is_last_pin, HasPinned, HasReadAllBut, RemovesNext, UnpinsNext, IsFrontOfStored, IsTrueReply, HasPieceLeft, one_pin, seen_in, StoredAt, FetchStage}
 use Rattle.std.specs.Prelude.{All, ◌⊎◌, ◌≢◌}
 use Rattle.std.proofs.lemmas.List.Elements.{All-push}
 use Rattle.mdbox_base.specs.Streams.{Rose}
 use Rattle.mdbox_base.specs.declared.entries.MapEntry.{MapEntry}
 use Rattle.mdbox_base.specs.declared.progress.Did.{Did}
+use Rattle.mdbox_base.specs.declared.progress.Did.TheVariants as did
+use Rattle.mdbox_base.specs.declared.progress.Progress.TheVariants as progress
 use Rattle.mdbox_base.specs.declared.replies.ListRow.{ListRow}
+use Rattle.mdbox_base.specs.declared.replies.Refusal.TheVariants as refusal
+use Rattle.mdbox_base.specs.declared.replies.Reply.TheVariants as reply
+use Rattle.mdbox_base.specs.declared.requests.Request.TheVariants as request
 use Rattle.mdbox_base.specs.declared.script.Half.TheVariants as half
 use Rattle.model_meaning.specs.MapMeaning.{map_meaning, no_numbers, record_of}
 use Rattle.model_meaning.specs.Sound.{IsSoundMap}
@@ -32,6 +37,7 @@ use Rattle.mail_fetch.specs.Failed.{HasFailedRead}
 use Rattle.mail_fetch.specs.Region.{unread}
 use Rattle.mail_fetch.specs.Stages.{ReadPiece, IsPieceRefusal, SparesFile, StoresListed, Reading, IsAtFetch}
 use Rattle.mail_fetch.specs.Task.{fetch_did, pins_kept_in, refusing_did}
+use Rattle.mail_fetch.specs.declared.task.FetchStage.TheVariants as stage
 use Rattle.mail_fetch.proofs.InstanceLemmas.{pieces_told}
 use Rattle.mail_fetch.proofs.LastPinLemmas.{PinsFile, last_is, leaves_is, leaves_still, next_removes, pins_file, pins_file_more, removes_pins}
 use Rattle.mail_fetch.proofs.OwnPinLemmas.{pins_at_all, pins_begin, pins_end}

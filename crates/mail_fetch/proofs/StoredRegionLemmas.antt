@@ -1,10 +1,11 @@
 -- A message that is read piece by piece, as the disk stores it.
 use Rattle.mail_fetch.proofs.Common.{◌≡◌, ◌+◌, ℕ, List, [], ◌∷◌, ◌++◌, length, take, drop, map, Some, refl, sym, ◌∙◌, ap, subst, arith, inl, inr, All, append_assoc, append-nil, length-append, sum_by, take-append_seam, take_all, length-take, length-drop, All-head, All-tail, sum_by-cons, Files}
-use Rattle.mail_fetch.proofs.Common.{DiskState, InstRow, ExtRef, Reply, reply, LogRow, MapRecord, Message, Metadata, IsThereWhole, files_of, piece_read, next_piece, with_piece, instance_part, left_after, octets_to_read, part_read, parts_to_read, parts_read, pieces_left, region_part, RegionValue}
+use Rattle.mail_fetch.proofs.Common.{DiskState, InstRow, ExtRef, Reply, LogRow, MapRecord, Message, Metadata, IsThereWhole, files_of, piece_read, next_piece, with_piece, instance_part, left_after, octets_to_read, part_read, parts_to_read, parts_read, pieces_left, region_part, RegionValue}
 use Rattle.mail_fetch.proofs.Common.{HoldsWhole, IsReplyFor, IsStoredMessage, stored_at, IsFrontOfStored, IsTrueReply, StoredAt}
 use Rattle.std.proofs.Math.Seq.{drop-append_seam}
 use Rattle.attach_join.specs.Behind.{octets_in}
 use Rattle.disk_model.specs.declared.name.FileName.TheVariants.{Inst}
+use Rattle.mdbox_base.specs.declared.replies.Reply.TheVariants as reply
 use Rattle.model_attach.specs.Rejoined.{IsWhole, IsWholeFrom, part_text}
 use Rattle.model_storage.specs.StorageFile.{IsMessage}
 use Rattle.model_store.specs.Stands.{StoresMessage, HasInstances}

@@ -1,13 +1,14 @@
 -- What pins and holds change of a store, and what they leave of it.
 use Rattle.mail_fetch.proofs.Common.{is_some, nat_lt, list_any, option_map, option_map_or, option_and_then, bytes_eq, ◌≡◌, ◌≢◌, ◌≤◌, ◌+◌, ◌-◌, ◌==◌, ◌&&◌, ◌||◌, inl, inr, ℕ, Bool, true, false, List, [], ◌∷◌, ◌++◌, Option, Some, None, All, refl, sym, ◌∙◌, ap, subst, arith, cases_eq, cond-true}
-use Rattle.mail_fetch.proofs.Common.{eq-eqb, eqb-true, ne_eqb, All-head, All-tail, All-weaker, Faults, History, file, idle-begins, InstRow, InstId, MapRecord, found_let_go, holders_in, KnownInstance, end_in, file_in, is_doomed_in, pins_in, MailFile, KeepsInstances, MovesHolds, holds_of}
-use Rattle.mail_fetch.proofs.Common.{AreElsewhere, StoreValue, AreIn, Claims, Due, Emptied, Held, Made, MovesClaims, Pinned, PlacingPieces, Removing, Taken, Thing, no_claims, one_if, LeavesOthers, IsSameOrSynced, unraised_same, Seen, claims_of_pinned, held_for, with_claims, without_claims}
-use Rattle.mail_fetch.proofs.Common.{CanRemove, is_last_pin, one_pin, seen_in, StoredAt}
+use Rattle.mail_fetch.proofs.Common.{eq-eqb, eqb-true, ne_eqb, All-head, All-tail, All-weaker, Faults, History, idle-begins, InstRow, InstId, MapRecord, found_let_go, holders_in, KnownInstance, end_in, file_in, is_doomed_in, pins_in, MailFile, KeepsInstances, MovesHolds, holds_of, AreElsewhere}
+use Rattle.mail_fetch.proofs.Common.{StoreValue, AreIn, Claims, Due, Emptied, Held, Made, MovesClaims, Pinned, PlacingPieces, Removing, Taken, Thing, no_claims, one_if, LeavesOthers, IsSameOrSynced, unraised_same, Seen, claims_of_pinned, held_for, with_claims, without_claims, CanRemove, is_last_pin}
+use Rattle.mail_fetch.proofs.Common.{one_pin, seen_in, StoredAt}
 use Rattle.std.specs.Prelude.{map, nat_le}
 use Rattle.std.proofs.Math.Path.{fun_ext}
 use Rattle.std.proofs.lemmas.Bool.{cond-false}
 use Rattle.std.proofs.lemmas.List.{append-nil}
 use Rattle.disk_model.specs.Disk.{reading}
+use Rattle.disk_model.specs.declared.name.FileName.TheVariants as file
 use Rattle.disk_model.proofs.BetweenLemmas.{between-begins}
 use Rattle.model_meaning.specs.MapMeaning.{is_own, number_at}
 use Rattle.sis_store.specs.Instances.{instance_in}

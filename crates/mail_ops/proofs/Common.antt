@@ -21,27 +21,18 @@ pub use Rattle.list_machine.specs.Machine.{HasMailbox, HasUid, PartAnswers, coun
 pub use Rattle.list_machine.specs.Run.{BoxAppend, EventPart, First, GivesBack, Last, Run, RunEvent, StartsOver, and_then, drawn_also, event_of, map_of, own_events, source_of, uid_copied}
 pub use Rattle.mdbox_base.specs.Words.{IsNumber}
 pub use Rattle.mdbox_base.specs.declared.entries.BoxEntry.{BoxEntry}
-pub use Rattle.mdbox_base.specs.declared.entries.BoxEntry.TheVariants as box_entry
-pub use Rattle.mdbox_base.specs.declared.entries.BoxEntry.TheVariants as entry
 pub use Rattle.mdbox_base.specs.declared.entries.Highest.{Highest}
 pub use Rattle.mdbox_base.specs.declared.entries.MapEntry.{MapEntry}
-pub use Rattle.mdbox_base.specs.declared.entries.MapEntry.TheVariants as map_entry
 pub use Rattle.mdbox_base.specs.declared.ids.BoxNo.{BoxNo}
 pub use Rattle.mdbox_base.specs.declared.ids.MapUid.{MapUid}
 pub use Rattle.mdbox_base.specs.declared.ids.Uid.{Uid}
 pub use Rattle.mdbox_base.specs.declared.progress.Did.{Did}
-pub use Rattle.mdbox_base.specs.declared.progress.Did.TheVariants as did
 pub use Rattle.mdbox_base.specs.declared.progress.Progress.{Progress}
-pub use Rattle.mdbox_base.specs.declared.progress.Progress.TheVariants as progress
 pub use Rattle.mdbox_base.specs.declared.replies.ListRow.{ListRow}
 pub use Rattle.mdbox_base.specs.declared.replies.Refusal.{Refusal}
-pub use Rattle.mdbox_base.specs.declared.replies.Refusal.TheVariants as refusal
 pub use Rattle.mdbox_base.specs.declared.replies.Reply.{Reply}
-pub use Rattle.mdbox_base.specs.declared.replies.Reply.TheVariants as reply
 pub use Rattle.mdbox_base.specs.declared.requests.Request.{Request}
-pub use Rattle.mdbox_base.specs.declared.requests.Request.TheVariants as request
 pub use Rattle.mdbox_base.specs.declared.script.Half.{Half}
-pub use Rattle.mdbox_base.specs.declared.script.Half.TheVariants as half
 pub use Rattle.model_appends.specs.Appending.{lists_by, meanings_by}
 pub use Rattle.model_kept.specs.Kept.{MailIsKept}
 pub use Rattle.model_lists.specs.Lists.{AreWellFormed, ListedMessage, Lists, Mailbox, listing_row}
@@ -87,11 +78,7 @@ pub use Rattle.mail_ops.specs.Moving.{IsReadyToMove, MovesOn}
 pub use Rattle.mail_ops.specs.OnlyLogs.{ChangesOnlyLogs}
 pub use Rattle.mail_ops.specs.Owing.{AreDueIn}
 pub use Rattle.mail_ops.specs.declared.copy.CopyStage.{CopyStage}
-pub use Rattle.mail_ops.specs.declared.copy.CopyStage.TheVariants as copy_stage
 pub use Rattle.mail_ops.specs.declared.event.NotDone.{NotDone}
-pub use Rattle.mail_ops.specs.declared.event.NotDone.TheVariants as not_done
 pub use Rattle.mail_ops.specs.declared.expunging.ExpungeStage.{ExpungeStage}
 pub use Rattle.mail_ops.specs.declared.making.MakeStage.{MakeStage}
-pub use Rattle.mail_ops.specs.declared.making.MakeStage.TheVariants as stage
 pub use Rattle.mail_ops.specs.declared.moving.MoveStage.{MoveStage}
-pub use Rattle.mail_ops.specs.declared.moving.MoveStage.TheVariants as move_stage

@@ -1,9 +1,10 @@
 -- What the calls of a copy ask and tell of a store.
-use Rattle.mail_ops.proofs.Common.{◌≡◌, ◌≤◌, ◌<◌, ◌+◌, ◌==◌, ℕ, Bool, true, false, cond, List, [], ◌∷◌, map, Option, Some, None, refl, sym, ◌∙◌, ap, subst, arith, find, is_some, count_by, if◌then◌else◌, option_map_or, bytes_eq, eq-eqb, sum_by-cons, History, BoxEntry, Refusal, refusal, LogRow}
-use Rattle.mail_ops.proofs.Common.{BoxMeaning, box_meaning, row_at, MapRecord, MapBox, MapMeaning, map_meaning, record_at, equal_is, meaning_named, KeepsUid, IsStore, StoreValue, list_named, number_named, room_refusal, copy_refusal, IsRowOf}
+use Rattle.mail_ops.proofs.Common.{◌≡◌, ◌≤◌, ◌<◌, ◌+◌, ◌==◌, ℕ, Bool, true, false, cond, List, [], ◌∷◌, map, Option, Some, None, refl, sym, ◌∙◌, ap, subst, arith, find, is_some, count_by, if◌then◌else◌, option_map_or, bytes_eq, eq-eqb, sum_by-cons, History, BoxEntry, Refusal, LogRow, BoxMeaning}
+use Rattle.mail_ops.proofs.Common.{box_meaning, row_at, MapRecord, MapBox, MapMeaning, map_meaning, record_at, equal_is, meaning_named, KeepsUid, IsStore, StoreValue, list_named, number_named, room_refusal, copy_refusal, IsRowOf}
 use Rattle.std.specs.List.{AllByRecursion}
 use Rattle.std.specs.Option.{IfSome}
 use Rattle.std.proofs.lemmas.List.Elements.{All-contains}
+use Rattle.mdbox_base.specs.declared.replies.Refusal.TheVariants as refusal
 use Rattle.model_meaning.specs.BoxMeaning.{rows_after}
 use Rattle.model_meaning.specs.MapMeaning.{box_named, count_of}
 use Rattle.model_meaning.specs.MapFits.{HasRecord}

@@ -1,8 +1,12 @@
 -- The first event of a copy or a move, by the clause of a step: the count is raised, or it is refused.
 use Rattle.mail_ops.proofs.Common.{MapFits, nat_tests, ◌≡◌, ◌≤◌, ◌<◌, ◌+◌, ℕ, Bool, true, false, List, [], ◌∷◌, Option, Some, None, refl, sym, ◌∙◌, ap, subst, arith, inl, inr, ◌⊎◌, flat_map, nat_le, length, slice_get, is_some, if◌then◌else◌, option_map_or, option_or, common_steps, History, Faults}
-use Rattle.mail_ops.proofs.Common.{told_calls, map_entry, BoxNo, MapUid, Uid, Did, did, Refusal, refusal, Reply, reply, Request, Half, ListedMessage, Lists, LogRow, BoxMeaning, row_at, MapMeaning, record_of, map_applied, no_numbers, ShowLists, First, RunEvent, event_of, Run, and_then, own_events}
-use Rattle.mail_ops.proofs.Common.{map_of, first_refusal, refused_where, part_checks, is_step, halves_of, Around, last_refusal, next_part, due_at, IsStore, StoreValue, indexes_of, list_named, one_due, HasComeTo, HasNotBegun, Steps, MapFell, IsHolding, copy_refusal, room_refusal, raising_of}
-use Rattle.mail_ops.proofs.Common.{RaisesRow, IsRaiseRefusal, seen_of, CanRefuse, did_check, did_fall, did_forget, did_own, did_stop, ends_well, no_reply, own_event, refuses, replied_so, stands_by, stays_left, stays_itself, first_reply, never_more, nothing}
+use Rattle.mail_ops.proofs.Common.{told_calls, BoxNo, MapUid, Uid, Did, Refusal, Reply, Request, Half, ListedMessage, Lists, LogRow, BoxMeaning, row_at, MapMeaning, record_of, map_applied, no_numbers, ShowLists, First, RunEvent, event_of, Run, and_then, own_events, map_of, first_refusal}
+use Rattle.mail_ops.proofs.Common.{refused_where, part_checks, is_step, halves_of, Around, last_refusal, next_part, due_at, IsStore, StoreValue, indexes_of, list_named, one_due, HasComeTo, HasNotBegun, Steps, MapFell, IsHolding, copy_refusal, room_refusal, raising_of, RaisesRow, IsRaiseRefusal}
+use Rattle.mail_ops.proofs.Common.{seen_of, CanRefuse, did_check, did_fall, did_forget, did_own, did_stop, ends_well, no_reply, own_event, refuses, replied_so, stands_by, stays_left, stays_itself, first_reply, never_more, nothing}
+use Rattle.mdbox_base.specs.declared.entries.MapEntry.TheVariants as map_entry
+use Rattle.mdbox_base.specs.declared.progress.Did.TheVariants as did
+use Rattle.mdbox_base.specs.declared.replies.Refusal.TheVariants as refusal
+use Rattle.mdbox_base.specs.declared.replies.Reply.TheVariants as reply
 use Rattle.model_meaning.specs.MapMeaning.{count_of}
 use Rattle.list_machine.specs.Run.{uid_added}
 use Rattle.list_machine.specs.Machine.{MayBeCopied}

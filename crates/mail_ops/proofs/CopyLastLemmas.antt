@@ -1,9 +1,14 @@
 -- The second event of a copy or a move, by the clause of a step: the message is added, or it is refused, and the count given back.
-use Rattle.mail_ops.proofs.Common.{All-nil, common_steps, nat_tests, ◌≡◌, ◌≤◌, ◌+◌, ℕ, Bool, true, false, List, [], ◌∷◌, ◌++◌, map, Option, Some, None, refl, sym, ◌∙◌, ap, subst, arith, inl, inr, ◌⊎◌, length, slice_get, if◌then◌else◌, option_or, eq-eqb, ne_eqb, History, Faults, told_calls}
-use Rattle.mail_ops.proofs.Common.{box_entry, MapEntry, MapUid, Uid, did, ListRow, Refusal, refusal, Reply, reply, Request, request, Half, lists_by, meanings_by, ListedMessage, Mailbox, Lists, AreWellFormed, listing_row, LogRow, BoxMeaning, MapMeaning, map_meaning, no_numbers, listed_row, ShowLists}
-use Rattle.mail_ops.proofs.Common.{IsSettledFor, Leaves, First, Last, GivesBack, RunEvent, event_of, Run, and_then, map_of, own_events, first_refusal, part_checks, is_step, mailbox_named, answers_well, halves_of, IsReplyOf, Around, is_elsewhere, last_refusal, next_part, own_more, own_other, Brings}
-use Rattle.mail_ops.proofs.Common.{due_at, IsStore, StoreValue, indexes_of, one_due, number_named, HasComeTo, IsKept, MapTook, MapFell, lowering_of, IsHolding, copy_refusal, added_copy, AddsRow, FellAdding, seen_of, CanRefuse, did_check, did_fall, did_forget, did_own, did_stop, ends_well, no_reply}
-use Rattle.mail_ops.proofs.Common.{own_event, refuses, replied_so, some_reply, stands_by, stays_left, comes_along, stays_itself, first_reply, never_more, nothing}
+use Rattle.mail_ops.proofs.Common.{All-nil, common_steps, nat_tests, ◌≡◌, ◌≤◌, ◌+◌, ℕ, Bool, true, false, List, [], ◌∷◌, ◌++◌, map, Option, Some, None, refl, sym, ◌∙◌, ap, subst, arith, inl, inr, ◌⊎◌, length, slice_get, if◌then◌else◌, option_or, eq-eqb, ne_eqb, History, Faults, told_calls, MapEntry}
+use Rattle.mail_ops.proofs.Common.{MapUid, Uid, ListRow, Refusal, Reply, Request, Half, lists_by, meanings_by, ListedMessage, Mailbox, Lists, AreWellFormed, listing_row, LogRow, BoxMeaning, MapMeaning, map_meaning, no_numbers, listed_row, ShowLists, IsSettledFor, Leaves, First, Last, GivesBack}
+use Rattle.mail_ops.proofs.Common.{RunEvent, event_of, Run, and_then, map_of, own_events, first_refusal, part_checks, is_step, mailbox_named, answers_well, halves_of, IsReplyOf, Around, is_elsewhere, last_refusal, next_part, own_more, own_other, Brings, due_at, IsStore, StoreValue, indexes_of}
+use Rattle.mail_ops.proofs.Common.{one_due, number_named, HasComeTo, IsKept, MapTook, MapFell, lowering_of, IsHolding, copy_refusal, added_copy, AddsRow, FellAdding, seen_of, CanRefuse, did_check, did_fall, did_forget, did_own, did_stop, ends_well, no_reply, own_event, refuses, replied_so}
+use Rattle.mail_ops.proofs.Common.{some_reply, stands_by, stays_left, comes_along, stays_itself, first_reply, never_more, nothing}
+use Rattle.mdbox_base.specs.declared.entries.BoxEntry.TheVariants as box_entry
+use Rattle.mdbox_base.specs.declared.progress.Did.TheVariants as did
+use Rattle.mdbox_base.specs.declared.replies.Refusal.TheVariants as refusal
+use Rattle.mdbox_base.specs.declared.replies.Reply.TheVariants as reply
+use Rattle.mdbox_base.specs.declared.requests.Request.TheVariants as request
 use Rattle.mdbox_base.specs.declared.script.Half.TheVariants as half_is
 use Rattle.model_appends.specs.Amounts.{due_by_box}
 use Rattle.model_store.specs.Settled.{files_of}

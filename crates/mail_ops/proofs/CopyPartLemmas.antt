@@ -1,7 +1,10 @@
 -- What the events of copies and of moves have in common.
-use Rattle.mail_ops.proofs.Common.{◌≡◌, ◌==◌, ◌||◌, ℕ, Bool, true, false, not, cond, List, [], ◌∷◌, Option, Some, None, refl, sym, ◌∙◌, ap, arith, common_steps, nat_tests, is_some, slice_get, option_map, option_map_or, eq-eqb, MapUid, Uid, Refusal, refusal, Reply, reply, Request, request, Half}
-use Rattle.mail_ops.proofs.Common.{half, Lists, MapBox, EventPart, First, Last, GivesBack, StartsOver, RunEvent, Run, map_of, own_events, source_of, uid_copied, PartAnswers, first_refusal, part_checks, is_step, halves_of, IsReplyOf, Around, is_elsewhere, last_refusal, next_part, number_named}
-use Rattle.mail_ops.proofs.Common.{IsHolding}
+use Rattle.mail_ops.proofs.Common.{◌≡◌, ◌==◌, ◌||◌, ℕ, Bool, true, false, not, cond, List, [], ◌∷◌, Option, Some, None, refl, sym, ◌∙◌, ap, arith, common_steps, nat_tests, is_some, slice_get, option_map, option_map_or, eq-eqb, MapUid, Uid, Refusal, Reply, Request, Half, Lists, MapBox, EventPart}
+use Rattle.mail_ops.proofs.Common.{First, Last, GivesBack, StartsOver, RunEvent, Run, map_of, own_events, source_of, uid_copied, PartAnswers, first_refusal, part_checks, is_step, halves_of, IsReplyOf, Around, is_elsewhere, last_refusal, next_part, number_named, IsHolding}
+use Rattle.mdbox_base.specs.declared.replies.Refusal.TheVariants as refusal
+use Rattle.mdbox_base.specs.declared.replies.Reply.TheVariants as reply
+use Rattle.mdbox_base.specs.declared.requests.Request.TheVariants as request
+use Rattle.mdbox_base.specs.declared.script.Half.TheVariants as half
 use Rattle.model_meaning.specs.MapMeaning.{box_named}
 use Rattle.list_machine.specs.Machine.{IsCopied, RequestInRange, copy_checks}
 use Rattle.journal.specs.Journal.{half_of}

@@ -1,8 +1,9 @@
 -- A message that can be copied, in the lists that a store shows.
-use Rattle.mail_ops.proofs.Common.{◌≡◌, ℕ, List, ◌∷◌, map, Option, Some, None, refl, sym, ◌∙◌, ap, subst, arith, common_steps, nat_tests, nat_le, is_some, if◌then◌else◌, option_map, option_map_or, option_or, Refusal, refusal, ListedMessage, Lists, listing_row, LogRow, BoxMeaning, row_at, listed_row}
+use Rattle.mail_ops.proofs.Common.{◌≡◌, ℕ, List, ◌∷◌, map, Option, Some, None, refl, sym, ◌∙◌, ap, subst, arith, common_steps, nat_tests, nat_le, is_some, if◌then◌else◌, option_map, option_map_or, option_or, Refusal, ListedMessage, Lists, listing_row, LogRow, BoxMeaning, row_at, listed_row}
 use Rattle.mail_ops.proofs.Common.{ShowLists, Run, HasMailbox, HasUid, first_refusal, refused_where, message_in, StoreValue, indexes_of, list_named, room_refusal, copy_refusal}
 use Rattle.std.proofs.Common.{length}
 use Rattle.std.proofs.lemmas.List.{length-map}
+use Rattle.mdbox_base.specs.declared.replies.Refusal.TheVariants as refusal
 use Rattle.list_machine.specs.Machine.{Check, RoomForMessage, NextUid}
 use Rattle.mail_ops.proofs.FlagListLemmas.{found_row, none_there, some_there}
 pub use Rattle.mail_ops.proofs.NamedListLemmas.{ShownBox, ShowsBox, shows_box}

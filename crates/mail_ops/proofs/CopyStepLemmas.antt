@@ -1,9 +1,16 @@
 -- What the step of a copy says, event by event.
-use Rattle.mail_ops.proofs.Common.{◌≡◌, ◌<◌, ℕ, true, false, List, Option, Some, None, refl, sym, subst, arith, inl, inr, ◌⊎◌, History, Faults, BoxNo, MapUid, Uid, Did, did, Progress, progress, Refusal, refusal, reply, request, half, due_at, Moves, amounts_in, KeepsRest, IsStore, StoreValue}
-use Rattle.mail_ops.proofs.Common.{moves_as, IsKept, ended_by, not_begun_stays, MapTook, MapFell, lowering_of, CopiesOn, copy_refusal, RaisesRow, IsRaiseRefusal, IsNotRaised, AddsRow, FellAdding, ChangesOnlyLogs, refusal_told, told_as, CopyStage, NotDone, not_done, due_as_before}
+use Rattle.mail_ops.proofs.Common.{◌≡◌, ◌<◌, ℕ, true, false, List, Option, Some, None, refl, sym, subst, arith, inl, inr, ◌⊎◌, History, Faults, BoxNo, MapUid, Uid, Did, Progress, Refusal, due_at, Moves, amounts_in, KeepsRest, IsStore, StoreValue, moves_as, IsKept, ended_by, not_begun_stays, MapTook}
+use Rattle.mail_ops.proofs.Common.{MapFell, lowering_of, CopiesOn, copy_refusal, RaisesRow, IsRaiseRefusal, IsNotRaised, AddsRow, FellAdding, ChangesOnlyLogs, refusal_told, told_as, CopyStage, NotDone, due_as_before}
+use Rattle.mdbox_base.specs.declared.progress.Did.TheVariants as did
+use Rattle.mdbox_base.specs.declared.progress.Progress.TheVariants as progress
+use Rattle.mdbox_base.specs.declared.replies.Refusal.TheVariants as refusal
+use Rattle.mdbox_base.specs.declared.replies.Reply.TheVariants as reply
+use Rattle.mdbox_base.specs.declared.requests.Request.TheVariants as request
+use Rattle.mdbox_base.specs.declared.script.Half.TheVariants as half
 use Rattle.mail_ops.specs.Copy.{CopyValue, IsAtCopy, copy_amounts, copy_left, IsReadyToCopy, CopyAnswers}
 use Rattle.mail_ops.specs.Copying.{MayBeRaised}
 use Rattle.mail_ops.specs.declared.copy.CopyStage.TheVariants as stage
+use Rattle.mail_ops.specs.declared.event.NotDone.TheVariants as not_done
 use Rattle.mail_ops.proofs.CopyFirstLemmas.{CopyingClause, back_runs, raise_done, raise_fell, raise_refused, raise_steps, raise_stopped, raise_unremembered}
 use Rattle.mail_ops.proofs.CopyLastLemmas.{added_due, add_stopped, add_refused, add_unremembered, add_fell, copy_added, back_stopped, back_fell, given_back, holding_kept, giving_back_kept}
 use Rattle.mail_ops.proofs.CopyPartLemmas.{copy_copies}

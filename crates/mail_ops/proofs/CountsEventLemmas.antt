@@ -1,7 +1,12 @@
 -- A count as an event, which changes nothing.
-use Rattle.mail_ops.proofs.Common.{All-nil, ◌≡◌, ℕ, true, false, List, Option, Some, refl, sym, ◌∙◌, ap, arith, slice_get, sum_by, History, Faults, told_calls, Did, did, refusal, Reply, reply, request, half, MapMeaning, First, RunEvent, event_of, own_events, count_different, halves_of, Around}
-use Rattle.mail_ops.proofs.Common.{next_part, StoreValue, HasNotBegun, Steps, tells_itself, seen_of, did_own, ends_well, own_event, some_reply, comes_along, first_reply, IsPlain, never_more, plain_stopped, refusal_last, mail_still, nothing}
+use Rattle.mail_ops.proofs.Common.{All-nil, ◌≡◌, ℕ, true, false, List, Option, Some, refl, sym, ◌∙◌, ap, arith, slice_get, sum_by, History, Faults, told_calls, Did, Reply, MapMeaning, First, RunEvent, event_of, own_events, count_different, halves_of, Around, next_part, StoreValue, HasNotBegun}
+use Rattle.mail_ops.proofs.Common.{Steps, tells_itself, seen_of, did_own, ends_well, own_event, some_reply, comes_along, first_reply, IsPlain, never_more, plain_stopped, refusal_last, mail_still, nothing}
 use Rattle.std.proofs.Common.{length}
+use Rattle.mdbox_base.specs.declared.progress.Did.TheVariants as did
+use Rattle.mdbox_base.specs.declared.replies.Refusal.TheVariants as refusal
+use Rattle.mdbox_base.specs.declared.replies.Reply.TheVariants as reply
+use Rattle.mdbox_base.specs.declared.requests.Request.TheVariants as request
+use Rattle.mdbox_base.specs.declared.script.Half.TheVariants as half
 use Rattle.list_machine.specs.Machine.{AreCounts}
 use Rattle.mail_ops.specs.Counting.{listed_messages, named_ids}
 use Rattle.mail_ops.proofs.CountingLemmas.{shown_many}

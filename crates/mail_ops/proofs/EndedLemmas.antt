@@ -1,11 +1,15 @@
 -- A copy, a move or an expunge that was replied claims nothing.
-use Rattle.mail_ops.proofs.Common.{◌≡◌, ℕ, false, List, Option, refl, History, Faults, Uid, Did, Progress, progress, Reply, reply, StoreValue, copy_claims, expunge_claims, move_claims, CopiesOn, ExpungesOn, MovesOn, CopyStage, copy_stage, ExpungeStage, MoveStage, move_stage, fall}
+use Rattle.mail_ops.proofs.Common.{◌≡◌, ℕ, false, List, Option, refl, History, Faults, Uid, Did, Progress, Reply, StoreValue, copy_claims, expunge_claims, move_claims, CopiesOn, ExpungesOn, MovesOn, CopyStage, ExpungeStage, MoveStage, fall}
+use Rattle.mdbox_base.specs.declared.progress.Progress.TheVariants as progress
+use Rattle.mdbox_base.specs.declared.replies.Reply.TheVariants as reply
 use Rattle.task_claims.specs.Claims.{ClaimsNothing}
 use Rattle.task_claims.proofs.RestLemmas.{none_claimed_of}
 use Rattle.mail_ops.specs.Copy.{copy_dues}
 use Rattle.mail_ops.specs.Expunging.{expunge_dues}
 use Rattle.mail_ops.specs.Moving.{move_dues}
+use Rattle.mail_ops.specs.declared.copy.CopyStage.TheVariants as copy_stage
 use Rattle.mail_ops.specs.declared.expunging.ExpungeStage.TheVariants as expunge_stage
+use Rattle.mail_ops.specs.declared.moving.MoveStage.TheVariants as move_stage
 use Rattle.mail_ops.proofs.ToldLemmas.{more_is}
 
 pub copy_ended : {D : Type 0} → (name : List ℕ) (uid : Uid) (target : List ℕ) (now next : CopyStage) (answer : Progress) (how : Did) (old new : StoreValue D) (before after : Option History) (began then : Faults) (given : Reply) → CopiesOn name uid target now next answer how old new before after began then → answer ≡ progress.Done given → new.stopped ≡ false → ClaimsNothing (copy_claims next)

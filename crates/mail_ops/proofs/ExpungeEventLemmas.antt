@@ -1,8 +1,13 @@
 -- The events of an expunge, by the clause of a step.
-use Rattle.mail_ops.proofs.Common.{All-nil, ◌≡◌, ◌+◌, ℕ, true, false, List, [], ◌∷◌, ◌++◌, Option, Some, None, refl, sym, ◌∙◌, ap, subst, arith, ◌⊎◌, length, slice_get, inl, inr, eq-eqb, History, Faults, told_calls, box_entry, MapUid, Uid, Did, did, Refusal, refusal, Reply, reply, request, half}
-use Rattle.mail_ops.proofs.Common.{Lists, IsSettledFor, Leaves, no_numbers, First, GivesBack, RunEvent, Run, own_events, is_step, answers_well, halves_of, IsReplyOf, Around, next_part, own_more, due_at, IsStore, StoreValue, indexes_of, one_due, Steps, MapTook, MapFell, lowering_of, expunge_amounts}
-use Rattle.mail_ops.proofs.Common.{RemovesRow, FellRemoving, missing_message, AreDueIn, seen_of, ExpungeStage, CanRefuse, did_check, did_fall, did_forget, did_own, did_stop, ends_well, no_reply, own_event, refuses, replied_so, some_reply, stands_by, stays_left, comes_along, stays_itself}
-use Rattle.mail_ops.proofs.Common.{first_reply, never_more, nothing}
+use Rattle.mail_ops.proofs.Common.{All-nil, ◌≡◌, ◌+◌, ℕ, true, false, List, [], ◌∷◌, ◌++◌, Option, Some, None, refl, sym, ◌∙◌, ap, subst, arith, ◌⊎◌, length, slice_get, inl, inr, eq-eqb, History, Faults, told_calls, MapUid, Uid, Did, Refusal, Reply, Lists, IsSettledFor, Leaves, no_numbers, First}
+use Rattle.mail_ops.proofs.Common.{GivesBack, RunEvent, Run, own_events, is_step, answers_well, halves_of, IsReplyOf, Around, next_part, own_more, due_at, IsStore, StoreValue, indexes_of, one_due, Steps, MapTook, MapFell, lowering_of, expunge_amounts, RemovesRow, FellRemoving, missing_message}
+use Rattle.mail_ops.proofs.Common.{AreDueIn, seen_of, ExpungeStage, CanRefuse, did_check, did_fall, did_forget, did_own, did_stop, ends_well, no_reply, own_event, refuses, replied_so, some_reply, stands_by, stays_left, comes_along, stays_itself, first_reply, never_more, nothing}
+use Rattle.mdbox_base.specs.declared.entries.BoxEntry.TheVariants as box_entry
+use Rattle.mdbox_base.specs.declared.progress.Did.TheVariants as did
+use Rattle.mdbox_base.specs.declared.replies.Refusal.TheVariants as refusal
+use Rattle.mdbox_base.specs.declared.replies.Reply.TheVariants as reply
+use Rattle.mdbox_base.specs.declared.requests.Request.TheVariants as request
+use Rattle.mdbox_base.specs.declared.script.Half.TheVariants as half
 use Rattle.list_machine.specs.Machine.{expunge}
 use Rattle.journal.specs.Stages.{ToLower, IsAtStage, removal, lowering}
 use Rattle.journal.proofs.ExpungeLemmas.{owed_is, next_is, never_refused}

@@ -1,9 +1,15 @@
 -- What the step of an expunge says, event by event.
-use Rattle.mail_ops.proofs.Common.{◌≡◌, ◌≤◌, ◌<◌, ◌+◌, ℕ, true, false, List, Option, Some, None, refl, sym, ◌∙◌, ap, subst, arith, inl, inr, ◌⊎◌, History, Faults, MapUid, Uid, Did, did, Progress, progress, Refusal, refusal, reply, half, due_at, Moves, amounts_in, KeepsRest, IsStore, StoreValue}
-use Rattle.mail_ops.proofs.Common.{moves_as, one_due, IsKept, ended_by, MapTook, MapFell, lowering_of, ChangesOnlyLogs, refusal_told, told_as, expunge_amounts, ExpungesOn, RemovesRow, FellRemoving, missing_message, AreDueIn, NotDone, not_done, ExpungeStage, due_as_before}
+use Rattle.mail_ops.proofs.Common.{◌≡◌, ◌≤◌, ◌<◌, ◌+◌, ℕ, true, false, List, Option, Some, None, refl, sym, ◌∙◌, ap, subst, arith, inl, inr, ◌⊎◌, History, Faults, MapUid, Uid, Did, Progress, Refusal, due_at, Moves, amounts_in, KeepsRest, IsStore, StoreValue, moves_as, one_due, IsKept, ended_by}
+use Rattle.mail_ops.proofs.Common.{MapTook, MapFell, lowering_of, ChangesOnlyLogs, refusal_told, told_as, expunge_amounts, ExpungesOn, RemovesRow, FellRemoving, missing_message, AreDueIn, NotDone, ExpungeStage, due_as_before}
+use Rattle.mdbox_base.specs.declared.progress.Did.TheVariants as did
+use Rattle.mdbox_base.specs.declared.progress.Progress.TheVariants as progress
+use Rattle.mdbox_base.specs.declared.replies.Refusal.TheVariants as refusal
+use Rattle.mdbox_base.specs.declared.replies.Reply.TheVariants as reply
+use Rattle.mdbox_base.specs.declared.script.Half.TheVariants as half
 use Rattle.journal.specs.Stages.{ToRemove, ToLower}
 use Rattle.task_steps.proofs.ExpungingLemmas.{expunges_are_kept}
 use Rattle.mail_ops.specs.Expunging.{ExpungeValue, IsAtExpunge, expunge_left, ExpungeAnswers, IsNotRemoved}
+use Rattle.mail_ops.specs.declared.event.NotDone.TheVariants as not_done
 use Rattle.mail_ops.specs.declared.expunging.ExpungeStage.TheVariants as stage
 use Rattle.mail_ops.proofs.ExpungeEventLemmas.{ExpungeClause, expunge_stopped, expunge_removed, expunge_broken, expunge_refused, expunge_unremembered, expunge_lowered, expunge_unlowered}
 use Rattle.mail_ops.proofs.LoweringLemmas.{lowered_due, raised_covers, raised_moves}

@@ -1,8 +1,14 @@
 -- A flag as an event, which appends one entry.
-use Rattle.mail_ops.proofs.Common.{All-nil, common_steps, nat_tests, ◌≡◌, ◌≤◌, ◌<◌, ℕ, true, false, List, [], Option, Some, None, refl, sym, ap, subst, arith, inl, option_map, option_or, find, is_some, bytes_eq, History, told_calls, Grows, entry, Uid, did, Refusal, refusal, Reply, reply, request}
-use Rattle.mail_ops.proofs.Common.{half, Mailbox, Lists, AreWellFormed, LogRow, BoxMeaning, row_at, MapBox, MapMeaning, no_numbers, lists_by, meanings_by, ShowLists, meaning_named, IsSettledFor, Leaves, First, BoxAppend, RunEvent, event_of, Run, own_events, PartAnswers, mailbox_named, refused_where}
-use Rattle.mail_ops.proofs.Common.{HasMailbox, answers_well, Around, Brings, NoFault, MailIsKept, Seen, ShowsSeen, HasComeTo, HasNotBegun, TellsSame, did_fall, did_own, ends_well, own_event, some_reply, stays_left, comes_along, first_reply, IsPlain, refusal_last}
+use Rattle.mail_ops.proofs.Common.{All-nil, common_steps, nat_tests, ◌≡◌, ◌≤◌, ◌<◌, ℕ, true, false, List, [], Option, Some, None, refl, sym, ap, subst, arith, inl, option_map, option_or, find, is_some, bytes_eq, History, told_calls, Grows, Uid, Refusal, Reply, Mailbox, Lists, AreWellFormed, LogRow}
+use Rattle.mail_ops.proofs.Common.{BoxMeaning, row_at, MapBox, MapMeaning, no_numbers, lists_by, meanings_by, ShowLists, meaning_named, IsSettledFor, Leaves, First, BoxAppend, RunEvent, event_of, Run, own_events, PartAnswers, mailbox_named, refused_where, HasMailbox, answers_well, Around, Brings}
+use Rattle.mail_ops.proofs.Common.{NoFault, MailIsKept, Seen, ShowsSeen, HasComeTo, HasNotBegun, TellsSame, did_fall, did_own, ends_well, own_event, some_reply, stays_left, comes_along, first_reply, IsPlain, refusal_last}
 use Rattle.std.specs.Prelude.{is_none}
+use Rattle.mdbox_base.specs.declared.entries.BoxEntry.TheVariants as entry
+use Rattle.mdbox_base.specs.declared.progress.Did.TheVariants as did
+use Rattle.mdbox_base.specs.declared.replies.Refusal.TheVariants as refusal
+use Rattle.mdbox_base.specs.declared.replies.Reply.TheVariants as reply
+use Rattle.mdbox_base.specs.declared.requests.Request.TheVariants as request
+use Rattle.mdbox_base.specs.declared.script.Half.TheVariants as half
 use Rattle.mdbox_base.specs.Streams.{Rose}
 use Rattle.list_machine.specs.Machine.{set_flags, refusal_at}
 use Rattle.journal.specs.Events.{adds_to}

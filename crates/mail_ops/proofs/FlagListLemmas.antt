@@ -1,7 +1,11 @@
 -- Lists that are shown, with flags set, and a flag by the list machine.
-use Rattle.mail_ops.proofs.Common.{◌≡◌, ◌==◌, ℕ, Bool, true, false, cond, List, [], ◌∷◌, map, Option, Some, None, refl, sym, ◌∙◌, ap, subst, arith, common_steps, nat_tests, if◌then◌else◌, option_map, bytes_eq, Uid, entry, ListRow, refusal, reply, request, ListedMessage, Mailbox, Lists}
-use Rattle.mail_ops.proofs.Common.{AreWellFormed, listing_row, First, RunEvent, Run, PartAnswers, mailbox_named, message_in, LogRow, BoxMeaning, row_at, MapBox, listed_row, ShowLists, meaning_named, lists_by}
+use Rattle.mail_ops.proofs.Common.{◌≡◌, ◌==◌, ℕ, Bool, true, false, cond, List, [], ◌∷◌, map, Option, Some, None, refl, sym, ◌∙◌, ap, subst, arith, common_steps, nat_tests, if◌then◌else◌, option_map, bytes_eq, Uid, ListRow, ListedMessage, Mailbox, Lists, AreWellFormed, listing_row, First, RunEvent}
+use Rattle.mail_ops.proofs.Common.{Run, PartAnswers, mailbox_named, message_in, LogRow, BoxMeaning, row_at, MapBox, listed_row, ShowLists, meaning_named, lists_by}
 use Rattle.std.proofs.Common.{find}
+use Rattle.mdbox_base.specs.declared.entries.BoxEntry.TheVariants as entry
+use Rattle.mdbox_base.specs.declared.replies.Refusal.TheVariants as refusal
+use Rattle.mdbox_base.specs.declared.replies.Reply.TheVariants as reply
+use Rattle.mdbox_base.specs.declared.requests.Request.TheVariants as request
 use Rattle.list_machine.specs.Machine.{set_flags}
 use Rattle.entry_steps.proofs.AppendListLemmas.{flagged_by}
 use Rattle.mail_ops.proofs.NamedListLemmas.{ShownBox, ShowsBox, shows_box}

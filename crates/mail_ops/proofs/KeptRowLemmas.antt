@@ -1,7 +1,7 @@
 -- The rows that an entry leaves of those that a mailbox lists: each had the record that it has.
-use Rattle.mail_ops.proofs.Common.{◌≡◌, ◌<◌, ◌==◌, ℕ, Bool, true, false, cond, not, List, [], ◌∷◌, map, Option, Some, None, refl, sym, ◌∙◌, ap, arith, common_steps, nat_tests, find, filter, option_or, eqb-true, ne_eqb, BoxEntry, entry, MapUid, Uid, LogRow, BoxMeaning, row_at, row_changed}
-use Rattle.mail_ops.proofs.Common.{box_applied}
+use Rattle.mail_ops.proofs.Common.{◌≡◌, ◌<◌, ◌==◌, ℕ, Bool, true, false, cond, not, List, [], ◌∷◌, map, Option, Some, None, refl, sym, ◌∙◌, ap, arith, common_steps, nat_tests, find, filter, option_or, eqb-true, ne_eqb, BoxEntry, MapUid, Uid, LogRow, BoxMeaning, row_at, row_changed, box_applied}
 use Rattle.std.proofs.lemmas.List.Folds.{find-append}
+use Rattle.mdbox_base.specs.declared.entries.BoxEntry.TheVariants as entry
 use Rattle.mdbox_base.specs.declared.ids.Guid.{Guid}
 use Rattle.model_meaning.proofs.AppliedLemmas.{rows_by_added, rows_by_flagged, rows_by_removed}
 

@@ -1,8 +1,9 @@
 -- What the source of a message that is added to a mailbox lists with its UID: an entry leaves no other message there.
-use Rattle.mail_ops.proofs.Common.{◌≡◌, ◌≤◌, ◌<◌, ◌==◌, ℕ, Bool, true, false, cond, List, [], ◌∷◌, Option, Some, refl, sym, ◌∙◌, ap, subst, arith, option_map, eqb-true, History, Faults, BoxEntry, box_entry, MapEntry, BoxNo, MapUid, Uid, meanings_by, LogRow, BoxMeaning, row_at, box_applied, MapBox}
-use Rattle.mail_ops.proofs.Common.{MapMeaning, map_applied, meaning_numbered, KeepsUid, KeepsUids, StoreValue, indexes_of, NamesStay, names_stay_same, MapTook, AddsRow, RaisesRow, added_copy, raising_of, RemovesRow}
+use Rattle.mail_ops.proofs.Common.{◌≡◌, ◌≤◌, ◌<◌, ◌==◌, ℕ, Bool, true, false, cond, List, [], ◌∷◌, Option, Some, refl, sym, ◌∙◌, ap, subst, arith, option_map, eqb-true, History, Faults, BoxEntry, MapEntry, BoxNo, MapUid, Uid, meanings_by, LogRow, BoxMeaning, row_at, box_applied, MapBox, MapMeaning}
+use Rattle.mail_ops.proofs.Common.{map_applied, meaning_numbered, KeepsUid, KeepsUids, StoreValue, indexes_of, NamesStay, names_stay_same, MapTook, AddsRow, RaisesRow, added_copy, raising_of, RemovesRow}
 use Rattle.std.specs.Prelude.{max}
 use Rattle.std.specs.Option.{IfSome}
+use Rattle.mdbox_base.specs.declared.entries.BoxEntry.TheVariants as box_entry
 use Rattle.model_meaning.specs.MapMeaning.{numbers_of}
 use Rattle.store_core.specs.Value.{list_numbered}
 use Rattle.task_claims.proofs.NameLemmas.{names_stay}

@@ -1,10 +1,11 @@
 -- The last event of a request, the part behind it, and what the request's events tell with one more.
-use Rattle.mail_ops.proofs.Common.{◌≡◌, ◌==◌, ℕ, Bool, true, false, cond, List, [], ◌∷◌, ◌++◌, Option, Some, None, refl, sym, ◌∙◌, ap, subst, arith, filter, flat_map, nat_lt, if◌then◌else◌, option_or, eq-eqb, nat_tests, common_steps, MapEntry, map_entry, MapUid, Refusal, Reply, Request, equal_is}
-use Rattle.mail_ops.proofs.Common.{EventPart, BoxAppend, RunEvent, Run, and_then, own_events, source_of, uid_copied, Around, last_refusal, next_part, own_more, EndsInPart}
+use Rattle.mail_ops.proofs.Common.{◌≡◌, ◌==◌, ℕ, Bool, true, false, cond, List, [], ◌∷◌, ◌++◌, Option, Some, None, refl, sym, ◌∙◌, ap, subst, arith, filter, flat_map, nat_lt, if◌then◌else◌, option_or, eq-eqb, nat_tests, common_steps, MapEntry, MapUid, Refusal, Reply, Request, equal_is, EventPart}
+use Rattle.mail_ops.proofs.Common.{BoxAppend, RunEvent, Run, and_then, own_events, source_of, uid_copied, Around, last_refusal, next_part, own_more, EndsInPart}
 use Rattle.std.specs.Prelude.{fold}
 use Rattle.std.proofs.lemmas.Grind.{flat_map-append}
 use Rattle.std.proofs.lemmas.List.{append-nil}
 use Rattle.std.proofs.lemmas.List.Sums.{fold-append}
+use Rattle.mdbox_base.specs.declared.entries.MapEntry.TheVariants as map_entry
 use Rattle.list_machine.specs.Run.{first_in, last_in, uid_added, uid_in}
 use Rattle.journal.specs.Events.{behind_event, part_behind, uid_held, uid_raised}
 use Rattle.mail_ops.specs.MakeStages.{WasNotRefused}

@@ -1,8 +1,11 @@
 -- What each event of a copy, a move or an expunge leaves to the tasks beside it.
-use Rattle.mail_ops.proofs.Common.{◌≡◌, ◌≤◌, ◌+◌, ◌||◌, ◌==◌, ℕ, Bool, true, false, cond, List, [], ◌∷◌, Option, Some, refl, sym, ◌∙◌, ap, subst, arith, bytes_eq, option_map_or, eqb-true, History, Faults, BoxEntry, box_entry, MapEntry, BoxNo, MapUid, Uid, Did, Progress, progress, reply, LogRow}
-use Rattle.mail_ops.proofs.Common.{BoxMeaning, MapMeaning, MapRecord, record_at, map_applied, meanings_by, refs_in, due_at, KeepsMail, KeepsUids, IsStore, StoreValue, indexes_of, no_claims, one_due, BoxTook, MapTook, lowering_of, copy_claims, expunge_claims, move_claims, CopiesOn, AddsRow}
-use Rattle.mail_ops.proofs.Common.{IsNotRaised, RaisesRow, added_copy, raising_of, ExpungesOn, RemovesRow, IsRowOf, MovesOn, CopyStage, copy_stage, NotDone, not_done, ExpungeStage, MoveStage, move_stage, fall, names_stay_same}
+use Rattle.mail_ops.proofs.Common.{◌≡◌, ◌≤◌, ◌+◌, ◌||◌, ◌==◌, ℕ, Bool, true, false, cond, List, [], ◌∷◌, Option, Some, refl, sym, ◌∙◌, ap, subst, arith, bytes_eq, option_map_or, eqb-true, History, Faults, BoxEntry, MapEntry, BoxNo, MapUid, Uid, Did, Progress, LogRow, BoxMeaning, MapMeaning}
+use Rattle.mail_ops.proofs.Common.{MapRecord, record_at, map_applied, meanings_by, refs_in, due_at, KeepsMail, KeepsUids, IsStore, StoreValue, indexes_of, no_claims, one_due, BoxTook, MapTook, lowering_of, copy_claims, expunge_claims, move_claims, CopiesOn, AddsRow, IsNotRaised, RaisesRow}
+use Rattle.mail_ops.proofs.Common.{added_copy, raising_of, ExpungesOn, RemovesRow, IsRowOf, MovesOn, CopyStage, NotDone, ExpungeStage, MoveStage, fall, names_stay_same}
 use Rattle.std.proofs.Common.{◌-◌}
+use Rattle.mdbox_base.specs.declared.entries.BoxEntry.TheVariants as box_entry
+use Rattle.mdbox_base.specs.declared.progress.Progress.TheVariants as progress
+use Rattle.mdbox_base.specs.declared.replies.Reply.TheVariants as reply
 use Rattle.model_appends.specs.Amounts.{bit, more_due}
 use Rattle.model_octets.proofs.SearchLemmas.{text_yes}
 use Rattle.store_core.specs.Value.{references_to}
@@ -13,7 +16,10 @@ use Rattle.task_claims.proofs.RestLemmas.{mail_same, rest_leaves}
 use Rattle.mail_ops.specs.Copy.{CopyValue}
 use Rattle.mail_ops.specs.Expunging.{ExpungeValue, IsNotRemoved}
 use Rattle.mail_ops.specs.Moving.{MoveValue}
+use Rattle.mail_ops.specs.declared.copy.CopyStage.TheVariants as copy_stage
+use Rattle.mail_ops.specs.declared.event.NotDone.TheVariants as not_done
 use Rattle.mail_ops.specs.declared.expunging.ExpungeStage.TheVariants as expunge_stage
+use Rattle.mail_ops.specs.declared.moving.MoveStage.TheVariants as move_stage
 use Rattle.mail_ops.proofs.OnlyLogsLemmas.{same_mail}
 use Rattle.task_claims.proofs.NameLemmas.{names_stay}
 use Rattle.mail_ops.proofs.KeptUidLemmas.{addition_left, highest_rises, removal_left, same_highest, took_keeps}

@@ -1,6 +1,11 @@
 -- A listing as an event, which changes nothing.
-use Rattle.mail_ops.proofs.Common.{All-nil, ◌≡◌, ℕ, false, List, Some, refl, arith, did, request, ListRow, refusal, Reply, reply, half, told_calls, Lists, First, RunEvent, event_of, Run, own_events, PartAnswers, Around, Seen, ShowsSeen, HasComeTo, HasNotBegun, tells_itself, did_own, ends_well}
-use Rattle.mail_ops.proofs.Common.{own_event, some_reply, comes_along, first_reply, IsPlain, refusal_last, mail_still, nothing}
+use Rattle.mail_ops.proofs.Common.{All-nil, ◌≡◌, ℕ, false, List, Some, refl, arith, ListRow, Reply, told_calls, Lists, First, RunEvent, event_of, Run, own_events, PartAnswers, Around, Seen, ShowsSeen, HasComeTo, HasNotBegun, tells_itself, did_own, ends_well, own_event, some_reply, comes_along}
+use Rattle.mail_ops.proofs.Common.{first_reply, IsPlain, refusal_last, mail_still, nothing}
+use Rattle.mdbox_base.specs.declared.progress.Did.TheVariants as did
+use Rattle.mdbox_base.specs.declared.requests.Request.TheVariants as request
+use Rattle.mdbox_base.specs.declared.replies.Refusal.TheVariants as refusal
+use Rattle.mdbox_base.specs.declared.replies.Reply.TheVariants as reply
+use Rattle.mdbox_base.specs.declared.script.Half.TheVariants as half
 use Rattle.task_steps.specs.Step.{DidEvent}
 use Rattle.task_steps.proofs.OneEventLemmas.{first_turn, next_first}
 

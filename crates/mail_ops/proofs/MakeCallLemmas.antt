@@ -1,10 +1,11 @@
 -- What the calls of a make ask and tell of a store.
 use Rattle.mail_ops.proofs.Common.{◌≡◌, ◌≤◌, ◌<◌, ◌+◌, ◌==◌, ◌||◌, ℕ, Bool, true, false, cond, List, [], ◌∷◌, Option, Some, None, refl, sym, ◌∙◌, ap, subst, arith, nat_tests, All, is_some, length, nat_le, option_or, bytes_eq, common_steps, All-nil, All-cons, History, Faults, Grows, NoFault}
-use Rattle.mail_ops.proofs.Common.{IsNumber, Refusal, refusal, MailIsKept, Lists, BoxMeaning, MapBox, MapMeaning, meaning_named, IsSettledFor, Leaves, refused_where, has_made_log, IsStore, StoreValue, indexes_of, list_named, OpenBox, naming_refusal, making_refusal, with_drawn_box, MadeLogSo}
+use Rattle.mail_ops.proofs.Common.{IsNumber, Refusal, MailIsKept, Lists, BoxMeaning, MapBox, MapMeaning, meaning_named, IsSettledFor, Leaves, refused_where, has_made_log, IsStore, StoreValue, indexes_of, list_named, OpenBox, naming_refusal, making_refusal, with_drawn_box, MadeLogSo}
 use Rattle.std.specs.Prelude.{◌≢◌}
 use Rattle.std.proofs.lemmas.Slice.Eq.{bytes_eq-Decides}
 use Rattle.disk_model.specs.declared.name.FileName.TheVariants as file
 use Rattle.gate_log.specs.Log.{NamedButFor}
+use Rattle.mdbox_base.specs.declared.replies.Refusal.TheVariants as refusal
 use Rattle.model_meaning.specs.MapFits.{FitsMade}
 use Rattle.store_core.specs.Dues.{KeepsStored}
 use Rattle.store_core.specs.MadeLogs.{IsUnnamed}

@@ -1,7 +1,8 @@
 -- What a make looks at: the checks of its events, by what the store has.
-use Rattle.mail_ops.proofs.Common.{◌≡◌, ℕ, Bool, true, false, List, [], ◌∷◌, Option, Some, None, refl, sym, ◌∙◌, ap, arith, common_steps, nat_tests, nat_le, length, is_some, option_or, History, Faults, Highest, Refusal, refusal, Lists, BoxMeaning, MapBox, ShowLists, First, Run, first_refusal}
-use Rattle.mail_ops.proofs.Common.{is_step, mailbox_named, refused_where, StoreValue, indexes_of, list_named, HasComeTo, naming_refusal, making_refusal, seen_of}
+use Rattle.mail_ops.proofs.Common.{◌≡◌, ℕ, Bool, true, false, List, [], ◌∷◌, Option, Some, None, refl, sym, ◌∙◌, ap, arith, common_steps, nat_tests, nat_le, length, is_some, option_or, History, Faults, Highest, Refusal, Lists, BoxMeaning, MapBox, ShowLists, First, Run, first_refusal, is_step}
+use Rattle.mail_ops.proofs.Common.{mailbox_named, refused_where, StoreValue, indexes_of, list_named, HasComeTo, naming_refusal, making_refusal, seen_of}
 use Rattle.std.proofs.Common.{suc}
+use Rattle.mdbox_base.specs.declared.replies.Refusal.TheVariants as refusal
 use Rattle.list_machine.specs.Machine.{IsNewName, RoomForMailbox, NextMailbox, Check, make_checks}
 use Rattle.mail_ops.proofs.MakeStageLemmas.{naming_part}
 use Rattle.mail_ops.proofs.NamedListLemmas.{ShowsBox, shows_box}

@@ -1,9 +1,11 @@
 -- What a make claims, and what its events leave to the tasks beside it.
-use Rattle.mail_ops.proofs.Common.{◌≡◌, ◌≤◌, ◌+◌, ◌==◌, ◌||◌, ℕ, Bool, true, false, not, cond, List, [], ◌∷◌, ◌++◌, map, Option, refl, sym, ◌∙◌, ap, subst, arith, common_steps, nat_tests, count_by, bytes_eq, eq-eqb, eqb-true, History, BoxNo, Progress, progress, Reply, reply, BoxMeaning, box_meaning}
-use Rattle.mail_ops.proofs.Common.{MapMeaning, refs_in, Moves, amounts_in, KeepsUids, has_made_log, StoreValue, indexes_of, OpenBox, NamesStay, SyncsMail, map_entry, names_stay_same, IsReadyToMake, not_done, MakeStage, fall}
+use Rattle.mail_ops.proofs.Common.{◌≡◌, ◌≤◌, ◌+◌, ◌==◌, ◌||◌, ℕ, Bool, true, false, not, cond, List, [], ◌∷◌, ◌++◌, map, Option, refl, sym, ◌∙◌, ap, subst, arith, common_steps, nat_tests, count_by, bytes_eq, eq-eqb, eqb-true, History, BoxNo, Progress, Reply, BoxMeaning, box_meaning, MapMeaning}
+use Rattle.mail_ops.proofs.Common.{refs_in, Moves, amounts_in, KeepsUids, has_made_log, StoreValue, indexes_of, OpenBox, NamesStay, SyncsMail, names_stay_same, IsReadyToMake, MakeStage, fall}
 use Rattle.std.specs.List.{list_any}
 use Rattle.std.proofs.lemmas.List.Sums.{sum_by-append}
 use Rattle.gate_log.specs.State.{LogState}
+use Rattle.mdbox_base.specs.declared.progress.Progress.TheVariants as progress
+use Rattle.mdbox_base.specs.declared.replies.Reply.TheVariants as reply
 use Rattle.model_meaning.proofs.AppliedLemmas.{records_by_mailbox}
 use Rattle.store_core.specs.Dues.{no_amounts}
 use Rattle.store_core.specs.MadeLogs.{without_box}
@@ -12,10 +14,12 @@ use Rattle.task_claims.specs.Claims.{ClaimsNothing, Due, Emptied, Held, Made, Mo
 use Rattle.task_claims.specs.Leaving.{LeavesOthers, RaisesNone, SameButCounts, but_count}
 use Rattle.task_claims.proofs.CountedLemmas.{same_map, unraised_same}
 use Rattle.task_claims.proofs.RestLemmas.{rest_leaves}
+use Rattle.mdbox_base.specs.declared.entries.MapEntry.TheVariants as map_entry
 use Rattle.task_claims.proofs.NameLemmas.{names_stay_named}
 use Rattle.mail_ops.proofs.KeptUidLemmas.{highest_rises, same_highest}
 use Rattle.mail_ops.specs.Claims.{own_log_of, make_claims}
 use Rattle.mail_ops.specs.Making.{KeepsAllButLogs, MakeAnswers, MakesLog}
+use Rattle.mail_ops.specs.declared.event.NotDone.TheVariants as not_done
 use Rattle.mail_ops.specs.declared.making.MakeStage.TheVariants as make_stage
 
 -- ---- logs that were made

@@ -1,8 +1,13 @@
 -- The events of a make that name no mailbox, by the clause of a step.
-use Rattle.mail_ops.proofs.Common.{All-nil, nat_tests, ◌≡◌, ◌≤◌, ◌<◌, ◌+◌, ℕ, Bool, true, false, List, [], ◌∷◌, ◌++◌, Option, Some, None, refl, sym, ◌∙◌, ap, arith, inl, inr, nat_le, length, slice_get, common_steps, History, Faults, told_calls, Grows, Highest, BoxNo, Did, did, Refusal, refusal}
-use Rattle.mail_ops.proofs.Common.{Reply, reply, request, half, Lists, MapMeaning, no_numbers, EventPart, First, Last, StartsOver, RunEvent, event_of, Run, and_then, own_events, map_of, drawn_also, is_step, halves_of, IsReplyOf, Around, next_part, StoreValue, indexes_of, MailIsKept, Seen, ShowsSeen}
-use Rattle.mail_ops.proofs.Common.{HasComeTo, Steps, TellsSame, naming_refusal, making_refusal, with_drawn_box, IsStoppedSo, HasChangedDisk, FellChanging, MadeLogSo, CanBeNamed, seen_of, MakeStage, stage, CanRefuse, did_check, did_fall, did_forget, did_own, did_stop, ends_well, fall, no_reply}
-use Rattle.mail_ops.proofs.Common.{own_event, refuses, replied_so, stands_by, stays_left, comes_along, stays_itself, first_reply, never_more, mail_still, nothing, due_as_before}
+use Rattle.mail_ops.proofs.Common.{All-nil, nat_tests, ◌≡◌, ◌≤◌, ◌<◌, ◌+◌, ℕ, Bool, true, false, List, [], ◌∷◌, ◌++◌, Option, Some, None, refl, sym, ◌∙◌, ap, arith, inl, inr, nat_le, length, slice_get, common_steps, History, Faults, told_calls, Grows, Highest, BoxNo, Did, Refusal, Reply, Lists}
+use Rattle.mail_ops.proofs.Common.{MapMeaning, no_numbers, EventPart, First, Last, StartsOver, RunEvent, event_of, Run, and_then, own_events, map_of, drawn_also, is_step, halves_of, IsReplyOf, Around, next_part, StoreValue, indexes_of, MailIsKept, Seen, ShowsSeen, HasComeTo, Steps, TellsSame}
+use Rattle.mail_ops.proofs.Common.{naming_refusal, making_refusal, with_drawn_box, IsStoppedSo, HasChangedDisk, FellChanging, MadeLogSo, CanBeNamed, seen_of, MakeStage, CanRefuse, did_check, did_fall, did_forget, did_own, did_stop, ends_well, fall, no_reply, own_event, refuses, replied_so}
+use Rattle.mail_ops.proofs.Common.{stands_by, stays_left, comes_along, stays_itself, first_reply, never_more, mail_still, nothing, due_as_before}
+use Rattle.mdbox_base.specs.declared.progress.Did.TheVariants as did
+use Rattle.mdbox_base.specs.declared.replies.Refusal.TheVariants as refusal
+use Rattle.mdbox_base.specs.declared.replies.Reply.TheVariants as reply
+use Rattle.mdbox_base.specs.declared.requests.Request.TheVariants as request
+use Rattle.mdbox_base.specs.declared.script.Half.TheVariants as half
 use Rattle.journal.specs.Journal.{half_of}
 use Rattle.journal.specs.Events.{is_overtaken, behind_make}
 use Rattle.journal.specs.Makes.{HasCome}
@@ -10,6 +15,7 @@ use Rattle.task_steps.specs.Step.{Leads}
 use Rattle.task_steps.proofs.SeenLemmas.{comes_to_on}
 use Rattle.mail_ops.specs.MakeStages.{IsToMakeLog, HasMadeLog}
 use Rattle.mail_ops.specs.Making.{IsAtMake, RemovesLog, ChangesDisk, same_lists}
+use Rattle.mail_ops.specs.declared.making.MakeStage.TheVariants as stage
 use Rattle.task_steps.proofs.EventLaws.{LeftBy, refusal_event}
 use Rattle.task_steps.proofs.KeptStoreLemmas.{comes_drawn, StaysSo}
 use Rattle.task_steps.proofs.UnmovedLemmas.{leaves_none}

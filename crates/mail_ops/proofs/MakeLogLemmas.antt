@@ -1,11 +1,13 @@
 -- What the events of a make leave to other tasks, and the log that it has made.
-use Rattle.mail_ops.proofs.Common.{◌≡◌, ◌≤◌, ◌<◌, ◌==◌, ◌||◌, ℕ, Bool, true, false, cond, List, [], ◌∷◌, ◌++◌, Option, Some, refl, sym, ◌∙◌, ap, subst, arith, common_steps, nat_tests, eq-eqb, ne_eqb, History, map_entry, BoxNo, BoxMeaning, box_meaning, MapBox, MapMeaning, meaning_numbered, KeepsUids}
-use Rattle.mail_ops.proofs.Common.{has_made_log, IsStore, StoreValue, indexes_of, IsReadyToMake, NamesLog, stage}
+use Rattle.mail_ops.proofs.Common.{◌≡◌, ◌≤◌, ◌<◌, ◌==◌, ◌||◌, ℕ, Bool, true, false, cond, List, [], ◌∷◌, ◌++◌, Option, Some, refl, sym, ◌∙◌, ap, subst, arith, common_steps, nat_tests, eq-eqb, ne_eqb, History, BoxNo, BoxMeaning, box_meaning, MapBox, MapMeaning, meaning_numbered, KeepsUids}
+use Rattle.mail_ops.proofs.Common.{has_made_log, IsStore, StoreValue, indexes_of, IsReadyToMake, NamesLog}
 use Rattle.std.proofs.Common.{length}
+use Rattle.mdbox_base.specs.declared.entries.MapEntry.TheVariants as map_entry
 use Rattle.store_core.proofs.NamingLemmas.{one_box_more, box_named}
 use Rattle.mail_ops.proofs.CountingLemmas.{one_meaning_each}
 use Rattle.mail_ops.proofs.KeptUidLemmas.{highest_rises, kept_on}
 use Rattle.mail_ops.specs.Making.{MakesLog}
+use Rattle.mail_ops.specs.declared.making.MakeStage.TheVariants as stage
 
 -- ---- logs
 

@@ -1,10 +1,16 @@
 -- The event of a make that names its mailbox, by the clause of a step.
-use Rattle.mail_ops.proofs.Common.{MapFits, ◌≡◌, ◌≤◌, ◌<◌, ℕ, Bool, true, false, List, [], ◌∷◌, ◌++◌, Option, Some, None, refl, sym, ◌∙◌, ap, subst, arith, inl, All, All-nil, All-cons, History, Faults, told_calls, IsNumber, Highest, map_entry, BoxNo, did, refusal, Reply, reply, request, half}
-use Rattle.mail_ops.proofs.Common.{Mailbox, Lists, AreWellFormed, BoxMeaning, box_meaning, MapRecord, MapBox, MapMeaning, map_applied, no_numbers, ShowLists, Last, RunEvent, event_of, Run, own_events, first_refusal, answers_well, IsReplyOf, due_at, IsStore, StoreValue, indexes_of, ShowsSeen}
-use Rattle.mail_ops.proofs.Common.{HasComeTo, NamesLog, IsStoppedSo, CanBeNamed, HasChangedDisk, FellChanging, seen_of, MakeStage, stage, did_fall, did_own, ends_well, own_event, some_reply, stays_left, never_more}
+use Rattle.mail_ops.proofs.Common.{MapFits, ◌≡◌, ◌≤◌, ◌<◌, ℕ, Bool, true, false, List, [], ◌∷◌, ◌++◌, Option, Some, None, refl, sym, ◌∙◌, ap, subst, arith, inl, All, All-nil, All-cons, History, Faults, told_calls, IsNumber, Highest, BoxNo, Reply, Mailbox, Lists, AreWellFormed, BoxMeaning}
+use Rattle.mail_ops.proofs.Common.{box_meaning, MapRecord, MapBox, MapMeaning, map_applied, no_numbers, ShowLists, Last, RunEvent, event_of, Run, own_events, first_refusal, answers_well, IsReplyOf, due_at, IsStore, StoreValue, indexes_of, ShowsSeen, HasComeTo, NamesLog, IsStoppedSo, CanBeNamed}
+use Rattle.mail_ops.proofs.Common.{HasChangedDisk, FellChanging, seen_of, MakeStage, did_fall, did_own, ends_well, own_event, some_reply, stays_left, never_more}
 use Rattle.mail_ops.proofs.MakeCallLemmas.{naming_fits}
 use Rattle.std.proofs.lemmas.List.Elements.{All-head, All-tail}
 use Rattle.mdbox_base.specs.Words.{IsName}
+use Rattle.mdbox_base.specs.declared.entries.MapEntry.TheVariants as map_entry
+use Rattle.mdbox_base.specs.declared.progress.Did.TheVariants as did
+use Rattle.mdbox_base.specs.declared.replies.Refusal.TheVariants as refusal
+use Rattle.mdbox_base.specs.declared.replies.Reply.TheVariants as reply
+use Rattle.mdbox_base.specs.declared.requests.Request.TheVariants as request
+use Rattle.mdbox_base.specs.declared.script.Half.TheVariants as half
 use Rattle.model_lists.specs.Lists.{empty_mailbox}
 use Rattle.model_meaning.specs.Sound.{IsSoundMapBox}
 use Rattle.model_store.specs.Listing.{ShowsMailbox}
@@ -13,6 +19,7 @@ use Rattle.journal.specs.Events.{number_of}
 use Rattle.store_core.specs.Dues.{number_beside}
 use Rattle.store_core.proofs.NamingLemmas.{same_records, one_box_more, box_named}
 use Rattle.mail_ops.specs.Making.{with_mailbox}
+use Rattle.mail_ops.specs.declared.making.MakeStage.TheVariants as stage
 use Rattle.task_steps.proofs.EventLaws.{one_reply}
 use Rattle.mail_ops.proofs.LoweringLemmas.{comes_with, one_fits}
 use Rattle.mail_ops.proofs.MakeCheckLemmas.{naming_checked}

@@ -1,13 +1,15 @@
 -- Where a make stands, and the part that comes next.
-use Rattle.mail_ops.proofs.Common.{◌≡◌, ◌+◌, ◌==◌, ℕ, Bool, true, cond, List, [], ◌∷◌, ◌++◌, Some, None, refl, sym, ◌∙◌, ap, subst, inl, inr, arith, common_steps, nat_tests, ◌⊎◌, nat_le, eq-eqb, ne_eqb, Highest, Reply, request, MapMeaning, EventPart, First, Last, StartsOver, RunEvent, Run, and_then}
-use Rattle.mail_ops.proofs.Common.{own_events, map_of, drawn_also, Around, next_part, own_other, IsKept, EndsInPart, MakeStage, stage}
+use Rattle.mail_ops.proofs.Common.{◌≡◌, ◌+◌, ◌==◌, ℕ, Bool, true, cond, List, [], ◌∷◌, ◌++◌, Some, None, refl, sym, ◌∙◌, ap, subst, inl, inr, arith, common_steps, nat_tests, ◌⊎◌, nat_le, eq-eqb, ne_eqb, Highest, Reply, MapMeaning, EventPart, First, Last, StartsOver, RunEvent, Run, and_then}
+use Rattle.mail_ops.proofs.Common.{own_events, map_of, drawn_also, Around, next_part, own_other, IsKept, EndsInPart, MakeStage}
 use Rattle.std.specs.Prelude.{fold}
+use Rattle.mdbox_base.specs.declared.requests.Request.TheVariants as request
 use Rattle.list_machine.specs.Run.{drawn_of}
 use Rattle.journal.specs.Events.{behind_make, is_overtaken, number_drawn, number_of}
 use Rattle.task_steps.proofs.SeenLemmas.{number_still}
 use Rattle.mail_ops.proofs.LastEventLemmas.{ends_in, last_own, next_behind, unrefused_more, unrefused_still}
 use Rattle.mail_ops.specs.MakeStages.{WasNotRefused, IsToMakeLog, HasMadeLog}
 use Rattle.mail_ops.specs.Making.{IsAtMake}
+use Rattle.mail_ops.specs.declared.making.MakeStage.TheVariants as stage
 
 -- behind a row that ends in this part and in which none was refused
 made_behind : (around : Around) (run : Run) (name : List ℕ) (place : ℕ) (said : List Reply) (part : EventPart) → WasNotRefused run place said → EndsInPart part (own_events place run) → next_part around run (request.Make name) (own_events place run) ≡ behind_make (is_overtaken run place) part

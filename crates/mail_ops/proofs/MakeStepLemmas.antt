@@ -1,11 +1,18 @@
 -- What the step of a make says, event by event.
-use Rattle.mail_ops.proofs.Common.{◌≡◌, ◌≤◌, ◌<◌, ◌+◌, ℕ, Bool, true, false, cond, List, Option, Some, None, refl, sym, ◌∙◌, ap, subst, arith, inl, inr, nat_tests, ◌⊎◌, nat_lt, common_steps, History, Faults, IsNumber, BoxNo, Did, did, Progress, progress, Refusal, refusal, reply, half, Lists, Moves}
-use Rattle.mail_ops.proofs.Common.{amounts_in, KeepsMail, KeepsUids, has_made_log, IsStore, StoreValue, indexes_of, moves_as, ended_by, refusal_told, told_as, naming_refusal, making_refusal, IsReadyToMake, with_drawn_box, NamesLog, IsStoppedSo, HasChangedDisk, FellChanging, MadeLogSo, CanBeNamed}
-use Rattle.mail_ops.proofs.Common.{NotDone, not_done, MakeStage, stage, SyncsMail, ChangesOnlyLogs, due_as_before}
+use Rattle.mail_ops.proofs.Common.{◌≡◌, ◌≤◌, ◌<◌, ◌+◌, ℕ, Bool, true, false, cond, List, Option, Some, None, refl, sym, ◌∙◌, ap, subst, arith, inl, inr, nat_tests, ◌⊎◌, nat_lt, common_steps, History, Faults, IsNumber, BoxNo, Did, Progress, Refusal, Lists, Moves, amounts_in, KeepsMail, KeepsUids}
+use Rattle.mail_ops.proofs.Common.{has_made_log, IsStore, StoreValue, indexes_of, moves_as, ended_by, refusal_told, told_as, naming_refusal, making_refusal, IsReadyToMake, with_drawn_box, NamesLog, IsStoppedSo, HasChangedDisk, FellChanging, MadeLogSo, CanBeNamed, NotDone, MakeStage, SyncsMail}
+use Rattle.mail_ops.proofs.Common.{ChangesOnlyLogs, due_as_before}
 use Rattle.mdbox_base.specs.Words.{IsName}
+use Rattle.mdbox_base.specs.declared.progress.Did.TheVariants as did
+use Rattle.mdbox_base.specs.declared.progress.Progress.TheVariants as progress
+use Rattle.mdbox_base.specs.declared.replies.Refusal.TheVariants as refusal
+use Rattle.mdbox_base.specs.declared.replies.Reply.TheVariants as reply
+use Rattle.mdbox_base.specs.declared.script.Half.TheVariants as half
 use Rattle.store_core.specs.Dues.{no_amounts}
 use Rattle.store_core.specs.MadeLogs.{IsUnnamed, without_box}
 use Rattle.mail_ops.specs.Making.{MakeValue, KeepsAllButLogs, make_left, RemovesLog, IsLogNotMade, MakeAnswers, same_lists, with_mailbox, FellIfStopped, MakesOn}
+use Rattle.mail_ops.specs.declared.event.NotDone.TheVariants as not_done
+use Rattle.mail_ops.specs.declared.making.MakeStage.TheVariants as stage
 use Rattle.mail_ops.proofs.OnlyLogsLemmas.{done_keeps, fell_keeps, idle_keeps, mail_named, spared_none, took_spares}
 use Rattle.mail_ops.proofs.KeptUidLemmas.{logs_keep, same_keeps}
 use Rattle.mail_ops.proofs.MakeCheckLemmas.{naming_steps, making_steps}

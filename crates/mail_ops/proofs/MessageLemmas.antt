@@ -1,12 +1,13 @@
 -- The message of a row, in the lists that a store shows, and the record that stores it.
 use Rattle.mail_ops.proofs.Common.{◌≡◌, ◌==◌, ℕ, Bool, true, false, cond, List, [], ◌∷◌, map, Option, Some, None, refl, sym, ◌∙◌, ap, subst, arith, inl, inr, common_steps, nat_tests, find, ◌⊎◌, is_some, if◌then◌else◌, option_map, option_map_or, bytes_eq, eq-eqb, History, BoxEntry, ListRow, Refusal}
-use Rattle.mail_ops.proofs.Common.{refusal, ListedMessage, Mailbox, Lists, AreWellFormed, listing_row, LogRow, BoxMeaning, box_meaning, row_at, MapRecord, MapBox, MapMeaning, map_meaning, record_at, record_of, equal_is, listed_row, ShowLists, meaning_named, Run, HasMailbox, HasUid, first_refusal}
+use Rattle.mail_ops.proofs.Common.{ListedMessage, Mailbox, Lists, AreWellFormed, listing_row, LogRow, BoxMeaning, box_meaning, row_at, MapRecord, MapBox, MapMeaning, map_meaning, record_at, record_of, equal_is, listed_row, ShowLists, meaning_named, Run, HasMailbox, HasUid, first_refusal}
 use Rattle.mail_ops.proofs.Common.{mailbox_named, message_in, IsStore, StoreValue, indexes_of, list_named, number_named, missing_message, IsRowOf}
 use Rattle.std.proofs.Common.{All}
 use Rattle.std.specs.Prelude.{option_and_then}
 use Rattle.std.specs.List.{AllByRecursion}
 use Rattle.std.proofs.lemmas.List.Elements.{All-contains}
 use Rattle.disk_model.specs.Disk.{Files}
+use Rattle.mdbox_base.specs.declared.replies.Refusal.TheVariants as refusal
 use Rattle.model_meaning.specs.BoxMeaning.{rows_after}
 use Rattle.model_meaning.specs.Sound.{IsSoundMap}
 use Rattle.model_meaning.proofs.MapSoundLemmas.{map_sound}

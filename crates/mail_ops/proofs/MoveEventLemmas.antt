@@ -1,9 +1,15 @@
 -- The events of a move that a copy doesn't have, by the clause of a step.
-use Rattle.mail_ops.proofs.Common.{All-nil, ◌≡◌, ◌≤◌, ◌+◌, ℕ, Bool, true, false, List, [], ◌∷◌, ◌++◌, Option, Some, None, refl, sym, ◌∙◌, ap, subst, arith, inl, length, slice_get, ne_eqb, History, Faults, told_calls, box_entry, MapUid, Uid, did, Refusal, refusal, Reply, reply, request, half}
-use Rattle.mail_ops.proofs.Common.{ListedMessage, Lists, AreWellFormed, lists_by, meanings_by, LogRow, MapMeaning, record_of, no_numbers, ShowLists, IsSettledFor, Leaves, Last, GivesBack, RunEvent, event_of, Run, and_then, map_of, own_events, source_of, answers_well, halves_of, Around, is_elsewhere}
-use Rattle.mail_ops.proofs.Common.{last_refusal, own_other, due_at, IsStore, StoreValue, indexes_of, one_due, number_named, HasComeTo, IsKept, tells_itself, MapTook, MapFell, lowering_of, IsHolding, added_copy, AddsRow, RemovesRow, FellRemoving, IsRowOf, missing_message, seen_of, CanRefuse}
-use Rattle.mail_ops.proofs.Common.{did_fall, did_own, did_stop, ends_well, no_reply, own_event, refuses, replied_so, some_reply, stands_by, stays_left, comes_along, never_more, mail_still, nothing}
+use Rattle.mail_ops.proofs.Common.{All-nil, ◌≡◌, ◌≤◌, ◌+◌, ℕ, Bool, true, false, List, [], ◌∷◌, ◌++◌, Option, Some, None, refl, sym, ◌∙◌, ap, subst, arith, inl, length, slice_get, ne_eqb, History, Faults, told_calls, MapUid, Uid, Refusal, Reply, ListedMessage, Lists, AreWellFormed, lists_by}
+use Rattle.mail_ops.proofs.Common.{meanings_by, LogRow, MapMeaning, record_of, no_numbers, ShowLists, IsSettledFor, Leaves, Last, GivesBack, RunEvent, event_of, Run, and_then, map_of, own_events, source_of, answers_well, halves_of, Around, is_elsewhere, last_refusal, own_other, due_at, IsStore}
+use Rattle.mail_ops.proofs.Common.{StoreValue, indexes_of, one_due, number_named, HasComeTo, IsKept, tells_itself, MapTook, MapFell, lowering_of, IsHolding, added_copy, AddsRow, RemovesRow, FellRemoving, IsRowOf, missing_message, seen_of, CanRefuse, did_fall, did_own, did_stop, ends_well, no_reply}
+use Rattle.mail_ops.proofs.Common.{own_event, refuses, replied_so, some_reply, stands_by, stays_left, comes_along, never_more, mail_still, nothing}
 use Rattle.std.specs.Prelude.{is_none}
+use Rattle.mdbox_base.specs.declared.entries.BoxEntry.TheVariants as box_entry
+use Rattle.mdbox_base.specs.declared.progress.Did.TheVariants as did
+use Rattle.mdbox_base.specs.declared.replies.Refusal.TheVariants as refusal
+use Rattle.mdbox_base.specs.declared.replies.Reply.TheVariants as reply
+use Rattle.mdbox_base.specs.declared.requests.Request.TheVariants as request
+use Rattle.mdbox_base.specs.declared.script.Half.TheVariants as half
 use Rattle.list_machine.specs.Run.{SecondHalf}
 use Rattle.list_machine.specs.Machine.{add_message, expunge_from, message_numbered}
 use Rattle.journal.specs.Events.{RemovesIfThere, lowers}

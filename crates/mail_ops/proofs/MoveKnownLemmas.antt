@@ -1,9 +1,15 @@
 -- What the step of a move says of each event.
-use Rattle.mail_ops.proofs.Common.{◌≡◌, ◌<◌, ◌+◌, ℕ, Bool, true, false, List, Option, Some, None, refl, sym, subst, arith, inl, inr, ◌⊎◌, History, Faults, BoxNo, MapUid, Uid, Did, did, Progress, progress, Refusal, refusal, reply, request, half, due_at, Moves, amounts_in, KeepsRest, IsStore}
-use Rattle.mail_ops.proofs.Common.{StoreValue, moves_as, one_due, ended_by, MapTook, MapFell, lowering_of, copy_refusal, RaisesRow, IsRaiseRefusal, IsNotRaised, AddsRow, FellAdding, ChangesOnlyLogs, refusal_told, told_as, RemovesRow, FellRemoving, missing_message, IsReadyToMove, not_done, NotDone}
-use Rattle.mail_ops.proofs.Common.{MoveStage, due_as_before, names_stay_same}
+use Rattle.mail_ops.proofs.Common.{◌≡◌, ◌<◌, ◌+◌, ℕ, Bool, true, false, List, Option, Some, None, refl, sym, subst, arith, inl, inr, ◌⊎◌, History, Faults, BoxNo, MapUid, Uid, Did, Progress, Refusal, due_at, Moves, amounts_in, KeepsRest, IsStore, StoreValue, moves_as, one_due, ended_by, MapTook}
+use Rattle.mail_ops.proofs.Common.{MapFell, lowering_of, copy_refusal, RaisesRow, IsRaiseRefusal, IsNotRaised, AddsRow, FellAdding, ChangesOnlyLogs, refusal_told, told_as, RemovesRow, FellRemoving, missing_message, IsReadyToMove, NotDone, MoveStage, due_as_before, names_stay_same}
+use Rattle.mdbox_base.specs.declared.progress.Did.TheVariants as did
+use Rattle.mdbox_base.specs.declared.progress.Progress.TheVariants as progress
+use Rattle.mdbox_base.specs.declared.replies.Refusal.TheVariants as refusal
+use Rattle.mdbox_base.specs.declared.replies.Reply.TheVariants as reply
+use Rattle.mdbox_base.specs.declared.requests.Request.TheVariants as request
+use Rattle.mdbox_base.specs.declared.script.Half.TheVariants as half
 use Rattle.mail_ops.specs.Copying.{MayBeRaised}
 use Rattle.mail_ops.specs.Moving.{IsAtMove, move_amounts, move_left, MoveAnswers}
+use Rattle.mail_ops.specs.declared.event.NotDone.TheVariants as not_done
 use Rattle.mail_ops.specs.declared.moving.MoveStage.TheVariants as stage
 use Rattle.mail_ops.proofs.CopyFirstLemmas.{CopyingClause, back_runs, raise_done, raise_fell, raise_refused, raise_steps, raise_unremembered}
 use Rattle.mail_ops.proofs.CopyLastLemmas.{added_due, add_fell, back_fell, given_back}

@@ -1,6 +1,10 @@
 -- The parts of a move: its first half is that of a request that copies, and what stands behind it.
-use Rattle.mail_ops.proofs.Common.{◌≡◌, ◌||◌, ℕ, Bool, true, List, [], ◌∷◌, Option, Some, None, refl, ◌∙◌, ap, arith, common_steps, nat_tests, is_some, nat_lt, length, if◌then◌else◌, MapUid, Uid, Refusal, refusal, Reply, reply, request, half, EventPart, Last, GivesBack, BoxAppend, Run, own_events}
-use Rattle.mail_ops.proofs.Common.{uid_copied, is_step, IsReplyOf, Around, is_elsewhere, last_refusal, next_part, EndsInPart}
+use Rattle.mail_ops.proofs.Common.{◌≡◌, ◌||◌, ℕ, Bool, true, List, [], ◌∷◌, Option, Some, None, refl, ◌∙◌, ap, arith, common_steps, nat_tests, is_some, nat_lt, length, if◌then◌else◌, MapUid, Uid, Refusal, Reply, EventPart, Last, GivesBack, BoxAppend, Run, own_events, uid_copied, is_step, IsReplyOf}
+use Rattle.mail_ops.proofs.Common.{Around, is_elsewhere, last_refusal, next_part, EndsInPart}
+use Rattle.mdbox_base.specs.declared.replies.Refusal.TheVariants as refusal
+use Rattle.mdbox_base.specs.declared.replies.Reply.TheVariants as reply
+use Rattle.mdbox_base.specs.declared.requests.Request.TheVariants as request
+use Rattle.mdbox_base.specs.declared.script.Half.TheVariants as half
 use Rattle.list_machine.specs.Run.{SecondHalf}
 use Rattle.journal.specs.Events.{behind_copy, behind_move, behind_refused, ends_with_count}
 use Rattle.mail_ops.specs.MoveStages.{HasCopied, HasMoved}

@@ -1,5 +1,11 @@
 -- What the step of a move says, by its stage.
-use Rattle.mail_ops.proofs.Common.{◌≡◌, ℕ, true, false, List, Option, Some, refl, sym, subst, inl, inr, ◌⊎◌, History, Faults, Uid, Did, did, Progress, progress, refusal, reply, request, half, IsStore, StoreValue, IsKept, not_begun_stays, copy_refusal, IsReadyToMove, MovesOn, MoveStage}
+use Rattle.mail_ops.proofs.Common.{◌≡◌, ℕ, true, false, List, Option, Some, refl, sym, subst, inl, inr, ◌⊎◌, History, Faults, Uid, Did, Progress, IsStore, StoreValue, IsKept, not_begun_stays, copy_refusal, IsReadyToMove, MovesOn, MoveStage}
+use Rattle.mdbox_base.specs.declared.progress.Did.TheVariants as did
+use Rattle.mdbox_base.specs.declared.progress.Progress.TheVariants as progress
+use Rattle.mdbox_base.specs.declared.replies.Refusal.TheVariants as refusal
+use Rattle.mdbox_base.specs.declared.replies.Reply.TheVariants as reply
+use Rattle.mdbox_base.specs.declared.requests.Request.TheVariants as request
+use Rattle.mdbox_base.specs.declared.script.Half.TheVariants as half
 use Rattle.mail_ops.specs.Moving.{MoveValue, IsAtMove}
 use Rattle.mail_ops.specs.declared.moving.MoveStage.TheVariants as stage
 use Rattle.mail_ops.proofs.CopyFirstLemmas.{CopyingClause, raise_stopped}

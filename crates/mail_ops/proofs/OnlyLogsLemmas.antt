@@ -1,10 +1,13 @@
 -- Events that change no more than logs: that did nothing, that made an append, and in which a change of the disk failed.
-use Rattle.mail_ops.proofs.Common.{◌≡◌, ◌≤◌, ◌∙◌, ℕ, true, false, List, Option, Some, None, refl, arith, inr, ap, History, Faults, NoFault, BoxEntry, MapEntry, Progress, progress, Refusal, refusal, Reply, reply, MailIsKept, MapMeaning, KeepsMail, KeepsRest, StoreValue, SyncsMail, BoxFell, BoxTook}
-use Rattle.mail_ops.proofs.Common.{MapFell, MapTook, ChangesOnlyLogs, fall}
+use Rattle.mail_ops.proofs.Common.{◌≡◌, ◌≤◌, ◌∙◌, ℕ, true, false, List, Option, Some, None, refl, arith, inr, ap, History, Faults, NoFault, BoxEntry, MapEntry, Progress, Refusal, Reply, MailIsKept, MapMeaning, KeepsMail, KeepsRest, StoreValue, SyncsMail, BoxFell, BoxTook, MapFell, MapTook}
+use Rattle.mail_ops.proofs.Common.{ChangesOnlyLogs, fall}
 use Rattle.std.proofs.Common.{◌↔◌}
 use Rattle.disk_model.specs.declared.name.FileName.TheVariants as file
 use Rattle.gate_log.specs.Log.{NamedButFor}
 use Rattle.mdbox_base.specs.Streams.{Rose}
+use Rattle.mdbox_base.specs.declared.progress.Progress.TheVariants as progress
+use Rattle.mdbox_base.specs.declared.replies.Refusal.TheVariants as refusal
+use Rattle.mdbox_base.specs.declared.replies.Reply.TheVariants as reply
 use Rattle.model_kept.proofs.KeptLemmas.{kept_begins}
 use Rattle.task_claims.proofs.RestLemmas.{mail_same}
 use Rattle.mail_ops.specs.SparedMail.{SparesMail}

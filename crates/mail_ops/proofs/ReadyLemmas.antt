@@ -1,8 +1,10 @@
 -- The message that a task copies or moves is the only one with its UID still.
-use Rattle.mail_ops.proofs.Common.{ℕ, List, Uid, KeepsUids, StoreValue, NamesStay, CopyStage, copy_stage, MoveStage, move_stage}
+use Rattle.mail_ops.proofs.Common.{ℕ, List, Uid, KeepsUids, StoreValue, NamesStay, CopyStage, MoveStage}
 use Rattle.mail_ops.proofs.KeptUidLemmas.{named_keeps}
 use Rattle.mail_ops.specs.Copy.{KeepsSource}
 use Rattle.mail_ops.specs.Moving.{KeepsMoved}
+use Rattle.mail_ops.specs.declared.copy.CopyStage.TheVariants as copy_stage
+use Rattle.mail_ops.specs.declared.moving.MoveStage.TheVariants as move_stage
 
 pub source_kept : {D : Type 0} → (name : List ℕ) (uid : Uid) (now : CopyStage) (old new : StoreValue D) → NamesStay old.map new.map → KeepsUids old new → KeepsSource name uid now old → KeepsSource name uid now new
 source_kept name uid copy_stage.First old new names keeps source = tt

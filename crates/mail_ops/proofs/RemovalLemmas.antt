@@ -1,6 +1,7 @@
 -- A message that is removed from the log of its mailbox, or whose removal failed.
-use Rattle.mail_ops.proofs.Common.{◌≡◌, ◌+◌, ℕ, false, List, [], ◌∷◌, Option, Some, None, refl, ◌∙◌, ap, subst, arith, option_map_or, History, Faults, BoxEntry, entry, Highest, MapEntry, Uid, lists_by, meanings_by, Lists, AreWellFormed, LogRow, BoxMeaning, row_at, MapMeaning, record_of, ShowLists}
-use Rattle.mail_ops.proofs.Common.{Run, HasMailbox, HasUid, first_refusal, Brings, due_at, IsStore, StoreValue, indexes_of, one_due, HasComeTo, TellsSame, BoxFell, MapTook, MapFell, IsRowOf, seen_of, due_as_before, fall}
+use Rattle.mail_ops.proofs.Common.{◌≡◌, ◌+◌, ℕ, false, List, [], ◌∷◌, Option, Some, None, refl, ◌∙◌, ap, subst, arith, option_map_or, History, Faults, BoxEntry, Highest, MapEntry, Uid, lists_by, meanings_by, Lists, AreWellFormed, LogRow, BoxMeaning, row_at, MapMeaning, record_of, ShowLists, Run}
+use Rattle.mail_ops.proofs.Common.{HasMailbox, HasUid, first_refusal, Brings, due_at, IsStore, StoreValue, indexes_of, one_due, HasComeTo, TellsSame, BoxFell, MapTook, MapFell, IsRowOf, seen_of, due_as_before, fall}
+use Rattle.mdbox_base.specs.declared.entries.BoxEntry.TheVariants as entry
 use Rattle.model_appends.specs.Amounts.{more_due, due_by_box}
 use Rattle.list_machine.specs.Machine.{expunge}
 use Rattle.journal.specs.Events.{IsRecord}

@@ -1,7 +1,8 @@
 -- Lists that are shown, with an entry more in the log of a mailbox.
-use Rattle.mail_ops.proofs.Common.{◌≡◌, ◌==◌, ℕ, Bool, true, false, not, cond, List, [], ◌∷◌, ◌++◌, map, refl, sym, ◌∙◌, ap, filter, map-append, BoxEntry, entry, ListRow, ListedMessage, Mailbox, Lists, listing_row, LogRow, BoxMeaning, row_changed, box_applied, MapBox, lists_by, meanings_by}
-use Rattle.mail_ops.proofs.Common.{listed_row, ShowLists}
+use Rattle.mail_ops.proofs.Common.{◌≡◌, ◌==◌, ℕ, Bool, true, false, not, cond, List, [], ◌∷◌, ◌++◌, map, refl, sym, ◌∙◌, ap, filter, map-append, BoxEntry, ListRow, ListedMessage, Mailbox, Lists, listing_row, LogRow, BoxMeaning, row_changed, box_applied, MapBox, lists_by, meanings_by, listed_row}
+use Rattle.mail_ops.proofs.Common.{ShowLists}
 use Rattle.std.specs.Prelude.{max}
+use Rattle.mdbox_base.specs.declared.entries.BoxEntry.TheVariants as entry
 use Rattle.model_meaning.specs.BoxMeaning.{row_made, row_removed, next_named}
 use Rattle.model_appends.specs.Appending.{message_made, message_removed, message_changed, mailbox_by}
 use Rattle.model_store.specs.Listing.{ShowsMailbox}

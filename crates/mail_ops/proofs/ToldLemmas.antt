@@ -1,5 +1,8 @@
 -- Answers, refusals and parts that are told apart.
-use Rattle.mail_ops.proofs.Common.{◌≡◌, true, Some, None, arith, nat_tests, common_steps, progress, Refusal, refusal, Reply, reply, EventPart, is_step}
+use Rattle.mail_ops.proofs.Common.{◌≡◌, true, Some, None, arith, nat_tests, common_steps, Refusal, Reply, EventPart, is_step}
+use Rattle.mdbox_base.specs.declared.progress.Progress.TheVariants as progress
+use Rattle.mdbox_base.specs.declared.replies.Refusal.TheVariants as refusal
+use Rattle.mdbox_base.specs.declared.replies.Reply.TheVariants as reply
 
 pub more_is : (given : Reply) → progress.More ≡ progress.Done given → ⊥
 more_is given e = cc e

@@ -1,7 +1,8 @@
 -- Messages that no mailbox lists stay unlisted.
-use Rattle.mail_ops.proofs.Common.{◌≡◌, ◌≤◌, ◌+◌, ◌==◌, ℕ, Bool, true, false, cond, not, List, [], ◌∷◌, ◌++◌, map, Some, None, refl, sym, ◌∙◌, ap, subst, arith, find, filter, count_by, bytes_eq, sum_by-cons, BoxEntry, box_entry, MapUid, Uid, meanings_by, LogRow, BoxMeaning, row_at, row_changed}
-use Rattle.mail_ops.proofs.Common.{box_applied, MapBox, meaning_named, refs_in}
+use Rattle.mail_ops.proofs.Common.{◌≡◌, ◌≤◌, ◌+◌, ◌==◌, ℕ, Bool, true, false, cond, not, List, [], ◌∷◌, ◌++◌, map, Some, None, refl, sym, ◌∙◌, ap, subst, arith, find, filter, count_by, bytes_eq, sum_by-cons, BoxEntry, MapUid, Uid, meanings_by, LogRow, BoxMeaning, row_at, row_changed, box_applied}
+use Rattle.mail_ops.proofs.Common.{MapBox, meaning_named, refs_in}
 use Rattle.std.proofs.lemmas.List.Sums.{sum_by-append}
+use Rattle.mdbox_base.specs.declared.entries.BoxEntry.TheVariants as box_entry
 use Rattle.mdbox_base.specs.declared.ids.Guid.{Guid}
 use Rattle.model_meaning.proofs.AppliedLemmas.{rows_by_added, rows_by_flagged, rows_by_removed}
 

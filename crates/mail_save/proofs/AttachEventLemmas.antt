@@ -1,11 +1,14 @@
 -- The events by which the instances of a message's attachments are found, one after another.
-use Rattle.mail_save.proofs.Common.{if◌then◌else◌, IsSome, slice_get, ◌≡◌, ◌<◌, ◌≤◌, ◌+◌, ◌-◌, ℕ, Bool, true, false, inl, inr, List, [], ◌∷◌, Option, Some, None, length, refl, sym, ◌∙◌, ap, subst, arith, IsPrepared, Detached, Prepared, Faults, History, NoFault, InstRow, did, progress, Refusal}
-use Rattle.mail_save.proofs.Common.{refusal, MailIsKept, kept_begins, Lists, IsSettledFor, Leaves, AreHeld, AreOfParts, AttachingValue, next_attachment, next_candidate, nothing_found, parts_left, with_compared, with_found, IsLaid, unknown_guid, ids_in, after_placing, holders_in, KnownInstance}
-use Rattle.mail_save.proofs.Common.{leaves_none, KeepsStored, due_at, KeepsInstances, MovesHolds, holds_of, StoreValue, HasHoldRoom, save_amounts, WritesAttachment, AreAttached, AttachesNext, AttachesNone, Saves, SavedParts, stage}
+use Rattle.mail_save.proofs.Common.{if◌then◌else◌, IsSome, slice_get, ◌≡◌, ◌<◌, ◌≤◌, ◌+◌, ◌-◌, ℕ, Bool, true, false, inl, inr, List, [], ◌∷◌, Option, Some, None, length, refl, sym, ◌∙◌, ap, subst, arith, IsPrepared, Detached, Prepared, Faults, History, NoFault, InstRow, Refusal, MailIsKept}
+use Rattle.mail_save.proofs.Common.{kept_begins, Lists, IsSettledFor, Leaves, AreHeld, AreOfParts, AttachingValue, next_attachment, next_candidate, nothing_found, parts_left, with_compared, with_found, IsLaid, unknown_guid, ids_in, after_placing, holders_in, KnownInstance, leaves_none, KeepsStored}
+use Rattle.mail_save.proofs.Common.{due_at, KeepsInstances, MovesHolds, holds_of, StoreValue, HasHoldRoom, save_amounts, WritesAttachment, AreAttached, AttachesNext, AttachesNone, Saves, SavedParts}
 use Rattle.std.proofs.Common.{zero, suc}
 use Rattle.std.proofs.lemmas.Bool.{true≢false}
 use Rattle.disk_model.specs.Disk.{Grows}
 use Rattle.disk_model.proofs.MomentLemmas.{if_told-all}
+use Rattle.mdbox_base.specs.declared.progress.Did.TheVariants as did
+use Rattle.mdbox_base.specs.declared.progress.Progress.TheVariants as progress
+use Rattle.mdbox_base.specs.declared.replies.Refusal.TheVariants as refusal
 use Rattle.save_instances.specs.Attaching.{IsAttaching, attach_events_left}
 use Rattle.saved_message.specs.Region.{unknown_ids}
 use Rattle.store_core.proofs.DueLemmas.{keeps_itself}
@@ -19,6 +22,7 @@ use Rattle.mail_save.proofs.StoringLemmas.{spared_kept}
 use Rattle.mail_save.specs.Parts.{AreBeingAttached}
 use Rattle.mail_save.specs.SaveEffects.{LaysOut, NamesFound, after_comparing}
 use Rattle.mail_save.specs.Task.{IsAttachedSoFar}
+use Rattle.mail_save.specs.declared.task.SaveStage.TheVariants as stage
 
 -- ---- what an event changes of the store
 

@@ -21,7 +21,6 @@ pub use Rattle.disk_model.proofs.MomentLemmas.{if_told-map}
 pub use Rattle.disk_model.specs.Disk.{Between, DiskState, Faults, History, IfTold, reading, told_calls}
 pub use Rattle.disk_model.specs.FaultCounts.{ChangeFaultCounted, NoFault}
 pub use Rattle.disk_model.specs.declared.name.FileName.{FileName}
-pub use Rattle.disk_model.specs.declared.name.FileName.TheVariants as file
 pub use Rattle.disk_model.specs.declared.name.FileName.TheVariants.{Inst, Mail}
 pub use Rattle.journal.proofs.RunLemmas.{drawn_none}
 pub use Rattle.journal.specs.Events.{Around, next_part}
@@ -30,7 +29,6 @@ pub use Rattle.list_machine.specs.Machine.{first_refusal, is_step, part_checks, 
 pub use Rattle.list_machine.specs.Run.{Compares, EventPart, First, GivesBack, Last, PlacesInstance, PlacesMessage, Run, RunEvent, StoresRecord, TakesFile, and_then, drawn_also, drawn_of, is_one_of, map_of, own_events}
 pub use Rattle.mdbox_base.specs.Words.{IsName, IsOctets}
 pub use Rattle.mdbox_base.specs.declared.entries.BoxEntry.{BoxEntry}
-pub use Rattle.mdbox_base.specs.declared.entries.BoxEntry.TheVariants as box_entry
 pub use Rattle.mdbox_base.specs.declared.entries.Highest.{Highest}
 pub use Rattle.mdbox_base.specs.declared.entries.InstRow.{InstRow}
 pub use Rattle.mdbox_base.specs.declared.entries.MapEntry.{MapEntry}
@@ -41,16 +39,10 @@ pub use Rattle.mdbox_base.specs.declared.ids.InstId.{InstId}
 pub use Rattle.mdbox_base.specs.declared.ids.MapUid.{MapUid}
 pub use Rattle.mdbox_base.specs.declared.ids.Uid.{Uid}
 pub use Rattle.mdbox_base.specs.declared.progress.Did.{Did}
-pub use Rattle.mdbox_base.specs.declared.progress.Did.TheVariants as did
 pub use Rattle.mdbox_base.specs.declared.progress.Progress.{Progress}
-pub use Rattle.mdbox_base.specs.declared.progress.Progress.TheVariants as progress
 pub use Rattle.mdbox_base.specs.declared.replies.Refusal.{Refusal}
-pub use Rattle.mdbox_base.specs.declared.replies.Refusal.TheVariants as refusal
 pub use Rattle.mdbox_base.specs.declared.replies.Reply.{Reply}
-pub use Rattle.mdbox_base.specs.declared.replies.Reply.TheVariants as reply
 pub use Rattle.mdbox_base.specs.declared.requests.Request.{Request}
-pub use Rattle.mdbox_base.specs.declared.requests.Request.TheVariants as request
-pub use Rattle.mdbox_base.specs.declared.script.Half.TheVariants as half
 pub use Rattle.model_appends.specs.Amounts.{bit}
 pub use Rattle.model_appends.specs.Appending.{lists_by, meanings_by}
 pub use Rattle.model_kept.proofs.KeptLemmas.{kept_begins}
@@ -113,4 +105,3 @@ pub use Rattle.mail_save.specs.declared.add.Added.{Added}
 pub use Rattle.mail_save.specs.declared.first.SavedParts.{SavedParts}
 pub use Rattle.mail_save.specs.declared.place.SavedAt.{SavedAt}
 pub use Rattle.mail_save.specs.declared.task.SaveStage.{SaveStage}
-pub use Rattle.mail_save.specs.declared.task.SaveStage.TheVariants as stage

@@ -1,8 +1,10 @@
 -- Which calls of the disk failed in an event that was refused.
-use Rattle.mail_save.proofs.Common.{nat_le, if◌then◌else◌, option_or, ◌≡◌, ℕ, Bool, true, false, inl, inr, List, Option, Some, None, length, refl, sym, ◌∙◌, ap, Faults, ChangeFaultCounted, NoFault, progress, Refusal, refusal, reply, BoxMeaning, StoreValue, list_named, box_refusal, save_refusal}
-use Rattle.mail_save.proofs.Common.{uid_refusal, FaultsAt}
+use Rattle.mail_save.proofs.Common.{nat_le, if◌then◌else◌, option_or, ◌≡◌, ℕ, Bool, true, false, inl, inr, List, Option, Some, None, length, refl, sym, ◌∙◌, ap, Faults, ChangeFaultCounted, NoFault, Refusal, BoxMeaning, StoreValue, list_named, box_refusal, save_refusal, uid_refusal, FaultsAt}
 use Rattle.std.specs.Prelude.{◌⊎◌}
 use Rattle.disk_model.specs.FaultCounts.{ReadFaultCounted}
+use Rattle.mdbox_base.specs.declared.progress.Progress.TheVariants as progress
+use Rattle.mdbox_base.specs.declared.replies.Refusal.TheVariants as refusal
+use Rattle.mdbox_base.specs.declared.replies.Reply.TheVariants as reply
 
 -- a read, a change, or none
 pub refused_faults : (why : Refusal) (began ended : Faults) → (why ≡ refusal.ReadFault → ReadFaultCounted (Unit {0}) began ended) → (why ≡ refusal.Stopped → ChangeFaultCounted (Unit {0}) began ended)

@@ -1,6 +1,7 @@
 -- The instances that a delivery has found stay so, as other files change, and its record may name them.
-use Rattle.mail_save.proofs.Common.{◌≡◌, ◌≤◌, ℕ, List, [], ◌∷◌, All, Option, length, sym, subst, arith, All-cons, All-head, All-nil, All-tail, All-weaker, History, Between, IfTold, file, between-map, between-on, if_told-map, InstRow, AreHeld, InstancesValue, KeepsFirm, KeepsInstances, IsKnownRow}
+use Rattle.mail_save.proofs.Common.{◌≡◌, ◌≤◌, ℕ, List, [], ◌∷◌, All, Option, length, sym, subst, arith, All-cons, All-head, All-nil, All-tail, All-weaker, History, Between, IfTold, between-map, between-on, if_told-map, InstRow, AreHeld, InstancesValue, KeepsFirm, KeepsInstances, IsKnownRow}
 use Rattle.mail_save.proofs.Common.{StoreValue, HasAppended, ReadsSameMail, TakesWithHeader, AreAttached, IsAttached, SavedParts}
+use Rattle.disk_model.specs.declared.name.FileName.TheVariants as file
 use Rattle.save_instances.proofs.FoundLemmas.{of_parts_kept, rows_first, rows_known}
 use Rattle.saved_message.proofs.ReferenceLemmas.{parts_few}
 use Rattle.store_core.proofs.InstanceAppendLemmas.{of_known}

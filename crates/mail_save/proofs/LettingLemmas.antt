@@ -1,7 +1,8 @@
 -- What an event says that lets the instances go which were found: what it said before it did.
-use Rattle.mail_save.proofs.Common.{◌≡◌, ◌<◌, ◌+◌, ℕ, List, false, true, Option, sym, ◌∙◌, ap, subst, arith, ◌↔◌, Faults, History, InstRow, InstId, Did, Progress, progress, InstancesValue, holders_in, MailIsKept, Moves, amounts_in, KeepsInstances, MovesHolds, StoreValue, found_let_go, save_amounts}
+use Rattle.mail_save.proofs.Common.{◌≡◌, ◌<◌, ◌+◌, ℕ, List, false, true, Option, sym, ◌∙◌, ap, subst, arith, ◌↔◌, Faults, History, InstRow, InstId, Did, Progress, InstancesValue, holders_in, MailIsKept, Moves, amounts_in, KeepsInstances, MovesHolds, StoreValue, found_let_go, save_amounts}
 use Rattle.mail_save.proofs.Common.{IsReadyToSave, AreSpared, LetsGo, SaveEffects, FaultsAt, HasLeft, RepliesAt, Saves, stopped_reply, SaveStage}
 use Rattle.disk_model.specs.Disk.{Grows}
+use Rattle.mdbox_base.specs.declared.progress.Progress.TheVariants as progress
 use Rattle.store_core.proofs.InstanceKeepingLemmas.{kept_both}
 use Rattle.mail_save.specs.Held.{save_holds}
 use Rattle.mail_save.specs.MailFiles.{WritesMail}

@@ -1,8 +1,9 @@
 -- What the events of a delivery make of the storage files on the disk.
-use Rattle.mail_save.proofs.Common.{◌≡◌, ◌≢◌, ℕ, List, Option, Some, None, inl, inr, refl, sym, ◌∙◌, ap, subst, DiskState, History, IfTold, Between, reading, Mail, Inst, between-map, Refusal, refusal, end_in, IsAddedTo, StoreValue, IsSameOrSynced, HasAppended, TakesWithHeader, ReadsSameMail}
-use Rattle.mail_save.proofs.Common.{StoresNone, TakesNone, SavedAt}
+use Rattle.mail_save.proofs.Common.{◌≡◌, ◌≢◌, ℕ, List, Option, Some, None, inl, inr, refl, sym, ◌∙◌, ap, subst, DiskState, History, IfTold, Between, reading, Mail, Inst, between-map, Refusal, end_in, IsAddedTo, StoreValue, IsSameOrSynced, HasAppended, TakesWithHeader, ReadsSameMail, StoresNone}
+use Rattle.mail_save.proofs.Common.{TakesNone, SavedAt}
 use Rattle.disk_model.specs.Disk.{FileState, IsIdle, Keeps, SameButFor}
 use Rattle.disk_model.proofs.BetweenLemmas.{between-begins}
+use Rattle.mdbox_base.specs.declared.replies.Refusal.TheVariants as refusal
 use Rattle.storage_files.specs.OnDisk.{OthersAreNamed}
 use Rattle.store_core.proofs.MailChangeLemmas.{named_reads}
 use Rattle.store_core.specs.Keeping.{KeepsMail}

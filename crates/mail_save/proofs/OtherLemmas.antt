@@ -1,7 +1,7 @@
 -- What an event of a delivery keeps for other deliveries.
 use Rattle.mail_save.proofs.Common.{◌≡◌, ◌≢◌, ◌-◌, ℕ, Bool, true, false, List, [], ◌∷◌, All, inl, inr, refl, sym, ◌∙◌, ap, subst, arith, option_and_then, option_map_or, if◌then◌else◌, All-nil, All-cons, All-append, All-weaker, InstRow, MapEntry, FileNo, MapUid, Refusal, IsFree, MapRecord}
 use Rattle.mail_save.proofs.Common.{MapMeaning, map_applied, number_at, file-before_begun, file-other, FilesValue, end_in, ending_at, file_in, is_taken_in, place_begun_in, MailFile, StoreValue, HoldsRegion, entry_stored, entry_lowered, IsLeftAlone, LowersRecord, PlacesParts, StoresNone}
-use Rattle.mail_save.proofs.Common.{StoresPlaced, TakesFileFor, TakesNone, saved_row, Added, SavedParts, SavedAt, SaveStage, stage}
+use Rattle.mail_save.proofs.Common.{StoresPlaced, TakesFileFor, TakesNone, saved_row, Added, SavedParts, SavedAt, SaveStage}
 use Rattle.std.specs.Prelude.{◌+◌, Option}
 use Rattle.std.proofs.lemmas.Bool.{false≢true}
 use Rattle.model_meaning.proofs.KeptRowLemmas.{kept_all, kept_rows}
@@ -9,6 +9,7 @@ use Rattle.model_meaning.specs.MapFits.{IsApart}
 use Rattle.model_meaning.specs.MapMeaning.{record_changed, record_made, record_rules, has_map_uid}
 use Rattle.mail_save.proofs.SaveFileLemmas.{released_other, taken_other}
 use Rattle.mail_save.specs.Others.{IsOwnFile, KeepsOthers}
+use Rattle.mail_save.specs.declared.task.SaveStage.TheVariants as stage
 
 -- ---- records of the map
 

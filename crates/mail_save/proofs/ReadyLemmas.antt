@@ -1,10 +1,11 @@
 -- What events of a delivery leave ready for the next one.
 use Rattle.mail_save.proofs.Common.{◌≡◌, ◌==◌, ◌≢◌, ◌<◌, ◌+◌, ◌∷◌, ◌++◌, ℕ, Bool, false, List, [], map, Option, All, refl, sym, ◌∙◌, ap, subst, arith, take, drop, length, inl, inr, AllByRecursion, bytes_eq, cond-false, eq-eqb, ne_eqb, length-append, All-nil, All-cons, All-contains, All-head}
-use Rattle.mail_save.proofs.Common.{All-tail, All-weaker, sum_by-cons, bytes_eq-Decides, drop-append_seam, DiskState, History, IfTold, file, between-on, if_told-map, BoxEntry, InstRow, MapUid, LogRow, BoxMeaning, MapRecord, MapMeaning, files_of, StoresMessage, Detached, Prepared, InstId, AreOfParts}
+use Rattle.mail_save.proofs.Common.{All-tail, All-weaker, sum_by-cons, bytes_eq-Decides, drop-append_seam, DiskState, History, IfTold, between-on, if_told-map, BoxEntry, InstRow, MapUid, LogRow, BoxMeaning, MapRecord, MapMeaning, files_of, StoresMessage, Detached, Prepared, InstId, AreOfParts}
 use Rattle.mail_save.proofs.Common.{IsLaid, HasWritten, ids_in, KnownInstance, KeepsStored, due_at, number_beside, IsStore, StoreValue, indexes_of, references_to, IsSameOrSynced, entry_added, ReadsSameMail, IsLeftSoOrGone, IsPlacedReady, LetsGo, StoresPlaced, saved_row, Added, SavedAt}
 use Rattle.std.specs.Prelude.{cond, count_by}
 use Rattle.std.proofs.lemmas.Bool.{cases_Bool}
 use Rattle.std.proofs.Math.Seq.{take-length}
+use Rattle.disk_model.specs.declared.name.FileName.TheVariants as file
 use Rattle.disk_model.proofs.MomentLemmas.{if_told-both}
 use Rattle.model_appends.specs.Appending.{message_made}
 use Rattle.model_meaning.specs.BoxMeaning.{box_meaning, rows_after, row_made}

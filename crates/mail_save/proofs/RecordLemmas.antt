@@ -1,10 +1,11 @@
 -- A message that was placed can be stored in the map.
 use Rattle.mail_save.proofs.Common.{◌≡◌, ◌≤◌, ◌+◌, ◌==◌, ◌&&◌, ℕ, Bool, true, false, not, inl, inr, List, [], ◌∷◌, Option, Some, None, All, refl, sym, ◌∙◌, ap, subst, arith, length, if◌then◌else◌, AllByRecursion, option_map, option_map_or, option_and_then, cases_eq, cond-false, ne_eqb, All-nil}
-use Rattle.mail_save.proofs.Common.{All-cons, All-head, All-tail, History, IfTold, file, if_told-map, InstRow, MapUid, RowInRange, MapRecord, is_own, number_at, guid_file, files_of, AreFilesInOrder, end_in, file_in, taken-there, MailFile, IsReadyToStore, IsStore, StoreValue, HoldsRegion}
-use Rattle.mail_save.proofs.Common.{entry_stored, SavedAt}
+use Rattle.mail_save.proofs.Common.{All-cons, All-head, All-tail, History, IfTold, if_told-map, InstRow, MapUid, RowInRange, MapRecord, is_own, number_at, guid_file, files_of, AreFilesInOrder, end_in, file_in, taken-there, MailFile, IsReadyToStore, IsStore, StoreValue, HoldsRegion, entry_stored}
+use Rattle.mail_save.proofs.Common.{SavedAt}
 use Rattle.std.specs.Prelude.{AllPairs}
 use Rattle.std.proofs.lemmas.List.Elements.{recursion_from_All}
 use Rattle.disk_model.specs.Disk.{Files}
+use Rattle.disk_model.specs.declared.name.FileName.TheVariants as file
 use Rattle.mdbox_base.specs.Words.{IsNumber}
 use Rattle.model_appends.specs.MapAppending.{stored_row}
 use Rattle.model_meaning.specs.MapFits.{AgreesOn, FitsStored}

@@ -1,14 +1,21 @@
 -- What the events did that find the instances of a message's attachments, by the clause of a step.
 use Rattle.mail_save.proofs.Common.{◌≡◌, ◌≤◌, ◌<◌, ◌+◌, ◌⊎◌, ◌&&◌, ◌||◌, ℕ, Bool, true, false, List, [], ◌∷◌, length, Option, Some, None, refl, sym, ◌∙◌, ap, subst, arith, inl, inr, IsSome, is_some, nat_le, slice_get, if◌then◌else◌, list_any, bytes_eq, common_steps, bytes_eq-Decides, Detached}
-use Rattle.mail_save.proofs.Common.{History, Faults, Highest, InstRow, Did, did, progress, Refusal, refusal, reply, request, half, MapMeaning, no_numbers, Compares, PlacesInstance, is_one_of, is_step, Around, is_same_instance, drawn_none, AttachingValue, next_attachment, next_candidate, part_row}
-use Rattle.mail_save.proofs.Common.{with_compared, with_found, next_id, end_in, knows_instance, StoreValue, indexes_of, seen_of, Lasts, step_calm, AttachesNext, AttachesNone, HasItsParts, IsAtSave, StepsWithRoom, around_saving, IsTakingFile, FaultsAt, stopped_reply, SavedParts, SaveStage, stage}
+use Rattle.mail_save.proofs.Common.{History, Faults, Highest, InstRow, Did, Refusal, MapMeaning, no_numbers, Compares, PlacesInstance, is_one_of, is_step, Around, is_same_instance, drawn_none, AttachingValue, next_attachment, next_candidate, part_row, with_compared, with_found, next_id, end_in}
+use Rattle.mail_save.proofs.Common.{knows_instance, StoreValue, indexes_of, seen_of, Lasts, step_calm, AttachesNext, AttachesNone, HasItsParts, IsAtSave, StepsWithRoom, around_saving, IsTakingFile, FaultsAt, stopped_reply, SavedParts, SaveStage}
 use Rattle.std.proofs.lemmas.Option.{slice_get_within}
 use Rattle.disk_model.specs.FaultCounts.{ReadFaultCounted}
+use Rattle.mdbox_base.specs.declared.progress.Did.TheVariants as did
+use Rattle.mdbox_base.specs.declared.progress.Progress.TheVariants as progress
+use Rattle.mdbox_base.specs.declared.replies.Refusal.TheVariants as refusal
+use Rattle.mdbox_base.specs.declared.replies.Reply.TheVariants as reply
+use Rattle.mdbox_base.specs.declared.requests.Request.TheVariants as request
+use Rattle.mdbox_base.specs.declared.script.Half.TheVariants as half
 use Rattle.task_steps.proofs.EventLaws.{same_changes, same_reads}
 use Rattle.mail_save.specs.Events.{instance_refusal}
 use Rattle.mail_save.specs.SaveEffects.{ComparesNext, NamesFound, PlacesNext}
 use Rattle.mail_save.specs.SaveSeen.{count_detachable}
 use Rattle.mail_save.specs.Task.{IsAttachRefusal, failing_did}
+use Rattle.mail_save.specs.declared.task.SaveStage.TheVariants as stage
 use Rattle.mail_save.proofs.SaveClauseLemmas.{EventOf, DeliveryClause, with_did}
 use Rattle.mail_save.proofs.SaveDidLemmas.{or_none, HasRun, StaysSo}
 use Rattle.mail_save.proofs.SaveFrontLemmas.{SeesAround, compares_part, found_with, places_part}

@@ -1,9 +1,12 @@
 -- The claims of a delivery, by event.
 use Rattle.mail_save.proofs.Common.{◌≡◌, ◌≢◌, ◌+◌, ◌==◌, ℕ, Bool, true, false, List, [], ◌∷◌, ◌++◌, Option, Some, None, refl, sym, ◌∙◌, ap, subst, arith, inl, inr, ◌↔◌, is_some, list_any, option_map_or, option_and_then, cases_eq, eq-eqb, ne_eqb, History, Faults, InstRow, FileNo, Did, Progress}
-use Rattle.mail_save.proofs.Common.{progress, Refusal, refusal, Reply, reply, AttachingValue, AreFilesInOrder, FilesValue, IsTakeFor, end_in, ending_at, file_begun, file_in, given_back, is_doomed_in, is_taken_in, place_begun_in, released_in, with_taken, MailFile, Take, Known, New, Full, none_begun}
-use Rattle.mail_save.proofs.Common.{Moves, amounts_in, MovesHolds, StoreValue, Due, Held, Taken, one_if, save_claims, save_amounts, HoldsRegion, AttachesNext, AttachesNone, IsLeftAlone, LetsGo, PlacesParts, SaveEffects, StoresNone, TakesFileFor, TakesNone, TookAs, roomy_files, taken_files, HasLeft}
-use Rattle.mail_save.proofs.Common.{RepliesAt, Saves, stopped_reply, SavedParts, SavedAt, SaveStage, stage}
+use Rattle.mail_save.proofs.Common.{Refusal, Reply, AttachingValue, AreFilesInOrder, FilesValue, IsTakeFor, end_in, ending_at, file_begun, file_in, given_back, is_doomed_in, is_taken_in, place_begun_in, released_in, with_taken, MailFile, Take, Known, New, Full, none_begun, Moves, amounts_in}
+use Rattle.mail_save.proofs.Common.{MovesHolds, StoreValue, Due, Held, Taken, one_if, save_claims, save_amounts, HoldsRegion, AttachesNext, AttachesNone, IsLeftAlone, LetsGo, PlacesParts, SaveEffects, StoresNone, TakesFileFor, TakesNone, TookAs, roomy_files, taken_files, HasLeft, RepliesAt, Saves}
+use Rattle.mail_save.proofs.Common.{stopped_reply, SavedParts, SavedAt, SaveStage}
 use Rattle.std.specs.Prelude.{◌&&◌, length}
+use Rattle.mdbox_base.specs.declared.progress.Progress.TheVariants as progress
+use Rattle.mdbox_base.specs.declared.replies.Refusal.TheVariants as refusal
+use Rattle.mdbox_base.specs.declared.replies.Reply.TheVariants as reply
 use Rattle.storage_files.specs.Files.{is_emptied_in, pins_in}
 use Rattle.store_core.specs.declared.store.OpenBox.{OpenBox}
 use Rattle.task_claims.specs.Claims.{ClaimsNothing, Emptied, Made, MovesClaims, Pinned, PlacingPieces, Removing}
@@ -11,6 +14,7 @@ use Rattle.mail_save.specs.Claims.{own_file_of}
 use Rattle.mail_save.specs.Held.{save_holds}
 use Rattle.mail_save.specs.SaveEffects.{AreOthersTaken}
 use Rattle.mail_save.specs.Task.{EndsSave}
+use Rattle.mail_save.specs.declared.task.SaveStage.TheVariants as stage
 use Rattle.mail_save.proofs.LettingLemmas.{let_go_store}
 use Rattle.mail_save.proofs.SaveEventLemmas.{refused_is, unfallen}
 use Rattle.mail_save.proofs.SaveFileLemmas.{released_as, released_free, taken_unemptied, value_begun, value_changed}

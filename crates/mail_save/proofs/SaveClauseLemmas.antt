@@ -1,6 +1,8 @@
 -- The clause of a step of a delivery: what it stands on, and that instances may be let go as the event ends.
-use Rattle.mail_save.proofs.Common.{◌≡◌, ◌<◌, ◌^◌, ℕ, Bool, true, false, List, length, Option, sym, ◌∙◌, ap, subst, ◌↔◌, History, Faults, IfTold, IsOctets, InstRow, Did, did, Progress, Reply, Request, request, Lists, RunEvent, Run, and_then, Around, found_let_go, AreInstances, AreFilesInOrder, Own}
+use Rattle.mail_save.proofs.Common.{◌≡◌, ◌<◌, ◌^◌, ℕ, Bool, true, false, List, length, Option, sym, ◌∙◌, ap, subst, ◌↔◌, History, Faults, IfTold, IsOctets, InstRow, Did, Progress, Reply, Request, Lists, RunEvent, Run, and_then, Around, found_let_go, AreInstances, AreFilesInOrder, Own}
 use Rattle.mail_save.proofs.Common.{knows_instance, IsStore, AreInstancesKept, KnownInstance, StoreValue, fall, Lasts, Seen, HasComeTo, Leads, seen_of, IsReadyToSave, LetsGo, HasItsParts, IsAtSave, StepsWithRoom, around_saving, FaultsAt, HasLeft, RepliesAt, stopped_reply, SaveStage}
+use Rattle.mdbox_base.specs.declared.progress.Did.TheVariants as did
+use Rattle.mdbox_base.specs.declared.requests.Request.TheVariants as request
 use Rattle.task_steps.specs.Step.{FindsRoom, Fell, Went, EndsRequest, DidEvent, Steps, ended_by}
 use Rattle.mail_save.specs.Task.{MomentsAt, RestsAt, saved_did}
 use Rattle.mail_save.proofs.SeenInstanceLemmas.{knows_let_go}

@@ -1,7 +1,10 @@
 -- Events of a delivery, by the clause of a step: which files and GUIDs the run knows then, and what an event did.
-use Rattle.mail_save.proofs.Common.{◌≡◌, ◌≤◌, ◌+◌, ◌&&◌, ◌||◌, ℕ, Bool, true, false, not, List, [], ◌∷◌, ◌++◌, ◌⊎◌, Option, Some, None, refl, sym, ◌∙◌, ap, subst, arith, inl, inr, flat_map, list_any, bytes_eq, flat_map-append, list_any-append, told_calls, NoFault, Highest, InstRow, MapEntry, did}
-use Rattle.mail_save.proofs.Common.{Refusal, refusal, Reply, reply, Request, Lists, MapMeaning, map_applied, EventPart, RunEvent, Run, and_then, map_of, drawn_also, is_one_of, Around, is_same_instance, Seen, ShowsSeen, HasComeTo, Leads, Lasts, unstepped, comes_drawn}
+use Rattle.mail_save.proofs.Common.{◌≡◌, ◌≤◌, ◌+◌, ◌&&◌, ◌||◌, ℕ, Bool, true, false, not, List, [], ◌∷◌, ◌++◌, ◌⊎◌, Option, Some, None, refl, sym, ◌∙◌, ap, subst, arith, inl, inr, flat_map, list_any, bytes_eq, flat_map-append, list_any-append, told_calls, NoFault, Highest, InstRow, MapEntry}
+use Rattle.mail_save.proofs.Common.{Refusal, Reply, Request, Lists, MapMeaning, map_applied, EventPart, RunEvent, Run, and_then, map_of, drawn_also, is_one_of, Around, is_same_instance, Seen, ShowsSeen, HasComeTo, Leads, Lasts, unstepped, comes_drawn}
 use Rattle.std.proofs.lemmas.List.{append-nil}
+use Rattle.mdbox_base.specs.declared.progress.Did.TheVariants as did
+use Rattle.mdbox_base.specs.declared.replies.Refusal.TheVariants as refusal
+use Rattle.mdbox_base.specs.declared.replies.Reply.TheVariants as reply
 use Rattle.model_meaning.specs.MapMeaning.{named_instances}
 use Rattle.list_machine.specs.Run.{before, is_unpinning}
 use Rattle.journal.specs.Events.{makes_step, begun_in, ended_in}

@@ -1,8 +1,13 @@
 -- What any step of a delivery did.
-use Rattle.mail_save.proofs.Common.{◌≡◌, ◌<◌, ◌^◌, ℕ, true, false, List, length, Option, Some, None, refl, ap, subst, is_none, History, Faults, IfTold, IsOctets, InstRow, Did, did, Progress, progress, reply, request, First, Compares, PlacesInstance, TakesFile, PlacesMessage, StoresRecord, GivesBack}
-use Rattle.mail_save.proofs.Common.{Around, next_candidate, AreInstances, AreFilesInOrder, IsStore, AreInstancesKept, StoreValue, seen_of, IsReadyToSave, SaveEffects, HasItsParts, StepsWithRoom, around_saving, IsAtSave, room_at, Own, IsTakingFile, HasLeft, Saves, stopped_reply, SaveStage, stage}
+use Rattle.mail_save.proofs.Common.{◌≡◌, ◌<◌, ◌^◌, ℕ, true, false, List, length, Option, Some, None, refl, ap, subst, is_none, History, Faults, IfTold, IsOctets, InstRow, Did, Progress, First, Compares, PlacesInstance, TakesFile, PlacesMessage, StoresRecord, GivesBack, Around, next_candidate}
+use Rattle.mail_save.proofs.Common.{AreInstances, AreFilesInOrder, IsStore, AreInstancesKept, StoreValue, seen_of, IsReadyToSave, SaveEffects, HasItsParts, StepsWithRoom, around_saving, IsAtSave, room_at, Own, IsTakingFile, HasLeft, Saves, stopped_reply, SaveStage}
+use Rattle.mdbox_base.specs.declared.progress.Did.TheVariants as did
+use Rattle.mdbox_base.specs.declared.progress.Progress.TheVariants as progress
+use Rattle.mdbox_base.specs.declared.replies.Reply.TheVariants as reply
+use Rattle.mdbox_base.specs.declared.requests.Request.TheVariants as request
 use Rattle.task_steps.specs.Step.{ended_by}
 use Rattle.mail_save.specs.Task.{SaveValue}
+use Rattle.mail_save.specs.declared.task.SaveStage.TheVariants as stage
 use Rattle.mail_save.proofs.SaveAttachLemmas.{attaching_on, attaching_refused, attaching_whole, is_left}
 use Rattle.mail_save.proofs.SaveClauseLemmas.{EventOf, DeliveryClause, before_letting, lets_go_does}
 use Rattle.mail_save.proofs.SaveLastLemmas.{unsaved_stopped}

@@ -1,8 +1,12 @@
 -- The events of a delivery: what each one tells.
 use Rattle.mail_save.proofs.Common.{◌≡◌, ◌≤◌, ◌<◌, ◌+◌, ℕ, Bool, true, false, inl, inr, List, Option, Some, None, Err, refl, sym, ◌∙◌, ap, subst, arith, length, ◌↔◌, if◌then◌else◌, nat_le, option_or, cond-true, cond-false, eq-eqb, common_steps, Faults, History, ChangeFaultCounted, Guid, Uid, Did}
-use Rattle.mail_save.proofs.Common.{did, Progress, progress, Refusal, refusal, Reply, reply, BoxMeaning, StoreValue, list_named, box_refusal, save_refusal, uid_refusal, Saves, stopped_reply, SaveStage}
+use Rattle.mail_save.proofs.Common.{Progress, Refusal, Reply, BoxMeaning, StoreValue, list_named, box_refusal, save_refusal, uid_refusal, Saves, stopped_reply, SaveStage}
 use Rattle.std.proofs.Common.{Ok}
 use Rattle.std.specs.Prelude.{◌==◌, ◌⊎◌, Result}
+use Rattle.mdbox_base.specs.declared.progress.Did.TheVariants as did
+use Rattle.mdbox_base.specs.declared.progress.Progress.TheVariants as progress
+use Rattle.mdbox_base.specs.declared.replies.Refusal.TheVariants as refusal
+use Rattle.mdbox_base.specs.declared.replies.Reply.TheVariants as reply
 use Rattle.mail_save.specs.Task.{SaveValue, giving_did}
 
 -- ---- answers

@@ -1,13 +1,16 @@
 -- The events of a delivery up to that which stores the message, by the clause of a step.
 use Rattle.mail_save.proofs.Common.{◌≡◌, ◌≤◌, ◌<◌, ◌+◌, ◌⊎◌, ◌==◌, ◌||◌, ℕ, Bool, true, false, not, cond, List, [], ◌∷◌, ◌++◌, Option, Some, None, refl, sym, ◌∙◌, ap, subst, append_assoc, arith, inl, inr, nat_lt, nat_le, is_none, is_some, filter, flat_map, if◌then◌else◌, AllByRecursion, list_any}
-use Rattle.mail_save.proofs.Common.{option_map_or, option_or, bytes_eq, eq-eqb, common_steps, flat_map-append, All-nil, All-cons, All-append, list_any-append, bytes_eq-Decides, told_calls, IsOctets, Highest, InstRow, did, refusal, request, Lists, MapFits, MapMeaning, map_applied, no_numbers}
-use Rattle.mail_save.proofs.Common.{guid_file, number_at, parts_in, First, Compares, PlacesInstance, TakesFile, PlacesMessage, StoresRecord, Last, RunEvent, Run, and_then, own_events, map_of, drawn_of, drawn_also, is_one_of, first_refusal, refused_where, part_checks, Around, next_part, FindsPlace}
-use Rattle.mail_save.proofs.Common.{fall, comes_drawn, one_due, Seen, ShowsSeen, HasComeTo, HasNotBegun, drawn_none, StepsWithRoom, AreAttachedSoFar, HasAttached, IsTakingFile, IsPlacingMessage, IsStoringMessage, IsAddingMessage}
+use Rattle.mail_save.proofs.Common.{option_map_or, option_or, bytes_eq, eq-eqb, common_steps, flat_map-append, All-nil, All-cons, All-append, list_any-append, bytes_eq-Decides, told_calls, IsOctets, Highest, InstRow, Lists, MapFits, MapMeaning, map_applied, no_numbers, guid_file, number_at}
+use Rattle.mail_save.proofs.Common.{parts_in, First, Compares, PlacesInstance, TakesFile, PlacesMessage, StoresRecord, Last, RunEvent, Run, and_then, own_events, map_of, drawn_of, drawn_also, is_one_of, first_refusal, refused_where, part_checks, Around, next_part, FindsPlace, fall, comes_drawn}
+use Rattle.mail_save.proofs.Common.{one_due, Seen, ShowsSeen, HasComeTo, HasNotBegun, drawn_none, StepsWithRoom, AreAttachedSoFar, HasAttached, IsTakingFile, IsPlacingMessage, IsStoringMessage, IsAddingMessage}
 use Rattle.std.specs.Prelude.{◌≢◌, length, All}
 use Rattle.std.specs.Option.{IfSome}
 use Rattle.std.proofs.lemmas.List.{append-nil}
 use Rattle.std.proofs.lemmas.List.Elements.{filter-append}
 use Rattle.mdbox_base.specs.declared.entries.MapEntry.TheVariants as map_entry
+use Rattle.mdbox_base.specs.declared.progress.Did.TheVariants as did
+use Rattle.mdbox_base.specs.declared.replies.Refusal.TheVariants as refusal
+use Rattle.mdbox_base.specs.declared.requests.Request.TheVariants as request
 use Rattle.model_meaning.specs.MapMeaning.{instance_number, is_sealed}
 use Rattle.list_machine.specs.Run.{event_of, given_by_others}
 use Rattle.journal.specs.Events.{instances_found}

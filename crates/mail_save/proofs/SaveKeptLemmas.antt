@@ -1,10 +1,11 @@
 -- Where a delivery stands, as other requests go on.
-use Rattle.mail_save.proofs.Common.{◌≡◌, ◌||◌, ℕ, Bool, List, ◌∙◌, ap, list_any, bytes_eq, ne_eqb, InstRow, Refusal, RunEvent, Run, and_then, own_events, IsAtSave, IsTakingFile, IsPlacingMessage, IsStoringMessage, IsAddingMessage, IsLoweringCount, SaveStage, stage}
+use Rattle.mail_save.proofs.Common.{◌≡◌, ◌||◌, ℕ, Bool, List, ◌∙◌, ap, list_any, bytes_eq, ne_eqb, InstRow, Refusal, RunEvent, Run, and_then, own_events, IsAtSave, IsTakingFile, IsPlacingMessage, IsStoringMessage, IsAddingMessage, IsLoweringCount, SaveStage}
 use Rattle.std.specs.Prelude.{◌≢◌}
 use Rattle.journal.proofs.OwnEventLemmas.{own_other}
 use Rattle.task_steps.specs.Step.{GivesNew, IsKept}
 use Rattle.task_steps.proofs.SeenLemmas.{not_begun_stays, others_still}
 use Rattle.mail_save.specs.SaveStages.{IsOwnGuid}
+use Rattle.mail_save.specs.declared.task.SaveStage.TheVariants as stage
 use Rattle.mail_save.proofs.SaveDidLemmas.{given_more}
 
 own_stays : (place : ℕ) (run : Run) (event : RunEvent) (own : List RunEvent) → event.request ≢ place → own_events place run ≡ own → own_events place (and_then run event) ≡ own

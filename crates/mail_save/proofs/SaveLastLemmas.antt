@@ -1,10 +1,15 @@
 -- The last events of a delivery, by the clause of a step: the message is added, or refused, and its record given back.
-use Rattle.mail_save.proofs.Common.{◌≡◌, ◌≤◌, ◌<◌, ◌+◌, ◌^◌, ℕ, Bool, true, false, List, [], ◌∷◌, ◌++◌, ◌⊎◌, Option, Some, None, refl, sym, ◌∙◌, ap, subst, append_assoc, arith, inl, inr, find, if◌then◌else◌, slice_get, option_map, option_or, bytes_eq, All-nil, All-cons, told_calls, NoFault}
-use Rattle.mail_save.proofs.Common.{box_entry, Guid, Uid, did, Refusal, refusal, Reply, reply, half, Lists, lists_by, meanings_by, BoxMeaning, MapFits, MapBox, MapMeaning, map_applied, no_numbers, ShowLists, IsSettledFor, Leaves, Last, GivesBack, RunEvent, Run, and_then, map_of, own_events}
-use Rattle.mail_save.proofs.Common.{first_refusal, part_checks, is_step, Around, FindsPlace, drawn_none, one_due, Seen, ShowsSeen, Lasts, step_calm, unstepped, comes_drawn, box_refusal, StepsWithRoom, IsAddingMessage, IsLoweringCount}
+use Rattle.mail_save.proofs.Common.{◌≡◌, ◌≤◌, ◌<◌, ◌+◌, ◌^◌, ℕ, Bool, true, false, List, [], ◌∷◌, ◌++◌, ◌⊎◌, Option, Some, None, refl, sym, ◌∙◌, ap, subst, append_assoc, arith, inl, inr, find, if◌then◌else◌, slice_get, option_map, option_or, bytes_eq, All-nil, All-cons, told_calls, NoFault, Guid}
+use Rattle.mail_save.proofs.Common.{Uid, Refusal, Reply, Lists, lists_by, meanings_by, BoxMeaning, MapFits, MapBox, MapMeaning, map_applied, no_numbers, ShowLists, IsSettledFor, Leaves, Last, GivesBack, RunEvent, Run, and_then, map_of, own_events, first_refusal, part_checks, is_step, Around}
+use Rattle.mail_save.proofs.Common.{FindsPlace, drawn_none, one_due, Seen, ShowsSeen, Lasts, step_calm, unstepped, comes_drawn, box_refusal, StepsWithRoom, IsAddingMessage, IsLoweringCount}
 use Rattle.std.specs.Prelude.{length}
 use Rattle.mdbox_base.specs.Streams.{Rose}
+use Rattle.mdbox_base.specs.declared.entries.BoxEntry.TheVariants as box_entry
 use Rattle.mdbox_base.specs.declared.entries.MapEntry.TheVariants as map_entry
+use Rattle.mdbox_base.specs.declared.progress.Did.TheVariants as did
+use Rattle.mdbox_base.specs.declared.replies.Refusal.TheVariants as refusal
+use Rattle.mdbox_base.specs.declared.replies.Reply.TheVariants as reply
+use Rattle.mdbox_base.specs.declared.script.Half.TheVariants as half
 use Rattle.model_lists.specs.Lists.{Mailbox, refs_of}
 use Rattle.model_store.specs.Listing.{meaning_named}
 use Rattle.list_machine.specs.Run.{event_of}

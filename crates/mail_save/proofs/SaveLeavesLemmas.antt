@@ -1,12 +1,15 @@
 -- What each event of a delivery leaves to the tasks beside it.
-use Rattle.mail_save.proofs.Common.{◌≡◌, ◌≤◌, ◌<◌, ◌==◌, ℕ, Bool, true, false, List, [], ◌∷◌, Option, Some, None, inl, inr, refl, sym, ◌∙◌, ap, subst, arith, ◌↔◌, option_map_or, eq-eqb, History, Faults, InstRow, FileNo, Did, Progress, progress, Refusal, reply, MapMeaning, next_attachment}
-use Rattle.mail_save.proofs.Common.{next_candidate, taken-there, AreFilesInOrder, IsTakeFor, end_in, file_in, is_doomed_in, is_taken_in, MailFile, Take, Known, New, Full, none_begun, due_at, KeepsInstances, KeepsUids, IsStore, StoreValue, indexes_of, references_to, Claims, Taken, one_if}
-use Rattle.mail_save.proofs.Common.{LeavesOthers, LeavesUnlisted, save_claims, IsLeftAlone, LetsGo, SaveEffects, StoresNone, TakesFileFor, TakesNone, TookAs, HasLeft, RepliesAt, Saves, stopped_reply, SaveStage, stage}
+use Rattle.mail_save.proofs.Common.{◌≡◌, ◌≤◌, ◌<◌, ◌==◌, ℕ, Bool, true, false, List, [], ◌∷◌, Option, Some, None, inl, inr, refl, sym, ◌∙◌, ap, subst, arith, ◌↔◌, option_map_or, eq-eqb, History, Faults, InstRow, FileNo, Did, Progress, Refusal, MapMeaning, next_attachment, next_candidate}
+use Rattle.mail_save.proofs.Common.{taken-there, AreFilesInOrder, IsTakeFor, end_in, file_in, is_doomed_in, is_taken_in, MailFile, Take, Known, New, Full, none_begun, due_at, KeepsInstances, KeepsUids, IsStore, StoreValue, indexes_of, references_to, Claims, Taken, one_if, LeavesOthers}
+use Rattle.mail_save.proofs.Common.{LeavesUnlisted, save_claims, IsLeftAlone, LetsGo, SaveEffects, StoresNone, TakesFileFor, TakesNone, TookAs, HasLeft, RepliesAt, Saves, stopped_reply, SaveStage}
 use Rattle.std.specs.Prelude.{◌&&◌, length}
+use Rattle.mdbox_base.specs.declared.progress.Progress.TheVariants as progress
+use Rattle.mdbox_base.specs.declared.replies.Reply.TheVariants as reply
 use Rattle.storage_files.specs.Files.{is_emptied_in, pins_in}
 use Rattle.task_claims.proofs.CountedLemmas.{lowered_same, unraised_lower}
 use Rattle.task_claims.specs.Leaving.{OthersTook}
 use Rattle.mail_save.specs.MailFiles.{WritesMail}
+use Rattle.mail_save.specs.declared.task.SaveStage.TheVariants as stage
 use Rattle.mail_save.proofs.AttachEventLemmas.{IsAttachChange, attached_change, unattached_change}
 use Rattle.mail_save.proofs.LeavingLemmas.{LeavesMailBut, LeavesRecords, counts_leave, same_leave, leaves_by, mail_appended, mail_attached, mail_same, mail_taken, placing_known, released_known, same_known, stored_leave, taking_known}
 use Rattle.mail_save.proofs.SaveClaimLemmas.{stopped_runs}

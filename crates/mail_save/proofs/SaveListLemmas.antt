@@ -1,9 +1,11 @@
 -- A mailbox that a message is added to, in the lists that a store shows.
-use Rattle.mail_save.proofs.Common.{◌≡◌, ◌<◌, ◌+◌, ◌==◌, ℕ, Bool, true, false, cond, List, [], ◌∷◌, ◌++◌, map, length, Option, Some, None, refl, sym, ◌∙◌, ap, subst, arith, nat_le, find, if◌then◌else◌, option_map, option_or, bytes_eq, cond-true, cond-false, common_steps, box_entry, BoxEntry, Guid}
-use Rattle.mail_save.proofs.Common.{MapUid, Uid, refusal, Lists, LogRow, BoxMeaning, box_applied, MapBox, lists_by, meanings_by, ShowLists, Run, first_refusal, refused_where, box_refusal}
+use Rattle.mail_save.proofs.Common.{◌≡◌, ◌<◌, ◌+◌, ◌==◌, ℕ, Bool, true, false, cond, List, [], ◌∷◌, ◌++◌, map, length, Option, Some, None, refl, sym, ◌∙◌, ap, subst, arith, nat_le, find, if◌then◌else◌, option_map, option_or, bytes_eq, cond-true, cond-false, common_steps, BoxEntry, Guid, MapUid, Uid}
+use Rattle.mail_save.proofs.Common.{Lists, LogRow, BoxMeaning, box_applied, MapBox, lists_by, meanings_by, ShowLists, Run, first_refusal, refused_where, box_refusal}
 use Rattle.std.specs.Prelude.{max}
 use Rattle.std.proofs.lemmas.List.{length-map, map-append}
+use Rattle.mdbox_base.specs.declared.entries.BoxEntry.TheVariants as box_entry
 use Rattle.mdbox_base.specs.declared.replies.ListRow.{ListRow}
+use Rattle.mdbox_base.specs.declared.replies.Refusal.TheVariants as refusal
 use Rattle.model_lists.specs.Lists.{ListedMessage, Mailbox, AreWellFormed, listing_row}
 use Rattle.model_meaning.proofs.AppliedLemmas.{only_adds}
 use Rattle.model_appends.specs.Appending.{mailbox_by}

@@ -1,13 +1,17 @@
 -- Which numbers an event of a delivery draws: instances that it places draw one each, and no mailbox gets one, since the mailboxes stay.
-use Rattle.mail_save.proofs.Common.{◌≡◌, ◌≤◌, ◌+◌, ℕ, Bool, true, false, List, refl, sym, ◌∙◌, ap, subst, arith, inl, inr, length, if◌then◌else◌, InstRow, MapEntry, Hash, Progress, progress, Refusal, refusal, reply, MapMeaning, map_applied, AttachingValue, InstancesValue, after_placing, holders_in}
-use Rattle.mail_save.proofs.Common.{KnownInstance, StoreValue, entry_lowered, entry_stored, AttachesNext, AttachesNone, IsLeftAlone, LetsGo, SaveEffects, StoresNone, TakesNone, SavedAt, SaveStage, stage}
+use Rattle.mail_save.proofs.Common.{◌≡◌, ◌≤◌, ◌+◌, ℕ, Bool, true, false, List, refl, sym, ◌∙◌, ap, subst, arith, inl, inr, length, if◌then◌else◌, InstRow, MapEntry, Hash, Progress, Refusal, MapMeaning, map_applied, AttachingValue, InstancesValue, after_placing, holders_in, KnownInstance, StoreValue}
+use Rattle.mail_save.proofs.Common.{entry_lowered, entry_stored, AttachesNext, AttachesNone, IsLeftAlone, LetsGo, SaveEffects, StoresNone, TakesNone, SavedAt, SaveStage}
 use Rattle.std.specs.Prelude.{◌<◌, map}
 use Rattle.std.proofs.Math.Nat.{le-max_left, le_of_eq}
+use Rattle.mdbox_base.specs.declared.progress.Progress.TheVariants as progress
+use Rattle.mdbox_base.specs.declared.replies.Refusal.TheVariants as refusal
+use Rattle.mdbox_base.specs.declared.replies.Reply.TheVariants as reply
 use Rattle.model_meaning.specs.MapMeaning.{numbers_of}
 use Rattle.save_instances.proofs.AttachCountLemmas.{AreSameRows, held_rows, let_go_rows, placed_many, same_candidates, same_many}
 use Rattle.save_instances.specs.Attaching.{candidate_held}
 use Rattle.sis_store.specs.Instances.{instance_placed}
 use Rattle.task_claims.specs.Leaving.{PlacesFew}
+use Rattle.mail_save.specs.declared.task.SaveStage.TheVariants as stage
 use Rattle.mail_save.proofs.SaveAttachLemmas.{few_drawn}
 use Rattle.mail_save.proofs.SaveEventLemmas.{unfallen}
 

@@ -1,5 +1,5 @@
 -- How many parts of a message a delivery detaches.
-use Rattle.mail_save.proofs.Common.{◌≡◌, ℕ, List, [], ◌∷◌, length, Option, refl, sym, ◌∙◌, ap, filter, IsPrepared, Prepared, History, parts_in, StoreValue, IsReadyToSave, HasItsParts, SaveStage, stage}
+use Rattle.mail_save.proofs.Common.{◌≡◌, ℕ, List, [], ◌∷◌, length, Option, refl, sym, ◌∙◌, ap, filter, IsPrepared, Prepared, History, parts_in, StoreValue, IsReadyToSave, HasItsParts, SaveStage}
 use Rattle.std.proofs.Common.{suc}
 use Rattle.std.specs.Prelude.{map}
 use Rattle.std.proofs.lemmas.List.{length-map}
@@ -7,6 +7,7 @@ use Rattle.attach_detach.specs.Prepared.{piece_of}
 use Rattle.model_attach.specs.Detached.{AreCut, Piece}
 use Rattle.model_mime.specs.declared.mime.Part.{Part}
 use Rattle.mail_save.specs.SaveSeen.{count_detachable}
+use Rattle.mail_save.specs.declared.task.SaveStage.TheVariants as stage
 
 -- a piece is cut out for each part
 one_each : (message : List ℕ) (at : ℕ) (parts : List Part) (pieces : List Piece) (body : List ℕ) → AreCut message at parts pieces body → length pieces ≡ length parts

@@ -1,12 +1,14 @@
 -- A delivery stays ready from event to event.
-use Rattle.mail_save.proofs.Common.{◌≡◌, ◌≤◌, ◌+◌, ℕ, List, length, Option, ap, arith, IsPrepared, Prepared, Faults, History, InstId, Did, Progress, progress, AttachingValue, next_attachment, nothing_found, parts_left, holds_of, StoreValue, Claims, Held, LeavesOthers, save_claims, HasHoldRoom}
-use Rattle.mail_save.proofs.Common.{HasLeft, IsAttached, Saves, SavedParts, SaveStage, stage}
+use Rattle.mail_save.proofs.Common.{◌≡◌, ◌≤◌, ◌+◌, ℕ, List, length, Option, ap, arith, IsPrepared, Prepared, Faults, History, InstId, Did, Progress, AttachingValue, next_attachment, nothing_found, parts_left, holds_of, StoreValue, Claims, Held, LeavesOthers, save_claims, HasHoldRoom, HasLeft}
+use Rattle.mail_save.proofs.Common.{IsAttached, Saves, SavedParts, SaveStage}
+use Rattle.mdbox_base.specs.declared.progress.Progress.TheVariants as progress
 use Rattle.save_instances.proofs.FoundLemmas.{holds_few}
 use Rattle.save_instances.proofs.AttachCountLemmas.{none_more}
 use Rattle.save_instances.specs.Attaching.{attach_events_left}
 use Rattle.saved_message.proofs.ReferenceLemmas.{parts_few}
 use Rattle.sis_store.proofs.IdLemmas.{is_within}
 use Rattle.mail_save.specs.Task.{HasKept, IsAttachedSoFar, IsReadyToDeliver, holds_to_come, save_events_left}
+use Rattle.mail_save.specs.declared.task.SaveStage.TheVariants as stage
 use Rattle.mail_save.proofs.AttachLemmas.{next_is}
 
 -- ---- room for holds

@@ -1,9 +1,14 @@
 -- Events of a delivery that were refused, by the clause of a step.
-use Rattle.mail_save.proofs.Common.{◌≡◌, ◌<◌, ◌+◌, ℕ, Bool, true, false, List, [], ◌∷◌, ◌⊎◌, Option, Some, None, refl, sym, ◌∙◌, ap, inl, inr, nat_lt, nat_le, is_none, is_some, slice_get, if◌then◌else◌, option_or, Highest, InstRow, did, Refusal, refusal, Reply, reply, Request, request, half, Lists}
-use Rattle.mail_save.proofs.Common.{no_numbers, EventPart, First, Compares, PlacesInstance, TakesFile, PlacesMessage, StoresRecord, GivesBack, RunEvent, Run, own_events, drawn_of, first_refusal, refused_where, part_checks, is_step, Around, next_part, FindsPlace, Seen, ShowsSeen, HasComeTo}
-use Rattle.mail_save.proofs.Common.{HasNotBegun, Leads, step_calm, unstepped, StepsWithRoom, IsTakingFile, IsPlacingMessage, IsStoringMessage, IsLoweringCount}
+use Rattle.mail_save.proofs.Common.{◌≡◌, ◌<◌, ◌+◌, ℕ, Bool, true, false, List, [], ◌∷◌, ◌⊎◌, Option, Some, None, refl, sym, ◌∙◌, ap, inl, inr, nat_lt, nat_le, is_none, is_some, slice_get, if◌then◌else◌, option_or, Highest, InstRow, Refusal, Reply, Request, Lists, no_numbers, EventPart, First}
+use Rattle.mail_save.proofs.Common.{Compares, PlacesInstance, TakesFile, PlacesMessage, StoresRecord, GivesBack, RunEvent, Run, own_events, drawn_of, first_refusal, refused_where, part_checks, is_step, Around, next_part, FindsPlace, Seen, ShowsSeen, HasComeTo, HasNotBegun, Leads, step_calm}
+use Rattle.mail_save.proofs.Common.{unstepped, StepsWithRoom, IsTakingFile, IsPlacingMessage, IsStoringMessage, IsLoweringCount}
 use Rattle.std.specs.Prelude.{length}
 use Rattle.mdbox_base.specs.Streams.{Rose}
+use Rattle.mdbox_base.specs.declared.progress.Did.TheVariants as did
+use Rattle.mdbox_base.specs.declared.replies.Refusal.TheVariants as refusal
+use Rattle.mdbox_base.specs.declared.replies.Reply.TheVariants as reply
+use Rattle.mdbox_base.specs.declared.requests.Request.TheVariants as request
+use Rattle.mdbox_base.specs.declared.script.Half.TheVariants as half
 use Rattle.journal.specs.Journal.{IsReplyOf}
 use Rattle.journal.specs.Events.{behind_refused, has_memory, reads_octets, draws}
 use Rattle.journal.specs.Found.{has_looked}

@@ -1,7 +1,9 @@
 -- The events of a delivery in a run: which part comes next, and what is read of those that were.
 use Rattle.mail_save.proofs.Common.{◌≡◌, ◌⊎◌, ◌<◌, ◌==◌, ℕ, Bool, true, false, cond, List, [], ◌∷◌, ◌++◌, Option, Some, None, inl, inr, refl, sym, ◌∙◌, ap, subst, append_assoc, append-nil, arith, nat_lt, is_none, is_some, filter, flat_map, if◌then◌else◌, AllByRecursion, option_or, cases_eq, eq-eqb}
-use Rattle.mail_save.proofs.Common.{ne_eqb, common_steps, flat_map-append, InstRow, MapEntry, Refusal, refusal, request, EventPart, First, Compares, PlacesInstance, TakesFile, PlacesMessage, StoresRecord, Last, GivesBack, RunEvent, Run, own_events, Around, next_part, HasAttached, AreAttachedSoFar}
+use Rattle.mail_save.proofs.Common.{ne_eqb, common_steps, flat_map-append, InstRow, MapEntry, Refusal, EventPart, First, Compares, PlacesInstance, TakesFile, PlacesMessage, StoresRecord, Last, GivesBack, RunEvent, Run, own_events, Around, next_part, HasAttached, AreAttachedSoFar}
 use Rattle.std.specs.Prelude.{length}
+use Rattle.mdbox_base.specs.declared.replies.Refusal.TheVariants as refusal
+use Rattle.mdbox_base.specs.declared.requests.Request.TheVariants as request
 use Rattle.list_machine.specs.Run.{TakenFile, first_in, last_in}
 use Rattle.journal.specs.Events.{behind_event, behind_delivery, behind_refused, instances_found, file_taken, guid_given, uid_held, uid_raised, last_refusal}
 use Rattle.mail_save.specs.SaveStages.{AreTakenSoFar, ArePlacedSoFar, AreStoredSoFar, AreRefusedSoFar}

@@ -1,13 +1,20 @@
 -- What each event of a delivery did, by the clause of a step.
 use Rattle.mail_save.proofs.Common.{◌≡◌, ◌≤◌, ◌<◌, ◌+◌, ◌^◌, ◌==◌, ◌&&◌, ◌||◌, ℕ, Bool, true, false, List, [], ◌∷◌, ◌++◌, ◌⊎◌, length, Option, Some, None, refl, sym, ◌∙◌, ap, subst, arith, inl, inr, ◌↔◌, nat_le, is_some, is_none, if◌then◌else◌, list_any, option_map_or, option_or, bytes_eq, cases_eq}
-use Rattle.mail_save.proofs.Common.{Prepared, History, Faults, ChangeFaultCounted, IsOctets, BoxEntry, box_entry, Highest, InstRow, FileNo, Guid, MapUid, Uid, Did, did, progress, Refusal, refusal, reply, request, half, lists_by, meanings_by, Lists, BoxMeaning, MapMeaning, no_numbers, guid_file}
-use Rattle.mail_save.proofs.Common.{IsSettledFor, Leaves, First, TakesFile, PlacesMessage, StoresRecord, GivesBack, RunEvent, Run, drawn_of, is_one_of, first_refusal, refused_where, part_checks, is_step, Around, is_same_instance, drawn_none, ShowLists, AttachingValue, nothing_found, InstancesValue}
-use Rattle.mail_save.proofs.Common.{FilesValue, IsTakeFor, MayBeTakenFor, changed_in, end_in, ending_at, file_begun, file_in, with_taken, Take, Known, New, Full, due_at, knows_instance, StoreValue, indexes_of, list_named, references_to, leaves_none, none_begun, seen_of, Lasts, step_calm, HasComeTo}
-use Rattle.mail_save.proofs.Common.{HasNotBegun, entry_added, box_refusal, save_refusal, uid_refusal, AddsStored, IsLeftAlone, PlacesParts, StoresPlaced, TakesFileFor, TookAs, TakesNone, StoresNone, LowersRecord, roomy_files, taken_files, around_saving, IsAtSave, StepsWithRoom, room_at}
-use Rattle.mail_save.proofs.Common.{IsTakingFile, IsPlacingMessage, IsStoringMessage, IsAddingMessage, IsLoweringCount, FaultsAt, RepliesAt, stopped_reply, Added, SavedParts, SavedAt, SaveStage, stage}
+use Rattle.mail_save.proofs.Common.{Prepared, History, Faults, ChangeFaultCounted, IsOctets, BoxEntry, Highest, InstRow, FileNo, Guid, MapUid, Uid, Did, Refusal, lists_by, meanings_by, Lists, BoxMeaning, MapMeaning, no_numbers, guid_file, IsSettledFor, Leaves, First, TakesFile, PlacesMessage}
+use Rattle.mail_save.proofs.Common.{StoresRecord, GivesBack, RunEvent, Run, drawn_of, is_one_of, first_refusal, refused_where, part_checks, is_step, Around, is_same_instance, drawn_none, ShowLists, AttachingValue, nothing_found, InstancesValue, FilesValue, IsTakeFor, MayBeTakenFor, changed_in}
+use Rattle.mail_save.proofs.Common.{end_in, ending_at, file_begun, file_in, with_taken, Take, Known, New, Full, due_at, knows_instance, StoreValue, indexes_of, list_named, references_to, leaves_none, none_begun, seen_of, Lasts, step_calm, HasComeTo, HasNotBegun, entry_added, box_refusal}
+use Rattle.mail_save.proofs.Common.{save_refusal, uid_refusal, AddsStored, IsLeftAlone, PlacesParts, StoresPlaced, TakesFileFor, TookAs, TakesNone, StoresNone, LowersRecord, roomy_files, taken_files, around_saving, IsAtSave, StepsWithRoom, room_at, IsTakingFile, IsPlacingMessage, IsStoringMessage}
+use Rattle.mail_save.proofs.Common.{IsAddingMessage, IsLoweringCount, FaultsAt, RepliesAt, stopped_reply, Added, SavedParts, SavedAt, SaveStage}
 use Rattle.std.specs.Prelude.{◌≢◌, All}
 use Rattle.std.proofs.lemmas.Bool.Decides.{nat_tests}
+use Rattle.mdbox_base.specs.declared.entries.BoxEntry.TheVariants as box_entry
 use Rattle.mdbox_base.specs.declared.ids.BoxNo.{BoxNo}
+use Rattle.mdbox_base.specs.declared.progress.Did.TheVariants as did
+use Rattle.mdbox_base.specs.declared.progress.Progress.TheVariants as progress
+use Rattle.mdbox_base.specs.declared.replies.Refusal.TheVariants as refusal
+use Rattle.mdbox_base.specs.declared.replies.Reply.TheVariants as reply
+use Rattle.mdbox_base.specs.declared.requests.Request.TheVariants as request
+use Rattle.mdbox_base.specs.declared.script.Half.TheVariants as half
 use Rattle.list_machine.specs.Machine.{NextMapUid, is_used_up}
 use Rattle.journal.specs.Events.{draws}
 use Rattle.store_core.specs.Knows.{may_have_given}
@@ -18,6 +25,7 @@ use Rattle.mail_save.specs.Added.{HasRoomUnder}
 use Rattle.mail_save.specs.SaveEffects.{LaysOut, GivesFileBack}
 use Rattle.mail_save.specs.Task.{failing_did, refused_did, giving_did}
 use Rattle.mail_save.specs.declared.record.LowerRoom.{LowerRoom}
+use Rattle.mail_save.specs.declared.task.SaveStage.TheVariants as stage
 use Rattle.mail_save.proofs.HeldInstanceLemmas.{rows_firm}
 use Rattle.mail_save.proofs.PlacedLemmas.{placed_stores}
 use Rattle.mail_save.proofs.SaveClauseLemmas.{EventOf, DeliveryClause, with_did}

@@ -2,7 +2,7 @@
 use Rattle.mail_save.proofs.Common.{◌≡◌, ◌≤◌, ◌<◌, ◌+◌, ◌-◌, ◌^◌, ◌==◌, ◌&&◌, ◌||◌, ℕ, Bool, true, false, not, List, [], ◌∷◌, ◌++◌, length, Option, Some, None, refl, sym, ◌∙◌, ap, subst, arith, inl, inr, nat_le, nat_lt, is_some, if◌then◌else◌, w32, to_be_bytes, option_map, option_map_or}
 use Rattle.mail_save.proofs.Common.{option_and_then, cases_eq, eq-eqb, ne_eqb, cond-false, common_steps, length-append, All-nil, All-cons, All-head, All-tail, All-append, History, Faults, IsOctets, Highest, InstRow, FileNo, MapUid, bit, Lists, BoxMeaning, MapBox, MapMeaning, no_numbers, is_own}
 use Rattle.mail_save.proofs.Common.{guid_file, number_at, ShowLists, IsSettledFor, Leaves, drawn_also, AreFilesInOrder, changed_in, end_in, ending_at, file_begun, file_in, given_back, is_doomed_in, released_in, with_taken, without_file, file-before_begun, file-begun, file-other, MailFile}
-use Rattle.mail_save.proofs.Common.{AreInstances, due_at, number_beside, knows_instance, IsStore, StoreValue, indexes_of, seen_of, fall, Lasts, one_due, ShowsSeen, around_saving, room_at, SaveStage, stage}
+use Rattle.mail_save.proofs.Common.{AreInstances, due_at, number_beside, knows_instance, IsStore, StoreValue, indexes_of, seen_of, fall, Lasts, one_due, ShowsSeen, around_saving, room_at, SaveStage}
 use Rattle.std.specs.Prelude.{◌/◌, ◌%◌, ◌≢◌, All, cond}
 use Rattle.model_meaning.specs.MapMeaning.{is_sealed}
 use Rattle.storage_files.proofs.FileListLemmas.{KeepsNumber, file-here}
@@ -12,6 +12,7 @@ use Rattle.store_seen.specs.Seeing.{may_be_barred, may_be_used}
 use Rattle.task_steps.specs.Step.{IsSettledIn}
 use Rattle.mail_save.specs.SaveEffects.{AreEndsSame}
 use Rattle.mail_save.specs.SaveSeen.{candidate_at}
+use Rattle.mail_save.specs.declared.task.SaveStage.TheVariants as stage
 use Rattle.mail_save.proofs.PlaceLemmas.{own_place, file_of_place, offset_of_place}
 use Rattle.mail_save.proofs.SaveDidLemmas.{HasRun, KeepsTelling, StaysSo}
 use Rattle.mail_save.proofs.SaveFileLemmas.{value_changed}

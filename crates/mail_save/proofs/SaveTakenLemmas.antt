@@ -1,10 +1,11 @@
 -- A storage file that an event of a delivery has taken, and that it hasn't given back, is claimed.
 use Rattle.mail_save.proofs.Common.{◌≡◌, ◌≤◌, ◌==◌, ◌&&◌, ◌||◌, ℕ, Bool, true, false, List, [], ◌∷◌, ◌++◌, refl, sym, ◌∙◌, ap, append_assoc, arith, is_none, AllByRecursion, list_any, eq-eqb, ne_eqb, list_any-append, Run, RunEvent, is_one_of, own_events, InstRow, Reply, Taken, one_if, save_claims}
-use Rattle.mail_save.proofs.Common.{IsAtSave, AreAttachedSoFar, HasAttached, SaveStage, stage}
+use Rattle.mail_save.proofs.Common.{IsAtSave, AreAttachedSoFar, HasAttached, SaveStage}
 use Rattle.std.proofs.lemmas.Bool.{eqb-true}
 use Rattle.journal.specs.Found.{gave_back, is_storing, took_file}
 use Rattle.list_machine.specs.Run.{TakenFile}
 use Rattle.mail_save.specs.SaveStages.{HasStored, TookFile}
+use Rattle.mail_save.specs.declared.task.SaveStage.TheVariants as stage
 
 and_no : (b : Bool) → (b && false) ≡ false
 and_no true = refl

@@ -1,14 +1,18 @@
 -- A delivery leaves to others the messages that they copy or move: a mailbox lists no other one under their UIDs.
-use Rattle.mail_save.proofs.Common.{◌≡◌, ◌≤◌, ◌<◌, ◌==◌, ℕ, Bool, true, false, cond, List, [], ◌∷◌, Option, Some, None, refl, sym, ◌∙◌, ap, subst, arith, inl, inr, length, find, option_map, option_or, ne_eqb, BoxEntry, InstRow, Uid, Progress, progress, Refusal, refusal, reply, meanings_by, LogRow}
-use Rattle.mail_save.proofs.Common.{BoxMeaning, box_applied, MapBox, AttachingValue, KeepsUids, StoreValue, indexes_of, entry_added, AddsStored, AttachesNext, AttachesNone, LetsGo, SaveEffects, StoresNone, TakesNone, Added, SaveStage, stage}
+use Rattle.mail_save.proofs.Common.{◌≡◌, ◌≤◌, ◌<◌, ◌==◌, ℕ, Bool, true, false, cond, List, [], ◌∷◌, Option, Some, None, refl, sym, ◌∙◌, ap, subst, arith, inl, inr, length, find, option_map, option_or, ne_eqb, BoxEntry, InstRow, Uid, Progress, Refusal, meanings_by, LogRow, BoxMeaning, box_applied}
+use Rattle.mail_save.proofs.Common.{MapBox, AttachingValue, KeepsUids, StoreValue, indexes_of, entry_added, AddsStored, AttachesNext, AttachesNone, LetsGo, SaveEffects, StoresNone, TakesNone, Added, SaveStage}
 use Rattle.std.specs.Prelude.{◌⊎◌}
 use Rattle.std.specs.Option.{IfSome}
 use Rattle.std.proofs.lemmas.List.Folds.{find-append}
+use Rattle.mdbox_base.specs.declared.progress.Progress.TheVariants as progress
+use Rattle.mdbox_base.specs.declared.replies.Refusal.TheVariants as refusal
+use Rattle.mdbox_base.specs.declared.replies.Reply.TheVariants as reply
 use Rattle.model_meaning.specs.BoxMeaning.{row_at}
 use Rattle.model_meaning.proofs.AppliedLemmas.{rows_by_added}
 use Rattle.model_store.specs.Listing.{meaning_numbered}
 use Rattle.store_core.specs.Keeping.{KeepsUid}
 use Rattle.store_core.specs.Value.{list_numbered}
+use Rattle.mail_save.specs.declared.task.SaveStage.TheVariants as stage
 use Rattle.mail_save.proofs.SaveNumberLemmas.{DrawsNumbers}
 
 -- ---- the mailbox that lists a message more

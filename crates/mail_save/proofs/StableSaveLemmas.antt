@@ -1,9 +1,10 @@
 -- A delivery stays ready beside every event of every other task.
-use Rattle.mail_save.proofs.Common.{◌≡◌, ◌≤◌, ◌==◌, ℕ, List, length, Option, refl, ◌∙◌, ap, arith, eq-eqb, History, MapUid, HasRecord, MapRecord, AttachingValue, due_at, StoreValue, Claims, Due, one_if, Beside, save_claims, AreAttached, IsAttached, SavedParts, SaveStage, stage}
+use Rattle.mail_save.proofs.Common.{◌≡◌, ◌≤◌, ◌==◌, ℕ, List, length, Option, refl, ◌∙◌, ap, arith, eq-eqb, History, MapUid, HasRecord, MapRecord, AttachingValue, due_at, StoreValue, Claims, Due, one_if, Beside, save_claims, AreAttached, IsAttached, SavedParts, SaveStage}
 use Rattle.task_claims.proofs.LeftLemmas.{due_left, record_left}
 use Rattle.task_claims.specs.Stable.{IsStable}
 use Rattle.mail_save.specs.Parts.{AreBeingAttached}
 use Rattle.mail_save.specs.Task.{IsReadyToDeliver}
+use Rattle.mail_save.specs.declared.task.SaveStage.TheVariants as stage
 use Rattle.mail_save.proofs.StableFoundLemmas.{HoldsThese, all_claimed, attaching_left, holds_left, parts_left_so, still_held}
 use Rattle.mail_save.proofs.StableRegionLemmas.{file_left, placed_left, region_left, stored_left}
 

@@ -1,8 +1,9 @@
 -- What storing a record, and lowering its count, make of a store.
-use Rattle.mail_save.proofs.Common.{◌≡◌, ◌≤◌, ◌+◌, ℕ, List, [], Option, Some, None, Err, inl, inr, refl, sym, ◌∙◌, ap, subst, arith, All-nil, All-cons, History, Between, between-map, Highest, InstRow, MapEntry, MapUid, Refusal, refusal, HasRecord, MapFits, MapRecord, MapMeaning, map_applied}
-use Rattle.mail_save.proofs.Common.{record_at, files_of, StoresMessage, end_in, is_taken_in, released_in, due_at, KeepsStored, KeepsFirm, StoreValue, indexes_of, uid_refusal, entry_stored, entry_lowered, AreSpared, IsLeftAlone, LowersRecord, StoresNone, StoresPlaced, saved_row, SavedAt}
+use Rattle.mail_save.proofs.Common.{◌≡◌, ◌≤◌, ◌+◌, ℕ, List, [], Option, Some, None, Err, inl, inr, refl, sym, ◌∙◌, ap, subst, arith, All-nil, All-cons, History, Between, between-map, Highest, InstRow, MapEntry, MapUid, Refusal, HasRecord, MapFits, MapRecord, MapMeaning, map_applied, record_at}
+use Rattle.mail_save.proofs.Common.{files_of, StoresMessage, end_in, is_taken_in, released_in, due_at, KeepsStored, KeepsFirm, StoreValue, indexes_of, uid_refusal, entry_stored, entry_lowered, AreSpared, IsLeftAlone, LowersRecord, StoresNone, StoresPlaced, saved_row, SavedAt}
 use Rattle.std.proofs.Common.{Ok}
 use Rattle.std.specs.Prelude.{◌⊎◌, IfOk, IfErr, Result}
+use Rattle.mdbox_base.specs.declared.replies.Refusal.TheVariants as refusal
 use Rattle.model_appends.specs.Amounts.{due_by}
 use Rattle.store_core.specs.MapAppend.{drawn_by}
 use Rattle.mail_save.specs.SaveEffects.{GivesFileBack}

@@ -1,9 +1,10 @@
 -- What taking a storage file makes of a store, and giving it back.
-use Rattle.mail_save.proofs.Common.{◌≡◌, ◌≢◌, ◌≤◌, ◌+◌, ℕ, Bool, true, false, List, [], ◌∷◌, ◌++◌, length, Option, Some, None, refl, sym, ◌∙◌, ap, subst, arith, inl, inr, Contains, slice_get, is_some, if◌then◌else◌, option_map_or, option_and_then, History, FileNo, Refusal, refusal, MailFile, Take}
-use Rattle.mail_save.proofs.Common.{Known, New, Full, AreFilesInOrder, IsTakeFor, MayBeTakenFor, changed_in, end_in, ending_at, file_begun, file_in, given_back, is_taken_in, place_begun_in, released_in, with_taken, without_file, file-other, file-begun, file-before_begun, taken-there, none_begun}
-use Rattle.mail_save.proofs.Common.{IsStore, StoreValue, HoldsFile, TakesFileFor, TakesNone, roomy_files}
+use Rattle.mail_save.proofs.Common.{◌≡◌, ◌≢◌, ◌≤◌, ◌+◌, ℕ, Bool, true, false, List, [], ◌∷◌, ◌++◌, length, Option, Some, None, refl, sym, ◌∙◌, ap, subst, arith, inl, inr, Contains, slice_get, is_some, if◌then◌else◌, option_map_or, option_and_then, History, FileNo, Refusal, MailFile, Take, Known}
+use Rattle.mail_save.proofs.Common.{New, Full, AreFilesInOrder, IsTakeFor, MayBeTakenFor, changed_in, end_in, ending_at, file_begun, file_in, given_back, is_taken_in, place_begun_in, released_in, with_taken, without_file, file-other, file-begun, file-before_begun, taken-there, none_begun, IsStore}
+use Rattle.mail_save.proofs.Common.{StoreValue, HoldsFile, TakesFileFor, TakesNone, roomy_files}
 use Rattle.std.specs.Prelude.{◌⊎◌}
 use Rattle.std.proofs.lemmas.Option.{slice_get-get_or}
+use Rattle.mdbox_base.specs.declared.replies.Refusal.TheVariants as refusal
 use Rattle.storage_files.specs.Files.{IsGiven, after_take}
 use Rattle.storage_files.proofs.FileListLemmas.{file-found, file-without, ends-kept, ends-other, ends-here, ends-begun}
 use Rattle.mail_save.proofs.SaveFileLemmas.{known_unbegun, new_unbegun}

@@ -1,12 +1,18 @@
 -- What a purge says that removes a file in which no message lies.
 use Rattle.purge_task.proofs.Common.{◌≡◌, ◌≤◌, ◌<◌, ◌+◌, ◌==◌, ◌&&◌, ℕ, zero, suc, Bool, true, false, cond, List, [], ◌∷◌, length, Option, Some, None, refl, sym, ◌∙◌, ap, subst, arith, inl, inr, All, IsSome, is_some, list_any, option_and_then, option_map_or, cases_eq, eq-eqb, eqb-true, ne_eqb}
-use Rattle.purge_task.proofs.Common.{All-contains, All-head, All-tail, sum_by-cons, Faults, Grows, History, SameButFor, NoFault, file, FileNo, did, progress, refusal, reply, MailIsKept, Lists, MapRecord, found_one, IsSettledFor, Leaves, AreFilesInOrder, IsUsedFile, end_in, file_in, is_doomed_in}
-use Rattle.purge_task.proofs.Common.{is_emptied_in, is_taken_in, pins_in, place_begun_in, MailFile, file-gone, file-without, AreElsewhere, StoreValue, firm_same, Due, Emptied, Held, Made, MovesClaims, Pinned, PlacingPieces, Removing, Taken, Thing, amount_in, is_to_remove, one_if, LeavesOthers}
-use Rattle.purge_task.proofs.Common.{MayOnlyGrow, OthersTook, claims_of_sources, purge_claims, sources_left, IsPurgeStep, PurgeSteps, AreSourcesApart, HasPurged, IsBeginningFirst, IsToBegin, PurgeValue, IsNextStage, went_on, PurgeStage, stage, Source, Work, fall, IsStore}
+use Rattle.purge_task.proofs.Common.{All-contains, All-head, All-tail, sum_by-cons, Faults, Grows, History, SameButFor, NoFault, FileNo, MailIsKept, Lists, MapRecord, found_one, IsSettledFor, Leaves, AreFilesInOrder, IsUsedFile, end_in, file_in, is_doomed_in, is_emptied_in, is_taken_in, pins_in}
+use Rattle.purge_task.proofs.Common.{place_begun_in, MailFile, file-gone, file-without, AreElsewhere, StoreValue, firm_same, Due, Emptied, Held, Made, MovesClaims, Pinned, PlacingPieces, Removing, Taken, Thing, amount_in, is_to_remove, one_if, LeavesOthers, MayOnlyGrow, OthersTook}
+use Rattle.purge_task.proofs.Common.{claims_of_sources, purge_claims, sources_left, IsPurgeStep, PurgeSteps, AreSourcesApart, HasPurged, IsBeginningFirst, IsToBegin, PurgeValue, IsNextStage, went_on, PurgeStage, Source, Work, fall, IsStore}
 use Rattle.std.proofs.Common.{◌⊎◌}
+use Rattle.disk_model.specs.declared.name.FileName.TheVariants as file
+use Rattle.mdbox_base.specs.declared.progress.Did.TheVariants as did
+use Rattle.mdbox_base.specs.declared.progress.Progress.TheVariants as progress
+use Rattle.mdbox_base.specs.declared.replies.Refusal.TheVariants as refusal
+use Rattle.mdbox_base.specs.declared.replies.Reply.TheVariants as reply
 use Rattle.store_core.specs.Files.{ArePinsOfRecords}
 use Rattle.store_core.proofs.InstanceKeepingLemmas.{syncs_placed}
 use Rattle.purge_task.specs.Keeping.{IsBareFirst}
+use Rattle.purge_task.specs.declared.task.PurgeStage.TheVariants as stage
 use Rattle.purge_task.proofs.BareLemmas.{bare_steps}
 use Rattle.purge_task.proofs.LeavingLemmas.{removal_leaves}
 use Rattle.purge_task.proofs.RemovalCallLemmas.{next_claims, ready_next, same_in}

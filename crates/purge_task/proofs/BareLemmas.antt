@@ -1,7 +1,10 @@
 -- The clause of an event of a purge that removes a storage file in which no message lies.
-use Rattle.purge_task.proofs.Common.{◌≡◌, ◌≤◌, ◌<◌, ◌+◌, ◌==◌, ℕ, Bool, false, List, [], ◌∷◌, ◌++◌, Option, Some, None, refl, sym, ◌∙◌, ap, subst, nat_lt, if◌then◌else◌, list_any, option_map_or, All-head, All-tail, Faults, History, told_calls, FileNo, Did, did, request, MapMeaning, pairs_head}
-use Rattle.purge_task.proofs.Common.{MakesTarget, RemovesFile, RunEvent, Switches, TakenFile, and_then, is_one_of, map_of, own_events, Around, is_done, next_part, next_taken, purge_goes_on, pins_in, AreElsewhere, StoreValue, sources_left, PurgeSteps, around_purging, seen_by_purge, AreSourcesApart}
-use Rattle.purge_task.proofs.Common.{PurgeValue, GoesOnBehind, HaveCopied, HaveTaken, IsAtPurge, IsAtPurgeStage, IsNextStage, IsPurging, told_taken, went_on, PurgeStage, stage, Source, Work, DidBy, stands_by}
+use Rattle.purge_task.proofs.Common.{◌≡◌, ◌≤◌, ◌<◌, ◌+◌, ◌==◌, ℕ, Bool, false, List, [], ◌∷◌, ◌++◌, Option, Some, None, refl, sym, ◌∙◌, ap, subst, nat_lt, if◌then◌else◌, list_any, option_map_or, All-head, All-tail, Faults, History, told_calls, FileNo, Did, MapMeaning, pairs_head, MakesTarget}
+use Rattle.purge_task.proofs.Common.{RemovesFile, RunEvent, Switches, TakenFile, and_then, is_one_of, map_of, own_events, Around, is_done, next_part, next_taken, purge_goes_on, pins_in, AreElsewhere, StoreValue, sources_left, PurgeSteps, around_purging, seen_by_purge, AreSourcesApart, PurgeValue}
+use Rattle.purge_task.proofs.Common.{GoesOnBehind, HaveCopied, HaveTaken, IsAtPurge, IsAtPurgeStage, IsNextStage, IsPurging, told_taken, went_on, PurgeStage, Source, Work, DidBy, stands_by}
+use Rattle.mdbox_base.specs.declared.progress.Did.TheVariants as did
+use Rattle.mdbox_base.specs.declared.requests.Request.TheVariants as request
+use Rattle.purge_task.specs.declared.task.PurgeStage.TheVariants as stage
 use Rattle.purge_task.proofs.PartLemmas.{next_goes_on, next_is}
 use Rattle.purge_task.proofs.RemovalLemmas.{CountsRemoval, LeavesSettled, did_removal, none_in, removed_way, removes_taken}
 use Rattle.purge_task.proofs.RemovalSeenLemmas.{removal_event, without}

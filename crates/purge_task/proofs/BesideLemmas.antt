@@ -1,10 +1,11 @@
 -- Where a purge stands, beside events of other tasks.
 use Rattle.purge_task.proofs.Common.{◌≡◌, ◌≤◌, ◌==◌, ℕ, Bool, false, List, [], ◌∷◌, ◌++◌, Option, refl, ap, arith, All, if◌then◌else◌, list_any, eq-eqb, All-cons, All-head, All-nil, All-tail, sum_by-cons, History, MapPlace, Reply, EventPart, Run, RunEvent, and_then, is_one_of, own_events}
-use Rattle.purge_task.proofs.Common.{StoreValue, Claims, Emptied, records_within, claims_of_sources, purge_claims, sources_left, PurgeValue, CopiesBehind, GoesOnBehind, HaveCopied, IsAtPurge, IsAtPurgeStage, IsAtSwitched, IsPurging, RemovesBehind, PurgeStage, stage, Source}
+use Rattle.purge_task.proofs.Common.{StoreValue, Claims, Emptied, records_within, claims_of_sources, purge_claims, sources_left, PurgeValue, CopiesBehind, GoesOnBehind, HaveCopied, IsAtPurge, IsAtPurgeStage, IsAtSwitched, IsPurging, RemovesBehind, PurgeStage, Source}
 use Rattle.std.specs.Prelude.{◌≢◌, drop}
 use Rattle.task_claims.specs.Stable.{Beside}
 use Rattle.task_claims.proofs.LeftLemmas.{emptied_left}
 use Rattle.task_steps.specs.Step.{GivesNew}
+use Rattle.purge_task.specs.declared.task.PurgeStage.TheVariants as stage
 use Rattle.purge_task.proofs.KeptLemmas.{purge_stays}
 use Rattle.purge_task.proofs.WithinLemmas.{uids_within}
 

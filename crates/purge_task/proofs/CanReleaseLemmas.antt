@@ -1,8 +1,9 @@
 -- What a purge has taken can be given back.
 use Rattle.purge_task.proofs.Common.{◌≡◌, ◌≢◌, ◌<◌, ◌||◌, ℕ, Bool, true, false, List, [], ◌∷◌, get_or, Option, Some, None, refl, sym, ◌∙◌, ap, subst, arith, inl, inr, All, AllPairs, is_some, if◌then◌else◌, IfSome, option_map, option_map_or, cases_eq, History, All-cons, All-head, All-nil, All-tail}
 use Rattle.purge_task.proofs.Common.{FileNo, pairs_head, pairs_tail, IsUsedFile, changed_in, end_in, ending_at, file_in, given_back, is_emptied_in, is_taken_in, released_in, without_file, MailFile, file-here, file-other, file-without, StoreValue, sources_left, AreSourcesApart, HasPurged}
-use Rattle.purge_task.proofs.Common.{IsCopyingFirst, IsTargetToMake, IsToBegin, target_released, CanRelease, stage, Source, Work, fall}
+use Rattle.purge_task.proofs.Common.{IsCopyingFirst, IsTargetToMake, IsToBegin, target_released, CanRelease, Source, Work, fall}
 use Rattle.purge_task.specs.Taken.{source_released}
+use Rattle.purge_task.specs.declared.task.PurgeStage.TheVariants as stage
 use Rattle.purge_task.proofs.BareCallLemmas.{emptied_file, untaken_in}
 
 -- it is emptied, and its target is taken

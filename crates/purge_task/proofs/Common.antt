@@ -18,7 +18,6 @@ pub use Rattle.disk_model.proofs.IdleLemmas.{idle-begins}
 pub use Rattle.disk_model.specs.Disk.{Between, DiskState, Faults, FileState, Files, Grows, History, IfTold, IsIdle, Keeps, MayLeave, SameButFor, named, reading, told_calls}
 pub use Rattle.disk_model.specs.FaultCounts.{NoFault}
 pub use Rattle.disk_model.specs.declared.name.FileName.{FileName}
-pub use Rattle.disk_model.specs.declared.name.FileName.TheVariants as file
 pub use Rattle.disk_model.specs.declared.name.FileName.TheVariants.{Mail}
 pub use Rattle.gate_log.specs.State.{LogState}
 pub use Rattle.journal.proofs.OwnEventLemmas.{own_more}
@@ -33,21 +32,14 @@ pub use Rattle.map_rows.specs.declared.rows.MapRow.{MapRow}
 pub use Rattle.mdbox_base.specs.declared.entries.Highest.{Highest}
 pub use Rattle.mdbox_base.specs.declared.entries.InstRow.{InstRow}
 pub use Rattle.mdbox_base.specs.declared.entries.MapEntry.{MapEntry}
-pub use Rattle.mdbox_base.specs.declared.entries.MapEntry.TheVariants as map_entry
 pub use Rattle.mdbox_base.specs.declared.entries.MapPlace.{MapPlace}
 pub use Rattle.mdbox_base.specs.declared.ids.FileNo.{FileNo}
 pub use Rattle.mdbox_base.specs.declared.ids.InstId.{InstId}
 pub use Rattle.mdbox_base.specs.declared.ids.MapUid.{MapUid}
 pub use Rattle.mdbox_base.specs.declared.progress.Did.{Did}
-pub use Rattle.mdbox_base.specs.declared.progress.Did.TheVariants as did
 pub use Rattle.mdbox_base.specs.declared.progress.Progress.{Progress}
-pub use Rattle.mdbox_base.specs.declared.progress.Progress.TheVariants as progress
 pub use Rattle.mdbox_base.specs.declared.replies.Refusal.{Refusal}
-pub use Rattle.mdbox_base.specs.declared.replies.Refusal.TheVariants as refusal
 pub use Rattle.mdbox_base.specs.declared.replies.Reply.{Reply}
-pub use Rattle.mdbox_base.specs.declared.replies.Reply.TheVariants as reply
-pub use Rattle.mdbox_base.specs.declared.requests.Request.TheVariants as request
-pub use Rattle.mdbox_base.specs.declared.script.Half.TheVariants as half
 pub use Rattle.model_appends.specs.MapAppending.{AreCopied, IsCopiedTo}
 pub use Rattle.model_kept.proofs.KeptLemmas.{kept_then}
 pub use Rattle.model_kept.specs.Kept.{MailIsKept}
@@ -110,6 +102,5 @@ pub use Rattle.purge_task.specs.declared.finding.FoundFile.{FoundFile}
 pub use Rattle.purge_task.specs.declared.switch_event.SwitchedFile.{SwitchedFile}
 pub use Rattle.purge_task.specs.declared.switching.Switched.{Switched}
 pub use Rattle.purge_task.specs.declared.task.PurgeStage.{PurgeStage}
-pub use Rattle.purge_task.specs.declared.task.PurgeStage.TheVariants as stage
 pub use Rattle.purge_task.specs.declared.work.Source.{Source}
 pub use Rattle.purge_task.specs.declared.work.Work.{Work}

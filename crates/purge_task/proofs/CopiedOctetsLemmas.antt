@@ -1,7 +1,8 @@
 -- The copies in a target, with one message more, stand there octet for octet.
-use Rattle.purge_task.proofs.Common.{◌≡◌, ◌≢◌, ◌≤◌, ◌+◌, ◌==◌, ℕ, List, [], ◌∷◌, ◌++◌, length, take, drop, Some, refl, sym, ◌∙◌, ap, subst, arith, length-drop, length-take-le, All-contains, All-push, All-weaker, DiskState, reading, FileName, file, MapPlace, AreCopied, IsCopiedTo, HasRecord}
-use Rattle.purge_task.proofs.Common.{MapMeaning, MapRecord, record_at, found_one, files_of, shown_record, MapRow, IsPieceAdded, AreElsewhere, IsRegionAdded}
+use Rattle.purge_task.proofs.Common.{◌≡◌, ◌≢◌, ◌≤◌, ◌+◌, ◌==◌, ℕ, List, [], ◌∷◌, ◌++◌, length, take, drop, Some, refl, sym, ◌∙◌, ap, subst, arith, length-drop, length-take-le, All-contains, All-push, All-weaker, DiskState, reading, FileName, MapPlace, AreCopied, IsCopiedTo, HasRecord, MapMeaning}
+use Rattle.purge_task.proofs.Common.{MapRecord, record_at, found_one, files_of, shown_record, MapRow, IsPieceAdded, AreElsewhere, IsRegionAdded}
 use Rattle.std.proofs.lemmas.List.{take-take}
+use Rattle.disk_model.specs.declared.name.FileName.TheVariants as file
 use Rattle.store_core.proofs.MailChangeLemmas.{part_behind}
 
 length_both : (xs ys : List ℕ) → length (xs ++ ys) ≡ length xs + length ys

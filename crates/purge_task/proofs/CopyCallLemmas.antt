@@ -1,12 +1,17 @@
 -- What a purge says that copies a message.
 use Rattle.purge_task.proofs.Common.{◌≡◌, ◌≢◌, ◌≤◌, ◌<◌, ◌+◌, ◌==◌, ◌++◌, ℕ, Bool, false, cond, List, [], ◌∷◌, length, Option, Some, None, All, refl, sym, ◌∙◌, ap, subst, arith, IfSome, option_and_then, option_map, option_map_or, AllPairs-cons, sum_by-cons, Between, DiskState, Faults, Grows}
-use Rattle.purge_task.proofs.Common.{History, IfTold, MayLeave, SameButFor, reading, NoFault, FileName, file, between-both, between-on, MapPlace, FileNo, did, progress, refusal, reply, MapRow, AreCopied, MailIsKept, Lists, MapMeaning, record_at, IsSoundMap, pairs_head, pairs_tail, IsSettledFor}
-use Rattle.purge_task.proofs.Common.{Leaves, files_of, FilesValue, IsUsedFile, changed_in, end_in, ending_at, is_emptied_in, file-other, StoreValue, Due, Emptied, Held, Made, MovesClaims, Pinned, PlacingPieces, Removing, Taken, Thing, LeavesOthers, claims_of_sources, claims_of_target, purge_claims}
-use Rattle.purge_task.proofs.Common.{sources_left, IsPurgeStep, PurgeSteps, IsRegionAdded, IsSourceWith, IsTargetAt, NotesCopy, messages_in, AreCopiedUpTo, AreSourcesApart, HasPurged, HasSwitchRoom, HasTargetHeader, IsCopyingFirst, IsCopyingTo, IsSourceCopied, PurgeValue, PurgeStage, stage, Source}
-use Rattle.purge_task.proofs.Common.{Work, fall, IsStore}
+use Rattle.purge_task.proofs.Common.{History, IfTold, MayLeave, SameButFor, reading, NoFault, FileName, between-both, between-on, MapPlace, FileNo, MapRow, AreCopied, MailIsKept, Lists, MapMeaning, record_at, IsSoundMap, pairs_head, pairs_tail, IsSettledFor, Leaves, files_of, FilesValue, IsUsedFile}
+use Rattle.purge_task.proofs.Common.{changed_in, end_in, ending_at, is_emptied_in, file-other, StoreValue, Due, Emptied, Held, Made, MovesClaims, Pinned, PlacingPieces, Removing, Taken, Thing, LeavesOthers, claims_of_sources, claims_of_target, purge_claims, sources_left, IsPurgeStep, PurgeSteps}
+use Rattle.purge_task.proofs.Common.{IsRegionAdded, IsSourceWith, IsTargetAt, NotesCopy, messages_in, AreCopiedUpTo, AreSourcesApart, HasPurged, HasSwitchRoom, HasTargetHeader, IsCopyingFirst, IsCopyingTo, IsSourceCopied, PurgeValue, PurgeStage, Source, Work, fall, IsStore}
 use Rattle.std.specs.Prelude.{vec_capacity}
+use Rattle.disk_model.specs.declared.name.FileName.TheVariants as file
 use Rattle.disk_model.proofs.MomentLemmas.{if_told-both}
+use Rattle.mdbox_base.specs.declared.progress.Did.TheVariants as did
+use Rattle.mdbox_base.specs.declared.progress.Progress.TheVariants as progress
+use Rattle.mdbox_base.specs.declared.replies.Refusal.TheVariants as refusal
+use Rattle.mdbox_base.specs.declared.replies.Reply.TheVariants as reply
 use Rattle.storage_files.specs.OnDisk.{IsAsKnown}
+use Rattle.purge_task.specs.declared.task.PurgeStage.TheVariants as stage
 use Rattle.purge_task.proofs.CopiedOctetsLemmas.{copied_octets}
 use Rattle.purge_task.proofs.CopyStepLemmas.{copy_steps}
 use Rattle.purge_task.proofs.CopyingLemmas.{HasMore, IsCopyingOne, each_still, grown_amount, grown_ends, grown_keeps, grown_of, header_before, later_targets, more_copied, more_grows, target_untaken}

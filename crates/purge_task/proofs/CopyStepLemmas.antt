@@ -1,10 +1,13 @@
 -- The clause of an event of a purge that copies a message.
 use Rattle.purge_task.proofs.Common.{◌≡◌, ◌≤◌, ◌<◌, ◌==◌, ◌||◌, ℕ, Bool, true, false, List, [], ◌∷◌, ◌++◌, length, map, Option, Some, None, refl, sym, ◌∙◌, ap, subst, arith, All, Contains, filter, nat_lt, sum_by, if◌then◌else◌, list_any, eq-eqb, ne_eqb, common_steps, append-nil, All-cons}
-use Rattle.purge_task.proofs.Common.{All-contains_itself, All-head, All-nil, All-tail, All-weaker, Faults, History, told_calls, MapPlace, Did, did, Reply, request, MapMeaning, MapRecord, record_at, IsSoundMap, pairs_head, at_uid, CopiesMessage, Run, RunEvent, Switches, TakenFile, and_then}
-use Rattle.purge_task.proofs.Common.{dropped_in, event_of, how_many, is_one_of, own_events, Around, is_done, last_refusal, next_part, next_taken, own_more, MapRow, FilesValue, StoreValue, HasComeTo, sources_left, PurgeSteps, around_purging, seen_by_purge, IsNextWanted, IsSourceWith, AreSourcesApart}
-use Rattle.purge_task.proofs.Common.{AreCopiedUpTo, PurgeValue, CopiesBehind, HaveCopied, HaveTaken, IsAtPurge, IsAtPurgeStage, IsPurging, told_taken, PurgeStage, stage, Source, Work, DidBy, stands_by}
+use Rattle.purge_task.proofs.Common.{All-contains_itself, All-head, All-nil, All-tail, All-weaker, Faults, History, told_calls, MapPlace, Did, Reply, MapMeaning, MapRecord, record_at, IsSoundMap, pairs_head, at_uid, CopiesMessage, Run, RunEvent, Switches, TakenFile, and_then, dropped_in, event_of}
+use Rattle.purge_task.proofs.Common.{how_many, is_one_of, own_events, Around, is_done, last_refusal, next_part, next_taken, own_more, MapRow, FilesValue, StoreValue, HasComeTo, sources_left, PurgeSteps, around_purging, seen_by_purge, IsNextWanted, IsSourceWith, AreSourcesApart, AreCopiedUpTo}
+use Rattle.purge_task.proofs.Common.{PurgeValue, CopiesBehind, HaveCopied, HaveTaken, IsAtPurge, IsAtPurgeStage, IsPurging, told_taken, PurgeStage, Source, Work, DidBy, stands_by}
 use Rattle.std.specs.Prelude.{◌≢◌}
+use Rattle.mdbox_base.specs.declared.progress.Did.TheVariants as did
+use Rattle.mdbox_base.specs.declared.requests.Request.TheVariants as request
 use Rattle.journal.specs.Events.{IsCopiedNext, copies_left}
+use Rattle.purge_task.specs.declared.task.PurgeStage.TheVariants as stage
 use Rattle.purge_task.proofs.CopyLemmas.{is_left, next_contained, next_is_left}
 use Rattle.purge_task.proofs.EventLemmas.{did_next}
 use Rattle.purge_task.proofs.PartLemmas.{copies_some, last_with, next_copies, next_is}

@@ -1,11 +1,13 @@
 -- The file of which a message is copied, and its target, which has grown.
 use Rattle.purge_task.proofs.Common.{◌≡◌, ◌≢◌, ◌≤◌, ◌<◌, ◌+◌, ◌==◌, ◌&&◌, ◌++◌, ℕ, Bool, true, false, cond, List, [], ◌∷◌, length, append_assoc, Option, Some, None, All, refl, sym, ◌∙◌, ap, subst, arith, inl, inr, IfSome, option_and_then, option_map, option_map_or, cases_eq, eq-eqb, All-cons}
-use Rattle.purge_task.proofs.Common.{All-head, All-nil, All-tail, sum_by-cons, Between, DiskState, FileState, History, reading, file, between-map, MapPlace, FileNo, MapRow, IsSoundMap, pairs_head, IsUsedFile, changed_in, end_in, ending_at, file_in, is_emptied_in, is_taken_in, place_begun_in}
-use Rattle.purge_task.proofs.Common.{IsPieceAdded, MailFile, file-here, file-other, StoreValue, Due, Emptied, Held, Made, Pinned, PlacingPieces, Removing, Taken, Thing, amount_in, one_if, OnlyGrows, OthersTook, claims_of_sources, purge_claims, sources_left, IsNextWanted, AreCopiedUpTo}
-use Rattle.purge_task.proofs.Common.{AreSourcesApart, HasPurged, HasSwitchRoom, HasTargetHeader, IsCopyingFirst, IsCopyingTo, IsTargetFirst, IsTargetToMake, IsToBegin, target_header, stage, Source, Work}
+use Rattle.purge_task.proofs.Common.{All-head, All-nil, All-tail, sum_by-cons, Between, DiskState, FileState, History, reading, between-map, MapPlace, FileNo, MapRow, IsSoundMap, pairs_head, IsUsedFile, changed_in, end_in, ending_at, file_in, is_emptied_in, is_taken_in, place_begun_in, IsPieceAdded}
+use Rattle.purge_task.proofs.Common.{MailFile, file-here, file-other, StoreValue, Due, Emptied, Held, Made, Pinned, PlacingPieces, Removing, Taken, Thing, amount_in, one_if, OnlyGrows, OthersTook, claims_of_sources, purge_claims, sources_left, IsNextWanted, AreCopiedUpTo, AreSourcesApart, HasPurged}
+use Rattle.purge_task.proofs.Common.{HasSwitchRoom, HasTargetHeader, IsCopyingFirst, IsCopyingTo, IsTargetFirst, IsTargetToMake, IsToBegin, target_header, Source, Work}
+use Rattle.disk_model.specs.declared.name.FileName.TheVariants as file
 use Rattle.storage_files.proofs.FileListLemmas.{ends-here, ends-other}
 use Rattle.purge_task.specs.Copied.{IsNextWantedFirst, IsShownRow}
 use Rattle.purge_task.specs.Reserved.{HasRoomForCopy}
+use Rattle.purge_task.specs.declared.task.PurgeStage.TheVariants as stage
 use Rattle.purge_task.proofs.CopiedMoreLemmas.{copied_more}
 use Rattle.purge_task.proofs.CopyRoomLemmas.{room_for_copy}
 use Rattle.purge_task.proofs.GivenBackLemmas.{IsGivenBack, adding_of, emptying_of, pinned_of, placing_of, removing_of, taken_back}

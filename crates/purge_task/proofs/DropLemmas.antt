@@ -1,11 +1,13 @@
 -- What a purge makes of the map, event by event.
 use Rattle.purge_task.proofs.Common.{◌≡◌, ◌≢◌, ◌≤◌, ◌<◌, ◌+◌, ◌==◌, ◌||◌, ℕ, Bool, true, false, not, cond, List, [], ◌∷◌, length, map, Option, Some, None, refl, sym, ◌∙◌, ap, subst, arith, get_or, inl, inr, All, AllPairs, Contains, Err, IfOk, Ok, Result, count_by, filter, if◌then◌else◌}
-use Rattle.purge_task.proofs.Common.{IsStrictlyIncreasing, eqb-true, ne_eqb, All-contains, All-contains_itself, All-head, All-tail, Contains-append_right, length-map, AllPairs-from_increasing, sum_by-cons, History, apart_from_place, map_entry, MapPlace, FileNo, MapUid, Progress, Refusal, HasRecord}
-use Rattle.purge_task.proofs.Common.{MapFits, MapMeaning, MapRecord, has_map_uid, is_sealed, moved_record, place_given, record_at, IsSoundMap, equal_yes, pairs_head, pairs_tail, found_one, at_uid, MailFile, AreFilesInOrder, is_emptied_in, IsStore, StoreValue, store_sound, answer_of, came_to}
-use Rattle.purge_task.proofs.Common.{DropsUnwanted, TellsCounts, PurgeValue, IsNextStage, went_on, IsBehindSwitch, answer_of_switch, came_by_switch, IsSwitched, target_named, source_taken, take_all, taken_to_empty, target_drawn, SwitchedFile, Switched, PurgeStage, stage, Source, Work, fall}
+use Rattle.purge_task.proofs.Common.{IsStrictlyIncreasing, eqb-true, ne_eqb, All-contains, All-contains_itself, All-head, All-tail, Contains-append_right, length-map, AllPairs-from_increasing, sum_by-cons, History, apart_from_place, MapPlace, FileNo, MapUid, Progress, Refusal, HasRecord, MapFits}
+use Rattle.purge_task.proofs.Common.{MapMeaning, MapRecord, has_map_uid, is_sealed, moved_record, place_given, record_at, IsSoundMap, equal_yes, pairs_head, pairs_tail, found_one, at_uid, MailFile, AreFilesInOrder, is_emptied_in, IsStore, StoreValue, store_sound, answer_of, came_to, DropsUnwanted}
+use Rattle.purge_task.proofs.Common.{TellsCounts, PurgeValue, IsNextStage, went_on, IsBehindSwitch, answer_of_switch, came_by_switch, IsSwitched, target_named, source_taken, take_all, taken_to_empty, target_drawn, SwitchedFile, Switched, PurgeStage, Source, Work, fall}
 use Rattle.std.proofs.Common.{◌⊎◌}
 use Rattle.std.specs.Prelude.{OnErr}
+use Rattle.mdbox_base.specs.declared.entries.MapEntry.TheVariants as map_entry
 use Rattle.model_meaning.proofs.AppliedLemmas.{boxes_by_purged}
+use Rattle.purge_task.specs.declared.task.PurgeStage.TheVariants as stage
 use Rattle.purge_task.proofs.BareCallLemmas.{IsEmptiedFile, emptied_file}
 use Rattle.purge_task.proofs.CopyLemmas.{kept_of}
 use Rattle.purge_task.proofs.FreeInstanceLemmas.{any_has}

@@ -1,7 +1,13 @@
 -- What an event of a purge is, in a run and on a disk.
-use Rattle.purge_task.proofs.Common.{◌≡◌, ℕ, false, List, [], length, Some, None, refl, sym, ◌∙◌, ap, arith, slice_get, All-nil, Grows, told_calls, NoFault, did, progress, Refusal, refusal, Reply, reply, request, half, MailIsKept, Lists, MapFits, no_numbers, EventPart, First, Last, Run, RunEvent}
-use Rattle.purge_task.proofs.Common.{and_then, event_of, map_of, own_events, first_refusal, Around, last_refusal, next_part, DidEvent, HasComeTo, Seen, ShowsSeen, DidBy, fall, mail_still}
+use Rattle.purge_task.proofs.Common.{◌≡◌, ℕ, false, List, [], length, Some, None, refl, sym, ◌∙◌, ap, arith, slice_get, All-nil, Grows, told_calls, NoFault, Refusal, Reply, MailIsKept, Lists, MapFits, no_numbers, EventPart, First, Last, Run, RunEvent, and_then, event_of, map_of, own_events}
+use Rattle.purge_task.proofs.Common.{first_refusal, Around, last_refusal, next_part, DidEvent, HasComeTo, Seen, ShowsSeen, DidBy, fall, mail_still}
 use Rattle.std.specs.Prelude.{All}
+use Rattle.mdbox_base.specs.declared.progress.Did.TheVariants as did
+use Rattle.mdbox_base.specs.declared.progress.Progress.TheVariants as progress
+use Rattle.mdbox_base.specs.declared.replies.Refusal.TheVariants as refusal
+use Rattle.mdbox_base.specs.declared.replies.Reply.TheVariants as reply
+use Rattle.mdbox_base.specs.declared.requests.Request.TheVariants as request
+use Rattle.mdbox_base.specs.declared.script.Half.TheVariants as half
 use Rattle.list_machine.specs.Machine.{ArePurged, checks_of}
 use Rattle.journal.specs.Journal.{halves_of}
 use Rattle.journal.specs.Events.{DidPart, Finds, TellsFiles, behind_event, is_step_part}

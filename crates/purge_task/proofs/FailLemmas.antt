@@ -1,9 +1,14 @@
 -- Events of a purge that are refused: a change of the disk failed, or a message can't be read.
-use Rattle.purge_task.proofs.Common.{◌≡◌, ◌≤◌, ℕ, Bool, inl, true, false, List, [], Option, Some, refl, sym, subst, Faults, Grows, History, told_calls, Did, did, Refusal, refusal, Reply, reply, request, MailIsKept, Lists, MapMeaning, no_numbers, IsSettledFor, Leaves, EventPart, First, Run}
-use Rattle.purge_task.proofs.Common.{own_events, Around, next_part, FilesValue, StoreValue, DidEvent, HasComeTo, HasNotBegun, Seen, ShowsSeen, never_more, next_first, PurgeSteps, around_purging, seen_by_purge, PurgeValue, IsAtPurge, IsAtPurgeStage, PurgeStage, stage}
+use Rattle.purge_task.proofs.Common.{◌≡◌, ◌≤◌, ℕ, Bool, inl, true, false, List, [], Option, Some, refl, sym, subst, Faults, Grows, History, told_calls, Did, Refusal, Reply, MailIsKept, Lists, MapMeaning, no_numbers, IsSettledFor, Leaves, EventPart, First, Run, own_events, Around, next_part}
+use Rattle.purge_task.proofs.Common.{FilesValue, StoreValue, DidEvent, HasComeTo, HasNotBegun, Seen, ShowsSeen, never_more, next_first, PurgeSteps, around_purging, seen_by_purge, PurgeValue, IsAtPurge, IsAtPurgeStage, PurgeStage}
 use Rattle.mdbox_base.specs.Streams.{Rose}
+use Rattle.mdbox_base.specs.declared.progress.Did.TheVariants as did
+use Rattle.mdbox_base.specs.declared.replies.Refusal.TheVariants as refusal
+use Rattle.mdbox_base.specs.declared.replies.Reply.TheVariants as reply
+use Rattle.mdbox_base.specs.declared.requests.Request.TheVariants as request
 use Rattle.journal.specs.Events.{reads_octets}
 use Rattle.task_steps.proofs.EventLaws.{did_fall, did_forget, did_misread, Lasts, LeftBy, refusal_event, replied_so, same_changes, same_reads}
+use Rattle.purge_task.specs.declared.task.PurgeStage.TheVariants as stage
 use Rattle.purge_task.proofs.EventLemmas.{purge_refuses}
 use Rattle.purge_task.proofs.RemovalLemmas.{LeavesSettled}
 use Rattle.purge_task.proofs.SameSeenLemmas.{TellsNoLess, same_comes, with_state}

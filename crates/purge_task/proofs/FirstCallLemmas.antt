@@ -1,15 +1,22 @@
 -- What a purge says at its first event.
 use Rattle.purge_task.proofs.Common.{◌≡◌, ◌≢◌, ◌≤◌, ◌<◌, ◌+◌, ◌*◌, ◌==◌, ◌&&◌, ◌||◌, ℕ, Bool, true, false, List, [], ◌∷◌, ◌++◌, length, map, get_or, Option, Some, None, refl, sym, ◌∙◌, ap, subst, arith, All, inl, inr, AllPairs, Contains, Err, Result, count_by, sum_by, if◌then◌else◌, AllZip}
-use Rattle.purge_task.proofs.Common.{list_any, option_map, option_map_or, append-nil, length-map, eqb-true, All-contains, All-head, All-tail, All-weaker, AllPairs-from_increasing, count_by-le-length, sum_by-cons, DiskState, Faults, History, IsIdle, reading, NoFault, file, between-map, LogState}
-use Rattle.purge_task.proofs.Common.{Highest, did, request, half, progress, Refusal, refusal, Reply, reply, Around, next_part, targets_of, First, Run, TakenFile, is_copied_from, own_events, target_length, with_targets, MapMeaning, MapRecord, IsSoundMap, IsSoundRecord, pairs_head, pairs_tail}
-use Rattle.purge_task.proofs.Common.{found_one, MailFile, AreFilesInOrder, FilesValue, end_in, file_in, is_doomed_in, is_emptied_in, is_taken_in, pins_in, to_empty, with_pins, KeepsFirm, KeepsInstances, ReadsInstances, IsStore, StoreValue, store_sound, kept_same, firm_same, Claims, Due, Emptied}
-use Rattle.purge_task.proofs.Common.{Held, Made, MovesClaims, Pinned, PlacingPieces, Removing, Taken, Thing, amount_in, is_to_remove, one_if, IsSameOrSynced, LeavesOthers, OthersTook, unraised_same, instance_kept, none_placed, claims_of_sources, purge_claims, sources_left, DidEvent, HasNotBegun}
-use Rattle.purge_task.proofs.Common.{never_more, next_first, IsPurgeStep, PurgeSteps, around_purging, came_to, seen_by_purge, uncounted, AreAllBut, HasFound, IsFoundFile, IsFullToEnd, found_numbers, AreSourcesApart, HasPurged, IsBeginningFirst, IsToBegin, PurgeValue, IsNewSource, IsAtPurge}
-use Rattle.purge_task.proofs.Common.{IsAtPurgeStage, IsNextStage, CanTake, CanTakeAll, take_all, targets_given, Found, FoundFile, PurgeStage, stage, Source, Work, fall, files_to_empty}
+use Rattle.purge_task.proofs.Common.{list_any, option_map, option_map_or, append-nil, length-map, eqb-true, All-contains, All-head, All-tail, All-weaker, AllPairs-from_increasing, count_by-le-length, sum_by-cons, DiskState, Faults, History, IsIdle, reading, NoFault, between-map, LogState, Highest}
+use Rattle.purge_task.proofs.Common.{Refusal, Reply, Around, next_part, targets_of, First, Run, TakenFile, is_copied_from, own_events, target_length, with_targets, MapMeaning, MapRecord, IsSoundMap, IsSoundRecord, pairs_head, pairs_tail, found_one, MailFile, AreFilesInOrder, FilesValue, end_in}
+use Rattle.purge_task.proofs.Common.{file_in, is_doomed_in, is_emptied_in, is_taken_in, pins_in, to_empty, with_pins, KeepsFirm, KeepsInstances, ReadsInstances, IsStore, StoreValue, store_sound, kept_same, firm_same, Claims, Due, Emptied, Held, Made, MovesClaims, Pinned, PlacingPieces, Removing}
+use Rattle.purge_task.proofs.Common.{Taken, Thing, amount_in, is_to_remove, one_if, IsSameOrSynced, LeavesOthers, OthersTook, unraised_same, instance_kept, none_placed, claims_of_sources, purge_claims, sources_left, DidEvent, HasNotBegun, never_more, next_first, IsPurgeStep, PurgeSteps}
+use Rattle.purge_task.proofs.Common.{around_purging, came_to, seen_by_purge, uncounted, AreAllBut, HasFound, IsFoundFile, IsFullToEnd, found_numbers, AreSourcesApart, HasPurged, IsBeginningFirst, IsToBegin, PurgeValue, IsNewSource, IsAtPurge, IsAtPurgeStage, IsNextStage, CanTake, CanTakeAll}
+use Rattle.purge_task.proofs.Common.{take_all, targets_given, Found, FoundFile, PurgeStage, Source, Work, fall, files_to_empty}
 use Rattle.std.proofs.Common.{◌⊎◌}
 use Rattle.std.specs.Prelude.{IsErrOf}
 use Rattle.disk_model.specs.FaultCounts.{ReadFaultCounted}
+use Rattle.disk_model.specs.declared.name.FileName.TheVariants as file
 use Rattle.mdbox_base.specs.Streams.{Rose}
+use Rattle.mdbox_base.specs.declared.progress.Did.TheVariants as did
+use Rattle.mdbox_base.specs.declared.requests.Request.TheVariants as request
+use Rattle.mdbox_base.specs.declared.script.Half.TheVariants as half
+use Rattle.mdbox_base.specs.declared.progress.Progress.TheVariants as progress
+use Rattle.mdbox_base.specs.declared.replies.Refusal.TheVariants as refusal
+use Rattle.mdbox_base.specs.declared.replies.Reply.TheVariants as reply
 use Rattle.model_kept.proofs.KeptLemmas.{kept_idle}
 use Rattle.model_meaning.proofs.MapSoundLemmas.{greatest_fits}
 use Rattle.model_octets.proofs.PairLemmas.{all_map, pairs_map}
@@ -18,6 +25,7 @@ use Rattle.task_claims.specs.Leaving.{SyncsMail}
 use Rattle.task_claims.proofs.RestLemmas.{record_kept}
 use Rattle.purge_task.specs.Found.{AreUncleanFound, FindsUnclean, IsFindRefusal, LacksTargets, targets_in}
 use Rattle.purge_task.specs.Reserved.{IsNewWork}
+use Rattle.purge_task.specs.declared.task.PurgeStage.TheVariants as stage
 use Rattle.purge_task.proofs.CopyLemmas.{kept_of}
 use Rattle.purge_task.proofs.FailLemmas.{memory_steps, unread_steps}
 use Rattle.purge_task.proofs.FirstLemmas.{IsBegunOf, with_begun}

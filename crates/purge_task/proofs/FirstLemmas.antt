@@ -1,7 +1,8 @@
 -- The first event of a purge, in a run.
 use Rattle.purge_task.proofs.Common.{◌≡◌, ◌≤◌, ◌+◌, ◌&&◌, ℕ, Bool, true, false, List, [], ◌∷◌, length, map, Option, None, refl, sym, ◌∙◌, ap, arith, All, inl, inr, ◌⊎◌, is_some, nat_le, nat_lt, option_and_then, option_or, common_steps, All-head, All-tail, Faults, History, told_calls, LogState}
-use Rattle.purge_task.proofs.Common.{Refusal, refusal, Lists, MapMeaning, is_own, no_numbers, number_at, First, Run, RunEvent, TakenFile, and_then, drawn_of, event_of, is_one_of, target_length, with_targets, first_refusal, purge_checks, begun_in, ended_in, HasCome, FilesValue, file_in, is_doomed_in}
-use Rattle.purge_task.proofs.Common.{pins_in, MailFile, StoreValue, HasComeTo, doomed_still, file_still_known, given_still, gone_still, pins_still, placed_still, there_before, used_still, seen_by_purge}
+use Rattle.purge_task.proofs.Common.{Refusal, Lists, MapMeaning, is_own, no_numbers, number_at, First, Run, RunEvent, TakenFile, and_then, drawn_of, event_of, is_one_of, target_length, with_targets, first_refusal, purge_checks, begun_in, ended_in, HasCome, FilesValue, file_in, is_doomed_in, pins_in}
+use Rattle.purge_task.proofs.Common.{MailFile, StoreValue, HasComeTo, doomed_still, file_still_known, given_still, gone_still, pins_still, placed_still, there_before, used_still, seen_by_purge}
+use Rattle.mdbox_base.specs.declared.replies.Refusal.TheVariants as refusal
 use Rattle.list_machine.specs.Machine.{TargetFits, refused_where}
 use Rattle.purge_task.proofs.RunLemmas.{sum_push}
 use Rattle.purge_task.proofs.SameSeenLemmas.{bars, is_before, uses}

@@ -1,7 +1,11 @@
 -- The first event of a purge that is refused for lack of numbers.
-use Rattle.purge_task.proofs.Common.{◌≡◌, ◌<◌, ◌+◌, ℕ, Bool, true, false, List, [], ◌∷◌, ◌++◌, length, map, Option, Some, refl, sym, ◌∙◌, ap, subst, arith, inl, inr, ◌⊎◌, Contains, nat_lt, slice_get, option_or, common_steps, All-nil, Faults, Grows, told_calls, NoFault, Highest, did, Refusal}
-use Rattle.purge_task.proofs.Common.{refusal, Reply, reply, request, half, Lists, MapMeaning, among, First, Run, RunEvent, TakenFile, and_then, drawn_of, event_of, map_of, own_events, target_length, with_targets, first_refusal, purge_checks, Around, HasCome, DidEvent, HasComeTo, Seen, ShowsSeen}
-use Rattle.purge_task.proofs.Common.{MailIsKept, fall, next_first}
+use Rattle.purge_task.proofs.Common.{◌≡◌, ◌<◌, ◌+◌, ℕ, Bool, true, false, List, [], ◌∷◌, ◌++◌, length, map, Option, Some, refl, sym, ◌∙◌, ap, subst, arith, inl, inr, ◌⊎◌, Contains, nat_lt, slice_get, option_or, common_steps, All-nil, Faults, Grows, told_calls, NoFault, Highest, Refusal, Reply}
+use Rattle.purge_task.proofs.Common.{Lists, MapMeaning, among, First, Run, RunEvent, TakenFile, and_then, drawn_of, event_of, map_of, own_events, target_length, with_targets, first_refusal, purge_checks, Around, HasCome, DidEvent, HasComeTo, Seen, ShowsSeen, MailIsKept, fall, next_first}
+use Rattle.mdbox_base.specs.declared.progress.Did.TheVariants as did
+use Rattle.mdbox_base.specs.declared.replies.Refusal.TheVariants as refusal
+use Rattle.mdbox_base.specs.declared.replies.Reply.TheVariants as reply
+use Rattle.mdbox_base.specs.declared.requests.Request.TheVariants as request
+use Rattle.mdbox_base.specs.declared.script.Half.TheVariants as half
 use Rattle.list_machine.specs.Machine.{TargetFits, refused_where}
 use Rattle.journal.specs.Journal.{IsReplyOf, halves_of}
 use Rattle.journal.specs.Found.{AgreesWithRun}

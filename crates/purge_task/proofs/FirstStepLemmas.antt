@@ -1,11 +1,14 @@
 -- The clause of the first event of a purge.
 use Rattle.purge_task.proofs.Common.{◌≡◌, ◌≤◌, ◌<◌, ◌+◌, ◌==◌, ◌||◌, ℕ, false, List, [], ◌∷◌, ◌++◌, length, map, Option, Some, None, refl, sym, ◌∙◌, ap, subst, arith, All, inl, inr, AllPairs, flat_map, sum_by, list_any, eq-eqb, append-nil, All-cons, All-head, All-nil, All-push, All-tail, All-weaker}
-use Rattle.purge_task.proofs.Common.{Faults, History, told_calls, LogState, Highest, MapEntry, MapPlace, Did, did, Reply, request, MapMeaning, MapRecord, no_numbers, IsSoundMap, Run, RunEvent, TakenFile, and_then, drawn_of, dropped_in, how_many, is_one_of, map_of, own_events, target_length}
-use Rattle.purge_task.proofs.Common.{with_targets, first_refusal, purge_checks, Around, is_done, last_refusal, next_taken, targets_of, HasCome, own_more, FilesValue, AreFilesKept, StoreValue, HasNotBegun, next_first, sources_left, PurgeSteps, around_purging, seen_by_purge, AreAllBut, IsFullToEnd}
-use Rattle.purge_task.proofs.Common.{PurgeValue, GoesOnBehind, HaveCopied, HaveTaken, IsAtPurge, IsAtPurgeStage, IsNextStage, IsPurging, told_taken, PurgeStage, stage, Source, Work, DidBy, stands_by}
+use Rattle.purge_task.proofs.Common.{Faults, History, told_calls, LogState, Highest, MapEntry, MapPlace, Did, Reply, MapMeaning, MapRecord, no_numbers, IsSoundMap, Run, RunEvent, TakenFile, and_then, drawn_of, dropped_in, how_many, is_one_of, map_of, own_events, target_length, with_targets}
+use Rattle.purge_task.proofs.Common.{first_refusal, purge_checks, Around, is_done, last_refusal, next_taken, targets_of, HasCome, own_more, FilesValue, AreFilesKept, StoreValue, HasNotBegun, next_first, sources_left, PurgeSteps, around_purging, seen_by_purge, AreAllBut, IsFullToEnd, PurgeValue}
+use Rattle.purge_task.proofs.Common.{GoesOnBehind, HaveCopied, HaveTaken, IsAtPurge, IsAtPurgeStage, IsNextStage, IsPurging, told_taken, PurgeStage, Source, Work, DidBy, stands_by}
+use Rattle.mdbox_base.specs.declared.progress.Did.TheVariants as did
+use Rattle.mdbox_base.specs.declared.requests.Request.TheVariants as request
 use Rattle.model_meaning.specs.MapMeaning.{map_meaning}
 use Rattle.list_machine.specs.Run.{drawn_also, entries_of}
 use Rattle.journal.proofs.RunLemmas.{drawn_more, entries_more}
+use Rattle.purge_task.specs.declared.task.PurgeStage.TheVariants as stage
 use Rattle.purge_task.proofs.EventLemmas.{did_next}
 use Rattle.purge_task.proofs.FindsLemmas.{finds_files}
 use Rattle.purge_task.proofs.FirstLemmas.{IsBegunOf, first_allowed, first_comes, first_event, with_begun}

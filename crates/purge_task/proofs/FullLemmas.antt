@@ -1,6 +1,11 @@
 -- The clause of a first event of a purge that is refused for lack of numbers.
-use Rattle.purge_task.proofs.Common.{◌≡◌, ◌<◌, ◌+◌, ℕ, false, List, length, map, Option, Some, refl, sym, ap, subst, ◌⊎◌, AllPairs, Contains, Faults, History, told_calls, Highest, Did, did, reply, request, half, MapMeaning, IsSoundMap, RunEvent, TakenFile, drawn_of, map_of, target_length}
-use Rattle.purge_task.proofs.Common.{with_targets, first_refusal, purge_checks, Around, FilesValue, AreFilesKept, StoreValue, DidEvent, HasNotBegun, never_more, PurgeSteps, around_purging, seen_by_purge, AreAllBut, IsFullToEnd, PurgeValue, IsAtPurgeStage, PurgeStage, stage}
+use Rattle.purge_task.proofs.Common.{◌≡◌, ◌<◌, ◌+◌, ℕ, false, List, length, map, Option, Some, refl, sym, ap, subst, ◌⊎◌, AllPairs, Contains, Faults, History, told_calls, Highest, Did, MapMeaning, IsSoundMap, RunEvent, TakenFile, drawn_of, map_of, target_length, with_targets, first_refusal}
+use Rattle.purge_task.proofs.Common.{purge_checks, Around, FilesValue, AreFilesKept, StoreValue, DidEvent, HasNotBegun, never_more, PurgeSteps, around_purging, seen_by_purge, AreAllBut, IsFullToEnd, PurgeValue, IsAtPurgeStage, PurgeStage}
+use Rattle.mdbox_base.specs.declared.progress.Did.TheVariants as did
+use Rattle.mdbox_base.specs.declared.replies.Reply.TheVariants as reply
+use Rattle.mdbox_base.specs.declared.requests.Request.TheVariants as request
+use Rattle.mdbox_base.specs.declared.script.Half.TheVariants as half
+use Rattle.purge_task.specs.declared.task.PurgeStage.TheVariants as stage
 use Rattle.purge_task.proofs.FindsLemmas.{finds_files}
 use Rattle.purge_task.proofs.FirstRefusedLemmas.{did_lack, full, lacking_event, lacks_numbers}
 use Rattle.purge_task.proofs.RemovalLemmas.{LeavesSettled}

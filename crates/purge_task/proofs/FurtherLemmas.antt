@@ -1,7 +1,8 @@
 -- Each event of a file leaves fewer events, and counts the file where it dooms or removes it.
 use Rattle.purge_task.proofs.Common.{◌≡◌, ◌≤◌, ◌+◌, ℕ, List, [], ◌∷◌, drop, length, Option, refl, sym, ap, subst, arith, inl, inr, ◌⊎◌, All-contains, History, FileNo, MapRow, MapMeaning, IsSoundMap, IsSoundRecord, StoreValue, sources_left, IsNextWanted, NotesCopy, HasPurged, IsBeginningFirst}
-use Rattle.purge_task.proofs.Common.{IsTargetFirst, IsFurther, IsNextStage, went_on, PurgeStage, stage, Source, Work}
+use Rattle.purge_task.proofs.Common.{IsTargetFirst, IsFurther, IsNextStage, went_on, PurgeStage, Source, Work}
 use Rattle.purge_task.specs.Left.{events_before_instances, events_of_files, purge_files}
+use Rattle.purge_task.specs.declared.task.PurgeStage.TheVariants as stage
 use Rattle.purge_task.proofs.CopyLemmas.{next_contained}
 use Rattle.purge_task.proofs.StageLemmas.{left_on}
 

@@ -1,14 +1,21 @@
 -- What a purge says that removes an instance, or replies.
 use Rattle.purge_task.proofs.Common.{◌≡◌, ◌≢◌, ◌≤◌, ◌+◌, ◌==◌, ◌&&◌, ℕ, Bool, true, false, not, List, [], ◌∷◌, length, Option, Some, None, refl, sym, ◌∙◌, ap, subst, arith, inl, inr, ◌⊎◌, find, option_map, option_map_or, bytes_eq, All-contains, cases_Bool, eqb-true, Faults, Grows, History}
-use Rattle.purge_task.proofs.Common.{SameButFor, FileName, file, NoFault, idle-begins, is_instance_named, InstId, did, Progress, progress, refusal, reply, half, MailIsKept, Lists, MapMeaning, instance_number, found_one, text_is, text_yes, IsSettledFor, Leaves, AreInstances, HasDrawnNumber}
-use Rattle.purge_task.proofs.Common.{holders_in, instance_in, without_instance, instance_file, KnownInstance, instance-in, same_id, KeepsFirm, is_useless, useless_past, HasKnownInstances, StoreValue, Due, Emptied, Held, Made, MovesClaims, Pinned, PlacingPieces, Removing, Taken, Thing, amount_in}
-use Rattle.purge_task.proofs.Common.{LeavesOthers, mail_still, purge_claims, IsPurgeStep, PurgeSteps, at_stage, HasPurged, PurgeValue, PurgeStage, stage, fall, IsStore}
+use Rattle.purge_task.proofs.Common.{SameButFor, FileName, NoFault, idle-begins, is_instance_named, InstId, Progress, MailIsKept, Lists, MapMeaning, instance_number, found_one, text_is, text_yes, IsSettledFor, Leaves, AreInstances, HasDrawnNumber, holders_in, instance_in, without_instance}
+use Rattle.purge_task.proofs.Common.{instance_file, KnownInstance, instance-in, same_id, KeepsFirm, is_useless, useless_past, HasKnownInstances, StoreValue, Due, Emptied, Held, Made, MovesClaims, Pinned, PlacingPieces, Removing, Taken, Thing, amount_in, LeavesOthers, mail_still, purge_claims}
+use Rattle.purge_task.proofs.Common.{IsPurgeStep, PurgeSteps, at_stage, HasPurged, PurgeValue, PurgeStage, fall, IsStore}
 use Rattle.std.specs.Prelude.{cond}
+use Rattle.disk_model.specs.declared.name.FileName.TheVariants as file
 use Rattle.disk_model.specs.FaultCounts.{ChangeFaultCounted}
+use Rattle.mdbox_base.specs.declared.progress.Did.TheVariants as did
+use Rattle.mdbox_base.specs.declared.progress.Progress.TheVariants as progress
+use Rattle.mdbox_base.specs.declared.replies.Refusal.TheVariants as refusal
+use Rattle.mdbox_base.specs.declared.replies.Reply.TheVariants as reply
+use Rattle.mdbox_base.specs.declared.script.Half.TheVariants as half
 use Rattle.sis_store.specs.OnDisk.{file_of}
 use Rattle.store_core.proofs.InstanceRemovalLemmas.{names_others}
 use Rattle.mdbox_base.specs.Words.{IsOctets}
 use Rattle.task_claims.proofs.RestLemmas.{idle_leaves}
+use Rattle.purge_task.specs.declared.task.PurgeStage.TheVariants as stage
 use Rattle.purge_task.proofs.EventLemmas.{same_refusal}
 use Rattle.purge_task.proofs.FailLemmas.{fail_steps}
 use Rattle.purge_task.proofs.GoneLemmas.{gone_steps, last_steps}

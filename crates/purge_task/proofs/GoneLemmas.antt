@@ -1,7 +1,12 @@
 -- The events of a purge behind its files: an instance is removed, or the reply is given.
-use Rattle.purge_task.proofs.Common.{◌≡◌, ◌≤◌, ◌+◌, ℕ, false, List, [], ◌∷◌, ◌++◌, length, Option, Some, None, refl, sym, ◌∙◌, ap, subst, arith, find, is_some, sum_by, if◌then◌else◌, option_map, eq-eqb, append-nil, All-nil, Faults, History, told_calls, InstRow, Did, did, half, Reply, reply, request}
-use Rattle.purge_task.proofs.Common.{instance_number, Last, RemovesInstance, Run, RunEvent, TakenFile, and_then, dropped_in, how_many, own_events, Around, last_refusal, next_part, next_taken, purge_goes_on, own_more, AreInstances, KnownInstance, instance-in, found_one, is_useless, HasKnownInstances}
-use Rattle.purge_task.proofs.Common.{StoreValue, DidEvent, never_more, PurgeSteps, around_purging, seen_by_purge, PurgeValue, GoesOnBehind, HaveTaken, IsAtPurge, IsAtPurgeStage, IsPurging, PurgeStage, stage, Source, DidBy, stands_by}
+use Rattle.purge_task.proofs.Common.{◌≡◌, ◌≤◌, ◌+◌, ℕ, false, List, [], ◌∷◌, ◌++◌, length, Option, Some, None, refl, sym, ◌∙◌, ap, subst, arith, find, is_some, sum_by, if◌then◌else◌, option_map, eq-eqb, append-nil, All-nil, Faults, History, told_calls, InstRow, Did, Reply, instance_number, Last}
+use Rattle.purge_task.proofs.Common.{RemovesInstance, Run, RunEvent, TakenFile, and_then, dropped_in, how_many, own_events, Around, last_refusal, next_part, next_taken, purge_goes_on, own_more, AreInstances, KnownInstance, instance-in, found_one, is_useless, HasKnownInstances, StoreValue, DidEvent}
+use Rattle.purge_task.proofs.Common.{never_more, PurgeSteps, around_purging, seen_by_purge, PurgeValue, GoesOnBehind, HaveTaken, IsAtPurge, IsAtPurgeStage, IsPurging, PurgeStage, Source, DidBy, stands_by}
+use Rattle.mdbox_base.specs.declared.progress.Did.TheVariants as did
+use Rattle.mdbox_base.specs.declared.script.Half.TheVariants as half
+use Rattle.mdbox_base.specs.declared.replies.Reply.TheVariants as reply
+use Rattle.mdbox_base.specs.declared.requests.Request.TheVariants as request
+use Rattle.purge_task.specs.declared.task.PurgeStage.TheVariants as stage
 use Rattle.purge_task.proofs.EventLemmas.{did_last, did_next}
 use Rattle.purge_task.proofs.FreeInstanceLemmas.{finds_none, finds_one}
 use Rattle.purge_task.proofs.InstanceSeenLemmas.{gone_comes, gone_event, without_it}

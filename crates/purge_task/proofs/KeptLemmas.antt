@@ -1,9 +1,10 @@
 -- The stages of a purge are kept by events of other requests, and lead from one to the next by its own.
 use Rattle.purge_task.proofs.Common.{◌≡◌, ◌==◌, ◌||◌, ℕ, Bool, true, false, cond, List, [], ◌∷◌, ◌++◌, length, refl, sym, ◌∙◌, ap, subst, All, filter, flat_map, sum_by, list_any, eq-eqb, ne_eqb, list_any-append, Reply, EventPart, First, RemovesFile, RemovesInstance, Run, RunEvent, Switches}
-use Rattle.purge_task.proofs.Common.{and_then, dropped_in, how_many, is_one_of, own_events, last_refusal, StoreValue, sources_left, PurgeValue, CopiesBehind, GoesOnBehind, HaveCopied, HaveTaken, IsAtPurge, IsAtPurgeStage, IsAtSwitched, IsPurging, RemovesBehind, PurgeStage, stage, Source}
+use Rattle.purge_task.proofs.Common.{and_then, dropped_in, how_many, is_one_of, own_events, last_refusal, StoreValue, sources_left, PurgeValue, CopiesBehind, GoesOnBehind, HaveCopied, HaveTaken, IsAtPurge, IsAtPurgeStage, IsAtSwitched, IsPurging, RemovesBehind, PurgeStage, Source}
 use Rattle.journal.proofs.OwnEventLemmas.{own_other}
 use Rattle.task_steps.specs.Step.{IsKept}
 use Rattle.task_steps.proofs.SeenLemmas.{not_begun_stays, was_pinned_still}
+use Rattle.purge_task.specs.declared.task.PurgeStage.TheVariants as stage
 
 -- ---- the last of its own events
 

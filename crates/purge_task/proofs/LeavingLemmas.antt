@@ -1,8 +1,9 @@
 -- A storage file or an instance that is removed leaves to other tasks what is theirs.
 use Rattle.purge_task.proofs.Common.{◌≡◌, ◌≢◌, ◌≤◌, ◌<◌, ◌+◌, ◌==◌, ◌&&◌, ℕ, Bool, true, false, not, List, [], ◌∷◌, ◌++◌, length, Option, Some, All, refl, sym, ◌∙◌, ap, subst, arith, inl, inr, filter, if◌then◌else◌, option_map, option_and_then, cases_eq, cases_Bool, append-nil, All-cons}
-use Rattle.purge_task.proofs.Common.{All-contains, All-filter, All-head, All-nil, All-tail, DiskState, History, SameButFor, reading, FileName, file, between-map, between-on, InstRow, InstId, MapRecord, record_at, found_one, text_yes, files_of, HasDrawnNumber, has_id, holders_in, without_instance}
+use Rattle.purge_task.proofs.Common.{All-contains, All-filter, All-head, All-nil, All-tail, DiskState, History, SameButFor, reading, FileName, between-map, between-on, InstRow, InstId, MapRecord, record_at, found_one, text_yes, files_of, HasDrawnNumber, has_id, holders_in, without_instance}
 use Rattle.purge_task.proofs.Common.{instance_file, KnownInstance, same_id, with_pins, MailFile, file-without, KeepsFirm, KeepsInstances, AreElsewhere, IsKnownRow, StoreValue, kept_same, Claims, Held, HasRegionOctets, HaveSameInstances, IsSameOrSynced, LeavesOthers, LeavesRecord, MayOnlyGrow}
 use Rattle.purge_task.proofs.Common.{OnlyGrows, OthersTook, unraised_same, instance_kept, none_placed}
+use Rattle.disk_model.specs.declared.name.FileName.TheVariants as file
 use Rattle.mdbox_base.specs.declared.ids.Hash.{Hash}
 use Rattle.mdbox_base.specs.declared.ids.StoreId.{StoreId}
 use Rattle.sis_store.specs.Comparing.{IsUnlikeCompared}

@@ -1,8 +1,9 @@
 -- Which part of a purge comes next, by its own events.
-use Rattle.purge_task.proofs.Common.{◌≡◌, ◌==◌, ◌||◌, ℕ, Bool, true, false, not, cond, List, [], ◌∷◌, ◌++◌, map, Option, Some, None, refl, sym, ◌∙◌, ap, subst, All, find, filter, nat_lt, is_some, if◌then◌else◌, list_any, option_or, eqb-true, All-cons, All-nil, All-head, All-tail, Refusal, request}
+use Rattle.purge_task.proofs.Common.{◌≡◌, ◌==◌, ◌||◌, ℕ, Bool, true, false, not, cond, List, [], ◌∷◌, ◌++◌, map, Option, Some, None, refl, sym, ◌∙◌, ap, subst, All, find, filter, nat_lt, is_some, if◌then◌else◌, list_any, option_or, eqb-true, All-cons, All-nil, All-head, All-tail, Refusal}
 use Rattle.purge_task.proofs.Common.{CopiesMessage, EventPart, First, Last, MakesTarget, RemovesFile, RemovesInstance, Run, RunEvent, Switches, TakenFile, map_of, own_events, Around, is_done, last_refusal, next_part, next_taken, purge_goes_on, was_pinned, CopiesBehind, GoesOnBehind, HaveTaken}
 use Rattle.purge_task.proofs.Common.{RemovesBehind, told_taken, Source}
 use Rattle.mdbox_base.specs.declared.requests.Request.{Request}
+use Rattle.mdbox_base.specs.declared.requests.Request.TheVariants as request
 use Rattle.journal.specs.Events.{behind_event, behind_purge, purge_copies}
 use Rattle.purge_task.specs.Stages.{IsLastOf}
 

@@ -1,15 +1,19 @@
 -- What the events of a purge say of a purge beside no other task.
 use Rattle.purge_task.proofs.Common.{◌≡◌, ◌≢◌, ◌<◌, ◌+◌, ℕ, Bool, true, false, List, [], ◌∷◌, length, Option, Some, None, refl, sym, ◌∙◌, ap, subst, arith, All, option_map, option_map_or, length-drop, length-take-le, All-cons, All-head, All-weaker, Between, DiskState, Files, History, IfTold, Keeps}
-use Rattle.purge_task.proofs.Common.{SameButFor, named, reading, FileName, file, between-both, between-if, FileNo, did, progress, MapRow, AreCopied, MapMeaning, is_sealed, record_at, equal_yes, pairs_head, LiesInFile, files_of, AreFilesInOrder, IsUsedFile, end_in, file_in, is_doomed_in}
-use Rattle.purge_task.proofs.Common.{is_emptied_in, is_taken_in, pins_in, OthersAreNamed, MailFile, AreFilesKept, AreElsewhere, IsStore, StoreValue, store_sound, named_reads, MovesClaims, Pinned, claims_of_switched, claims_of_target, purge_claims, sources_left, at_stage, IsRegionAdded, HasPurged}
-use Rattle.purge_task.proofs.Common.{IsBeginningFirst, IsToBegin, PurgeValue, target_header, HoldsCopied, HoldsCopies, IsAtHand, IsOnlyTask, IsQuietFrom, IsQuietSoFar, KeepsQuiet, StaysQuiet, sources_to_empty, IsNextStage, went_on, IsBehindSwitch, IsToSwitch, IsUnwantedFirst, IsFirst, IsSwitched}
-use Rattle.purge_task.proofs.Common.{IsTargetWritten, ReadsMail, Switched, PurgeStage, stage, Source, Work, fall}
+use Rattle.purge_task.proofs.Common.{SameButFor, named, reading, FileName, between-both, between-if, FileNo, MapRow, AreCopied, MapMeaning, is_sealed, record_at, equal_yes, pairs_head, LiesInFile, files_of, AreFilesInOrder, IsUsedFile, end_in, file_in, is_doomed_in, is_emptied_in, is_taken_in}
+use Rattle.purge_task.proofs.Common.{pins_in, OthersAreNamed, MailFile, AreFilesKept, AreElsewhere, IsStore, StoreValue, store_sound, named_reads, MovesClaims, Pinned, claims_of_switched, claims_of_target, purge_claims, sources_left, at_stage, IsRegionAdded, HasPurged, IsBeginningFirst, IsToBegin}
+use Rattle.purge_task.proofs.Common.{PurgeValue, target_header, HoldsCopied, HoldsCopies, IsAtHand, IsOnlyTask, IsQuietFrom, IsQuietSoFar, KeepsQuiet, StaysQuiet, sources_to_empty, IsNextStage, went_on, IsBehindSwitch, IsToSwitch, IsUnwantedFirst, IsFirst, IsSwitched, IsTargetWritten, ReadsMail}
+use Rattle.purge_task.proofs.Common.{Switched, PurgeStage, Source, Work, fall}
 use Rattle.std.specs.Prelude.{drop, take}
+use Rattle.disk_model.specs.declared.name.FileName.TheVariants as file
 use Rattle.disk_model.proofs.BetweenLemmas.{between-since}
+use Rattle.mdbox_base.specs.declared.progress.Did.TheVariants as did
+use Rattle.mdbox_base.specs.declared.progress.Progress.TheVariants as progress
 use Rattle.storage_files.specs.OnDisk.{IsAsKnown}
 use Rattle.task_claims.specs.Claims.{HasNoTask}
 use Rattle.task_claims.proofs.OpenedLemmas.{none_claimed}
 use Rattle.purge_task.specs.Switched.{IsWritten}
+use Rattle.purge_task.specs.declared.task.PurgeStage.TheVariants as stage
 use Rattle.purge_task.proofs.BareCallLemmas.{IsBareOne, emptied_file}
 use Rattle.purge_task.proofs.CopyCallLemmas.{IsNotedFor}
 use Rattle.purge_task.proofs.CopyingLemmas.{IsCopyingOne}

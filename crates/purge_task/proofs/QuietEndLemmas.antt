@@ -1,9 +1,11 @@
 -- What a purge beside no other task has done in the end.
 use Rattle.purge_task.proofs.Common.{◌≡◌, ◌≤◌, ◌==◌, ◌&&◌, ◌||◌, ℕ, Bool, true, false, not, List, [], ◌∷◌, length, map, Option, Some, None, refl, sym, ◌∙◌, ap, subst, arith, inl, inr, All, Contains, filter, find, if◌then◌else◌, option_map, list_any, bytes_eq, eqb-true, append-nil, All-cons, All-nil}
-use Rattle.purge_task.proofs.Common.{All-contains, All-contains_itself, All-head, All-tail, All-weaker, Contains-append_right, DiskState, Files, file, HasSameOctets, apart_from_place, is_one_of, InstRow, InstId, is_instance_named, MapMeaning, MapRecord, is_sealed, named_instances, equal_yes}
-use Rattle.purge_task.proofs.Common.{found_none, text_is, LiesInFile, files_of, instance_in, instance_file, KnownInstance, is_useless, useless_past, IsKnownRow, StoreValue, at_stage, PurgeValue, IsQuietSoFar, stays_beside, stage, fall}
+use Rattle.purge_task.proofs.Common.{All-contains, All-contains_itself, All-head, All-tail, All-weaker, Contains-append_right, DiskState, Files, HasSameOctets, apart_from_place, is_one_of, InstRow, InstId, is_instance_named, MapMeaning, MapRecord, is_sealed, named_instances, equal_yes, found_none}
+use Rattle.purge_task.proofs.Common.{text_is, LiesInFile, files_of, instance_in, instance_file, KnownInstance, is_useless, useless_past, IsKnownRow, StoreValue, at_stage, PurgeValue, IsQuietSoFar, stays_beside, fall}
+use Rattle.disk_model.specs.declared.name.FileName.TheVariants as file
 use Rattle.journal.specs.QuietPurge.{AllHaveSameOctets, PurgesQuietly, goes}
 use Rattle.store_core.specs.StoreInstances.{AreInstancesThere}
+use Rattle.purge_task.specs.declared.task.PurgeStage.TheVariants as stage
 use Rattle.purge_task.proofs.CopyLemmas.{kept_of}
 use Rattle.purge_task.proofs.QuietLemmas.{emptied_dropped, emptied_rows, emptied_stay}
 use Rattle.purge_task.proofs.WithinLemmas.{mapped_of}

@@ -1,10 +1,12 @@
 -- The events of a purge beside no other task that make a target, copy a message, or remove a storage file.
 use Rattle.purge_task.proofs.Common.{◌≡◌, ◌≢◌, ◌≤◌, ◌<◌, ◌+◌, ◌==◌, ◌&&◌, ◌||◌, ◌++◌, ℕ, Bool, true, false, not, List, [], ◌∷◌, length, map, Some, None, refl, sym, ◌∙◌, ap, subst, arith, inl, inr, All, Contains, filter, list_any, eqb-true, append-nil, All-cons, All-contains, All-contains_itself}
-use Rattle.purge_task.proofs.Common.{All-head, All-tail, All-weaker, Files, file, is_copied_from, is_one_of, MapPlace, FileNo, MapMeaning, MapRecord, is_sealed, record_at, among, AreElsewhere, StoreValue, sources_left, at_stage, IsSourceWith, PurgeValue, target_header, CopiesRunTo, HasEmptied}
-use Rattle.purge_task.proofs.Common.{HaveWanted, HoldsCopied, HoldsCopies, IsOnlyTask, IsQuietSoFar, but_file, files_to_empty, sources_to_empty, stays_beside, with_file, IsNextStage, went_on, IsFirst, PurgeStage, stage, Source, Work}
+use Rattle.purge_task.proofs.Common.{All-head, All-tail, All-weaker, Files, is_copied_from, is_one_of, MapPlace, FileNo, MapMeaning, MapRecord, is_sealed, record_at, among, AreElsewhere, StoreValue, sources_left, at_stage, IsSourceWith, PurgeValue, target_header, CopiesRunTo, HasEmptied, HaveWanted}
+use Rattle.purge_task.proofs.Common.{HoldsCopied, HoldsCopies, IsOnlyTask, IsQuietSoFar, but_file, files_to_empty, sources_to_empty, stays_beside, with_file, IsNextStage, went_on, IsFirst, PurgeStage, Source, Work}
 use Rattle.std.proofs.Common.{◌⊎◌}
 use Rattle.std.specs.Prelude.{drop, take}
 use Rattle.std.proofs.lemmas.List.{take-append-le}
+use Rattle.disk_model.specs.declared.name.FileName.TheVariants as file
+use Rattle.purge_task.specs.declared.task.PurgeStage.TheVariants as stage
 use Rattle.purge_task.proofs.CopyLemmas.{kept_of}
 use Rattle.purge_task.proofs.QuietEndLemmas.{none_within}
 use Rattle.purge_task.proofs.QuietFileLemmas.{append_long, quiet_changes}

@@ -1,8 +1,9 @@
 -- An event of a purge beside no other task that changes one storage file, and leaves the map as it is.
-use Rattle.purge_task.proofs.Common.{◌≡◌, ◌≢◌, ◌+◌, ◌==◌, ◌++◌, ℕ, Bool, true, false, List, [], ◌∷◌, length, Some, None, refl, sym, ◌∙◌, ap, subst, arith, inl, inr, Contains, eqb-true, All-contains, Files, file, HasSameOctets, IsClean, is_one_of, MapMeaning, MapRecord, is_sealed, equal_yes}
-use Rattle.purge_task.proofs.Common.{AreElsewhere, StoreValue, DropsUnwanted, PurgeValue, HasEmptied, HaveWanted, HoldsCopied, IsAtHand, IsOnlyTask, IsQuietSoFar, files_to_empty, sources_to_empty, fall}
+use Rattle.purge_task.proofs.Common.{◌≡◌, ◌≢◌, ◌+◌, ◌==◌, ◌++◌, ℕ, Bool, true, false, List, [], ◌∷◌, length, Some, None, refl, sym, ◌∙◌, ap, subst, arith, inl, inr, Contains, eqb-true, All-contains, Files, HasSameOctets, IsClean, is_one_of, MapMeaning, MapRecord, is_sealed, equal_yes, AreElsewhere}
+use Rattle.purge_task.proofs.Common.{StoreValue, DropsUnwanted, PurgeValue, HasEmptied, HaveWanted, HoldsCopied, IsAtHand, IsOnlyTask, IsQuietSoFar, files_to_empty, sources_to_empty, fall}
 use Rattle.std.proofs.Common.{◌⊎◌}
 use Rattle.std.proofs.lemmas.List.Elements.{Contains-append_cases}
+use Rattle.disk_model.specs.declared.name.FileName.TheVariants as file
 use Rattle.purge_task.specs.Quiet.{HaveInstancesGone}
 
 pub append_both : {X : Type 0} → (xs ys zs : List X) → (xs ++ ys) ++ zs ≡ xs ++ (ys ++ zs)

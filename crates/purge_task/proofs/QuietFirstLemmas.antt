@@ -1,12 +1,14 @@
 -- The first event of a purge beside no other task, and those that remove an instance.
 use Rattle.purge_task.proofs.Common.{◌≡◌, ◌≢◌, ◌+◌, ◌==◌, ◌&&◌, ◌||◌, ◌++◌, ℕ, Bool, true, false, not, List, [], ◌∷◌, length, Option, Some, None, refl, sym, ◌∙◌, ap, subst, arith, inl, inr, All, Contains, IsSome, option_and_then, option_map, option_map_or, bytes_eq, All-contains}
-use Rattle.purge_task.proofs.Common.{All-contains_itself, All-weaker, Contains-append_left, Contains-push, Files, FileName, file, HasSameOctets, IsClean, IsCleanFile, is_one_of, MapMeaning, MapRecord, is_sealed, record_at, IsSoundMap, equal_yes, pairs_nil, pairs_push, text_is, text_yes, LiesInFile}
+use Rattle.purge_task.proofs.Common.{All-contains_itself, All-weaker, Contains-append_left, Contains-push, Files, FileName, HasSameOctets, IsClean, IsCleanFile, is_one_of, MapMeaning, MapRecord, is_sealed, record_at, IsSoundMap, equal_yes, pairs_nil, pairs_push, text_is, text_yes, LiesInFile}
 use Rattle.purge_task.proofs.Common.{at_uid, end_in, file_in, is_doomed_in, is_emptied_in, is_taken_in, pins_in, MailFile, StoreValue, Emptied, Pinned, Removing, Taken, one_if, at_stage, uncounted, DropsUnwanted, AreAllBut, MayBeEmptied, PurgeValue, HasEmptied, HaveWanted, HoldsCopied, IsAtHand}
-use Rattle.purge_task.proofs.Common.{IsOnlyTask, IsQuietSoFar, files_to_empty, sources_to_empty, PurgeStage, stage, fall}
+use Rattle.purge_task.proofs.Common.{IsOnlyTask, IsQuietSoFar, files_to_empty, sources_to_empty, PurgeStage, fall}
 use Rattle.std.proofs.Common.{◌⊎◌}
 use Rattle.std.proofs.lemmas.List.Elements.{Contains-push_cases}
+use Rattle.disk_model.specs.declared.name.FileName.TheVariants as file
 use Rattle.storage_files.specs.Files.{is_sealed_in}
 use Rattle.purge_task.specs.Quiet.{HaveInstancesGone, IsUncleanFile}
+use Rattle.purge_task.specs.declared.task.PurgeStage.TheVariants as stage
 use Rattle.purge_task.proofs.CleanLemmas.{may_be_emptied}
 use Rattle.purge_task.proofs.DropLemmas.{drops_none}
 use Rattle.purge_task.proofs.QuietEndLemmas.{none_within}

@@ -1,8 +1,9 @@
 -- What a purge beside no other task makes of the records of the map.
 use Rattle.purge_task.proofs.Common.{◌≡◌, ◌≢◌, ◌+◌, ◌==◌, ◌&&◌, ◌||◌, ℕ, Bool, true, false, not, cond, List, [], ◌∷◌, length, map, Option, Some, None, refl, sym, ◌∙◌, ap, subst, arith, All, Contains, count_by, filter, if◌then◌else◌, eqb-true, length-map, All-contains, All-contains_itself, All-head}
-use Rattle.purge_task.proofs.Common.{All-tail, All-weaker, sum_by-cons, apart_from_place, map_entry, MapPlace, FileNo, MapUid, HasRecord, MapFits, MapMeaning, MapRecord, has_map_uid, is_sealed, moved_record, place_given, record_at, IsSoundMap, equal_yes, at_uid, DropsUnwanted, HasEmptied, but_file}
+use Rattle.purge_task.proofs.Common.{All-tail, All-weaker, sum_by-cons, apart_from_place, MapPlace, FileNo, MapUid, HasRecord, MapFits, MapMeaning, MapRecord, has_map_uid, is_sealed, moved_record, place_given, record_at, IsSoundMap, equal_yes, at_uid, DropsUnwanted, HasEmptied, but_file}
 use Rattle.purge_task.proofs.Common.{stays_beside, with_file, fall}
 use Rattle.journal.specs.QuietPurge.{goes}
+use Rattle.mdbox_base.specs.declared.entries.MapEntry.TheVariants as map_entry
 use Rattle.model_octets.proofs.SearchLemmas.{both_same}
 use Rattle.purge_task.proofs.CopyLemmas.{kept_of}
 use Rattle.purge_task.proofs.DropLemmas.{left_or_gone, listed_one, same_apart}

@@ -1,15 +1,19 @@
 -- What the first event of a purge beside no other task says of it, those that remove instances, and the last.
 use Rattle.purge_task.proofs.Common.{◌≡◌, ◌≢◌, ◌+◌, ℕ, Bool, true, false, cond, List, [], ◌∷◌, length, map, Option, Some, None, refl, sym, ◌∙◌, ap, subst, All, Contains, list_any, option_map, option_map_or, All-cons, All-contains, All-contains_itself, All-head, All-nil, All-tail, All-weaker}
-use Rattle.purge_task.proofs.Common.{DiskState, Files, History, IfTold, IsIdle, SameButFor, reading, FileName, file, between-begins, between-if, IsCleanFile, is_copied_from, FileNo, InstId, progress, reply, MapMeaning, greatest, found_one, LiesInFile, files_of, AreInstances, instance_in}
-use Rattle.purge_task.proofs.Common.{KnownInstance, instance-in, end_in, is_useless, useless_past, IsStore, HasKnownInstances, StoreValue, store_sound, Held, MovesClaims, purge_claims, at_stage, uncounted, AreAllBut, found_numbers, PurgeValue, HaveWanted, IsQuietFrom, IsQuietSoFar, KeepsQuiet}
-use Rattle.purge_task.proofs.Common.{StaysQuiet, files_to_empty, sources_to_empty, IsNextStage, told_taken, targets_given, with_target, Found, FoundFile, PurgeStage, stage, Source, Work}
+use Rattle.purge_task.proofs.Common.{DiskState, Files, History, IfTold, IsIdle, SameButFor, reading, FileName, between-begins, between-if, IsCleanFile, is_copied_from, FileNo, InstId, MapMeaning, greatest, found_one, LiesInFile, files_of, AreInstances, instance_in, KnownInstance, instance-in}
+use Rattle.purge_task.proofs.Common.{end_in, is_useless, useless_past, IsStore, HasKnownInstances, StoreValue, store_sound, Held, MovesClaims, purge_claims, at_stage, uncounted, AreAllBut, found_numbers, PurgeValue, HaveWanted, IsQuietFrom, IsQuietSoFar, KeepsQuiet, StaysQuiet, files_to_empty}
+use Rattle.purge_task.proofs.Common.{sources_to_empty, IsNextStage, told_taken, targets_given, with_target, Found, FoundFile, PurgeStage, Source, Work}
+use Rattle.disk_model.specs.declared.name.FileName.TheVariants as file
 use Rattle.disk_model.proofs.BetweenLemmas.{between-since}
 use Rattle.journal.specs.QuietPurge.{PurgesQuietly}
+use Rattle.mdbox_base.specs.declared.progress.Progress.TheVariants as progress
+use Rattle.mdbox_base.specs.declared.replies.Reply.TheVariants as reply
 use Rattle.model_store.specs.Safe.{IsThereWhole}
 use Rattle.sis_store.specs.OnDisk.{file_of}
 use Rattle.store_core.specs.StoreInstances.{AreInstancesThere}
 use Rattle.purge_task.specs.Found.{FindsUnclean}
 use Rattle.purge_task.specs.Quiet.{HasBeenQuiet}
+use Rattle.purge_task.specs.declared.task.PurgeStage.TheVariants as stage
 use Rattle.purge_task.proofs.FirstCallLemmas.{IsTakenFirst}
 use Rattle.purge_task.proofs.GoneCallLemmas.{IsUselessOne}
 use Rattle.purge_task.proofs.QuietCallLemmas.{from_stage, only_moves, quiet_at}

@@ -1,7 +1,8 @@
 -- Records keep the octets of their regions in each event of a purge.
-use Rattle.purge_task.proofs.Common.{◌≡◌, ◌≢◌, ◌≤◌, ◌==◌, ℕ, List, [], ◌∷◌, Option, Some, None, refl, sym, ◌∙◌, ap, subst, All, Contains, eqb-true, All-contains, Files, file, HasSameOctets, MapPlace, FileNo, MapUid, AreCopied, IsCopiedTo, HasRecord, MapMeaning, MapRecord, moved_record, place_given}
+use Rattle.purge_task.proofs.Common.{◌≡◌, ◌≢◌, ◌≤◌, ◌==◌, ℕ, List, [], ◌∷◌, Option, Some, None, refl, sym, ◌∙◌, ap, subst, All, Contains, eqb-true, All-contains, Files, HasSameOctets, MapPlace, FileNo, MapUid, AreCopied, IsCopiedTo, HasRecord, MapMeaning, MapRecord, moved_record, place_given}
 use Rattle.purge_task.proofs.Common.{record_at, IsSoundMap, found_one, LiesInFile, at_uid, AreElsewhere, HaveSameRegions, AreSwitchLists, target_named}
 use Rattle.std.specs.Prelude.{drop, take}
+use Rattle.disk_model.specs.declared.name.FileName.TheVariants as file
 use Rattle.purge_task.proofs.QuietTargetLemmas.{came_of}
 use Rattle.purge_task.proofs.SwitchRowLemmas.{map_switched}
 

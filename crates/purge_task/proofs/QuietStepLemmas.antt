@@ -1,7 +1,10 @@
 -- What a part of a step says of a purge beside no other task, the step says.
-use Rattle.purge_task.proofs.Common.{◌≡◌, ◌∙◌, Option, sym, ap, subst, Result, Files, History, between-map, Did, Progress, progress, Refusal, reply, MapMeaning, files_of, StoreValue, answer_of, at_stage, came_to, PurgeValue, IsQuietFrom, KeepsQuiet, StaysQuiet, answer_of_switch, came_by_switch}
-use Rattle.purge_task.proofs.Common.{SwitchedFile, PurgeStage, stage}
+use Rattle.purge_task.proofs.Common.{◌≡◌, ◌∙◌, Option, sym, ap, subst, Result, Files, History, between-map, Did, Progress, Refusal, MapMeaning, files_of, StoreValue, answer_of, at_stage, came_to, PurgeValue, IsQuietFrom, KeepsQuiet, StaysQuiet, answer_of_switch, came_by_switch, SwitchedFile}
+use Rattle.purge_task.proofs.Common.{PurgeStage}
+use Rattle.mdbox_base.specs.declared.progress.Progress.TheVariants as progress
+use Rattle.mdbox_base.specs.declared.replies.Reply.TheVariants as reply
 use Rattle.purge_task.specs.Quiet.{HasBeenQuiet}
+use Rattle.purge_task.specs.declared.task.PurgeStage.TheVariants as stage
 use Rattle.purge_task.proofs.StepLemmas.{came_counts, switched_same}
 
 -- A part's answer, and the task that came to it.

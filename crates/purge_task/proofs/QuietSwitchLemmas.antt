@@ -1,11 +1,14 @@
 -- The event of a purge beside no other task that switches a storage file.
 use Rattle.purge_task.proofs.Common.{◌≡◌, ◌≢◌, ◌≤◌, ◌<◌, ◌+◌, ◌==◌, ◌&&◌, ◌||◌, ◌++◌, ℕ, zero, suc, Bool, true, false, not, List, [], ◌∷◌, length, map, Option, Some, None, refl, sym, ◌∙◌, ap, subst, arith, inl, inr, All, AllPairs, Contains, filter, nat_lt, if◌then◌else◌, list_any}
-use Rattle.purge_task.proofs.Common.{IsStrictlyIncreasing, eqb-true, ne_eqb, All-contains, All-contains_itself, All-head, All-tail, All-weaker, Contains-append_right, list_any-append, AllPairs-from_increasing, Files, file, IsClean, is_copied_from, is_one_of, MapPlace, FileNo, did, AreCopied}
-use Rattle.purge_task.proofs.Common.{HasRecord, MapMeaning, MapRecord, is_sealed, moved_record, place_given, IsSoundMap, equal_is, equal_yes, pairs_head, pairs_tail, among, LiesInFile, AreElsewhere, StoreValue, sources_left, DropsUnwanted, PurgeValue, target_header, CopiesRunTo, HasEmptied}
-use Rattle.purge_task.proofs.Common.{HaveSameRegions, HaveWanted, HoldsCopies, IsAtHand, IsOnlyTask, IsQuietSoFar, but_file, files_to_empty, sources_to_empty, stays_beside, with_file, IsFirst, IsSwitched, target_named, Switched, stage, Source, Work, fall}
+use Rattle.purge_task.proofs.Common.{IsStrictlyIncreasing, eqb-true, ne_eqb, All-contains, All-contains_itself, All-head, All-tail, All-weaker, Contains-append_right, list_any-append, AllPairs-from_increasing, Files, IsClean, is_copied_from, is_one_of, MapPlace, FileNo, AreCopied, HasRecord}
+use Rattle.purge_task.proofs.Common.{MapMeaning, MapRecord, is_sealed, moved_record, place_given, IsSoundMap, equal_is, equal_yes, pairs_head, pairs_tail, among, LiesInFile, AreElsewhere, StoreValue, sources_left, DropsUnwanted, PurgeValue, target_header, CopiesRunTo, HasEmptied, HaveSameRegions}
+use Rattle.purge_task.proofs.Common.{HaveWanted, HoldsCopies, IsAtHand, IsOnlyTask, IsQuietSoFar, but_file, files_to_empty, sources_to_empty, stays_beside, with_file, IsFirst, IsSwitched, target_named, Switched, Source, Work, fall}
 use Rattle.std.proofs.Common.{◌⊎◌}
 use Rattle.std.specs.Prelude.{drop}
+use Rattle.disk_model.specs.declared.name.FileName.TheVariants as file
+use Rattle.mdbox_base.specs.declared.progress.Did.TheVariants as did
 use Rattle.model_octets.proofs.SearchLemmas.{both_same}
+use Rattle.purge_task.specs.declared.task.PurgeStage.TheVariants as stage
 use Rattle.purge_task.proofs.CopyLemmas.{kept_of}
 use Rattle.purge_task.proofs.QuietEndLemmas.{none_within, within_one}
 use Rattle.purge_task.proofs.QuietFileLemmas.{append_both, append_long, gone_same}

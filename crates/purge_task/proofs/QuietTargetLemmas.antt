@@ -1,10 +1,12 @@
 -- A target that holds its copies is clean as soon as the map names them.
 use Rattle.purge_task.proofs.Common.{◌≡◌, ◌≢◌, ◌≤◌, ◌<◌, ◌+◌, ◌==◌, ℕ, Bool, true, false, not, List, [], ◌∷◌, length, map, Option, Some, None, refl, sym, ◌∙◌, ap, subst, arith, inl, inr, All, AllPairs, Contains, filter, eqb-true, All-cons, All-contains, All-contains_itself, All-head, All-nil}
-use Rattle.purge_task.proofs.Common.{All-tail, All-weaker, Contains-append_right, AllPairs-cons, AllPairs-from_increasing, Files, file, IsClean, RunTo, map_entry, MapPlace, FileNo, MapUid, HasRecord, MapMeaning, MapRecord, has_map_uid, moved_record, place_given, record_at, IsSoundMap, equal_is}
-use Rattle.purge_task.proofs.Common.{equal_yes, pairs_head, pairs_nil, pairs_tail, among, found_one, IsHeaderLine, at_uid, AreElsewhere, target_header, CopiesRunTo, HoldsCopies, AreSwitchLists}
+use Rattle.purge_task.proofs.Common.{All-tail, All-weaker, Contains-append_right, AllPairs-cons, AllPairs-from_increasing, Files, IsClean, RunTo, MapPlace, FileNo, MapUid, HasRecord, MapMeaning, MapRecord, has_map_uid, moved_record, place_given, record_at, IsSoundMap, equal_is, equal_yes}
+use Rattle.purge_task.proofs.Common.{pairs_head, pairs_nil, pairs_tail, among, found_one, IsHeaderLine, at_uid, AreElsewhere, target_header, CopiesRunTo, HoldsCopies, AreSwitchLists}
 use Rattle.std.proofs.Common.{◌⊎◌}
 use Rattle.std.specs.Prelude.{codes, take}
 use Rattle.std.proofs.Math.Dec.{lit≤}
+use Rattle.disk_model.specs.declared.name.FileName.TheVariants as file
+use Rattle.mdbox_base.specs.declared.entries.MapEntry.TheVariants as map_entry
 use Rattle.model_meaning.specs.MapMeaning.{record_rules}
 use Rattle.model_meaning.proofs.KeptRowLemmas.{kept_all}
 use Rattle.model_octets.proofs.SearchLemmas.{found_is}

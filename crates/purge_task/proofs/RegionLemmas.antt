@@ -1,6 +1,6 @@
 -- A region that is copied piece by piece.
 use Rattle.purge_task.proofs.Common.{◌≡◌, ◌≢◌, inl, inr, ℕ, ◌+◌, ◌-◌, ◌<◌, ◌≤◌, ◌==◌, Bool, true, false, cond, List, [], ◌∷◌, ◌++◌, length, take, drop, Option, Some, None, refl, sym, ap, subst, ◌∙◌, arith, append_assoc, ◌⊎◌, Result, Ok, Err, AllPairs, All-weaker, option_map, option_and_then}
-use Rattle.purge_task.proofs.Common.{append-nil, length-take-le, length-drop, DiskState, FileState, Faults, History, IfTold, IsIdle, Between, SameButFor, Grows, reading, NoFault, FileName, Mail, between-both, between-begins, between-map, idle-begins, Refusal, refusal, MailIsKept, kept_then, Lists}
+use Rattle.purge_task.proofs.Common.{append-nil, length-take-le, length-drop, DiskState, FileState, Faults, History, IfTold, IsIdle, Between, SameButFor, Grows, reading, NoFault, FileName, Mail, between-both, between-begins, between-map, idle-begins, Refusal, MailIsKept, kept_then, Lists}
 use Rattle.purge_task.proofs.Common.{MapMeaning, IsSoundMap, IsSoundRecord, equal_is, found_holds, pairs_head, pairs_tail, LiesInFile, IsSettledFor, Leaves, files_of, MapRow, MailFile, AreFilesInOrder, changed_in, end_in, ending_at, file_in, place_begun_in, IsPieceAdded, file-here, KeepsStored}
 use Rattle.purge_task.proofs.Common.{IsStore, StoreValue, IsRegionAdded, IsTargetAt}
 use Rattle.std.proofs.Common.{replicate}
@@ -8,6 +8,7 @@ use Rattle.std.specs.Prelude.{min, IsErrOf, All}
 use Rattle.std.proofs.lemmas.List.{take-append-drop, take-take, drop-take, drop-drop}
 use Rattle.disk_model.proofs.BetweenLemmas.{between-then, between-same}
 use Rattle.disk_model.proofs.FaultCountLemmas.{no_fault-of_counts, no_fault-then}
+use Rattle.mdbox_base.specs.declared.replies.Refusal.TheVariants as refusal
 use Rattle.model_kept.proofs.KeptLemmas.{ReadsImage, kept_begins}
 use Rattle.storage_files.proofs.FileListLemmas.{changed-none, ends-here}
 use Rattle.purge_task.specs.Copied.{CopyFaultCounted, IsCopyRefusal, IsShownRow, whole_piece}

@@ -1,11 +1,17 @@
 -- What a purge says that removes a file which it has switched.
 use Rattle.purge_task.proofs.Common.{◌≡◌, ◌≢◌, ◌≤◌, ◌<◌, ◌+◌, ◌==◌, ◌&&◌, ℕ, Bool, true, false, List, [], ◌∷◌, length, Option, Some, None, refl, sym, ◌∙◌, ap, subst, arith, inl, inr, All, IsSome, is_some, IfSome, option_and_then, option_map_or, cases_eq, eq-eqb, eqb-true, ne_eqb, All-cons}
-use Rattle.purge_task.proofs.Common.{All-contains, All-head, All-nil, All-tail, Faults, Grows, History, SameButFor, NoFault, file, FileNo, did, progress, refusal, reply, MailIsKept, Lists, pairs_head, pairs_tail, found_one, IsSettledFor, Leaves, AreFilesInOrder, IsUsedFile, end_in, file_in}
-use Rattle.purge_task.proofs.Common.{is_doomed_in, is_emptied_in, is_taken_in, pins_in, place_begun_in, without_file, MailFile, file-gone, file-without, AreElsewhere, StoreValue, firm_same, Due, Emptied, Held, Made, MovesClaims, Pinned, PlacingPieces, Removing, Taken, Thing, amount_in, is_to_remove}
-use Rattle.purge_task.proofs.Common.{one_if, LeavesOthers, MayOnlyGrow, OthersTook, claims_of_sources, claims_of_switched, purge_claims, sources_left, IsPurgeStep, PurgeSteps, AreSourcesApart, HasPurged, IsBeginningFirst, IsRemovingFirst, IsTargetToMake, IsToBegin, PurgeValue, IsNextStage, went_on}
-use Rattle.purge_task.proofs.Common.{PurgeStage, stage, Source, Work, fall, IsStore}
+use Rattle.purge_task.proofs.Common.{All-contains, All-head, All-nil, All-tail, Faults, Grows, History, SameButFor, NoFault, FileNo, MailIsKept, Lists, pairs_head, pairs_tail, found_one, IsSettledFor, Leaves, AreFilesInOrder, IsUsedFile, end_in, file_in, is_doomed_in, is_emptied_in, is_taken_in}
+use Rattle.purge_task.proofs.Common.{pins_in, place_begun_in, without_file, MailFile, file-gone, file-without, AreElsewhere, StoreValue, firm_same, Due, Emptied, Held, Made, MovesClaims, Pinned, PlacingPieces, Removing, Taken, Thing, amount_in, is_to_remove, one_if, LeavesOthers, MayOnlyGrow}
+use Rattle.purge_task.proofs.Common.{OthersTook, claims_of_sources, claims_of_switched, purge_claims, sources_left, IsPurgeStep, PurgeSteps, AreSourcesApart, HasPurged, IsBeginningFirst, IsRemovingFirst, IsTargetToMake, IsToBegin, PurgeValue, IsNextStage, went_on, PurgeStage, Source, Work, fall}
+use Rattle.purge_task.proofs.Common.{IsStore}
 use Rattle.std.specs.Prelude.{drop}
+use Rattle.disk_model.specs.declared.name.FileName.TheVariants as file
+use Rattle.mdbox_base.specs.declared.progress.Did.TheVariants as did
+use Rattle.mdbox_base.specs.declared.progress.Progress.TheVariants as progress
+use Rattle.mdbox_base.specs.declared.replies.Refusal.TheVariants as refusal
+use Rattle.mdbox_base.specs.declared.replies.Reply.TheVariants as reply
 use Rattle.store_core.proofs.InstanceKeepingLemmas.{syncs_placed}
+use Rattle.purge_task.specs.declared.task.PurgeStage.TheVariants as stage
 use Rattle.purge_task.proofs.LeavingLemmas.{removal_leaves}
 use Rattle.purge_task.proofs.RemovalLemmas.{removing_steps}
 use Rattle.purge_task.proofs.RemovalSeenLemmas.{without}

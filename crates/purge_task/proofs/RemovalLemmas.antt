@@ -1,13 +1,16 @@
 -- An event of a purge that removes a storage file.
 use Rattle.purge_task.proofs.Common.{◌≡◌, ◌≤◌, ◌+◌, ◌==◌, ◌||◌, ℕ, Bool, true, false, List, [], ◌∷◌, ◌++◌, length, map, Option, Some, None, refl, sym, ◌∙◌, ap, subst, arith, All, flat_map, nat_lt, sum_by, if◌then◌else◌, list_any, option_map, option_or, eq-eqb, ne_eqb, append-nil, All-head, All-nil}
-use Rattle.purge_task.proofs.Common.{All-tail, All-weaker, Faults, Grows, History, told_calls, NoFault, did, Reply, request, MailIsKept, Lists, MapMeaning, MapRecord, IsSettledFor, Leaves, EventPart, First, RemovesFile, RemovesInstance, Run, RunEvent, Switches, TakenFile, and_then, dropped_in}
-use Rattle.purge_task.proofs.Common.{how_many, is_one_of, own_events, Around, is_done, last_refusal, next_part, next_taken, was_pinned, own_more, pins_in, AreElsewhere, StoreValue, HasComeTo, ShowsSeen, sources_left, PurgeSteps, around_purging, seen_by_purge, PurgeValue, GoesOnBehind, HaveCopied}
-use Rattle.purge_task.proofs.Common.{HaveTaken, IsAtPurge, IsAtPurgeStage, IsAtSwitched, IsNextStage, IsPurging, RemovesBehind, told_taken, went_on, PurgeStage, stage, Source, Work, DidBy, fall, stands_by}
+use Rattle.purge_task.proofs.Common.{All-tail, All-weaker, Faults, Grows, History, told_calls, NoFault, Reply, MailIsKept, Lists, MapMeaning, MapRecord, IsSettledFor, Leaves, EventPart, First, RemovesFile, RemovesInstance, Run, RunEvent, Switches, TakenFile, and_then, dropped_in, how_many}
+use Rattle.purge_task.proofs.Common.{is_one_of, own_events, Around, is_done, last_refusal, next_part, next_taken, was_pinned, own_more, pins_in, AreElsewhere, StoreValue, HasComeTo, ShowsSeen, sources_left, PurgeSteps, around_purging, seen_by_purge, PurgeValue, GoesOnBehind, HaveCopied, HaveTaken}
+use Rattle.purge_task.proofs.Common.{IsAtPurge, IsAtPurgeStage, IsAtSwitched, IsNextStage, IsPurging, RemovesBehind, told_taken, went_on, PurgeStage, Source, Work, DidBy, fall, stands_by}
 use Rattle.std.specs.Prelude.{◌≢◌}
+use Rattle.mdbox_base.specs.declared.progress.Did.TheVariants as did
+use Rattle.mdbox_base.specs.declared.requests.Request.TheVariants as request
 use Rattle.list_machine.specs.Run.{first_in}
 use Rattle.journal.specs.Events.{doomed_last, file_to_remove}
 use Rattle.task_steps.proofs.SeenLemmas.{pinned_as}
 use Rattle.purge_task.specs.Stages.{IsLastOf}
+use Rattle.purge_task.specs.declared.task.PurgeStage.TheVariants as stage
 use Rattle.purge_task.proofs.EventLemmas.{did_next}
 use Rattle.purge_task.proofs.PartLemmas.{goes_on_some, last_with, next_removes}
 use Rattle.purge_task.proofs.RemovalSeenLemmas.{removal_comes, removal_event, without}

@@ -1,6 +1,7 @@
 -- Records keep the octets of their regions where at most one file changes, in which none of them lies.
-use Rattle.purge_task.proofs.Common.{◌≡◌, ◌≢◌, ℕ, false, List, get_or, Option, Some, None, refl, sym, ◌∙◌, ap, subst, All, Contains, All-contains, All-weaker, Between, DiskState, Files, History, IfTold, IsIdle, SameButFor, named, reading, FileName, file, between-if, between-map, HasSameOctets}
-use Rattle.purge_task.proofs.Common.{MapMeaning, MapRecord, record_at, IsSoundMap, LiesInFile, files_of, at_uid, OthersAreNamed, AreElsewhere, IsStore, StoreValue, store_sound, named_reads, HaveSameRegions}
+use Rattle.purge_task.proofs.Common.{◌≡◌, ◌≢◌, ℕ, false, List, get_or, Option, Some, None, refl, sym, ◌∙◌, ap, subst, All, Contains, All-contains, All-weaker, Between, DiskState, Files, History, IfTold, IsIdle, SameButFor, named, reading, FileName, between-if, between-map, HasSameOctets, MapMeaning}
+use Rattle.purge_task.proofs.Common.{MapRecord, record_at, IsSoundMap, LiesInFile, files_of, at_uid, OthersAreNamed, AreElsewhere, IsStore, StoreValue, store_sound, named_reads, HaveSameRegions}
+use Rattle.disk_model.specs.declared.name.FileName.TheVariants as file
 
 -- each lies in its file
 pub lie_told : {D : Type 0} → (store : StoreValue D) (history : Option History) → IsStore history store → store.stopped ≡ false → IfTold history (λ now. All (LiesInFile (files_of now)) store.map.records)

@@ -2,14 +2,15 @@
 use Rattle.purge_task.proofs.Common.{◌≡◌, ◌≢◌, ◌≤◌, ◌<◌, ◌+◌, ◌==◌, ◌&&◌, ℕ, zero, suc, ◌-◌, Bool, true, false, List, [], ◌∷◌, drop, length, take, get_or, Option, Some, None, refl, sym, ◌∙◌, ap, subst, arith, All, inl, inr, if◌then◌else◌, list_any, IfSome, option_and_then, option_map, option_map_or}
 use Rattle.purge_task.proofs.Common.{cases_eq, eq-eqb, eqb-true, All-cons, All-contains, All-head, All-nil, All-tail, sum_by-cons, DiskState, FileState, History, MayLeave, reading, Mail, between-both, between-on, MapPlace, FileNo, AreCopied, IsCopiedTo, HasRecord, size_at, MapMeaning, MapRecord}
 use Rattle.purge_task.proofs.Common.{record_at, found_one, files_of, MailFile, AreFilesInOrder, file_in, is_taken_in, pins_in, with_pins, IsStore, StoreValue, store_sound, named_reads, Claims, Emptied, Removing, Taken, one_if, IsSameOrSynced, LeavesOthers, but_count, records_within}
-use Rattle.purge_task.proofs.Common.{claims_of_sources, claims_of_switched, purge_claims, sources_left, AreCopiedUpTo, HasPurged, HasSwitchRoom, HasTargetHeader, IsBeginningFirst, IsCopyingFirst, IsCopyingTo, IsRemovingFirst, IsTargetToMake, IsToBegin, PurgeValue, target_header, PurgeStage, stage}
-use Rattle.purge_task.proofs.Common.{Source, Work}
+use Rattle.purge_task.proofs.Common.{claims_of_sources, claims_of_switched, purge_claims, sources_left, AreCopiedUpTo, HasPurged, HasSwitchRoom, HasTargetHeader, IsBeginningFirst, IsCopyingFirst, IsCopyingTo, IsRemovingFirst, IsTargetToMake, IsToBegin, PurgeValue, target_header, PurgeStage, Source}
+use Rattle.purge_task.proofs.Common.{Work}
 use Rattle.disk_model.proofs.OneFileLemmas.{named-narrows}
 use Rattle.task_claims.specs.Leaving.{known_but_pins}
 use Rattle.task_claims.specs.Stable.{Beside}
 use Rattle.task_claims.proofs.LeftLemmas.{emptied_left, removing_left, taken_left}
 use Rattle.purge_task.specs.Keeping.{AreCopiesInRow, HasCountRoom, IsReadyToPurge, IsToMake}
 use Rattle.purge_task.specs.Left.{purge_left}
+use Rattle.purge_task.specs.declared.task.PurgeStage.TheVariants as stage
 use Rattle.purge_task.proofs.WithinCountLemmas.{AreAlikeWithin, each_within, elsewhere_within, fits_within, is_so, messages_within, target_within, unwanted_within}
 
 -- ---- what is known of a file

@@ -1,16 +1,21 @@
 -- The parts of a purge's step, put together.
 use Rattle.purge_task.proofs.Common.{◌≡◌, ◌≢◌, ◌≤◌, ◌<◌, ◌+◌, ◌*◌, ◌==◌, ℕ, zero, suc, Bool, true, false, not, List, [], ◌∷◌, ◌++◌, length, Option, Some, None, refl, sym, ◌∙◌, ap, subst, arith, inl, inr, All, ◌⊎◌, Contains, Err, IfOk, IsSome, Ok, Result, is_some, list_any, option_map, eq-eqb}
-use Rattle.purge_task.proofs.Common.{ne_eqb, All-cons, All-head, All-nil, All-tail, Faults, History, record_from, shown_record, MapRow, FileNo, InstId, Did, did, Progress, progress, Refusal, refusal, Reply, reply, EventPart, Run, Around, MapMeaning, MapRecord, among, found_one, has_id, instance_in}
-use Rattle.purge_task.proofs.Common.{without_instance, KnownInstance, AreElsewhere, StoreValue, purge_claims, sources_left, IsPurgeStep, PurgeSteps, answer_of, at_stage, came_to, AreUnwantedFrom, IsNextWanted, HasPurged, IsBeginningFirst, IsCopyingFirst, IsTargetFirst, PurgeValue, IsFurther}
-use Rattle.purge_task.proofs.Common.{GoesOnBehind, CopiesBehind, IsAtPurgeStage, IsAtSwitched, IsPurging, RemovesBehind, IsToSwitch, IsUnwantedFirst, answer_of_switch, came_by_switch, SwitchedFile, PurgeStage, stage, Source, Work, fall}
+use Rattle.purge_task.proofs.Common.{ne_eqb, All-cons, All-head, All-nil, All-tail, Faults, History, record_from, shown_record, MapRow, FileNo, InstId, Did, Progress, Refusal, Reply, EventPart, Run, Around, MapMeaning, MapRecord, among, found_one, has_id, instance_in, without_instance}
+use Rattle.purge_task.proofs.Common.{KnownInstance, AreElsewhere, StoreValue, purge_claims, sources_left, IsPurgeStep, PurgeSteps, answer_of, at_stage, came_to, AreUnwantedFrom, IsNextWanted, HasPurged, IsBeginningFirst, IsCopyingFirst, IsTargetFirst, PurgeValue, IsFurther, GoesOnBehind}
+use Rattle.purge_task.proofs.Common.{CopiesBehind, IsAtPurgeStage, IsAtSwitched, IsPurging, RemovesBehind, IsToSwitch, IsUnwantedFirst, answer_of_switch, came_by_switch, SwitchedFile, PurgeStage, Source, Work, fall}
 use Rattle.std.proofs.Common.{filter}
 use Rattle.std.specs.Prelude.{◌||◌, cond}
+use Rattle.mdbox_base.specs.declared.progress.Did.TheVariants as did
+use Rattle.mdbox_base.specs.declared.progress.Progress.TheVariants as progress
+use Rattle.mdbox_base.specs.declared.replies.Refusal.TheVariants as refusal
+use Rattle.mdbox_base.specs.declared.replies.Reply.TheVariants as reply
 use Rattle.task_steps.specs.Step.{ended_by}
 use Rattle.purge_task.specs.Clause.{did_of_refusal}
 use Rattle.purge_task.specs.Copied.{IsNextWantedFirst}
 use Rattle.purge_task.specs.Keeping.{HasLowCounts, IsBareFirst, IsReadyToPurge, LeavesLess}
 use Rattle.purge_task.specs.Left.{events_before_instances, purge_files}
 use Rattle.purge_task.specs.SwitchEvent.{IsCopiedFirst}
+use Rattle.purge_task.specs.declared.task.PurgeStage.TheVariants as stage
 use Rattle.purge_task.proofs.FreeInstanceLemmas.{any_has}
 use Rattle.purge_task.proofs.StableLemmas.{left_stays}
 use Rattle.purge_task.proofs.WalkLemmas.{found_row, none_found}

@@ -1,6 +1,12 @@
 -- A purge of a store that is stopped.
-use Rattle.purge_task.proofs.Common.{◌≡◌, ℕ, List, [], ◌∷◌, Some, true, refl, sym, ◌∙◌, subst, arith, Option, Faults, History, Did, did, progress, refusal, Reply, reply, request, EventPart, First, RemovesFile, Run, own_events, Around, next_part, next_taken, StoreValue, DidEvent, sources_left}
-use Rattle.purge_task.proofs.Common.{IsPurgeStep, PurgeSteps, around_purging, seen_by_purge, PurgeValue, IsAtPurgeStage, IsAtSwitched, PurgeStage, stage, Source, fall, never_more, next_first, mail_still, idle-begins}
+use Rattle.purge_task.proofs.Common.{◌≡◌, ℕ, List, [], ◌∷◌, Some, true, refl, sym, ◌∙◌, subst, arith, Option, Faults, History, Did, Reply, EventPart, First, RemovesFile, Run, own_events, Around, next_part, next_taken, StoreValue, DidEvent, sources_left, IsPurgeStep, PurgeSteps, around_purging}
+use Rattle.purge_task.proofs.Common.{seen_by_purge, PurgeValue, IsAtPurgeStage, IsAtSwitched, PurgeStage, Source, fall, never_more, next_first, mail_still, idle-begins}
+use Rattle.mdbox_base.specs.declared.progress.Did.TheVariants as did
+use Rattle.mdbox_base.specs.declared.progress.Progress.TheVariants as progress
+use Rattle.mdbox_base.specs.declared.replies.Refusal.TheVariants as refusal
+use Rattle.mdbox_base.specs.declared.replies.Reply.TheVariants as reply
+use Rattle.mdbox_base.specs.declared.requests.Request.TheVariants as request
+use Rattle.purge_task.specs.declared.task.PurgeStage.TheVariants as stage
 use Rattle.task_steps.proofs.EventLaws.{did_stop}
 use Rattle.purge_task.proofs.EventLemmas.{purge_refuses, same_refusal}
 use Rattle.purge_task.proofs.PartLemmas.{copies_some, goes_on_some, next_copies, next_goes_on, next_removes}

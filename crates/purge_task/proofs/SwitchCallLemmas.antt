@@ -1,19 +1,26 @@
 -- What a purge says that switches a storage file.
 use Rattle.purge_task.proofs.Common.{◌≡◌, ◌≢◌, ◌≤◌, ◌<◌, ◌+◌, ◌==◌, ◌&&◌, ℕ, Bool, true, false, not, List, [], ◌∷◌, length, Option, Some, None, refl, sym, ◌∙◌, ap, subst, arith, get_or, inl, inr, All, AllPairs, filter, is_some, nat_le, nat_lt, if◌then◌else◌, list_any, IfSome, option_and_then}
-use Rattle.purge_task.proofs.Common.{option_map_or, cases_Bool, cases_lt, eq-eqb, eqb-true, ne_eqb, drop_all, All-cons, All-contains, All-head, All-nil, All-tail, common_steps, AllPairs-cons, count_by-le-length, Faults, Grows, History, LogState, map_entry, MapPlace, FileNo, MapUid, did, progress}
-use Rattle.purge_task.proofs.Common.{refusal, Reply, reply, request, MailIsKept, Lists, MapFits, MapMeaning, MapRecord, record_at, IsSoundMap, pairs_head, pairs_tail, found_one, IsSettledFor, Leaves, CopiesMessage, EventPart, MakesTarget, RemovesFile, Run, RunEvent, Switches, TakenFile}
-use Rattle.purge_task.proofs.Common.{is_copied_from, is_one_of, map_of, own_events, next_part, next_taken, purge_goes_on, AreFilesInOrder, FilesValue, file_in, is_doomed_in, is_emptied_in, pins_in, MailFile, IsSpared, due_at, KeepsFirm, AreElsewhere, IsStore, StoreValue, store_sound, may_be_used}
-use Rattle.purge_task.proofs.Common.{Due, Emptied, Held, Made, Pinned, PlacingPieces, Removing, Taken, Thing, one_if, records_within, HasComeTo, claims_of_sources, claims_of_switched, claims_of_target, purge_claims, sources_left, IsPurgeStep, PurgeSteps, around_purging, seen_by_purge}
-use Rattle.purge_task.proofs.Common.{AreSourcesApart, HasPurged, IsBeginningFirst, IsCopyingFirst, IsRemovingFirst, IsTargetToMake, IsToBegin, PurgeValue, messages_in, IsFurther, CopiesBehind, GoesOnBehind, HaveCopied, IsAtPurge, IsAtPurgeStage, IsPurging, told_taken, went_on, IsBehindSwitch}
-use Rattle.purge_task.proofs.Common.{IsToSwitch, IsUnwantedFirst, AreSwitchLists, IsReadyToSwitch, IsSwitched, IsTargetWritten, KeepsButTarget, ReadsMail, files_switched, target_named, target_synced, Switched, PurgeStage, stage, Source, Work, fall}
+use Rattle.purge_task.proofs.Common.{option_map_or, cases_Bool, cases_lt, eq-eqb, eqb-true, ne_eqb, drop_all, All-cons, All-contains, All-head, All-nil, All-tail, common_steps, AllPairs-cons, count_by-le-length, Faults, Grows, History, LogState, MapPlace, FileNo, MapUid, Reply, MailIsKept, Lists}
+use Rattle.purge_task.proofs.Common.{MapFits, MapMeaning, MapRecord, record_at, IsSoundMap, pairs_head, pairs_tail, found_one, IsSettledFor, Leaves, CopiesMessage, EventPart, MakesTarget, RemovesFile, Run, RunEvent, Switches, TakenFile, is_copied_from, is_one_of, map_of, own_events, next_part}
+use Rattle.purge_task.proofs.Common.{next_taken, purge_goes_on, AreFilesInOrder, FilesValue, file_in, is_doomed_in, is_emptied_in, pins_in, MailFile, IsSpared, due_at, KeepsFirm, AreElsewhere, IsStore, StoreValue, store_sound, may_be_used, Due, Emptied, Held, Made, Pinned, PlacingPieces, Removing}
+use Rattle.purge_task.proofs.Common.{Taken, Thing, one_if, records_within, HasComeTo, claims_of_sources, claims_of_switched, claims_of_target, purge_claims, sources_left, IsPurgeStep, PurgeSteps, around_purging, seen_by_purge, AreSourcesApart, HasPurged, IsBeginningFirst, IsCopyingFirst}
+use Rattle.purge_task.proofs.Common.{IsRemovingFirst, IsTargetToMake, IsToBegin, PurgeValue, messages_in, IsFurther, CopiesBehind, GoesOnBehind, HaveCopied, IsAtPurge, IsAtPurgeStage, IsPurging, told_taken, went_on, IsBehindSwitch, IsToSwitch, IsUnwantedFirst, AreSwitchLists, IsReadyToSwitch}
+use Rattle.purge_task.proofs.Common.{IsSwitched, IsTargetWritten, KeepsButTarget, ReadsMail, files_switched, target_named, target_synced, Switched, PurgeStage, Source, Work, fall}
 use Rattle.std.proofs.Common.{◌⊎◌}
 use Rattle.std.specs.Prelude.{drop}
 use Rattle.disk_model.specs.FaultCounts.{ChangeFaultCounted}
+use Rattle.mdbox_base.specs.declared.entries.MapEntry.TheVariants as map_entry
+use Rattle.mdbox_base.specs.declared.progress.Did.TheVariants as did
+use Rattle.mdbox_base.specs.declared.progress.Progress.TheVariants as progress
+use Rattle.mdbox_base.specs.declared.replies.Refusal.TheVariants as refusal
+use Rattle.mdbox_base.specs.declared.replies.Reply.TheVariants as reply
+use Rattle.mdbox_base.specs.declared.requests.Request.TheVariants as request
 use Rattle.map_index.specs.Kept.{IsMapInOrder}
 use Rattle.journal.specs.Events.{copies_left}
 use Rattle.store_core.proofs.SwitchLemmas.{none_left}
 use Rattle.purge_task.specs.Reserved.{HasListRoom}
 use Rattle.purge_task.specs.SwitchEvent.{IsCopiedFirst}
+use Rattle.purge_task.specs.declared.task.PurgeStage.TheVariants as stage
 use Rattle.purge_task.proofs.BareCallLemmas.{IsEmptiedFile, emptied_file}
 use Rattle.purge_task.proofs.EventLemmas.{same_refusal}
 use Rattle.purge_task.proofs.FailLemmas.{fail_steps}

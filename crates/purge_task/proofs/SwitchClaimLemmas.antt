@@ -1,11 +1,13 @@
 -- What a purge that switches a storage file claims, and what it leaves to other tasks.
 use Rattle.purge_task.proofs.Common.{◌≡◌, ◌≢◌, ◌≤◌, ◌<◌, ◌+◌, ◌==◌, ◌&&◌, ◌++◌, ℕ, Bool, true, false, cond, List, [], ◌∷◌, Option, Some, None, refl, sym, ◌∙◌, ap, subst, arith, inl, inr, Contains, is_some, max, IfSome, option_and_then, option_map, option_map_or, cases_Bool, cases_eq, eq-eqb}
-use Rattle.purge_task.proofs.Common.{eqb-true, ne_eqb, common_steps, append-nil, All-cons, All-nil, sum_by-cons, Between, DiskState, History, IfTold, reading, file, between-map, LogState, InstRow, map_entry, MapPlace, FileNo, MapUid, AreCopied, IsCopiedTo, MapFits, MapMeaning, MapRecord}
-use Rattle.purge_task.proofs.Common.{moved_record, place_given, record_at, IsSoundMap, found_one, files_of, instance_file, file_in, given_back, is_doomed_in, is_emptied_in, is_taken_in, made_doomed, pins_in, place_begun_in, with_pins, MailFile, IsSpared, due_at, KeepsFirm, KeepsInstances}
-use Rattle.purge_task.proofs.Common.{ReadsInstances, IsStore, StoreValue, store_sound, kept_same, Claims, Due, Emptied, Held, Made, Pinned, PlacingPieces, Removing, Taken, Thing, amount_in, is_to_remove, one_if, HasRegionOctets, HaveSameInstances, IsSameOrSynced, LeavesOthers, LeavesRecord}
-use Rattle.purge_task.proofs.Common.{OthersTook, instance_kept, none_placed, claims_of_sources, claims_of_target, KeepsButTarget, ReadsMail, files_switched, target_named, Source}
+use Rattle.purge_task.proofs.Common.{eqb-true, ne_eqb, common_steps, append-nil, All-cons, All-nil, sum_by-cons, Between, DiskState, History, IfTold, reading, between-map, LogState, InstRow, MapPlace, FileNo, MapUid, AreCopied, IsCopiedTo, MapFits, MapMeaning, MapRecord, moved_record, place_given}
+use Rattle.purge_task.proofs.Common.{record_at, IsSoundMap, found_one, files_of, instance_file, file_in, given_back, is_doomed_in, is_emptied_in, is_taken_in, made_doomed, pins_in, place_begun_in, with_pins, MailFile, IsSpared, due_at, KeepsFirm, KeepsInstances, ReadsInstances, IsStore, StoreValue}
+use Rattle.purge_task.proofs.Common.{store_sound, kept_same, Claims, Due, Emptied, Held, Made, Pinned, PlacingPieces, Removing, Taken, Thing, amount_in, is_to_remove, one_if, HasRegionOctets, HaveSameInstances, IsSameOrSynced, LeavesOthers, LeavesRecord, OthersTook, instance_kept, none_placed}
+use Rattle.purge_task.proofs.Common.{claims_of_sources, claims_of_target, KeepsButTarget, ReadsMail, files_switched, target_named, Source}
 use Rattle.std.proofs.Common.{◌⊎◌}
 use Rattle.std.specs.Prelude.{drop, take}
+use Rattle.disk_model.specs.declared.name.FileName.TheVariants as file
+use Rattle.mdbox_base.specs.declared.entries.MapEntry.TheVariants as map_entry
 use Rattle.model_appends.proofs.AppendPurgeLemmas.{place_found}
 use Rattle.model_meaning.specs.BoxMeaning.{LogRow, row_at}
 use Rattle.model_meaning.specs.MapMeaning.{MapBox}

@@ -1,11 +1,12 @@
 -- The entry that switches a file fits, and there is room for it.
 use Rattle.purge_task.proofs.Common.{◌≡◌, ◌≢◌, inl, inr, ℕ, zero, suc, ◌+◌, ◌*◌, ◌<◌, ◌≤◌, ◌==◌, ◌||◌, ◌&&◌, Bool, true, false, cond, not, Option, Some, None, List, [], ◌∷◌, length, get_or, map, All, refl, sym, ap, subst, ◌∙◌, arith, AllPairs, ◌⊎◌, Contains, count_by, list_any, option_map_or}
-use Rattle.purge_task.proofs.Common.{cases_lt, cases_eq, get_or_default, length-map, All-nil, All-cons, All-head, All-tail, All-contains, All-contains_itself, AllPairs-from_increasing, sum_by-cons, count_by-le-length, FileNo, MapUid, map_entry, MapPlace, HasRecord, size_at, MapRecord, MapMeaning}
-use Rattle.purge_task.proofs.Common.{has_map_uid, record_at, IsSoundMap, IsSoundRecord, equal_is, equal_yes, found_holds, pairs_head, pairs_tail, AreElsewhere, messages_in, AreSwitchLists, target_named}
+use Rattle.purge_task.proofs.Common.{cases_lt, cases_eq, get_or_default, length-map, All-nil, All-cons, All-head, All-tail, All-contains, All-contains_itself, AllPairs-from_increasing, sum_by-cons, count_by-le-length, FileNo, MapUid, MapPlace, HasRecord, size_at, MapRecord, MapMeaning, has_map_uid}
+use Rattle.purge_task.proofs.Common.{record_at, IsSoundMap, IsSoundRecord, equal_is, equal_yes, found_holds, pairs_head, pairs_tail, AreElsewhere, messages_in, AreSwitchLists, target_named}
 use Rattle.std.proofs.Common.{◌^◌}
 use Rattle.std.proofs.lemmas.List.Elements.{recursion_from_All}
 use Rattle.std.proofs.lemmas.List.Folds.{list_any_at, list_any_none}
 use Rattle.mdbox_base.specs.Words.{IsNumber}
+use Rattle.mdbox_base.specs.declared.entries.MapEntry.TheVariants as map_entry
 use Rattle.log_records.proofs.EntrySizeLemmas.{purged_size}
 use Rattle.model_logs.specs.Entries.{map_text, MapInRange}
 use Rattle.model_meaning.specs.MapFits.{ArePlacedApart, FitsPlace, FitsPurged, FitsTarget, IsMovedOrDropped}

@@ -1,12 +1,13 @@
 -- What was copied is synced, and the entry that names it can be appended.
 use Rattle.purge_task.proofs.Common.{◌≡◌, inl, inr, ℕ, ◌+◌, ◌<◌, ◌≤◌, ◌==◌, Bool, true, false, Option, Some, None, List, [], ◌∷◌, length, get_or, drop, All, refl, sym, ap, subst, ◌∙◌, arith, option_map, option_map_or, option_and_then, cases_eq, cases_lt, cases_Bool, drop_all, drop_more, All-nil}
-use Rattle.purge_task.proofs.Common.{All-contains, All-weaker, DiskState, Files, History, IfTold, Keeps, MayLeave, reading, file, FileNo, MapUid, MapEntry, MapPlace, AreCopied, IsCopiedTo, HasRecord, MapRecord, MapMeaning, IsSoundMap, equal_is, found_holds, files_of, MailFile, AreFilesInOrder}
-use Rattle.purge_task.proofs.Common.{IsUsedFile, changed_in, end_in, file_in, is_doomed_in, is_emptied_in, is_taken_in, ends-kept, file-here, file-other, IsStore, StoreValue, store_sound, sources_left, AreSwitchLists, IsFirst, IsReadyToSwitch, IsTargetWritten, ReadsMail, target_named, target_synced}
-use Rattle.purge_task.proofs.Common.{Source, Work}
+use Rattle.purge_task.proofs.Common.{All-contains, All-weaker, DiskState, Files, History, IfTold, Keeps, MayLeave, reading, FileNo, MapUid, MapEntry, MapPlace, AreCopied, IsCopiedTo, HasRecord, MapRecord, MapMeaning, IsSoundMap, equal_is, found_holds, files_of, MailFile, AreFilesInOrder, IsUsedFile}
+use Rattle.purge_task.proofs.Common.{changed_in, end_in, file_in, is_doomed_in, is_emptied_in, is_taken_in, ends-kept, file-here, file-other, IsStore, StoreValue, store_sound, sources_left, AreSwitchLists, IsFirst, IsReadyToSwitch, IsTargetWritten, ReadsMail, target_named, target_synced, Source}
+use Rattle.purge_task.proofs.Common.{Work}
 use Rattle.std.specs.Vec.{with_item}
 use Rattle.std.proofs.lemmas.List.{drop-set}
 use Rattle.std.proofs.Common.{set}
 use Rattle.disk_model.specs.Disk.{IsImage}
+use Rattle.disk_model.specs.declared.name.FileName.TheVariants as file
 use Rattle.mdbox_base.specs.Words.{IsNumber}
 use Rattle.model_appends.specs.MapAppending.{AreCopiesSynced}
 use Rattle.model_logs.specs.Entries.{map_text}

@@ -1,6 +1,7 @@
 -- Records keep the octets of their regions where a file is switched.
-use Rattle.purge_task.proofs.Common.{◌≡◌, ℕ, false, List, [], Option, Some, None, refl, sym, ◌∙◌, subst, All, Between, DiskState, History, IfTold, reading, file, between-if, MapPlace, FileNo, MapUid, AreCopied, MapMeaning, LiesInFile, files_of, IsStore, StoreValue, store_sound, HaveSameRegions}
+use Rattle.purge_task.proofs.Common.{◌≡◌, ℕ, false, List, [], Option, Some, None, refl, sym, ◌∙◌, subst, All, Between, DiskState, History, IfTold, reading, between-if, MapPlace, FileNo, MapUid, AreCopied, MapMeaning, LiesInFile, files_of, IsStore, StoreValue, store_sound, HaveSameRegions}
 use Rattle.purge_task.proofs.Common.{AreSwitchLists, IsTargetWritten, ReadsMail, target_named, Source}
+use Rattle.disk_model.specs.declared.name.FileName.TheVariants as file
 use Rattle.disk_model.proofs.MomentLemmas.{if_told-both}
 use Rattle.purge_task.proofs.QuietRegionLemmas.{switched_regions}
 use Rattle.purge_task.proofs.SameRegionLemmas.{lie_told}

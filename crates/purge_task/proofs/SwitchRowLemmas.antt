@@ -1,9 +1,10 @@
 -- What is left of the records of a map where a storage file was switched.
 use Rattle.purge_task.proofs.Common.{◌≡◌, ◌≢◌, ◌+◌, ◌==◌, ◌&&◌, ◌||◌, ℕ, Bool, true, false, not, cond, List, [], ◌∷◌, length, map, Option, Some, None, refl, sym, ◌∙◌, ap, subst, arith, inl, inr, All, Contains, count_by, filter, nat_lt, sum_by, if◌then◌else◌, cases_Bool, eq-eqb, eqb-true, ne_eqb}
-use Rattle.purge_task.proofs.Common.{All-cons, All-contains, All-contains_itself, All-head, All-nil, All-tail, All-weaker, sum_by-cons, FileNo, MapUid, map_entry, MapPlace, HasRecord, MapFits, MapMeaning, MapRecord, has_map_uid, map_applied, moved_record, place_given, record_at, IsSoundMap}
-use Rattle.purge_task.proofs.Common.{found_one, at_uid, is_copied_from, target_length, AreElsewhere, but_count, records_within, messages_in, IsUnwanted, target_named}
+use Rattle.purge_task.proofs.Common.{All-cons, All-contains, All-contains_itself, All-head, All-nil, All-tail, All-weaker, sum_by-cons, FileNo, MapUid, MapPlace, HasRecord, MapFits, MapMeaning, MapRecord, has_map_uid, map_applied, moved_record, place_given, record_at, IsSoundMap, found_one, at_uid}
+use Rattle.purge_task.proofs.Common.{is_copied_from, target_length, AreElsewhere, but_count, records_within, messages_in, IsUnwanted, target_named}
 use Rattle.std.proofs.Common.{◌⊎◌}
 use Rattle.std.proofs.lemmas.Bool.{cond-false, cond-true}
+use Rattle.mdbox_base.specs.declared.entries.MapEntry.TheVariants as map_entry
 use Rattle.model_appends.proofs.AppendPurgeLemmas.{place_found}
 use Rattle.model_meaning.specs.MapMeaning.{record_changed, record_rules}
 use Rattle.model_meaning.proofs.AppliedLemmas.{records_by_purged}

@@ -1,8 +1,9 @@
 -- What is seen of a store in which a storage file was switched, in a run of which an event switched it.
 use Rattle.purge_task.proofs.Common.{◌≡◌, ◌≤◌, ◌&&◌, ◌||◌, ℕ, Bool, true, false, not, List, [], ◌∷◌, ◌++◌, Option, Some, None, refl, sym, ◌∙◌, ap, subst, arith, inl, inr, ◌⊎◌, is_some, nat_le, list_any, option_map_or, option_and_then, cases_eq, common_steps, Faults, History, told_calls, LogState}
-use Rattle.purge_task.proofs.Common.{Highest, FileNo, MapUid, map_entry, MapPlace, MapMeaning, is_own, map_applied, number_at, Run, RunEvent, Switches, and_then, event_of, is_one_of, begun_in, ended_in, HasCome, FilesValue, file_in, is_doomed_in, pins_in, MailFile, due_at, StoreValue, may_be_used}
-use Rattle.purge_task.proofs.Common.{HasComeTo, was_used, file_still_known, given_still, gone_still, pins_still, placed_still, there_before, seen_by_purge}
+use Rattle.purge_task.proofs.Common.{Highest, FileNo, MapUid, MapPlace, MapMeaning, is_own, map_applied, number_at, Run, RunEvent, Switches, and_then, event_of, is_one_of, begun_in, ended_in, HasCome, FilesValue, file_in, is_doomed_in, pins_in, MailFile, due_at, StoreValue, may_be_used, HasComeTo}
+use Rattle.purge_task.proofs.Common.{was_used, file_still_known, given_still, gone_still, pins_still, placed_still, there_before, seen_by_purge}
 use Rattle.std.specs.Prelude.{◌≢◌}
+use Rattle.mdbox_base.specs.declared.entries.MapEntry.TheVariants as map_entry
 use Rattle.list_machine.specs.Run.{is_doomed}
 use Rattle.journal.proofs.RunLemmas.{comes_on_with, drawn_none}
 use Rattle.task_steps.proofs.SeenLemmas.{first_doomed}

@@ -1,9 +1,12 @@
 -- The clause of an event of a purge that switches a storage file.
 use Rattle.purge_task.proofs.Common.{◌≡◌, ◌≤◌, ◌<◌, ◌+◌, ◌==◌, ℕ, suc, zero, Bool, true, false, not, List, [], ◌∷◌, ◌++◌, length, Option, Some, None, refl, sym, ◌∙◌, ap, subst, arith, All, inl, inr, nat_lt, sum_by, if◌then◌else◌, list_any, option_map_or, cases_Bool, eq-eqb, common_steps, All-cons}
-use Rattle.purge_task.proofs.Common.{All-head, All-nil, All-tail, All-weaker, sum_by-cons, Faults, History, told_calls, LogState, FileNo, MapUid, map_entry, MapPlace, Did, did, Reply, request, HasRecord, MapFits, MapMeaning, MapRecord, map_applied, pairs_head, EventPart, RemovesFile, Run, RunEvent}
-use Rattle.purge_task.proofs.Common.{Switches, and_then, dropped_in, how_many, is_one_of, map_of, own_events, Around, is_done, last_refusal, next_part, next_taken, purge_goes_on, was_pinned, own_more, FilesValue, pins_in, due_at, StoreValue, may_be_used, records_within, HasComeTo, was_used}
-use Rattle.purge_task.proofs.Common.{sources_left, PurgeSteps, around_purging, seen_by_purge, AreSourcesApart, PurgeValue, IsBehindSwitch, GoesOnBehind, HaveCopied, HaveTaken, IsAtPurge, IsAtPurgeStage, IsAtSwitched, IsPurging, RemovesBehind, told_taken, PurgeStage, Source, Work, DidBy, stands_by}
+use Rattle.purge_task.proofs.Common.{All-head, All-nil, All-tail, All-weaker, sum_by-cons, Faults, History, told_calls, LogState, FileNo, MapUid, MapPlace, Did, Reply, HasRecord, MapFits, MapMeaning, MapRecord, map_applied, pairs_head, EventPart, RemovesFile, Run, RunEvent, Switches, and_then}
+use Rattle.purge_task.proofs.Common.{dropped_in, how_many, is_one_of, map_of, own_events, Around, is_done, last_refusal, next_part, next_taken, purge_goes_on, was_pinned, own_more, FilesValue, pins_in, due_at, StoreValue, may_be_used, records_within, HasComeTo, was_used, sources_left, PurgeSteps}
+use Rattle.purge_task.proofs.Common.{around_purging, seen_by_purge, AreSourcesApart, PurgeValue, IsBehindSwitch, GoesOnBehind, HaveCopied, HaveTaken, IsAtPurge, IsAtPurgeStage, IsAtSwitched, IsPurging, RemovesBehind, told_taken, PurgeStage, Source, Work, DidBy, stands_by}
 use Rattle.std.specs.Prelude.{◌≢◌}
+use Rattle.mdbox_base.specs.declared.entries.MapEntry.TheVariants as map_entry
+use Rattle.mdbox_base.specs.declared.progress.Did.TheVariants as did
+use Rattle.mdbox_base.specs.declared.requests.Request.TheVariants as request
 use Rattle.model_meaning.specs.MapMeaning.{MapBox}
 use Rattle.model_store.specs.Listing.{ShowLists}
 use Rattle.journal.specs.Events.{behind_purge}

@@ -1,8 +1,9 @@
 -- What a switch leaves, from the sync of the target to its release.
-use Rattle.purge_task.proofs.Common.{◌≡◌, ◌≢◌, inl, inr, ℕ, ◌==◌, true, false, Option, Some, None, List, map, refl, sym, ap, subst, ◌∙◌, option_map_or, cases_eq, Between, DiskState, History, IfTold, Keeps, MayLeave, SameButFor, reading, FileName, file, between-begins, between-both, between-map}
-use Rattle.purge_task.proofs.Common.{FileNo, MapEntry, MapFits, MapRecord, MapMeaning, map_applied, record_at, MailFile, changed_in, is_taken_in, made_doomed, pins_in, file-other, IsSpared, KeepsStored, due_at, KeepsFirm, StoreValue, firm_same, IsSwitched, IsTargetWritten, KeepsButTarget, ReadsMail}
+use Rattle.purge_task.proofs.Common.{◌≡◌, ◌≢◌, inl, inr, ℕ, ◌==◌, true, false, Option, Some, None, List, map, refl, sym, ap, subst, ◌∙◌, option_map_or, cases_eq, Between, DiskState, History, IfTold, Keeps, MayLeave, SameButFor, reading, FileName, between-begins, between-both, between-map, FileNo}
+use Rattle.purge_task.proofs.Common.{MapEntry, MapFits, MapRecord, MapMeaning, map_applied, record_at, MailFile, changed_in, is_taken_in, made_doomed, pins_in, file-other, IsSpared, KeepsStored, due_at, KeepsFirm, StoreValue, firm_same, IsSwitched, IsTargetWritten, KeepsButTarget, ReadsMail}
 use Rattle.purge_task.proofs.Common.{files_switched, target_released, target_synced, Switched, Source}
 use Rattle.std.specs.Prelude.{IfSome}
+use Rattle.disk_model.specs.declared.name.FileName.TheVariants as file
 use Rattle.disk_model.proofs.BetweenLemmas.{between-then}
 use Rattle.storage_files.specs.OnDisk.{IsSyncedFile}
 use Rattle.store_core.specs.Dues.{leak_at}

@@ -1,14 +1,20 @@
 -- What a purge says that makes the target of a file.
 use Rattle.purge_task.proofs.Common.{◌≡◌, ◌≢◌, ◌≤◌, ◌<◌, ◌+◌, ◌==◌, ◌&&◌, ℕ, zero, suc, Bool, true, false, cond, List, [], ◌∷◌, Option, Some, None, refl, sym, ◌∙◌, ap, subst, arith, inl, inr, All, IsSome, is_some, nat_le, nat_lt, if◌then◌else◌, list_any, IfSome, option_and_then, option_map}
-use Rattle.purge_task.proofs.Common.{option_map_or, cases_eq, eq-eqb, ne_eqb, All-cons, All-contains, All-head, All-nil, All-tail, All-weaker, sum_by-cons, Faults, Grows, History, IfTold, Keeps, MayLeave, NoFault, file, MapPlace, FileNo, did, progress, refusal, reply, MailIsKept, Lists, AreCopied}
-use Rattle.purge_task.proofs.Common.{MapRecord, is_own, number_at, pairs_head, pairs_nil, found_one, IsSettledFor, Leaves, files_of, Run, is_copied_from, target_length, IsUsedFile, changed_in, end_in, ending_at, file_in, is_emptied_in, is_taken_in, pins_in, place_begun_in, OthersAreNamed, MailFile}
-use Rattle.purge_task.proofs.Common.{file-here, file-other, StoreValue, may_be_used, Due, Emptied, Held, Made, MovesClaims, Pinned, PlacingPieces, Removing, Taken, Thing, amount_in, is_to_remove, one_if, LeavesOthers, MayOnlyGrow, OthersTook, HasComeTo, was_given, was_used, claims_of_sources}
-use Rattle.purge_task.proofs.Common.{claims_of_target, purge_claims, sources_left, IsPurgeStep, PurgeSteps, seen_by_purge, PurgeValue, IsTargetFirst, AreCopiedUpTo, AreSourcesApart, HasPurged, HasTargetHeader, IsBeginningFirst, IsCopyingFirst, IsSourceCopied, IsTargetToMake, IsToBegin}
-use Rattle.purge_task.proofs.Common.{target_header, PurgeStage, stage, Source, Work, fall, IsStore}
+use Rattle.purge_task.proofs.Common.{option_map_or, cases_eq, eq-eqb, ne_eqb, All-cons, All-contains, All-head, All-nil, All-tail, All-weaker, sum_by-cons, Faults, Grows, History, IfTold, Keeps, MayLeave, NoFault, MapPlace, FileNo, MailIsKept, Lists, AreCopied, MapRecord, is_own, number_at}
+use Rattle.purge_task.proofs.Common.{pairs_head, pairs_nil, found_one, IsSettledFor, Leaves, files_of, Run, is_copied_from, target_length, IsUsedFile, changed_in, end_in, ending_at, file_in, is_emptied_in, is_taken_in, pins_in, place_begun_in, OthersAreNamed, MailFile, file-here, file-other}
+use Rattle.purge_task.proofs.Common.{StoreValue, may_be_used, Due, Emptied, Held, Made, MovesClaims, Pinned, PlacingPieces, Removing, Taken, Thing, amount_in, is_to_remove, one_if, LeavesOthers, MayOnlyGrow, OthersTook, HasComeTo, was_given, was_used, claims_of_sources, claims_of_target}
+use Rattle.purge_task.proofs.Common.{purge_claims, sources_left, IsPurgeStep, PurgeSteps, seen_by_purge, PurgeValue, IsTargetFirst, AreCopiedUpTo, AreSourcesApart, HasPurged, HasTargetHeader, IsBeginningFirst, IsCopyingFirst, IsSourceCopied, IsTargetToMake, IsToBegin, target_header, PurgeStage}
+use Rattle.purge_task.proofs.Common.{Source, Work, fall, IsStore}
 use Rattle.std.proofs.lemmas.List.Sums.{sum_by-le-sum_by}
+use Rattle.disk_model.specs.declared.name.FileName.TheVariants as file
+use Rattle.mdbox_base.specs.declared.progress.Did.TheVariants as did
+use Rattle.mdbox_base.specs.declared.progress.Progress.TheVariants as progress
+use Rattle.mdbox_base.specs.declared.replies.Refusal.TheVariants as refusal
+use Rattle.mdbox_base.specs.declared.replies.Reply.TheVariants as reply
 use Rattle.storage_files.specs.Files.{placing_begun}
 use Rattle.store_core.specs.Knows.{may_have_given}
 use Rattle.purge_task.specs.Keeping.{IsToMake}
+use Rattle.purge_task.specs.declared.task.PurgeStage.TheVariants as stage
 use Rattle.purge_task.proofs.TargetLemmas.{target_steps}
 use Rattle.purge_task.proofs.TargetLeavingLemmas.{named_others, one_file_leaves}
 use Rattle.purge_task.proofs.TargetSeenLemmas.{IsMadeOf, with_files}

@@ -1,7 +1,8 @@
 -- An event that makes a target, or adds to it, leaves to other tasks what is theirs.
 use Rattle.purge_task.proofs.Common.{◌≡◌, ◌≢◌, ◌≤◌, ◌==◌, ℕ, List, [], ◌∷◌, ◌++◌, Option, Some, refl, sym, ◌∙◌, ap, subst, arith, inl, inr, option_map, option_and_then, cases_eq, append-nil, All-cons, All-contains, All-nil, Between, DiskState, FileState, History, SameButFor, named, reading}
-use Rattle.purge_task.proofs.Common.{FileName, file, between-map, InstRow, MapRecord, record_at, found_one, files_of, instance_file, FilesValue, end_in, file_in, with_pins, OthersAreNamed, MailFile, KeepsFirm, KeepsInstances, ReadsInstances, AreElsewhere, StoreValue, kept_same, firm_same}
-use Rattle.purge_task.proofs.Common.{named_reads, Claims, HasRegionOctets, HaveSameInstances, IsSameOrSynced, LeavesOthers, LeavesRecord, MayOnlyGrow, OnlyGrows, OthersTook, unraised_same, instance_kept, none_placed}
+use Rattle.purge_task.proofs.Common.{FileName, between-map, InstRow, MapRecord, record_at, found_one, files_of, instance_file, FilesValue, end_in, file_in, with_pins, OthersAreNamed, MailFile, KeepsFirm, KeepsInstances, ReadsInstances, AreElsewhere, StoreValue, kept_same, firm_same, named_reads}
+use Rattle.purge_task.proofs.Common.{Claims, HasRegionOctets, HaveSameInstances, IsSameOrSynced, LeavesOthers, LeavesRecord, MayOnlyGrow, OnlyGrows, OthersTook, unraised_same, instance_kept, none_placed}
+use Rattle.disk_model.specs.declared.name.FileName.TheVariants as file
 use Rattle.store_core.specs.Keeping.{SyncsInstances}
 use Rattle.task_claims.specs.Leaving.{LeavesFile}
 use Rattle.purge_task.proofs.TargetSeenLemmas.{with_files}

@@ -1,8 +1,11 @@
 -- The event of a purge that makes a target.
 use Rattle.purge_task.proofs.Common.{◌≡◌, ◌≤◌, ◌==◌, ℕ, Bool, true, false, List, [], ◌∷◌, ◌++◌, length, Option, Some, None, refl, sym, ◌∙◌, ap, subst, arith, All, nat_lt, sum_by, if◌then◌else◌, list_any, option_map_or, eq-eqb, common_steps, append-nil, All-nil, All-weaker, Faults, History}
-use Rattle.purge_task.proofs.Common.{told_calls, FileNo, Did, did, Reply, request, MapRecord, is_own, number_at, MakesTarget, Run, RunEvent, Switches, RemovesFile, TakenFile, and_then, dropped_in, how_many, is_one_of, map_of, own_events, Around, last_refusal, next_part, next_taken, purge_goes_on}
-use Rattle.purge_task.proofs.Common.{own_more, FilesValue, StoreValue, HasComeTo, was_given, was_used, sources_left, PurgeSteps, around_purging, seen_by_purge, PurgeValue, CopiesBehind, GoesOnBehind, HaveCopied, HaveTaken, IsAtPurge, IsAtPurgeStage, IsPurging, told_taken, PurgeStage, stage, Source}
-use Rattle.purge_task.proofs.Common.{Work, DidBy, stands_by}
+use Rattle.purge_task.proofs.Common.{told_calls, FileNo, Did, Reply, MapRecord, is_own, number_at, MakesTarget, Run, RunEvent, Switches, RemovesFile, TakenFile, and_then, dropped_in, how_many, is_one_of, map_of, own_events, Around, last_refusal, next_part, next_taken, purge_goes_on, own_more}
+use Rattle.purge_task.proofs.Common.{FilesValue, StoreValue, HasComeTo, was_given, was_used, sources_left, PurgeSteps, around_purging, seen_by_purge, PurgeValue, CopiesBehind, GoesOnBehind, HaveCopied, HaveTaken, IsAtPurge, IsAtPurgeStage, IsPurging, told_taken, PurgeStage, Source, Work, DidBy}
+use Rattle.purge_task.proofs.Common.{stands_by}
+use Rattle.mdbox_base.specs.declared.progress.Did.TheVariants as did
+use Rattle.mdbox_base.specs.declared.requests.Request.TheVariants as request
+use Rattle.purge_task.specs.declared.task.PurgeStage.TheVariants as stage
 use Rattle.purge_task.proofs.EventLemmas.{did_next}
 use Rattle.purge_task.proofs.PartLemmas.{copies_some, last_with, next_goes_on, next_is}
 use Rattle.purge_task.proofs.RemovalLemmas.{LeavesSettled}

@@ -1,12 +1,18 @@
 -- What a purge says that can't copy a message: one that can't be read, so that all that was taken is given back, or one of which a write
 -- failed.
 use Rattle.purge_task.proofs.Common.{◌≡◌, ◌≢◌, ◌≤◌, ◌<◌, ◌+◌, ℕ, Bool, true, false, List, [], ◌∷◌, get_or, Option, Some, None, All, refl, sym, ◌∙◌, ap, subst, arith, inl, inr, AllPairs, Err, Result, is_some, IfSome, option_and_then, option_map_or, All-cons, All-head, All-nil, All-tail, Between}
-use Rattle.purge_task.proofs.Common.{Faults, Grows, History, SameButFor, file, FileNo, did, progress, Refusal, refusal, reply, MapRow, CopiesMessage, MailIsKept, Lists, IsSoundMap, IsSettledFor, Leaves, FilesValue, IsUsedFile, changed_in, end_in, ending_at, file_in, MailFile, file-other, StoreValue}
-use Rattle.purge_task.proofs.Common.{Emptied, MovesClaims, Removing, Taken, Thing, amount_in, one_if, LeavesOthers, OthersTook, claims_of_sources, claims_of_target, purge_claims, sources_left, IsPurgeStep, answer_of, came_to, IsTargetAt, HasPurged, IsTargetToMake, IsToBegin, PurgeValue, CanRelease}
-use Rattle.purge_task.proofs.Common.{all_released, PurgeStage, stage, Source, Work, IsStore}
+use Rattle.purge_task.proofs.Common.{Faults, Grows, History, SameButFor, FileNo, Refusal, MapRow, CopiesMessage, MailIsKept, Lists, IsSoundMap, IsSettledFor, Leaves, FilesValue, IsUsedFile, changed_in, end_in, ending_at, file_in, MailFile, file-other, StoreValue, Emptied, MovesClaims, Removing}
+use Rattle.purge_task.proofs.Common.{Taken, Thing, amount_in, one_if, LeavesOthers, OthersTook, claims_of_sources, claims_of_target, purge_claims, sources_left, IsPurgeStep, answer_of, came_to, IsTargetAt, HasPurged, IsTargetToMake, IsToBegin, PurgeValue, CanRelease, all_released, PurgeStage}
+use Rattle.purge_task.proofs.Common.{Source, Work, IsStore}
 use Rattle.std.proofs.Common.{◌⊎◌}
+use Rattle.disk_model.specs.declared.name.FileName.TheVariants as file
+use Rattle.mdbox_base.specs.declared.progress.Did.TheVariants as did
+use Rattle.mdbox_base.specs.declared.progress.Progress.TheVariants as progress
+use Rattle.mdbox_base.specs.declared.replies.Refusal.TheVariants as refusal
+use Rattle.mdbox_base.specs.declared.replies.Reply.TheVariants as reply
 use Rattle.task_claims.specs.Claims.{no_claims}
 use Rattle.purge_task.specs.Copied.{CopyFaultCounted, IsCopyRefusal}
+use Rattle.purge_task.specs.declared.task.PurgeStage.TheVariants as stage
 use Rattle.purge_task.proofs.CanReleaseLemmas.{AreClear, IsHeldIn, copying_held, grown_held, held_clear, held_release}
 use Rattle.purge_task.proofs.CopyStepLemmas.{next_copy}
 use Rattle.purge_task.proofs.CopyingLemmas.{HasMore, IsCopyingOne, each_still, grown_amount, grown_ends, grown_keeps, grown_of, later_targets, more_grows, target_untaken}

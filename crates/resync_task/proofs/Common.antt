@@ -7,20 +7,13 @@ pub use Rattle.std.proofs.lemmas.List.Sums.{sum_by-cons}
 pub use Rattle.std.specs.Prelude.{All, AllPairs, Contains, Err, IsTrue, Ok, Result, count_by, if◌then◌else◌, sum_by, ◌↔◌, ◌≢◌}
 pub use Rattle.disk_model.specs.Disk.{DiskState, Faults, History, reading}
 pub use Rattle.disk_model.specs.FaultCounts.{NoFault}
-pub use Rattle.disk_model.specs.declared.name.FileName.TheVariants as file
 pub use Rattle.journal.specs.Events.{Around}
 pub use Rattle.list_machine.specs.Run.{Run, RunEvent, own_events}
 pub use Rattle.map_index.specs.Shown.{MapRow, shown_record}
 pub use Rattle.mdbox_base.specs.declared.entries.BoxEntry.{BoxEntry}
 pub use Rattle.mdbox_base.specs.declared.entries.MapCount.{MapCount}
-pub use Rattle.mdbox_base.specs.declared.entries.MapEntry.TheVariants as entry
-pub use Rattle.mdbox_base.specs.declared.progress.Did.TheVariants as did
 pub use Rattle.mdbox_base.specs.declared.replies.Refusal.{Refusal}
-pub use Rattle.mdbox_base.specs.declared.replies.Refusal.TheVariants as refusal
 pub use Rattle.mdbox_base.specs.declared.replies.Reply.{Reply}
-pub use Rattle.mdbox_base.specs.declared.replies.Reply.TheVariants as reply
-pub use Rattle.mdbox_base.specs.declared.requests.Request.TheVariants as request
-pub use Rattle.mdbox_base.specs.declared.script.Half.TheVariants as half
 pub use Rattle.model_lists.specs.Lists.{Lists}
 pub use Rattle.model_meaning.proofs.AppliedLemmas.{records_by_counted}
 pub use Rattle.model_meaning.proofs.MapSoundLemmas.{map_sound}

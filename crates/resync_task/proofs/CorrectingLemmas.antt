@@ -1,9 +1,11 @@
 -- What the entry of a resync asks.
-use Rattle.resync_task.proofs.Common.{◌≡◌, ◌<◌, ◌≤◌, ◌+◌, ◌==◌, ℕ, Bool, true, false, List, [], ◌∷◌, length, refl, sym, ◌∙◌, ap, subst, arith, All, sum_by, count_by, if◌then◌else◌, All-nil, All-cons, All-head, All-tail, All-contains, All-weaker, DiskState, History, Faults, file, MapCount, entry}
-use Rattle.resync_task.proofs.Common.{BoxEntry, LogRow, BoxMeaning, MapRecord, MapMeaning, IsSoundRecord, map_sound, listed_of, MapFits, PutsRight, corrected_map, many_corrected, wrong_beside, wrong_of, due_at, listed_at, IsStore, listed_meant, StoreValue, indexes_of}
+use Rattle.resync_task.proofs.Common.{◌≡◌, ◌<◌, ◌≤◌, ◌+◌, ◌==◌, ℕ, Bool, true, false, List, [], ◌∷◌, length, refl, sym, ◌∙◌, ap, subst, arith, All, sum_by, count_by, if◌then◌else◌, All-nil, All-cons, All-head, All-tail, All-contains, All-weaker, DiskState, History, Faults, MapCount, BoxEntry}
+use Rattle.resync_task.proofs.Common.{LogRow, BoxMeaning, MapRecord, MapMeaning, IsSoundRecord, map_sound, listed_of, MapFits, PutsRight, corrected_map, many_corrected, wrong_beside, wrong_of, due_at, listed_at, IsStore, listed_meant, StoreValue, indexes_of}
 use Rattle.std.specs.Prelude.{Option}
 use Rattle.std.specs.List.{AllByRecursion}
+use Rattle.disk_model.specs.declared.name.FileName.TheVariants as file
 use Rattle.disk_model.proofs.BetweenLemmas.{between-begins}
+use Rattle.mdbox_base.specs.declared.entries.MapEntry.TheVariants as entry
 use Rattle.model_logs.specs.Entries.{MapInRange}
 use Rattle.model_meaning.specs.MapMeaning.{map_applied}
 use Rattle.task_steps.proofs.UnmovedLemmas.{leaves_none, mail_still}

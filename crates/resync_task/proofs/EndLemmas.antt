@@ -1,9 +1,12 @@
 -- How the last event of a resync is told that is refused.
-use Rattle.resync_task.proofs.Common.{◌≡◌, ℕ, List, length, Option, refl, sym, subst, arith, History, Faults, did, refusal, reply, StoreValue, ResyncAt, ToList, ToRead}
+use Rattle.resync_task.proofs.Common.{◌≡◌, ℕ, List, length, Option, refl, sym, subst, arith, History, Faults, StoreValue, ResyncAt, ToList, ToRead}
 use Rattle.std.proofs.Common.{Err}
 use Rattle.mdbox_base.specs.declared.progress.Did.{Did}
+use Rattle.mdbox_base.specs.declared.progress.Did.TheVariants as did
 use Rattle.mdbox_base.specs.declared.progress.Progress.{Progress}
 use Rattle.mdbox_base.specs.declared.progress.Progress.TheVariants as progress
+use Rattle.mdbox_base.specs.declared.replies.Refusal.TheVariants as refusal
+use Rattle.mdbox_base.specs.declared.replies.Reply.TheVariants as reply
 use Rattle.store_core.specs.declared.error.StepError.{StepError}
 use Rattle.store_core.specs.declared.error.StepError.TheVariants as step_error
 use Rattle.resync_task.specs.Correcting.{Corrects}

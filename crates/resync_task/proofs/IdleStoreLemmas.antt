@@ -1,7 +1,8 @@
 -- Events of a resync that change nothing but the disk of the store, by reading it.
-use Rattle.resync_task.proofs.Common.{◌≡◌, ◌≤◌, ℕ, List, Option, Some, None, inl, refl, sym, ◌∙◌, ap, subst, arith, DiskState, History, Faults, file, Lists, due_at, StoreValue, seen_of, no_claims, Leads, ShowsSeen, ReadsStoreOnly, StaysSo}
+use Rattle.resync_task.proofs.Common.{◌≡◌, ◌≤◌, ℕ, List, Option, Some, None, inl, refl, sym, ◌∙◌, ap, subst, arith, DiskState, History, Faults, Lists, due_at, StoreValue, seen_of, no_claims, Leads, ShowsSeen, ReadsStoreOnly, StaysSo}
 use Rattle.std.specs.Prelude.{◌⊎◌}
 use Rattle.disk_model.specs.Disk.{Grows, IsIdle}
+use Rattle.disk_model.specs.declared.name.FileName.TheVariants as file
 use Rattle.disk_model.proofs.BetweenLemmas.{between-map}
 use Rattle.disk_model.proofs.IdleLemmas.{idle-images}
 use Rattle.model_kept.proofs.KeptLemmas.{kept_idle}

@@ -1,11 +1,12 @@
 -- Which part of a resync comes next, by its own events.
-use Rattle.resync_task.proofs.Common.{◌≡◌, ◌<◌, ◌+◌, ℕ, Bool, List, [], ◌∷◌, ◌++◌, ◌⊎◌, length, Option, Some, None, append-nil, refl, sym, ◌∙◌, ap, subst, arith, inl, inr, sum_by, count_by, if◌then◌else◌, sum_by-cons, Refusal, request, RunEvent, Run, own_events, Around, HasRead}
+use Rattle.resync_task.proofs.Common.{◌≡◌, ◌<◌, ◌+◌, ℕ, Bool, List, [], ◌∷◌, ◌++◌, ◌⊎◌, length, Option, Some, None, append-nil, refl, sym, ◌∙◌, ap, subst, arith, inl, inr, sum_by, count_by, if◌then◌else◌, sum_by-cons, Refusal, RunEvent, Run, own_events, Around, HasRead}
 use Rattle.std.specs.Prelude.{flat_map, nat_lt}
 use Rattle.std.specs.Option.{option_or}
 use Rattle.std.proofs.lemmas.Bool.{lt-ltb, le-ltb}
 use Rattle.std.proofs.lemmas.Grind.{flat_map-append}
 use Rattle.std.proofs.lemmas.List.Sums.{sum_by-append}
 use Rattle.mdbox_base.specs.declared.requests.Request.{Request}
+use Rattle.mdbox_base.specs.declared.requests.Request.TheVariants as request
 use Rattle.list_machine.specs.Run.{EventPart, First, ReadsFile, Last}
 use Rattle.journal.specs.Events.{next_part, behind_event, behind_resync, is_reading, file_left, last_refusal}
 use Rattle.resync_task.specs.Stages.{HasGoneOn}

@@ -1,6 +1,7 @@
 -- What is read of a region, and what it tells of the record.
-use Rattle.resync_task.proofs.Common.{◌≡◌, ◌≤◌, ◌+◌, ℕ, Bool, true, false, List, [], ◌++◌, length, take, drop, Option, Some, None, refl, sym, ◌∙◌, ap, subst, arith, length-append, Ok, Err, length-take, length-drop, DiskState, History, Faults, reading, NoFault, file, MapRecord, Message, IsMessage}
+use Rattle.resync_task.proofs.Common.{◌≡◌, ◌≤◌, ◌+◌, ℕ, Bool, true, false, List, [], ◌++◌, length, take, drop, Option, Some, None, refl, sym, ◌∙◌, ap, subst, arith, length-append, Ok, Err, length-take, length-drop, DiskState, History, Faults, reading, NoFault, MapRecord, Message, IsMessage}
 use Rattle.resync_task.proofs.Common.{piece_read, StoreValue, IsMessageWith, TellsWhole, ReadsStoreOnly}
+use Rattle.disk_model.specs.declared.name.FileName.TheVariants as file
 use Rattle.disk_model.proofs.IdleLemmas.{idle-back, idle-begins, idle-then}
 use Rattle.model_store.specs.Settled.{files_of}
 use Rattle.model_store.specs.Stands.{HoldsMessage}

@@ -1,10 +1,15 @@
 -- The events of a resync that are refused.
-use Rattle.resync_task.proofs.Common.{◌≡◌, ◌≤◌, ◌<◌, ◌⊎◌, ℕ, Bool, true, false, List, [], length, Some, None, refl, sym, ◌∙◌, ap, subst, arith, inl, inr, if◌then◌else◌, NoFault, MapCount, did, Refusal, refusal, Reply, reply, request, half, Lists, RunEvent, Run, own_events, Around, Seen, ShowsSeen}
-use Rattle.resync_task.proofs.Common.{Leads, DidEvent, fall, StaysSo, ResyncAt, ToList, ToRead, HasRead, many_corrected, AreWrongCounts}
+use Rattle.resync_task.proofs.Common.{◌≡◌, ◌≤◌, ◌<◌, ◌⊎◌, ℕ, Bool, true, false, List, [], length, Some, None, refl, sym, ◌∙◌, ap, subst, arith, inl, inr, if◌then◌else◌, NoFault, MapCount, Refusal, Reply, Lists, RunEvent, Run, own_events, Around, Seen, ShowsSeen, Leads, DidEvent, fall, StaysSo}
+use Rattle.resync_task.proofs.Common.{ResyncAt, ToList, ToRead, HasRead, many_corrected, AreWrongCounts}
 use Rattle.std.specs.Prelude.{nat_lt}
 use Rattle.std.proofs.lemmas.Bool.{lt-ltb, le-ltb, cases_lt}
 use Rattle.disk_model.specs.Disk.{told_calls}
 use Rattle.mdbox_base.specs.Streams.{Rose}
+use Rattle.mdbox_base.specs.declared.progress.Did.TheVariants as did
+use Rattle.mdbox_base.specs.declared.replies.Refusal.TheVariants as refusal
+use Rattle.mdbox_base.specs.declared.replies.Reply.TheVariants as reply
+use Rattle.mdbox_base.specs.declared.requests.Request.TheVariants as request
+use Rattle.mdbox_base.specs.declared.script.Half.TheVariants as half
 use Rattle.model_meaning.specs.MapMeaning.{no_numbers}
 use Rattle.list_machine.specs.Run.{EventPart, First, ReadsFile, Last}
 use Rattle.journal.specs.Journal.{half_of}

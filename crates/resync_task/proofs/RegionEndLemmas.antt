@@ -1,7 +1,8 @@
 -- What the header of a region and what follows its body tell of the record.
-use Rattle.resync_task.proofs.Common.{◌≡◌, ◌≤◌, ◌<◌, ◌+◌, ◌-◌, ℕ, Bool, true, false, List, ◌++◌, length, take, drop, Option, Some, None, refl, sym, ◌∙◌, ap, subst, arith, IsTrue, ◌↔◌, length-take, length-take-le, length-drop, take-take, drop-drop, DiskState, History, reading, file, MapRow}
-use Rattle.resync_task.proofs.Common.{shown_record, MapRecord, Message, IsMessage, piece_read, HasDamagedRegion, IsMessageWith, TellsWhole, EndsBefore, IsHeaderAt, bodiless_header}
+use Rattle.resync_task.proofs.Common.{◌≡◌, ◌≤◌, ◌<◌, ◌+◌, ◌-◌, ℕ, Bool, true, false, List, ◌++◌, length, take, drop, Option, Some, None, refl, sym, ◌∙◌, ap, subst, arith, IsTrue, ◌↔◌, length-take, length-take-le, length-drop, take-take, drop-drop, DiskState, History, reading, MapRow, shown_record}
+use Rattle.resync_task.proofs.Common.{MapRecord, Message, IsMessage, piece_read, HasDamagedRegion, IsMessageWith, TellsWhole, EndsBefore, IsHeaderAt, bodiless_header}
 use Rattle.std.proofs.lemmas.List.{drop-take}
+use Rattle.disk_model.specs.declared.name.FileName.TheVariants as file
 use Rattle.model_store.specs.Settled.{files_of}
 use Rattle.model_store.specs.Stands.{HoldsMessage}
 use Rattle.resync_task.specs.Window.{HasTail, IsPieceAt}

@@ -1,10 +1,16 @@
 -- The events of a resync that go on or end it, by the clause of a task's step.
-use Rattle.resync_task.proofs.Common.{◌≡◌, ◌≤◌, ◌<◌, ◌+◌, ◌==◌, ℕ, Bool, true, false, List, [], ◌∷◌, ◌++◌, length, Option, Some, None, refl, sym, ◌∙◌, ap, subst, arith, All, Contains, sum_by, ◌≢◌, eq-eqb, All-nil, History, NoFault, MapCount, entry, did, refusal, Reply, reply, request, half, Lists}
-use Rattle.resync_task.proofs.Common.{MapMeaning, HasRecord, MapFits, RunEvent, Run, own_events, Around, Seen, ShowsSeen, Leads, DidEvent, StaysSo, ResyncAt, ToList, ToRead, HasRead, corrected_map, many_corrected, AreWrongCounts}
+use Rattle.resync_task.proofs.Common.{◌≡◌, ◌≤◌, ◌<◌, ◌+◌, ◌==◌, ℕ, Bool, true, false, List, [], ◌∷◌, ◌++◌, length, Option, Some, None, refl, sym, ◌∙◌, ap, subst, arith, All, Contains, sum_by, ◌≢◌, eq-eqb, All-nil, History, NoFault, MapCount, Reply, Lists, MapMeaning, HasRecord, MapFits, RunEvent}
+use Rattle.resync_task.proofs.Common.{Run, own_events, Around, Seen, ShowsSeen, Leads, DidEvent, StaysSo, ResyncAt, ToList, ToRead, HasRead, corrected_map, many_corrected, AreWrongCounts}
 use Rattle.std.specs.Prelude.{slice_get}
 use Rattle.std.proofs.lemmas.Bool.{ne_eqb}
 use Rattle.disk_model.specs.Disk.{told_calls, Grows}
 use Rattle.mdbox_base.specs.declared.entries.Highest.{Highest}
+use Rattle.mdbox_base.specs.declared.entries.MapEntry.TheVariants as entry
+use Rattle.mdbox_base.specs.declared.progress.Did.TheVariants as did
+use Rattle.mdbox_base.specs.declared.replies.Refusal.TheVariants as refusal
+use Rattle.mdbox_base.specs.declared.replies.Reply.TheVariants as reply
+use Rattle.mdbox_base.specs.declared.requests.Request.TheVariants as request
+use Rattle.mdbox_base.specs.declared.script.Half.TheVariants as half
 use Rattle.model_kept.specs.Kept.{MailIsKept}
 use Rattle.model_lists.specs.Lists.{refs_of}
 use Rattle.model_meaning.specs.MapMeaning.{map_applied}

@@ -1,8 +1,9 @@
 -- The last event of a resync: what it leaves to the tasks beside it, and that the counts are exact then.
-use Rattle.resync_task.proofs.Common.{◌≡◌, ◌≤◌, ◌<◌, ◌+◌, ◌==◌, ℕ, false, List, [], ◌∷◌, Option, Some, map, refl, sym, ◌∙◌, ap, subst, arith, Contains, count_by, sum_by, eqb-true, All-contains, All-nil, All-cons, History, Faults, MapCount, entry, Lists, BoxMeaning, LogRow, MapFits, MapMeaning}
-use Rattle.resync_task.proofs.Common.{MapRecord, count_given, records_by_counted, refs_in, listed_of, due_at, listed_at, IsStore, StoreValue, indexes_of, listed_meant, wrong_of, seen_of, no_claims, ShowsSeen, PutsRight, corrected_map, StaysSo}
+use Rattle.resync_task.proofs.Common.{◌≡◌, ◌≤◌, ◌<◌, ◌+◌, ◌==◌, ℕ, false, List, [], ◌∷◌, Option, Some, map, refl, sym, ◌∙◌, ap, subst, arith, Contains, count_by, sum_by, eqb-true, All-contains, All-nil, All-cons, History, Faults, MapCount, Lists, BoxMeaning, LogRow, MapFits, MapMeaning, MapRecord}
+use Rattle.resync_task.proofs.Common.{count_given, records_by_counted, refs_in, listed_of, due_at, listed_at, IsStore, StoreValue, indexes_of, listed_meant, wrong_of, seen_of, no_claims, ShowsSeen, PutsRight, corrected_map, StaysSo}
 use Rattle.std.specs.Prelude.{max}
 use Rattle.std.specs.Option.{IfSome}
+use Rattle.mdbox_base.specs.declared.entries.MapEntry.TheVariants as entry
 use Rattle.model_appends.specs.Amounts.{IsAccounted}
 use Rattle.model_meaning.specs.BoxMeaning.{row_at}
 use Rattle.model_meaning.specs.MapMeaning.{MapBox, numbers_of}

@@ -1,11 +1,16 @@
 -- What the step of a resync says, event by event.
-use Rattle.resync_task.proofs.Common.{◌≡◌, ◌≤◌, ◌<◌, ◌+◌, ℕ, Bool, true, false, List, [], ◌∷◌, length, Option, Some, None, refl, sym, ◌∙◌, ap, subst, arith, zero, suc, All, Contains, count_by, All-weaker, History, Faults, did, Refusal, refusal, Reply, reply, request, half, HasRecord, MapMeaning}
-use Rattle.resync_task.proofs.Common.{RunEvent, Run, own_events, Around, IsStore, StoreValue, wrong_of, seen_of, no_claims, DidEvent, PutsRight, HasDamagedRegion, AreRecordFiles, ResyncAt, ToList, ToRead, HasRead, many_corrected, ReadsStoreOnly, fall}
+use Rattle.resync_task.proofs.Common.{◌≡◌, ◌≤◌, ◌<◌, ◌+◌, ℕ, Bool, true, false, List, [], ◌∷◌, length, Option, Some, None, refl, sym, ◌∙◌, ap, subst, arith, zero, suc, All, Contains, count_by, All-weaker, History, Faults, Refusal, Reply, HasRecord, MapMeaning, RunEvent, Run, own_events, Around}
+use Rattle.resync_task.proofs.Common.{IsStore, StoreValue, wrong_of, seen_of, no_claims, DidEvent, PutsRight, HasDamagedRegion, AreRecordFiles, ResyncAt, ToList, ToRead, HasRead, many_corrected, ReadsStoreOnly, fall}
 use Rattle.std.proofs.Common.{◌≢◌, ◌||◌, slice_get}
 use Rattle.disk_model.specs.FaultCounts.{ReadFaultCounted}
 use Rattle.mdbox_base.specs.declared.progress.Did.{Did}
+use Rattle.mdbox_base.specs.declared.progress.Did.TheVariants as did
 use Rattle.mdbox_base.specs.declared.progress.Progress.{Progress}
 use Rattle.mdbox_base.specs.declared.progress.Progress.TheVariants as progress
+use Rattle.mdbox_base.specs.declared.replies.Refusal.TheVariants as refusal
+use Rattle.mdbox_base.specs.declared.replies.Reply.TheVariants as reply
+use Rattle.mdbox_base.specs.declared.requests.Request.TheVariants as request
+use Rattle.mdbox_base.specs.declared.script.Half.TheVariants as half
 use Rattle.list_machine.specs.Run.{map_of}
 use Rattle.journal.specs.Events.{is_reading}
 use Rattle.journal.specs.Found.{FindsDamage, ListsFiles, file_to_read, is_known_file, is_named_file}

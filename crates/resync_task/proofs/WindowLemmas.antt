@@ -1,9 +1,10 @@
 -- What a window has of a storage file.
-use Rattle.resync_task.proofs.Common.{◌≡◌, ◌≤◌, ◌<◌, ◌+◌, ◌-◌, ℕ, zero, suc, List, [], ◌∷◌, ◌++◌, length, take, drop, Option, Some, None, refl, sym, ◌∙◌, ap, subst, arith, length-take-le, length-drop, take-take, drop-drop, History, reading, file, piece_read, EndsBefore, IsReadOf, IsHeaderAt}
+use Rattle.resync_task.proofs.Common.{◌≡◌, ◌≤◌, ◌<◌, ◌+◌, ◌-◌, ℕ, zero, suc, List, [], ◌∷◌, ◌++◌, length, take, drop, Option, Some, None, refl, sym, ◌∙◌, ap, subst, arith, length-take-le, length-drop, take-take, drop-drop, History, reading, piece_read, EndsBefore, IsReadOf, IsHeaderAt}
 use Rattle.std.specs.Prelude.{IfSome, IfNone}
 use Rattle.std.proofs.lemmas.List.{drop_at, take_at, take-append-le, drop-take}
 use Rattle.disk_model.specs.Disk.{IsIdle}
 use Rattle.disk_model.proofs.IdleLemmas.{idle-back, idle-on}
+use Rattle.disk_model.specs.declared.name.FileName.TheVariants as file
 use Rattle.resync_task.specs.Window.{WindowPart, HasHeader, IsPieceAt}
 use borrow.Rule.Slice.PartMut.{put_mid}
 

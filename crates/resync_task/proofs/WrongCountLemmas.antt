@@ -1,11 +1,12 @@
 -- The wrong counts of records in order of map uid, and what they are set to.
 use Rattle.resync_task.proofs.Common.{◌≡◌, ◌<◌, ◌+◌, ◌==◌, ◌⊎◌, ℕ, Bool, true, false, cond, List, [], ◌∷◌, length, Option, Some, None, refl, sym, ◌∙◌, ap, subst, arith, inl, inr, All, AllPairs, Contains, sum_by, if◌then◌else◌, ◌≢◌, eqb-true, eq-eqb, All-nil, All-cons, All-head, All-tail}
-use Rattle.resync_task.proofs.Common.{All-contains, All-contains_itself, All-map, All-weaker, sum_by-cons, MapCount, entry, MapRecord, MapMeaning, count_given, record_at, MapFits, HasRecord, records_by_counted, corrected_map, many_corrected, wrong_beside}
+use Rattle.resync_task.proofs.Common.{All-contains, All-contains_itself, All-map, All-weaker, sum_by-cons, MapCount, MapRecord, MapMeaning, count_given, record_at, MapFits, HasRecord, records_by_counted, corrected_map, many_corrected, wrong_beside}
 use Rattle.std.specs.Prelude.{find, map}
 use Rattle.std.specs.Option.{option_map_or}
 use Rattle.std.specs.List.Sorted.{IsStrictlyIncreasing}
 use Rattle.std.proofs.lemmas.Bool.{ne_eqb}
 use Rattle.std.proofs.lemmas.List.Kept.{AllPairs-cons}
+use Rattle.mdbox_base.specs.declared.entries.MapEntry.TheVariants as entry
 use Rattle.model_octets.proofs.PairLemmas.{pairs_head, pairs_tail, pairs_nil}
 use Rattle.model_octets.proofs.SearchLemmas.{among, found_is, both_same}
 use Rattle.model_meaning.specs.MapFits.{IsKnown}

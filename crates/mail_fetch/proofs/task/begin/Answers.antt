@@ -1,5 +1,6 @@
 use Rattle.std.specs.Prelude.{◌==◌, true}
-use Rattle.mail_fetch.proofs.Common.{list_any, ◌≡◌, ℕ, Some, All, sym, ◌∙◌, ap, subst, IsKnownRow, MovesClaims, no_claims, claims_of_pinned, with_claims, end_in, RegionValue, stage, StoredAt}
+use Rattle.mail_fetch.proofs.Common.{list_any, ◌≡◌, ℕ, Some, All, sym, ◌∙◌, ap, subst, IsKnownRow, MovesClaims, no_claims, claims_of_pinned, with_claims, end_in, RegionValue, StoredAt}
+use Rattle.mail_fetch.specs.declared.task.FetchStage.TheVariants as stage
 use Rattle.mail_fetch.proofs.FirstEventLemmas.{pinned_left, pinned_region, pinned_rows}
 use Rattle.mail_fetch.proofs.ReadyLemmas.{pinned_ready}
 use Rattle.mail_fetch.proofs.task.begin.Goals as goal

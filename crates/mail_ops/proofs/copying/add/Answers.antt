@@ -1,5 +1,6 @@
-use Rattle.mail_ops.proofs.Common.{◌∙◌, sym, ap, subst, arith, refl, ℕ, [], All-nil, All-cons, row_of, box_entry, not_true, ok_is_none, BoxTook, BoxFell}
+use Rattle.mail_ops.proofs.Common.{◌∙◌, sym, ap, subst, arith, refl, ℕ, [], All-nil, All-cons, row_of, not_true, ok_is_none, BoxTook, BoxFell}
 use Rattle.std.proofs.Common.{Err}
+use Rattle.mdbox_base.specs.declared.entries.BoxEntry.TheVariants as box_entry
 use Rattle.model_store.specs.Opening.{HasItsRecord}
 use Rattle.mail_ops.proofs.CopyCallLemmas.{row_sound, held_row}
 use Rattle.mail_ops.proofs.MessageLemmas.{record_of_row}

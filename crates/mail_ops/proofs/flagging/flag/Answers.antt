@@ -1,5 +1,6 @@
-use Rattle.mail_ops.proofs.Common.{ap, sym, ◌∙◌, [], refl, arith, option_copied, option_map, row_of, BoxState, refusal, seen_of, due_as_before, no_claims, fall, never_more, not_true, ok_is_none, plain_stopped}
+use Rattle.mail_ops.proofs.Common.{ap, sym, ◌∙◌, [], refl, arith, option_copied, option_map, row_of, BoxState, seen_of, due_as_before, no_claims, fall, never_more, not_true, ok_is_none, plain_stopped}
 use Rattle.std.proofs.Common.{Err}
+use Rattle.mdbox_base.specs.declared.replies.Refusal.TheVariants as refusal
 use Rattle.mail_ops.proofs.FlagEventLemmas.{flag_is_plain, flags_known, brings_none, flag_done, flag_broken, none_of, some_of}
 use Rattle.mail_ops.proofs.RemovalLemmas.{store_tells}
 use Rattle.mail_ops.proofs.KeptUidLemmas.{flags_left}

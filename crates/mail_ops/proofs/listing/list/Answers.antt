@@ -1,4 +1,7 @@
-use Rattle.mail_ops.proofs.Common.{ap, sym, ◌∙◌, subst, refl, option_copied, option_map, BoxState, refusal, Reply, reply, request, First, PartAnswers, indexes_of, never_more, plain_stopped, seen_of}
+use Rattle.mail_ops.proofs.Common.{ap, sym, ◌∙◌, subst, refl, option_copied, option_map, BoxState, Reply, First, PartAnswers, indexes_of, never_more, plain_stopped, seen_of}
+use Rattle.mdbox_base.specs.declared.replies.Refusal.TheVariants as refusal
+use Rattle.mdbox_base.specs.declared.replies.Reply.TheVariants as reply
+use Rattle.mdbox_base.specs.declared.requests.Request.TheVariants as request
 use Rattle.model_store.specs.Listing.{listing_of}
 use Rattle.task_steps.proofs.OneEventLemmas.{plain_forgets, plain_refused}
 use Rattle.mail_ops.proofs.ListEventLemmas.{list_is_plain, does_list}

@@ -1,4 +1,6 @@
-use Rattle.mail_save.proofs.Common.{ap, sym, subst, refl, arith, ◌∙◌, ◌≡◌, ◌≤◌, Err, inl, inr, refusal, due_at, Saves, stage, save_amounts}
+use Rattle.mail_save.proofs.Common.{ap, sym, subst, refl, arith, ◌∙◌, ◌≡◌, ◌≤◌, Err, inl, inr, due_at, Saves, save_amounts}
+use Rattle.mdbox_base.specs.declared.replies.Refusal.TheVariants as refusal
+use Rattle.mail_save.specs.declared.task.SaveStage.TheVariants as stage
 use Rattle.mail_save.proofs.PlaceLemmas.{unchanged_settled}
 use Rattle.mail_save.proofs.SaveEventLemmas.{add_refused, done_goes_on, faults_by, is_false, more_runs, ok_apart, saved_runs, refused_stops, unfallen}
 use Rattle.mail_save.proofs.StoringLemmas.{left_unadded, spared_kept}

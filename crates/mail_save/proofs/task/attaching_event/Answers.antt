@@ -1,4 +1,7 @@
-use Rattle.mail_save.proofs.Common.{◌≡◌, List, Err, inl, inr, ap, sym, subst, refl, ◌∙◌, InstRow, did, progress, reply, next_attachment, due_at, MovesHolds, holds_of, save_amounts, LetsGo, Saves, stage}
+use Rattle.mail_save.proofs.Common.{◌≡◌, List, Err, inl, inr, ap, sym, subst, refl, ◌∙◌, InstRow, next_attachment, due_at, MovesHolds, holds_of, save_amounts, LetsGo, Saves}
+use Rattle.mdbox_base.specs.declared.progress.Did.TheVariants as did
+use Rattle.mdbox_base.specs.declared.progress.Progress.TheVariants as progress
+use Rattle.mdbox_base.specs.declared.replies.Reply.TheVariants as reply
 use Rattle.mail_save.proofs.AttachEventLemmas.{HasAttached, attached_last, attached_more, unattached_change}
 use Rattle.mail_save.proofs.AttachLemmas.{next_or_none}
 use Rattle.mail_save.proofs.FaultLemmas.{refused_faults}
@@ -7,6 +10,7 @@ use Rattle.mail_save.proofs.LettingLemmas.{keeps_let_go, moves_then, saves_let_g
 use Rattle.mail_save.proofs.OtherLemmas.{keeps_same}
 use Rattle.mail_save.proofs.SaveEventLemmas.{done_goes_on, is_false, ok_apart, one_error, refused_stops}
 use Rattle.mail_save.proofs.StoringLemmas.{spared_kept}
+use Rattle.mail_save.specs.declared.task.SaveStage.TheVariants as stage
 use Rattle.mail_save.proofs.task.attaching_event.Goals as goal
 
 pub returns-in-Ok : goal.returns-in-Ok

@@ -1,8 +1,11 @@
-use Rattle.mail_save.proofs.Common.{inl, inr, sym, subst, refl, arith, kept_begins, leaves_none, did, progress, next_attachment, Saves, stage, save_amounts}
+use Rattle.mail_save.proofs.Common.{inl, inr, sym, subst, refl, arith, kept_begins, leaves_none, next_attachment, Saves, save_amounts}
 use Rattle.store_core.proofs.DueLemmas.{keeps_itself}
+use Rattle.mdbox_base.specs.declared.progress.Did.TheVariants as did
+use Rattle.mdbox_base.specs.declared.progress.Progress.TheVariants as progress
 use Rattle.mail_save.proofs.AttachEventLemmas.{first_last, first_more}
 use Rattle.mail_save.proofs.AttachLemmas.{next_or_none}
 use Rattle.mail_save.proofs.FaultLemmas.{calm_faults, first_unread}
+use Rattle.mail_save.specs.declared.task.SaveStage.TheVariants as stage
 use Rattle.mail_save.proofs.SaveEventLemmas.{done_goes_on, first_calm, never_stops, refused_stops}
 use Rattle.mail_save.proofs.StoringLemmas.{spared_kept}
 use Rattle.mail_save.proofs.HeldInstanceLemmas.{same_keeps}

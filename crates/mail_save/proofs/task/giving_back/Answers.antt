@@ -1,4 +1,6 @@
-use Rattle.mail_save.proofs.Common.{ap, sym, subst, refl, inl, inr, refusal, Saves, stage, save_amounts}
+use Rattle.mail_save.proofs.Common.{ap, sym, subst, refl, inl, inr, Saves, save_amounts}
+use Rattle.mdbox_base.specs.declared.replies.Refusal.TheVariants as refusal
+use Rattle.mail_save.specs.declared.task.SaveStage.TheVariants as stage
 use Rattle.mail_save.proofs.SaveEventLemmas.{done_goes_on, faults_by, gives_quietly, is_false, never_stops, never_true, refused_stops, unfallen}
 use Rattle.mail_save.proofs.FaultLemmas.{calm_faults}
 use Rattle.mail_save.proofs.HeldInstanceLemmas.{logged_keeps}

@@ -1,5 +1,7 @@
-use Rattle.mail_save.proofs.Common.{rules, ◌<◌, ◌≤◌, ◌^◌, ◌∙◌, ap, sym, subst, refl, arith, ℕ, List, length, IfTold, Mail, IsName, InstRow, FileNo, progress, refusal, reply, AreHeld, unknown_guid, ids_in, due_at, MovesHolds, holds_of, save_amounts, HasAppended, IsLeftSoOrGone, LetsGo, PlacesParts}
-use Rattle.mail_save.proofs.Common.{Saves, stage}
+use Rattle.mail_save.proofs.Common.{rules, ◌<◌, ◌≤◌, ◌^◌, ◌∙◌, ap, sym, subst, refl, arith, ℕ, List, length, IfTold, Mail, IsName, InstRow, FileNo, AreHeld, unknown_guid, ids_in, due_at, MovesHolds, holds_of, save_amounts, HasAppended, IsLeftSoOrGone, LetsGo, PlacesParts, Saves}
+use Rattle.mdbox_base.specs.declared.progress.Progress.TheVariants as progress
+use Rattle.mdbox_base.specs.declared.replies.Refusal.TheVariants as refusal
+use Rattle.mdbox_base.specs.declared.replies.Reply.TheVariants as reply
 use Rattle.save_instances.proofs.FoundLemmas.{of_parts_kept}
 use Rattle.store_core.specs.Files.{EndsWith}
 use Rattle.mail_save.proofs.HeldInstanceLemmas.{held_same, holds_attached, is_attached_on, placed_keeps}
@@ -11,6 +13,7 @@ use Rattle.mail_save.proofs.RegionSizeLemmas.{region_short}
 use Rattle.mail_save.proofs.SaveEventLemmas.{done_goes_on, faults_by, is_false, more_runs, never_true, refused_stops, unfallen}
 use Rattle.mail_save.proofs.StoringLemmas.{spared_kept}
 use Rattle.mail_save.proofs.PlacedLemmas.{appended_left}
+use Rattle.mail_save.specs.declared.task.SaveStage.TheVariants as stage
 use Rattle.mail_save.proofs.task.placing.Goals as goal
 
 pub place_region-requires-clause-laid : goal.place_region-requires-clause-laid

@@ -1,5 +1,8 @@
-use Rattle.mail_save.proofs.Common.{◌≡◌, ◌⊎◌, ◌∙◌, ap, sym, subst, refl, arith, true, Some, None, Err, List, InstRow, did, progress, refusal, reply, record_at, AreHeld, due_at, KeepsFirm, MovesHolds, holds_of, uid_refusal, save_amounts, ReadsSameMail, AreSpared, LetsGo, StoresNone, StoresPlaced}
-use Rattle.mail_save.proofs.Common.{saved_row, Saves, Added, stage}
+use Rattle.mail_save.proofs.Common.{◌≡◌, ◌⊎◌, ◌∙◌, ap, sym, subst, refl, arith, true, Some, None, Err, List, InstRow, record_at, AreHeld, due_at, KeepsFirm, MovesHolds, holds_of, uid_refusal, save_amounts, ReadsSameMail, AreSpared, LetsGo, StoresNone, StoresPlaced, saved_row, Saves, Added}
+use Rattle.mdbox_base.specs.declared.progress.Did.TheVariants as did
+use Rattle.mdbox_base.specs.declared.progress.Progress.TheVariants as progress
+use Rattle.mdbox_base.specs.declared.replies.Refusal.TheVariants as refusal
+use Rattle.mdbox_base.specs.declared.replies.Reply.TheVariants as reply
 use Rattle.mail_save.proofs.FaultLemmas.{change_faults}
 use Rattle.mail_save.proofs.HeldInstanceLemmas.{held_same, logged_keeps, same_keeps}
 use Rattle.mail_save.proofs.HeldLemmas.{nothing_moves, one_more, unstored_due}
@@ -9,6 +12,7 @@ use Rattle.mail_save.proofs.OtherLemmas.{storing_keeps, unstored_keeps}
 use Rattle.mail_save.proofs.ReadyLemmas.{record_let_go, record_ready}
 use Rattle.mail_save.proofs.SaveEventLemmas.{done_goes_on, is_false, more_runs, ok_apart, one_error, one_is_due, refused_stops, unfallen}
 use Rattle.mail_save.proofs.StoringLemmas.{spared_kept, storing_instances, unstored_instances, unstored_map, unstored_unread}
+use Rattle.mail_save.specs.declared.task.SaveStage.TheVariants as stage
 use Rattle.mail_save.proofs.task.storing.Goals as goal
 
 pub let_go_all-requires : goal.let_go_all-requires

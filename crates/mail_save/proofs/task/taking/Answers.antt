@@ -1,4 +1,6 @@
-use Rattle.mail_save.proofs.Common.{rules, ◌≡◌, ◌<◌, ◌^◌, ◌∙◌, ap, sym, subst, refl, arith, ℕ, List, Err, length, IsName, InstRow, progress, reply, AreHeld, due_at, MovesHolds, holds_of, save_amounts, HoldsFile, TakesWithHeader, LetsGo, TakesNone, Saves, stage}
+use Rattle.mail_save.proofs.Common.{rules, ◌≡◌, ◌<◌, ◌^◌, ◌∙◌, ap, sym, subst, refl, arith, ℕ, List, Err, length, IsName, InstRow, AreHeld, due_at, MovesHolds, holds_of, save_amounts, HoldsFile, TakesWithHeader, LetsGo, TakesNone, Saves}
+use Rattle.mdbox_base.specs.declared.progress.Progress.TheVariants as progress
+use Rattle.mdbox_base.specs.declared.replies.Reply.TheVariants as reply
 use Rattle.mail_save.proofs.FaultLemmas.{change_faults}
 use Rattle.mail_save.proofs.HeldInstanceLemmas.{attached_on, held_same, is_attached_on, same_keeps, taken_keeps}
 use Rattle.mail_save.proofs.HeldLemmas.{nothing_moves}
@@ -9,6 +11,7 @@ use Rattle.mail_save.proofs.RegionSizeLemmas.{header_short, region_short}
 use Rattle.mail_save.proofs.SaveEventLemmas.{done_goes_on, is_false, more_runs, ok_apart, one_error, refused_stops, unfallen}
 use Rattle.mail_save.proofs.StoringLemmas.{spared_kept}
 use Rattle.mail_save.proofs.TakingLemmas.{takes_as, untaken_instances, untaken_unread, untaken_why}
+use Rattle.mail_save.specs.declared.task.SaveStage.TheVariants as stage
 use Rattle.mail_save.proofs.task.taking.Goals as goal
 
 pub overflow_cast-size : goal.overflow_cast-size

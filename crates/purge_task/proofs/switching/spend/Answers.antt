@@ -1,4 +1,5 @@
-use Rattle.purge_task.proofs.Common.{◌∙◌, ap, map_entry, target_named, Source}
+use Rattle.purge_task.proofs.Common.{◌∙◌, ap, target_named, Source}
+use Rattle.mdbox_base.specs.declared.entries.MapEntry.TheVariants as map_entry
 use Rattle.purge_task.proofs.switching.spend.Goals as goal
 
 pub returns-clause-entry : goal.returns-clause-entry

@@ -1,4 +1,5 @@
-use Rattle.purge_task.proofs.Common.{ap, refl, sym, ◌∙◌, ◌≡◌, StoreValue, stage}
+use Rattle.purge_task.proofs.Common.{ap, refl, sym, ◌∙◌, ◌≡◌, StoreValue}
+use Rattle.purge_task.specs.declared.task.PurgeStage.TheVariants as stage
 use Rattle.purge_task.proofs.FurtherLemmas.{target_further}
 use Rattle.purge_task.proofs.GoneCallLemmas.{failed_says}
 use Rattle.purge_task.proofs.TargetCallLemmas.{made_says, target_one}

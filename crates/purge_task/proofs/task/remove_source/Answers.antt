@@ -1,5 +1,7 @@
-use Rattle.purge_task.proofs.Common.{ap, refl, subst, sym, ◌+◌, ◌∙◌, ◌≡◌, SameButFor, IfTold, reading, file, FileNo, is_doomed_in, IsNextStage, stage, Work, StoreValue}
+use Rattle.purge_task.proofs.Common.{ap, refl, subst, sym, ◌+◌, ◌∙◌, ◌≡◌, SameButFor, IfTold, reading, FileNo, is_doomed_in, IsNextStage, Work, StoreValue}
 use Rattle.std.specs.Prelude.{drop, None}
+use Rattle.disk_model.specs.declared.name.FileName.TheVariants as file
+use Rattle.purge_task.specs.declared.task.PurgeStage.TheVariants as stage
 use Rattle.purge_task.proofs.DropLemmas.{next_begun}
 use Rattle.purge_task.proofs.FurtherLemmas.{further_removed}
 use Rattle.purge_task.proofs.GoneCallLemmas.{failed_says}

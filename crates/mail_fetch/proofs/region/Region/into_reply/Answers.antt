@@ -1,4 +1,5 @@
-use Rattle.mail_fetch.proofs.Common.{inl, inr, sym, ◌∙◌, ap, subst, reply, RegionValue, HoldsWhole}
+use Rattle.mail_fetch.proofs.Common.{inl, inr, sym, ◌∙◌, ap, subst, RegionValue, HoldsWhole}
+use Rattle.mdbox_base.specs.declared.replies.Reply.TheVariants as reply
 use Rattle.mail_fetch.proofs.MessageLemmas.{damaged}
 use Rattle.mail_fetch.proofs.region.Region.into_reply.Goals.{in-Some, in-None}
 use Rattle.mail_fetch.proofs.region.Region.into_reply.Goals as goal

@@ -1,6 +1,11 @@
-use Rattle.mail_fetch.proofs.Common.{◌||◌, Bool, refl, sym, ◌∙◌, ap, subst, did, progress, refusal, reply, IsReadyToFetch, HasPieceLeft, FetchStage, stage}
+use Rattle.mail_fetch.proofs.Common.{◌||◌, Bool, refl, sym, ◌∙◌, ap, subst, IsReadyToFetch, HasPieceLeft, FetchStage}
+use Rattle.mdbox_base.specs.declared.progress.Did.TheVariants as did
+use Rattle.mdbox_base.specs.declared.progress.Progress.TheVariants as progress
+use Rattle.mdbox_base.specs.declared.replies.Refusal.TheVariants as refusal
+use Rattle.mdbox_base.specs.declared.replies.Reply.TheVariants as reply
 use Rattle.storage_files.specs.Files.{is_emptied_in}
 use Rattle.mail_fetch.specs.Claims.{HasFetchRoom}
+use Rattle.mail_fetch.specs.declared.task.FetchStage.TheVariants as stage
 use Rattle.mail_fetch.proofs.RemovalCallLemmas.{doomed_ends, failed_says, removing_says}
 use Rattle.mail_fetch.proofs.StageLemmas.{first_says, reading_says, says_seen, stage_seen, stopped_says, unpinning_says}
 use Rattle.mail_fetch.proofs.task.FetchTask.step.Goals as goal

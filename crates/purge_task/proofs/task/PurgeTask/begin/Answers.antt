@@ -1,4 +1,5 @@
-use Rattle.purge_task.proofs.Common.{refl, ◌∙◌, ap, at_stage, uncounted, PurgeValue, stage, KeepsQuiet}
+use Rattle.purge_task.proofs.Common.{refl, ◌∙◌, ap, at_stage, uncounted, PurgeValue, KeepsQuiet}
+use Rattle.purge_task.specs.declared.task.PurgeStage.TheVariants as stage
 use Rattle.purge_task.proofs.DropLemmas.{part_counts, part_tells}
 use Rattle.purge_task.proofs.StepLemmas.{first_part_low, part_left, part_says}
 use Rattle.purge_task.proofs.QuietStepLemmas.{part_so}

@@ -1,4 +1,5 @@
-use Rattle.purge_task.proofs.Common.{◌≡◌, ◌+◌, ◌==◌, true, drop, refl, sym, ◌∙◌, ap, subst, arith, list_any, MapMeaning, at_stage, PurgeValue, stage, KeepsQuiet}
+use Rattle.purge_task.proofs.Common.{◌≡◌, ◌+◌, ◌==◌, true, drop, refl, sym, ◌∙◌, ap, subst, arith, list_any, MapMeaning, at_stage, PurgeValue, KeepsQuiet}
+use Rattle.purge_task.specs.declared.task.PurgeStage.TheVariants as stage
 use Rattle.purge_task.proofs.DropLemmas.{part_drops, part_tells, switch_counts, switch_tells}
 use Rattle.purge_task.proofs.StepLemmas.{further_at, part_left, part_low, part_says, switch_left, switch_part, unwanted_first}
 use Rattle.purge_task.proofs.QuietStepLemmas.{part_so, switch_so}

@@ -1,4 +1,5 @@
-use Rattle.purge_task.proofs.Common.{sym, ◌∙◌, ap, Result, Did, Refusal, came_to, PurgeStage, stage}
+use Rattle.purge_task.proofs.Common.{sym, ◌∙◌, ap, Result, Did, Refusal, came_to, PurgeStage}
+use Rattle.purge_task.specs.declared.task.PurgeStage.TheVariants as stage
 use Rattle.purge_task.proofs.StepLemmas.{came_err, came_ok}
 use Rattle.purge_task.proofs.task.PurgeTask.come_to.Goals as goal
 

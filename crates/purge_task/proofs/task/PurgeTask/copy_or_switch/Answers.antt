@@ -1,4 +1,5 @@
-use Rattle.purge_task.proofs.Common.{◌+◌, drop, refl, sym, subst, arith, MapMeaning, IsSoundMap, store_sound, at_stage, AreUnwantedFrom, stage, KeepsQuiet}
+use Rattle.purge_task.proofs.Common.{◌+◌, drop, refl, sym, subst, arith, MapMeaning, IsSoundMap, store_sound, at_stage, AreUnwantedFrom, KeepsQuiet}
+use Rattle.purge_task.specs.declared.task.PurgeStage.TheVariants as stage
 use Rattle.purge_task.proofs.DropLemmas.{part_drops, part_tells, switch_counts, switch_tells}
 use Rattle.purge_task.proofs.StepLemmas.{copied_first, further_at, part_left, part_low, part_says, switch_left, switch_part}
 use Rattle.purge_task.proofs.QuietStepLemmas.{part_so, switch_so}

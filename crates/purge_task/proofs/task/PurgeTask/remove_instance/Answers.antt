@@ -1,7 +1,10 @@
-use Rattle.purge_task.proofs.Common.{refl, sym, ◌∙◌, ap, subst, PurgeValue, stage, KeepsQuiet, at_stage, progress, reply}
+use Rattle.purge_task.proofs.Common.{refl, sym, ◌∙◌, ap, subst, PurgeValue, KeepsQuiet, at_stage}
+use Rattle.purge_task.specs.declared.task.PurgeStage.TheVariants as stage
 use Rattle.purge_task.proofs.DropLemmas.{same_drops}
 use Rattle.purge_task.proofs.GoneCallLemmas.{last_says, stage_as}
 use Rattle.purge_task.proofs.QuietOuterLemmas.{last_quiet}
+use Rattle.mdbox_base.specs.declared.progress.Progress.TheVariants as progress
+use Rattle.mdbox_base.specs.declared.replies.Reply.TheVariants as reply
 use Rattle.purge_task.proofs.task.PurgeTask.remove_instance.Goals as goal
 
 pub returns-in-None-clause-step : goal.returns-in-None-clause-step

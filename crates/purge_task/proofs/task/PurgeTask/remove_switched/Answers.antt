@@ -1,4 +1,5 @@
-use Rattle.purge_task.proofs.Common.{refl, arith, at_stage, stage, KeepsQuiet}
+use Rattle.purge_task.proofs.Common.{refl, arith, at_stage, KeepsQuiet}
+use Rattle.purge_task.specs.declared.task.PurgeStage.TheVariants as stage
 use Rattle.purge_task.proofs.DropLemmas.{part_drops, part_tells}
 use Rattle.purge_task.proofs.StepLemmas.{part_left, part_low, part_says}
 use Rattle.purge_task.proofs.QuietStepLemmas.{part_so}

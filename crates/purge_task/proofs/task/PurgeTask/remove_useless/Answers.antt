@@ -1,4 +1,6 @@
-use Rattle.purge_task.proofs.Common.{◌≡◌, ◌+◌, false, refl, sym, ◌∙◌, ap, subst, InstId, progress, is_instance_named, holders_in, instance_in, IsSome, at_stage, PurgeValue, stage, StoreValue, KeepsQuiet}
+use Rattle.purge_task.proofs.Common.{◌≡◌, ◌+◌, false, refl, sym, ◌∙◌, ap, subst, InstId, is_instance_named, holders_in, instance_in, IsSome, at_stage, PurgeValue, StoreValue, KeepsQuiet}
+use Rattle.mdbox_base.specs.declared.progress.Progress.TheVariants as progress
+use Rattle.purge_task.specs.declared.task.PurgeStage.TheVariants as stage
 use Rattle.purge_task.proofs.DropLemmas.{same_drops}
 use Rattle.purge_task.proofs.GoneCallLemmas.{failed_says, gone_says, stage_as, useless_one}
 use Rattle.purge_task.proofs.StepLemmas.{gone_low}

@@ -1,6 +1,7 @@
-use Rattle.purge_task.proofs.Common.{◌≡◌, sym, ◌∙◌, ap, subst, IsPurgeStep, TellsCounts, PurgeValue, stage, KeepsQuiet}
+use Rattle.purge_task.proofs.Common.{◌≡◌, sym, ◌∙◌, ap, subst, IsPurgeStep, TellsCounts, PurgeValue, KeepsQuiet}
 use Rattle.purge_task.specs.Dropped.{DropsCounted}
 use Rattle.purge_task.specs.Keeping.{LeavesLess}
+use Rattle.purge_task.specs.declared.task.PurgeStage.TheVariants as stage
 use Rattle.purge_task.proofs.StepLemmas.{ready_at, stage_is}
 use Rattle.purge_task.proofs.task.PurgeTask.run.Goals as goal
 

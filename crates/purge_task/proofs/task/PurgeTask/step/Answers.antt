@@ -1,4 +1,5 @@
-use Rattle.purge_task.proofs.Common.{refl, sym, ◌∙◌, ap, subst, did, PurgeValue, TellsCounts, fall}
+use Rattle.purge_task.proofs.Common.{refl, sym, ◌∙◌, ap, subst, PurgeValue, TellsCounts, fall}
+use Rattle.mdbox_base.specs.declared.progress.Did.TheVariants as did
 use Rattle.purge_task.specs.Dropped.{DropsCounted}
 use Rattle.purge_task.proofs.StepLemmas.{left_of, ready_did, ready_of, step_of}
 use Rattle.purge_task.proofs.StoppedLemmas.{stopped_says}
