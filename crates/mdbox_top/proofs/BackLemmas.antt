@@ -1,22 +1,18 @@
 -- What came back by a rebuild.
-use Rattle.std.specs.Prelude.{◌≡◌, ◌⊎◌, ◌<◌, ◌≤◌, ◌+◌, ◌++◌, ℕ, List, [], ◌∷◌, flat_map, get_or, length, map, slice_get, take, Option, Some, None}
-use Rattle.std.specs.Option.{option_copied, option_map}
-use Rattle.std.proofs.Common.{refl, sym, ◌∙◌, ap, subst, inl, inr, append_assoc, append-nil, arith}
+use Rattle.std.specs.Prelude.{◌≡◌, ◌+◌, ◌++◌, ℕ, List, [], ◌∷◌, AllPairs, flat_map, length, map, slice_get, take, Option, Some, None}
+use Rattle.std.specs.Option.{option_map}
+use Rattle.std.proofs.Common.{zero, suc, refl, sym, ◌∙◌, ap, subst, inl, inr, append_assoc, append-nil}
 use Rattle.std.proofs.lemmas.Grind.{flat_map-append}
-use Rattle.std.proofs.lemmas.List.{length-map}
-use Rattle.std.proofs.lemmas.Option.{slice_get-get_or}
 use Rattle.disk_model.specs.Disk.{DiskState, Files, History, Between, EachImage, IfTold, IsIdle, IsImage, SameState}
-use Rattle.disk_model.specs.FaultCounts.{NoFault, AnyFaultCounted}
 use Rattle.disk_model.proofs.MomentLemmas.{if_told-map, since-map, since-now, since-then}
-use Rattle.mdbox_base.specs.Streams.{Appended, Rose}
+use Rattle.mdbox_base.specs.Numbers.{decimal_text}
 use Rattle.mdbox_base.specs.declared.entries.BoxEntry.{BoxEntry}
 use Rattle.mdbox_base.specs.declared.entries.MapEntry.{MapEntry}
 use Rattle.mdbox_base.specs.declared.entries.RootEntry.{RootEntry}
-use Rattle.mdbox_base.specs.declared.stream.SinkFault.{SinkFault}
 use Rattle.map_index.specs.Shown.{shown_box}
 use Rattle.map_index.specs.declared.rows.BoxAt.{BoxAt}
 use Rattle.mail_ops.proofs.FlagListLemmas.{some_there}
-use Rattle.model_lists.specs.Lists.{Lists, Mailbox}
+use Rattle.model_lists.specs.Lists.{Lists}
 use Rattle.model_meaning.specs.BoxMeaning.{BoxMeaning, box_meaning}
 use Rattle.model_meaning.specs.MapMeaning.{MapBox, MapMeaning, box_at, map_meaning}
 use Rattle.model_meaning.specs.SameMeaning.{MeansSame}
@@ -26,7 +22,6 @@ use Rattle.model_store.specs.Settled.{files_of, IsSettledFor}
 use Rattle.model_store.proofs.OpeningLemmas.{no_store_or_opens, opens_or_damaged}
 use Rattle.model_store.proofs.OpeningSafeLemmas.{safe_opens}
 use Rattle.piece_writer.proofs.PieceLemmas.{appended_nothing}
-use Rattle.request_text.specs.Outcomes.{EndsAs}
 use Rattle.request_text.specs.declared.boxes.BoxRow.{BoxRow}
 use Rattle.request_text.specs.declared.outcome.Outcome.{Outcome}
 use Rattle.request_text.specs.declared.outcome.Outcome.TheVariants as outcome
@@ -46,7 +41,7 @@ use Rattle.script_run.specs.Opening.{AreSafeFor, LogsShowLists}
 use Rattle.mdbox_top.specs.BoxesRun.{box_rows, row_of_box, row_of_mailbox}
 use Rattle.mdbox_top.specs.OpeningOutcome.{rebuild_outcome}
 use Rattle.mdbox_top.specs.RebuildRun.{IsRebuiltBy, PrintsIfRead, PrintsReport, RebuildNotes, RebuildOutcome, RebuildTells, TellsRebuilt, TellsRow, rebuilt_line, rebuilt_text, row_told}
-use Rattle.mdbox_top.proofs.BoxesLemmas.{name_there, row_more, row_there, shown_rows}
+use Rattle.mdbox_top.proofs.BoxesLemmas.{BoxRises, name_there, row_more, row_there, shown_rows}
 use Rattle.mdbox_top.proofs.RebuildLemmas.{rebuilt_ends}
 
 -- ---- lines
@@ -61,6 +56,34 @@ told_more rows i old new so t =
 told_lists : (lists : Lists) → flat_map row_told (map row_of_mailbox lists) ≡ rebuilt_text lists
 told_lists [] = refl
 told_lists (mailbox ∷ lists) = ap (λ (x : List ℕ). rebuilt_line mailbox.name (length mailbox.messages) ++ x) (told_lists lists)
+
+told_joined : (a b c d e : List ℕ) → (((a ++ b) ++ c) ++ d) ++ e ≡ a ++ (b ++ (c ++ (d ++ e)))
+told_joined a b c d e = simp append_assoc
+
+pub told_line : (old a b c new name : List ℕ) (n : ℕ) → a ≡ old ++ name → b ≡ a ++ 32 ∷ [] → c ≡ b ++ decimal_text n → new ≡ c ++ 10 ∷ [] → new ≡ old ++ rebuilt_line name n
+told_line old a b c new name n p q r s =
+    s ∙ ap (λ (t : List ℕ). t ++ 10 ∷ []) (r ∙ ap (λ (t : List ℕ). t ++ decimal_text n) (q ∙ ap (λ (t : List ℕ). t ++ 32 ∷ []) p))
+    ∙ told_joined old name (32 ∷ []) (decimal_text n) (10 ∷ [])
+
+mapped_at : {X Y : Type 0} → (f : X → Y) (xs : List X) (i : ℕ) (x : X) → slice_get xs i ≡ Some x → slice_get (map f xs) i ≡ Some (f x)
+mapped_at f [] i x is = absurd (let k : None ≡ Some x = is in cc k)
+mapped_at f (y ∷ ys) zero x is =
+    let k : Some y ≡ Some x = is in
+    let e : y ≡ x = cc k in
+    ap (λ z. Some (f z)) e
+mapped_at f (y ∷ ys) (suc i) x is = mapped_at f ys i x is
+
+-- the line of the mailbox at a place
+pub told_there : (m : MapMeaning) (boxes : List CheckedBox) (i : ℕ) (at : BoxAt) (name : List ℕ) (mailbox : CheckedBox) (many : ℕ) (old new : List ℕ) → AllPairs BoxRises m.boxes → Some at ≡ option_map shown_box (slice_get m.boxes i) → Some name ≡ option_map (λ b. b.name) (box_at m at.number.0)
+    → slice_get boxes i ≡ Some mailbox → many ≡ length mailbox.index.meaning.rows → new ≡ old ++ rebuilt_line name many → TellsRow (box_rows m.boxes (map (λ b. b.index.meaning) boxes)) i old new
+told_there m boxes i at name mailbox many old new rising is named here counted text =
+    let b = some_there shown_box (slice_get m.boxes i) at is in
+    let number : at.number.0 ≡ b.0.number = ap (λ (a : BoxAt). a.number.0) b.2 in
+    let named_is : name ≡ b.0.name = name_there m.boxes i b.0 at.number.0 name rising b.1 number named in (
+      row_of_box b.0 mailbox.index.meaning,
+      row_there m.boxes (map (λ (c : CheckedBox). c.index.meaning) boxes) i b.0 mailbox.index.meaning b.1 (mapped_at (λ (c : CheckedBox). c.index.meaning) boxes i mailbox here),
+      text ∙ ap (λ (n : List ℕ). old ++ rebuilt_line n many) named_is ∙ ap (λ (n : ℕ). old ++ rebuilt_line b.0.name n) counted,
+    )
 
 -- ---- what passed the checks
 
