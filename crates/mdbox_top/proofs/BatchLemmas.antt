@@ -1,22 +1,19 @@
 -- How `batch` ends: by what was read, and by the script.
-use Rattle.std.specs.Prelude.{◌≡◌, ◌≤◌, ◌<◌, ◌+◌, ◌⊎◌, ◌++◌, ℕ, suc, Bool, true, false, cond, if◌then◌else◌, List, [], ◌∷◌, All, Contains, count_by, get_or, length, map, take, Option, Some, None, Result, Ok, Err, IfOk}
+use Rattle.std.specs.Prelude.{◌≡◌, ◌≤◌, ◌<◌, ◌+◌, ◌⊎◌, ℕ, suc, Bool, true, false, cond, if◌then◌else◌, List, [], ◌∷◌, All, Contains, count_by, length, map, Option, Some, None, Result, Ok, Err, IfOk}
 use Rattle.std.specs.List.{AllByRecursion, list_any}
 use Rattle.std.proofs.Common.{refl, sym, ◌∙◌, ap, subst, inl, inr, append-nil, arith}
-use Rattle.std.proofs.lemmas.List.{take_more}
 use Rattle.std.proofs.lemmas.List.Elements.{All-nil, All-cons}
 use Rattle.std.proofs.lemmas.List.Folds.{list_any_at}
 use Rattle.std.proofs.lemmas.List.Sums.{sum_by-cons}
-use Rattle.attach_detach.specs.declared.message.Prepared.{Prepared}
 use Rattle.disk_model.specs.Disk.{History, Faults}
 use Rattle.disk_model.specs.FaultCounts.{AnyFaultCounted, NoFault}
 use Rattle.journal.specs.Journal.{Requests, is_read_fault}
-use Rattle.lanes.specs.Worlds.{AreGiven, AreOfLanes, HasItsMessage}
+use Rattle.lanes.specs.Worlds.{AreOfLanes}
 use Rattle.mdbox_base.specs.Streams.{Appended, Refused}
 use Rattle.mdbox_base.specs.declared.replies.Refusal.TheVariants as refused
 use Rattle.mdbox_base.specs.declared.replies.Reply.{Reply}
 use Rattle.mdbox_base.specs.declared.replies.Reply.TheVariants as reply
 use Rattle.mdbox_base.specs.declared.requests.Request.{Request}
-use Rattle.mdbox_base.specs.declared.requests.Request.TheVariants as request
 use Rattle.mdbox_base.specs.declared.script.JournalEntry.{JournalEntry}
 use Rattle.mdbox_base.specs.declared.script.Script.{Script}
 use Rattle.mdbox_base.specs.declared.stream.InputError.{InputError}
@@ -36,6 +33,7 @@ use Rattle.script_run.specs.Done.{IsScriptDone}
 use Rattle.script_run.specs.Faults.{FaultsByReplies, HasReadFault}
 use Rattle.script_run.specs.Opening.{AreSafeFor, IsUnopened}
 use Rattle.script_run.specs.Script.{HasStopped}
+use Rattle.script_run.specs.Worked.{IsWorkedOut}
 use Rattle.script_text.specs.Script.{FitsLanes, FitsScript, IsScript, IsBadAt, ScriptGives}
 use Rattle.script_text.specs.declared.error.ScriptError.{ScriptError}
 use Rattle.script_text.specs.declared.error.ScriptError.TheVariants as script_error
@@ -44,9 +42,8 @@ use Rattle.mdbox_top.specs.BatchRun.{HasNoScript, IsBatchDone, OpenedOutcome, Re
 use Rattle.mdbox_top.specs.DeliverRun.{unread_outcome}
 use Rattle.mdbox_top.specs.InputRun.{IsOneOf}
 use Rattle.mdbox_top.specs.OpeningOutcome.{opening_outcome}
-use Rattle.mdbox_top.proofs.InitLemmas.{counted_as, opening_fault}
 use Rattle.mdbox_top.proofs.InputLemmas.{Told, long_told, of_told}
-use Rattle.mdbox_top.proofs.RequestLemmas.{fault_number, one_of_shown, opening_number, refused_by, settled_opens, shown_by}
+use Rattle.mdbox_top.proofs.RequestLemmas.{damage_lacking, one_of_shown, opening_number, refused_by, settled_opens, shown_by}
 
 -- ---- the script
 
@@ -98,35 +95,6 @@ pub are_fit : (lanes : ℕ) (requests : Requests) → AllByRecursion (FitsLanes 
 are_fit lanes [] all = All-nil (λ (asked : ℕ × Request). FitsScript asked.1)
 are_fit lanes (asked ∷ rest) all = All-cons (λ (a : ℕ × Request). FitsScript a.1) asked rest all.0.fits (are_fit lanes rest all.1)
 
--- ---- what requests are given
-
-pub given_more : (requests : Requests) (given : List (Option Prepared)) (asked : ℕ × Request) (one : Option Prepared) → AreGiven requests given → HasItsMessage asked.1 one → AreGiven (requests ++ asked ∷ []) (given ++ one ∷ [])
-given_more [] [] asked one g h = (h, tt)
-given_more [] (x ∷ rest) asked one g h = absurd g
-given_more (x ∷ requests) [] asked one g h = absurd g
-given_more (x ∷ requests) (y ∷ rest) asked one g h = (g.0, given_more requests rest asked one g.1 h)
-
--- one request more in a walk over them
-pub given_next : (requests : Requests) (given more : List (Option Prepared)) (k : ℕ) (asked : ℕ × Request) (one : Option Prepared) → k < length requests → asked ≡ get_or requests k asked → AreGiven (take k requests) given → HasItsMessage asked.1 one → more ≡ given ++ one ∷ [] → AreGiven (take (k + 1) requests) more
-given_next requests given more k asked one lt is g h e =
-    let next : take (k + 1) requests ≡ take k requests ++ asked ∷ [] = take_more requests k asked lt ∙ ap (λ (x : ℕ × Request). take k requests ++ x ∷ []) (sym is) in
-    subst (λ (x : Requests). AreGiven x more) (sym next) (subst (λ (x : List (Option Prepared)). AreGiven (take k requests ++ asked ∷ []) x) (sym e) (given_more (take k requests) given asked one g h))
-
-pub nothing_given : (asked : Request) → FitsScript asked → ((name : List ℕ) (time : ℕ) (message : List ℕ) → asked ≡ request.Deliver name time message → ⊥) → HasItsMessage asked None
-nothing_given (request.Deliver name time message) f unlike = absurd (unlike name time message refl)
-nothing_given (request.List name) f unlike = (tt, refl)
-nothing_given (request.Fetch name uid) f unlike = (tt, refl)
-nothing_given (request.Flag name uid flags) f unlike = (tt, refl)
-nothing_given (request.Copy name uid target) f unlike = (tt, refl)
-nothing_given (request.Move name uid target) f unlike = (tt, refl)
-nothing_given (request.Expunge name uid) f unlike = (tt, refl)
-nothing_given (request.Make name) f unlike = (tt, refl)
-nothing_given (request.Delete name) f unlike = absurd f
-nothing_given (request.Rename name target) f unlike = absurd f
-nothing_given request.Counts f unlike = (tt, refl)
-nothing_given request.Purge f unlike = (tt, refl)
-nothing_given request.Resync f unlike = (tt, refl)
-
 -- ---- how replies are printed
 
 -- by the tests of an end
@@ -149,6 +117,9 @@ replies_whole text replies h k a = by_outcome (ShowsAs text replies h k) replies
 pub shown_as : (journal j : List JournalEntry) (replies r : List (Option Reply)) (given : List Reply) (h k : Option (List ℕ)) (o : Outcome) → j ≡ journal → r ≡ replies → replies ≡ map Some given → ShowsReplies (batch_text j r) r h k o → ShowsReplies (batch_text journal (map Some given)) (map Some given) h k o
 shown_as journal j replies r given h k o e f g s =
     subst (λ (x : List (Option Reply)). ShowsReplies (batch_text journal x) x h k o) (f ∙ g) (subst (λ (x : List JournalEntry). ShowsReplies (batch_text x r) r h k o) e s)
+
+pub worked_for : {D : Type 0} → (script : Script) (r replies : List (Option Reply)) (entries : List JournalEntry) (old new : Option History) (f g : Faults) → r ≡ replies → IsWorkedOut D script.requests script.lanes r entries old new f g → IsWorkedOut D script.requests script.lanes replies entries old new f g
+worked_for {D} script r replies entries old new f g same worked = subst (λ (rs : List (Option Reply)). IsWorkedOut D script.requests script.lanes rs entries old new f g) same worked
 
 outcome_number : (replies : List (Option Reply)) → IsOneOf (0 ∷ 1 ∷ 5 ∷ 6 ∷ []) (status_of (replies_outcome replies))
 outcome_number replies = by_outcome (λ (o : Outcome). IsOneOf (0 ∷ 1 ∷ 5 ∷ 6 ∷ []) (status_of o)) replies (λ any. inr (inr (inr (inl refl)))) (inr (inr (inl refl))) (inr (inl refl)) (inl refl)
@@ -261,10 +232,10 @@ unopened_may : (why : OpenError) → why ≡ error.DiskFault → IsOneOf (5 ∷ 
 unopened_may why e = inr (inl (ap (λ (w : OpenError). status_of (opening_outcome w)) e))
 
 pub unopened_as : (Done : Outcome → Type 0) (h : Option (List ℕ)) (old new : Option History) (began now : Faults) (why : OpenError) → IsUnopened why old new began now → OpenedOutcome Done h h old new began now (opening_outcome why)
-unopened_as Done h old new began now why u = inl (record { why = why; ended_is = refl; unprinted = refl; cause = u.cause; idle = u.idle; untouched = u.untouched; stays = u.stays; unfailed = u.unfailed }, counted_as (why ≡ error.DiskFault) (opening_outcome why ≡ outcome.DiskFault) began now (λ e. opening_fault why e) u.fault)
+unopened_as Done h old new began now why u = inl (record { why = why; ended_is = refl; unprinted = refl; leaves = u })
 
-pub unopened_script : (script : Requests) (h : Option (List ℕ)) (old new : Option History) (began now : Faults) (why : OpenError) → IsUnopened why old new began now → ScriptOutcome script h h old new began now (opening_outcome why)
-unopened_script script h old new began now why u = unopened_as (IsBatchDone script h h old new began now) h old new began now why u
+pub unopened_script : {D : Type 0} → (script : Script) (h : Option (List ℕ)) (old new : Option History) (began now : Faults) (why : OpenError) → IsUnopened why old new began now → ScriptOutcome D script h h old new began now (opening_outcome why)
+unopened_script {D} script h old new began now why u = unopened_as (IsBatchDone D script h h old new began now) h old new began now why u
 
 pub unopened_script_rests : (script : Requests) (old new : Option History) (began now : Faults) (why : OpenError) → IsUnopened why old new began now → ScriptRests script (IsOneOf (5 ∷ 6 ∷ 8 ∷ []) (status_of (opening_outcome why))) began now old new
 unopened_script_rests script old new began now why u = λ none lists s. inl (u.settled_again (λ f. none (unopened_may why f)) lists s)
@@ -282,29 +253,26 @@ abbrev pub EndsKnown : (Outcome → Type 0) → Type 0
 EndsKnown Done = (o : Outcome) → Done o → IsOneOf (0 ∷ 1 ∷ 5 ∷ 6 ∷ 8 ∷ []) (status_of o)
 
 pub opened_refuses : (Done : Outcome → Type 0) → EndsKnown Done → (h k : Option (List ℕ)) (old new : Option History) (f g : Faults) (why : InputRefusal) → OpenedOutcome Done h k old new f g (outcome.InputRefused why) → ⊥
-opened_refuses Done known h k old new f g why (inl n) = refused_by 4 _ (opening_number n.0.why) (ap status_of n.0.ended_is) (inr refl)
+opened_refuses Done known h k old new f g why (inl n) = refused_by 4 _ (opening_number n.why) (ap status_of n.ended_is) (inr refl)
 opened_refuses Done known h k old new f g why (inr d) = shown_by 4 (known (outcome.InputRefused why) d) (inr (inr refl))
 
 pub opened_damage : (Done : Outcome → Type 0) → EndsKnown Done → (h k : Option (List ℕ)) (old new : Option History) (f g : Faults) (s : StoreRefusal) → OpenedOutcome Done h k old new f g (outcome.StoreRefused s) → OpenedOutcome Done h k old new f g outcome.NoMemory
-opened_damage Done known h k old new f g s (inl n) = inl (
-  record { why = error.NoMemory; ended_is = refl; unprinted = n.0.unprinted; cause = tt; idle = λ other. n.0.idle (fault_number s n.0.why n.0.ended_is); untouched = n.0.untouched; stays = n.0.stays; unfailed = λ other. n.0.unfailed (fault_number s n.0.why n.0.ended_is) },
-  record { reads = n.1.reads; changes = n.1.changes; rose = λ e. absurd (cc e) },
-)
+opened_damage Done known h k old new f g s (inl n) = inl (damage_lacking h k old new f g s n)
 opened_damage Done known h k old new f g s (inr d) = absurd (shown_by 3 (known (outcome.StoreRefused s) d) (inr (inl refl)))
 
 pub opened_used : (Done : Outcome → Type 0) → EndsKnown Done → (h k : Option (List ℕ)) (old new : Option History) (f g : Faults) → OpenedOutcome Done h k old new f g outcome.Usage → ⊥
-opened_used Done known h k old new f g (inl n) = refused_by 2 _ (opening_number n.0.why) (ap status_of n.0.ended_is) (inl refl)
+opened_used Done known h k old new f g (inl n) = refused_by 2 _ (opening_number n.why) (ap status_of n.ended_is) (inl refl)
 opened_used Done known h k old new f g (inr d) = shown_by 2 (known outcome.Usage d) (inl refl)
 
 pub opened_status : (Done : Outcome → Type 0) → EndsKnown Done → (h k : Option (List ℕ)) (old new : Option History) (f g : Faults) (o : Outcome) → OpenedOutcome Done h k old new f g o → (lists : Lists) → IsSettledFor lists old → IsOneOf (0 ∷ 1 ∷ 5 ∷ 6 ∷ 8 ∷ []) (status_of o)
-opened_status Done known h k old new f g o (inl n) lists s = elim (settled_opens lists old n.0.why s n.0.cause) [
-  | inl fault ↦ inr (inr (inr (inl (ap status_of n.0.ended_is ∙ ap (λ (w : OpenError). status_of (opening_outcome w)) fault))))
-  | inr memory ↦ inr (inr (inl (ap status_of n.0.ended_is ∙ ap (λ (w : OpenError). status_of (opening_outcome w)) memory)))
+opened_status Done known h k old new f g o (inl n) lists s = elim (settled_opens lists old n.why s n.leaves.cause) [
+  | inl fault ↦ inr (inr (inr (inl (ap status_of n.ended_is ∙ ap (λ (w : OpenError). status_of (opening_outcome w)) fault))))
+  | inr memory ↦ inr (inr (inl (ap status_of n.ended_is ∙ ap (λ (w : OpenError). status_of (opening_outcome w)) memory)))
 ]
 opened_status Done known h k old new f g o (inr d) lists s = known o d
 
 pub opened_ended : (Done : Outcome → Type 0) → EndsKnown Done → (h k : Option (List ℕ)) (old new : Option History) (f g : Faults) (o : Outcome) → OpenedOutcome Done h k old new f g o → (o ≡ outcome.ReadFault) ⊎ ((why : InputRefusal) × (o ≡ outcome.InputRefused why)) → ⊥
-opened_ended Done known h k old new f g o (inl n) (inl e) = read_end (status_of (opening_outcome n.0.why)) (opening_number n.0.why) (sym (ap status_of n.0.ended_is) ∙ ap status_of e)
+opened_ended Done known h k old new f g o (inl n) (inl e) = read_end (status_of (opening_outcome n.why)) (opening_number n.why) (sym (ap status_of n.ended_is) ∙ ap status_of e)
   where
     read_end : (n : ℕ) → IsOneOf (3 ∷ 5 ∷ 6 ∷ []) n → n ≡ 7 → ⊥
     read_end n (inl a) e = omega (arith, a, e)
@@ -323,27 +291,27 @@ opened_ended Done known h k old new f g o (inr d) (inl e) = read_end (status_of 
 opened_ended Done known h k old new f g o e (inr w) = opened_refuses Done known h k old new f g w.0 (subst (OpenedOutcome Done h k old new f g) w.1 e)
 
 -- a script that was done ends with one of them
-done_known : (script : Requests) (h k : Option (List ℕ)) (old new : Option History) (f g : Faults) → EndsKnown (IsBatchDone script h k old new f g)
+done_known : {D : Type 0} → (script : Script) (h k : Option (List ℕ)) (old new : Option History) (f g : Faults) → EndsKnown (IsBatchDone D script h k old new f g)
 done_known script h k old new f g o d = replies_number _ (map Some d.given) h k o d.printed
 
-pub script_ended : (script : Requests) (h k : Option (List ℕ)) (old new : Option History) (f g : Faults) (o : Outcome) → ScriptOutcome script h k old new f g o → (o ≡ outcome.ReadFault) ⊎ ((why : InputRefusal) × (o ≡ outcome.InputRefused why)) → ⊥
-script_ended script h k old new f g o e w = opened_ended (IsBatchDone script h k old new f g) (done_known script h k old new f g) h k old new f g o e w
+pub script_ended : {D : Type 0} → (script : Script) (h k : Option (List ℕ)) (old new : Option History) (f g : Faults) (o : Outcome) → ScriptOutcome D script h k old new f g o → (o ≡ outcome.ReadFault) ⊎ ((why : InputRefusal) × (o ≡ outcome.InputRefused why)) → ⊥
+script_ended {D} script h k old new f g o e w = opened_ended (IsBatchDone D script h k old new f g) (done_known script h k old new f g) h k old new f g o e w
 
 pub no_script_apart : (lanes : ℕ) (left : Option (List ℕ)) (o : Outcome) → HasNoScript lanes left o → (o ≡ outcome.DiskFault) ⊎ (o ≡ outcome.WriteFault) → ⊥
 no_script_apart lanes left o u (inl e) = subst (HasNoScript lanes left) e u
 no_script_apart lanes left o u (inr e) = subst (HasNoScript lanes left) e u
 
-pub batch_input : (lanes : ℕ) (left h k : Option (List ℕ)) (old new : Option History) (f g : Faults) (why : InputRefusal) → BatchOutcome lanes left h k old new f g (outcome.InputRefused why) → BatchOutcome lanes left h k old new f g outcome.NoMemory
+pub batch_input : {D : Type 0} → (lanes : ℕ) (left h k : Option (List ℕ)) (old new : Option History) (f g : Faults) (why : InputRefusal) → BatchOutcome D lanes left h k old new f g (outcome.InputRefused why) → BatchOutcome D lanes left h k old new f g outcome.NoMemory
 batch_input lanes left h k old new f g why (inl u) = inl (tt, u.1, u.2, u.3)
-batch_input lanes left h k old new f g why (inr d) = absurd (opened_refuses (IsBatchDone d.0.requests h k old new f g) (done_known d.0.requests h k old new f g) h k old new f g why d.2)
+batch_input {D} lanes left h k old new f g why (inr d) = absurd (opened_refuses (IsBatchDone D d.0 h k old new f g) (done_known d.0 h k old new f g) h k old new f g why d.2)
 
-pub batch_damage : (lanes : ℕ) (left h k : Option (List ℕ)) (old new : Option History) (f g : Faults) (s : StoreRefusal) → BatchOutcome lanes left h k old new f g (outcome.StoreRefused s) → BatchOutcome lanes left h k old new f g outcome.NoMemory
+pub batch_damage : {D : Type 0} → (lanes : ℕ) (left h k : Option (List ℕ)) (old new : Option History) (f g : Faults) (s : StoreRefusal) → BatchOutcome D lanes left h k old new f g (outcome.StoreRefused s) → BatchOutcome D lanes left h k old new f g outcome.NoMemory
 batch_damage lanes left h k old new f g s (inl u) = absurd u.0
-batch_damage lanes left h k old new f g s (inr d) = inr (d.0, d.1, opened_damage (IsBatchDone d.0.requests h k old new f g) (done_known d.0.requests h k old new f g) h k old new f g s d.2)
+batch_damage {D} lanes left h k old new f g s (inr d) = inr (d.0, d.1, opened_damage (IsBatchDone D d.0 h k old new f g) (done_known d.0 h k old new f g) h k old new f g s d.2)
 
-pub batch_used : (lanes : ℕ) (left h k : Option (List ℕ)) (old new : Option History) (f g : Faults) → BatchOutcome lanes left h k old new f g outcome.Usage → ⊥
+pub batch_used : {D : Type 0} → (lanes : ℕ) (left h k : Option (List ℕ)) (old new : Option History) (f g : Faults) → BatchOutcome D lanes left h k old new f g outcome.Usage → ⊥
 batch_used lanes left h k old new f g (inl u) = u.0
-batch_used lanes left h k old new f g (inr d) = opened_used (IsBatchDone d.0.requests h k old new f g) (done_known d.0.requests h k old new f g) h k old new f g d.2
+batch_used {D} lanes left h k old new f g (inr d) = opened_used (IsBatchDone D d.0 h k old new f g) (done_known d.0 h k old new f g) h k old new f g d.2
 
 pub batch_rests_as : (lanes : ℕ) (left : Option (List ℕ)) (F G : Type 0) (f g : Faults) (old new : Option History) → (F → G) → BatchRests lanes left F f g old new → BatchRests lanes left G f g old new
 batch_rests_as lanes left F G f g old new h (inl same) = inl same
@@ -392,10 +360,10 @@ one_more n (inr (inr (inr (inl a)))) = inr (inr (inr (inl a)))
 one_more n (inr (inr (inr (inr (inl a))))) = inr (inr (inr (inr (inr (inl a)))))
 one_more n (inr (inr (inr (inr (inr a))))) = absurd a
 
-pub batch_status : (lanes : ℕ) (left h k : Option (List ℕ)) (old new : Option History) (f g : Faults) (o : Outcome) → lanes < 4294967296 → BatchOutcome lanes left h k old new f g o → BatchStatus lanes left old (status_of o)
+pub batch_status : {D : Type 0} → (lanes : ℕ) (left h k : Option (List ℕ)) (old new : Option History) (f g : Faults) (o : Outcome) → lanes < 4294967296 → BatchOutcome D lanes left h k old new f g o → BatchStatus lanes left old (status_of o)
 batch_status lanes None h k old new f g o few e = tt
 batch_status lanes (Some all) h k old new f g o few (inl u) = (λ why w. no_script_number lanes all o u.0, λ script r lists s. script_number lanes all script o few r u.0)
-batch_status lanes (Some all) h k old new f g o few (inr d) = (
+batch_status {D} lanes (Some all) h k old new f g o few (inr d) = (
   λ why w. absurd (not_both lanes all d.0 why few (subst (λ (input : List ℕ). ReadsScript lanes input d.0) (sym d.1.1) d.1.2) w),
-  λ script r lists s. one_more (status_of o) (opened_status (IsBatchDone d.0.requests h k old new f g) (done_known d.0.requests h k old new f g) h k old new f g o d.2 lists s),
+  λ script r lists s. one_more (status_of o) (opened_status (IsBatchDone D d.0 h k old new f g) (done_known d.0 h k old new f g) h k old new f g o d.2 lists s),
 )

@@ -73,7 +73,7 @@ opening_one n (inr (inl a)) e = omega (arith, a, e)
 opening_one n (inr (inr (inl a))) e = omega (arith, a, e)
 opening_one n (inr (inr (inr a))) e = a
 
-never_one : (h k : Option (List ℕ)) (old new : Option History) (f g : Faults) (o : Outcome) → CountsOutcome h k old new f g o → status_of o ≡ 1 → ⊥
+never_one : {D : Type 0} → (h k : Option (List ℕ)) (old new : Option History) (f g : Faults) (o : Outcome) → CountsOutcome D h k old new f g o → status_of o ≡ 1 → ⊥
 never_one h k old new f g o (inl n) one = opening_one (status_of (opening_outcome n.why)) (opening_number n.why) (sym (ap status_of n.ended_is) ∙ one)
 never_one h k old new f g o (inr l) one = count_number l.tells.m l.tells.meanings l.given l.tells.given_is (shown_one _ l.given h k o l.printed one)
 
@@ -82,5 +82,5 @@ others_of n (inl a) never = inl a
 others_of n (inr (inl a)) never = absurd (never a)
 others_of n (inr (inr a)) never = inr a
 
-pub counts_status : (h k : Option (List ℕ)) (old new : Option History) (f g : Faults) (o : Outcome) → CountsOutcome h k old new f g o → (lists : Lists) → IsSettledFor lists old → IsOneOf (0 ∷ 5 ∷ 6 ∷ 8 ∷ []) (status_of o)
+pub counts_status : {D : Type 0} → (h k : Option (List ℕ)) (old new : Option History) (f g : Faults) (o : Outcome) → CountsOutcome D h k old new f g o → (lists : Lists) → IsSettledFor lists old → IsOneOf (0 ∷ 5 ∷ 6 ∷ 8 ∷ []) (status_of o)
 counts_status h k old new f g o e lists s = others_of (status_of o) (request_status IsCountsReply request.Counts h k old new f g o e lists s) (never_one h k old new f g o e)

@@ -47,7 +47,7 @@ use Rattle.script_run.proofs.AloneLemmas.{may_read}
 use Rattle.script_run.proofs.DoneLemmas.{settled_safe}
 use Rattle.script_run.proofs.ReachedSaveLemmas.{reached_saved}
 use Rattle.script_run.proofs.LeftLemmas.{told_left}
-use Rattle.script_run.proofs.ToldLemmas.{serves_one, shown_begins}
+use Rattle.script_run.proofs.ToldLemmas.{shown_begins}
 use Rattle.script_run.proofs.WorkedLemmas.{worked_told}
 use Rattle.script_run.specs.LeftOpen.{IsRequestDone}
 use Rattle.script_run.specs.Worked.{IsWorkedOut}
@@ -55,22 +55,21 @@ use Rattle.lanes.specs.Worlds.{HasItsMessage}
 use Rattle.mdbox_base.specs.declared.requests.Request.{Request}
 use Rattle.mdbox_base.specs.declared.script.JournalEntry.{JournalEntry}
 use Rattle.task_steps.specs.Serves.{IsReached}
-use Rattle.mdbox_top.specs.DeliverRun.{OpensAlike, OpensSaved, IsDeliverReply, SaveOutcome, AreSaved, SaveMoments, unread_outcome, IsUnread, DeliverOutcome, DeliverRests, DeliverStatus}
+use Rattle.mdbox_top.specs.DeliverRun.{OpensAlike, OpensSaved, IsDeliverReply, AreSaved, SaveMoments, unread_outcome, IsUnread, DeliverOutcome, DeliverRests, DeliverStatus}
 use Rattle.tasks_alone.specs.DeliveryAlone.{undelivered_cause, region_length, HasRecordLeft, HasRecordMore, IsDeliverAnswer}
 use Rattle.mdbox_top.specs.InputRun.{IsOneOf}
-use Rattle.mdbox_top.specs.OpeningOutcome.{opening_outcome}
 use Rattle.tasks_alone.specs.SavedMail.{LeavesDelivery, WroteMail}
 use Rattle.script_run.proofs.OneTaskLemmas.{one_refusal}
 use Rattle.mdbox_top.proofs.InputLemmas.{long_told}
 use Rattle.tasks_alone.proofs.KnownFirstLemmas.{named_there}
-use Rattle.mdbox_top.proofs.RequestLemmas.{opening_number, shown_number, request_status, request_used, request_input, request_damage}
+use Rattle.mdbox_top.proofs.RequestLemmas.{request_status, request_used, request_input, request_damage}
 use Rattle.script_run.proofs.ShownLemmas.{ListsAnswer, opens_again}
 use Rattle.tasks_alone.proofs.WroteLemmas.{wrote_message}
 
 -- ---- the end of a run
 
-pub deliver_input : (name : List ℕ) (left : Option (List ℕ)) (told : Option ℕ) (h k : Option (List ℕ)) (old new : Option History) (f g : Faults) (why : InputRefusal) → DeliverOutcome name left told h k old new f g (outcome.InputRefused why) → DeliverOutcome name left told h k old new f g outcome.NoMemory
-deliver_input name left told h k old new f g why (inl u) = inl (tt, u.1, u.2)
+pub deliver_input : {D : Type 0} → (name : List ℕ) (left : Option (List ℕ)) (told : Option ℕ) (h k : Option (List ℕ)) (old new : Option History) (f g : Faults) (why : InputRefusal) → DeliverOutcome D name left told h k old new f g (outcome.InputRefused why) → DeliverOutcome D name left told h k old new f g outcome.NoMemory
+deliver_input name left told h k old new f g why (inl u) = inl (tt, u.1, u.2, u.3)
 deliver_input name left told h k old new f g why (inr d) = absurd (request_input (IsDeliverReply name d.1 d.0) (request.Deliver name d.1 d.0) h k old new f g why d.4.ends)
 
 not_damage : IsOneOf (5 ∷ 6 ∷ 8 ∷ []) 3 → ⊥
@@ -79,7 +78,7 @@ not_damage (inr (inl e)) = omega (arith, e)
 not_damage (inr (inr (inl e))) = omega (arith, e)
 not_damage (inr (inr (inr e))) = e
 
-pub deliver_damage : (name : List ℕ) (left : Option (List ℕ)) (told : Option ℕ) (h k : Option (List ℕ)) (old new : Option History) (f g : Faults) (s : StoreRefusal) → DeliverOutcome name left told h k old new f g (outcome.StoreRefused s) → DeliverOutcome name left told h k old new f g outcome.NoMemory
+pub deliver_damage : {D : Type 0} → (name : List ℕ) (left : Option (List ℕ)) (told : Option ℕ) (h k : Option (List ℕ)) (old new : Option History) (f g : Faults) (s : StoreRefusal) → DeliverOutcome D name left told h k old new f g (outcome.StoreRefused s) → DeliverOutcome D name left told h k old new f g outcome.NoMemory
 deliver_damage name left told h k old new f g s (inl u) = absurd u.0
 deliver_damage name left told h k old new f g s (inr d) = inr (
   d.0,
@@ -93,7 +92,7 @@ deliver_damage name left told h k old new f g s (inr d) = inr (
   },
 )
 
-pub deliver_used : (name : List ℕ) (left : Option (List ℕ)) (told : Option ℕ) (h k : Option (List ℕ)) (old new : Option History) (f g : Faults) → DeliverOutcome name left told h k old new f g outcome.Usage → ⊥
+pub deliver_used : {D : Type 0} → (name : List ℕ) (left : Option (List ℕ)) (told : Option ℕ) (h k : Option (List ℕ)) (old new : Option History) (f g : Faults) → DeliverOutcome D name left told h k old new f g outcome.Usage → ⊥
 deliver_used name left told h k old new f g (inl u) = u.0
 deliver_used name left told h k old new f g (inr d) = request_used (IsDeliverReply name d.1 d.0) (request.Deliver name d.1 d.0) h k old new f g d.4.ends
 
@@ -134,7 +133,7 @@ one_more n (inr (inr (inr (inl a)))) = inr (inr (inr (inl a)))
 one_more n (inr (inr (inr (inr (inl a))))) = inr (inr (inr (inr (inr (inl a)))))
 one_more n (inr (inr (inr (inr (inr a))))) = absurd a
 
-pub deliver_status : (name : List ℕ) (left : Option (List ℕ)) (told : Option ℕ) (h k : Option (List ℕ)) (old new : Option History) (f g : Faults) (o : Outcome) → DeliverOutcome name left told h k old new f g o → DeliverStatus left old (status_of o)
+pub deliver_status : {D : Type 0} → (name : List ℕ) (left : Option (List ℕ)) (told : Option ℕ) (h k : Option (List ℕ)) (old new : Option History) (f g : Faults) (o : Outcome) → DeliverOutcome D name left told h k old new f g o → DeliverStatus left old (status_of o)
 deliver_status name None told h k old new f g o e = tt
 deliver_status name (Some all) told h k old new f g o (inl u) = (λ long. unread_number all o u.0, λ short lists s. short_number all o short u.0)
 deliver_status name (Some all) told h k old new f g o (inr d) = (
@@ -145,29 +144,6 @@ deliver_status name (Some all) told h k old new f g o (inr d) = (
 pub deliver_rests_as : (name : List ℕ) (left : Option (List ℕ)) (told : Option ℕ) (F G : Type 0) (f g : Faults) (old new : Option History) → (F → G) → DeliverRests name left told F f g old new → DeliverRests name left told G f g old new
 deliver_rests_as name left told F G f g old new h (inl same) = inl same
 deliver_rests_as name left told F G f g old new h (inr d) = inr (d.0, d.1, d.2, d.3, λ none. d.4 (λ failed. none (h failed)))
-
--- no request ends as a fault of what it reads
-opened_number : (n m : ℕ) → IsOneOf (3 ∷ 5 ∷ 6 ∷ []) m → n ≡ m → n ≡ 7 → ⊥
-opened_number n m (inl a) e f = omega (arith, a, e, f)
-opened_number n m (inr (inl a)) e f = omega (arith, a, e, f)
-opened_number n m (inr (inr (inl a))) e f = omega (arith, a, e, f)
-opened_number n m (inr (inr (inr a))) e f = a
-
-replied_number : (n : ℕ) → IsOneOf (0 ∷ 1 ∷ 5 ∷ 6 ∷ 8 ∷ []) n → n ≡ 7 → ⊥
-replied_number n (inl a) f = omega (arith, a, f)
-replied_number n (inr (inl a)) f = omega (arith, a, f)
-replied_number n (inr (inr (inl a))) f = omega (arith, a, f)
-replied_number n (inr (inr (inr (inl a)))) f = omega (arith, a, f)
-replied_number n (inr (inr (inr (inr (inl a))))) f = omega (arith, a, f)
-replied_number n (inr (inr (inr (inr (inr a))))) f = a
-
-pub save_reads : (name : List ℕ) (time : ℕ) (octets : List ℕ) (h k : Option (List ℕ)) (old new : Option History) (f g : Faults) (o : Outcome) → SaveOutcome name time octets h k old new f g o → o ≡ outcome.ReadFault → ⊥
-save_reads name time octets h k old new f g o (inl n) e = opened_number (status_of o) (status_of (opening_outcome n.why)) (opening_number n.why) (ap status_of n.ended_is) (ap status_of e)
-save_reads name time octets h k old new f g o (inr l) e = replied_number (status_of o) (shown_number _ l.given h k o l.printed) (ap status_of e)
-
--- nor as a refusal of it
-pub save_input : (name : List ℕ) (time : ℕ) (octets : List ℕ) (h k : Option (List ℕ)) (old new : Option History) (f g : Faults) (o : Outcome) → SaveOutcome name time octets h k old new f g o → (why : InputRefusal) → o ≡ outcome.InputRefused why → ⊥
-save_input name time octets h k old new f g o e why is = request_input (IsDeliverReply name time octets) (request.Deliver name time octets) h k old new f g why (subst (λ (x : Outcome). SaveOutcome name time octets h k old new f g x) is e)
 
 -- ---- what was read
 
@@ -333,7 +309,6 @@ deliver_done name time octets prepared given old new began now w =
     let faults = alone_faults (delivering name time octets) given old new began now w.done refl in
     record {
       tells = deliver_tells name time octets prepared given old new began now w;
-      serves = λ lists safe. serves_one (delivering name time octets) given w.done.entries old new began now w.done.done lists safe (may_read (delivering name time octets) refl lists old);
       moments = deliver_leaves name time octets given old new began now w.done;
       rests = λ none lists at. by_reply name time octets given lists new (deliver_settles name time octets prepared given old new began now w (λ e. none e (faults.stopped e)) lists at);
       faults = faults;

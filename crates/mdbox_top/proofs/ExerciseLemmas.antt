@@ -10,6 +10,7 @@ use Rattle.mdbox_base.specs.Streams.{Appended}
 use Rattle.mdbox_base.specs.declared.replies.Reply.{Reply}
 use Rattle.mdbox_base.specs.declared.requests.Request.{Request}
 use Rattle.mdbox_base.specs.declared.script.JournalEntry.{JournalEntry}
+use Rattle.mdbox_base.specs.declared.script.Script.{Script}
 use Rattle.model_lists.specs.Lists.{Lists}
 use Rattle.model_meaning.specs.BoxMeaning.{BoxMeaning}
 use Rattle.model_meaning.specs.MapMeaning.{MapMeaning}
@@ -26,7 +27,8 @@ use Rattle.script_run.specs.LeftOpen.{ComesTo, IsServedOpen}
 use Rattle.script_run.specs.Faults.{HasReadFault}
 use Rattle.script_run.specs.Opening.{IsUnopened}
 use Rattle.script_run.specs.Script.{HasStopped, is_fetch, has_fetch}
-use Rattle.script_text.specs.MadeScript.{below, made_octet, made_request, made_round, made_turn}
+use Rattle.script_run.specs.Worked.{IsWorkedOut}
+use Rattle.script_text.specs.MadeScript.{below, made_octet, made_request, made_round, made_script, made_turn}
 use Rattle.script_text.proofs.MadeLemmas.{message_length}
 use Rattle.store_core.specs.Value.{StoreValue, indexes_of}
 use Rattle.store_open.specs.declared.error.OpenError.{OpenError}
@@ -81,10 +83,11 @@ lines_shown replies m meanings summary h k o none is ended a =
 
 -- ---- a made script that was done
 
-pub counted_up : (script : Requests) (replies : List (Option Reply)) (entries : List JournalEntry) (h k : Option (List ℕ)) (old new : Option History) (f g : Faults) (o : Outcome) → has_fetch script ≡ false → (m : MapMeaning) (meanings : List BoxMeaning) (given : List Reply) → replies ≡ map Some given
-    → (done : IsScriptDone script given entries old new f g) → ComesTo script given entries old new f g done m meanings → ShowsReplies (exercise_text replies m meanings) replies h k o → (list_any is_disk_no replies ≡ true → o ≡ outcome.DiskFault) → IsCountedUp script h k old new f g o
-counted_up script replies entries h k old new f g o unread m meanings given are done comes shows told =
-    let may = may_be_served script old unread in
+pub counted_up : {D : Type 0} → (script : Script) (replies : List (Option Reply)) (entries : List JournalEntry) (h k : Option (List ℕ)) (old new : Option History) (f g : Faults) (o : Outcome) → has_fetch script.requests ≡ false → (m : MapMeaning) (meanings : List BoxMeaning) (given : List Reply) → replies ≡ map Some given
+    → (done : IsScriptDone script.requests given entries old new f g) → ComesTo script.requests given entries old new f g done m meanings → IsWorkedOut D script.requests script.lanes (map Some given) entries old new f g → ShowsReplies (exercise_text replies m meanings) replies h k o
+    → (list_any is_disk_no replies ≡ true → o ≡ outcome.DiskFault) → IsCountedUp D script h k old new f g o
+counted_up script replies entries h k old new f g o unread m meanings given are done comes worked shows told =
+    let may = may_be_served script.requests old unread in
     let printed = subst (λ (rs : List (Option Reply)). ShowsReplies (exercise_text rs m meanings) rs h k o) are shows in
     let text = exercise_text (map Some given) m meanings in
     let tells : list_any is_disk_no (map Some given) ≡ true → o ≡ outcome.DiskFault = λ e. told (ap (λ (rs : List (Option Reply)). list_any is_disk_no rs) are ∙ e) in
@@ -92,6 +95,7 @@ counted_up script replies entries h k old new f g o unread m meanings given are 
       given = given;
       journal = entries;
       done = done;
+      worked = worked;
       m = m;
       meanings = meanings;
       comes = comes;
@@ -102,51 +106,54 @@ counted_up script replies entries h k old new f g o unread m meanings given are 
     }
 
 -- the script was served, and what its store and its replies tell was printed
-pub counted_from : {D : Type 0} → (history : D → Option History) (faults : D → Faults) (script : Requests) (store : StoreValue D) (disk : D) (r replies : List (Option Reply)) (entries : List JournalEntry) (h k : Option (List ℕ)) (old : Option History) (began : Faults) (o : Outcome) → has_fetch script ≡ false → disk ≡ store.disk → r ≡ replies
-    → (given : List Reply) × (replies ≡ map Some given) × IsServedOpen script given entries old (history store.disk) began (faults store.disk) store → ShowsReplies (exercise_text r store.map (indexes_of store.boxes)) r h k o → (list_any is_disk_no r ≡ true → o ≡ outcome.DiskFault) → IsCountedUp script h k old (history disk) began (faults disk) o
-counted_from {D} history faults script store disk r replies entries h k old began o unread back same served shows told =
-    let s = subst (λ (d : D). IsServedOpen script served.0 entries old (history d) began (faults d) store) (sym back) served.2 in
-    counted_up script r entries h k old (history disk) began (faults disk) o unread store.map (indexes_of store.boxes) served.0 (same ∙ served.1) s.done s.comes shows told
+pub counted_from : {D : Type 0} → (history : D → Option History) (faults : D → Faults) (script : Script) (store : StoreValue D) (disk : D) (r replies : List (Option Reply)) (entries : List JournalEntry) (h k : Option (List ℕ)) (old : Option History) (began : Faults) (o : Outcome) → has_fetch script.requests ≡ false → disk ≡ store.disk → r ≡ replies
+    → (given : List Reply) × (replies ≡ map Some given) × IsServedOpen script.requests given entries old (history store.disk) began (faults store.disk) store → IsWorkedOut D script.requests script.lanes replies entries old (history store.disk) began (faults store.disk)
+    → ShowsReplies (exercise_text r store.map (indexes_of store.boxes)) r h k o → (list_any is_disk_no r ≡ true → o ≡ outcome.DiskFault) → IsCountedUp D script h k old (history disk) began (faults disk) o
+counted_from {D} history faults script store disk r replies entries h k old began o unread back same served worked shows told =
+    let s = subst (λ (d : D). IsServedOpen script.requests served.0 entries old (history d) began (faults d) store) (sym back) served.2 in
+    let w = subst (λ (d : D). IsWorkedOut D script.requests script.lanes (map Some served.0) entries old (history d) began (faults d)) (sym back)
+    (subst (λ (rs : List (Option Reply)). IsWorkedOut D script.requests script.lanes rs entries old (history store.disk) began (faults store.disk)) served.1 worked) in
+    counted_up script r entries h k old (history disk) began (faults disk) o unread store.map (indexes_of store.boxes) served.0 (same ∙ served.1) s.done s.comes w shows told
 
 -- a store that is stopped replied so
 pub stopped_told : (given : List Reply) (replies r : List (Option Reply)) → r ≡ replies → replies ≡ map Some given → HasStopped given → list_any is_disk_no r ≡ true
 stopped_told given replies r same are stopped = ap (λ (rs : List (Option Reply)). list_any is_disk_no rs) (same ∙ are) ∙ stopped_any given stopped
 
 -- what is left of the disk, if no change of it failed or it ends as a fault
-pub counted_rests : (script : Requests) (h k : Option (List ℕ)) (old new : Option History) (f g : Faults) (o : Outcome) → IsCountedUp script h k old new f g o → ScriptRests script (o ≡ outcome.DiskFault) f g old new
+pub counted_rests : {D : Type 0} → (script : Script) (h k : Option (List ℕ)) (old new : Option History) (f g : Faults) (o : Outcome) → IsCountedUp D script h k old new f g o → ScriptRests script.requests (o ≡ outcome.DiskFault) f g old new
 counted_rests script h k old new f g o d = λ none lists s.
-    let was = served_from script d.given d.journal old new f g lists d.done s in
+    let was = served_from script.requests d.given d.journal old new f g lists d.done s in
     inr (was, was.served.settled (λ (c : HasStopped d.given). none (d.told (stopped_any d.given c)) ((d.done.faults (lists, λ reads. inl s)).stopped c)) s)
 
 pub unopened_made_rests : (script : Requests) (old new : Option History) (f g : Faults) (why : OpenError) → IsUnopened why old new f g → ScriptRests script (opening_outcome why ≡ outcome.DiskFault) f g old new
 unopened_made_rests script old new f g why u = λ none lists s. inl (u.settled_again (λ e. none (ap opening_outcome e)) lists s)
 
-pub counted_known : (script : Requests) (h k : Option (List ℕ)) (old new : Option History) (f g : Faults) → EndsKnown (IsCountedUp script h k old new f g)
+pub counted_known : {D : Type 0} → (script : Script) (h k : Option (List ℕ)) (old new : Option History) (f g : Faults) → EndsKnown (IsCountedUp D script h k old new f g)
 counted_known script h k old new f g o d = replies_number _ (map Some d.given) h k o d.printed
 
 -- ---- the end of a run
 
-pub exercise_input : (lanes count number : ℕ) (h k : Option (List ℕ)) (old new : Option History) (f g : Faults) (why : InputRefusal) → ExerciseOutcome lanes count number h k old new f g (outcome.InputRefused why) → ⊥
+pub exercise_input : {D : Type 0} → (lanes count number : ℕ) (h k : Option (List ℕ)) (old new : Option History) (f g : Faults) (why : InputRefusal) → ExerciseOutcome D lanes count number h k old new f g (outcome.InputRefused why) → ⊥
 exercise_input lanes count number h k old new f g why (inl u) = cc u.0
-exercise_input lanes count number h k old new f g why (inr d) = opened_refuses (IsCountedUp (made_requests lanes count number) h k old new f g) (counted_known (made_requests lanes count number) h k old new f g) h k old new f g why d
+exercise_input {D} lanes count number h k old new f g why (inr d) = opened_refuses (IsCountedUp D (made_script lanes count number) h k old new f g) (counted_known (made_script lanes count number) h k old new f g) h k old new f g why d
 
-pub exercise_damage : (lanes count number : ℕ) (h k : Option (List ℕ)) (old new : Option History) (f g : Faults) (s : StoreRefusal) → ExerciseOutcome lanes count number h k old new f g (outcome.StoreRefused s) → ExerciseOutcome lanes count number h k old new f g outcome.NoMemory
+pub exercise_damage : {D : Type 0} → (lanes count number : ℕ) (h k : Option (List ℕ)) (old new : Option History) (f g : Faults) (s : StoreRefusal) → ExerciseOutcome D lanes count number h k old new f g (outcome.StoreRefused s) → ExerciseOutcome D lanes count number h k old new f g outcome.NoMemory
 exercise_damage lanes count number h k old new f g s (inl u) = absurd (cc u.0)
-exercise_damage lanes count number h k old new f g s (inr d) = inr (opened_damage (IsCountedUp (made_requests lanes count number) h k old new f g) (counted_known (made_requests lanes count number) h k old new f g) h k old new f g s d)
+exercise_damage {D} lanes count number h k old new f g s (inr d) = inr (opened_damage (IsCountedUp D (made_script lanes count number) h k old new f g) (counted_known (made_script lanes count number) h k old new f g) h k old new f g s d)
 
-pub exercise_used : (lanes count number : ℕ) (h k : Option (List ℕ)) (old new : Option History) (f g : Faults) → ExerciseOutcome lanes count number h k old new f g outcome.Usage → ⊥
+pub exercise_used : {D : Type 0} → (lanes count number : ℕ) (h k : Option (List ℕ)) (old new : Option History) (f g : Faults) → ExerciseOutcome D lanes count number h k old new f g outcome.Usage → ⊥
 exercise_used lanes count number h k old new f g (inl u) = cc u.0
-exercise_used lanes count number h k old new f g (inr d) = opened_used (IsCountedUp (made_requests lanes count number) h k old new f g) (counted_known (made_requests lanes count number) h k old new f g) h k old new f g d
+exercise_used {D} lanes count number h k old new f g (inr d) = opened_used (IsCountedUp D (made_script lanes count number) h k old new f g) (counted_known (made_script lanes count number) h k old new f g) h k old new f g d
 
-pub exercise_status : (lanes count number : ℕ) (h k : Option (List ℕ)) (old new : Option History) (f g : Faults) (o : Outcome) → ExerciseOutcome lanes count number h k old new f g o → (lists : Lists) → IsSettledFor lists old → IsOneOf (0 ∷ 1 ∷ 5 ∷ 6 ∷ 8 ∷ []) (status_of o)
+pub exercise_status : {D : Type 0} → (lanes count number : ℕ) (h k : Option (List ℕ)) (old new : Option History) (f g : Faults) (o : Outcome) → ExerciseOutcome D lanes count number h k old new f g o → (lists : Lists) → IsSettledFor lists old → IsOneOf (0 ∷ 1 ∷ 5 ∷ 6 ∷ 8 ∷ []) (status_of o)
 exercise_status lanes count number h k old new f g o (inl u) lists s = inr (inr (inl (ap status_of u.0)))
-exercise_status lanes count number h k old new f g o (inr d) lists s = opened_status (IsCountedUp (made_requests lanes count number) h k old new f g) (counted_known (made_requests lanes count number) h k old new f g) h k old new f g o d lists s
+exercise_status {D} lanes count number h k old new f g o (inr d) lists s = opened_status (IsCountedUp D (made_script lanes count number) h k old new f g) (counted_known (made_script lanes count number) h k old new f g) h k old new f g o d lists s
 
 -- it reads no input
-pub exercise_ended : (lanes count number : ℕ) (h k : Option (List ℕ)) (old new : Option History) (f g : Faults) (o : Outcome) → ExerciseOutcome lanes count number h k old new f g o → (o ≡ outcome.ReadFault) ⊎ ((why : InputRefusal) × (o ≡ outcome.InputRefused why)) → ⊥
+pub exercise_ended : {D : Type 0} → (lanes count number : ℕ) (h k : Option (List ℕ)) (old new : Option History) (f g : Faults) (o : Outcome) → ExerciseOutcome D lanes count number h k old new f g o → (o ≡ outcome.ReadFault) ⊎ ((why : InputRefusal) × (o ≡ outcome.InputRefused why)) → ⊥
 exercise_ended lanes count number h k old new f g o (inl u) (inl e) = cc (sym u.0 ∙ e)
 exercise_ended lanes count number h k old new f g o (inl u) (inr w) = let e : outcome.NoMemory ≡ outcome.InputRefused w.0 = sym u.0 ∙ w.1 in cc e
-exercise_ended lanes count number h k old new f g o (inr d) e = opened_ended (IsCountedUp (made_requests lanes count number) h k old new f g) (counted_known (made_requests lanes count number) h k old new f g) h k old new f g o d e
+exercise_ended {D} lanes count number h k old new f g o (inr d) e = opened_ended (IsCountedUp D (made_script lanes count number) h k old new f g) (counted_known (made_script lanes count number) h k old new f g) h k old new f g o d e
 
 pub exercise_rests_as : (lanes count number : ℕ) (F G : Type 0) (f g : Faults) (old new : Option History) → (F → G) → ExerciseRests lanes count number F f g old new → ExerciseRests lanes count number G f g old new
 exercise_rests_as lanes count number F G f g old new h (inl same) = inl same
@@ -157,7 +164,7 @@ exercise_rests_as lanes count number F G f g old new h (inr d) = inr (λ none. d
 requests_many : (n : ℕ) → length (below n) ≡ n
 requests_many n = sym (length-map (below n) (made_octet n)) ∙ message_length n
 
-pub requests_counted : (lanes count number : ℕ) (h k : Option (List ℕ)) (old new : Option History) (f g : Faults) (o : Outcome) → (d : IsCountedUp (made_requests lanes count number) h k old new f g o) → length (map Some d.given) ≡ count
+pub requests_counted : {D : Type 0} → (lanes count number : ℕ) (h k : Option (List ℕ)) (old new : Option History) (f g : Faults) (o : Outcome) → (d : IsCountedUp D (made_script lanes count number) h k old new f g o) → length (map Some d.given) ≡ count
 requests_counted lanes count number h k old new f g o d = length-map d.given Some ∙ (d.done.each ∙ (length-map (below count) (made_request lanes number) ∙ requests_many count))
 
 -- a run that ends as done has no refusal
@@ -178,7 +185,7 @@ none_counted {X} p (x ∷ xs) e = by_test (λ k. none_counted p xs k) (p x) refl
     by_test next true is any = absurd (let k : true ≡ false = any in cc k)
     by_test next false is any = let rest = next any in let one : ◌≡◌ {A = ℕ} (cond (p x) 1 0) 0 = ap (λ (b : Bool). cond b 1 0) is in omega (arith, more, one, rest)
 
-pub all_done : (lanes count number : ℕ) (h k : Option (List ℕ)) (old new : Option History) (f g : Faults) → (d : IsCountedUp (made_requests lanes count number) h k old new f g outcome.Done) → (count_by (λ one. not (is_no one)) (map Some d.given) ≡ count) × (count_by is_no (map Some d.given) ≡ 0)
+pub all_done : {D : Type 0} → (lanes count number : ℕ) (h k : Option (List ℕ)) (old new : Option History) (f g : Faults) → (d : IsCountedUp D (made_script lanes count number) h k old new f g outcome.Done) → (count_by (λ one. not (is_no one)) (map Some d.given) ≡ count) × (count_by is_no (map Some d.given) ≡ 0)
 all_done lanes count number h k old new f g d =
     let replies = map Some d.given in
     let none = none_counted is_no replies (no_refusal (list_any is_disk_no replies) (list_any is_lack replies) (list_any is_no replies) d.printed.0) in

@@ -103,7 +103,6 @@ fetch_done {D} name uid given entries old new began now w k show = record {
     carried = between-same _ old k.opened new k.carried told.idle.same;
     swept = (k.swept.0, k.opened, k.swept.1, told.idle);
   };
-  serves = λ lists safe. serves_one (fetching name uid) given w.entries old new began now w.done lists safe (may_fetch name uid lists old safe);
   moments = record {
     safe = λ lists at. (reads_safe (fetching name uid) given w.entries old new began now w.done refl lists at).0;
     stays = w.done.stays (refl, λ delivers. absurd (let e : false ≡ true = delivers in cc e));

@@ -1,6 +1,6 @@
 -- How `init` ends.
-use Rattle.std.specs.Prelude.{◌≡◌, ℕ, List, [], ◌∷◌, refl, Option, Some, None}
-use Rattle.std.proofs.Common.{inl, inr}
+use Rattle.std.specs.Prelude.{◌≡◌, ◌⊎◌, ℕ, List, [], ◌∷◌, refl, Option, Some, None}
+use Rattle.std.proofs.Common.{inl, inr, subst}
 use Rattle.disk_model.specs.Disk.{History, Faults, IsIdle}
 use Rattle.disk_model.specs.FaultCounts.{AnyFaultCounted}
 use Rattle.store_open.specs.Making.{NeverHasStore}
@@ -9,6 +9,7 @@ use Rattle.store_open.specs.declared.error.OpenError.{OpenError}
 use Rattle.store_open.specs.declared.error.OpenError.TheVariants as error
 use Rattle.request_text.specs.Outcomes.{status_of}
 use Rattle.request_text.specs.ReplyText.{ok_line}
+use Rattle.request_text.specs.declared.outcome.InputRefusal.{InputRefusal}
 use Rattle.request_text.specs.declared.outcome.StoreRefusal.{StoreRefusal}
 use Rattle.request_text.specs.declared.outcome.StoreRefusal.TheVariants as store
 use Rattle.request_text.specs.declared.outcome.Outcome.{Outcome}
@@ -76,3 +77,8 @@ opening_writes error.NoMemory e = cc e
 -- the counts of a fault that is told by another name
 pub counted_as : (P Q : Type 0) (f g : Faults) → (Q → P) → AnyFaultCounted P f g → AnyFaultCounted Q f g
 counted_as P Q f g to c = record { reads = c.reads; changes = c.changes; rose = λ q. c.rose (to q) }
+
+-- it reads no input
+pub init_ended : (id : List ℕ) (h k : Option (List ℕ)) (old new : Option History) (o : Outcome) → InitOutcome id h k old new o → (o ≡ outcome.ReadFault) ⊎ ((why : InputRefusal) × (o ≡ outcome.InputRefused why)) → ⊥
+init_ended id h k old new o e (inl is) = subst (λ (x : Outcome). InitOutcome id h k old new x) is e
+init_ended id h k old new o e (inr w) = subst (λ (x : Outcome). InitOutcome id h k old new x) w.1 e

@@ -1,4 +1,6 @@
+pub mod BackLemmas
 pub mod BatchLemmas
+pub mod BoxesLemmas
 pub mod CountsLemmas
 pub mod DeliverLemmas
 pub mod ExerciseLemmas
@@ -17,4 +19,3 @@ pub mod RequestLemmas
 pub mod ResyncLemmas
 pub mod RunLemmas
 pub mod ServeLemmas
-pub mod WorkLemmas

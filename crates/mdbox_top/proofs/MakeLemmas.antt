@@ -28,7 +28,7 @@ use Rattle.script_run.proofs.DoneLemmas.{settled_safe}
 use Rattle.script_run.proofs.ReachedMakeLemmas.{made_left, reached_make}
 use Rattle.script_run.proofs.ShownLemmas.{ListsAnswer}
 use Rattle.script_run.proofs.LeftLemmas.{told_left}
-use Rattle.script_run.proofs.ToldLemmas.{serves_one, shown_begins}
+use Rattle.script_run.proofs.ToldLemmas.{shown_begins}
 use Rattle.script_run.proofs.UnchangedLemmas.{unchanged_since}
 use Rattle.mdbox_top.specs.Alone.{IsDoneAlone}
 use Rattle.mdbox_top.specs.MakeRun.{AreMade, IsMakeReply, LeavesOpened, MakeMoments, MakeRests, lists_by_making}
@@ -156,7 +156,6 @@ make_rests name given old new began now w = λ none lists at.
 pub make_done : (name : List ℕ) (given : Reply) (old new : Option History) (began now : Faults) → MakeDone name given old new began now → IsDoneAlone (request.Make name) given old new began now
 make_done name given old new began now w = record {
   tells = make_tells name given old new began now w;
-  serves = λ lists safe. serves_one (making name) given w.entries old new began now w.done lists safe (may_read (making name) refl lists old);
   moments = make_leaves name given old new began now w;
   rests = make_rests name given old new began now w;
   faults = one_faults (making name) given w.entries old new began now w.done tt (calm name given old new began now w);

@@ -26,7 +26,7 @@ use Rattle.script_run.proofs.ReachedMoveLemmas.{never_gone, reached_moved}
 use Rattle.script_run.proofs.ShownLemmas.{ListsAnswer}
 use Rattle.script_run.proofs.SomeListsLemmas.{some_lists}
 use Rattle.script_run.proofs.LeftLemmas.{told_left}
-use Rattle.script_run.proofs.ToldLemmas.{serves_one, shown_begins}
+use Rattle.script_run.proofs.ToldLemmas.{shown_begins}
 use Rattle.script_run.proofs.UnchangedLemmas.{changes_none, closed_since, reads_safe, unchanged_since}
 use Rattle.disk_model.proofs.MomentLemmas.{each_image-map}
 use Rattle.mdbox_base.specs.declared.replies.Refusal.{Refusal}
@@ -411,11 +411,12 @@ move_tells name uid target given old new began now w =
           let same = w.comes.alike (subst (λ (r : Reply). IsGivenBackAlone (alone asked) (r ∷ [])) (sym e) tt) in
           record { map = w.later; opened = subst (λ (ms : List BoxMeaning). IsOpenedAs new w.later ms) same.indexes (w.comes.again (stopped_one given (unremembered_runs given e))); mailboxes = same.mailboxes; records = same.records };
       done = λ u gone e. change_opens asked (lists_behind name uid target gone) given old new began now w k (moved_runs given u gone e) (λ lists. ap (λ (r : Reply). lists_told asked r lists) e);
-      here = λ lists safe moved e.
-          let shows = w.done.shown lists safe in
+      here = λ moved e.
+          let some = some_lists old w.done.m w.done.meanings w.done.opened in
+          let lists = some.0 in
           let may = may_read asked refl lists old in
-          let s = w.done.serves lists shows may in
-          let shown = shown_begins (alone asked) (given ∷ []) w.entries old new began now w.done lists shows may in
+          let s = w.done.serves lists some.1 may in
+          let shown = shown_begins (alone asked) (given ∷ []) w.entries old new began now w.done lists some.1 may in
           never_gone name uid target lists s.run s.journal s.broken moved began now _ s.m s.drawn _ w.done.meanings shown
           (subst (λ (r : Reply). IsServed lists (alone asked) s.run s.journal s.broken (Some r ∷ []) began now (map_meaning s.run.store s.run.start) s.m s.drawn (told_calls new)) e s.served);
       settled = change_settles asked given w.entries old new began now k;
@@ -452,14 +453,12 @@ move_rests name uid target given entries old new began now k = λ none lists at.
 pub done_one : (asked : Request) (given : Reply) (old new : Option History) (began now : Faults) → IsRequestDone asked given old new began now → MakesSteps asked → ListsAnswer → ((name : List ℕ) → asked ≡ request.Make name → IsDoneAlone asked given old new began now) → IsDoneAlone asked given old new began now
 done_one (request.List name) given old new began now w one answer make = record {
   tells = list_tells name given w.entries old new began now w.done answer;
-  serves = λ lists safe. serves_one (request.List name) given w.entries old new began now w.done lists safe (may_read (request.List name) refl lists old);
   moments = read_leaves (request.List name) given w.entries old new began now w.done one refl;
   rests = read_rests (request.List name) given w.entries old new began now (given ≡ reply.Refused refusal.Stopped) w.done refl;
   faults = one_faults (request.List name) given w.entries old new began now w.done one (unread (request.List name) given w.entries old new began now w.done one);
 }
 done_one request.Counts given old new began now w one answer make = record {
   tells = counts_tells given w.entries old new began now w.done;
-  serves = λ lists safe. serves_one request.Counts given w.entries old new began now w.done lists safe (may_read request.Counts refl lists old);
   moments = read_leaves request.Counts given w.entries old new began now w.done one refl;
   rests = read_rests request.Counts given w.entries old new began now (given ≡ reply.Refused refusal.Stopped) w.done refl;
   faults = one_faults request.Counts given w.entries old new began now w.done one (unread request.Counts given w.entries old new began now w.done one);
@@ -468,7 +467,6 @@ done_one (request.Flag name uid flags) given old new began now w one answer make
     let k = flag_change name uid flags given w.entries old new began now w.done in
     record {
       tells = flag_tells name uid flags given old new began now w;
-      serves = λ lists safe. serves_one (flagging name uid flags) given w.entries old new began now w.done lists safe (may_read (flagging name uid flags) refl lists old);
       moments = change_leaves (flagging name uid flags) (λ lists. set_flags name uid.0 flags lists) given w.entries old new began now k tt (along_flag name uid flags);
       rests = change_rests (flagging name uid flags) (λ lists. set_flags name uid.0 flags lists) given w.entries old new began now k (along_flag name uid flags);
       faults = one_faults (flagging name uid flags) given w.entries old new began now w.done tt k.calm;
@@ -477,7 +475,6 @@ done_one (request.Expunge name uid) given old new began now w one answer make =
     let k = expunge_change name uid given old new began now w in
     record {
       tells = expunge_tells name uid given old new began now w;
-      serves = λ lists safe. serves_one (expunging name uid) given w.entries old new began now w.done lists safe (may_read (expunging name uid) refl lists old);
       moments = change_leaves (expunging name uid) (lists_without name uid) given w.entries old new began now k tt (along_expunge name uid);
       rests = change_rests (expunging name uid) (lists_without name uid) given w.entries old new began now k (along_expunge name uid);
       faults = one_faults (expunging name uid) given w.entries old new began now w.done tt k.calm;
@@ -486,7 +483,6 @@ done_one (request.Copy name uid target) given old new began now w one answer mak
     let k = copy_change name uid target given old new began now w in
     record {
       tells = copy_tells name uid target given old new began now w;
-      serves = λ lists safe. serves_one (copying name uid target) given w.entries old new began now w.done lists safe (may_read (copying name uid target) refl lists old);
       moments = change_leaves (copying name uid target) (copied_lists name uid target) given w.entries old new began now k tt (along_copy name uid target);
       rests = change_rests (copying name uid target) (copied_lists name uid target) given w.entries old new began now k (along_copy name uid target);
       faults = one_faults (copying name uid target) given w.entries old new began now w.done tt k.calm;
@@ -495,7 +491,6 @@ done_one (request.Move name uid target) given old new began now w one answer mak
     let k = move_change name uid target given old new began now w in
     record {
       tells = move_tells name uid target given old new began now w;
-      serves = λ lists safe. serves_one (moving name uid target) given w.entries old new began now w.done lists safe (may_read (moving name uid target) refl lists old);
       moments = move_leaves name uid target given w.entries old new began now k;
       rests = move_rests name uid target given w.entries old new began now k;
       faults = one_faults (moving name uid target) given w.entries old new began now w.done tt k.calm;

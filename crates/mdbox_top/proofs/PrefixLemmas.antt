@@ -3,7 +3,7 @@ use Rattle.std.specs.Prelude.{◌≡◌, ℕ, All, List, [], ◌++◌, map, take
 use Rattle.std.proofs.Common.{sym, ◌∙◌, ap, append-nil}
 use Rattle.disk_model.specs.Disk.{Faults, History}
 use Rattle.mdbox_base.specs.declared.replies.Reply.{Reply}
-use Rattle.journal.specs.Journal.{Requests}
+use Rattle.mdbox_base.specs.declared.script.Script.{Script}
 use Rattle.model_octets.proofs.PiecesLemmas.{split_same}
 use Rattle.request_text.specs.BatchText.{batch_text}
 use Rattle.request_text.specs.declared.outcome.Outcome.{Outcome}
@@ -30,10 +30,10 @@ shown_begins text held printed replies outcome.WriteFault s = part_begins held p
 shown_begins text held printed replies outcome.NoMemory s = part_begins held printed text s.0 s.1 s.2 s.3
 shown_begins text held printed replies other s = whole_begins held printed text s.1
 
-pub batch_prefix_read : (script : Requests) (held printed cut : List ℕ) (old new older newer : Option History) (began now before after : Faults) (one other : Outcome) (n : ℕ)
-    (a : IsBatchDone script (Some held) (Some (held ++ printed)) old new began now one) (b : IsBatchDone script (Some held) (Some (held ++ printed)) older newer before after other)
-    → AreRepliesTo script a.given → AreRepliesTo script b.given → All ReplyHasWords a.given → All ReplyHasWords b.given
+pub batch_prefix_read : {D : Type 0} → (script : Script) (held printed cut : List ℕ) (old new older newer : Option History) (began now before after : Faults) (one other : Outcome) (n : ℕ)
+    (a : IsBatchDone D script (Some held) (Some (held ++ printed)) old new began now one) (b : IsBatchDone D script (Some held) (Some (held ++ printed)) older newer before after other)
+    → AreRepliesTo script.requests a.given → AreRepliesTo script.requests b.given → All ReplyHasWords a.given → All ReplyHasWords b.given
     → printed ≡ batch_text a.journal (map Some (take n a.given)) ++ cut → take n a.given ≡ take n b.given
 batch_prefix_read script held printed cut old new older newer began now before after one other n a b p q v w front =
     let s = shown_begins (batch_text b.journal (map Some b.given)) held printed (map Some b.given) other b.printed in
-    prefix_read script a.journal b.journal a.given b.given n printed cut s.0 p q v w front s.1
+    prefix_read script.requests a.journal b.journal a.given b.given n printed cut s.0 p q v w front s.1

@@ -18,10 +18,10 @@ use Rattle.purge_task.specs.Clause.{KeepsRegions}
 use Rattle.purge_task.specs.Dropped.{DropsUnwanted}
 use Rattle.script_run.specs.LeftOpen.{IsRequestDone}
 use Rattle.script_run.specs.One.{IsUndoneAlone, alone}
-use Rattle.script_run.specs.Purged.{HasPurgedQuietly, IsPurgeAnswer}
+use Rattle.script_run.specs.Purged.{HasPurgedQuietly, IsPurgeAnswer, IsRefusedRoomAlone}
 use Rattle.script_run.proofs.AloneLemmas.{left_still, may_read}
 use Rattle.script_run.proofs.SomeListsLemmas.{some_lists}
-use Rattle.script_run.proofs.ToldLemmas.{answers_of, replied_one, serves_one, step_answers}
+use Rattle.script_run.proofs.ToldLemmas.{answers_of, replied_one, step_answers}
 use Rattle.script_run.proofs.UnchangedLemmas.{listed_safe, unchanged_since}
 use Rattle.mdbox_top.specs.Alone.{IsDoneAlone}
 use Rattle.mdbox_top.specs.PurgeRun.{IsPurgeReply, MayReplyPurge, OpensPurged}
@@ -135,14 +135,17 @@ purge_tells given old new began now w = record {
   refused = λ why e running. let some = refusal_told given old new began now w why e running in (some.0, purge_opens given old new began now w (refusal_stops given why e running) some.0 some.1);
   kept = λ why e running. (refusal_told given old new began now w why e running).2;
   undone = λ why e read stopped. unchanged_since request.Purge given w.entries old new began now w.done (w.undone (subst (λ (r : Reply). IsUndoneAlone (alone request.Purge) (r ∷ [])) (sym e) (read, stopped)));
+  room = λ limit e. subst (λ (r : Reply). IsRefusedRoomAlone (alone request.Purge) (r ∷ []) w.done.leaves.opened w.done.m) e w.comes.room;
   settled = λ running lists at. (listed_safe request.Purge given w.entries old new began now w.done refl lists at).1 (stopped_one given running);
 }
 
 pub purge_done : (given : Reply) (old new : Option History) (began now : Faults) → PurgeDone given old new began now → IsDoneAlone request.Purge given old new began now
 purge_done given old new began now w = record {
   tells = purge_tells given old new began now w;
-  serves = λ lists safe. serves_one request.Purge given w.entries old new began now w.done lists safe (may_read request.Purge refl lists old);
-  moments = λ lists at. (listed_safe request.Purge given w.entries old new began now w.done refl lists at).0;
+  moments = record {
+    safe = λ lists at. (listed_safe request.Purge given w.entries old new began now w.done refl lists at).0;
+    sealed = w.done.sealed ([], may_read request.Purge refl [] old);
+  };
   rests = λ none lists at. (listed_safe request.Purge given w.entries old new began now w.done refl lists at).1 (stopped_one given (λ e. none e ((alone_faults request.Purge given old new began now w refl).stopped e)));
   faults = alone_faults request.Purge given old new began now w refl;
 }

@@ -1,11 +1,12 @@
 -- How `rebuild` ends.
-use Rattle.std.specs.Prelude.{◌≡◌, ℕ, List, [], ◌∷◌, refl, Option, Some, None}
-use Rattle.std.proofs.Common.{inl, inr}
+use Rattle.std.specs.Prelude.{◌≡◌, ◌⊎◌, ℕ, List, [], ◌∷◌, refl, Option, Some, None}
+use Rattle.std.proofs.Common.{inl, inr, subst}
 use Rattle.disk_model.specs.Disk.{History, IsIdle}
 use Rattle.rebuild_files.specs.Refused.{IsNotLost}
 use Rattle.rebuild_files.specs.declared.error.RebuildError.{RebuildError}
 use Rattle.rebuild_files.specs.declared.error.RebuildError.TheVariants as rebuild
 use Rattle.request_text.specs.Outcomes.{status_of}
+use Rattle.request_text.specs.declared.outcome.InputRefusal.{InputRefusal}
 use Rattle.request_text.specs.declared.outcome.Outcome.{Outcome}
 use Rattle.request_text.specs.declared.outcome.Outcome.TheVariants as outcome
 use Rattle.request_text.specs.declared.outcome.StoreRefusal.TheVariants as store
@@ -89,3 +90,8 @@ whole_status id h k old new (outcome.InputRefused why) e whole = absurd e
 
 pub rebuild_status : (id : List ℕ) (h k : Option (List ℕ)) (old new : Option History) (o : Outcome) → RebuildOutcome id h k old new o → (IsLostNow old → IsOneOf (0 ∷ 5 ∷ 6 ∷ 8 ∷ []) (status_of o)) × (IsWholeNow old → IsOneOf (3 ∷ 5 ∷ 6 ∷ []) (status_of o))
 rebuild_status id h k old new o e = (lost_status id h k old new o e, whole_status id h k old new o e)
+
+-- it reads no input
+pub rebuild_ended : (id : List ℕ) (h k : Option (List ℕ)) (old new : Option History) (o : Outcome) → RebuildOutcome id h k old new o → (o ≡ outcome.ReadFault) ⊎ ((why : InputRefusal) × (o ≡ outcome.InputRefused why)) → ⊥
+rebuild_ended id h k old new o e (inl is) = subst (λ (x : Outcome). RebuildOutcome id h k old new x) is e
+rebuild_ended id h k old new o e (inr w) = subst (λ (x : Outcome). RebuildOutcome id h k old new x) w.1 e

@@ -1,20 +1,23 @@
 -- How a request alone ends, whatever its reply tells.
 use Rattle.std.specs.Prelude.{◌≡◌, ◌⊎◌, ℕ, List, [], ◌∷◌, Option, Some, None}
 use Rattle.std.proofs.Common.{refl, sym, ◌∙◌, ap, subst, inl, inr, append-nil, arith}
-use Rattle.disk_model.specs.Disk.{History, Faults, IsIdle}
-use Rattle.disk_model.specs.FaultCounts.{NoFault}
+use Rattle.disk_model.specs.Disk.{History, Faults, EachImage, IsIdle}
 use Rattle.disk_model.proofs.IdleLemmas.{idle-begins}
+use Rattle.disk_model.proofs.MomentLemmas.{since-begins, if_told-all}
 use Rattle.mdbox_base.specs.Streams.{Appended}
 use Rattle.mdbox_base.specs.declared.replies.Refusal.TheVariants as refusal
 use Rattle.mdbox_base.specs.declared.replies.Reply.{Reply}
 use Rattle.mdbox_base.specs.declared.replies.Reply.TheVariants as reply
 use Rattle.mdbox_base.specs.declared.requests.Request.{Request}
 use Rattle.model_lists.specs.Lists.{Lists}
+use Rattle.model_store.specs.Safe.{Safe}
 use Rattle.model_store.specs.Settled.{files_of, IsSettledFor}
 use Rattle.model_store.proofs.OpeningLemmas.{no_store_or_opens, opens_or_damaged}
 use Rattle.model_store.proofs.OpeningSafeLemmas.{safe_opens}
+use Rattle.model_store.proofs.SettledLemmas.{settled_safe}
 use Rattle.store_open.specs.Making.{IdleUnless}
-use Rattle.store_open.specs.Opened.{Opening, IsOpeningError, KeepsOpenedMail}
+use Rattle.store_open.specs.Opened.{Opening, IsClosedWell, IsOpeningError}
+use Rattle.store_open.proofs.SweptStoreLemmas.{carries-idle}
 use Rattle.store_open.specs.declared.error.OpenError.{OpenError}
 use Rattle.store_open.specs.declared.error.OpenError.TheVariants as error
 use Rattle.request_text.specs.Outcomes.{status_of, reply_outcome}
@@ -22,9 +25,10 @@ use Rattle.request_text.specs.declared.outcome.InputRefusal.{InputRefusal}
 use Rattle.request_text.specs.declared.outcome.StoreRefusal.{StoreRefusal}
 use Rattle.request_text.specs.declared.outcome.Outcome.{Outcome}
 use Rattle.request_text.specs.declared.outcome.Outcome.TheVariants as outcome
+use Rattle.script_run.specs.Opening.{IsUnopened}
 use Rattle.mdbox_top.specs.InputRun.{IsOneOf}
 use Rattle.mdbox_top.specs.OpeningOutcome.{opening_outcome}
-use Rattle.mdbox_top.specs.Served.{ShowsReply, RequestOutcome}
+use Rattle.mdbox_top.specs.Served.{IsNotOpened, ShowsReply, RequestOutcome}
 use Rattle.model_kept.proofs.KeptLemmas.{kept_begins}
 use Rattle.model_meaning.specs.MapMeaning.{map_meaning}
 
@@ -98,20 +102,61 @@ shown_by n (inr (inr (inr (inr (inl a))))) (inr (inl b)) = omega (arith, a, b)
 shown_by n (inr (inr (inr (inr (inl a))))) (inr (inr b)) = omega (arith, a, b)
 shown_by n (inr (inr (inr (inr (inr a))))) b = a
 
-pub request_used : (Tells : Option History → Option History → Reply → Type 0) (request : Request) (h k : Option (List ℕ)) (old new : Option History) (f g : Faults) → RequestOutcome Tells request h k old new f g outcome.Usage → ⊥
+pub request_used : {D : Type 0} → (Tells : Option History → Option History → Reply → Type 0) (request : Request) (h k : Option (List ℕ)) (old new : Option History) (f g : Faults) → RequestOutcome D Tells request h k old new f g outcome.Usage → ⊥
 request_used Tells request h k old new f g (inl n) = refused_by 2 _ (opening_number n.why) (ap status_of n.ended_is) (inl refl)
 request_used Tells request h k old new f g (inr l) = shown_by 2 (shown_number _ l.given h k outcome.Usage l.printed) (inl refl)
 
-pub request_input : (Tells : Option History → Option History → Reply → Type 0) (request : Request) (h k : Option (List ℕ)) (old new : Option History) (f g : Faults) (why : InputRefusal) → RequestOutcome Tells request h k old new f g (outcome.InputRefused why) → ⊥
+pub request_input : {D : Type 0} → (Tells : Option History → Option History → Reply → Type 0) (request : Request) (h k : Option (List ℕ)) (old new : Option History) (f g : Faults) (why : InputRefusal) → RequestOutcome D Tells request h k old new f g (outcome.InputRefused why) → ⊥
 request_input Tells request h k old new f g why (inl n) = refused_by 4 _ (opening_number n.why) (ap status_of n.ended_is) (inr refl)
 request_input Tells request h k old new f g why (inr l) = shown_by 4 (shown_number _ l.given h k (outcome.InputRefused why) l.printed) (inr (inr refl))
 
 -- damage that finds no memory for its text
-pub fault_number : (s : StoreRefusal) (why : OpenError) → outcome.StoreRefused s ≡ opening_outcome why → why ≡ error.DiskFault → ⊥
+fault_number : (s : StoreRefusal) (why : OpenError) → outcome.StoreRefused s ≡ opening_outcome why → why ≡ error.DiskFault → ⊥
 fault_number s why e d = let f : 3 ≡ 6 = ap status_of e ∙ ap (λ (w : OpenError). status_of (opening_outcome w)) d in omega (arith, f)
 
-pub request_damage : (Tells : Option History → Option History → Reply → Type 0) (request : Request) (h k : Option (List ℕ)) (old new : Option History) (f g : Faults) (s : StoreRefusal) → RequestOutcome Tells request h k old new f g (outcome.StoreRefused s) → RequestOutcome Tells request h k old new f g outcome.NoMemory
-request_damage Tells request h k old new f g s (inl n) = inl (record { why = error.NoMemory; ended_is = refl; unprinted = n.unprinted; cause = tt; idle = λ other. n.idle (fault_number s n.why n.ended_is); untouched = n.untouched; stays = n.stays; unfailed = λ other. n.unfailed (fault_number s n.why n.ended_is) })
+-- nor does it end as a fault of what it reads
+pub request_reads : {D : Type 0} → (Tells : Option History → Option History → Reply → Type 0) (request : Request) (h k : Option (List ℕ)) (old new : Option History) (f g : Faults) (o : Outcome) → RequestOutcome D Tells request h k old new f g o → o ≡ outcome.ReadFault → ⊥
+request_reads Tells request h k old new f g o (inl n) e = opened_number (status_of o) (status_of (opening_outcome n.why)) (opening_number n.why) (ap status_of n.ended_is) (ap status_of e)
+  where
+    opened_number : (n m : ℕ) → IsOneOf (3 ∷ 5 ∷ 6 ∷ []) m → n ≡ m → n ≡ 7 → ⊥
+    opened_number n m (inl a) e f = omega (arith, a, e, f)
+    opened_number n m (inr (inl a)) e f = omega (arith, a, e, f)
+    opened_number n m (inr (inr (inl a))) e f = omega (arith, a, e, f)
+    opened_number n m (inr (inr (inr a))) e f = a
+request_reads Tells request h k old new f g o (inr l) e = replied_number (status_of o) (shown_number _ l.given h k o l.printed) (ap status_of e)
+  where
+    replied_number : (n : ℕ) → IsOneOf (0 ∷ 1 ∷ 5 ∷ 6 ∷ 8 ∷ []) n → n ≡ 7 → ⊥
+    replied_number n (inl a) f = omega (arith, a, f)
+    replied_number n (inr (inl a)) f = omega (arith, a, f)
+    replied_number n (inr (inr (inl a))) f = omega (arith, a, f)
+    replied_number n (inr (inr (inr (inl a)))) f = omega (arith, a, f)
+    replied_number n (inr (inr (inr (inr (inl a))))) f = omega (arith, a, f)
+    replied_number n (inr (inr (inr (inr (inr a))))) f = a
+
+pub request_ended : {D : Type 0} → (Tells : Option History → Option History → Reply → Type 0) (request : Request) (h k : Option (List ℕ)) (old new : Option History) (f g : Faults) (o : Outcome) → RequestOutcome D Tells request h k old new f g o → (o ≡ outcome.ReadFault) ⊎ ((why : InputRefusal) × (o ≡ outcome.InputRefused why)) → ⊥
+request_ended Tells request h k old new f g o e (inl is) = request_reads Tells request h k old new f g o e is
+request_ended {D} Tells request h k old new f g o e (inr w) = request_input Tells request h k old new f g w.0 (subst (λ (x : Outcome). RequestOutcome D Tells request h k old new f g x) w.1 e)
+
+-- out of memory leaves what any cause leaves that is no fault of the disk
+lacking : (why : OpenError) (old new : Option History) (f g : Faults) → (why ≡ error.DiskFault → ⊥) → IsUnopened why old new f g → IsUnopened error.NoMemory old new f g
+lacking why old new f g other u = record {
+  cause = tt;
+  idle = λ memory. u.idle other;
+  untouched = u.untouched;
+  stays = u.stays;
+  closed_well = u.closed_well;
+  moments = u.moments;
+  settled_again = λ none. u.settled_again (λ fault. absurd (other fault));
+  carried = λ none. u.carried (λ fault. absurd (other fault));
+  fault = record { reads = u.fault.reads; changes = u.fault.changes; rose = λ e. absurd (cc e) };
+  unfailed = λ memory. u.unfailed other;
+}
+
+pub damage_lacking : (h k : Option (List ℕ)) (old new : Option History) (f g : Faults) (s : StoreRefusal) → IsNotOpened h k old new f g (outcome.StoreRefused s) → IsNotOpened h k old new f g outcome.NoMemory
+damage_lacking h k old new f g s n = record { why = error.NoMemory; ended_is = refl; unprinted = n.unprinted; leaves = lacking n.why old new f g (fault_number s n.why n.ended_is) n.leaves }
+
+pub request_damage : {D : Type 0} → (Tells : Option History → Option History → Reply → Type 0) (request : Request) (h k : Option (List ℕ)) (old new : Option History) (f g : Faults) (s : StoreRefusal) → RequestOutcome D Tells request h k old new f g (outcome.StoreRefused s) → RequestOutcome D Tells request h k old new f g outcome.NoMemory
+request_damage Tells request h k old new f g s (inl n) = inl (damage_lacking h k old new f g s n)
 request_damage Tells request h k old new f g s (inr l) = absurd (shown_by 3 (shown_number _ l.given h k (outcome.StoreRefused s) l.printed) (inr (inl refl)))
 
 -- a settled disk has a store, which is damaged nowhere
@@ -127,26 +172,40 @@ settled_opens lists (Some h) error.StoreWhole s cause = absurd cause
 settled_opens lists (Some h) error.MailFiles s cause = absurd cause
 
 -- so no file of it refuses a request
-pub request_status : (Tells : Option History → Option History → Reply → Type 0) (request : Request) (h k : Option (List ℕ)) (old new : Option History) (f g : Faults) (o : Outcome) → RequestOutcome Tells request h k old new f g o → (lists : Lists) → IsSettledFor lists old
+pub request_status : {D : Type 0} → (Tells : Option History → Option History → Reply → Type 0) (request : Request) (h k : Option (List ℕ)) (old new : Option History) (f g : Faults) (o : Outcome) → RequestOutcome D Tells request h k old new f g o → (lists : Lists) → IsSettledFor lists old
     → IsOneOf (0 ∷ 1 ∷ 5 ∷ 6 ∷ 8 ∷ []) (status_of o)
-request_status Tells request h k old new f g o (inl n) lists s = elim (settled_opens lists old n.why s n.cause) [
+request_status Tells request h k old new f g o (inl n) lists s = elim (settled_opens lists old n.why s n.leaves.cause) [
   | inl fault ↦ inr (inr (inr (inl (ap status_of n.ended_is ∙ ap (λ (w : OpenError). status_of (opening_outcome w)) fault))))
   | inr memory ↦ inr (inr (inl (ap status_of n.ended_is ∙ ap (λ (w : OpenError). status_of (opening_outcome w)) memory)))
 ]
 request_status Tells request h k old new f g o (inr l) lists s = shown_number _ l.given h k o l.printed
 
--- a store that was not opened
-pub unopened : (Tells : Option History → Option History → Reply → Type 0) (request : Request) (h : Option (List ℕ)) (old new : Option History) (f g : Faults) (why : OpenError) → IsOpeningError old why → ((why ≡ error.DiskFault → ⊥) → IsIdle old new) → IdleUnless Opening old new → KeepsOpenedMail old new
-    → ((why ≡ error.DiskFault → ⊥) → NoFault f g) → RequestOutcome Tells request h h old new f g (opening_outcome why)
-unopened Tells request h old new f g why cause idle untouched stays unfailed = inl (record { why = why; ended_is = refl; unprinted = refl; cause = cause; idle = idle; untouched = untouched; stays = stays; unfailed = unfailed })
+-- a settled disk of which no call is made
+pub still_safe : (lists : Lists) (h : Option History) → IsSettledFor lists h → EachImage (λ _ image. Safe image lists) h h
+still_safe lists None s = absurd s
+still_safe lists (Some h) s = since-begins (λ _ image. Safe image lists) h (λ image is. settled_safe h.now lists image s is)
 
 -- a store for which the disk was not asked, for out of memory
 unchanged : (old : Option History) → IdleUnless Opening old old
 unchanged None = tt
 unchanged (Some now) = λ lacks. idle-begins (Some now)
 
-pub unasked : (Tells : Option History → Option History → Reply → Type 0) (request : Request) (h : Option (List ℕ)) (old : Option History) (f : Faults) → RequestOutcome Tells request h h old old f f outcome.NoMemory
-unasked Tells request h old f = unopened Tells request h old old f f error.NoMemory tt (λ other. idle-begins old) (unchanged old) (λ store entries logs opens. kept_begins (map_meaning store entries) old) (λ other. refl)
+still_unopened : (old : Option History) (f : Faults) → IsUnopened error.NoMemory old old f f
+still_unopened old f = record {
+  cause = tt;
+  idle = λ other. idle-begins old;
+  untouched = unchanged old;
+  stays = λ store entries logs opens. kept_begins (map_meaning store entries) old;
+  closed_well = if_told-all (λ disk. IsClosedWell disk → IsIdle old old) old (λ disk well. idle-begins old);
+  moments = λ lists s. still_safe lists old s;
+  settled_again = λ none lists s. s;
+  carried = λ none. carries-idle old old (idle-begins old);
+  fault = record { reads = omega arith; changes = omega arith; rose = λ e. absurd (cc e) };
+  unfailed = λ other. refl;
+}
+
+pub unasked : {D : Type 0} → (Tells : Option History → Option History → Reply → Type 0) (request : Request) (h : Option (List ℕ)) (old : Option History) (f : Faults) → RequestOutcome D Tells request h h old old f f outcome.NoMemory
+unasked Tells request h old f = inl (record { why = error.NoMemory; ended_is = refl; unprinted = refl; leaves = still_unopened old f })
 
 -- ---- a fault of the disk
 

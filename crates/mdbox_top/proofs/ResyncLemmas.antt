@@ -22,7 +22,6 @@ use Rattle.script_run.specs.Resynced.{IsResyncAnswer}
 use Rattle.script_run.specs.Script.{has_fetch}
 use Rattle.script_run.proofs.AloneLemmas.{may_read}
 use Rattle.script_run.proofs.SomeListsLemmas.{some_lists}
-use Rattle.script_run.proofs.ToldLemmas.{serves_one}
 use Rattle.script_run.proofs.UnchangedLemmas.{listed_safe, unchanged_since}
 use Rattle.mdbox_top.specs.Alone.{IsDoneAlone}
 use Rattle.mdbox_top.specs.InputRun.{IsOneOf}
@@ -103,7 +102,6 @@ resync_tells given old new began now w = record {
 pub resync_done : (given : Reply) (old new : Option History) (began now : Faults) → ResyncDone given old new began now → IsDoneAlone request.Resync given old new began now
 resync_done given old new began now w = record {
   tells = resync_tells given old new began now w;
-  serves = λ lists safe. serves_one request.Resync given w.entries old new began now w.done lists safe (may_read request.Resync refl lists old);
   moments = λ lists at. (listed_safe request.Resync given w.entries old new began now w.done refl lists at).0;
   rests = λ none lists at. (listed_safe request.Resync given w.entries old new began now w.done refl lists at).1 (stopped_one given (λ e. none e ((alone_faults request.Resync given old new began now w refl).stopped e)));
   faults = alone_faults request.Resync given old new began now w refl;
@@ -119,9 +117,9 @@ given_number (reply.Refused refusal.ReadFault) may one = omega (arith, one)
 given_number (reply.Refused refusal.Stopped) may one = omega (arith, one)
 given_number given may one = absurd may
 
-never_refused : (h k : Option (List ℕ)) (old new : Option History) (f g : Faults) (o : Outcome) → ResyncOutcome h k old new f g o → status_of o ≡ 1 → ⊥
+never_refused : {D : Type 0} → (h k : Option (List ℕ)) (old new : Option History) (f g : Faults) (o : Outcome) → ResyncOutcome D h k old new f g o → status_of o ≡ 1 → ⊥
 never_refused h k old new f g o (inl n) one = opening_one (status_of (opening_outcome n.why)) (opening_number n.why) (sym (ap status_of n.ended_is) ∙ one)
 never_refused h k old new f g o (inr l) one = given_number l.given l.tells.given_is (shown_one _ l.given h k o l.printed one)
 
-pub resync_status : (h k : Option (List ℕ)) (old new : Option History) (f g : Faults) (o : Outcome) → ResyncOutcome h k old new f g o → (lists : Lists) → IsSettledFor lists old → IsOneOf (0 ∷ 5 ∷ 6 ∷ 8 ∷ []) (status_of o)
+pub resync_status : {D : Type 0} → (h k : Option (List ℕ)) (old new : Option History) (f g : Faults) (o : Outcome) → ResyncOutcome D h k old new f g o → (lists : Lists) → IsSettledFor lists old → IsOneOf (0 ∷ 5 ∷ 6 ∷ 8 ∷ []) (status_of o)
 resync_status h k old new f g o e lists s = others_of (status_of o) (request_status IsResyncReply request.Resync h k old new f g o e lists s) (never_refused h k old new f g o e)

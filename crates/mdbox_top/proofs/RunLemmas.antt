@@ -1,9 +1,9 @@
 -- How a run ends, by its command.
-use Rattle.std.specs.Prelude.{◌≡◌, ◌⊎◌, ℕ, List, [], ◌∷◌, Option, Some, None, refl}
+use Rattle.std.specs.Prelude.{◌≡◌, ◌⊎◌, ℕ, List, [], ◌∷◌, Option, refl}
 use Rattle.std.proofs.Common.{sym, ◌∙◌, ap, subst, inl, inr, arith}
-use Rattle.disk_model.specs.Disk.{History, Faults, EachImage, IsIdle}
+use Rattle.disk_model.specs.Disk.{History, Faults, IsIdle}
 use Rattle.disk_model.proofs.IdleLemmas.{idle-begins}
-use Rattle.disk_model.proofs.MomentLemmas.{since-begins, each_image-map, if_told-all}
+use Rattle.disk_model.proofs.MomentLemmas.{each_image-map, if_told-all}
 use Rattle.store_open.proofs.SweptStoreLemmas.{carries-idle}
 use Rattle.store_open.specs.Opened.{IsClosedWell}
 use Rattle.mdbox_base.specs.declared.requests.Request.TheVariants as request
@@ -11,8 +11,6 @@ use Rattle.model_kept.proofs.KeptLemmas.{kept_begins}
 use Rattle.model_lists.specs.Lists.{Lists}
 use Rattle.model_meaning.specs.MapMeaning.{map_meaning}
 use Rattle.model_store.specs.Safe.{Safe}
-use Rattle.model_store.specs.Settled.{IsSettledFor}
-use Rattle.model_store.proofs.SettledLemmas.{settled_safe}
 use Rattle.list_machine.specs.Machine.{set_flags}
 use Rattle.mail_ops.specs.Copy.{copied_lists}
 use Rattle.request_text.specs.Commands.{IsInRange, NamesMailbox}
@@ -25,7 +23,8 @@ use Rattle.request_text.specs.declared.outcome.StoreRefusal.TheVariants as store
 use Rattle.request_text.specs.declared.outcome.Outcome.{Outcome}
 use Rattle.request_text.specs.declared.outcome.Outcome.TheVariants as outcome
 use Rattle.mdbox_top.specs.InputRun.{DumpPrints, DumpRefuses, LogDumpPrints, LogDumpRefuses, IsOneOf}
-use Rattle.mdbox_top.specs.Run.{Ends, RunOutcome, Moments, Rests, HasStatus, MayHaveFailed}
+use Rattle.mdbox_top.specs.RebuildRun.{RebuildNotes, RebuildTells}
+use Rattle.mdbox_top.specs.Run.{Ends, Notes, RunOutcome, Moments, Rests, HasStatus, MayHaveFailed}
 use Rattle.mdbox_top.proofs.InputLemmas.{dumps_apart, log_dumps_apart, input_status, shows_status}
 use Rattle.mdbox_top.proofs.InitLemmas.{init_status}
 use Rattle.mdbox_top.proofs.RebuildLemmas.{rebuild_status}
@@ -41,14 +40,15 @@ use Rattle.mdbox_top.specs.CountsRun.{IsCountsReply}
 use Rattle.mdbox_top.specs.PurgeRun.{IsPurgeReply}
 use Rattle.mdbox_top.specs.ResyncRun.{IsResyncReply}
 use Rattle.mdbox_top.proofs.BatchLemmas.{batch_damage, batch_input, batch_rests_as, batch_status, batch_used}
+use Rattle.mdbox_top.proofs.BoxesLemmas.{boxes_damage, boxes_input, boxes_status, boxes_used}
 use Rattle.mdbox_top.proofs.CountsLemmas.{counts_status}
 use Rattle.mdbox_top.proofs.ResyncLemmas.{resync_status}
 use Rattle.mdbox_top.proofs.ExerciseLemmas.{exercise_damage, exercise_input, exercise_rests_as, exercise_status, exercise_used}
 use Rattle.mdbox_top.proofs.DeliverLemmas.{deliver_input, deliver_damage, deliver_status, deliver_used, deliver_rests_as}
-use Rattle.mdbox_top.proofs.RequestLemmas.{request_status, request_used, request_input, request_damage, unasked}
+use Rattle.mdbox_top.proofs.RequestLemmas.{request_status, request_used, request_input, request_damage, still_safe, unasked}
 
 -- a refused input whose text finds no memory
-input_memory : (c : Command) (left : Option (List ℕ)) (told : Option ℕ) (h k : Option (List ℕ)) (old new : Option History) (f g : Faults) (why : InputRefusal) → Ends c left told h k old new f g (outcome.InputRefused why) → Ends c left told h k old new f g outcome.NoMemory
+input_memory : {D : Type 0} → (c : Command) (left : Option (List ℕ)) (told : Option ℕ) (h k : Option (List ℕ)) (old new : Option History) (f g : Faults) (why : InputRefusal) → Ends D c left told h k old new f g (outcome.InputRefused why) → Ends D c left told h k old new f g outcome.NoMemory
 input_memory command.Dump left told h k old new f g why e = inl e.1
 input_memory command.LogDump left told h k old new f g why e = inl e.1
 input_memory (command.Init id) left told h k old new f g why e = absurd e
@@ -60,6 +60,7 @@ input_memory (command.Expunge name uid) left told h k old new f g why e = absurd
 input_memory (command.Copy name uid target) left told h k old new f g why e = absurd (request_input (IsCopyReply name uid target) (request.Copy name uid target) h k old new f g why e)
 input_memory (command.Move name uid target) left told h k old new f g why e = absurd (request_input (IsMoveReply name uid target) (request.Move name uid target) h k old new f g why e)
 input_memory (command.Make name) left told h k old new f g why e = absurd (request_input (IsMakeReply name) (request.Make name) h k old new f g why e)
+input_memory command.Boxes left told h k old new f g why e = absurd (boxes_input h k old new f g why e)
 input_memory command.Counts left told h k old new f g why e = absurd (request_input IsCountsReply request.Counts h k old new f g why e)
 input_memory command.Resync left told h k old new f g why e = absurd (request_input IsResyncReply request.Resync h k old new f g why e)
 input_memory command.Purge left told h k old new f g why e = absurd (request_input IsPurgeReply request.Purge h k old new f g why e)
@@ -70,7 +71,7 @@ input_memory command.Help left told h k old new f g why e = absurd e
 input_memory command.Version left told h k old new f g why e = absurd e
 
 -- damage whose text finds no memory
-damage_memory : (c : Command) (left : Option (List ℕ)) (told : Option ℕ) (h k : Option (List ℕ)) (old new : Option History) (f g : Faults) (name : FileName) (place : ℕ) → Ends c left told h k old new f g (outcome.StoreRefused (store.Damaged name place)) → Ends c left told h k old new f g outcome.NoMemory
+damage_memory : {D : Type 0} → (c : Command) (left : Option (List ℕ)) (told : Option ℕ) (h k : Option (List ℕ)) (old new : Option History) (f g : Faults) (name : FileName) (place : ℕ) → Ends D c left told h k old new f g (outcome.StoreRefused (store.Damaged name place)) → Ends D c left told h k old new f g outcome.NoMemory
 damage_memory (command.Init id) left told h k old new f g name place e = absurd e.1
 damage_memory (command.Deliver box) left told h k old new f g name place e = deliver_damage box left told h k old new f g (store.Damaged name place) e
 damage_memory (command.List box) left told h k old new f g name place e = request_damage (IsListReply box) (request.List box) h k old new f g (store.Damaged name place) e
@@ -80,6 +81,7 @@ damage_memory (command.Expunge box uid) left told h k old new f g name place e =
 damage_memory (command.Copy box uid target) left told h k old new f g name place e = request_damage (IsCopyReply box uid target) (request.Copy box uid target) h k old new f g (store.Damaged name place) e
 damage_memory (command.Move box uid target) left told h k old new f g name place e = request_damage (IsMoveReply box uid target) (request.Move box uid target) h k old new f g (store.Damaged name place) e
 damage_memory (command.Make box) left told h k old new f g name place e = request_damage (IsMakeReply box) (request.Make box) h k old new f g (store.Damaged name place) e
+damage_memory command.Boxes left told h k old new f g name place e = boxes_damage h k old new f g (store.Damaged name place) e
 damage_memory command.Counts left told h k old new f g name place e = request_damage IsCountsReply request.Counts h k old new f g (store.Damaged name place) e
 damage_memory command.Resync left told h k old new f g name place e = request_damage IsResyncReply request.Resync h k old new f g (store.Damaged name place) e
 damage_memory command.Purge left told h k old new f g name place e = request_damage IsPurgeReply request.Purge h k old new f g (store.Damaged name place) e
@@ -92,27 +94,27 @@ damage_memory command.Help left told h k old new f g name place e = absurd e
 damage_memory command.Version left told h k old new f g name place e = absurd e
 
 -- the last end is one that the command may have
-pub last_ends : (c : Command) (left : Option (List ℕ)) (told : Option ℕ) (h k : Option (List ℕ)) (old new : Option History) (f g : Faults) (o last : Outcome) → EndsAs o last → Ends c left told h k old new f g o → Ends c left told h k old new f g last
-last_ends c left told h k old new f g (outcome.InputRefused why) last y e = elim y [
-  | inl same ↦ subst (Ends c left told h k old new f g) (sym same) e
-  | inr none ↦ subst (Ends c left told h k old new f g) (sym none) (input_memory c left told h k old new f g why e)
+pub last_ends : {D : Type 0} → (c : Command) (left : Option (List ℕ)) (told : Option ℕ) (h k : Option (List ℕ)) (old new : Option History) (f g : Faults) (o last : Outcome) → EndsAs o last → Ends D c left told h k old new f g o → Ends D c left told h k old new f g last
+last_ends {D} c left told h k old new f g (outcome.InputRefused why) last y e = elim y [
+  | inl same ↦ subst (Ends D c left told h k old new f g) (sym same) e
+  | inr none ↦ subst (Ends D c left told h k old new f g) (sym none) (input_memory c left told h k old new f g why e)
 ]
-last_ends c left told h k old new f g (outcome.StoreRefused (store.Damaged name place)) last y e = elim y [
-  | inl same ↦ subst (Ends c left told h k old new f g) (sym same) e
-  | inr none ↦ subst (Ends c left told h k old new f g) (sym none) (damage_memory c left told h k old new f g name place e)
+last_ends {D} c left told h k old new f g (outcome.StoreRefused (store.Damaged name place)) last y e = elim y [
+  | inl same ↦ subst (Ends D c left told h k old new f g) (sym same) e
+  | inr none ↦ subst (Ends D c left told h k old new f g) (sym none) (damage_memory c left told h k old new f g name place e)
 ]
-last_ends c left told h k old new f g (outcome.StoreRefused store.NoStore) last y e = subst (Ends c left told h k old new f g) (sym y) e
-last_ends c left told h k old new f g (outcome.StoreRefused store.StoreWhole) last y e = subst (Ends c left told h k old new f g) (sym y) e
-last_ends c left told h k old new f g (outcome.StoreRefused store.MailFiles) last y e = subst (Ends c left told h k old new f g) (sym y) e
-last_ends c left told h k old new f g outcome.Done last y e = subst (Ends c left told h k old new f g) (sym y) e
-last_ends c left told h k old new f g outcome.No last y e = subst (Ends c left told h k old new f g) (sym y) e
-last_ends c left told h k old new f g outcome.Usage last y e = subst (Ends c left told h k old new f g) (sym y) e
-last_ends c left told h k old new f g outcome.NoMemory last y e = subst (Ends c left told h k old new f g) (sym y) e
-last_ends c left told h k old new f g outcome.DiskFault last y e = subst (Ends c left told h k old new f g) (sym y) e
-last_ends c left told h k old new f g outcome.ReadFault last y e = subst (Ends c left told h k old new f g) (sym y) e
-last_ends c left told h k old new f g outcome.WriteFault last y e = subst (Ends c left told h k old new f g) (sym y) e
+last_ends {D} c left told h k old new f g (outcome.StoreRefused store.NoStore) last y e = subst (Ends D c left told h k old new f g) (sym y) e
+last_ends {D} c left told h k old new f g (outcome.StoreRefused store.StoreWhole) last y e = subst (Ends D c left told h k old new f g) (sym y) e
+last_ends {D} c left told h k old new f g (outcome.StoreRefused store.MailFiles) last y e = subst (Ends D c left told h k old new f g) (sym y) e
+last_ends {D} c left told h k old new f g outcome.Done last y e = subst (Ends D c left told h k old new f g) (sym y) e
+last_ends {D} c left told h k old new f g outcome.No last y e = subst (Ends D c left told h k old new f g) (sym y) e
+last_ends {D} c left told h k old new f g outcome.Usage last y e = subst (Ends D c left told h k old new f g) (sym y) e
+last_ends {D} c left told h k old new f g outcome.NoMemory last y e = subst (Ends D c left told h k old new f g) (sym y) e
+last_ends {D} c left told h k old new f g outcome.DiskFault last y e = subst (Ends D c left told h k old new f g) (sym y) e
+last_ends {D} c left told h k old new f g outcome.ReadFault last y e = subst (Ends D c left told h k old new f g) (sym y) e
+last_ends {D} c left told h k old new f g outcome.WriteFault last y e = subst (Ends D c left told h k old new f g) (sym y) e
 
-pub has_status : (c : Command) → IsInRange c → (left : Option (List ℕ)) (told : Option ℕ) (h k : Option (List ℕ)) (old new : Option History) (f g : Faults) (o : Outcome) → Ends c left told h k old new f g o → HasStatus c left old (status_of o)
+pub has_status : {D : Type 0} → (c : Command) → IsInRange c → (left : Option (List ℕ)) (told : Option ℕ) (h k : Option (List ℕ)) (old new : Option History) (f g : Faults) (o : Outcome) → Ends D c left told h k old new f g o → HasStatus c left old (status_of o)
 has_status (command.Init id) r left told h k old new f g o e = λ free. init_status id.0 h k old new o e free
 has_status (command.Deliver name) r left told h k old new f g o e = deliver_status name left told h k old new f g o e
 has_status (command.List name) r left told h k old new f g o e = λ lists s. request_status (IsListReply name) (request.List name) h k old new f g o e lists s
@@ -122,6 +124,7 @@ has_status (command.Expunge name uid) r left told h k old new f g o e = λ lists
 has_status (command.Copy name uid target) r left told h k old new f g o e = λ lists s. request_status (IsCopyReply name uid target) (request.Copy name uid target) h k old new f g o e lists s
 has_status (command.Move name uid target) r left told h k old new f g o e = λ lists s. request_status (IsMoveReply name uid target) (request.Move name uid target) h k old new f g o e lists s
 has_status (command.Make name) r left told h k old new f g o e = λ lists s. request_status (IsMakeReply name) (request.Make name) h k old new f g o e lists s
+has_status command.Boxes r left told h k old new f g o e = λ lists s. boxes_status h k old new f g o e lists s
 has_status command.Counts r left told h k old new f g o e = λ lists s. counts_status h k old new f g o e lists s
 has_status command.Resync r left told h k old new f g o e = λ lists s. resync_status h k old new f g o e lists s
 has_status command.Purge r left told h k old new f g o e = λ lists s. request_status IsPurgeReply request.Purge h k old new f g o e lists s
@@ -134,7 +137,7 @@ has_status command.Help r left told h k old new f g o e = shows_status _ h k o e
 has_status command.Version r left told h k old new f g o e = shows_status _ h k o e
 
 -- no command ends as unknown words
-used : (c : Command) (left : Option (List ℕ)) (told : Option ℕ) (h k : Option (List ℕ)) (old new : Option History) (f g : Faults) → Ends c left told h k old new f g outcome.Usage → ⊥
+used : {D : Type 0} → (c : Command) (left : Option (List ℕ)) (told : Option ℕ) (h k : Option (List ℕ)) (old new : Option History) (f g : Faults) → Ends D c left told h k old new f g outcome.Usage → ⊥
 used (command.Init id) left told h k old new f g e = e
 used (command.Deliver name) left told h k old new f g e = deliver_used name left told h k old new f g e
 used (command.List name) left told h k old new f g e = request_used (IsListReply name) (request.List name) h k old new f g e
@@ -144,6 +147,7 @@ used (command.Expunge name uid) left told h k old new f g e = request_used (IsEx
 used (command.Copy name uid target) left told h k old new f g e = request_used (IsCopyReply name uid target) (request.Copy name uid target) h k old new f g e
 used (command.Move name uid target) left told h k old new f g e = request_used (IsMoveReply name uid target) (request.Move name uid target) h k old new f g e
 used (command.Make name) left told h k old new f g e = request_used (IsMakeReply name) (request.Make name) h k old new f g e
+used command.Boxes left told h k old new f g e = boxes_used h k old new f g e
 used command.Counts left told h k old new f g e = request_used IsCountsReply request.Counts h k old new f g e
 used command.Resync left told h k old new f g e = request_used IsResyncReply request.Resync h k old new f g e
 used command.Purge left told h k old new f g e = request_used IsPurgeReply request.Purge h k old new f g e
@@ -247,8 +251,38 @@ unwritten o last n y s e =
     elim (kept o last y) [ inl same ↦ sym same ∙ l | inr none ↦ absurd (cc (sym none ∙ l)) ]
 
 -- a run of a command doesn't end with status 2
-pub known_words : (c : Command) (left : Option (List ℕ)) (told : Option ℕ) (h k : Option (List ℕ)) (old new : Option History) (f g : Faults) (n : ℕ) (eh : Option (List ℕ)) (ef : ℕ) (ek : Option (List ℕ)) (eg : ℕ) → RunOutcome (Ends c left told h k old new f g) n eh ef ek eg → n ≡ 2 → ⊥
-known_words c left told h k old new f g n eh ef ek eg r e = used c left told h k old new f g (subst (Ends c left told h k old new f g) (two r.outcome (sym r.status_is ∙ e)) r.ended)
+pub known_words : {D : Type 0} → (c : Command) (left : Option (List ℕ)) (told : Option ℕ) (h k : Option (List ℕ)) (old new : Option History) (f g : Faults) (n : ℕ) (MayNote : Outcome → Option (List ℕ) → ℕ → Option (List ℕ) → ℕ → Type 0) (eh : Option (List ℕ)) (ef : ℕ) (ek : Option (List ℕ)) (eg : ℕ) → RunOutcome (Ends D c left told h k old new f g) MayNote n eh ef ek eg → n ≡ 2 → ⊥
+known_words {D} c left told h k old new f g n MayNote eh ef ek eg r e = used c left told h k old new f g (subst (Ends D c left told h k old new f g) (two r.outcome (sym r.status_is ∙ e)) r.ended)
+
+-- ---- what is noted before the end
+
+-- without memory for its text, a rebuild that was told is still told
+lacks_text : (now : Option History) (o : Outcome) (text : List ℕ) → RebuildTells now o text → RebuildTells now outcome.NoMemory text
+lacks_text now outcome.Done text t = inl t
+lacks_text now outcome.WriteFault text t = inl t
+lacks_text now outcome.NoMemory text t = t
+lacks_text now other text t = inr t
+
+rebuild_notes : (now : Option History) (o last : Outcome) (h k : Option (List ℕ)) (f g : ℕ) → EndsAs o last → RebuildNotes now o h f k g → RebuildNotes now last h f k g
+rebuild_notes now o last h k f g y n = elim (kept o last y) [
+  | inl same ↦ subst (λ (x : Outcome). RebuildNotes now x h f k g) (sym same) n
+  | inr none ↦ subst (λ (x : Outcome). RebuildNotes now x h f k g) (sym none) (n.0, lacks_text now o n.0 n.1, n.2)
+]
+
+pub notes_last : (c : Command) (now : Option History) (o last : Outcome) (h k : Option (List ℕ)) (f g : ℕ) → EndsAs o last → Notes c now o h f k g → Notes c now last h f k g
+notes_last (command.Rebuild id) now o last h k f g y n = rebuild_notes now o last h k f g y n
+notes_last other now o last h k f g y n = n
+
+pub named_unnoted : (c : Command) → NamesMailbox c → (now : Option History) (h : Option (List ℕ)) (f : ℕ) → Notes c now outcome.NoMemory h f h f
+named_unnoted (command.Deliver name) named now h f = (refl, refl)
+named_unnoted (command.List name) named now h f = (refl, refl)
+named_unnoted (command.Fetch name uid) named now h f = (refl, refl)
+named_unnoted (command.Flag name uid flags) named now h f = (refl, refl)
+named_unnoted (command.Expunge name uid) named now h f = (refl, refl)
+named_unnoted (command.Copy name uid target) named now h f = (refl, refl)
+named_unnoted (command.Move name uid target) named now h f = (refl, refl)
+named_unnoted (command.Make name) named now h f = (refl, refl)
+named_unnoted other named now h f = absurd named
 
 -- ---- faults of the disk
 
@@ -285,6 +319,7 @@ rests_last (command.Expunge name uid) left told F G f g old new h r = λ none. r
 rests_last (command.Copy name uid target) left told F G f g old new h r = λ none. r (λ failed. none (h failed))
 rests_last (command.Move name uid target) left told F G f g old new h r = λ none. r (λ failed. none (h failed))
 rests_last (command.Make name) left told F G f g old new h r = λ none. r (λ failed. none (h failed))
+rests_last command.Boxes left told F G f g old new h r = λ none. r (λ failed. none (h failed))
 rests_last command.Counts left told F G f g old new h r = λ none. r (λ failed. none (h failed))
 rests_last command.Resync left told F G f g old new h r = λ none. r (λ failed. none (h failed))
 rests_last command.Purge left told F G f g old new h r = λ none. r (λ failed. none (h failed))
@@ -294,8 +329,8 @@ rests_last other left told F G f g old new h r = tt
 
 -- ---- words that name a mailbox, whose name finds no memory
 
-pub named_unasked : (c : Command) → NamesMailbox c → (left : Option (List ℕ)) (told : Option ℕ) (h : Option (List ℕ)) (old : Option History) (f : Faults) → Ends c left told h h old old f f outcome.NoMemory
-named_unasked (command.Deliver name) named left told h old f = inl (tt, refl, refl)
+pub named_unasked : {D : Type 0} → (c : Command) → NamesMailbox c → (left : Option (List ℕ)) (told : Option ℕ) (h : Option (List ℕ)) (old : Option History) (f : Faults) → Ends D c left told h h old old f f outcome.NoMemory
+named_unasked (command.Deliver name) named left told h old f = inl (tt, refl, refl, refl)
 named_unasked (command.List name) named left told h old f = unasked (IsListReply name) (request.List name) h old f
 named_unasked (command.Fetch name uid) named left told h old f = unasked (IsFetchReply name uid) (request.Fetch name uid) h old f
 named_unasked (command.Flag name uid flags) named left told h old f = unasked (IsFlagReply name uid flags) (request.Flag name uid flags) h old f
@@ -304,11 +339,6 @@ named_unasked (command.Copy name uid target) named left told h old f = unasked (
 named_unasked (command.Move name uid target) named left told h old f = unasked (IsMoveReply name uid target) (request.Move name uid target) h old f
 named_unasked (command.Make name) named left told h old f = unasked (IsMakeReply name) (request.Make name) h old f
 named_unasked other named left told h old f = absurd named
-
--- a settled disk of which no call is made
-still_safe : (lists : Lists) (h : Option History) → IsSettledFor lists h → EachImage (λ _ image. Safe image lists) h h
-still_safe lists None s = absurd s
-still_safe lists (Some h) s = since-begins (λ _ image. Safe image lists) h (λ image is. settled_safe h.now lists image s is)
 
 -- a listing of which no call is made
 still_moments : (h : Option History) → ListMoments h h

@@ -24,12 +24,13 @@ use Rattle.request_text.specs.declared.outcome.Outcome.TheVariants as outcome
 use Rattle.script_run.specs.Opening.{IsUnopened}
 use Rattle.script_run.specs.One.{moved_lists}
 use Rattle.script_run.specs.Script.{is_fetch}
+use Rattle.script_run.proofs.SealedLemmas.{mail_keeps_sealed}
 use Rattle.mdbox_top.specs.DeliverRun.{AreSaved, SaveMoments}
 use Rattle.mdbox_top.specs.Changed.{ChangeMoments}
 use Rattle.mdbox_top.specs.OpeningOutcome.{opening_outcome}
 use Rattle.mdbox_top.specs.Served.{ShowsReply, RequestOutcome}
 use Rattle.mdbox_top.specs.Alone.{ReplyTells, RequestMoments, RequestRests, MayFail, IsDoneAlone}
-use Rattle.mdbox_top.proofs.RequestLemmas.{faulted_is, failed_outcome, failed_status, unopened}
+use Rattle.mdbox_top.proofs.RequestLemmas.{faulted_is, failed_outcome, failed_status}
 use Rattle.mdbox_top.proofs.ListLemmas.{list_calm, list_runs}
 use Rattle.mdbox_top.proofs.CountsLemmas.{counts_calm, counts_run}
 use Rattle.mdbox_top.specs.ExpungeRun.{lists_without}
@@ -89,8 +90,8 @@ unopened_may (request.List name) why e = ap (λ (w : OpenError). status_of (open
 unopened_may request.Counts why e = ap (λ (w : OpenError). status_of (opening_outcome w)) e
 unopened_may other why e = inr (inl (ap (λ (w : OpenError). status_of (opening_outcome w)) e))
 
-pub unopened_ends : (request : Request) (h : Option (List ℕ)) (old new : Option History) (began now : Faults) (why : OpenError) → IsUnopened why old new began now → RequestOutcome (ReplyTells request) request h h old new began now (opening_outcome why)
-unopened_ends request h old new began now why u = unopened (ReplyTells request) request h old new began now why u.cause u.idle u.untouched u.stays u.unfailed
+pub unopened_ends : {D : Type 0} → (request : Request) (h : Option (List ℕ)) (old new : Option History) (began now : Faults) (why : OpenError) → IsUnopened why old new began now → RequestOutcome D (ReplyTells request) request h h old new began now (opening_outcome why)
+unopened_ends request h old new began now why u = inl (record { why = why; ended_is = refl; unprinted = refl; leaves = u })
 
 change_unopened_leaves : (change : Lists → Lists) (old new : Option History) (began now : Faults) (why : OpenError) → IsUnopened why old new began now → ChangeMoments change old new
 change_unopened_leaves change old new began now why u = λ lists at. each_image-map (λ _ image. Safe image lists) (λ _ image. Safe image lists ⊎ Safe image (change lists)) old new (λ m image h. inl h) (u.moments lists at)
@@ -103,7 +104,7 @@ pub unopened_leaves : (request : Request) (old new : Option History) (began now 
 unopened_leaves (request.List name) old new began now why u = record { safe = u.moments; stays = u.stays; closed_well = u.closed_well }
 unopened_leaves request.Counts old new began now why u = record { safe = u.moments; stays = u.stays; closed_well = u.closed_well }
 unopened_leaves request.Resync old new began now why u = u.moments
-unopened_leaves request.Purge old new began now why u = u.moments
+unopened_leaves request.Purge old new began now why u = record { safe = u.moments; sealed = mail_keeps_sealed old new u.stays }
 unopened_leaves (request.Flag name uid flags) old new began now why u = change_unopened_leaves (set_flags name uid.0 flags) old new began now why u
 unopened_leaves (request.Expunge name uid) old new began now why u = change_unopened_leaves (lists_without name uid) old new began now why u
 unopened_leaves (request.Copy name uid target) old new began now why u = change_unopened_leaves (copied_lists name uid target) old new began now why u

@@ -6,10 +6,7 @@ use Rattle.mdbox_base.specs.declared.replies.Reply.{Reply}
 use Rattle.mdbox_base.specs.declared.replies.Reply.TheVariants as reply
 use Rattle.mdbox_base.specs.declared.requests.Request.{Request}
 use Rattle.mdbox_base.specs.declared.requests.Request.TheVariants as request
-use Rattle.model_lists.specs.Lists.{Lists}
 use Rattle.list_machine.specs.Machine.{delete_mailbox, rename_mailbox}
-use Rattle.script_run.specs.Opening.{AreSafeFor}
-use Rattle.script_run.specs.One.{ServesRequest}
 use Rattle.mdbox_top.specs.Changed.{ChangeMoments, ChangeRests}
 use Rattle.mdbox_top.specs.InputRun.{IsOneOf}
 use Rattle.tasks_alone.specs.FaultsAlone.{FaultsByReply}
@@ -81,11 +78,10 @@ MayFail (request.List name) status = status ≡ 6
 MayFail request.Counts status = status ≡ 6
 MayFail other status = IsOneOf (5 ∷ 6 ∷ 8 ∷ []) status
 
--- A request was done alone on a store that was opened, and was replied this. It was served. No call of the disk failed but a read
--- that is replied, or a change that stopped the store.
+-- A request was done alone on a store that was opened, and was replied this. No call of the disk failed but a read that is replied, or a
+-- change that stopped the store.
 pub record IsDoneAlone (request : Request) (given : Reply) (old new : Option History) (began now : Faults) : Type 0 where
   pub tells : ReplyTells request old new given
-  pub serves : (lists : Lists) → AreSafeFor lists old → ServesRequest request lists given began now old new
   pub moments : RequestMoments request old new
   pub rests : RequestRests request (given ≡ reply.Refused refusal.Stopped) began now old new
   pub faults : FaultsByReply given began now

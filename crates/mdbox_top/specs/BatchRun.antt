@@ -20,6 +20,7 @@ use Rattle.request_text.specs.declared.outcome.Outcome.{Outcome}
 use Rattle.request_text.specs.declared.outcome.Outcome.TheVariants as outcome
 use Rattle.script_run.specs.Done.{IsScriptDone, MayBeServed}
 use Rattle.script_run.specs.Script.{ServesScript}
+use Rattle.script_run.specs.Worked.{IsWorkedOut}
 use Rattle.script_text.specs.Script.{IsScript, IsBadAt}
 use Rattle.mdbox_top.specs.InputRun.{OfInput, IsOneOf}
 use Rattle.mdbox_top.specs.Served.{IsNotOpened}
@@ -53,23 +54,25 @@ ShowsReplies text replies held later outcome.NoMemory = WritesPrefix held [] tex
 ShowsReplies text replies held later ended = (ended ≡ replies_outcome replies) × Appended held text later
 
 -- The store was opened and the script done. Each request has its reply, and the replies are printed in the script's order, each with
--- the places of its steps in the journal. It ends as a fault of the disk only if a call of it failed, and no call failed but where it may
+-- the places of its steps in the journal. Replies and journal are those that the lanes' world had at its end, which is said whatever the
+-- disk, also where a message is damaged. It ends as a fault of the disk only if a call of it failed, and no call failed but where it may
 -- have: so it is said of every script that reads no message, and of others if the disk was settled.
-pub record IsBatchDone (script : Requests) (held later : Option (List ℕ)) (old new : Option History) (began now : Faults) (ended : Outcome) : Type 0 where
+pub record IsBatchDone (D : Type 0) (script : Script) (held later : Option (List ℕ)) (old new : Option History) (began now : Faults) (ended : Outcome) : Type 0 where
   pub given : List Reply
   pub journal : List JournalEntry
-  pub done : IsScriptDone script given journal old new began now
+  pub done : IsScriptDone script.requests given journal old new began now
+  pub worked : IsWorkedOut D script.requests script.lanes (map Some given) journal old new began now
   pub printed : ShowsReplies (batch_text journal (map Some given)) (map Some given) held later ended
-  pub fault : MayBeServed script old → AnyFaultCounted (ended ≡ outcome.DiskFault) began now
-  pub quiet : MayBeServed script old → (IsOneOf (5 ∷ 6 ∷ 8 ∷ []) (status_of ended) → ⊥) → NoFault began now
+  pub fault : MayBeServed script.requests old → AnyFaultCounted (ended ≡ outcome.DiskFault) began now
+  pub quiet : MayBeServed script.requests old → (IsOneOf (5 ∷ 6 ∷ 8 ∷ []) (status_of ended) → ⊥) → NoFault began now
 
--- The store was not opened, and then too a fault is told only if a call failed; or it was, and then it ends so.
+-- The store was not opened; or it was, and then it ends so.
 abbrev pub OpenedOutcome : (Outcome → Type 0) → Option (List ℕ) → Option (List ℕ) → Option History → Option History → Faults → Faults → Outcome → Type 0
-OpenedOutcome Done held later old new began now ended = (IsNotOpened held later old new began now ended × AnyFaultCounted (ended ≡ outcome.DiskFault) began now) ⊎ Done ended
+OpenedOutcome Done held later old new began now ended = IsNotOpened held later old new began now ended ⊎ Done ended
 
 -- So a script ends.
-abbrev pub ScriptOutcome : Requests → Option (List ℕ) → Option (List ℕ) → Option History → Option History → Faults → Faults → Outcome → Type 0
-ScriptOutcome script held later old new began now ended = OpenedOutcome (IsBatchDone script held later old new began now) held later old new began now ended
+abbrev pub ScriptOutcome : Type 0 → Script → Option (List ℕ) → Option (List ℕ) → Option History → Option History → Faults → Faults → Outcome → Type 0
+ScriptOutcome D script held later old new began now ended = OpenedOutcome (IsBatchDone D script held later old new began now) held later old new began now ended
 
 -- From these lists the script was served, with some replies and some faults.
 pub record WasServed (script : Requests) (lists : Lists) (old new : Option History) : Type 0 where
@@ -93,21 +96,21 @@ ScriptRests script failed began now old new = NoFailedChange failed began now �
 
 -- ---- how `batch` ends
 
-abbrev pub OfScript : ℕ → Option (List ℕ) → (Requests → Type 0) → Type 0
-OfScript lanes left holds = (script : Script) × OfInput left (λ input. ReadsScript lanes input script) × holds script.requests
+abbrev pub OfScript : ℕ → Option (List ℕ) → (Script → Type 0) → Type 0
+OfScript lanes left holds = (script : Script) × OfInput left (λ input. ReadsScript lanes input script) × holds script
 
 -- How `batch` ends: there is no script, nothing is printed, no call of the disk is made, and none failed; or as the script that the input is.
-abbrev pub BatchOutcome : ℕ → Option (List ℕ) → Option (List ℕ) → Option (List ℕ) → Option History → Option History → Faults → Faults → Outcome → Type 0
-BatchOutcome lanes left held later old new began now ended =
+abbrev pub BatchOutcome : Type 0 → ℕ → Option (List ℕ) → Option (List ℕ) → Option (List ℕ) → Option History → Option History → Faults → Faults → Outcome → Type 0
+BatchOutcome D lanes left held later old new began now ended =
     (HasNoScript lanes left ended × (later ≡ held) × (new ≡ old) × NoFault began now)
-    ⊎ OfScript lanes left (λ script. ScriptOutcome script held later old new began now ended)
+    ⊎ OfScript lanes left (λ script. ScriptOutcome D script held later old new began now ended)
 
 -- What a crash at any moment may leave, and what `batch` leaves of the disk when it ends: no call of it was made, or as the script.
 abbrev pub BatchMoments : ℕ → Option (List ℕ) → Option History → Option History → Type 0
-BatchMoments lanes left old new = (new ≡ old) ⊎ OfScript lanes left (λ script. ScriptMoments script old new)
+BatchMoments lanes left old new = (new ≡ old) ⊎ OfScript lanes left (λ script. ScriptMoments script.requests old new)
 
 abbrev pub BatchRests : ℕ → Option (List ℕ) → Type 0 → Faults → Faults → Option History → Option History → Type 0
-BatchRests lanes left failed began now old new = (new ≡ old) ⊎ OfScript lanes left (λ script. ScriptRests script failed began now old new)
+BatchRests lanes left failed began now old new = (new ≡ old) ⊎ OfScript lanes left (λ script. ScriptRests script.requests failed began now old new)
 
 -- Whatever script the input is, there are lists from which it may be served: if it reads a message, the disk was settled for them. Of such
 -- a script it is said which calls of the disk failed.

@@ -37,8 +37,8 @@ pub record IsCopyReply (name : List ℕ) (uid : Uid) (target : List ℕ) (old ne
 
 -- How `copy` ends: the reply is printed, which is `OK` with the UID of the copy, or why the message isn't copied, or
 -- `NO 17 memory`, or `NO 19 stopped`; or a prefix of it; or the store was not opened.
-abbrev pub CopyOutcome : List ℕ → Uid → List ℕ → Option (List ℕ) → Option (List ℕ) → Option History → Option History → Faults → Faults → Outcome → Type 0
-CopyOutcome name uid target = RequestOutcome (IsCopyReply name uid target) (request.Copy name uid target)
+abbrev pub CopyOutcome : Type 0 → List ℕ → Uid → List ℕ → Option (List ℕ) → Option (List ℕ) → Option History → Option History → Faults → Faults → Outcome → Type 0
+CopyOutcome D name uid target = RequestOutcome D (IsCopyReply name uid target) (request.Copy name uid target)
 
 -- A crash at any moment leaves a disk that is safe for the lists for which it was settled, or for those with the copy, whatever
 -- fails.

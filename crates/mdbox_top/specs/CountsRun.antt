@@ -39,8 +39,8 @@ pub record IsCountsReply (old new : Option History) (given : Reply) : Type 0 whe
 
 -- How `counts` ends: the reply is printed, which is `OK` and the numbers, or `NO 17 memory`; or a prefix of it; or the store was
 -- not opened.
-abbrev pub CountsOutcome : Option (List ℕ) → Option (List ℕ) → Option History → Option History → Faults → Faults → Outcome → Type 0
-CountsOutcome = RequestOutcome IsCountsReply request.Counts
+abbrev pub CountsOutcome : Type 0 → Option (List ℕ) → Option (List ℕ) → Option History → Option History → Faults → Faults → Outcome → Type 0
+CountsOutcome D = RequestOutcome D IsCountsReply request.Counts
 
 -- A crash at any moment of a count leaves a disk that is safe for the lists for which it was settled, whatever fails; and of any
 -- disk it leaves of storage files and instances what a crash could leave of them at the beginning. A store that was closed well is

@@ -1,6 +1,7 @@
 -- How `deliver` ends.
 use Rattle.std.specs.Prelude.{◌≡◌, ◌≤◌, ◌<◌, ◌⊎◌, ℕ, List, [], ◌∷◌, length, map, Option, Some, IfSome}
 use Rattle.disk_model.specs.Disk.{History, Faults, EachImage, IfTold}
+use Rattle.disk_model.specs.FaultCounts.{NoFault}
 use Rattle.attach_detach.specs.Prepared.{IsPrepared}
 use Rattle.attach_detach.specs.declared.message.Prepared.{Prepared}
 use Rattle.mdbox_base.specs.declared.entries.InstRow.{InstRow}
@@ -94,8 +95,8 @@ pub record IsDeliverReply (name : List ℕ) (time : ℕ) (octets : List ℕ) (ol
 -- How the delivery of these octets at this time ends: the reply is printed, which is `OK` with the message's UID and GUID, or why
 -- it isn't saved, or `NO 17 memory`, or that an instance can't be read or the store is stopped; or a prefix of it; or the store was
 -- not opened.
-abbrev pub SaveOutcome : List ℕ → ℕ → List ℕ → Option (List ℕ) → Option (List ℕ) → Option History → Option History → Faults → Faults → Outcome → Type 0
-SaveOutcome name time octets = RequestOutcome (IsDeliverReply name time octets) (request.Deliver name time octets)
+abbrev pub SaveOutcome : Type 0 → List ℕ → ℕ → List ℕ → Option (List ℕ) → Option (List ℕ) → Option History → Option History → Faults → Faults → Outcome → Type 0
+SaveOutcome D name time octets = RequestOutcome D (IsDeliverReply name time octets) (request.Deliver name time octets)
 
 -- the lists with the message, of some GUID
 abbrev pub AreSaved : List ℕ → ℕ → List ℕ → Lists → Lists → Type 0
@@ -143,17 +144,17 @@ IsUnread left other = ⊥
 
 -- One delivery, of these octets at this time: how it ends, what a crash at any moment of it may leave, and what it leaves of the
 -- disk when it ends.
-pub record IsDelivery (name : List ℕ) (time : ℕ) (octets : List ℕ) (held later : Option (List ℕ)) (old new : Option History) (began now : Faults) (ended : Outcome) : Type 0 where
-  pub ends : SaveOutcome name time octets held later old new began now ended
+pub record IsDelivery (D : Type 0) (name : List ℕ) (time : ℕ) (octets : List ℕ) (held later : Option (List ℕ)) (old new : Option History) (began now : Faults) (ended : Outcome) : Type 0 where
+  pub ends : SaveOutcome D name time octets held later old new began now ended
   pub moments : SaveMoments name time octets old new
   pub rests : SaveRests name time octets (IsOneOf (5 ∷ 6 ∷ 8 ∷ []) (status_of ended)) began now old new
 
--- How `deliver` ends: there is no message or no time, nothing is printed, and no call of the disk is made; or as the delivery of
+-- How `deliver` ends: there is no message or no time, nothing is printed, no call of the disk is made, and none failed; or as the delivery of
 -- the message that the input is, at the time that the clock told.
-abbrev pub DeliverOutcome : List ℕ → Option (List ℕ) → Option ℕ → Option (List ℕ) → Option (List ℕ) → Option History → Option History → Faults → Faults → Outcome → Type 0
-DeliverOutcome name left told held later old new began now ended =
-    (IsUnread left ended × (later ≡ held) × (new ≡ old))
-    ⊎ OfDelivery left told (λ time octets. IsDelivery name time octets held later old new began now ended)
+abbrev pub DeliverOutcome : Type 0 → List ℕ → Option (List ℕ) → Option ℕ → Option (List ℕ) → Option (List ℕ) → Option History → Option History → Faults → Faults → Outcome → Type 0
+DeliverOutcome D name left told held later old new began now ended =
+    (IsUnread left ended × (later ≡ held) × (new ≡ old) × NoFault began now)
+    ⊎ OfDelivery left told (λ time octets. IsDelivery D name time octets held later old new began now ended)
 
 -- What a crash at any moment may leave, and what `deliver` leaves of the disk when it ends: no call of it was made, or as the
 -- delivery of the message.

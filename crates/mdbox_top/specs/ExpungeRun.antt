@@ -39,8 +39,8 @@ pub record IsExpungeReply (name : List ℕ) (uid : Uid) (old new : Option Histor
 
 -- How `expunge` ends: the reply is printed, which is `OK`, or `NO 10 no mailbox` or `NO 12 no message` if there is none, or
 -- `NO 17 memory`, or `NO 19 stopped`; or a prefix of it; or the store was not opened.
-abbrev pub ExpungeOutcome : List ℕ → Uid → Option (List ℕ) → Option (List ℕ) → Option History → Option History → Faults → Faults → Outcome → Type 0
-ExpungeOutcome name uid = RequestOutcome (IsExpungeReply name uid) (request.Expunge name uid)
+abbrev pub ExpungeOutcome : Type 0 → List ℕ → Uid → Option (List ℕ) → Option (List ℕ) → Option History → Option History → Faults → Faults → Outcome → Type 0
+ExpungeOutcome D name uid = RequestOutcome D (IsExpungeReply name uid) (request.Expunge name uid)
 
 -- A crash at any moment leaves a disk that is safe for the lists for which it was settled, or for those without the message,
 -- whatever fails.

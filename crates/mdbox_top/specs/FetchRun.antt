@@ -60,8 +60,8 @@ pub record IsFetchReply (name : List ℕ) (uid : Uid) (old new : Option History)
 -- How `fetch` ends: the octets of the message are printed and nothing else, or `NO 10 no mailbox` or `NO 12 no message` if there
 -- is none, `NO 17 memory`, `NO 18 read fault`, or `NO 20 damaged` with the file and the offset of its region; or a prefix of this;
 -- or the store was not opened.
-abbrev pub FetchOutcome : List ℕ → Uid → Option (List ℕ) → Option (List ℕ) → Option History → Option History → Faults → Faults → Outcome → Type 0
-FetchOutcome name uid = RequestOutcome (IsFetchReply name uid) (request.Fetch name uid)
+abbrev pub FetchOutcome : Type 0 → List ℕ → Uid → Option (List ℕ) → Option (List ℕ) → Option History → Option History → Faults → Faults → Outcome → Type 0
+FetchOutcome D name uid = RequestOutcome D (IsFetchReply name uid) (request.Fetch name uid)
 
 -- A crash at any moment of a fetch leaves a disk that is safe for the lists for which it was settled, whatever fails; and of any
 -- disk it leaves of storage files and instances what a crash could leave of them at the beginning. A store that was closed well is

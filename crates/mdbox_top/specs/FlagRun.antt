@@ -45,8 +45,8 @@ pub record IsFlagReply (name : List ℕ) (uid : Uid) (flags : ℕ) (old new : Op
 
 -- How `flag` ends: the reply is printed, which is `OK`, or `NO 10 no mailbox` or `NO 12 no message` if there is none, or `NO 19
 -- stopped`; or a prefix of it; or the store was not opened.
-abbrev pub FlagOutcome : List ℕ → Uid → ℕ → Option (List ℕ) → Option (List ℕ) → Option History → Option History → Faults → Faults → Outcome → Type 0
-FlagOutcome name uid flags = RequestOutcome (IsFlagReply name uid flags) (request.Flag name uid flags)
+abbrev pub FlagOutcome : Type 0 → List ℕ → Uid → ℕ → Option (List ℕ) → Option (List ℕ) → Option History → Option History → Faults → Faults → Outcome → Type 0
+FlagOutcome D name uid flags = RequestOutcome D (IsFlagReply name uid flags) (request.Flag name uid flags)
 
 -- A crash at any moment leaves a disk that is safe for the lists for which it was settled, or for those with the flags set,
 -- whatever fails.

@@ -36,8 +36,8 @@ pub record IsListReply (name : List ℕ) (old new : Option History) (given : Rep
 
 -- How `list` ends: the reply is printed, which is `NO 10 no mailbox` if no mailbox has the name; or a prefix of it; or the
 -- store was not opened.
-abbrev pub ListOutcome : List ℕ → Option (List ℕ) → Option (List ℕ) → Option History → Option History → Faults → Faults → Outcome → Type 0
-ListOutcome name = RequestOutcome (IsListReply name) (request.List name)
+abbrev pub ListOutcome : Type 0 → List ℕ → Option (List ℕ) → Option (List ℕ) → Option History → Option History → Faults → Faults → Outcome → Type 0
+ListOutcome D name = RequestOutcome D (IsListReply name) (request.List name)
 
 -- A crash at any moment of a listing leaves a disk that is safe for the lists for which it was settled, whatever fails; and of any
 -- disk it leaves of storage files and instances what a crash could leave of them at the beginning. A store that was closed well is

@@ -57,8 +57,8 @@ pub record IsMakeReply (name : List ℕ) (old new : Option History) (given : Rep
 
 -- How `make` ends: the reply is printed, which is `OK`, or why no mailbox is made, or `NO 17 memory`, or `NO 19 stopped`; or a
 -- prefix of it; or the store was not opened.
-abbrev pub MakeOutcome : List ℕ → Option (List ℕ) → Option (List ℕ) → Option History → Option History → Faults → Faults → Outcome → Type 0
-MakeOutcome name = RequestOutcome (IsMakeReply name) (request.Make name)
+abbrev pub MakeOutcome : Type 0 → List ℕ → Option (List ℕ) → Option (List ℕ) → Option History → Option History → Faults → Faults → Outcome → Type 0
+MakeOutcome D name = RequestOutcome D (IsMakeReply name) (request.Make name)
 
 -- the lists with the empty mailbox last, whose number is the next by the logs from which the store opened
 abbrev pub AreMade : List ℕ → Option History → Lists → Lists → Type 0

@@ -17,7 +17,6 @@ use Rattle.mail_ops.specs.Copy.{copied_lists}
 use Rattle.store_open.specs.Opened.{IsOpenedAs}
 use Rattle.store_sweep.specs.Moments.{NoFailedChange}
 use Rattle.request_text.specs.declared.outcome.Outcome.{Outcome}
-use Rattle.script_run.specs.Opening.{AreSafeFor}
 use Rattle.script_run.specs.One.{IsMoveAnswer, OpensUnchanged, lists_behind, lists_told, moved_lists, uncopied_cause}
 use Rattle.mdbox_top.specs.Changed.{OpensChanged, OpensAsBefore, LeavesMail}
 use Rattle.mdbox_top.specs.Served.{RequestOutcome}
@@ -25,9 +24,8 @@ use Rattle.mdbox_top.specs.Served.{RequestOutcome}
 -- The reply to the move of this message, by what the logs mean from which the store opened. Where it is refused, the files open
 -- with the same logs, all that the store reads is carried over, and the disk was swept. Out of memory, they open with the same
 -- listings and counts, the count of the message's record maybe raised and given back. Where it is done, their logs show the
--- lists with the copy and without the message, or, if the reply says that it had gone, those with the copy; of files that were
--- safe for lists it never says so. Unless the store is stopped, a disk that was settled for lists is settled for those that the
--- reply tells, and storage files and instances are left as the opening left them.
+-- lists with the copy and without the message; it never says that the message had gone. Unless the store is stopped, a disk that
+-- was settled for lists is settled for those that the reply tells, and storage files and instances are left as the opening left them.
 pub record IsMoveReply (name : List ℕ) (uid : Uid) (target : List ℕ) (old new : Option History) (given : Reply) : Type 0 where
   pub m : MapMeaning
   pub meanings : List BoxMeaning
@@ -36,14 +34,14 @@ pub record IsMoveReply (name : List ℕ) (uid : Uid) (target : List ℕ) (old ne
   pub refused : (why : Refusal) → given ≡ reply.Refused why → (why ≡ refusal.Stopped → ⊥) → (why ≡ refusal.NoMemory → ⊥) → OpensUnchanged m meanings old new
   pub memory : given ≡ reply.Refused refusal.NoMemory → OpensAsBefore m meanings new
   pub done : (given_uid : Uid) (gone : Bool) → given ≡ reply.Moved given_uid gone → OpensChanged (lists_behind name uid target gone) m meanings new
-  pub here : (lists : Lists) → AreSafeFor lists old → (moved : Uid) → given ≡ reply.Moved moved true → ⊥
+  pub here : (moved : Uid) → given ≡ reply.Moved moved true → ⊥
   pub settled : (given ≡ reply.Refused refusal.Stopped → ⊥) → (lists : Lists) → IsSettledFor lists old → IsSettledFor (lists_told (request.Move name uid target) given lists) new
   pub mail : LeavesMail m given old new
 
 -- How `move` ends: the reply is printed, which is `OK` with the UID of the copy, and `GONE` behind it if the message had gone; or
 -- why the message isn't moved, or `NO 17 memory`, or `NO 19 stopped`; or a prefix of it; or the store was not opened.
-abbrev pub MoveOutcome : List ℕ → Uid → List ℕ → Option (List ℕ) → Option (List ℕ) → Option History → Option History → Faults → Faults → Outcome → Type 0
-MoveOutcome name uid target = RequestOutcome (IsMoveReply name uid target) (request.Move name uid target)
+abbrev pub MoveOutcome : Type 0 → List ℕ → Uid → List ℕ → Option (List ℕ) → Option (List ℕ) → Option History → Option History → Faults → Faults → Outcome → Type 0
+MoveOutcome D name uid target = RequestOutcome D (IsMoveReply name uid target) (request.Move name uid target)
 
 -- A crash at any moment leaves a disk that is safe for the lists for which it was settled, for those with the copy, or for those
 -- that are moved, whatever fails.

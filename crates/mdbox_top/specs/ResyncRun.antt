@@ -51,8 +51,8 @@ pub record IsResyncReply (old new : Option History) (given : Reply) : Type 0 whe
 
 -- How `resync` ends: the reply is printed, which is `OK` and two numbers, or `NO 17 memory`, `NO 18 read fault` or `NO 19 stopped`; or a
 -- prefix of it; or the store was not opened.
-abbrev pub ResyncOutcome : Option (List ℕ) → Option (List ℕ) → Option History → Option History → Faults → Faults → Outcome → Type 0
-ResyncOutcome = RequestOutcome IsResyncReply request.Resync
+abbrev pub ResyncOutcome : Type 0 → Option (List ℕ) → Option (List ℕ) → Option History → Option History → Faults → Faults → Outcome → Type 0
+ResyncOutcome D = RequestOutcome D IsResyncReply request.Resync
 
 -- A crash at any moment leaves a disk that is safe for the lists for which it was settled, whatever fails.
 abbrev pub ResyncMoments : Option History → Option History → Type 0

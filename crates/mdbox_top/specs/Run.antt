@@ -12,10 +12,11 @@ use Rattle.request_text.specs.declared.outcome.Outcome.{Outcome}
 use Rattle.mdbox_base.specs.declared.requests.Request.TheVariants as request
 use Rattle.mdbox_top.specs.Alone.{MayFail}
 use Rattle.mdbox_top.specs.BatchRun.{BatchOutcome, BatchMoments, BatchRests, BatchStatus, TellsScriptFaults}
+use Rattle.mdbox_top.specs.BoxesRun.{BoxesOutcome, BoxesMoments, BoxesRests}
 use Rattle.mdbox_top.specs.ExerciseRun.{ExerciseOutcome, ExerciseMoments, ExerciseRests}
 use Rattle.mdbox_top.specs.InputRun.{DumpPrints, DumpRefuses, LogDumpPrints, LogDumpRefuses, InputOutcome, InputStatus, ShowsText, IsOneOf}
 use Rattle.mdbox_top.specs.InitRun.{InitOutcome, InitMoments, MayMakeStore}
-use Rattle.mdbox_top.specs.RebuildRun.{RebuildOutcome, RebuildMoments, IsLostNow, IsWholeNow}
+use Rattle.mdbox_top.specs.RebuildRun.{RebuildOutcome, RebuildMoments, RebuildNotes, IsLostNow, IsWholeNow}
 use Rattle.mdbox_top.specs.ListRun.{ListOutcome, ListMoments, ListRests}
 use Rattle.mdbox_top.specs.DeliverRun.{DeliverOutcome, DeliverMoments, DeliverRests, DeliverStatus}
 use Rattle.mdbox_top.specs.FetchRun.{FetchOutcome, FetchMoments, FetchRests}
@@ -28,35 +29,48 @@ use Rattle.mdbox_top.specs.CountsRun.{CountsOutcome, CountsMoments, CountsRests}
 use Rattle.mdbox_top.specs.PurgeRun.{PurgeOutcome, PurgeMoments, PurgeRests}
 use Rattle.mdbox_top.specs.ResyncRun.{ResyncOutcome, ResyncMoments, ResyncRests}
 
--- How a command ends: this was left of the input, this is the time that the clock would tell, the output held this before and
--- holds that later, the disk was this and is that now, and so were its counts of faults.
-abbrev pub Ends : Command → Option (List ℕ) → Option ℕ → Option (List ℕ) → Option (List ℕ) → Option History → Option History → Faults → Faults → Outcome → Type 0
-Ends (command.Init id) left told held later old new began now outcome = InitOutcome id.0 held later old new outcome
-Ends (command.Deliver name) left told held later old new began now outcome = DeliverOutcome name left told held later old new began now outcome
-Ends (command.List name) left told held later old new began now outcome = ListOutcome name held later old new began now outcome
-Ends (command.Fetch name uid) left told held later old new began now outcome = FetchOutcome name uid held later old new began now outcome
-Ends (command.Flag name uid flags) left told held later old new began now outcome = FlagOutcome name uid flags held later old new began now outcome
-Ends (command.Expunge name uid) left told held later old new began now outcome = ExpungeOutcome name uid held later old new began now outcome
-Ends (command.Copy name uid target) left told held later old new began now outcome = CopyOutcome name uid target held later old new began now outcome
-Ends (command.Move name uid target) left told held later old new began now outcome = MoveOutcome name uid target held later old new began now outcome
-Ends (command.Make name) left told held later old new began now outcome = MakeOutcome name held later old new began now outcome
-Ends command.Counts left told held later old new began now outcome = CountsOutcome held later old new began now outcome
-Ends command.Resync left told held later old new began now outcome = ResyncOutcome held later old new began now outcome
-Ends command.Purge left told held later old new began now outcome = PurgeOutcome held later old new began now outcome
-Ends (command.Batch lanes) left told held later old new began now outcome = BatchOutcome lanes left held later old new began now outcome
-Ends (command.Exercise lanes count number) left told held later old new began now outcome = ExerciseOutcome lanes count number held later old new began now outcome
-Ends (command.Rebuild id) left told held later old new began now outcome = RebuildOutcome id.0 held later old new outcome
-Ends command.Dump left told held later old new began now outcome = InputOutcome DumpPrints DumpRefuses left held later outcome
-Ends command.LogDump left told held later old new began now outcome = InputOutcome LogDumpPrints LogDumpRefuses left held later outcome
-Ends command.Help left told held later old new began now outcome = ShowsText HELP.now held later outcome
-Ends command.Version left told held later old new began now outcome = ShowsText VERSION.now held later outcome
+-- How a command ends, over a disk of this kind: this was left of the input, this is the time that the clock would tell, the output held
+-- this before and holds that later, the disk was this and is that now, and so were its counts of faults.
+abbrev pub Ends : Type 0 → Command → Option (List ℕ) → Option ℕ → Option (List ℕ) → Option (List ℕ) → Option History → Option History → Faults → Faults → Outcome → Type 0
+Ends D (command.Init id) left told held later old new began now outcome = InitOutcome id.0 held later old new outcome
+Ends D (command.Deliver name) left told held later old new began now outcome = DeliverOutcome D name left told held later old new began now outcome
+Ends D (command.List name) left told held later old new began now outcome = ListOutcome D name held later old new began now outcome
+Ends D (command.Fetch name uid) left told held later old new began now outcome = FetchOutcome D name uid held later old new began now outcome
+Ends D (command.Flag name uid flags) left told held later old new began now outcome = FlagOutcome D name uid flags held later old new began now outcome
+Ends D (command.Expunge name uid) left told held later old new began now outcome = ExpungeOutcome D name uid held later old new began now outcome
+Ends D (command.Copy name uid target) left told held later old new began now outcome = CopyOutcome D name uid target held later old new began now outcome
+Ends D (command.Move name uid target) left told held later old new began now outcome = MoveOutcome D name uid target held later old new began now outcome
+Ends D (command.Make name) left told held later old new began now outcome = MakeOutcome D name held later old new began now outcome
+Ends D command.Boxes left told held later old new began now outcome = BoxesOutcome held later old new began now outcome
+Ends D command.Counts left told held later old new began now outcome = CountsOutcome D held later old new began now outcome
+Ends D command.Resync left told held later old new began now outcome = ResyncOutcome D held later old new began now outcome
+Ends D command.Purge left told held later old new began now outcome = PurgeOutcome D held later old new began now outcome
+Ends D (command.Batch lanes) left told held later old new began now outcome = BatchOutcome D lanes left held later old new began now outcome
+Ends D (command.Exercise lanes count number) left told held later old new began now outcome = ExerciseOutcome D lanes count number held later old new began now outcome
+Ends D (command.Rebuild id) left told held later old new began now outcome = RebuildOutcome id.0 held later old new outcome
+Ends D command.Dump left told held later old new began now outcome = InputOutcome DumpPrints DumpRefuses left held later outcome
+Ends D command.LogDump left told held later old new began now outcome = InputOutcome LogDumpPrints LogDumpRefuses left held later outcome
+Ends D command.Help left told held later old new began now outcome = ShowsText HELP.now held later outcome
+Ends D command.Version left told held later old new began now outcome = ShowsText VERSION.now held later outcome
 
--- The run ends as it may: so it ended, with its status, and its text was told on the errors' sink.
-pub record RunOutcome (May : Outcome → Type 0) (status : ℕ) (held : Option (List ℕ)) (faults : ℕ) (later : Option (List ℕ)) (later_faults : ℕ) : Type 0 where
+-- so over a disk of whatever kind this one is
+abbrev pub EndsOver : {D : Type 0} → D → Command → Option (List ℕ) → Option ℕ → Option (List ℕ) → Option (List ℕ) → Option History → Option History → Faults → Faults → Outcome → Type 0
+EndsOver {D} disk command left told held later old new began now outcome = Ends D command left told held later old new began now outcome
+
+-- What a command gives to the errors' sink before how it ended: a rebuild tells what came back, by what the disk is then; any other nothing.
+abbrev pub Notes : Command → Option History → Outcome → Option (List ℕ) → ℕ → Option (List ℕ) → ℕ → Type 0
+Notes (command.Rebuild id) new ended held faults later later_faults = RebuildNotes new ended held faults later later_faults
+Notes other new ended held faults later later_faults = (later ≡ held) × (later_faults ≡ faults)
+
+-- The run ends as it may: so it ended, with its status; and on the errors' sink it told what it may note, and then the text of how it ended.
+pub record RunOutcome (May : Outcome → Type 0) (MayNote : Outcome → Option (List ℕ) → ℕ → Option (List ℕ) → ℕ → Type 0) (status : ℕ) (held : Option (List ℕ)) (faults : ℕ) (later : Option (List ℕ)) (later_faults : ℕ) : Type 0 where
   pub outcome : Outcome
   pub status_is : status ≡ status_of outcome
   pub ended : May outcome
-  pub told : WritesOrFaults held faults (error_text outcome) later later_faults
+  pub noted_held : Option (List ℕ)
+  pub noted_faults : ℕ
+  pub noted : MayNote outcome held faults noted_held noted_faults
+  pub told : WritesOrFaults noted_held noted_faults (error_text outcome) later later_faults
 
 -- What a crash at any moment of the command may leave.
 abbrev pub Moments : Command → Option (List ℕ) → Option ℕ → Option History → Option History → Type 0
@@ -69,6 +83,7 @@ Moments (command.Expunge name uid) left told old new = ExpungeMoments name uid o
 Moments (command.Copy name uid target) left told old new = CopyMoments name uid target old new
 Moments (command.Move name uid target) left told old new = MoveMoments name uid target old new
 Moments (command.Make name) left told old new = MakeMoments name old new
+Moments command.Boxes left told old new = BoxesMoments old new
 Moments command.Counts left told old new = CountsMoments old new
 Moments command.Resync left told old new = ResyncMoments old new
 Moments command.Purge left told old new = PurgeMoments old new
@@ -87,6 +102,7 @@ Rests (command.Expunge name uid) left told failed began now old new = ExpungeRes
 Rests (command.Copy name uid target) left told failed began now old new = CopyRests name uid target failed began now old new
 Rests (command.Move name uid target) left told failed began now old new = MoveRests name uid target failed began now old new
 Rests (command.Make name) left told failed began now old new = MakeRests name failed began now old new
+Rests command.Boxes left told failed began now old new = BoxesRests failed began now old new
 Rests command.Counts left told failed began now old new = CountsRests failed began now old new
 Rests command.Resync left told failed began now old new = ResyncRests failed began now old new
 Rests command.Purge left told failed began now old new = PurgeRests failed began now old new
@@ -95,7 +111,7 @@ Rests (command.Exercise lanes count number) left told failed began now old new =
 Rests other left told failed began now old new = Unit {0}
 
 -- The statuses that may come, by what was left of the input and what the disk was: no file refuses a store that can be made,
--- or rebuilt, or a request on a settled disk, `counts` and `resync` have no reply that refuses them, and `--help` and `--version` fail with the output alone.
+-- or rebuilt, or a request on a settled disk, `boxes`, `counts` and `resync` have no reply that refuses them, and `--help` and `--version` fail with the output alone.
 abbrev pub HasStatus : Command → Option (List ℕ) → Option History → ℕ → Type 0
 HasStatus (command.Init id) left old status = MayMakeStore old → IsOneOf (0 ∷ 5 ∷ 6 ∷ 8 ∷ []) status
 HasStatus (command.Deliver name) left old status = DeliverStatus left old status
@@ -106,6 +122,7 @@ HasStatus (command.Expunge name uid) left old status = (lists : Lists) → IsSet
 HasStatus (command.Copy name uid target) left old status = (lists : Lists) → IsSettledFor lists old → IsOneOf (0 ∷ 1 ∷ 5 ∷ 6 ∷ 8 ∷ []) status
 HasStatus (command.Move name uid target) left old status = (lists : Lists) → IsSettledFor lists old → IsOneOf (0 ∷ 1 ∷ 5 ∷ 6 ∷ 8 ∷ []) status
 HasStatus (command.Make name) left old status = (lists : Lists) → IsSettledFor lists old → IsOneOf (0 ∷ 1 ∷ 5 ∷ 6 ∷ 8 ∷ []) status
+HasStatus command.Boxes left old status = (lists : Lists) → IsSettledFor lists old → IsOneOf (0 ∷ 5 ∷ 6 ∷ 8 ∷ []) status
 HasStatus command.Counts left old status = (lists : Lists) → IsSettledFor lists old → IsOneOf (0 ∷ 5 ∷ 6 ∷ 8 ∷ []) status
 HasStatus command.Resync left old status = (lists : Lists) → IsSettledFor lists old → IsOneOf (0 ∷ 5 ∷ 6 ∷ 8 ∷ []) status
 HasStatus command.Purge left old status = (lists : Lists) → IsSettledFor lists old → IsOneOf (0 ∷ 1 ∷ 5 ∷ 6 ∷ 8 ∷ []) status
@@ -156,6 +173,7 @@ uses_disk (command.Expunge name uid) = true
 uses_disk (command.Copy name uid target) = true
 uses_disk (command.Move name uid target) = true
 uses_disk (command.Make name) = true
+uses_disk command.Boxes = true
 uses_disk command.Counts = true
 uses_disk command.Resync = true
 uses_disk command.Purge = true

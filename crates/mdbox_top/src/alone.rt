@@ -1,10 +1,14 @@
 // A request alone: the store is opened, the request done, and its reply printed.
-ghost use Rattle.std.specs.Prelude.{◌≡◌, ◌≢◌, ◌≤◌, [], if◌then◌else◌, IfOk, IfErr, OnErr, OnOk};
+ghost use Rattle.std.specs.Prelude.{◌≡◌, ◌≢◌, ◌≤◌, ◌∷◌, [], List, Some, if◌then◌else◌, IfOk, IfErr, OnErr, OnOk};
 ghost use Rattle.disk_model.specs.FaultCounts.{NoFault, AnyFaultCounted};
 ghost use Rattle.mdbox_base.specs.Streams.{Appended, Rose};
 ghost use Rattle.lanes.specs.Worlds.{HasItsMessage};
+ghost use Rattle.mdbox_base.specs.declared.script.JournalEntry.{JournalEntry as EntryValue};
+ghost use Rattle.script_run.specs.Done.{IsScriptDone};
+ghost use Rattle.script_run.specs.One.{alone};
 ghost use Rattle.script_run.specs.Opening.{IsUnopened};
 ghost use Rattle.script_run.specs.Script.{is_fetch};
+ghost use Rattle.script_run.specs.Worked.{IsWorkedOut};
 ghost use Rattle.mdbox_top.specs.Alone.{ReplyTells, RequestMoments, RequestRests, MayFail, IsDoneAlone};
 ghost use Rattle.mdbox_top.specs.Served.{RequestOutcome, ShowsReply};
 ghost use Rattle.request_text.specs.Outcomes.{status_of};
@@ -32,7 +36,7 @@ pub fn serve<D: Disk, O: Sink>(
     output: &mut O,
 ) -> (Outcome, D)
     requires { HasItsMessage request prepared }
-    ensures ends { RequestOutcome (ReplyTells request) request (O.held output.old) (O.held output.new) (D.history disk) (D.history result.1) (D.faults disk) (D.faults result.1) result.0 }
+    ensures ends { RequestOutcome D (ReplyTells request) request (O.held output.old) (O.held output.new) (D.history disk) (D.history result.1) (D.faults disk) (D.faults result.1) result.0 }
     ensures moments { RequestMoments request (D.history disk) (D.history result.1) }
     ensures rests { RequestRests request (MayFail request (status_of result.0)) (D.faults disk) (D.faults result.1) (D.history disk) (D.history result.1) }
     ensures disk_fault { AnyFaultCounted (result.0 ≡ outcome.DiskFault) (D.faults disk) (D.faults result.1) }
@@ -57,6 +61,7 @@ fn reply_alone<D: Disk>(
 ) -> Result<(Reply, D), OpenRefused<D>>
     requires { HasItsMessage request prepared }
     ensures done { IfOk result (λ done. IsDoneAlone request done.0 (D.history disk) (D.history done.1) (D.faults disk) (D.faults done.1)) }
+    ensures served { IfOk result (λ done. (journal : List EntryValue) × IsScriptDone (alone request) (done.0 ∷ []) journal (D.history disk) (D.history done.1) (D.faults disk) (D.faults done.1) × IsWorkedOut D (alone request) 1 (Some done.0 ∷ []) journal (D.history disk) (D.history done.1) (D.faults disk) (D.faults done.1)) }
     ensures refused { IfErr result (λ refused. IsUnopened refused.error (D.history disk) (D.history refused.disk) (D.faults disk) (D.faults refused.disk)) }
 {
     listings_are_answered();

@@ -8,7 +8,9 @@ pub use request_text::Status;
 pub use run::{mdbox_alone, mdbox_run};
 
 mod alone;
+mod back;
 mod batch;
+mod boxes;
 mod deliver;
 mod exercise;
 mod init;

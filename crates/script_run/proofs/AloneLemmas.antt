@@ -28,7 +28,7 @@ use Rattle.script_run.specs.Done.{IsScriptDone, MayRead}
 use Rattle.script_run.specs.LeftOpen.{IsRequestDone, IsServedOpen}
 use Rattle.script_run.specs.One.{AreListsTold, HasOneEvent, IsAnsweredFirst, IsUnanswered, MakesSteps, alone}
 use Rattle.script_run.specs.Opening.{LogsShowLists}
-use Rattle.script_run.specs.Script.{only_reads, has_fetch, has_purge, IsRefusedAtOnce}
+use Rattle.script_run.specs.Script.{only_reads, has_fetch, IsRefusedAtOnce}
 use Rattle.script_run.proofs.SomeListsLemmas.{some_lists}
 use Rattle.script_run.proofs.ToldLemmas.{IsMove, replied_one, step_answers, step_told}
 
@@ -298,16 +298,15 @@ one_given asked script [] is each = absurd (let n : length script ≡ 1 = ap len
 one_given asked script (one ∷ []) is each = (one, refl)
 one_given asked script (one ∷ more ∷ rest) is each = absurd (let n : length script ≡ 1 = ap length is in let e : suc (suc (length rest)) ≡ length script = each in omega (arith, n, e))
 
-pub request_done : {D : Type 0} → (history : D → Option History) (faults : D → Faults) (asked : Request) (script : Requests) (given : List Reply) (replies : List (Option Reply)) (one : Reply) (entries : List JournalEntry) (old : Option History) (began : Faults) (store : StoreValue D) (disk : D) → disk ≡ store.disk
-    → script ≡ alone asked → replies ≡ map Some given → replies ≡ Some one ∷ [] → IsServedOpen script given entries old (history store.disk) began (faults store.disk) store → IsRequestDone asked one old (history disk) began (faults disk)
-request_done {D} history faults asked script given replies one entries old began store disk back is all only served =
+pub request_here : {D : Type 0} → (history : D → Option History) (faults : D → Faults) (asked : Request) (script : Requests) (given : List Reply) (replies : List (Option Reply)) (one : Reply) (entries : List JournalEntry) (old : Option History) (began : Faults) (store : StoreValue D) → script ≡ alone asked → replies ≡ map Some given → replies ≡ Some one ∷ []
+    → IsServedOpen script given entries old (history store.disk) began (faults store.disk) store → (own : IsRequestDone asked one old (history store.disk) began (faults store.disk)) × (own.entries ≡ entries)
+request_here history faults asked script given replies one entries old began store is all only served =
     let o = one_given asked script given is served.done.each in
     let same : Some o.0 ∷ [] ≡ Some one ∷ [] = sym (all ∙ ap (λ (rs : List Reply). map Some rs) o.1) ∙ only in
     let e : o.0 ≡ one = cc same in
     let s = subst (λ (rs : List Reply). IsServedOpen (alone asked) rs entries old (history store.disk) began (faults store.disk) store) (o.1 ∙ ap (λ (r : Reply). r ∷ []) e)
     (subst (λ (q : Requests). IsServedOpen q given entries old (history store.disk) began (faults store.disk) store) is served) in
-    let done : IsRequestDone asked one old (history store.disk) began (faults store.disk) = record { entries = entries; done = s.done; later = store.map; later_meanings = indexes_of store.boxes; comes = s.comes; told = s.told; undone = s.undone; unmade = s.unmade } in
-    subst (λ (d : D). IsRequestDone asked one old (history d) began (faults d)) (sym back) done
+    (record { entries = entries; done = s.done; later = store.map; later_meanings = indexes_of store.boxes; comes = s.comes; told = s.told; undone = s.undone; unmade = s.unmade }, refl)
 
 -- ---- a request of one event that is refused
 
@@ -322,10 +321,6 @@ replied_so e given false is h = absurd (cc is)
 own_test : (k : ℕ) → k ≡ 0 → (k == 0) ≡ true
 own_test k e = grind (arith, common_steps, e)
 
-purges_none : (asked : Request) → HasOneEvent asked → has_purge (alone asked) ≡ false
-purges_none request.Purge one = absurd one
-purges_none asked one = refl
-
 -- One that is refused by a check changes nothing.
 pub refused_idle : (asked : Request) (given : Reply) (entries : List JournalEntry) (old new : Option History) (began now : Faults) → (done : IsScriptDone (alone asked) (given ∷ []) entries old new began now) → HasOneEvent asked → (why : Refusal) → is_step why ≡ true → given ≡ reply.Refused why → IsIdle done.leaves.opened new
 refused_idle asked given entries old new began now done one why step is =
@@ -333,7 +328,7 @@ refused_idle asked given entries old new began now done one why step is =
     let s = done.serves some.0 some.1 (may_read asked (fetches_none asked (one_makes asked one)) some.0 old) in
     let told : Some (Some given) ≡ Some (reply_of 0 s.run) = s.served.given.1 0 (omega arith) in
     let reply : reply_of 0 s.run ≡ Some given = (let k : Some given ≡ reply_of 0 s.run = cc told in sym k) in
-    s.refused (purges_none asked one) (elim (one_at_most s.run.events (first_only s.served.around s.served.after some.0 asked s.run s.journal one s.served.next)) [
+    s.refused (elim (one_at_most s.run.events (first_only s.served.around s.served.after some.0 asked s.run s.journal one s.served.next)) [
       | inl none ↦ subst (All IsRefusedAtOnce) (sym none) (All-nil IsRefusedAtOnce)
       | inr e ↦
           let own = (own_event s.served.around s.served.after some.0 asked s.run s.journal s.served.next 0 e.0 (ap (λ (es : List RunEvent). slice_get es 0) e.1)).0 in

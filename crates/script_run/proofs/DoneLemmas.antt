@@ -26,6 +26,7 @@ use Rattle.store_core.proofs.InstanceFirmLemmas.{named_all_firm}
 use Rattle.store_core.specs.Running.{IsStore}
 use Rattle.storage_files.specs.Files.{is_doomed_in}
 use Rattle.store_core.specs.Value.{StoreValue, indexes_of, list_named}
+use Rattle.storage_files.specs.Files.{FilesValue}
 use Rattle.store_open.specs.Opened.{KeepsOpenedMail}
 use Rattle.store_seen.specs.Seeing.{IsAtOpening}
 use Rattle.task_claims.specs.Claims.{HasNoTask}
@@ -37,7 +38,7 @@ use Rattle.lanes.specs.Rows.{LaneRow, lane_value, lanes_of}
 use Rattle.attach_detach.specs.declared.message.Prepared.{Prepared}
 use Rattle.lanes.specs.Worlds.{AreGiven, AreOfLanes, ArePartsOf, GoesOnBy, IsFreshWorld, IsWorldOf, PartsValue, WorldValue, and_events}
 use Rattle.lanes.proofs.TraceLemmas.{as_finished, world_finished}
-use Rattle.lane_tasks.specs.Clause.{AnswersReads, DoomsNone, IsAtStart, OnlyReads, ReadsNoOctets}
+use Rattle.lane_tasks.specs.Clause.{AnswersReads, DoomsNone, OnlyReads, ReadsNoOctets}
 use Rattle.task_steps.proofs.UnmovedLemmas.{mail_still}
 use Rattle.lane_tasks.specs.Tasks.{BeginsTask}
 use Rattle.mail_ops.specs.Flagging.{flag_refusal}
@@ -53,9 +54,10 @@ use Rattle.script_run.proofs.EndLemmas.{all_given, script_served, serves_from, u
 use Rattle.script_run.proofs.MailStaysLemmas.{opening_keeps, run_keeps, stays_from}
 use Rattle.script_run.proofs.CopyTaskLemmas.{IsCopyTold, StandsCopy, begun_copy, keeps_copy}
 use Rattle.script_run.proofs.ChainLemmas.{HasCounted, HasDoomedNone, HasOnlyRead, HasReadAsTold, HasReadNoOctets, HasWrittenNone, WritesNoMail, calm_on, counted_first, counted_on, reads_on, stays_over, syncs_first, unread_on, unwritten_on}
-use Rattle.script_run.proofs.SinceLemmas.{ServedSince, answers_first, begun_first, changes_none, dooms_first, fresh_tasks, reads_first, reads_unpurged, served_since, unpurged, unread_first, unwritten_first}
-use Rattle.script_run.specs.Purged.{IsPurgedAlone}
+use Rattle.script_run.proofs.SinceLemmas.{MayBeRefused, ServedSince, answers_first, begun_first, changes_none, dooms_first, fresh_tasks, reads_first, reads_unpurged, served_since, unpurged, unread_first, unwritten_first}
+use Rattle.script_run.specs.Purged.{IsPurgedAlone, IsRefusedRoomAlone, LacksRoom}
 use Rattle.script_run.specs.Resynced.{IsResyncedAlone}
+use Rattle.script_run.specs.Sealed.{KeepsSealed}
 use Rattle.script_run.proofs.MakeTaskLemmas.{IsMakeTold, StandsMake, begun_make, keeps_make, making_cause, unmade_alike}
 use Rattle.script_run.proofs.MoveTaskLemmas.{IsMoveTold, StandsMove, begun_move, keeps_move}
 use Rattle.script_run.proofs.MovedLemmas.{all_at, none_moved}
@@ -65,6 +67,7 @@ use Rattle.script_run.proofs.ReadFaultLemmas.{TellsFault, faults_are_told}
 use Rattle.script_run.proofs.PurgeTaskLemmas.{IsPurgeTold, StandsPurge, begun_purge, keeps_purge}
 use Rattle.script_run.proofs.ResyncTaskLemmas.{IsResyncTold, StandsResync, begun_resync, keeps_resync}
 use Rattle.script_run.proofs.RunBeginsLemmas.{OpenedNow, at_opening, before_opening, beginning, first_come, opening_begins}
+use Rattle.script_run.proofs.SealedLemmas.{HasKeptSealed, keeps_sealed, sealed_first, sealed_on}
 use Rattle.script_run.proofs.ShownLemmas.{LogsShow, carried_safe, opened_logs_show, opens_again}
 use Rattle.script_run.proofs.SomeListsLemmas.{some_lists}
 
@@ -288,7 +291,7 @@ serves_run script old mid new first last s world ended r given are start shows m
     let going = subst (λ (rs : List (Option Reply)). IsGoing start script run w.more w.broke rs from ended.store new last ended.rows) are w.is.going in
     script_served start script run w.more w.broke given ended.journal from ended.began ended.store mid new last ended.rows going going.serving.stays_stopped r.later r.opened.drawn (opening_begins old mid s r.opened)
     (λ e. let i = going.serving.replied_stopped e in given_at given i.0 (reply.Refused refusal.Stopped) i.1) (subst (λ (n : ℕ). IsMoment mid n) (sym r.same_began) r.made_is, w.later) w.is.entries
-    (λ none. w.refused (fresh_tasks IsAtStart script world.rows (λ place lane asked t at begins. begun_first asked t (unpurged script place lane asked none at) begins) r.fresh))
+    (w.refused (fresh_tasks MayBeRefused script world.rows (λ place lane asked t at begins. begun_first asked t begins) r.fresh))
 
 -- Some lists are shown from which the script may be served, if there are lists from which it may read.
 start_of : {D : Type 0} → (script : Requests) (old mid : Option History) (s : StoreValue D) → OpenedNow old mid s → LogsShow → MayBeServed script old → (start : Lists) × LogsShowLists s.map (indexes_of s.boxes) start × MayRead script start old
@@ -398,6 +401,12 @@ purged_alone : {D : Type 0} → (script : Requests) (old mid new : Option Histor
 purged_alone ((at, request.Purge) ∷ []) old mid new first last s world ended r (one ∷ []) are = (purge_told at one old mid new first last s world ended r are).answer
 purged_alone script old mid new first last s world ended r given are = tt
 
+-- a purge refused for lack of numbers or room, by the numbers that the opening found drawn
+room_alone : {D : Type 0} → (script : Requests) (old mid new : Option History) (first last : Faults) (s : StoreValue D) (world ended : WorldValue D) → ScriptRan script old mid new first last s world ended → (given : List Reply) → ended.replies ≡ map Some given → IsRefusedRoomAlone script given mid s.map
+room_alone ((at, request.Purge) ∷ []) old mid new first last s world ended r (reply.Refused (refusal.StoreFull limit) ∷ []) are =
+    subst (λ (drawn : ℕ). LacksRoom s.map drawn mid) (ap (λ (v : FilesValue). v.highest) r.opened.files.is) ((purge_told at (reply.Refused (refusal.StoreFull limit)) old mid new first last s world ended r are).room limit refl)
+room_alone script old mid new first last s world ended r given are = tt
+
 unmade_alone : {D : Type 0} → (script : Requests) (old mid new : Option History) (first last : Faults) (s : StoreValue D) (world ended : WorldValue D) → ScriptRan script old mid new first last s world ended → (given : List Reply) → ended.replies ≡ map Some given → IsUnmadeAlone script given → ReadAlike mid new
 unmade_alone ((at, request.Make name) ∷ []) old mid new first last s world ended r (reply.Refused why ∷ []) are running = unmade_alike r.opened.swept.0 s old mid new r.opened.swept.1 ((make_told at name (reply.Refused why) old mid new first last s world ended r are).leaves why refl running)
 unmade_alone script old mid new first last s world ended r given are none = absurd none
@@ -426,6 +435,17 @@ stays_run script old mid new first last s world ended r may = by_test (has_deliv
         let kept = (unwritten_run script old mid new first last s world ended r e may.0).kept s.map in
         stays_from old mid new s.map (indexes_of s.boxes) r.opened.opened r.opened.reads r.opened.stays kept
 
+-- and sealed storage files stay, also where a script purges
+sealed_run : {D : Type 0} → (script : Requests) (old mid new : Option History) (first last : Faults) (s : StoreValue D) (world ended : WorldValue D) → ScriptRan script old mid new first last s world ended → MayBeServed script old → KeepsSealed old new
+sealed_run script old mid new first last s world ended r may =
+    let run : Run = beginning s.map r.opened.store.entries in
+    let from : Seen = before_opening (seen_in s mid first) old in
+    let start = start_of script old mid s r.opened r.show may in
+    let fresh = world_finished start.0 script run [] no_broken from mid first world (r.begins start.0 start.1 start.2) in
+    let last_kept = stays_over (HasKeptSealed start.0 script s.map mid) (sealed_on start.0 script s.map mid) 0 r.turns (as_finished world) ended mid new first last r.chain
+        (sealed_first start.0 script run no_broken from s.map mid (as_finished world) first fresh (ap (λ (v : StoreValue _). v.map) r.store_is)) in
+    keeps_sealed old mid new s.map (indexes_of s.boxes) r.opened.opened r.opened.reads r.opened.stays last_kept.kept
+
 done_run : {D : Type 0} → (script : Requests) (old mid new : Option History) (first last : Faults) (s : StoreValue D) (world ended : WorldValue D) → ScriptRan script old mid new first last s world ended → (given : List Reply) → ended.replies ≡ map Some given → IsScriptDone script given ended.journal old new first last
 unfolding leaves_run serves_run script_served
 done_run script old mid new first last s world ended r given are =
@@ -453,12 +473,13 @@ done_run script old mid new first last s world ended r given are =
       counts = record { counted = counts.reads; changes = counts.changes; unchanged = λ unstopped. counts.unchanged (stopped_by script old mid new first last s world ended r given are unstopped); unread = λ none. (unread_run script old mid new first last s world ended r none).unread; calm = λ none untold. calm_run script old mid new first last s world ended r given are none untold };
       leaves = leaves_run script old mid new first last s world ended r given are;
       stays = λ may. stays_run script old mid new first last s world ended r may;
+      sealed = λ may. sealed_run script old mid new first last s world ended r may;
     }
 
 -- It was done, and left the store so.
 pub script_done : {D : Type 0} → (script : Requests) (old mid new : Option History) (first last : Faults) (s : StoreValue D) (world ended : WorldValue D) → ScriptRan script old mid new first last s world ended
     → (given : List Reply) × (ended.replies ≡ map Some given) × IsServedOpen script given ended.journal old new first last ended.store
-unfolding done_run leaves_run
+unfolding done_run leaves_run serves_run script_served
 script_done script old mid new first last s world ended r =
     let g = all_given ended.replies r.replied in (
       g.0,
@@ -467,11 +488,13 @@ script_done script old mid new first last s world ended r =
         done = done_run script old mid new first last s world ended r g.0 g.1;
         comes = record {
           shows = λ lists shows may. (serves_run script old mid new first last s world ended r g.0 g.1 lists shows may).1;
+          means = λ lists shows may. refl;
           again = λ unstopped. opens_again new ended.store r.later (stopped_by script old mid new first last s world ended r g.0 g.1 unstopped);
           alike = alike_alone script old mid new first last s world ended r g.0 g.1;
           made = made_alone script old mid new first last s world ended r g.0 g.1;
           resynced = resynced_alone script old mid new first last s world ended r g.0 g.1;
           purged = purged_alone script old mid new first last s world ended r g.0 g.1;
+          room = room_alone script old mid new first last s world ended r g.0 g.1;
         };
         stopped = λ e. replied_by script old mid new first last s world ended r g.0 g.1 e;
         told = told_alone script old mid new first last s world ended r g.0 g.1;

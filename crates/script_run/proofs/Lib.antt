@@ -20,6 +20,7 @@ pub mod ReachedMoveLemmas
 pub mod ReachedSaveLemmas
 pub mod ResyncTaskLemmas
 pub mod RunBeginsLemmas
+pub mod SealedLemmas
 pub mod ShownLemmas
 pub mod SinceLemmas
 pub mod SomeListsLemmas

@@ -18,6 +18,7 @@ use Rattle.task_steps.proofs.OneEventLemmas.{not_true}
 use Rattle.mail_ops.specs.Requests.{IsOpsRequest}
 use Rattle.purge_task.specs.Clause.{KeepsRegions}
 use Rattle.purge_task.specs.Dropped.{DropsFrom, DropsUnwanted, TellsCounts}
+use Rattle.purge_task.specs.Found.{IsFindRefusal}
 use Rattle.purge_task.specs.Keeping.{PurgeValue}
 use Rattle.purge_task.specs.Quiet.{HasBeenQuiet, HaveSameRegions, IsQuietFrom, KeepsQuiet, StaysQuiet}
 use Rattle.purge_task.specs.declared.task.PurgeStage.{PurgeStage}
@@ -30,7 +31,7 @@ use Rattle.lane_tasks.specs.Tasks.{BeginsTask}
 use Rattle.lane_tasks.specs.declared.task.Task.{Task}
 use Rattle.lane_tasks.specs.declared.task.Task.TheVariants as task
 use Rattle.lane_tasks.proofs.StepLemmas.{ops_asked}
-use Rattle.script_run.specs.Purged.{HasPurgedQuietly, IsPurgeAnswer}
+use Rattle.script_run.specs.Purged.{HasPurgedQuietly, IsPurgeAnswer, LacksRoom}
 use Rattle.script_run.proofs.OneTaskLemmas.{KeepsAlone}
 
 -- ---- what it knows
@@ -45,20 +46,21 @@ abbrev AtQuiet : {D : Type 0} → StoreValue D → Option History → PurgeStage
 AtQuiet s mid at t store history = Between (λ began now. IsQuietFrom at (files_of began) s.map t store (files_of now)) mid history
 
 -- Before the first event nothing has happened.
-abbrev AtOpened : Option History → PurgeStage → Option History → Type 0
-AtOpened mid stage.First history = history ≡ mid
-AtOpened mid other history = Unit {0}
+abbrev AtOpened : {D : Type 0} → StoreValue D → Option History → PurgeStage → StoreValue D → Option History → Type 0
+AtOpened s mid stage.First store history = (history ≡ mid) × (store ≡ s)
+AtOpened s mid other store history = Unit {0}
 
 abbrev pub StandsPurge : {D : Type 0} → StoreValue D → Option History → Task → StoreValue D → Option History → Type 0
-StandsPurge s mid (task.Purge t) store history = (store.stopped ≡ false) × AtPurge s.map t.stage t.dropped store.map × AtQuiet s mid t.stage t store history × AtOpened mid t.stage history
+StandsPurge s mid (task.Purge t) store history = (store.stopped ≡ false) × AtPurge s.map t.stage t.dropped store.map × AtQuiet s mid t.stage t store history × AtOpened s mid t.stage store history
 StandsPurge s mid (task.Ops t) store history = request.Purge ≡ t.request
 StandsPurge s mid other store history = ⊥
 
 -- Its reply tells what it made of the files that the opening left, and of the map that the store had which was opened. Where it is refused
--- but by a failed call, nothing has changed.
+-- but by a failed call, nothing has changed; and where it is refused for lack of numbers or room, it lacks them.
 pub record IsPurgeTold {D : Type 0} (s : StoreValue D) (mid : Option History) (given : Reply) (store : StoreValue D) (history : Option History) : Type 0 where
   pub answer : IsPurgeAnswer given mid history s.map store.map
   pub unchanged : (why : Refusal) → given ≡ reply.Refused why → why ≢ refusal.ReadFault → why ≢ refusal.Stopped → IsIdle mid history
+  pub room : (limit : ℕ) → given ≡ reply.Refused (refusal.StoreFull limit) → LacksRoom s.map s.files.highest mid
 
 -- ---- event after event
 
@@ -72,13 +74,21 @@ goes_at : (m now : MapMeaning) (at : PurgeStage) (dropped : ℕ) → at ≢ stag
 goes_at m now stage.First dropped other drops = absurd (other refl)
 goes_at m now at dropped other drops = drops
 
-goes_from : (mid history : Option History) (at : PurgeStage) → at ≢ stage.First → AtOpened mid at history
-goes_from mid history stage.First other = absurd (other refl)
-goes_from mid history at other = tt
+goes_from : {D : Type 0} → (s store : StoreValue D) (mid history : Option History) (at : PurgeStage) → at ≢ stage.First → AtOpened s mid at store history
+goes_from s store mid history stage.First other = absurd (other refl)
+goes_from s store mid history at other = tt
 
--- the first event changes nothing
-idle_first : (mid before after : Option History) (at : PurgeStage) → at ≡ stage.First → AtOpened mid at before → IsIdle before after → IsIdle mid after
-idle_first mid before after at first was idle = subst (λ (h : Option History). IsIdle h after) (subst (λ (k : PurgeStage). AtOpened mid k before) first was) idle
+-- the first event finds the store as it was opened
+opened_first : {D : Type 0} → (s store : StoreValue D) (mid before : Option History) (at : PurgeStage) → at ≡ stage.First → AtOpened s mid at store before → (before ≡ mid) × (store ≡ s)
+opened_first s store mid before at first was = subst (λ (k : PurgeStage). AtOpened s mid k store before) first was
+
+-- and changes nothing
+idle_first : {D : Type 0} → (s store : StoreValue D) (mid before after : Option History) (at : PurgeStage) → at ≡ stage.First → AtOpened s mid at store before → IsIdle before after → IsIdle mid after
+idle_first s store mid before after at first was idle = subst (λ (h : Option History). IsIdle h after) (opened_first s store mid before at first was).0 idle
+
+-- what it looked for in vain
+room_lacks : {D : Type 0} → (store : StoreValue D) (history : Option History) (limit : ℕ) → IsFindRefusal store history (refusal.StoreFull limit) → LacksRoom store.map store.files.highest history
+room_lacks store history limit (most, (files, found, lacks)) = record { files = files; rising = found.finds.known.rising; unclean = found.finds.unclean; each = found.each; lacks = lacks }
 
 -- a record that is there was there
 was_before : (at : PurgeStage) (before after : ℕ) (old new : MapMeaning) → DropsFrom at before after old new → (now : MapRecord) → Contains new.records now → (was : MapRecord) × Contains old.records was × (was.uid ≡ now.uid)
@@ -138,12 +148,22 @@ purge_at {D} s old new mid before after t next ended stands so runs = (more, tol
     more none =
         let begun : next.stage ≢ stage.First = subst (λ (a : Option Reply). TellsCounts t next (progress_by a)) none so.counts in
         let keeps = subst (λ (o : Option Reply). KeepsQuiet t next (progress_by o) old new before after) none so.quiet in
-        (runs (goes_on none), goes_at s.map new.map next.stage next.dropped begun (dropped (goes_on none)), quiet_on s old new mid before after t next begun stands.2 (keeps (runs (goes_on none))), goes_from mid after next.stage begun)
+        (runs (goes_on none), goes_at s.map new.map next.stage next.dropped begun (dropped (goes_on none)), quiet_on s old new mid before after t next begun stands.2 (keeps (runs (goes_on none))), goes_from s new mid after next.stage begun)
+
+    room : (given : Reply) → ended ≡ Some given → (limit : ℕ) → given ≡ reply.Refused (refusal.StoreFull limit) → LacksRoom s.map s.files.highest mid
+    room given e limit is =
+        let why : Refusal = refusal.StoreFull limit in
+        let ends : ended ≡ Some (reply.Refused why) = e ∙ ap (λ (r : Reply). Some r) is in
+        let first = so.refused why ends (λ k. cc k) (λ k. cc k) in
+        let begun = opened_first s old mid before t.stage first stands.3 in
+        let lacks = room_lacks old before limit ((so.first first).full limit (ap progress_by ends)) in
+        subst (λ (h : Option History). LacksRoom s.map s.files.highest h) begun.0 (subst (λ (v : StoreValue D). LacksRoom v.map v.files.highest before) begun.1 lacks)
 
     told : (given : Reply) → ended ≡ Some given → IsPurgeTold s mid given new after
     told given e = record {
       answer = purge_told s.map new.map mid after t next given (subst (λ (o : Option Reply). TellsCounts t next (progress_by o)) e so.counts) (λ other. dropped (λ stopped. other (same given e stopped))) (λ records files instances told. quiet given e records files instances told) (λ other. kept (λ stopped. other (same given e stopped)));
-      unchanged = λ why is read stopped. let first = so.refused why (e ∙ ap (λ (r : Reply). Some r) is) read stopped in idle_first mid before after t.stage first stands.3 (so.first first).idle;
+      unchanged = λ why is read stopped. let first = so.refused why (e ∙ ap (λ (r : Reply). Some r) is) read stopped in idle_first s old mid before after t.stage first stands.3 (so.first first).idle;
+      room = λ limit is. room given e limit is;
     }
 
 purge_on : {D : Type 0} → (s : StoreValue D) (mid : Option History) (t next : Task) (old new : StoreValue D) (before after : Option History) (ended : Option Reply) → StandsPurge s mid t old before → StaysOfRequest t next → TellsStore t next old new before after ended → ((ended ≡ Some (reply.Refused refusal.Stopped) → ⊥) → new.stopped ≡ false)
@@ -162,7 +182,7 @@ quiet_begun : {D : Type 0} → (s : StoreValue D) (mid : Option History) (t : Pu
 quiet_begun s mid t unused = between-begins (λ began now. IsQuietFrom stage.First (files_of began) s.map t s (files_of now)) mid (λ disk. (only_first s unused, refl, refl))
 
 pub begun_purge : {D : Type 0} → (s : StoreValue D) (mid : Option History) → HasNoTask s → s.stopped ≡ false → (t : Task) → BeginsTask request.Purge t → StandsPurge s mid t s mid
-begun_purge s mid unused running (task.Purge t) b = (running, subst (λ (at : PurgeStage). AtPurge s.map at t.dropped s.map) (sym b.at) refl, subst (λ (at : PurgeStage). AtQuiet s mid at t s mid) (sym b.at) (quiet_begun s mid t unused), subst (λ (at : PurgeStage). AtOpened mid at mid) (sym b.at) refl)
+begun_purge s mid unused running (task.Purge t) b = (running, subst (λ (at : PurgeStage). AtPurge s.map at t.dropped s.map) (sym b.at) refl, subst (λ (at : PurgeStage). AtQuiet s mid at t s mid) (sym b.at) (quiet_begun s mid t unused), subst (λ (at : PurgeStage). AtOpened s mid at s mid) (sym b.at) (refl, refl))
 begun_purge s mid unused running (task.Ops t) b = b.is_of
 begun_purge s mid unused running (task.Counts t) b = absurd (cc b.is_of)
 begun_purge s mid unused running (task.Make t) b = absurd (cc b.is_of)

@@ -1,5 +1,5 @@
 -- What a world did is handed out with its store, and handed back with the disk.
-use Rattle.std.specs.Prelude.{◌≡◌, ℕ, false, List, [], ◌∷◌, Option, Some, None, length, replicate, slice_get}
+use Rattle.std.specs.Prelude.{◌≡◌, ℕ, false, List, [], ◌∷◌, Option, Some, None, length, map, replicate, slice_get}
 use Rattle.std.proofs.Common.{refl, sym, ap, subst, ◌∙◌}
 use Rattle.disk_model.specs.Disk.{Faults, History}
 use Rattle.mdbox_base.specs.declared.replies.Reply.{Reply}
@@ -18,9 +18,11 @@ use Rattle.lane_tasks.specs.Tasks.{BeginsTask}
 use Rattle.lane_tasks.specs.declared.task.Task.{Task}
 use Rattle.lanes.specs.Going.{AreFreshRows}
 use Rattle.lanes.proofs.TraceLemmas.{as_finished}
+use Rattle.script_run.proofs.AloneLemmas.{request_here}
 use Rattle.script_run.proofs.ChainLemmas.{stays_over}
 use Rattle.script_run.proofs.DoneLemmas.{EndedParts}
 use Rattle.script_run.proofs.OneTaskLemmas.{IsAloneSo, KeepsAlone, KeepsCounted, alone_fresh, alone_on}
+use Rattle.script_run.specs.LeftOpen.{IsRequestDone, IsServedOpen}
 use Rattle.script_run.specs.One.{alone}
 use Rattle.script_run.specs.Opening.{StaysSettled}
 use Rattle.script_run.specs.Worked.{IsWorkedOut}
@@ -66,16 +68,17 @@ pub worked_back : {D : Type 0} → (history : D → Option History) (faults : D 
 worked_back {D} history faults script lanes replies entries old began store disk is worked =
     subst (λ (d : D). IsWorkedOut D script lanes replies entries old (history d) began (faults d)) (sym is) worked
 
--- The script was that of a request alone.
-pub worked_alone : {D : Type 0} → (history : D → Option History) (faults : D → Faults) (request : Request) (script : Script) (one : Reply) (replies : List (Option Reply)) (entries : List JournalEntry) (old : Option History) (began : Faults) (store : StoreValue D) (disk : D) → disk ≡ store.disk → script.lanes ≡ 1 → script.requests ≡ alone request → replies ≡ Some one ∷ []
-    → IsWorkedOut D script.requests script.lanes replies entries old (history store.disk) began (faults store.disk) → (entries : List JournalEntry) × IsWorkedOut D (alone request) 1 (Some one ∷ []) entries old (history disk) began (faults disk)
-worked_alone {D} history faults request script one replies entries old began store disk is lanes requests given worked =
-    let a = worked_back history faults script.requests script.lanes replies entries old began store disk is worked in
-    let b = subst (λ (n : ℕ). IsWorkedOut D script.requests n replies entries old (history disk) began (faults disk)) lanes a in
-    let c = subst (λ (q : Requests). IsWorkedOut D q 1 replies entries old (history disk) began (faults disk)) requests b in (
-      entries,
-      subst (λ (rs : List (Option Reply)). IsWorkedOut D (alone request) 1 rs entries old (history disk) began (faults disk)) given c,
-    )
+-- The script was that of a request alone, whose entries are those of the same run.
+pub worked_alone : {D : Type 0} → (history : D → Option History) (faults : D → Faults) (request : Request) (script : Script) (given : List Reply) (one : Reply) (replies : List (Option Reply)) (entries : List JournalEntry) (old : Option History) (began : Faults) (store : StoreValue D) (disk : D) → disk ≡ store.disk → script.lanes ≡ 1 → script.requests ≡ alone request
+    → replies ≡ map Some given → replies ≡ Some one ∷ [] → IsServedOpen script.requests given entries old (history store.disk) began (faults store.disk) store → IsWorkedOut D script.requests script.lanes replies entries old (history store.disk) began (faults store.disk)
+    → (own : IsRequestDone request one old (history disk) began (faults disk)) × IsWorkedOut D (alone request) 1 (Some one ∷ []) own.entries old (history disk) began (faults disk)
+worked_alone {D} history faults request script given one replies entries old began store disk is lanes requests all only served worked =
+    let own = request_here history faults request script.requests given replies one entries old began store requests all only served in
+    let a = subst (λ (n : ℕ). IsWorkedOut D script.requests n replies entries old (history store.disk) began (faults store.disk)) lanes worked in
+    let b = subst (λ (q : Requests). IsWorkedOut D q 1 replies entries old (history store.disk) began (faults store.disk)) requests a in
+    let c = subst (λ (rs : List (Option Reply)). IsWorkedOut D (alone request) 1 rs entries old (history store.disk) began (faults store.disk)) only b in
+    let d = subst (λ (es : List JournalEntry). IsWorkedOut D (alone request) 1 (Some one ∷ []) es old (history store.disk) began (faults store.disk)) (sym own.1) c in
+    subst (λ (d : D). (own : IsRequestDone request one old (history d) began (faults d)) × IsWorkedOut D (alone request) 1 (Some one ∷ []) own.entries old (history d) began (faults d)) (sym is) (own.0, d)
 
 -- What the one task of a request alone knows, from one event to the next, it knows in the end, with its reply.
 pub worked_counted : {D : Type 0} → (Stands : Task → StoreValue D → Option History → Faults → Type 0) (Told : Reply → StoreValue D → Option History → Faults → Type 0) (asked : Request) (one : Reply) (entries : List JournalEntry) (old new : Option History) (began now : Faults) → (w : IsWorkedOut D (alone asked) 1 (Some one ∷ []) entries old new began now)

@@ -16,6 +16,7 @@ use Rattle.task_claims.specs.Leaving.{SyncsMail}
 use Rattle.script_run.specs.Faults.{CountsStay, FaultsByReplies}
 use Rattle.script_run.specs.Opening.{AreSafeFor, BeginsAs, LogsShowLists}
 use Rattle.script_run.specs.Script.{HasStopped, ServesScript, has_change, has_delivery, has_fetch, has_purge}
+use Rattle.script_run.specs.Sealed.{KeepsSealed}
 
 -- If the script reads a message, the disk was settled for these lists; of a script of one request it is enough that its files were safe
 -- for them.
@@ -48,7 +49,7 @@ pub record LeavesStore (script : Requests) (m : MapMeaning) (given : List Reply)
 -- the logs mean; whenever the files are safe for lists, the logs show them. No reply says that a message is damaged, if the script may be
 -- served from any lists; and then no reply to a script that only lists, counts and fetches says that the store is stopped. Which calls of
 -- the disk failed follows from the replies; of a script that can't be served so, how the counts of faults stay. At each moment
--- storage files and instances stayed.
+-- storage files and instances stayed; and where a script purges, sealed storage files did.
 pub record IsScriptDone (script : Requests) (given : List Reply) (entries : List JournalEntry) (old new : Option History) (began now : Faults) : Type 0 where
   pub each : length given ≡ length script
   pub m : MapMeaning
@@ -63,3 +64,4 @@ pub record IsScriptDone (script : Requests) (given : List Reply) (entries : List
   pub faults : MayBeServed script old → FaultsByReplies given began now
   pub counts : CountsStay script given began now
   pub stays : MayBeKept script old → KeepsOpenedMail old new
+  pub sealed : MayBeServed script old → KeepsSealed old new

@@ -6,4 +6,5 @@ pub mod Opening
 pub mod Purged
 pub mod Resynced
 pub mod Script
+pub mod Sealed
 pub mod Worked

@@ -1,7 +1,6 @@
 // The run of a script, and of a request alone.
 ghost use Rattle.std.specs.Prelude.{◌≡◌, ◌≤◌, ◌∷◌, [], List, Some, length, map, IfErr, IfOk};
 ghost use Rattle.mdbox_base.specs.declared.replies.Reply.{Reply as ReplyValue};
-ghost use Rattle.mdbox_base.specs.declared.script.JournalEntry.{JournalEntry as EntryValue};
 ghost use Rattle.lanes.specs.Worlds.{AreGiven, AreOfLanes, HasItsMessage};
 ghost use Rattle.script_run.specs.Done.{IsScriptDone};
 ghost use Rattle.script_run.specs.LeftOpen.{IsRequestDone, IsServedOpen};
@@ -121,8 +120,7 @@ pub fn run_request<D: Disk>(
     prepared: Option<Prepared>,
 ) -> Result<(Reply, D), OpenRefused<D>>
     requires given { HasItsMessage request prepared }
-    ensures done { IfOk result (λ done. IsRequestDone request done.0 (D.history disk) (D.history done.1) (D.faults disk) (D.faults done.1)) }
-    ensures worked { IfOk result (λ done. (entries : List EntryValue) × IsWorkedOut D (alone request) 1 (Some done.0 ∷ []) entries (D.history disk) (D.history done.1) (D.faults disk) (D.faults done.1)) }
+    ensures done { IfOk result (λ done. (own : IsRequestDone request done.0 (D.history disk) (D.history done.1) (D.faults disk) (D.faults done.1)) × IsWorkedOut D (alone request) 1 (Some done.0 ∷ []) own.entries (D.history disk) (D.history done.1) (D.faults disk) (D.faults done.1)) }
     ensures refused { IfErr result (λ refused. IsUnopened refused.error (D.history disk) (D.history refused.disk) (D.faults disk) (D.faults refused.disk)) }
 {
     match script_of(alloc, request, prepared) {

@@ -7,8 +7,10 @@ use Rattle.mdbox_top.proofs.alone.serve.Goals as goal
 pub returns-in-Ok-clause-ends : goal.returns-in-Ok-clause-ends
 returns-in-Ok-clause-ends g c = inr (record {
   given = c.in-Ok.reply;
+  journal = c.in-Ok.ensures.served.0;
+  done = c.in-Ok.ensures.served.1;
+  worked = c.in-Ok.ensures.served.2;
   tells = c.in-Ok.ensures.done.tells;
-  serves = c.in-Ok.ensures.done.serves;
   faults = c.in-Ok.ensures.done.faults;
   printed = shows_text c.args.request c.in-Ok.reply _ _ _ c.print_outcome.result c.prints_octets-octets_alone.ensures c.print_outcome.ensures.shown;
 })

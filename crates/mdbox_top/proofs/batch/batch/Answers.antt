@@ -12,7 +12,7 @@ pub returns-in-Ok-clause-rests : goal.returns-in-Ok-clause-rests
 returns-in-Ok-clause-rests g c = inr (c.in-Ok.script, c.in-Ok.ensures.script, c.run_requests.ensures.rests)
 
 pub returns-in-Ok-clause-read_fault : goal.returns-in-Ok-clause-read_fault
-returns-in-Ok-clause-read_fault g c = λ e. absurd (script_ended c.in-Ok.script.requests _ _ _ _ _ _ c.run_requests.result.0 c.run_requests.ensures.ends (inl e))
+returns-in-Ok-clause-read_fault g c = λ e. absurd (script_ended c.in-Ok.script _ _ _ _ _ _ c.run_requests.result.0 c.run_requests.ensures.ends (inl e))
 
 pub returns-in-Err-clause-ends : goal.returns-in-Err-clause-ends
 returns-in-Err-clause-ends g c = inl (c.in-Err.ensures.none, refl, refl, refl)
@@ -38,8 +38,5 @@ returns-in-Ok-clause-disk_fault g c = λ tells. c.run_requests.ensures.disk_faul
 pub returns-in-Ok-clause-disk_quiet : goal.returns-in-Ok-clause-disk_quiet
 returns-in-Ok-clause-disk_quiet g c = λ tells. c.run_requests.ensures.disk_quiet (tells c.in-Ok.script c.in-Ok.ensures.script)
 
-pub returns-in-Ok-clause-worked : goal.returns-in-Ok-clause-worked
-returns-in-Ok-clause-worked g c = inr (c.in-Ok.script, c.in-Ok.ensures.script, c.run_requests.ensures.worked)
-
-pub returns-in-Err-clause-worked : goal.returns-in-Err-clause-worked
-returns-in-Err-clause-worked g c = inl c.in-Err.ensures.none
+pub returns-in-Ok-clause-uncalled : goal.returns-in-Ok-clause-uncalled
+returns-in-Ok-clause-uncalled g c = λ e. absurd (script_ended c.in-Ok.script _ _ _ _ _ _ c.run_requests.result.0 c.run_requests.ensures.ends e)

@@ -1,9 +1,7 @@
 use Rattle.std.specs.Prelude.{map, Some}
 use Rattle.std.proofs.Common.{inr}
 use Rattle.request_text.specs.BatchText.{batch_text}
-use Rattle.mdbox_top.proofs.BatchLemmas.{script_fault, script_moments, script_quiet, script_rests, shown_as, unopened_as, unopened_script, unopened_script_rests}
-use Rattle.mdbox_top.proofs.WorkLemmas.{work_shown}
-use Rattle.mdbox_top.specs.BatchWork.{ShowsWork}
+use Rattle.mdbox_top.proofs.BatchLemmas.{script_fault, script_moments, script_quiet, script_rests, shown_as, unopened_script, unopened_script_rests, worked_for}
 use Rattle.mdbox_top.proofs.batch.run_requests.Goals as goal
 
 pub returns-in-Ok-clause-moments : goal.returns-in-Ok-clause-moments
@@ -39,17 +37,11 @@ returns-in-Ok-clause-ends g c =
       given = done.0;
       journal = c.in-Ok.field-0.journal;
       done = done.2;
+      worked = worked_for c.args.script c.in-Ok.field-0.replies (map Some done.0) c.in-Ok.field-0.journal _ _ _ _ done.1 c.in-Ok.ensures.worked;
       printed = shown;
       fault = λ may. script_fault text done.0 _ _ _ _ c.print_replies-ended.result (done.2.faults may) shown;
       quiet = λ may. script_quiet text done.0 _ _ _ _ c.print_replies-ended.result (done.2.faults may) shown;
     })
 
 pub returns-in-Err-clause-ends : goal.returns-in-Err-clause-ends
-returns-in-Err-clause-ends g c = rw c.outcome_of.ensures (unopened_script c.args.script.requests _ _ _ _ _ c.in-Err.field-0.error c.in-Err.ensures.refused)
-
-pub returns-in-Ok-clause-worked : goal.returns-in-Ok-clause-worked
-returns-in-Ok-clause-worked g c =
-    inr (work_shown c.args.script c.as_slice.result.now c.in-Ok.field-0.journal c.as_slice-in-Ok.result.now c.in-Ok.field-0.replies _ _ _ _ _ _ c.print_replies-ended.result c.as_slice.ensures c.as_slice-in-Ok.ensures c.in-Ok.ensures.worked c.print_replies-ended.ensures.shown)
-
-pub returns-in-Err-clause-worked : goal.returns-in-Err-clause-worked
-returns-in-Err-clause-worked g c = rw c.outcome_of.ensures (unopened_as (ShowsWork _ c.args.script _ _ _ _ _ _) _ _ _ _ _ c.in-Err.field-0.error c.in-Err.ensures.refused)
+returns-in-Err-clause-ends g c = rw c.outcome_of.ensures (unopened_script c.args.script _ _ _ _ _ c.in-Err.field-0.error c.in-Err.ensures.refused)

@@ -1,5 +1,6 @@
 use Rattle.std.proofs.Common.{refl, inl, inr, arith}
-use Rattle.mdbox_top.proofs.DeliverLemmas.{save_input, save_reads, unread_apart}
+use Rattle.mdbox_top.proofs.DeliverLemmas.{unread_apart}
+use Rattle.mdbox_top.proofs.RequestLemmas.{request_ended}
 use Rattle.mdbox_top.proofs.deliver.deliver.Goals as goal
 
 pub returns-in-Ok-clause-ends : goal.returns-in-Ok-clause-ends
@@ -14,10 +15,10 @@ pub returns-in-Ok-clause-rests : goal.returns-in-Ok-clause-rests
 returns-in-Ok-clause-rests g c = inr (c.in-Ok.message, c.in-Ok.time, c.in-Ok.ensures.message.0, c.in-Ok.ensures.time, c.serve.ensures.rests)
 
 pub returns-in-Ok-clause-read_fault : goal.returns-in-Ok-clause-read_fault
-returns-in-Ok-clause-read_fault g c = λ e. absurd (save_reads c.args.name c.in-Ok.time c.in-Ok.message _ _ _ _ _ _ c.serve.result.0 c.serve.ensures.ends e)
+returns-in-Ok-clause-read_fault g c = λ e. absurd (request_ended _ _ _ _ _ _ _ _ c.serve.result.0 c.serve.ensures.ends (inl e))
 
 pub returns-in-Err-clause-ends : goal.returns-in-Err-clause-ends
-returns-in-Err-clause-ends g c = inl (c.in-Err.ensures.unread, refl, refl)
+returns-in-Err-clause-ends g c = inl (c.in-Err.ensures.unread, refl, refl, refl)
 
 pub returns-in-Err-clause-moments : goal.returns-in-Err-clause-moments
 returns-in-Err-clause-moments g c = inl refl
@@ -35,4 +36,7 @@ pub returns-in-Err-clause-disk_quiet : goal.returns-in-Err-clause-disk_quiet
 returns-in-Err-clause-disk_quiet g c = λ other. refl
 
 pub returns-in-Ok-clause-too_long : goal.returns-in-Ok-clause-too_long
-returns-in-Ok-clause-too_long g c = λ why e. absurd (save_input c.args.name c.in-Ok.time c.in-Ok.message _ _ _ _ _ _ c.serve.result.0 c.serve.ensures.ends why e)
+returns-in-Ok-clause-too_long g c = λ why e. absurd (request_ended _ _ _ _ _ _ _ _ c.serve.result.0 c.serve.ensures.ends (inr (why, e)))
+
+pub returns-in-Ok-clause-uncalled : goal.returns-in-Ok-clause-uncalled
+returns-in-Ok-clause-uncalled g c = λ e. absurd (request_ended _ _ _ _ _ _ _ _ c.serve.result.0 c.serve.ensures.ends e)

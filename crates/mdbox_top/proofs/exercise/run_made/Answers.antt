@@ -11,25 +11,25 @@ print_numbers-ended-requires g c =
 
 pub returns-in-Ok-clause-ends : goal.returns-in-Ok-clause-ends
 returns-in-Ok-clause-ends g c =
-    inr (counted_from g.D.Disk.history g.D.Disk.faults c.args.script.requests c.in-Ok.field-0.store c.into_disk.result c.as_slice.result.now c.in-Ok.field-0.replies c.in-Ok.field-0.journal _ _ _ _ c.print_numbers-ended.result c.requires.unread c.into_disk.ensures c.as_slice.ensures c.in-Ok.ensures.served c.print_numbers-ended.ensures.shown c.print_numbers-ended.ensures.told)
+    inr (counted_from g.D.Disk.history g.D.Disk.faults c.args.script c.in-Ok.field-0.store c.into_disk.result c.as_slice.result.now c.in-Ok.field-0.replies c.in-Ok.field-0.journal _ _ _ _ c.print_numbers-ended.result c.requires.unread c.into_disk.ensures c.as_slice.ensures c.in-Ok.ensures.served c.in-Ok.ensures.worked c.print_numbers-ended.ensures.shown c.print_numbers-ended.ensures.told)
 
 pub returns-in-Ok-clause-moments : goal.returns-in-Ok-clause-moments
 returns-in-Ok-clause-moments g c =
-    let d = counted_from g.D.Disk.history g.D.Disk.faults c.args.script.requests c.in-Ok.field-0.store c.into_disk.result c.as_slice.result.now c.in-Ok.field-0.replies c.in-Ok.field-0.journal _ _ _ _ c.print_numbers-ended.result c.requires.unread c.into_disk.ensures c.as_slice.ensures c.in-Ok.ensures.served c.print_numbers-ended.ensures.shown c.print_numbers-ended.ensures.told in
+    let d = counted_from g.D.Disk.history g.D.Disk.faults c.args.script c.in-Ok.field-0.store c.into_disk.result c.as_slice.result.now c.in-Ok.field-0.replies c.in-Ok.field-0.journal _ _ _ _ c.print_numbers-ended.result c.requires.unread c.into_disk.ensures c.as_slice.ensures c.in-Ok.ensures.served c.in-Ok.ensures.worked c.print_numbers-ended.ensures.shown c.print_numbers-ended.ensures.told in
     script_moments c.args.script.requests d.given d.journal _ _ _ _ d.done
 
 pub returns-in-Ok-clause-rests : goal.returns-in-Ok-clause-rests
 returns-in-Ok-clause-rests g c =
-    let d = counted_from g.D.Disk.history g.D.Disk.faults c.args.script.requests c.in-Ok.field-0.store c.into_disk.result c.as_slice.result.now c.in-Ok.field-0.replies c.in-Ok.field-0.journal _ _ _ _ c.print_numbers-ended.result c.requires.unread c.into_disk.ensures c.as_slice.ensures c.in-Ok.ensures.served c.print_numbers-ended.ensures.shown c.print_numbers-ended.ensures.told in
-    counted_rests c.args.script.requests _ _ _ _ _ _ c.print_numbers-ended.result d
+    let d = counted_from g.D.Disk.history g.D.Disk.faults c.args.script c.in-Ok.field-0.store c.into_disk.result c.as_slice.result.now c.in-Ok.field-0.replies c.in-Ok.field-0.journal _ _ _ _ c.print_numbers-ended.result c.requires.unread c.into_disk.ensures c.as_slice.ensures c.in-Ok.ensures.served c.in-Ok.ensures.worked c.print_numbers-ended.ensures.shown c.print_numbers-ended.ensures.told in
+    counted_rests c.args.script _ _ _ _ _ _ c.print_numbers-ended.result d
 
 pub returns-in-Ok-clause-disk_fault : goal.returns-in-Ok-clause-disk_fault
 returns-in-Ok-clause-disk_fault g c =
-    (counted_from g.D.Disk.history g.D.Disk.faults c.args.script.requests c.in-Ok.field-0.store c.into_disk.result c.as_slice.result.now c.in-Ok.field-0.replies c.in-Ok.field-0.journal _ _ _ _ c.print_numbers-ended.result c.requires.unread c.into_disk.ensures c.as_slice.ensures c.in-Ok.ensures.served c.print_numbers-ended.ensures.shown c.print_numbers-ended.ensures.told).fault
+    (counted_from g.D.Disk.history g.D.Disk.faults c.args.script c.in-Ok.field-0.store c.into_disk.result c.as_slice.result.now c.in-Ok.field-0.replies c.in-Ok.field-0.journal _ _ _ _ c.print_numbers-ended.result c.requires.unread c.into_disk.ensures c.as_slice.ensures c.in-Ok.ensures.served c.in-Ok.ensures.worked c.print_numbers-ended.ensures.shown c.print_numbers-ended.ensures.told).fault
 
 pub returns-in-Ok-clause-disk_quiet : goal.returns-in-Ok-clause-disk_quiet
 returns-in-Ok-clause-disk_quiet g c =
-    (counted_from g.D.Disk.history g.D.Disk.faults c.args.script.requests c.in-Ok.field-0.store c.into_disk.result c.as_slice.result.now c.in-Ok.field-0.replies c.in-Ok.field-0.journal _ _ _ _ c.print_numbers-ended.result c.requires.unread c.into_disk.ensures c.as_slice.ensures c.in-Ok.ensures.served c.print_numbers-ended.ensures.shown c.print_numbers-ended.ensures.told).quiet
+    (counted_from g.D.Disk.history g.D.Disk.faults c.args.script c.in-Ok.field-0.store c.into_disk.result c.as_slice.result.now c.in-Ok.field-0.replies c.in-Ok.field-0.journal _ _ _ _ c.print_numbers-ended.result c.requires.unread c.into_disk.ensures c.as_slice.ensures c.in-Ok.ensures.served c.in-Ok.ensures.worked c.print_numbers-ended.ensures.shown c.print_numbers-ended.ensures.told).quiet
 
 pub returns-in-Err-clause-rests : goal.returns-in-Err-clause-rests
 returns-in-Err-clause-rests g c = rw c.outcome_of.ensures (unopened_made_rests c.args.script.requests _ _ _ _ c.in-Err.field-0.error c.in-Err.ensures.refused)

@@ -1,14 +1,21 @@
-use Rattle.std.proofs.Common.{ℕ, sym, subst}
+use Rattle.std.proofs.Common.{ℕ, inl, inr, sym, subst}
 use Rattle.request_text.specs.Outcomes.{status_of}
 use Rattle.mdbox_top.specs.Run.{MayHaveFailed}
-use Rattle.mdbox_top.proofs.RunLemmas.{last_ends, has_status, fails_last, faulted, rests_last, uninput}
-use Rattle.mdbox_top.proofs.WorkLemmas.{last_works}
+use Rattle.mdbox_top.proofs.RunLemmas.{last_ends, has_status, fails_last, faulted, notes_last, rests_last, uninput, unread}
 use Rattle.mdbox_top.proofs.run.mdbox_alone.Goals as goal
 
 pub returns-clause-run : goal.returns-clause-run
 returns-clause-run g c =
     let told = c.report.ensures.told in
-    record { outcome = told.0; status_is = told.2; ended = last_ends c.args.command _ _ _ _ _ _ _ _ c.perform-outcome.result.0 told.0 told.1 c.perform-outcome.ensures.ends; told = told.3 }
+    record {
+      outcome = told.0;
+      status_is = told.2;
+      ended = last_ends c.args.command _ _ _ _ _ _ _ _ c.perform-outcome.result.0 told.0 told.1 c.perform-outcome.ensures.ends;
+      noted_held = _;
+      noted_faults = _;
+      noted = notes_last c.args.command _ c.perform-outcome.result.0 told.0 _ _ _ _ told.1 c.perform-outcome.ensures.noted;
+      told = told.3;
+    }
 
 pub returns-clause-status : goal.returns-clause-status
 returns-clause-status g c =
@@ -37,7 +44,10 @@ returns-clause-disk_fault g c = λ tells.
     let fault = c.perform-outcome.ensures.disk_fault tells in
     record { reads = fault.reads; changes = fault.changes; rose = λ six. fault.rose (faulted c.perform-outcome.result.0 told.0 _ told.1 told.2 six) }
 
-pub returns-clause-worked : goal.returns-clause-worked
-returns-clause-worked g c =
+pub returns-clause-uncalled : goal.returns-clause-uncalled
+returns-clause-uncalled g c = λ which.
     let told = c.report.ensures.told in
-    record { outcome = told.0; status_is = told.2; ended = last_works _ c.args.command _ _ _ _ _ _ _ c.perform-outcome.result.0 told.0 told.1 c.perform-outcome.ensures.worked; told = told.3 }
+    elim which [
+      | inl four ↦ c.perform-outcome.ensures.uncalled (inr (uninput c.perform-outcome.result.0 told.0 _ told.1 told.2 four))
+      | inr seven ↦ c.perform-outcome.ensures.uncalled (inl (unread c.perform-outcome.result.0 told.0 _ told.1 told.2 seven))
+    ]

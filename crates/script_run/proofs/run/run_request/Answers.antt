@@ -1,7 +1,7 @@
 use Rattle.std.proofs.Common.{◌∙◌, ap}
 use Rattle.std.specs.Prelude.{List, Some, map}
 use Rattle.mdbox_base.specs.declared.replies.Reply.{Reply as ReplyValue}
-use Rattle.script_run.proofs.AloneLemmas.{one_given, request_done}
+use Rattle.script_run.proofs.AloneLemmas.{one_given}
 use Rattle.script_run.proofs.StillLemmas.{unopened_still}
 use Rattle.script_run.proofs.WorkedLemmas.{worked_alone}
 use Rattle.script_run.proofs.run.run_request.Goals as goal
@@ -16,12 +16,7 @@ pub returns-in_ok-replies-in-Ok-clause-done : goal.returns-in_ok-replies-in-Ok-c
 returns-in_ok-replies-in-Ok-clause-done g c =
     let served = c.in_ok-replies-in-Ok.ensures.served in
     let parts = c.in_ok-replies-in-Ok.field-0 in
-    request_done g.D.Disk.history g.D.Disk.faults c.args.request c.in-Ok.script.requests served.0 parts.replies c.only_reply.result parts.journal (g.D.Disk.history c.args.disk) (g.D.Disk.faults c.args.disk) parts.store c.into_disk.result c.into_disk.ensures c.in-Ok.ensures.1 served.1 c.only_reply.ensures served.2
+    worked_alone g.D.Disk.history g.D.Disk.faults c.args.request c.in-Ok.script served.0 c.only_reply.result parts.replies parts.journal (g.D.Disk.history c.args.disk) (g.D.Disk.faults c.args.disk) parts.store c.into_disk.result c.into_disk.ensures c.in-Ok.ensures.0 c.in-Ok.ensures.1 served.1 c.only_reply.ensures served.2 c.in_ok-replies-in-Ok.ensures.worked
 
 pub returns-in-Err-clause-refused : goal.returns-in-Err-clause-refused
 returns-in-Err-clause-refused g c = unopened_still (g.D.Disk.history c.args.disk) (g.D.Disk.faults c.args.disk)
-
-pub returns-in_ok-replies-in-Ok-clause-worked : goal.returns-in_ok-replies-in-Ok-clause-worked
-returns-in_ok-replies-in-Ok-clause-worked g c =
-    let parts = c.in_ok-replies-in-Ok.field-0 in
-    worked_alone g.D.Disk.history g.D.Disk.faults c.args.request c.in-Ok.script c.only_reply.result parts.replies parts.journal (g.D.Disk.history c.args.disk) (g.D.Disk.faults c.args.disk) parts.store c.into_disk.result c.into_disk.ensures c.in-Ok.ensures.0 c.in-Ok.ensures.1 c.only_reply.ensures c.in_ok-replies-in-Ok.ensures.worked

@@ -1,6 +1,6 @@
 use Rattle.std.proofs.Common.{take}
 use Rattle.lanes.specs.Worlds.{AreGiven}
-use Rattle.explorer.proofs.two_lanes.prepare_messages.Given as goal
+use Rattle.mdbox_threads.proofs.turn.prepare_in_turn.Given as goal
 
 -- the requests so far are given theirs
 abbrev pub invariant-loop-request : goal.invariant-loop-request
