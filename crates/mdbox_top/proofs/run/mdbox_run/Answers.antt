@@ -7,7 +7,7 @@ pub returns-in-Err-NoMemory-clause-run : goal.returns-in-Err-NoMemory-clause-run
 returns-in-Err-NoMemory-clause-run g c = λ said says.
     let found = (rw c.in-Err-NoMemory.field-0-is at c.in-Err-NoMemory.ensures.memory) refl in
     let told = c.report-in-Err-NoMemory.ensures.told in
-    rw (found.2.only said says) (record { outcome = told.0; status_is = told.2; ended = rw told.1 (named_unasked _ found.0 found.1 _ _ _ _ _); noted_held = _; noted_faults = _; noted = rw told.1 (named_unnoted found.0 found.1 _ _ _); told = told.3 })
+    rw (found.2.only said says) (record { outcome = told.0; status_is = told.2; ended = rw told.1 (named_unasked _ found.0 found.1 _ _ _ _ _); noted_held = g.E.Sink.held c.args.errors.now; noted_faults = g.E.Sink.faults c.args.errors.now; noted = rw told.1 (named_unnoted found.0 found.1 _ (g.E.Sink.held c.args.errors.now) (g.E.Sink.faults c.args.errors.now)); told = told.3 })
 
 pub returns-in-Err-NoMemory-clause-moments : goal.returns-in-Err-NoMemory-clause-moments
 returns-in-Err-NoMemory-clause-moments g c = λ said says.
