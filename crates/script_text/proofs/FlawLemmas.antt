@@ -1,0 +1,103 @@
+-- What is missing where a text goes wrong.
+use Rattle.std.specs.Prelude.{◌≡◌, ◌≢◌, ◌<◌, ◌≤◌, ◌+◌, ◌^◌, ℕ, zero, suc, List, [], ◌∷◌, ◌++◌, length, codes, drop, get_or, IsTrue, refl}
+use Rattle.std.specs.List.{list_all}
+use Rattle.std.proofs.Common.{sym, ◌∙◌, ap, arith, append_assoc, subst}
+use Rattle.mdbox_base.specs.Numbers.{decimal_text}
+use Rattle.mdbox_base.specs.Words.{IsName, is_other_than}
+use Rattle.mdbox_base.specs.declared.requests.Request.{Request}
+use Rattle.mdbox_base.specs.declared.requests.Request.TheVariants as request
+use Rattle.script_text.specs.Flaws.{Has, Lacks, verb_word, request_front}
+use Rattle.script_text.specs.Reading.{AreDelivery, AsksNothing, BeginsVerb, IsRequestOf}
+use Rattle.script_text.specs.Script.{FitsLanes, FitsScript, name_word, request_words, request_text, message_text, spaced}
+use Rattle.script_text.specs.declared.flaw.Need.TheVariants as need
+use Rattle.script_text.proofs.CutLemmas.{until_same}
+use Rattle.script_text.proofs.RequestLemmas.{lane_first, laid_out, number_then, words_clear}
+
+-- ---- the lane
+
+pub lane_lacks : (lanes : ℕ) (text : List ℕ) → ((lane : ℕ) (words : List ℕ) → 1 ≤ lane → lane ≤ lanes → text ≢ decimal_text lane ++ 32 ∷ words) → Lacks lanes text need.Lane
+lane_lacks lanes text none asked after fits e = none asked.0 after fits.first fits.last (e ∙ append_assoc (decimal_text asked.0) (32 ∷ []) after)
+
+pub lane_has : (lanes lane : ℕ) (text words : List ℕ) → 1 ≤ lane → lane ≤ lanes → text ≡ decimal_text lane ++ 32 ∷ words → Has lanes text need.Lane
+lane_has lanes lane text words low high e = ((lane, request.Counts), words, record { first = low; last = high; fits = tt }, e ∙ sym (append_assoc (decimal_text lane) (32 ∷ []) words))
+
+-- ---- the verb
+
+pub verb_has : (lanes lane : ℕ) (text words : List ℕ) → 1 ≤ lane → lane ≤ lanes → text ≡ decimal_text lane ++ 32 ∷ words → BeginsVerb words → Has lanes text need.Verb
+verb_has lanes lane text words low high e begins =
+    ((lane, begins.0), begins.1, record { first = low; last = high; fits = begins.2 }, e ∙ ap (λ (w : List ℕ). decimal_text lane ++ 32 ∷ w) begins.3 ∙ sym (append_assoc (decimal_text lane) (32 ∷ verb_word begins.0) begins.1))
+
+small : (lanes : ℕ) (asked : ℕ × Request) → lanes < 2 ^ 32 → FitsLanes lanes asked → asked.0 < 2 ^ 64
+small lanes asked few fits = omega (arith, few, fits.last)
+
+pub verb_lacks : (lanes lane : ℕ) (text words : List ℕ) → lanes < 2 ^ 32 → lane ≤ lanes → text ≡ decimal_text lane ++ 32 ∷ words → (BeginsVerb words → ⊥) → Lacks lanes text need.Verb
+verb_lacks lanes lane text words few high e none asked after fits is =
+    let same = number_then lane asked.0 words (verb_word asked.1 ++ after) (omega (arith, few, high)) (small lanes asked few fits) (sym e ∙ is ∙ append_assoc (decimal_text asked.0) (32 ∷ verb_word asked.1) after) in
+    none (asked.1, after, fits.fits, same.1)
+
+-- ---- the line
+
+-- the line of a request, and what follows it
+line_front : (asked : ℕ × Request) (after : List ℕ) → request_front need.Words asked ++ after ≡ decimal_text asked.0 ++ 32 ∷ (spaced (request_words asked.1) ++ 10 ∷ after)
+line_front asked after =
+    append_assoc (spaced (decimal_text asked.0 ∷ request_words asked.1)) (10 ∷ []) after
+    ∙ ap (λ (line : List ℕ). line ++ 10 ∷ after) (lane_first asked.0 asked.1)
+    ∙ append_assoc (decimal_text asked.0) (32 ∷ spaced (request_words asked.1)) (10 ∷ after)
+
+pub no_line : (lanes lane : ℕ) (text words : List ℕ) → lanes < 2 ^ 32 → lane ≤ lanes → text ≡ decimal_text lane ++ 32 ∷ words → ((before behind : List ℕ) → words ≢ before ++ 10 ∷ behind) → Lacks lanes text need.Words
+no_line lanes lane text words few high e none asked after fits is =
+    let same = number_then lane asked.0 words (spaced (request_words asked.1) ++ 10 ∷ after) (omega (arith, few, high)) (small lanes asked few fits) (sym e ∙ is ∙ line_front asked after) in
+    none (spaced (request_words asked.1)) after same.1
+
+-- the words of a request whose line stands in front
+words_same : (lanes lane : ℕ) (text words rest : List ℕ) (asked : ℕ × Request) (after : List ℕ) → lanes < 2 ^ 32 → lane ≤ lanes → text ≡ decimal_text lane ++ 32 ∷ (words ++ 10 ∷ rest) → IsTrue (list_all (is_other_than 10) words) → FitsLanes lanes asked → text ≡ request_front need.Words asked ++ after
+    → (words ≡ spaced (request_words asked.1)) × (rest ≡ after)
+words_same lanes lane text words rest asked after few high e clear fits is =
+    let same = number_then lane asked.0 (words ++ 10 ∷ rest) (spaced (request_words asked.1) ++ 10 ∷ after) (omega (arith, few, high)) (small lanes asked few fits) (sym e ∙ is ∙ line_front asked after) in
+    until_same 10 words (spaced (request_words asked.1)) rest after clear (words_clear asked.1 fits.fits) same.1
+
+-- a delivery's line begins like no other request's
+not_delivery : (words rest : List ℕ) (asked : Request) → FitsScript asked → words ≡ spaced (request_words asked) → (AreDelivery words → ⊥) → AsksNothing words rest → ⊥
+not_delivery words rest (request.Deliver name time message) fits e none nothing = none (record { name = name; time = time; size = length message; name_fits = fits.0; time_fits = fits.1; size_fits = fits.2; words_are = e })
+not_delivery words rest (request.Delete name) fits e none nothing = fits
+not_delivery words rest (request.Rename name target) fits e none nothing = fits
+not_delivery words rest other fits e none nothing = nothing other rest (record { fits = fits; words_are = e; message_is = refl })
+
+pub words_lack : (lanes lane : ℕ) (text words rest : List ℕ) → lanes < 2 ^ 32 → lane ≤ lanes → text ≡ decimal_text lane ++ 32 ∷ (words ++ 10 ∷ rest) → IsTrue (list_all (is_other_than 10) words) → (AreDelivery words → ⊥) → AsksNothing words rest → Lacks lanes text need.Words
+words_lack lanes lane text words rest few high e clear none nothing asked after fits is =
+    let same = words_same lanes lane text words rest asked after few high e clear fits is in
+    not_delivery words rest asked.1 fits.fits same.0 none nothing
+
+-- ---- the message
+
+blanks : ℕ → List ℕ
+blanks zero = []
+blanks (suc n) = 0 ∷ blanks n
+
+blanks_length : (n : ℕ) → length (blanks n) ≡ n
+blanks_length zero = refl
+blanks_length (suc n) = ap suc (blanks_length n)
+
+pub words_have : (lanes lane : ℕ) (text words rest : List ℕ) → 1 ≤ lane → lane ≤ lanes → text ≡ decimal_text lane ++ 32 ∷ (words ++ 10 ∷ rest) → AreDelivery words → Has lanes text need.Words
+words_have lanes lane text words rest low high e are =
+    let message : List ℕ = blanks are.size in
+    let long : length message ≡ are.size = blanks_length are.size in
+    let asked : ℕ × Request = (lane, request.Deliver are.name are.time message) in
+    let same : words ≡ spaced (request_words asked.1) = are.words_are ∙ ap (λ (n : ℕ). codes "deliver" ++ 32 ∷ spaced (name_word are.name ∷ decimal_text are.time ∷ decimal_text n ∷ [])) (sym long) in
+    let few : length message ≤ 67108864 = omega (arith, long, are.size_fits) in
+    (asked, rest, record { first = low; last = high; fits = (are.name_fits, are.time_fits, few) }, e ∙ ap (λ (w : List ℕ). decimal_text lane ++ 32 ∷ (w ++ 10 ∷ rest)) same ∙ sym (line_front asked rest))
+
+-- a request and what follows it: lane and words, LF, message, and the rest
+whole_front : (asked : ℕ × Request) (after : List ℕ) → request_text asked ++ after ≡ decimal_text asked.0 ++ 32 ∷ (spaced (request_words asked.1) ++ 10 ∷ (message_text asked.1 ++ after))
+whole_front asked after = laid_out asked after ∙ append_assoc (decimal_text asked.0) (32 ∷ spaced (request_words asked.1)) (10 ∷ (message_text asked.1 ++ after))
+
+pub message_lacks : (lanes lane : ℕ) (text words rest : List ℕ) → lanes < 2 ^ 32 → lane ≤ lanes → text ≡ decimal_text lane ++ 32 ∷ (words ++ 10 ∷ rest) → IsTrue (list_all (is_other_than 10) words) → AsksNothing words rest → Lacks lanes text need.Message
+message_lacks lanes lane text words rest few high e clear nothing asked after fits is =
+    let same = number_then lane asked.0 (words ++ 10 ∷ rest) (spaced (request_words asked.1) ++ 10 ∷ (message_text asked.1 ++ after)) (omega (arith, few, high)) (small lanes asked few fits) (sym e ∙ is ∙ whole_front asked after) in
+    let parts = until_same 10 words (spaced (request_words asked.1)) rest (message_text asked.1 ++ after) clear (words_clear asked.1 fits.fits) same.1 in
+    nothing asked.1 after (record { fits = fits.fits; words_are = parts.0; message_is = parts.1 })
+
+pub message_has : (lanes lane : ℕ) (text words rest after : List ℕ) (asked : Request) → 1 ≤ lane → lane ≤ lanes → text ≡ decimal_text lane ++ 32 ∷ (words ++ 10 ∷ rest) → IsRequestOf words rest asked after → Has lanes text need.Message
+message_has lanes lane text words rest after asked low high e is =
+    ((lane, asked), after, record { first = low; last = high; fits = is.fits },
+      e ∙ ap (λ (w : List ℕ). decimal_text lane ++ 32 ∷ (w ++ 10 ∷ rest)) is.words_are ∙ ap (λ (r : List ℕ). decimal_text lane ++ 32 ∷ (spaced (request_words asked) ++ 10 ∷ r)) is.message_is ∙ sym (whole_front (lane, asked) after))
