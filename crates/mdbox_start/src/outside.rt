@@ -8,7 +8,7 @@ use crate::exits::exit_of;
 use crate::folder::run_in;
 use crate::reasons::{has_no_reader, tell_disk, tell_input, tell_more, tell_output};
 use crate::streams::hold_streams;
-use crate::words::words_of;
+use crate::words::{are_text, words_of};
 use mdbox_base::{MemSink, Octets, Seq, give_all};
 use os_folder::{OsFolder, StdClock, StdSink, StdSource};
 use request_text::{Outcome, Status, report};
@@ -33,9 +33,11 @@ pub fn start(rt: HostRuntime) -> ExitCode
     let Ok(room) = Vec::with_capacity(rt.alloc(), ROOM) else {
         return exit_of(report(rt.alloc(), &mut errors, Outcome::NoMemory));
     };
-    let words = words_of(rt.alloc(), env::args(&rt));
-    let asked = asked_by(rt.alloc(), &words);
-    if asked == Asked::Rebuild && is_dovecots(&rt) {
+    let all = env::args(&rt);
+    let is_text = are_text(&all);
+    let words = words_of(rt.alloc(), all);
+    let asked = asked_by(rt.alloc(), is_text, &words);
+    if matches!(asked, Asked::Rebuild) && is_dovecots(&rt) {
         let _ = give_all(
             &mut errors,
             b"mdbox: Dovecot's index is here: copy storage/m.* and attachments into a new folder first\n",
@@ -61,7 +63,7 @@ pub fn start(rt: HostRuntime) -> ExitCode
     }
     let _ = give_all(&mut errors, told.held().as_slice());
     match status.0 {
-        0 => tell_more(rt, &mut errors, asked),
+        0 | 2 => tell_more(rt, &mut errors, &asked),
         3 => folder.leave(),
         6 => tell_disk(rt, &mut errors, &folder),
         7 => tell_input(rt, &mut errors, &input, &clock),

@@ -57,9 +57,15 @@ pub(crate) fn tell_output<W: Write>(
     }
 }
 
-/// Tells what else there is to know of a run that did what was asked.
-pub(crate) fn tell_more(rt: HostRuntime, errors: &mut StdSink<Stderr>, asked: Asked) {
+/// Tells what else there is to know of a run that did what was asked, or of words that ask for nothing.
+pub(crate) fn tell_more(rt: HostRuntime, errors: &mut StdSink<Stderr>, asked: &Asked) {
     match asked {
+        Asked::Nothing(line) => {
+            let _ = give_all(errors, line.as_slice());
+        }
+        Asked::NoText => {
+            let _ = give_all(errors, b"a word isn't UTF-8\n");
+        }
         Asked::Version => tell(errors, format!(in rt.alloc(); "{}\n", proof())),
         Asked::Rebuild if !has_mail_file(&rt) => {
             let _ = give_all(

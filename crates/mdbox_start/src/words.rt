@@ -23,6 +23,14 @@ pub(crate) fn words_of(alloc: Global, all: io::Result<Args>) -> Result<Vec<Strin
     }
 }
 
+/// Whether the words that the system gives are UTF-8.
+pub(crate) fn are_text(all: &io::Result<Args>) -> bool {
+    match all {
+        Ok(_) => true,
+        Err(error) => error.kind() != ErrorKind::InvalidData,
+    }
+}
+
 /// The words after the first, which is the program's name.
 fn after_name(alloc: Global, mut all: Args) -> Result<Vec<String>, NoMemory>
     ensures { IfOk result (λ words. words.items ≡ drop 1 (into_iter_items all)) }

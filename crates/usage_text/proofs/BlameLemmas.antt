@@ -1,0 +1,61 @@
+-- What is to blame of words, by the rules of their verb.
+use Rattle.std.specs.Prelude.{◌≡◌, ◌≢◌, ◌≤◌, ◌<◌, ◌+◌, ◌↔◌, ℕ, zero, suc, List, [], ◌∷◌, length, get_or, refl}
+use Rattle.std.proofs.Common.{sym, ◌∙◌, ap, arith, subst, inl, inr}
+use Rattle.std.proofs.lemmas.Bool.{cases_lt}
+use Rattle.request_text.specs.Commands.{words_of, Says}
+use Rattle.request_text.specs.declared.command.Command.{Command}
+use Rattle.usage_text.specs.Blames.{FitsRule, HasVerb, StandsInCommand, IsFirstWrong, HasOtherCount, HasNoVerb, word_at}
+use Rattle.usage_text.specs.Rules.{rules_of, AreRulesOf, FitTo, FirstUnfit}
+use Rattle.usage_text.specs.declared.rule.Rule.{Rule}
+use Rattle.usage_text.specs.declared.rule.Rule.TheVariants as rule
+use Rattle.usage_text.proofs.RuleLemmas.{rule_at, fit_all, said_by, said_with, row_length, stands, stands_fits, verb_stands, verb_of, FitAll, SaidBy}
+
+pub fit_more : (rules : List Rule) (words : List (List ℕ)) (place : ℕ) → FitTo rules words place → FitsRule (rule_at rules place) (word_at words place) → FitTo rules words (place + 1)
+fit_more rules words place fit one earlier less = elim (cases_lt earlier place) [
+  | inl lt ↦ fit earlier lt
+  | inr le ↦ let same : place ≡ earlier = omega (arith, le, less) in subst (λ (k : ℕ). FitsRule (rule_at rules k) (word_at words k)) same one
+]
+
+-- each word before this one may stand where it stands
+firsts : (verb : List ℕ) (others : List (List ℕ)) (rules : List Rule) (place earlier : ℕ) → AreRulesOf verb rules → place < length rules → FitTo rules others place → earlier < place + 1 → StandsInCommand verb earlier (word_at (verb ∷ others) earlier)
+firsts verb others rules place zero are lt fit less = verb_stands verb rules are
+firsts verb others rules place (suc earlier) are lt fit less =
+    let next : earlier + 1 ≡ suc earlier = omega arith in
+    subst (λ (k : ℕ). StandsInCommand verb k (word_at others earlier)) next
+    (stands verb (word_at others earlier) rules earlier are (omega (arith, lt, less)) (fit earlier (omega (arith, less))))
+
+pub first_wrong : (verb : List ℕ) (words others : List (List ℕ)) (rules : List Rule) (place : ℕ) (unfit : Rule) → words ≡ verb ∷ others → length others ≡ length rules → AreRulesOf verb rules → FirstUnfit rules others place unfit → IsFirstWrong words (place + 1) unfit
+first_wrong verb words others rules place unfit e l are first = subst (λ (ws : List (List ℕ)). IsFirstWrong ws (place + 1) unfit) (sym e) (record {
+  counted = λ c has. let long : length (words_of c) ≡ 1 + length rules = row_length verb rules c are has in omega (arith, long, l);
+  wrong = record {
+    within = let lt : place < length rules = first.within in omega (arith, lt, l);
+    wrong = λ may. first.wrong (there (stands_fits verb (word_at (verb ∷ others) (place + 1)) rules place are may));
+  };
+  first = λ earlier less. firsts verb others rules place earlier are first.within first.first less;
+  rule_is = λ word. (
+    (λ fits. stands verb word rules place are first.within (subst (λ (r : Rule). FitsRule r word) first.rule_is fits)),
+    (λ may. subst (λ (r : Rule). FitsRule r word) (sym first.rule_is) (stands_fits verb word rules place are may)),
+  );
+})
+  where
+    there : FitsRule (rule_at rules place) (word_at (verb ∷ others) (place + 1)) → FitsRule unfit (word_at others place)
+    there fits =
+        let next : place + 1 ≡ suc place = omega arith in
+        let is : word_at (verb ∷ others) (place + 1) ≡ word_at others place = ap (λ (k : ℕ). word_at (verb ∷ others) k) next in
+        subst (λ (r : Rule). FitsRule r (word_at others place)) (sym first.rule_is) (subst (λ (w : List ℕ). FitsRule (rule_at rules place) w) is fits)
+
+pub other_count : (verb : List ℕ) (words others : List (List ℕ)) (rules : List Rule) → words ≡ verb ∷ others → length others ≢ length rules → AreRulesOf verb rules → HasOtherCount words (length rules)
+other_count verb words others rules e l are = subst (λ (ws : List (List ℕ)). HasOtherCount ws (length rules)) (sym e) (record {
+  some = omega arith;
+  known = (are.0, are.1);
+  each = λ c has. row_length verb rules c are has;
+  other = λ same. l (omega (arith, same));
+})
+
+pub no_verb : (verb : List ℕ) (words others : List (List ℕ)) → words ≡ verb ∷ others → ((c : Command) → HasVerb verb c → ⊥) → HasNoVerb words
+no_verb verb words others e none = subst HasNoVerb (sym e) (record { some = omega arith; none = none })
+
+pub all_said : (verb : List ℕ) (words others : List (List ℕ)) (rules : List Rule) → words ≡ verb ∷ others → length others ≡ length rules → AreRulesOf verb rules → FitTo rules others (length rules) → (command : Command) × Says words command
+all_said verb words others rules e l are fit =
+    let s = said_with verb rules others are (fit_all rules others l fit) in
+    (s.0, (s.1, e ∙ sym s.2))

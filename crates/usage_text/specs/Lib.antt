@@ -1,0 +1,3 @@
+pub mod BlameText
+pub mod Blames
+pub mod Rules
