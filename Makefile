@@ -47,9 +47,10 @@ install:
 uninstall:
 	rm -f $(DESTDIR)$(PREFIX)/bin/mdbox $(DESTDIR)$(PREFIX)/bin/mdbox-lda $(DESTDIR)$(PREFIX)/share/man/man1/mdbox.1
 
-# Times the program on a storage file of 200 MB, a log of 100 MB and stores of up to 100,000 messages, taking messages apart,
-# and appends to a log.
+# Times what a user waits for, beside Dovecot; then the program on a storage file of 200 MB, a log of 100 MB and stores of up to 100,000
+# messages, taking messages apart, and appends to a log.
 bench: all
+	bench/user
 	bench/dump
 	bench/logdump
 	cd crates/parts_bench && rt run -- read <stdin

@@ -19,6 +19,25 @@ def run(command, path):
     return seconds, usage.ru_utime + usage.ru_stime, usage.ru_maxrss
 
 
+def through_pipes(command, path, to=os.devnull, errors=None):
+    """The seconds that a command takes which gets a file by a pipe, and whose output goes through a pipe into another file, until all
+    has ended; and those of its own processor."""
+    with open(path, "rb") as source, open(to, "wb") as out:
+        begin = time.perf_counter()
+        giver = subprocess.Popen(["cat"], stdin=source, stdout=subprocess.PIPE)
+        child = subprocess.Popen(command, stdin=giver.stdout, stdout=subprocess.PIPE, stderr=errors)
+        taker = subprocess.Popen(["cat"], stdin=child.stdout, stdout=out)
+        giver.stdout.close()
+        child.stdout.close()
+        _, status, usage = os.wait4(child.pid, 0)
+        taker.wait()
+        seconds = time.perf_counter() - begin
+        giver.wait()
+    if status != 0:
+        sys.exit(f"{command}: status {status}")
+    return seconds, usage.ru_utime + usage.ru_stime
+
+
 def peak(command):
     """The peak memory of a command in KiB, by the last of the looks at it, a thousand a second."""
     child = subprocess.Popen(command, stdin=subprocess.DEVNULL, stdout=subprocess.DEVNULL)

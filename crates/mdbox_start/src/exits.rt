@@ -1,7 +1,6 @@
 // A run of the program, and its exit.
 ghost use Rattle.std.specs.Prelude.{◌≡◌, ◌≤◌, ◌↔◌, map, string_bytes, IfOk, IsErr};
 ghost use Rattle.std.specs.Process.{exit_status};
-ghost use Rattle.mdbox_top.specs.BatchWork.{CommandWorks};
 ghost use Rattle.mdbox_top.specs.Run.{Ends, RunOutcome, Moments, Rests, HasStatus, MayHaveFailed};
 ghost use Rattle.piece_writer.specs.Pieces.{WritesOrFaults};
 ghost use Rattle.request_text.specs.Commands.{Says, SayNothing};
@@ -28,11 +27,7 @@ pub fn run<D: Disk, I: Source, O: Sink, E: Sink, C: Clock>(
 ) -> (Status, D)
     // The status is that of the run.
     ensures run { IfOk words (λ given. (command : Command) → Says (map string_bytes given.items) command
-        → RunOutcome (Ends command (I.left input.old) (C.time clock.old) (O.held output.old) (O.held output.new) (D.history disk) (D.history result.1) (D.faults disk) (D.faults result.1)) (result.0.0) (E.held errors.old) (E.faults errors.old) (E.held errors.new) (E.faults errors.new)) }
-
-    // Of a script, whatever the disk: the replies and places that are printed are of what its lanes did.
-    ensures worked { IfOk words (λ given. (command : Command) → Says (map string_bytes given.items) command
-        → RunOutcome (CommandWorks D command (I.left input.old) (O.held output.old) (O.held output.new) (D.history disk) (D.history result.1) (D.faults disk) (D.faults result.1)) (result.0.0) (E.held errors.old) (E.faults errors.old) (E.held errors.new) (E.faults errors.new)) }
+        → RunOutcome (Ends D command (I.left input.old) (C.time clock.old) (O.held output.old) (O.held output.new) (D.history disk) (D.history result.1) (D.faults disk) (D.faults result.1)) (result.0.0) (E.held errors.old) (E.faults errors.old) (E.held errors.new) (E.faults errors.new)) }
 
     // What a crash at any moment leaves, and what the disk is at the end.
     ensures moments { IfOk words (λ given. (command : Command) → Says (map string_bytes given.items) command

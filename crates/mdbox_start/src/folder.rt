@@ -2,7 +2,7 @@
 ghost use Rattle.std.specs.Prelude.{[], ◌≤◌, map, string_bytes, IfOk};
 ghost use Rattle.folder_model.specs.Calls.{IfModelled};
 ghost use Rattle.folder_disk.specs.Over.{HasBegun, IsStoreSystem, told_history};
-ghost use Rattle.mdbox_top.specs.Run.{Ends, RunOutcome, Moments, Rests, HasStatus, MayHaveFailed};
+ghost use Rattle.mdbox_top.specs.Run.{EndsOver, RunOutcome, Moments, Rests, HasStatus, MayHaveFailed};
 ghost use Rattle.request_text.specs.Commands.{Says};
 ghost use Rattle.request_text.specs.declared.command.Command.{Command};
 
@@ -29,7 +29,7 @@ pub fn run_in<F: Folder + Drop, I: Source, O: Sink, E: Sink, C: Clock>(
     requires begun { HasBegun (F.Folder.modelled folder) (F.Folder.past folder) }
     requires store { IfModelled (F.Folder.modelled folder) IsStoreSystem }
     ensures run { IfOk words (λ given. (command : Command) → Says (map string_bytes given.items) command
-        → RunOutcome (Ends command (I.left input.old) (C.time clock.old) (O.held output.old) (O.held output.new)
+        → RunOutcome (EndsOver result.1 command (I.left input.old) (C.time clock.old) (O.held output.old) (O.held output.new)
         (told_history (F.Folder.modelled folder) []) (⟦<FolderDisk<KeptFolder<F>> as Disk>⟧.history result.1) (record { reads = 0; changes = 0 }) (⟦<FolderDisk<KeptFolder<F>> as Disk>⟧.faults result.1)) (result.0.0) (E.held errors.old) (E.faults errors.old) (E.held errors.new) (E.faults errors.new)) }
     ensures moments { IfOk words (λ given. (command : Command) → Says (map string_bytes given.items) command
         → Moments command (I.left input.old) (C.time clock.old) (told_history (F.Folder.modelled folder) []) (⟦<FolderDisk<KeptFolder<F>> as Disk>⟧.history result.1)) }

@@ -112,7 +112,7 @@ pub counted_from : {D : Type 0} → (history : D → Option History) (faults : D
 counted_from {D} history faults script store disk r replies entries h k old began o unread back same served worked shows told =
     let s = subst (λ (d : D). IsServedOpen script.requests served.0 entries old (history d) began (faults d) store) (sym back) served.2 in
     let w = subst (λ (d : D). IsWorkedOut D script.requests script.lanes (map Some served.0) entries old (history d) began (faults d)) (sym back)
-        (subst (λ (rs : List (Option Reply)). IsWorkedOut D script.requests script.lanes rs entries old (history store.disk) began (faults store.disk)) served.1 worked) in
+    (subst (λ (rs : List (Option Reply)). IsWorkedOut D script.requests script.lanes rs entries old (history store.disk) began (faults store.disk)) served.1 worked) in
     counted_up script r entries h k old (history disk) began (faults disk) o unread store.map (indexes_of store.boxes) served.0 (same ∙ served.1) s.done s.comes w shows told
 
 -- a store that is stopped replied so

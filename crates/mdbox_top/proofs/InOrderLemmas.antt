@@ -3,7 +3,7 @@ use Rattle.std.specs.Prelude.{◌≡◌, ◌<◌, ◌≤◌, ◌⊎◌, ◌||◌
 use Rattle.std.specs.List.{list_any}
 use Rattle.std.proofs.Common.{refl, sym, ◌∙◌, ap, arith, inl, inr, subst}
 use Rattle.std.proofs.lemmas.List.Elements.{All-cons, All-head, All-nil, All-tail, All-weaker}
-use Rattle.disk_model.specs.Disk.{Faults, History, IsTold, told_calls}
+use Rattle.disk_model.specs.Disk.{Faults, History, told_calls}
 use Rattle.exercise_course.specs.Hindered.{BeginsFree, is_full, is_ok, is_stopped}
 use Rattle.exercise_course.specs.InOrder.{deliveries_in}
 use Rattle.exercise_course.proofs.BalanceLemmas.{counts_grow}
@@ -15,7 +15,6 @@ use Rattle.mdbox_base.specs.declared.replies.Refusal.TheVariants as refusal
 use Rattle.mdbox_base.specs.declared.replies.Reply.{Reply}
 use Rattle.mdbox_base.specs.declared.replies.Reply.TheVariants as reply
 use Rattle.list_machine.specs.Machine.{count_different}
-use Rattle.list_machine.specs.Run.{Run}
 use Rattle.mdbox_base.specs.declared.entries.Highest.{Highest}
 use Rattle.mdbox_base.specs.declared.entries.InstRow.{InstRow}
 use Rattle.mdbox_base.specs.declared.script.Script.{Script}
@@ -24,18 +23,14 @@ use Rattle.model_meaning.specs.BoxMeaning.{BoxMeaning}
 use Rattle.model_meaning.specs.MapMeaning.{MapMeaning, MapRecord, map_meaning}
 use Rattle.model_meaning.specs.Sound.{IsSoundRecord}
 use Rattle.model_meaning.proofs.MapSoundLemmas.{map_sound}
-use Rattle.model_store.specs.Settled.{files_of}
-use Rattle.model_store.proofs.OpeningLemmas.{one_store}
 use Rattle.request_text.specs.Outcomes.{is_disk_no, is_lack, is_no, replies_outcome}
 use Rattle.request_text.specs.declared.outcome.Outcome.{Outcome}
 use Rattle.request_text.specs.declared.outcome.Outcome.TheVariants as outcome
 use Rattle.script_run.specs.Done.{MayRead}
-use Rattle.script_run.specs.Opening.{LogsShowLists, RunHasCome}
-use Rattle.script_run.specs.Script.{HasStopped}
+use Rattle.script_run.specs.Opening.{LogsShowLists}
 use Rattle.script_text.specs.MadeScript.{made_script}
 use Rattle.store_open.specs.Opened.{IsOpenedAs}
 use Rattle.mdbox_top.specs.ExerciseRun.{IsCountedUp, IsDoneInOrder, made_requests}
-use Rattle.mdbox_top.proofs.BatchLemmas.{stopped_any}
 use Rattle.mdbox_top.proofs.ExerciseLemmas.{made_unread}
 use Rattle.mdbox_top.proofs.NumbersLemmas.{counted_listed}
 
@@ -83,13 +78,6 @@ done_end given ok disk lack =
     let none : list_any is_no (map Some given) ≡ false = any_none is_no Some given (λ k d lt. not_no _ (ok k d lt)) in
     rw (disk, lack, none) refl
 
--- what the files open with is the map to which the run has come
-same_records : (new : Option History) (m : MapMeaning) (run : Run) (later : MapMeaning) (meanings : List BoxMeaning) → IsOpenedAs new m meanings → RunHasCome run later new → IsTold new → m.records ≡ later.records
-same_records None m run later meanings o c told = absurd told
-same_records (Some history) m run later meanings o c told =
-    let one = one_store (files_of history.now) m.store run.store o.entries c.0 o.logs c.1 o.opens c.2 in
-    o.means.records ∙ ap (λ (x : MapMeaning). x.records) (ap (λ (s : List ℕ). map_meaning s o.entries) one.0 ∙ ap (map_meaning run.store) one.1) ∙ sym c.3.records
-
 -- map uids rise in the logs with which a store opens
 opened_countable : (old : Option History) (m : MapMeaning) (meanings : List BoxMeaning) → IsOpenedAs old m meanings → IsCountable m
 opened_countable old m meanings o =
@@ -112,7 +100,7 @@ abbrev count_rows : List MapRecord → ℕ
 count_rows rows = ids_different (flat_map (λ row. row.instances) rows)
 
 pub done_in_order : {D : Type 0} → (lanes count number : ℕ) (held later : Option (List ℕ)) (old new : Option History) (began now : Faults) (ended : Outcome) → (d : IsCountedUp D (made_script lanes count number) held later old new began now ended) → 1 ≤ lanes → lanes ≤ 64 → count ≤ 100000
-    → (lists : Lists) → LogsShowLists d.done.m d.done.meanings lists → BeginsFree lanes lists → All (λ one. is_full one ≡ false) d.given → (ended ≡ outcome.Done) ⊎ (ended ≡ outcome.No) → IsDoneInOrder (made_requests lanes count number) d.done.m lists d.given new ended d.m d.meanings
+    → (lists : Lists) → LogsShowLists d.done.m d.done.meanings lists → BeginsFree lanes lists → All (λ one. is_full one ≡ false) d.given → (ended ≡ outcome.Done) ⊎ (ended ≡ outcome.No) → IsDoneInOrder (made_requests lanes count number) d.done.m lists d.given ended d.m d.meanings
 done_in_order lanes count number held later old new began now ended d one most few lists shown begins room over =
     let script = made_requests lanes count number in
     let may : MayRead script lists old = λ e. absurd (let k : true ≡ false = sym e ∙ made_unread lanes count number in cc k) in
@@ -127,23 +115,22 @@ done_in_order lanes count number held later old new began now ended d one most f
     let countable = subst IsCountable (sym first) (opened_countable old d.done.m d.done.meanings d.done.opened) in
     let ok = never_full lanes count number lists serves.run serves.journal serves.broken d.given began now (map_meaning serves.run.store serves.run.start) serves.m serves.drawn (told_calls new) countable one most few begins many unstopped serves.served in
     let free = ok_unhindered d.given ok in
-    let stopped : HasStopped d.given → ⊥ = λ c. absurd (let k : true ≡ false = sym (stopped_any d.given c) ∙ quiet.0 in cc k) in
     let more = records_delivered lanes count number lists serves.run serves.journal serves.broken d.given began now (map_meaning serves.run.store serves.run.start) serves.m serves.drawn (told_calls new) many ok serves.served in
-    let same : IsTold new → d.m.records ≡ serves.m.records = same_records new d.m serves.run serves.m d.meanings (d.comes.again stopped) (serves.ends stopped) in
+    let same : d.m.records ≡ serves.m.records = ap (λ (x : MapMeaning). x.records) (sym (d.comes.means lists shown may)) in
     let counted = counted_listed d.m d.meanings _ (d.comes.shows lists shown may) in
     record {
       ok = ok;
       done = is ∙ done_end d.given ok quiet.0 quiet.1;
       messages = counted.0 ∙ messages_alike lanes count number lists serves.run serves.journal d.given began now one most few begins many free serves.served.legal;
       octets = counted.1 ∙ octets_alike lanes count number lists serves.run serves.journal d.given began now one most few begins many free serves.served.legal;
-      records = λ told. ap length (same told) ∙ more.records ∙ ap (λ (x : MapMeaning). length x.records + deliveries_in script) first;
-      counts = λ told.
+      records = ap length same ∙ more.records ∙ ap (λ (x : MapMeaning). length x.records + deliveries_in script) first;
+      counts =
           let k = counts_grow lanes count number lists serves.run serves.journal serves.broken d.given began now (map_meaning serves.run.store serves.run.start) serves.m serves.drawn (told_calls new) countable one most few begins many free serves.served in
-          let now_is = ap counts_in (same told) in
+          let now_is = ap counts_in same in
           let first_is = ap (λ (x : MapMeaning). counts_in x.records) first in
           let listed = counted.0 in
           omega (arith, k, now_is, first_is, listed);
-      instances = λ told. ap count_rows (same told) ∙ ap ids_different more.instances ∙ ap (λ (x : MapMeaning). count_rows x.records) first;
+      instances = ap count_rows same ∙ ap ids_different more.instances ∙ ap (λ (x : MapMeaning). count_rows x.records) first;
     }
   where
     so : {x y : Outcome} → x ≡ y → (x ≡ outcome.Done) ⊎ (x ≡ outcome.No) → (y ≡ outcome.Done) ⊎ (y ≡ outcome.No)

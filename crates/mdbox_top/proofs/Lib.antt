@@ -1,4 +1,5 @@
 pub mod BatchLemmas
+pub mod BoxesLemmas
 pub mod CountsLemmas
 pub mod DeliverLemmas
 pub mod ExerciseLemmas

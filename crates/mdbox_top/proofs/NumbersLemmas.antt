@@ -83,10 +83,10 @@ no_size (row ∷ rows) = refl
 
 -- ---- what is shown
 
-abbrev list_octets : List ListedMessage → ℕ
+abbrev pub list_octets : List ListedMessage → ℕ
 list_octets messages = sum_by (λ message. length message.octets) messages
 
-same_octets : (rows : List LogRow) (messages : List ListedMessage) → map listed_row rows ≡ map listing_row messages → sum_by (λ row. row.size) rows ≡ list_octets messages
+pub same_octets : (rows : List LogRow) (messages : List ListedMessage) → map listed_row rows ≡ map listing_row messages → sum_by (λ row. row.size) rows ≡ list_octets messages
 same_octets [] [] e = refl
 same_octets [] (x ∷ xs) e = absurd (cc e)
 same_octets (row ∷ rows) [] e = absurd (cc e)

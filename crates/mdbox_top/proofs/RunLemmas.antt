@@ -39,6 +39,7 @@ use Rattle.mdbox_top.specs.CountsRun.{IsCountsReply}
 use Rattle.mdbox_top.specs.PurgeRun.{IsPurgeReply}
 use Rattle.mdbox_top.specs.ResyncRun.{IsResyncReply}
 use Rattle.mdbox_top.proofs.BatchLemmas.{batch_damage, batch_input, batch_rests_as, batch_status, batch_used}
+use Rattle.mdbox_top.proofs.BoxesLemmas.{boxes_damage, boxes_input, boxes_status, boxes_used}
 use Rattle.mdbox_top.proofs.CountsLemmas.{counts_status}
 use Rattle.mdbox_top.proofs.ResyncLemmas.{resync_status}
 use Rattle.mdbox_top.proofs.ExerciseLemmas.{exercise_damage, exercise_input, exercise_rests_as, exercise_status, exercise_used}
@@ -58,6 +59,7 @@ input_memory (command.Expunge name uid) left told h k old new f g why e = absurd
 input_memory (command.Copy name uid target) left told h k old new f g why e = absurd (request_input (IsCopyReply name uid target) (request.Copy name uid target) h k old new f g why e)
 input_memory (command.Move name uid target) left told h k old new f g why e = absurd (request_input (IsMoveReply name uid target) (request.Move name uid target) h k old new f g why e)
 input_memory (command.Make name) left told h k old new f g why e = absurd (request_input (IsMakeReply name) (request.Make name) h k old new f g why e)
+input_memory command.Boxes left told h k old new f g why e = absurd (boxes_input h k old new f g why e)
 input_memory command.Counts left told h k old new f g why e = absurd (request_input IsCountsReply request.Counts h k old new f g why e)
 input_memory command.Resync left told h k old new f g why e = absurd (request_input IsResyncReply request.Resync h k old new f g why e)
 input_memory command.Purge left told h k old new f g why e = absurd (request_input IsPurgeReply request.Purge h k old new f g why e)
@@ -78,6 +80,7 @@ damage_memory (command.Expunge box uid) left told h k old new f g name place e =
 damage_memory (command.Copy box uid target) left told h k old new f g name place e = request_damage (IsCopyReply box uid target) (request.Copy box uid target) h k old new f g (store.Damaged name place) e
 damage_memory (command.Move box uid target) left told h k old new f g name place e = request_damage (IsMoveReply box uid target) (request.Move box uid target) h k old new f g (store.Damaged name place) e
 damage_memory (command.Make box) left told h k old new f g name place e = request_damage (IsMakeReply box) (request.Make box) h k old new f g (store.Damaged name place) e
+damage_memory command.Boxes left told h k old new f g name place e = boxes_damage h k old new f g (store.Damaged name place) e
 damage_memory command.Counts left told h k old new f g name place e = request_damage IsCountsReply request.Counts h k old new f g (store.Damaged name place) e
 damage_memory command.Resync left told h k old new f g name place e = request_damage IsResyncReply request.Resync h k old new f g (store.Damaged name place) e
 damage_memory command.Purge left told h k old new f g name place e = request_damage IsPurgeReply request.Purge h k old new f g (store.Damaged name place) e
@@ -120,6 +123,7 @@ has_status (command.Expunge name uid) r left told h k old new f g o e = λ lists
 has_status (command.Copy name uid target) r left told h k old new f g o e = λ lists s. request_status (IsCopyReply name uid target) (request.Copy name uid target) h k old new f g o e lists s
 has_status (command.Move name uid target) r left told h k old new f g o e = λ lists s. request_status (IsMoveReply name uid target) (request.Move name uid target) h k old new f g o e lists s
 has_status (command.Make name) r left told h k old new f g o e = λ lists s. request_status (IsMakeReply name) (request.Make name) h k old new f g o e lists s
+has_status command.Boxes r left told h k old new f g o e = λ lists s. boxes_status h k old new f g o e lists s
 has_status command.Counts r left told h k old new f g o e = λ lists s. counts_status h k old new f g o e lists s
 has_status command.Resync r left told h k old new f g o e = λ lists s. resync_status h k old new f g o e lists s
 has_status command.Purge r left told h k old new f g o e = λ lists s. request_status IsPurgeReply request.Purge h k old new f g o e lists s
@@ -142,6 +146,7 @@ used (command.Expunge name uid) left told h k old new f g e = request_used (IsEx
 used (command.Copy name uid target) left told h k old new f g e = request_used (IsCopyReply name uid target) (request.Copy name uid target) h k old new f g e
 used (command.Move name uid target) left told h k old new f g e = request_used (IsMoveReply name uid target) (request.Move name uid target) h k old new f g e
 used (command.Make name) left told h k old new f g e = request_used (IsMakeReply name) (request.Make name) h k old new f g e
+used command.Boxes left told h k old new f g e = boxes_used h k old new f g e
 used command.Counts left told h k old new f g e = request_used IsCountsReply request.Counts h k old new f g e
 used command.Resync left told h k old new f g e = request_used IsResyncReply request.Resync h k old new f g e
 used command.Purge left told h k old new f g e = request_used IsPurgeReply request.Purge h k old new f g e
@@ -283,6 +288,7 @@ rests_last (command.Expunge name uid) left told F G f g old new h r = λ none. r
 rests_last (command.Copy name uid target) left told F G f g old new h r = λ none. r (λ failed. none (h failed))
 rests_last (command.Move name uid target) left told F G f g old new h r = λ none. r (λ failed. none (h failed))
 rests_last (command.Make name) left told F G f g old new h r = λ none. r (λ failed. none (h failed))
+rests_last command.Boxes left told F G f g old new h r = λ none. r (λ failed. none (h failed))
 rests_last command.Counts left told F G f g old new h r = λ none. r (λ failed. none (h failed))
 rests_last command.Resync left told F G f g old new h r = λ none. r (λ failed. none (h failed))
 rests_last command.Purge left told F G f g old new h r = λ none. r (λ failed. none (h failed))

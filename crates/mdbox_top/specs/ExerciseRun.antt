@@ -1,7 +1,7 @@
 -- How `exercise` ends.
 use Rattle.std.specs.Prelude.{◌≡◌, ◌≢◌, ◌⊎◌, ◌+◌, ℕ, true, All, List, length, map, sum_by, Option, Some}
 use Rattle.std.specs.List.{list_any}
-use Rattle.disk_model.specs.Disk.{History, Faults, IsTold}
+use Rattle.disk_model.specs.Disk.{History, Faults}
 use Rattle.disk_model.specs.FaultCounts.{AnyFaultCounted, NoFault}
 use Rattle.exercise_course.specs.Hindered.{is_ok}
 use Rattle.exercise_course.specs.InOrder.{deliveries_in, lists_in_order, message_total, octet_total}
@@ -40,16 +40,16 @@ pub record IsCountedUp (D : Type 0) (script : Script) (held later : Option (List
   pub quiet : ended ≢ outcome.DiskFault → NoFault began now
 
 -- A script over a store that shows these lists, with logs that mean this map: each request is replied OK, it ends with status 0, and the
--- logs that it leaves list as many messages and octets as if it were done in its own order. Of a disk that is modelled, they have one
--- record more for each delivery, name as many different instances as before, and keep counts that grew as the listed messages did.
-pub record IsDoneInOrder (script : Requests) (first : MapMeaning) (lists : Lists) (given : List Reply) (new : Option History) (ended : Outcome) (m : MapMeaning) (meanings : List BoxMeaning) : Type 0 where
+-- logs that it leaves list as many messages and octets as if it were done in its own order. They have one record more for each delivery,
+-- name as many different instances as before, and keep counts that grew as the listed messages did.
+pub record IsDoneInOrder (script : Requests) (first : MapMeaning) (lists : Lists) (given : List Reply) (ended : Outcome) (m : MapMeaning) (meanings : List BoxMeaning) : Type 0 where
   pub ok : All (λ one. is_ok one ≡ true) given
   pub done : ended ≡ outcome.Done
   pub messages : messages_listed meanings ≡ message_total (lists_in_order script lists)
   pub octets : octets_listed meanings ≡ octet_total (lists_in_order script lists)
-  pub records : IsTold new → length m.records ≡ length first.records + deliveries_in script
-  pub counts : IsTold new → sum_by (λ row. row.count) m.records + message_total lists ≡ sum_by (λ row. row.count) first.records + messages_listed meanings
-  pub instances : IsTold new → count_different (named_ids m) ≡ count_different (named_ids first)
+  pub records : length m.records ≡ length first.records + deliveries_in script
+  pub counts : sum_by (λ row. row.count) m.records + message_total lists ≡ sum_by (λ row. row.count) first.records + messages_listed meanings
+  pub instances : count_different (named_ids m) ≡ count_different (named_ids first)
 
 -- So a made script ends; or the store was not opened.
 abbrev pub CountedOutcome : Type 0 → Script → Option (List ℕ) → Option (List ℕ) → Option History → Option History → Faults → Faults → Outcome → Type 0

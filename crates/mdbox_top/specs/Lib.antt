@@ -1,5 +1,6 @@
 pub mod Alone
 pub mod BatchRun
+pub mod BoxesRun
 pub mod CountsRun
 pub mod DeliverRun
 pub mod Changed

@@ -12,6 +12,7 @@ use Rattle.request_text.specs.declared.outcome.Outcome.{Outcome}
 use Rattle.mdbox_base.specs.declared.requests.Request.TheVariants as request
 use Rattle.mdbox_top.specs.Alone.{MayFail}
 use Rattle.mdbox_top.specs.BatchRun.{BatchOutcome, BatchMoments, BatchRests, BatchStatus, TellsScriptFaults}
+use Rattle.mdbox_top.specs.BoxesRun.{BoxesOutcome, BoxesMoments, BoxesRests}
 use Rattle.mdbox_top.specs.ExerciseRun.{ExerciseOutcome, ExerciseMoments, ExerciseRests}
 use Rattle.mdbox_top.specs.InputRun.{DumpPrints, DumpRefuses, LogDumpPrints, LogDumpRefuses, InputOutcome, InputStatus, ShowsText, IsOneOf}
 use Rattle.mdbox_top.specs.InitRun.{InitOutcome, InitMoments, MayMakeStore}
@@ -40,6 +41,7 @@ Ends D (command.Expunge name uid) left told held later old new began now outcome
 Ends D (command.Copy name uid target) left told held later old new began now outcome = CopyOutcome D name uid target held later old new began now outcome
 Ends D (command.Move name uid target) left told held later old new began now outcome = MoveOutcome D name uid target held later old new began now outcome
 Ends D (command.Make name) left told held later old new began now outcome = MakeOutcome D name held later old new began now outcome
+Ends D command.Boxes left told held later old new began now outcome = BoxesOutcome held later old new began now outcome
 Ends D command.Counts left told held later old new began now outcome = CountsOutcome D held later old new began now outcome
 Ends D command.Resync left told held later old new began now outcome = ResyncOutcome D held later old new began now outcome
 Ends D command.Purge left told held later old new began now outcome = PurgeOutcome D held later old new began now outcome
@@ -73,6 +75,7 @@ Moments (command.Expunge name uid) left told old new = ExpungeMoments name uid o
 Moments (command.Copy name uid target) left told old new = CopyMoments name uid target old new
 Moments (command.Move name uid target) left told old new = MoveMoments name uid target old new
 Moments (command.Make name) left told old new = MakeMoments name old new
+Moments command.Boxes left told old new = BoxesMoments old new
 Moments command.Counts left told old new = CountsMoments old new
 Moments command.Resync left told old new = ResyncMoments old new
 Moments command.Purge left told old new = PurgeMoments old new
@@ -91,6 +94,7 @@ Rests (command.Expunge name uid) left told failed began now old new = ExpungeRes
 Rests (command.Copy name uid target) left told failed began now old new = CopyRests name uid target failed began now old new
 Rests (command.Move name uid target) left told failed began now old new = MoveRests name uid target failed began now old new
 Rests (command.Make name) left told failed began now old new = MakeRests name failed began now old new
+Rests command.Boxes left told failed began now old new = BoxesRests failed began now old new
 Rests command.Counts left told failed began now old new = CountsRests failed began now old new
 Rests command.Resync left told failed began now old new = ResyncRests failed began now old new
 Rests command.Purge left told failed began now old new = PurgeRests failed began now old new
@@ -99,7 +103,7 @@ Rests (command.Exercise lanes count number) left told failed began now old new =
 Rests other left told failed began now old new = Unit {0}
 
 -- The statuses that may come, by what was left of the input and what the disk was: no file refuses a store that can be made,
--- or rebuilt, or a request on a settled disk, `counts` and `resync` have no reply that refuses them, and `--help` and `--version` fail with the output alone.
+-- or rebuilt, or a request on a settled disk, `boxes`, `counts` and `resync` have no reply that refuses them, and `--help` and `--version` fail with the output alone.
 abbrev pub HasStatus : Command → Option (List ℕ) → Option History → ℕ → Type 0
 HasStatus (command.Init id) left old status = MayMakeStore old → IsOneOf (0 ∷ 5 ∷ 6 ∷ 8 ∷ []) status
 HasStatus (command.Deliver name) left old status = DeliverStatus left old status
@@ -110,6 +114,7 @@ HasStatus (command.Expunge name uid) left old status = (lists : Lists) → IsSet
 HasStatus (command.Copy name uid target) left old status = (lists : Lists) → IsSettledFor lists old → IsOneOf (0 ∷ 1 ∷ 5 ∷ 6 ∷ 8 ∷ []) status
 HasStatus (command.Move name uid target) left old status = (lists : Lists) → IsSettledFor lists old → IsOneOf (0 ∷ 1 ∷ 5 ∷ 6 ∷ 8 ∷ []) status
 HasStatus (command.Make name) left old status = (lists : Lists) → IsSettledFor lists old → IsOneOf (0 ∷ 1 ∷ 5 ∷ 6 ∷ 8 ∷ []) status
+HasStatus command.Boxes left old status = (lists : Lists) → IsSettledFor lists old → IsOneOf (0 ∷ 5 ∷ 6 ∷ 8 ∷ []) status
 HasStatus command.Counts left old status = (lists : Lists) → IsSettledFor lists old → IsOneOf (0 ∷ 5 ∷ 6 ∷ 8 ∷ []) status
 HasStatus command.Resync left old status = (lists : Lists) → IsSettledFor lists old → IsOneOf (0 ∷ 5 ∷ 6 ∷ 8 ∷ []) status
 HasStatus command.Purge left old status = (lists : Lists) → IsSettledFor lists old → IsOneOf (0 ∷ 1 ∷ 5 ∷ 6 ∷ 8 ∷ []) status
@@ -160,6 +165,7 @@ uses_disk (command.Expunge name uid) = true
 uses_disk (command.Copy name uid target) = true
 uses_disk (command.Move name uid target) = true
 uses_disk (command.Make name) = true
+uses_disk command.Boxes = true
 uses_disk command.Counts = true
 uses_disk command.Resync = true
 uses_disk command.Purge = true

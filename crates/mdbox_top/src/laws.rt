@@ -53,5 +53,5 @@ pub fn exercises_count_their_requests<D: Disk>()
 /// in its own order; each delivery adds a record, counts grow as messages do, and no instance is named that wasn't before.
 pub fn exercises_are_done_in_order<D: Disk>()
     ensures { (lanes count number : ℕ) (held later : Option (List ℕ)) (old new : Option History) (began now : Faults) (ended : Outcome) (done : IsCountedUp D (made_script lanes count number) held later old new began now ended) → 1 ≤ lanes → lanes ≤ 64 → count ≤ 100000
-        → (lists : Lists) → LogsShowLists done.done.m done.done.meanings lists → BeginsFree lanes lists → All (λ one. is_full one ≡ false) done.given → (ended ≡ outcome.Done) ⊎ (ended ≡ outcome.No) → IsDoneInOrder (made_requests lanes count number) done.done.m lists done.given new ended done.m done.meanings }
+        → (lists : Lists) → LogsShowLists done.done.m done.done.meanings lists → BeginsFree lanes lists → All (λ one. is_full one ≡ false) done.given → (ended ≡ outcome.Done) ⊎ (ended ≡ outcome.No) → IsDoneInOrder (made_requests lanes count number) done.done.m lists done.given ended done.m done.meanings }
 {}

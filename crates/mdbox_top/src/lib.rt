@@ -9,6 +9,7 @@ pub use run::{mdbox_alone, mdbox_run};
 
 mod alone;
 mod batch;
+mod boxes;
 mod deliver;
 mod exercise;
 mod init;

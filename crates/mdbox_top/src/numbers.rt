@@ -90,7 +90,7 @@ fn octets_at<D: Disk>(store: &Store<D>, place: u32) -> u64
 }
 
 /// How many octets the messages of a mailbox have: at most 1,000,000 of less than 2^32 each.
-fn octets_in(index: &BoxIndex) -> u64
+pub(crate) fn octets_in(index: &BoxIndex) -> u64
     ensures octets { result ≡ box_octets index.now.meaning }
     ensures few { result ≤ 4294967296000000 }
 {

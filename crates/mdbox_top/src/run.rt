@@ -13,6 +13,7 @@ ghost use Rattle.mdbox_top.specs.Run.{Ends, RunOutcome, Moments, Rests, HasStatu
 
 use crate::alone::serve;
 use crate::batch::batch;
+use crate::boxes::boxes;
 use crate::deliver::deliver;
 use crate::exercise::exercise;
 use crate::init::init;
@@ -153,14 +154,10 @@ fn perform<D: Disk, I: Source, O: Sink, C: Clock>(
             serve(alloc, Request::Fetch { name, uid }, None, disk, output)
         }
         Command::Flag { name, uid, flags } => {
-            serve(
-                alloc,
-                Request::Flag { name, uid, flags },
-                None,
-                disk,
-                output,
-            )
+            let request = Request::Flag { name, uid, flags };
+            serve(alloc, request, None, disk, output)
         }
+        Command::Boxes => boxes(alloc, disk, output),
         Command::Counts => serve(alloc, Request::Counts, None, disk, output),
         Command::Resync => serve(alloc, Request::Resync, None, disk, output),
         Command::Purge => serve(alloc, Request::Purge, None, disk, output),
@@ -168,22 +165,12 @@ fn perform<D: Disk, I: Source, O: Sink, C: Clock>(
             serve(alloc, Request::Expunge { name, uid }, None, disk, output)
         }
         Command::Copy { name, uid, target } => {
-            serve(
-                alloc,
-                Request::Copy { name, uid, target },
-                None,
-                disk,
-                output,
-            )
+            let request = Request::Copy { name, uid, target };
+            serve(alloc, request, None, disk, output)
         }
         Command::Move { name, uid, target } => {
-            serve(
-                alloc,
-                Request::Move { name, uid, target },
-                None,
-                disk,
-                output,
-            )
+            let request = Request::Move { name, uid, target };
+            serve(alloc, request, None, disk, output)
         }
         Command::Make { name } => serve(alloc, Request::Make { name }, None, disk, output),
         Command::Batch { lanes } => batch(alloc, lanes, disk, input, output),

@@ -4,8 +4,7 @@ use Rattle.std.proofs.Common.{sym, ◌∙◌, ap, subst, append_assoc, append-ni
 use Rattle.std.proofs.lemmas.Grind.{flat_map-append}
 use Rattle.std.proofs.lemmas.List.{take-append-drop, take_all, take_more}
 use Rattle.mdbox_base.specs.Numbers.{decimal_text}
-use Rattle.mdbox_base.specs.declared.replies.ListRow.{ListRow}
-use Rattle.request_text.specs.ReplyText.{numbers_text, row_text, ok_line, listing_text}
+use Rattle.request_text.specs.ReplyText.{numbers_text, ok_line}
 use Rattle.piece_writer.specs.Pieces.{Gathers, WritesPrefix}
 use Rattle.piece_writer.proofs.PieceLemmas.{cut_before, cut_more, passed_more, passed_kept}
 
@@ -59,39 +58,42 @@ from_empty h k p q t e a = subst (λ (x : List ℕ). Gathers h x t k q) e a
 pub after_front : (h k : Option (List ℕ)) (p q f t : List ℕ) → q ≡ p ++ f → WritesPrefix h q t k → WritesPrefix h p (f ++ t) k
 after_front h k p q f t e a = cut_more h h k p q f t (subst (λ (x : List ℕ). Gathers h p f h x) (sym e) (passed_kept h p f)) a
 
--- the listing so far
-abbrev pub rows_to : List ListRow → ℕ → List ℕ
-rows_to rows i = ok_line (numbers_text (length rows ∷ [])) ++ flat_map row_text (take i rows)
+-- a first line that tells how many rows there are, and the rows so far, each with its text
+abbrev pub rows_to : {R : Type 0} → (R → List ℕ) → List R → ℕ → List ℕ
+rows_to f rows i = ok_line (numbers_text (length rows ∷ [])) ++ flat_map f (take i rows)
 
-one_row_more : (rows : List ListRow) (row : ListRow) (i : ℕ) → i < length rows → row ≡ get_or rows i row → rows_to rows (i + 1) ≡ rows_to rows i ++ row_text row
-one_row_more rows row i l is =
-    let cut : take (i + 1) rows ≡ take i rows ++ row ∷ [] = take_more rows i row l ∙ ap (λ (x : ListRow). take i rows ++ x ∷ []) (sym is) in
+abbrev pub all_rows : {R : Type 0} → (R → List ℕ) → List R → List ℕ
+all_rows f rows = ok_line (numbers_text (length rows ∷ [])) ++ flat_map f rows
+
+one_row_more : {R : Type 0} → (f : R → List ℕ) (rows : List R) (row : R) (i : ℕ) → i < length rows → row ≡ get_or rows i row → rows_to f rows (i + 1) ≡ rows_to f rows i ++ f row
+one_row_more {R} f rows row i l is =
+    let cut : take (i + 1) rows ≡ take i rows ++ row ∷ [] = take_more rows i row l ∙ ap (λ (x : R). take i rows ++ x ∷ []) (sym is) in
     let front = ok_line (numbers_text (length rows ∷ [])) in
-    ap (λ (t : List ListRow). front ++ flat_map row_text t) cut
-    ∙ ap (λ (t : List ℕ). front ++ t) (flat_map-append row_text (take i rows) (row ∷ []) ∙ ap (λ (t : List ℕ). flat_map row_text (take i rows) ++ t) (append-nil (row_text row)))
-    ∙ sym (append_assoc front (flat_map row_text (take i rows)) (row_text row))
+    ap (λ (t : List R). front ++ flat_map f t) cut
+    ∙ ap (λ (t : List ℕ). front ++ t) (flat_map-append f (take i rows) (row ∷ []) ∙ ap (λ (t : List ℕ). flat_map f (take i rows) ++ t) (append-nil (f row)))
+    ∙ sym (append_assoc front (flat_map f (take i rows)) (f row))
 
-rows_rest : (rows : List ListRow) (i : ℕ) → listing_text rows ≡ rows_to rows i ++ flat_map row_text (drop i rows)
-rows_rest rows i =
+rows_rest : {R : Type 0} → (f : R → List ℕ) (rows : List R) (i : ℕ) → all_rows f rows ≡ rows_to f rows i ++ flat_map f (drop i rows)
+rows_rest f rows i =
     let front = ok_line (numbers_text (length rows ∷ [])) in
-    ap (λ (t : List ℕ). front ++ t) (ap (flat_map row_text) (sym (take-append-drop i rows)) ∙ flat_map-append row_text (take i rows) (drop i rows))
-    ∙ sym (append_assoc front (flat_map row_text (take i rows)) (flat_map row_text (drop i rows)))
+    ap (λ (t : List ℕ). front ++ t) (ap (flat_map f) (sym (take-append-drop i rows)) ∙ flat_map-append f (take i rows) (drop i rows))
+    ∙ sym (append_assoc front (flat_map f (take i rows)) (flat_map f (drop i rows)))
 
-pub listing_begins : (h k : Option (List ℕ)) (rows : List ListRow) (p q : List ℕ) → Gathers h p (ok_line (numbers_text (length rows ∷ []))) k q → Gathers h p (rows_to rows 0) k q
-listing_begins h k rows p q first = subst (λ (t : List ℕ). Gathers h p t k q) (sym (append-nil (ok_line (numbers_text (length rows ∷ []))))) first
+pub rows_begin : {R : Type 0} → (f : R → List ℕ) (h k : Option (List ℕ)) (rows : List R) (p q : List ℕ) → Gathers h p (ok_line (numbers_text (length rows ∷ []))) k q → Gathers h p (rows_to f rows 0) k q
+rows_begin f h k rows p q first = subst (λ (t : List ℕ). Gathers h p t k q) (sym (append-nil (ok_line (numbers_text (length rows ∷ []))))) first
 
-pub listing_goes_on : (h k l : Option (List ℕ)) (rows : List ListRow) (row : ListRow) (p q r : List ℕ) (i : ℕ) → i < length rows → row ≡ get_or rows i row
-    → Gathers h p (rows_to rows i) k q → Gathers k q (row_text row) l r → Gathers h p (rows_to rows (i + 1)) l r
-listing_goes_on h k l rows row p q r i b is first second =
-    subst (λ (t : List ℕ). Gathers h p t l r) (sym (one_row_more rows row i b is)) (passed_more h k l p q r (rows_to rows i) (row_text row) first second)
+pub rows_go_on : {R : Type 0} → (f : R → List ℕ) (h k l : Option (List ℕ)) (rows : List R) (row : R) (p q r : List ℕ) (i : ℕ) → i < length rows → row ≡ get_or rows i row
+    → Gathers h p (rows_to f rows i) k q → Gathers k q (f row) l r → Gathers h p (rows_to f rows (i + 1)) l r
+rows_go_on f h k l rows row p q r i b is first second =
+    subst (λ (t : List ℕ). Gathers h p t l r) (sym (one_row_more f rows row i b is)) (passed_more h k l p q r (rows_to f rows i) (f row) first second)
 
-pub listing_cut : (h k l : Option (List ℕ)) (rows : List ListRow) (row : ListRow) (p q : List ℕ) (i : ℕ) → i < length rows → row ≡ get_or rows i row
-    → Gathers h p (rows_to rows i) k q → WritesPrefix k q (row_text row) l → WritesPrefix h p (listing_text rows) l
-listing_cut h k l rows row p q i b is first second =
-    subst (λ (t : List ℕ). WritesPrefix h p t l) (sym (rows_rest rows (i + 1)))
-    (cut_before h l p (rows_to rows (i + 1)) (flat_map row_text (drop (i + 1) rows))
-    (subst (λ (t : List ℕ). WritesPrefix h p t l) (sym (one_row_more rows row i b is)) (cut_more h k l p q (rows_to rows i) (row_text row) first second)))
+pub rows_cut : {R : Type 0} → (f : R → List ℕ) (h k l : Option (List ℕ)) (rows : List R) (row : R) (p q : List ℕ) (i : ℕ) → i < length rows → row ≡ get_or rows i row
+    → Gathers h p (rows_to f rows i) k q → WritesPrefix k q (f row) l → WritesPrefix h p (all_rows f rows) l
+rows_cut f h k l rows row p q i b is first second =
+    subst (λ (t : List ℕ). WritesPrefix h p t l) (sym (rows_rest f rows (i + 1)))
+    (cut_before h l p (rows_to f rows (i + 1)) (flat_map f (drop (i + 1) rows))
+    (subst (λ (t : List ℕ). WritesPrefix h p t l) (sym (one_row_more f rows row i b is)) (cut_more h k l p q (rows_to f rows i) (f row) first second)))
 
-pub listing_passed : (h k : Option (List ℕ)) (rows : List ListRow) (p q : List ℕ) (i : ℕ) → length rows ≤ i → Gathers h p (rows_to rows i) k q → Gathers h p (listing_text rows) k q
-listing_passed h k rows p q i a first =
-    subst (λ (t : List ℕ). Gathers h p t k q) (ap (λ (t : List ListRow). ok_line (numbers_text (length rows ∷ [])) ++ flat_map row_text t) (take_all i rows a)) first
+pub rows_passed : {R : Type 0} → (f : R → List ℕ) (h k : Option (List ℕ)) (rows : List R) (p q : List ℕ) (i : ℕ) → length rows ≤ i → Gathers h p (rows_to f rows i) k q → Gathers h p (all_rows f rows) k q
+rows_passed {R} f h k rows p q i a first =
+    subst (λ (t : List ℕ). Gathers h p t k q) (ap (λ (t : List R). ok_line (numbers_text (length rows ∷ [])) ++ flat_map f t) (take_all i rows a)) first

@@ -194,6 +194,7 @@ same_words (command.Make a) (command.Make b) p q e = ap (λ (n : List ℕ). comm
 same_words (command.Batch a) (command.Batch b) p q e = batch_same a b p q e
 same_words (command.Exercise a m x) (command.Exercise b n y) p q e = exercise_same a b m n x y p q e
 same_words (command.Rebuild a) (command.Rebuild b) p q e = ap (λ (i : StoreId). command.Rebuild i) (rebuild_same a b p q e)
+same_words command.Boxes command.Boxes p q e = refl
 same_words command.Counts command.Counts p q e = refl
 same_words command.Purge command.Purge p q e = refl
 same_words command.Resync command.Resync p q e = refl

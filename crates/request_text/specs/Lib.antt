@@ -1,4 +1,5 @@
 pub mod BatchText
+pub mod BoxesText
 pub mod Commands
 pub mod Outcomes
 pub mod ReplyText

@@ -14,6 +14,8 @@ pub enum Command {
     Fetch { name: Name, uid: Uid },
     /// Sets the flags of the message with this UID in the mailbox with this name.
     Flag { name: Name, uid: Uid, flags: Flags },
+    /// Lists the mailboxes.
+    Boxes,
     /// Counts what the store has.
     Counts,
     /// Removes from storage files what no mailbox lists, and the attachments that no message needs.
@@ -62,6 +64,9 @@ fetch BOX UID
 flag BOX UID BITS
             sets the flags of the message with this UID to BITS (0 to 31, a sum as list prints it) and prints OK;
             or prints NO 10 no mailbox or NO 12 no message
+boxes       prints OK and the number of mailboxes in the store in the current folder, then a line for each, in the
+            order in which they were made: its number, the UID that its next message gets, how many messages it
+            lists, the sum of their sizes in octets, and its name
 counts      prints OK and four numbers of the store in the current folder: how many messages it has stored, how
             many its mailboxes list, the sum of the counts that it keeps of these (what is above is a leak), and
             how many attachments it keeps apart, each once

@@ -2,6 +2,7 @@
 #![tactic(auto)]
 
 pub use batch_print::{print_batch, push_reply};
+pub use boxes::{BoxRow, print_boxes};
 pub use command::{Command, HELP, VERSION};
 pub use error_report::report;
 pub use outcome::{
@@ -16,6 +17,7 @@ pub use summary::{Summary, print_summary};
 pub use words::{WordsError, read_words};
 
 mod batch_print;
+mod boxes;
 mod command;
 mod error_report;
 mod outcome;

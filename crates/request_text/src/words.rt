@@ -53,6 +53,7 @@ fn read_one(word: &str) -> Result<Command, WordsError>
     ensures memory { IsErrOf result words_error.NoMemory → ⊥ }
 {
     match word {
+        "boxes" => Ok(Command::Boxes),
         "counts" => Ok(Command::Counts),
         "purge" => Ok(Command::Purge),
         "resync" => Ok(Command::Resync),

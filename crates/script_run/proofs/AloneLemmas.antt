@@ -28,7 +28,7 @@ use Rattle.script_run.specs.Done.{IsScriptDone, MayRead}
 use Rattle.script_run.specs.LeftOpen.{IsRequestDone, IsServedOpen}
 use Rattle.script_run.specs.One.{AreListsTold, HasOneEvent, IsAnsweredFirst, IsUnanswered, MakesSteps, alone}
 use Rattle.script_run.specs.Opening.{LogsShowLists}
-use Rattle.script_run.specs.Script.{only_reads, has_fetch, has_purge, IsRefusedAtOnce}
+use Rattle.script_run.specs.Script.{only_reads, has_fetch, IsRefusedAtOnce}
 use Rattle.script_run.proofs.SomeListsLemmas.{some_lists}
 use Rattle.script_run.proofs.ToldLemmas.{IsMove, replied_one, step_answers, step_told}
 
@@ -321,10 +321,6 @@ replied_so e given false is h = absurd (cc is)
 own_test : (k : ℕ) → k ≡ 0 → (k == 0) ≡ true
 own_test k e = grind (arith, common_steps, e)
 
-purges_none : (asked : Request) → HasOneEvent asked → has_purge (alone asked) ≡ false
-purges_none request.Purge one = absurd one
-purges_none asked one = refl
-
 -- One that is refused by a check changes nothing.
 pub refused_idle : (asked : Request) (given : Reply) (entries : List JournalEntry) (old new : Option History) (began now : Faults) → (done : IsScriptDone (alone asked) (given ∷ []) entries old new began now) → HasOneEvent asked → (why : Refusal) → is_step why ≡ true → given ≡ reply.Refused why → IsIdle done.leaves.opened new
 refused_idle asked given entries old new began now done one why step is =
@@ -332,7 +328,7 @@ refused_idle asked given entries old new began now done one why step is =
     let s = done.serves some.0 some.1 (may_read asked (fetches_none asked (one_makes asked one)) some.0 old) in
     let told : Some (Some given) ≡ Some (reply_of 0 s.run) = s.served.given.1 0 (omega arith) in
     let reply : reply_of 0 s.run ≡ Some given = (let k : Some given ≡ reply_of 0 s.run = cc told in sym k) in
-    s.refused (purges_none asked one) (elim (one_at_most s.run.events (first_only s.served.around s.served.after some.0 asked s.run s.journal one s.served.next)) [
+    s.refused (elim (one_at_most s.run.events (first_only s.served.around s.served.after some.0 asked s.run s.journal one s.served.next)) [
       | inl none ↦ subst (All IsRefusedAtOnce) (sym none) (All-nil IsRefusedAtOnce)
       | inr e ↦
           let own = (own_event s.served.around s.served.after some.0 asked s.run s.journal s.served.next 0 e.0 (ap (λ (es : List RunEvent). slice_get es 0) e.1)).0 in

@@ -38,7 +38,7 @@ use Rattle.lanes.specs.Rows.{LaneRow, lane_value, lanes_of}
 use Rattle.attach_detach.specs.declared.message.Prepared.{Prepared}
 use Rattle.lanes.specs.Worlds.{AreGiven, AreOfLanes, ArePartsOf, GoesOnBy, IsFreshWorld, IsWorldOf, PartsValue, WorldValue, and_events}
 use Rattle.lanes.proofs.TraceLemmas.{as_finished, world_finished}
-use Rattle.lane_tasks.specs.Clause.{AnswersReads, DoomsNone, IsAtStart, OnlyReads, ReadsNoOctets}
+use Rattle.lane_tasks.specs.Clause.{AnswersReads, DoomsNone, OnlyReads, ReadsNoOctets}
 use Rattle.task_steps.proofs.UnmovedLemmas.{mail_still}
 use Rattle.lane_tasks.specs.Tasks.{BeginsTask}
 use Rattle.mail_ops.specs.Flagging.{flag_refusal}
@@ -54,7 +54,7 @@ use Rattle.script_run.proofs.EndLemmas.{all_given, script_served, serves_from, u
 use Rattle.script_run.proofs.MailStaysLemmas.{opening_keeps, run_keeps, stays_from}
 use Rattle.script_run.proofs.CopyTaskLemmas.{IsCopyTold, StandsCopy, begun_copy, keeps_copy}
 use Rattle.script_run.proofs.ChainLemmas.{HasCounted, HasDoomedNone, HasOnlyRead, HasReadAsTold, HasReadNoOctets, HasWrittenNone, WritesNoMail, calm_on, counted_first, counted_on, reads_on, stays_over, syncs_first, unread_on, unwritten_on}
-use Rattle.script_run.proofs.SinceLemmas.{ServedSince, answers_first, begun_first, changes_none, dooms_first, fresh_tasks, reads_first, reads_unpurged, served_since, unpurged, unread_first, unwritten_first}
+use Rattle.script_run.proofs.SinceLemmas.{MayBeRefused, ServedSince, answers_first, begun_first, changes_none, dooms_first, fresh_tasks, reads_first, reads_unpurged, served_since, unpurged, unread_first, unwritten_first}
 use Rattle.script_run.specs.Purged.{IsPurgedAlone, IsRefusedRoomAlone, LacksRoom}
 use Rattle.script_run.specs.Resynced.{IsResyncedAlone}
 use Rattle.script_run.specs.Sealed.{KeepsSealed}
@@ -291,7 +291,7 @@ serves_run script old mid new first last s world ended r given are start shows m
     let going = subst (λ (rs : List (Option Reply)). IsGoing start script run w.more w.broke rs from ended.store new last ended.rows) are w.is.going in
     script_served start script run w.more w.broke given ended.journal from ended.began ended.store mid new last ended.rows going going.serving.stays_stopped r.later r.opened.drawn (opening_begins old mid s r.opened)
     (λ e. let i = going.serving.replied_stopped e in given_at given i.0 (reply.Refused refusal.Stopped) i.1) (subst (λ (n : ℕ). IsMoment mid n) (sym r.same_began) r.made_is, w.later) w.is.entries
-    (λ none. w.refused (fresh_tasks IsAtStart script world.rows (λ place lane asked t at begins. begun_first asked t (unpurged script place lane asked none at) begins) r.fresh))
+    (w.refused (fresh_tasks MayBeRefused script world.rows (λ place lane asked t at begins. begun_first asked t begins) r.fresh))
 
 -- Some lists are shown from which the script may be served, if there are lists from which it may read.
 start_of : {D : Type 0} → (script : Requests) (old mid : Option History) (s : StoreValue D) → OpenedNow old mid s → LogsShow → MayBeServed script old → (start : Lists) × LogsShowLists s.map (indexes_of s.boxes) start × MayRead script start old
@@ -479,7 +479,7 @@ done_run script old mid new first last s world ended r given are =
 -- It was done, and left the store so.
 pub script_done : {D : Type 0} → (script : Requests) (old mid new : Option History) (first last : Faults) (s : StoreValue D) (world ended : WorldValue D) → ScriptRan script old mid new first last s world ended
     → (given : List Reply) × (ended.replies ≡ map Some given) × IsServedOpen script given ended.journal old new first last ended.store
-unfolding done_run leaves_run
+unfolding done_run leaves_run serves_run script_served
 script_done script old mid new first last s world ended r =
     let g = all_given ended.replies r.replied in (
       g.0,
@@ -488,6 +488,7 @@ script_done script old mid new first last s world ended r =
         done = done_run script old mid new first last s world ended r g.0 g.1;
         comes = record {
           shows = λ lists shows may. (serves_run script old mid new first last s world ended r g.0 g.1 lists shows may).1;
+          means = λ lists shows may. refl;
           again = λ unstopped. opens_again new ended.store r.later (stopped_by script old mid new first last s world ended r g.0 g.1 unstopped);
           alike = alike_alone script old mid new first last s world ended r g.0 g.1;
           made = made_alone script old mid new first last s world ended r g.0 g.1;

@@ -26,7 +26,7 @@ use Rattle.lanes.specs.Going.{IsGoing, TellsDamage}
 use Rattle.lanes.specs.Rows.{LaneRow}
 use Rattle.lanes.specs.Worlds.{AreEntriesAt}
 use Rattle.script_run.specs.Opening.{LogsShowLists, RunBegins}
-use Rattle.script_run.specs.Script.{HasStopped, IsMadeBefore, IsRefusedAtOnce, ServesScript, has_purge}
+use Rattle.script_run.specs.Script.{HasStopped, IsMadeBefore, IsRefusedAtOnce, ServesScript}
 use Rattle.script_run.proofs.RunBeginsLemmas.{before_opening, first_map, run_ends}
 use Rattle.script_run.proofs.ShownLemmas.{opens_again}
 
@@ -83,7 +83,7 @@ unharmed (one ∷ rest) none = All-cons (λ (x : Reply). TellsDamage (refusal_in
 -- journal's. The store shows what the journal leaves.
 unfoldable pub script_served : {D : Type 0} → (start : Lists) (script : Requests) (run : Run) (journal : List JournalStep) (broken : Broken) (given : List Reply) (entries : List JournalEntry) (began : Seen) (made : ℕ) (store : StoreValue D) (opened history : Option History) (faults : Faults) (rows : List LaneRow)
     → IsGoing start script run journal broken (map Some given) began store history faults rows → StaysStopped run.events → IsStore history store → began.drawn ≡ began.map.highest → RunBegins run began.history → (store.stopped ≡ true → HasStopped given) → IsMadeBefore opened made run → AreEntriesAt history made (moment_of run) journal entries
-    → (has_purge script ≡ false → All IsRefusedAtOnce run.events → IsIdle opened history)
+    → (All IsRefusedAtOnce run.events → IsIdle opened history)
     → (was : ServesScript script start given entries began.faults faults began.history opened history) × LogsShowLists store.map (indexes_of store.boxes) (left_by start was.journal)
 script_served {D} start script run journal broken given entries began made store opened history faults rows g stays k drawn begins stopped made_is are refused = (
   record {

@@ -1,19 +1,24 @@
 -- The world of a script after its events: of which run it is, and what these left of the disk.
-use Rattle.std.specs.Prelude.{◌||◌, ◌+◌, not, ◌++◌, slice_get}
+use Rattle.std.specs.Prelude.{◌≢◌, ◌||◌, ◌+◌, not, ◌++◌, slice_get}
 use Rattle.std.specs.List.{list_any}
 use Rattle.std.proofs.Common.{◌≡◌, ◌≤◌, ℕ, zero, suc, Bool, true, false, List, [], ◌∷◌, All, Option, Some, None, refl, sym, ◌∙◌, ap, subst, arith}
 use Rattle.std.proofs.lemmas.List.{append-nil, append_assoc}
 use Rattle.std.proofs.lemmas.List.Elements.{All-cons, All-head, All-nil, All-tail, All-weaker}
 use Rattle.disk_model.specs.Disk.{Faults, History, IsIdle, told_calls}
 use Rattle.disk_model.proofs.IdleLemmas.{idle-begins, idle-then}
+use Rattle.mdbox_base.specs.declared.replies.Refusal.{Refusal}
+use Rattle.mdbox_base.specs.declared.replies.Refusal.TheVariants as refusal
+use Rattle.mdbox_base.specs.declared.replies.Reply.{Reply}
 use Rattle.mdbox_base.specs.declared.replies.Reply.TheVariants as reply
 use Rattle.mdbox_base.specs.declared.requests.Request.{Request}
 use Rattle.mdbox_base.specs.declared.requests.Request.TheVariants as request
 use Rattle.model_lists.specs.Lists.{Lists}
+use Rattle.list_machine.specs.Machine.{is_step}
 use Rattle.list_machine.specs.Run.{Run, RunEvent, and_then}
 use Rattle.journal.specs.Journal.{Broken, JournalStep, Requests}
+use Rattle.store_core.specs.Value.{StoreValue}
 use Rattle.task_steps.specs.Step.{Seen, ended_by}
-use Rattle.lane_tasks.specs.Clause.{AnswersReads, DoomsNone, IsAtStart, OnlyReads, ReadsNoOctets, RemovesNothing, SetsNoFlags}
+use Rattle.lane_tasks.specs.Clause.{AnswersReads, DoomsNone, IsAtStart, OnlyReads, ReadsNoOctets, RemovesNothing, SetsNoFlags, TaskKeeps}
 use Rattle.lane_tasks.specs.Tasks.{BeginsTask, IsTaskOf}
 use Rattle.lane_tasks.specs.declared.task.Task.{Task}
 use Rattle.lane_tasks.specs.declared.task.Task.TheVariants as task
@@ -56,18 +61,23 @@ fresh_tasks Holds script rows holds are k row at = by_current row.current refl (
         subst (λ (c : Option Queued). All (λ q. Holds q.task) (queued_in (record { current = c; waiting = row.waiting }))) (sym is)
         (All-cons (λ (q : Queued). Holds q.task) queued row.waiting (one queued (f.first queued is)) (All-weaker (WaitsWithTask script (k + 1)) (λ (q : Queued). Holds q.task) one row.waiting f.behind))
 
-pub begun_first : (asked : Request) (t : Task) → is_purge asked ≡ false → BeginsTask asked t → IsAtStart t
-begun_first asked (task.Ops t) none b = tt
-begun_first asked (task.Counts t) none b = tt
-begun_first asked (task.Make t) none b = b.at
-begun_first asked (task.Copy t) none b = b.at
-begun_first asked (task.Move t) none b = b.at
-begun_first asked (task.Expunge t) none b = b.at
-begun_first asked (task.Fetch t) none b = b.at
-begun_first asked (task.Resync t) none b = b.at
-begun_first asked (task.Purge t) none b = absurd (let k : true ≡ false = sym (ap is_purge b.is_of) ∙ none in cc k)
-begun_first (request.Deliver name time octets) (task.Deliver t) none b = (b.at.0, b.at.1)
-begun_first asked (task.Deliver t) none b = absurd b.at
+-- A task that has done nothing: it is at its start, but of a purge, each event that is refused tells that it is the first one.
+abbrev pub MayBeRefused : Task → Type 0
+MayBeRefused (task.Purge t) = Unit {0}
+MayBeRefused t = IsAtStart t
+
+pub begun_first : (asked : Request) (t : Task) → BeginsTask asked t → MayBeRefused t
+begun_first asked (task.Ops t) b = tt
+begun_first asked (task.Counts t) b = tt
+begun_first asked (task.Make t) b = b.at
+begun_first asked (task.Copy t) b = b.at
+begun_first asked (task.Move t) b = b.at
+begun_first asked (task.Expunge t) b = b.at
+begun_first asked (task.Fetch t) b = b.at
+begun_first asked (task.Resync t) b = b.at
+begun_first asked (task.Purge t) b = tt
+begun_first (request.Deliver name time octets) (task.Deliver t) b = (b.at.0, b.at.1)
+begun_first asked (task.Deliver t) b = absurd b.at
 
 pub unpurged : (script : Requests) (place lane : ℕ) (asked : Request) → has_purge script ≡ false → slice_get script place ≡ Some (lane, asked) → is_purge asked ≡ false
 unpurged script place lane asked none at = any_false (λ (q : ℕ × Request). is_purge q.1) script place (lane, asked) none at
@@ -139,6 +149,17 @@ answers_task asked t none of = tt
 pub answers_first : (script : Requests) (place lane : ℕ) (asked : Request) (t : Task) → has_fetch script ≡ false → slice_get script place ≡ Some (lane, asked) → BeginsTask asked t → AnswersReads t
 answers_first script place lane asked t none at begins = answers_task asked t (any_false (λ (q : ℕ × Request). is_fetch q.1) script place (lane, asked) none at) begins.is_of
 
+-- An event that is refused by a check changes nothing.
+not_fault : (why kind : Refusal) → is_step kind ≡ false → is_step why ≡ true → why ≢ kind
+not_fault why kind none step is = let k : true ≡ false = sym step ∙ (ap is_step is ∙ none) in cc k
+
+refused_event : {D : Type 0} → (t next : Task) (old new : StoreValue D) (before after : Option History) (began now : Faults) (ended : Option Reply) (why : Refusal) → MayBeRefused t → ended ≡ Some (reply.Refused why) → is_step why ≡ true → TaskKeeps t next old new before after began now ended → IsIdle before after
+refused_event (task.Purge t) (task.Purge next) old new before after began now ended why may is step k =
+    let first = k.tells.refused why is (not_fault why refusal.ReadFault refl step) (not_fault why refusal.Stopped refl step) in
+    (k.tells.first first).idle
+refused_event (task.Purge t) next old new before after began now ended why may is step k = absurd k.request
+refused_event t next old new before after began now ended why may is step k = k.refused why may is step
+
 -- ---- the run
 
 -- The world is one of the run with these events, none of which ended before this time; and where each answered its request with a
@@ -149,7 +170,7 @@ pub record ServedSince {D : Type 0} (start : Lists) (script : Requests) (run : R
   pub broke : Broken
   pub is : IsWorldOf start script (and_events run added) (steps ++ more) broke began after second new
   pub later : All (λ event. told_calls before ≤ event.moment) added
-  pub refused : AllTasks IsAtStart old.rows → All IsRefusedAtOnce added → IsIdle before after
+  pub refused : AllTasks MayBeRefused old.rows → All IsRefusedAtOnce added → IsIdle before after
 
 pub served_since : {D : Type 0} → (last : ℕ) (lanes : List ℕ) (old new : WorldValue D) (before after : Option History) (first second : Faults) → GoesInRounds last lanes old new before after first second
     → (start : Lists) (script : Requests) (run : Run) (steps : List JournalStep) (failed : Broken) (began : Seen) → IsWorldOf start script run steps failed began before first old → ServedSince start script run steps began old new before after second
@@ -183,7 +204,7 @@ served_since {D} last (lane ∷ lanes) old new before after first second g start
       refused = λ begun all.
           let at_once = All-head IsRefusedAtOnce e.0 r.added all in
           let answered : ended_by g.4.works.event.ended ≡ Some (reply.Refused at_once.0) = sym e.3.reply_is ∙ at_once.1 in
-          let own = (in_turn IsAtStart lane old g.0 before g.1 first g.2 g.4 begun).0 in
-          let rest = tasks_after IsAtStart lane old g.0 before g.1 first g.2 g.4 (λ more. absurd (let k : None ≡ Some (reply.Refused at_once.0) = sym more ∙ answered in cc k)) begun in
-          idle-then before g.1 after (g.4.works.goes.goes.keeps.refused at_once.0 own answered at_once.2) (r.refused rest (All-tail IsRefusedAtOnce e.0 r.added all));
+          let own = (in_turn MayBeRefused lane old g.0 before g.1 first g.2 g.4 begun).0 in
+          let rest = tasks_after MayBeRefused lane old g.0 before g.1 first g.2 g.4 (λ more. absurd (let k : None ≡ Some (reply.Refused at_once.0) = sym more ∙ answered in cc k)) begun in
+          idle-then before g.1 after (refused_event g.4.works.goes.queued.task g.4.works.goes.next old.store g.0.store before g.1 first g.2 (ended_by g.4.works.event.ended) at_once.0 own answered at_once.2 g.4.works.goes.goes.keeps) (r.refused rest (All-tail IsRefusedAtOnce e.0 r.added all));
     }

@@ -17,11 +17,12 @@ use Rattle.script_run.specs.Purged.{IsPurgedAlone, IsRefusedRoomAlone}
 use Rattle.script_run.specs.Resynced.{IsResyncedAlone}
 use Rattle.script_run.specs.Script.{HasStopped}
 
--- The script was done, and logs mean this now: from whatever lists it was served, they show those that the journal leaves; and the files
--- open with them, unless a reply says that the store is stopped. Of a resync and of a purge alone its reply tells what it made of them, and
+-- The script was done, and logs mean this now: from whatever lists it was served, they show those that the journal leaves, and the run has
+-- come to this map; and the files open with them, unless a reply says that the store is stopped. Of a resync and of a purge alone its reply tells what it made of them, and
 -- of a purge, what it made of the files; one that is refused for lack of numbers or room lacks them.
 pub record ComesTo (script : Requests) (given : List Reply) (entries : List JournalEntry) (old new : Option History) (began now : Faults) (done : IsScriptDone script given entries old new began now) (m : MapMeaning) (meanings : List BoxMeaning) : Type 0 where
   pub shows : (lists : Lists) (shown_by : LogsShowLists done.m done.meanings lists) (may : MayRead script lists old) → LogsShowLists m meanings (left_by lists (done.serves lists shown_by may).journal)
+  pub means : (lists : Lists) (shown_by : LogsShowLists done.m done.meanings lists) (may : MayRead script lists old) → (done.serves lists shown_by may).m ≡ m
   pub again : (HasStopped given → ⊥) → IsOpenedAs new m meanings
   pub alike : IsGivenBackAlone script given → MeansAlike done.m done.meanings m meanings
   pub made : MeansByMake script given done.m done.meanings m meanings

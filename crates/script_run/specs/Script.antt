@@ -69,8 +69,7 @@ has_purge script = list_any (λ asked. is_purge asked.1) script
 -- settled for the lists each crash image since is safe for lists that the journal reaches; at the moment of each event it was settled for
 -- what the steps up to it left; and it is settled for the lists that the journal leaves, unless a change of it failed. The entries are
 -- those of the journal's steps, in order, of a world that was made after so many calls, which is the number of its calls as the store was
--- open. Where each event answered its request with a refusal, but for want of memory or by a failed call, and none was a purge, nothing has
--- changed since then.
+-- open. Where each event answered its request with a refusal, but for want of memory or by a failed call, nothing has changed since then.
 pub record ServesScript (script : Requests) (lists : Lists) (given : List Reply) (entries : List JournalEntry) (began now : Faults) (old opened new : Option History) : Type 0 where
   pub run : Run
   pub journal : List JournalStep
@@ -87,7 +86,7 @@ pub record ServesScript (script : Requests) (lists : Lists) (given : List Reply)
   pub settled : (HasStopped given → ⊥) → IsSettledFor lists old → IsSettledFor (left_by lists journal) new
   pub made_is : IsMadeBefore opened made run
   pub entries_are : AreEntriesAt new made (moment_of run) journal entries
-  pub refused : has_purge script ≡ false → All IsRefusedAtOnce run.events → IsIdle opened new
+  pub refused : All IsRefusedAtOnce run.events → IsIdle opened new
 
 -- the request reads a message, and a request of the script does
 abbrev pub is_fetch : Request → Bool

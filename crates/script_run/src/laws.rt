@@ -45,7 +45,8 @@ pub fn opened_logs_show_lists()
 pub fn one_request()
     ensures serves { (asked : Request) (given : Reply) (entries : List JournalEntry) (old new : Option History) (began now : Faults) → IsScriptDone (alone asked) (given ∷ []) entries old new began now → (lists : Lists) → AreSafeFor lists old → MayRead (alone asked) lists old → ServesRequest asked lists given began now old new }
     ensures few { (start : Lists) (asked : Request) (run : Run) (journal : List JournalStep) (given : Reply) (old new : Faults) → IsLegal start (alone asked) run journal (Some given ∷ []) old new → length journal ≤ 2 }
-    ensures left { (start : Lists) (asked : Request) (run : Run) (journal : List JournalStep) (broken : Broken) (given : Reply) (old new : Faults) (first m : MapMeaning) (drawn : Highest) (calls : ℕ) (meanings : List BoxMeaning) → LogsShowLists first meanings start → IsServed start (alone asked) run journal broken (Some given ∷ []) old new first m drawn calls → IsUnfailed given → AreListsTold asked given start (left_by start journal) }
+    ensures left { (start : Lists) (asked : Request) (run : Run) (journal : List JournalStep) (broken : Broken) (given : Reply) (old new : Faults) (first m : MapMeaning) (drawn : Highest) (calls : ℕ) (meanings : List BoxMeaning)
+        → LogsShowLists first meanings start → IsServed start (alone asked) run journal broken (Some given ∷ []) old new first m drawn calls → IsUnfailed given → AreListsTold asked given start (left_by start journal) }
     ensures settled { (asked : Request) (given : Reply) (lists : Lists) (began now : Faults) (old new : Option History) → ServesRequest asked lists given began now old new → IsUnfailed given → IsSettledFor lists old → (later : Lists) × AreListsTold asked given lists later × IsSettledFor later new }
 {}
 
@@ -78,9 +79,11 @@ pub fn deliveries_make_one_step()
 /// A crash within a move alone leaves the lists before it, which the logs show, those with the copy, or those that are moved; and its
 /// second step finds the message that the first has copied.
 pub fn moves_make_two_steps()
-    ensures reached { (name : List ℕ) (uid : Uid) (target : List ℕ) (start : Lists) (run : Run) (journal : List JournalStep) (broken : Broken) (replies : List (Option Reply)) (old new : Faults) (first m : MapMeaning) (drawn : Highest) (calls : ℕ) (meanings : List BoxMeaning) → LogsShowLists first meanings start → IsServed start (alone (request.Move name uid target)) run journal broken replies old new first m drawn calls
+    ensures reached { (name : List ℕ) (uid : Uid) (target : List ℕ) (start : Lists) (run : Run) (journal : List JournalStep) (broken : Broken) (replies : List (Option Reply)) (old new : Faults) (first m : MapMeaning) (drawn : Highest) (calls : ℕ) (meanings : List BoxMeaning)
+        → LogsShowLists first meanings start → IsServed start (alone (request.Move name uid target)) run journal broken replies old new first m drawn calls
         → (moment : ℕ) (lists : Lists) → Reached start run journal broken moment lists → AreAlongMove name uid target start lists }
-    ensures here { (name : List ℕ) (uid : Uid) (target : List ℕ) (start : Lists) (run : Run) (journal : List JournalStep) (broken : Broken) (moved : Uid) (old new : Faults) (first m : MapMeaning) (drawn : Highest) (calls : ℕ) (meanings : List BoxMeaning) → LogsShowLists first meanings start → IsServed start (alone (request.Move name uid target)) run journal broken (Some (reply.Moved moved true) ∷ []) old new first m drawn calls → ⊥ }
+    ensures here { (name : List ℕ) (uid : Uid) (target : List ℕ) (start : Lists) (run : Run) (journal : List JournalStep) (broken : Broken) (moved : Uid) (old new : Faults) (first m : MapMeaning) (drawn : Highest) (calls : ℕ) (meanings : List BoxMeaning)
+        → LogsShowLists first meanings start → IsServed start (alone (request.Move name uid target)) run journal broken (Some (reply.Moved moved true) ∷ []) old new first m drawn calls → ⊥ }
 {}
 
 /// Where nothing has changed since the opening, the files open with the same logs. A request that only reads leaves a disk that was

@@ -140,6 +140,7 @@ fits_all (command.Expunge name uid) r = (r.0, ((uid.0, r.1.low, r.1.high, refl),
 fits_all (command.Copy name uid target) r = (r.0, ((uid.0, r.1.low, r.1.high, refl), (r.2, tt)))
 fits_all (command.Move name uid target) r = (r.0, ((uid.0, r.1.low, r.1.high, refl), (r.2, tt)))
 fits_all (command.Make name) r = (r, tt)
+fits_all command.Boxes r = tt
 fits_all command.Counts r = tt
 fits_all command.Purge r = tt
 fits_all command.Resync r = tt
@@ -198,6 +199,7 @@ said_by (command.Flag name uid flags) words f = let s = three_fit rule.Name rule
 said_by (command.Copy name uid target) words f = let s = three_fit rule.Name rule.Uid rule.Name words f in (command.Copy s.0 (record { 0 = s.4.0 }) s.2, (s.3, record { low = s.4.1; high = s.4.2 }, s.5), same_three (codes "copy") _ _ _ _ _ _ words s.6 refl s.4.3 refl)
 said_by (command.Move name uid target) words f = let s = three_fit rule.Name rule.Uid rule.Name words f in (command.Move s.0 (record { 0 = s.4.0 }) s.2, (s.3, record { low = s.4.1; high = s.4.2 }, s.5), same_three (codes "move") _ _ _ _ _ _ words s.6 refl s.4.3 refl)
 said_by (command.Exercise lanes count number) words f = let s = three_fit rule.Lanes rule.Requests rule.Number words f in (command.Exercise s.3.0 s.4.0 s.5.0, (s.3.1, s.3.2, s.4.1, s.4.2, omega (arith, s.5.2)), same_three (codes "exercise") _ _ _ _ _ _ words s.6 s.3.3 s.4.3 s.5.3)
+said_by command.Boxes words f = plain command.Boxes words tt refl f
 said_by command.Counts words f = plain command.Counts words tt refl f
 said_by command.Purge words f = plain command.Purge words tt refl f
 said_by command.Resync words f = plain command.Resync words tt refl f
@@ -227,6 +229,7 @@ rules_same (command.Expunge a0 a1) (command.Expunge b0 b1) e = refl
 rules_same (command.Copy a0 a1 a2) (command.Copy b0 b1 b2) e = refl
 rules_same (command.Move a0 a1 a2) (command.Move b0 b1 b2) e = refl
 rules_same (command.Make a0) (command.Make b0) e = refl
+rules_same command.Boxes command.Boxes e = refl
 rules_same command.Counts command.Counts e = refl
 rules_same command.Purge command.Purge e = refl
 rules_same command.Resync command.Resync e = refl
@@ -249,6 +252,7 @@ lengths (command.Expunge a0 a1) = refl
 lengths (command.Copy a0 a1 a2) = refl
 lengths (command.Move a0 a1 a2) = refl
 lengths (command.Make a0) = refl
+lengths command.Boxes = refl
 lengths command.Counts = refl
 lengths command.Purge = refl
 lengths command.Resync = refl

@@ -18,6 +18,7 @@ pub(crate) fn rules_of(verb: &str) -> Option<&'static [Rule]>
         "list" => Some(&[Rule::Name]),
         "fetch" => Some(&[Rule::Name, Rule::Uid]),
         "flag" => Some(&[Rule::Name, Rule::Uid, Rule::Flags]),
+        "boxes" => Some(&[]),
         "counts" => Some(&[]),
         "purge" => Some(&[]),
         "resync" => Some(&[]),

@@ -1,6 +1,7 @@
 use Rattle.std.proofs.Common.{◌≡◌, ap}
 use Rattle.request_text.specs.Outcomes.{status_of}
 use Rattle.request_text.specs.declared.outcome.Outcome.TheVariants as outcome
+use Rattle.mdbox_top.proofs.BoxesLemmas.{boxes_ended}
 use Rattle.mdbox_top.proofs.ExerciseLemmas.{exercise_ended, exercise_rests_as}
 use Rattle.mdbox_top.proofs.InitLemmas.{init_ended}
 use Rattle.mdbox_top.proofs.RebuildLemmas.{rebuild_ended}
@@ -88,3 +89,12 @@ returns-in-Rebuild-clause-uncalled g c = λ e. absurd (rebuild_ended _ _ _ _ _ c
 
 pub returns-in-Exercise-clause-uncalled : goal.returns-in-Exercise-clause-uncalled
 returns-in-Exercise-clause-uncalled g c = λ e. absurd (exercise_ended c.in-Exercise.lanes c.in-Exercise.count c.in-Exercise.number _ _ _ _ _ _ c.exercise.result.0 c.exercise.ensures.ends e)
+
+pub returns-in-Boxes-clause-rests : goal.returns-in-Boxes-clause-rests
+returns-in-Boxes-clause-rests g c = rw c.in-Boxes.is (λ none. c.boxes.ensures.rests (λ e. none (ap status_of e)))
+
+pub returns-in-Boxes-clause-disk_quiet : goal.returns-in-Boxes-clause-disk_quiet
+returns-in-Boxes-clause-disk_quiet g c = rw c.in-Boxes.is (λ tells none. c.boxes.ensures.disk_quiet (λ e. none (ap status_of e)))
+
+pub returns-in-Boxes-clause-uncalled : goal.returns-in-Boxes-clause-uncalled
+returns-in-Boxes-clause-uncalled g c = λ e. absurd (boxes_ended _ _ _ _ _ _ c.boxes.result.0 c.boxes.ensures.ends e)

@@ -1,0 +1,9 @@
+use Rattle.std.proofs.lemmas.Result.{on_err_weaker}
+use Rattle.piece_writer.proofs.PieceLemmas.{cut_end}
+use Rattle.request_text.specs.BoxesText.{boxes_text}
+use Rattle.request_text.proofs.ReplyPrintLemmas.{from_empty}
+use Rattle.request_text.proofs.boxes.print_boxes.Goals as goal
+
+pub returns-clause-err : goal.returns-clause-err
+returns-clause-err g c = on_err_weaker c.finish.result
+    (λ given. cut_end _ _ _ c.put_boxes.new.writer.piece (boxes_text c.args.rows.now) (from_empty _ _ c.empty-writer.result.piece c.put_boxes.new.writer.piece (boxes_text c.args.rows.now) c.empty-writer.ensures c.in_ok-put_boxes.ensures.ok) given) c.finish.ensures.err
