@@ -15,7 +15,7 @@ use request_text::{Outcome, Status, report};
 use std::env;
 use std::process::ExitCode;
 
-/// How many octets a run may tell on standard error. It tells one line, of at most 150.
+/// How many octets a run may tell on standard error. It tells two lines at most, of 150 and 200.
 const ROOM: usize = 512;
 
 /// Runs the words after the program's name on standard input, output and errors, the system's clock and the files of the
