@@ -1,16 +1,18 @@
 -- What is missing where a text goes wrong.
 use Rattle.std.specs.Prelude.{◌≡◌, ◌≢◌, ◌<◌, ◌≤◌, ◌+◌, ◌^◌, ℕ, zero, suc, List, [], ◌∷◌, ◌++◌, length, codes, drop, get_or, IsTrue, refl}
 use Rattle.std.specs.List.{list_all}
-use Rattle.std.proofs.Common.{sym, ◌∙◌, ap, arith, append_assoc, subst}
+use Rattle.std.proofs.Common.{sym, ◌∙◌, ap, arith, append_assoc, length-append}
 use Rattle.mdbox_base.specs.Numbers.{decimal_text}
-use Rattle.mdbox_base.specs.Words.{IsName, is_other_than}
+use Rattle.mdbox_base.specs.Words.{IsName, IsNumber, is_other_than}
 use Rattle.mdbox_base.specs.declared.requests.Request.{Request}
 use Rattle.mdbox_base.specs.declared.requests.Request.TheVariants as request
 use Rattle.script_text.specs.Flaws.{Has, Lacks, verb_word, request_front}
 use Rattle.script_text.specs.Reading.{AreDelivery, AsksNothing, BeginsVerb, IsRequestOf}
-use Rattle.script_text.specs.Script.{FitsLanes, FitsScript, name_word, request_words, request_text, message_text, spaced}
+use Rattle.script_text.specs.MadeScript.{lane_name}
+use Rattle.script_text.specs.Script.{FitsLanes, FitsScript, IsBadAt, name_word, request_words, request_text, message_text, script_text, spaced}
 use Rattle.script_text.specs.declared.flaw.Need.TheVariants as need
 use Rattle.script_text.proofs.CutLemmas.{until_same}
+use Rattle.script_text.proofs.MadeLemmas.{lane_is_name}
 use Rattle.script_text.proofs.RequestLemmas.{lane_first, laid_out, number_then, words_clear}
 
 -- ---- the lane
@@ -98,6 +100,76 @@ message_lacks lanes lane text words rest few high e clear nothing asked after fi
     nothing asked.1 after (record { fits = fits.fits; words_are = parts.0; message_is = parts.1 })
 
 pub message_has : (lanes lane : ℕ) (text words rest after : List ℕ) (asked : Request) → 1 ≤ lane → lane ≤ lanes → text ≡ decimal_text lane ++ 32 ∷ (words ++ 10 ∷ rest) → IsRequestOf words rest asked after → Has lanes text need.Message
-message_has lanes lane text words rest after asked low high e is =
-    ((lane, asked), after, record { first = low; last = high; fits = is.fits },
-      e ∙ ap (λ (w : List ℕ). decimal_text lane ++ 32 ∷ (w ++ 10 ∷ rest)) is.words_are ∙ ap (λ (r : List ℕ). decimal_text lane ++ 32 ∷ (spaced (request_words asked) ++ 10 ∷ r)) is.message_is ∙ sym (whole_front (lane, asked) after))
+message_has lanes lane text words rest after asked low high e is = (
+  (lane, asked),
+  after,
+  record { first = low; last = high; fits = is.fits },
+  e ∙ ap (λ (w : List ℕ). decimal_text lane ++ 32 ∷ (w ++ 10 ∷ rest)) is.words_are ∙ ap (λ (r : List ℕ). decimal_text lane ++ 32 ∷ (spaced (request_words asked) ++ 10 ∷ r)) is.message_is ∙ sym (whole_front (lane, asked) after),
+)
+
+-- ---- which verb begins
+
+named : IsName (lane_name 1)
+named = lane_is_name 1 (omega arith)
+
+one_uid : IsNumber 1
+one_uid = record { low = omega arith; high = omega arith }
+
+pub deliver_begins : (text : List ℕ) → ((after : List ℕ) × (text ≡ codes "deliver" ++ after)) → BeginsVerb text
+deliver_begins text e = (request.Deliver (lane_name 1) 0 [], e.0, (named, omega arith, omega arith), e.1)
+
+pub list_begins : (text : List ℕ) → ((after : List ℕ) × (text ≡ codes "list" ++ after)) → BeginsVerb text
+list_begins text e = (request.List (lane_name 1), e.0, named, e.1)
+
+pub fetch_begins : (text : List ℕ) → ((after : List ℕ) × (text ≡ codes "fetch" ++ after)) → BeginsVerb text
+fetch_begins text e = (request.Fetch (lane_name 1) (record { 0 = 1 }), e.0, (named, one_uid), e.1)
+
+pub flag_begins : (text : List ℕ) → ((after : List ℕ) × (text ≡ codes "flag" ++ after)) → BeginsVerb text
+flag_begins text e = (request.Flag (lane_name 1) (record { 0 = 1 }) 0, e.0, (named, one_uid, omega arith), e.1)
+
+pub copy_begins : (text : List ℕ) → ((after : List ℕ) × (text ≡ codes "copy" ++ after)) → BeginsVerb text
+copy_begins text e = (request.Copy (lane_name 1) (record { 0 = 1 }) (lane_name 1), e.0, (named, one_uid, named), e.1)
+
+pub move_begins : (text : List ℕ) → ((after : List ℕ) × (text ≡ codes "move" ++ after)) → BeginsVerb text
+move_begins text e = (request.Move (lane_name 1) (record { 0 = 1 }) (lane_name 1), e.0, (named, one_uid, named), e.1)
+
+pub expunge_begins : (text : List ℕ) → ((after : List ℕ) × (text ≡ codes "expunge" ++ after)) → BeginsVerb text
+expunge_begins text e = (request.Expunge (lane_name 1) (record { 0 = 1 }), e.0, (named, one_uid), e.1)
+
+pub make_begins : (text : List ℕ) → ((after : List ℕ) × (text ≡ codes "make" ++ after)) → BeginsVerb text
+make_begins text e = (request.Make (lane_name 1), e.0, named, e.1)
+
+pub counts_begins : (text : List ℕ) → ((after : List ℕ) × (text ≡ codes "counts" ++ after)) → BeginsVerb text
+counts_begins text e = (request.Counts, e.0, tt, e.1)
+
+pub purge_begins : (text : List ℕ) → ((after : List ℕ) × (text ≡ codes "purge" ++ after)) → BeginsVerb text
+purge_begins text e = (request.Purge, e.0, tt, e.1)
+
+pub resync_begins : (text : List ℕ) → ((after : List ℕ) × (text ≡ codes "resync" ++ after)) → BeginsVerb text
+resync_begins text e = (request.Resync, e.0, tt, e.1)
+
+-- no other verb begins
+pub none_begins : (text : List ℕ) → (((after : List ℕ) × (text ≡ codes "deliver" ++ after)) → ⊥) → (((after : List ℕ) × (text ≡ codes "list" ++ after)) → ⊥) → (((after : List ℕ) × (text ≡ codes "fetch" ++ after)) → ⊥) → (((after : List ℕ) × (text ≡ codes "flag" ++ after)) → ⊥) → (((after : List ℕ) × (text ≡ codes "copy" ++ after)) → ⊥) → (((after : List ℕ) × (text ≡ codes "move" ++ after)) → ⊥) → (((after : List ℕ) × (text ≡ codes "expunge" ++ after)) → ⊥) → (((after : List ℕ) × (text ≡ codes "make" ++ after)) → ⊥) → (((after : List ℕ) × (text ≡ codes "counts" ++ after)) → ⊥) → (((after : List ℕ) × (text ≡ codes "purge" ++ after)) → ⊥) → (((after : List ℕ) × (text ≡ codes "resync" ++ after)) → ⊥) → BeginsVerb text → ⊥
+none_begins text n0 n1 n2 n3 n4 n5 n6 n7 n8 n9 n10 b = of_asked text n0 n1 n2 n3 n4 n5 n6 n7 n8 n9 n10 b.0 b.1 b.2 b.3
+  where
+    of_asked : (text : List ℕ) → (((after : List ℕ) × (text ≡ codes "deliver" ++ after)) → ⊥) → (((after : List ℕ) × (text ≡ codes "list" ++ after)) → ⊥) → (((after : List ℕ) × (text ≡ codes "fetch" ++ after)) → ⊥) → (((after : List ℕ) × (text ≡ codes "flag" ++ after)) → ⊥) → (((after : List ℕ) × (text ≡ codes "copy" ++ after)) → ⊥) → (((after : List ℕ) × (text ≡ codes "move" ++ after)) → ⊥) → (((after : List ℕ) × (text ≡ codes "expunge" ++ after)) → ⊥) → (((after : List ℕ) × (text ≡ codes "make" ++ after)) → ⊥) → (((after : List ℕ) × (text ≡ codes "counts" ++ after)) → ⊥) → (((after : List ℕ) × (text ≡ codes "purge" ++ after)) → ⊥) → (((after : List ℕ) × (text ≡ codes "resync" ++ after)) → ⊥) → (asked : Request) (after : List ℕ) → FitsScript asked → text ≡ verb_word asked ++ after → ⊥
+    of_asked text n0 n1 n2 n3 n4 n5 n6 n7 n8 n9 n10 (request.Deliver name time message) after f e = n0 (after, e)
+    of_asked text n0 n1 n2 n3 n4 n5 n6 n7 n8 n9 n10 (request.List name) after f e = n1 (after, e)
+    of_asked text n0 n1 n2 n3 n4 n5 n6 n7 n8 n9 n10 (request.Fetch name uid) after f e = n2 (after, e)
+    of_asked text n0 n1 n2 n3 n4 n5 n6 n7 n8 n9 n10 (request.Flag name uid flags) after f e = n3 (after, e)
+    of_asked text n0 n1 n2 n3 n4 n5 n6 n7 n8 n9 n10 (request.Copy name uid target) after f e = n4 (after, e)
+    of_asked text n0 n1 n2 n3 n4 n5 n6 n7 n8 n9 n10 (request.Move name uid target) after f e = n5 (after, e)
+    of_asked text n0 n1 n2 n3 n4 n5 n6 n7 n8 n9 n10 (request.Expunge name uid) after f e = n6 (after, e)
+    of_asked text n0 n1 n2 n3 n4 n5 n6 n7 n8 n9 n10 (request.Make name) after f e = n7 (after, e)
+    of_asked text n0 n1 n2 n3 n4 n5 n6 n7 n8 n9 n10 request.Counts after f e = n8 (after, e)
+    of_asked text n0 n1 n2 n3 n4 n5 n6 n7 n8 n9 n10 request.Purge after f e = n9 (after, e)
+    of_asked text n0 n1 n2 n3 n4 n5 n6 n7 n8 n9 n10 request.Resync after f e = n10 (after, e)
+    of_asked text n0 n1 n2 n3 n4 n5 n6 n7 n8 n9 n10 (request.Delete name) after f e = f
+    of_asked text n0 n1 n2 n3 n4 n5 n6 n7 n8 n9 n10 (request.Rename name target) after f e = f
+
+-- ---- the offset
+
+pub within_text : (lanes : ℕ) (text : List ℕ) (offset : ℕ) → IsBadAt lanes text offset → offset ≤ length text
+within_text lanes text offset bad =
+    let long : length text ≡ length (script_text bad.0) + length bad.1 = ap length bad.2.spelled ∙ length-append (script_text bad.0) bad.1 in
+    omega (arith, long, bad.3)

@@ -40,12 +40,7 @@ pub struct ScriptFlaw {
 }
 
 /// What is to be told of a text that goes wrong at this offset.
-pub fn flaw_at(
-    alloc: Global,
-    text: &[u8],
-    lanes: u32,
-    offset: u64,
-) -> Result<ScriptFlaw, NoMemory>
+pub fn flaw_at(alloc: Global, text: &[u8], lanes: u32, offset: u64) -> Result<ScriptFlaw, NoMemory>
     requires { IsBadAt lanes text.now offset }
     ensures { IfOk result (IsFlawOf lanes text.now) }
 {
@@ -85,8 +80,13 @@ fn need_of(alloc: Global, text: &[u8], lanes: u32) -> Result<Need, NoMemory>
     };
     match asked_at(alloc, words, rest) {
         Ok(_) => Ok(Need::Fewer),
-        Err(Flaw::Bad) if are_delivery(alloc, words)? => Ok(Need::Message),
-        Err(Flaw::Bad) => Ok(Need::Words),
+        Err(Flaw::Bad) => {
+            if are_delivery(alloc, words)? {
+                Ok(Need::Message)
+            } else {
+                Ok(Need::Words)
+            }
+        }
         Err(Flaw::NoMemory) => Err(NoMemory),
     }
 }

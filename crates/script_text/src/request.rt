@@ -45,7 +45,11 @@ pub fn lane_and_words(line: &[u8], lanes: u32) -> Option<(u32, &[u8])>
 }
 
 /// The request that these words and what follows their line are, and what follows it.
-pub fn asked_at<'a>(alloc: Global, words: &[u8], rest: &'a [u8]) -> Result<(Request, &'a [u8]), Flaw>
+pub fn asked_at<'a>(
+    alloc: Global,
+    words: &[u8],
+    rest: &'a [u8],
+) -> Result<(Request, &'a [u8]), Flaw>
     ensures found { IfOk result (λ x. IsRequestOf words.now rest.now x.0 x.1.now) }
     ensures bad { IsErrOf result flaw.Bad → AsksNothing words.now rest.now }
 {

@@ -69,7 +69,7 @@ one_more : (xs : List ℕ) → IsOctets xs → IsOctets (0 ∷ xs)
 one_more xs all = All-cons (λ (octet : ℕ). octet < 256) 0 xs (omega arith) all
 
 zeros_are_octets : IsOctets zeros
-zeros_are_octets = one_more _ (one_more _ (one_more _ (one_more _ (one_more _ (one_more _ (one_more _ (one_more [] (All-nil (λ (octet : ℕ). octet < 256)))))))))
+zeros_are_octets = one_more (0 ∷ 0 ∷ 0 ∷ 0 ∷ 0 ∷ 0 ∷ 0 ∷ []) (one_more (0 ∷ 0 ∷ 0 ∷ 0 ∷ 0 ∷ 0 ∷ []) (one_more (0 ∷ 0 ∷ 0 ∷ 0 ∷ 0 ∷ []) (one_more (0 ∷ 0 ∷ 0 ∷ 0 ∷ []) (one_more (0 ∷ 0 ∷ 0 ∷ []) (one_more (0 ∷ 0 ∷ []) (one_more (0 ∷ []) (one_more [] (All-nil (λ (octet : ℕ). octet < 256)))))))))
 
 abbrev sample : Rule → List ℕ
 sample rule.Id = encode_lower zeros
@@ -115,9 +115,9 @@ pub decimal_fits : (b : Bool) (number least most : ℕ) (word : List ℕ) → nu
 decimal_fits b number least most word small limit is both = (
   (λ yes. (number, (both.0 yes).0, (both.0 yes).1, is)),
   (λ d.
-    let below : d.0 < 2 ^ 64 = (let high = d.2 in omega (arith, high, limit)) in
-    let same : number ≡ d.0 = decimal_injective number d.0 small below (sym is ∙ d.3) in
-    both.1 (subst (λ (k : ℕ). least ≤ k) (sym same) d.1, subst (λ (k : ℕ). k ≤ most) (sym same) d.2)),
+      let below : d.0 < 2 ^ 64 = (let high = d.2 in omega (arith, high, limit)) in
+      let same : number ≡ d.0 = decimal_injective number d.0 small below (sym is ∙ d.3) in
+      both.1 (subst (λ (k : ℕ). least ≤ k) (sym same) d.1, subst (λ (k : ℕ). k ≤ most) (sym same) d.2)),
 )
 
 -- ---- the commands
@@ -162,11 +162,11 @@ one_fit : (q : Rule) (words : List (List ℕ)) → FitAll (q ∷ []) words → (
 one_fit q [] f = absurd f
 one_fit q (v ∷ words) f = (v, f.0, ap (λ (t : List (List ℕ)). v ∷ t) (none_fit words f.1))
 
-two_fit : (q r : Rule) (words : List (List ℕ)) → FitAll (q ∷ r ∷ []) words → (v w : List ℕ) × FitsRule q v × FitsRule r w × (words ≡ v ∷ w ∷ [])
+two_fit : (q r : Rule) (words : List (List ℕ)) → FitAll (q ∷ r ∷ []) words → (v : List ℕ) × (w : List ℕ) × FitsRule q v × FitsRule r w × (words ≡ v ∷ w ∷ [])
 two_fit q r [] f = absurd f
 two_fit q r (v ∷ words) f = let s = one_fit r words f.1 in (v, s.0, f.0, s.1, ap (λ (t : List (List ℕ)). v ∷ t) s.2)
 
-three_fit : (q r p : Rule) (words : List (List ℕ)) → FitAll (q ∷ r ∷ p ∷ []) words → (v w u : List ℕ) × FitsRule q v × FitsRule r w × FitsRule p u × (words ≡ v ∷ w ∷ u ∷ [])
+three_fit : (q r p : Rule) (words : List (List ℕ)) → FitAll (q ∷ r ∷ p ∷ []) words → (v : List ℕ) × (w : List ℕ) × (u : List ℕ) × FitsRule q v × FitsRule r w × FitsRule p u × (words ≡ v ∷ w ∷ u ∷ [])
 three_fit q r p [] f = absurd f
 three_fit q r p (v ∷ words) f = let s = two_fit r p words f.1 in (v, s.0, s.1, f.0, s.2, s.3, ap (λ (t : List (List ℕ)). v ∷ t) s.4)
 

@@ -72,10 +72,7 @@ fn told_of(rule: Rule) -> (&'static [u8], &'static [u8])
         ),
         Rule::Lanes => (b"LANES", b"1 to 64, no leading zero"),
         Rule::Requests => (b"COUNT", b"1 to 100000, no leading zero"),
-        Rule::Number => (
-            b"NUMBER",
-            b"0 to 18446744073709551615, no leading zero",
-        ),
+        Rule::Number => (b"NUMBER", b"0 to 18446744073709551615, no leading zero"),
     }
 }
 
