@@ -1,7 +1,8 @@
 -- What is to blame of words, by the rules of their verb.
-use Rattle.std.specs.Prelude.{◌≡◌, ◌≢◌, ◌≤◌, ◌<◌, ◌+◌, ◌↔◌, ℕ, zero, suc, List, [], ◌∷◌, length, get_or, refl}
+use Rattle.std.specs.Prelude.{◌≡◌, ◌≢◌, ◌≤◌, ◌<◌, ◌+◌, ◌↔◌, ℕ, zero, suc, List, [], ◌∷◌, length, map, get_or, refl}
 use Rattle.std.proofs.Common.{sym, ◌∙◌, ap, arith, subst, inl, inr}
 use Rattle.std.proofs.lemmas.Bool.{cases_lt}
+use Rattle.std.proofs.lemmas.List.{length-map}
 use Rattle.request_text.specs.Commands.{words_of, Says}
 use Rattle.request_text.specs.declared.command.Command.{Command}
 use Rattle.usage_text.specs.Blames.{FitsRule, HasVerb, StandsInCommand, IsFirstWrong, HasOtherCount, HasNoVerb, word_at}
@@ -59,3 +60,10 @@ pub all_said : (verb : List ℕ) (words others : List (List ℕ)) (rules : List 
 all_said verb words others rules e l are fit =
     let s = said_with verb rules others are (fit_all rules others l fit) in
     (s.0, (s.1, e ∙ sym s.2))
+
+-- the words after the first
+pub words_split : {S : Type 0} → (f : S → List ℕ) (words others : List S) (first : S) (verb : List ℕ) → words ≡ first ∷ others → verb ≡ f first → map f words ≡ verb ∷ map f others
+words_split f words others first verb e v = ap (map f) e ∙ ap (λ (w : List ℕ). w ∷ map f others) (sym v)
+
+pub as_many : {S : Type 0} → (f : S → List ℕ) (words : List S) (n : ℕ) → length words ≡ n → length (map f words) ≡ n
+as_many f words n l = length-map f words ∙ l
