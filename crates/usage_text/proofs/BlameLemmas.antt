@@ -66,4 +66,4 @@ pub words_split : {S : Type 0} → (f : S → List ℕ) (words others : List S) 
 words_split f words others first verb e v = ap (map f) e ∙ ap (λ (w : List ℕ). w ∷ map f others) (sym v)
 
 pub as_many : {S : Type 0} → (f : S → List ℕ) (words : List S) (n : ℕ) → length words ≡ n → length (map f words) ≡ n
-as_many f words n l = length-map f words ∙ l
+as_many f words n l = length-map words f ∙ l
