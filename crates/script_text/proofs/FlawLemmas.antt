@@ -2,18 +2,20 @@
 use Rattle.std.specs.Prelude.{◌≡◌, ◌≢◌, ◌<◌, ◌≤◌, ◌+◌, ◌^◌, ℕ, zero, suc, List, [], ◌∷◌, ◌++◌, length, codes, drop, get_or, IsTrue, refl}
 use Rattle.std.specs.List.{list_all}
 use Rattle.std.proofs.Common.{sym, ◌∙◌, ap, arith, append_assoc, length-append}
+use Rattle.std.proofs.lemmas.Fmt.{decimal_injective}
 use Rattle.mdbox_base.specs.Numbers.{decimal_text}
 use Rattle.mdbox_base.specs.Words.{IsName, IsNumber, is_other_than}
 use Rattle.mdbox_base.specs.declared.requests.Request.{Request}
 use Rattle.mdbox_base.specs.declared.requests.Request.TheVariants as request
-use Rattle.script_text.specs.Flaws.{Has, Lacks, verb_word, request_front}
-use Rattle.script_text.specs.Reading.{AreDelivery, AsksNothing, BeginsVerb, IsRequestOf}
+use Rattle.script_text.specs.Flaws.{Has, Lacks, IsNeeded, verb_word, request_front}
+use Rattle.script_text.specs.Reading.{AreDelivery, AsksNothing, BeginsVerb, IsRequestOf, IsWordsOrMessage}
 use Rattle.script_text.specs.MadeScript.{lane_name}
 use Rattle.script_text.specs.Script.{FitsLanes, FitsScript, IsBadAt, name_word, request_words, request_text, message_text, script_text, spaced}
+use Rattle.script_text.specs.declared.flaw.Need.{Need}
 use Rattle.script_text.specs.declared.flaw.Need.TheVariants as need
 use Rattle.script_text.proofs.CutLemmas.{until_same}
 use Rattle.script_text.proofs.MadeLemmas.{lane_is_name}
-use Rattle.script_text.proofs.RequestLemmas.{lane_first, laid_out, number_then, words_clear}
+use Rattle.script_text.proofs.RequestLemmas.{lane_first, laid_out, name_then, number_then, short_name, words_clear}
 
 -- ---- the lane
 
@@ -72,7 +74,7 @@ words_lack lanes lane text words rest few high e clear none nothing asked after 
 
 -- ---- the message
 
-blanks : ℕ → List ℕ
+abbrev blanks : ℕ → List ℕ
 blanks zero = []
 blanks (suc n) = 0 ∷ blanks n
 
@@ -173,3 +175,27 @@ pub within_text : (lanes : ℕ) (text : List ℕ) (offset : ℕ) → IsBadAt lan
 within_text lanes text offset bad =
     let long : length text ≡ length (script_text bad.0) + length bad.1 = ap length bad.2.spelled ∙ length-append (script_text bad.0) bad.1 in
     omega (arith, long, bad.3)
+
+-- ---- the need
+
+-- a request's words are a delivery's only if its arguments are a delivery's
+pub same_delivery : (words arguments name : List ℕ) (time size : ℕ) → IsName name → time < 2 ^ 64 → size < 2 ^ 64 → words ≡ codes "deliver" ++ 32 ∷ arguments → arguments ≡ spaced (name_word name ∷ decimal_text time ∷ decimal_text size ∷ []) → AreDelivery words → size ≤ 67108864
+same_delivery words arguments name time size n tl sl w e are =
+    let a : arguments ≡ spaced (name_word are.name ∷ decimal_text are.time ∷ decimal_text are.size ∷ []) = ap (drop 8) (sym w ∙ are.words_are) in
+    let r = name_then name are.name (decimal_text time ++ 32 ∷ decimal_text size) (decimal_text are.time ++ 32 ∷ decimal_text are.size) (short_name name n) (short_name are.name are.name_fits) (sym e ∙ a) in
+    let s = number_then time are.time (decimal_text size) (decimal_text are.size) tl are.time_fits r.1 in
+    let fits = are.size_fits in
+    let same : size ≡ are.size = decimal_injective size are.size sl (omega (arith, fits)) s.1 in
+    omega (arith, fits, same)
+
+pub no_arguments : (words arguments : List ℕ) → words ≡ codes "deliver" ++ 32 ∷ arguments → ((name : List ℕ) (time size : ℕ) → IsName name → time < 2 ^ 64 → size < 2 ^ 64 → arguments ≢ spaced (name_word name ∷ decimal_text time ∷ decimal_text size ∷ [])) → AreDelivery words → ⊥
+no_arguments words arguments w none are =
+    let fits = are.size_fits in
+    none are.name are.time are.size are.name_fits are.time_fits (omega (arith, fits)) (ap (drop 8) (sym w ∙ are.words_are))
+
+pub needs_after : (lanes lane : ℕ) (text words rest : List ℕ) (n : Need) → lanes < 2 ^ 32 → 1 ≤ lane → lane ≤ lanes → text ≡ decimal_text lane ++ 32 ∷ (words ++ 10 ∷ rest) → IsTrue (list_all (is_other_than 10) words) → BeginsVerb (words ++ 10 ∷ rest) → AsksNothing words rest → IsWordsOrMessage words n → IsNeeded lanes text n
+needs_after lanes lane text words rest need.Message few low high e clear verb nothing is = (words_have lanes lane text words rest low high e is, message_lacks lanes lane text words rest few high e clear nothing)
+needs_after lanes lane text words rest need.Words few low high e clear verb nothing is = (verb_has lanes lane text (words ++ 10 ∷ rest) low high e verb, words_lack lanes lane text words rest few high e clear is nothing)
+needs_after lanes lane text words rest need.Lane few low high e clear verb nothing is = absurd is
+needs_after lanes lane text words rest need.Verb few low high e clear verb nothing is = absurd is
+needs_after lanes lane text words rest need.Fewer few low high e clear verb nothing is = absurd is

@@ -6,6 +6,8 @@ use Rattle.mdbox_base.specs.declared.requests.Request.{Request}
 use Rattle.mdbox_base.specs.declared.requests.Request.TheVariants as request
 use Rattle.script_text.specs.Flaws.{verb_word}
 use Rattle.script_text.specs.Script.{FitsScript, name_word, request_words, spaced, message_text}
+use Rattle.script_text.specs.declared.flaw.Need.{Need}
+use Rattle.script_text.specs.declared.flaw.Need.TheVariants as need
 use Rattle.script_text.specs.declared.verb.Verb.{Verb}
 use Rattle.script_text.specs.declared.verb.Verb.TheVariants as verb
 
@@ -49,3 +51,9 @@ pub record AreDelivery (words : List ℕ) : Type 0 where
   pub time_fits : time < 2 ^ 64
   pub size_fits : size ≤ 67108864
   pub words_are : words ≡ codes "deliver" ++ 32 ∷ spaced (name_word name ∷ decimal_text time ∷ decimal_text size ∷ [])
+
+-- of words that with what follows their line are no request: those of a delivery lack their message, others are wrong
+abbrev pub IsWordsOrMessage : List ℕ → Need → Type 0
+IsWordsOrMessage words need.Message = AreDelivery words
+IsWordsOrMessage words need.Words = AreDelivery words → ⊥
+IsWordsOrMessage words other = ⊥

@@ -1,10 +1,11 @@
 // Where a text that is no script goes wrong, and what is missing there.
-ghost use Rattle.std.specs.Prelude.{◌≡◌, ◌+◌, ◌∷◌, ◌++◌, ◌↔◌, ℕ, List, nat_eq, codes, IsTrue, IsErrOf, IfOk};
+ghost use Rattle.std.specs.Prelude.{◌≡◌, ◌+◌, ◌∷◌, ◌++◌, ◌↔◌, ℕ, List, nat_eq, IsTrue, IsErrOf, IfOk, OnOk};
 ghost use Rattle.std.specs.List.{count_by};
 ghost use Rattle.mdbox_base.specs.declared.requests.Request.{Request};
 ghost use Rattle.script_text.specs.Flaws.{IsFlawOf, IsNeeded};
-ghost use Rattle.script_text.specs.Reading.{AreDelivery, BeginsVerb};
+ghost use Rattle.script_text.specs.Reading.{AreDelivery, AsksNothing, BeginsVerb, IsRequestOf, IsWordsOrMessage};
 ghost use Rattle.script_text.specs.Script.{IsBadAt};
+ghost use Rattle.script_text.specs.declared.error.Flaw.TheVariants as flaw;
 
 use crate::arguments::name_time_size;
 use crate::cut::cut;
@@ -78,15 +79,20 @@ fn need_of(alloc: Global, text: &[u8], lanes: u32) -> Result<Need, NoMemory>
     let Some((words, rest)) = cut(words, b'\n') else {
         return Ok(Need::Words);
     };
-    match asked_at(alloc, words, rest) {
-        Ok(_) => Ok(Need::Fewer),
-        Err(Flaw::Bad) => {
-            if are_delivery(alloc, words)? {
-                Ok(Need::Message)
-            } else {
-                Ok(Need::Words)
-            }
-        }
+    match asks(alloc, words, rest) {
+        Ok(()) => Ok(Need::Fewer),
+        Err(Flaw::Bad) => need_after(alloc, words),
+        Err(Flaw::NoMemory) => Err(NoMemory),
+    }
+}
+
+/// What is missing of words that with what follows their line are no request, though a verb is there.
+fn need_after(alloc: Global, words: &[u8]) -> Result<Need, NoMemory>
+    ensures { IfOk result (IsWordsOrMessage words.now) }
+{
+    match delivers(alloc, words) {
+        Ok(()) => Ok(Need::Message),
+        Err(Flaw::Bad) => Ok(Need::Words),
         Err(Flaw::NoMemory) => Err(NoMemory),
     }
 }
@@ -95,17 +101,37 @@ fn need_of(alloc: Global, text: &[u8], lanes: u32) -> Result<Need, NoMemory>
 fn begins_verb(text: &[u8]) -> bool
     ensures { IsTrue result ↔ BeginsVerb text.now }
 {
-    begins(text, b"deliver")
-        || begins(text, b"list")
-        || begins(text, b"fetch")
-        || begins(text, b"flag")
-        || begins(text, b"copy")
-        || begins(text, b"move")
-        || begins(text, b"expunge")
-        || begins(text, b"make")
-        || begins(text, b"counts")
-        || begins(text, b"purge")
-        || begins(text, b"resync")
+    if begins(text, b"deliver") {
+        return true;
+    }
+    if begins(text, b"list") {
+        return true;
+    }
+    if begins(text, b"fetch") {
+        return true;
+    }
+    if begins(text, b"flag") {
+        return true;
+    }
+    if begins(text, b"copy") {
+        return true;
+    }
+    if begins(text, b"move") {
+        return true;
+    }
+    if begins(text, b"expunge") {
+        return true;
+    }
+    if begins(text, b"make") {
+        return true;
+    }
+    if begins(text, b"counts") {
+        return true;
+    }
+    if begins(text, b"purge") {
+        return true;
+    }
+    begins(text, b"resync")
 }
 
 /// Whether a word begins a text.
@@ -115,16 +141,26 @@ fn begins(text: &[u8], word: &[u8]) -> bool
     text.starts_with(word)
 }
 
-/// Whether words are those of a delivery, without the lane.
-fn are_delivery(alloc: Global, words: &[u8]) -> Result<bool, NoMemory>
-    ensures { IfOk result (λ are. IsTrue are ↔ AreDelivery words.now) }
+/// Looks whether words and what follows their line are a request.
+fn asks(alloc: Global, words: &[u8], rest: &[u8]) -> Result<(), Flaw>
+    ensures found { OnOk result ((asked : Request) × (after : List ℕ) × IsRequestOf words.now rest.now asked after) }
+    ensures bad { IsErrOf result flaw.Bad → AsksNothing words.now rest.now }
+{
+    let _asked = asked_at(alloc, words, rest)?;
+    Ok(())
+}
+
+/// Looks whether words are those of a delivery, without the lane.
+fn delivers(alloc: Global, words: &[u8]) -> Result<(), Flaw>
+    ensures found { OnOk result (AreDelivery words.now) }
+    ensures bad { IsErrOf result flaw.Bad → AreDelivery words.now → ⊥ }
 {
     let Some(arguments) = words.strip_prefix(b"deliver ") else {
-        return Ok(false);
+        return Err(Flaw::Bad);
     };
-    match name_time_size(alloc, arguments) {
-        Ok((_, _, size)) => Ok(size <= MOST_OCTETS),
-        Err(Flaw::Bad) => Ok(false),
-        Err(Flaw::NoMemory) => Err(NoMemory),
+    let (_name, _time, size) = name_time_size(alloc, arguments)?;
+    if size > MOST_OCTETS {
+        return Err(Flaw::Bad);
     }
+    Ok(())
 }
