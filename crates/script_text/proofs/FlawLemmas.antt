@@ -1,5 +1,5 @@
 -- What is missing where a text goes wrong.
-use Rattle.std.specs.Prelude.{◌≡◌, ◌≢◌, ◌<◌, ◌≤◌, ◌+◌, ◌^◌, ℕ, zero, suc, List, [], ◌∷◌, ◌++◌, length, codes, drop, get_or, IsTrue, refl}
+use Rattle.std.specs.Prelude.{◌≡◌, ◌≢◌, ◌<◌, ◌≤◌, ◌+◌, ◌^◌, ℕ, zero, suc, List, [], ◌∷◌, ◌++◌, length, codes, drop, get_or, Bool, false, IsTrue, ◌↔◌, Result, Ok, Err, IfOk, refl}
 use Rattle.std.specs.List.{list_all}
 use Rattle.std.proofs.Common.{sym, ◌∙◌, ap, arith, append_assoc, length-append}
 use Rattle.std.proofs.lemmas.Fmt.{decimal_injective}
@@ -150,24 +150,29 @@ purge_begins text e = (request.Purge, e.0, tt, e.1)
 pub resync_begins : (text : List ℕ) → ((after : List ℕ) × (text ≡ codes "resync" ++ after)) → BeginsVerb text
 resync_begins text e = (request.Resync, e.0, tt, e.1)
 
--- no other verb begins
+-- no verb begins that isn't one of these
+-- a request's verb is one of the verbs
+of_asked : (text : List ℕ) → (((after : List ℕ) × (text ≡ codes "deliver" ++ after)) → ⊥) → (((after : List ℕ) × (text ≡ codes "list" ++ after)) → ⊥) → (((after : List ℕ) × (text ≡ codes "fetch" ++ after)) → ⊥) → (((after : List ℕ) × (text ≡ codes "flag" ++ after)) → ⊥) → (((after : List ℕ) × (text ≡ codes "copy" ++ after)) → ⊥) → (((after : List ℕ) × (text ≡ codes "move" ++ after)) → ⊥) → (((after : List ℕ) × (text ≡ codes "expunge" ++ after)) → ⊥) → (((after : List ℕ) × (text ≡ codes "make" ++ after)) → ⊥) → (((after : List ℕ) × (text ≡ codes "counts" ++ after)) → ⊥) → (((after : List ℕ) × (text ≡ codes "purge" ++ after)) → ⊥) → (((after : List ℕ) × (text ≡ codes "resync" ++ after)) → ⊥) → (asked : Request) (after : List ℕ) → FitsScript asked → text ≡ verb_word asked ++ after → ⊥
+of_asked text n0 n1 n2 n3 n4 n5 n6 n7 n8 n9 n10 (request.Deliver name time message) after f e = n0 (after, e)
+of_asked text n0 n1 n2 n3 n4 n5 n6 n7 n8 n9 n10 (request.List name) after f e = n1 (after, e)
+of_asked text n0 n1 n2 n3 n4 n5 n6 n7 n8 n9 n10 (request.Fetch name uid) after f e = n2 (after, e)
+of_asked text n0 n1 n2 n3 n4 n5 n6 n7 n8 n9 n10 (request.Flag name uid flags) after f e = n3 (after, e)
+of_asked text n0 n1 n2 n3 n4 n5 n6 n7 n8 n9 n10 (request.Copy name uid target) after f e = n4 (after, e)
+of_asked text n0 n1 n2 n3 n4 n5 n6 n7 n8 n9 n10 (request.Move name uid target) after f e = n5 (after, e)
+of_asked text n0 n1 n2 n3 n4 n5 n6 n7 n8 n9 n10 (request.Expunge name uid) after f e = n6 (after, e)
+of_asked text n0 n1 n2 n3 n4 n5 n6 n7 n8 n9 n10 (request.Make name) after f e = n7 (after, e)
+of_asked text n0 n1 n2 n3 n4 n5 n6 n7 n8 n9 n10 request.Counts after f e = n8 (after, e)
+of_asked text n0 n1 n2 n3 n4 n5 n6 n7 n8 n9 n10 request.Purge after f e = n9 (after, e)
+of_asked text n0 n1 n2 n3 n4 n5 n6 n7 n8 n9 n10 request.Resync after f e = n10 (after, e)
+of_asked text n0 n1 n2 n3 n4 n5 n6 n7 n8 n9 n10 (request.Delete name) after f e = f
+of_asked text n0 n1 n2 n3 n4 n5 n6 n7 n8 n9 n10 (request.Rename name target) after f e = f
+
 pub none_begins : (text : List ℕ) → (((after : List ℕ) × (text ≡ codes "deliver" ++ after)) → ⊥) → (((after : List ℕ) × (text ≡ codes "list" ++ after)) → ⊥) → (((after : List ℕ) × (text ≡ codes "fetch" ++ after)) → ⊥) → (((after : List ℕ) × (text ≡ codes "flag" ++ after)) → ⊥) → (((after : List ℕ) × (text ≡ codes "copy" ++ after)) → ⊥) → (((after : List ℕ) × (text ≡ codes "move" ++ after)) → ⊥) → (((after : List ℕ) × (text ≡ codes "expunge" ++ after)) → ⊥) → (((after : List ℕ) × (text ≡ codes "make" ++ after)) → ⊥) → (((after : List ℕ) × (text ≡ codes "counts" ++ after)) → ⊥) → (((after : List ℕ) × (text ≡ codes "purge" ++ after)) → ⊥) → (((after : List ℕ) × (text ≡ codes "resync" ++ after)) → ⊥) → BeginsVerb text → ⊥
 none_begins text n0 n1 n2 n3 n4 n5 n6 n7 n8 n9 n10 b = of_asked text n0 n1 n2 n3 n4 n5 n6 n7 n8 n9 n10 b.0 b.1 b.2 b.3
-  where
-    of_asked : (text : List ℕ) → (((after : List ℕ) × (text ≡ codes "deliver" ++ after)) → ⊥) → (((after : List ℕ) × (text ≡ codes "list" ++ after)) → ⊥) → (((after : List ℕ) × (text ≡ codes "fetch" ++ after)) → ⊥) → (((after : List ℕ) × (text ≡ codes "flag" ++ after)) → ⊥) → (((after : List ℕ) × (text ≡ codes "copy" ++ after)) → ⊥) → (((after : List ℕ) × (text ≡ codes "move" ++ after)) → ⊥) → (((after : List ℕ) × (text ≡ codes "expunge" ++ after)) → ⊥) → (((after : List ℕ) × (text ≡ codes "make" ++ after)) → ⊥) → (((after : List ℕ) × (text ≡ codes "counts" ++ after)) → ⊥) → (((after : List ℕ) × (text ≡ codes "purge" ++ after)) → ⊥) → (((after : List ℕ) × (text ≡ codes "resync" ++ after)) → ⊥) → (asked : Request) (after : List ℕ) → FitsScript asked → text ≡ verb_word asked ++ after → ⊥
-    of_asked text n0 n1 n2 n3 n4 n5 n6 n7 n8 n9 n10 (request.Deliver name time message) after f e = n0 (after, e)
-    of_asked text n0 n1 n2 n3 n4 n5 n6 n7 n8 n9 n10 (request.List name) after f e = n1 (after, e)
-    of_asked text n0 n1 n2 n3 n4 n5 n6 n7 n8 n9 n10 (request.Fetch name uid) after f e = n2 (after, e)
-    of_asked text n0 n1 n2 n3 n4 n5 n6 n7 n8 n9 n10 (request.Flag name uid flags) after f e = n3 (after, e)
-    of_asked text n0 n1 n2 n3 n4 n5 n6 n7 n8 n9 n10 (request.Copy name uid target) after f e = n4 (after, e)
-    of_asked text n0 n1 n2 n3 n4 n5 n6 n7 n8 n9 n10 (request.Move name uid target) after f e = n5 (after, e)
-    of_asked text n0 n1 n2 n3 n4 n5 n6 n7 n8 n9 n10 (request.Expunge name uid) after f e = n6 (after, e)
-    of_asked text n0 n1 n2 n3 n4 n5 n6 n7 n8 n9 n10 (request.Make name) after f e = n7 (after, e)
-    of_asked text n0 n1 n2 n3 n4 n5 n6 n7 n8 n9 n10 request.Counts after f e = n8 (after, e)
-    of_asked text n0 n1 n2 n3 n4 n5 n6 n7 n8 n9 n10 request.Purge after f e = n9 (after, e)
-    of_asked text n0 n1 n2 n3 n4 n5 n6 n7 n8 n9 n10 request.Resync after f e = n10 (after, e)
-    of_asked text n0 n1 n2 n3 n4 n5 n6 n7 n8 n9 n10 (request.Delete name) after f e = f
-    of_asked text n0 n1 n2 n3 n4 n5 n6 n7 n8 n9 n10 (request.Rename name target) after f e = f
+
+-- a test that says no
+pub refused_by : {P : Type 0} → (r : Bool) → IsTrue r ↔ P → r ≡ false → P → ⊥
+refused_by r both no p = let yes : IsTrue r = both.1 p in absurd (cc (yes, no))
 
 -- ---- the offset
 
@@ -199,3 +204,7 @@ needs_after lanes lane text words rest need.Words few low high e clear verb noth
 needs_after lanes lane text words rest need.Lane few low high e clear verb nothing is = absurd is
 needs_after lanes lane text words rest need.Verb few low high e clear verb nothing is = absurd is
 needs_after lanes lane text words rest need.Fewer few low high e clear verb nothing is = absurd is
+
+pub needs_told : {E : Type 0} → (r : Result Need E) (lanes lane : ℕ) (text words rest : List ℕ) → lanes < 2 ^ 32 → 1 ≤ lane → lane ≤ lanes → text ≡ decimal_text lane ++ 32 ∷ (words ++ 10 ∷ rest) → IsTrue (list_all (is_other_than 10) words) → BeginsVerb (words ++ 10 ∷ rest) → AsksNothing words rest → IfOk r (IsWordsOrMessage words) → IfOk r (IsNeeded lanes text)
+needs_told (Ok n) lanes lane text words rest few low high e clear verb nothing is = needs_after lanes lane text words rest n few low high e clear verb nothing is
+needs_told (Err why) lanes lane text words rest few low high e clear verb nothing is = tt
