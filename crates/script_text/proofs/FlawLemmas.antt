@@ -1,5 +1,5 @@
 -- What is missing where a text goes wrong.
-use Rattle.std.specs.Prelude.{◌≡◌, ◌≢◌, ◌<◌, ◌≤◌, ◌+◌, ◌^◌, ℕ, zero, suc, List, [], ◌∷◌, ◌++◌, length, codes, drop, get_or, Bool, false, IsTrue, ◌↔◌, Result, Ok, Err, IfOk, refl}
+use Rattle.std.specs.Prelude.{◌≡◌, ◌≢◌, ◌<◌, ◌≤◌, ◌+◌, ◌^◌, ℕ, zero, suc, List, [], ◌∷◌, ◌++◌, length, codes, drop, Bool, false, IsTrue, ◌↔◌, Result, Ok, Err, IfOk, refl}
 use Rattle.std.specs.List.{list_all}
 use Rattle.std.proofs.Common.{sym, ◌∙◌, ap, arith, append_assoc, length-append}
 use Rattle.std.proofs.lemmas.Fmt.{decimal_injective}
@@ -172,7 +172,7 @@ none_begins text n0 n1 n2 n3 n4 n5 n6 n7 n8 n9 n10 b = of_asked text n0 n1 n2 n3
 
 -- a test that says no
 pub refused_by : {P : Type 0} → (r : Bool) → IsTrue r ↔ P → r ≡ false → P → ⊥
-refused_by r both no p = let yes : IsTrue r = both.1 p in absurd (cc (yes, no))
+refused_by r both isnt p = let yes : IsTrue r = both.1 p in absurd (cc (yes, isnt))
 
 -- ---- the offset
 

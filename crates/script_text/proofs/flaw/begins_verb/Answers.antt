@@ -1,4 +1,4 @@
-use Rattle.std.proofs.Common.{◌≡◌, ◌↔◌, Bool, true, false, IsTrue, inl, inr, refl}
+use Rattle.std.proofs.Common.{inl, inr, refl}
 use Rattle.std.proofs.lemmas.Bool.{cases_Bool}
 use Rattle.script_text.proofs.FlawLemmas.{copy_begins, counts_begins, deliver_begins, expunge_begins, fetch_begins, flag_begins, list_begins, make_begins, move_begins, none_begins, purge_begins, refused_by, resync_begins}
 use Rattle.script_text.proofs.flaw.begins_verb.Goals as goal
@@ -38,17 +38,17 @@ returns c = (
   (λ yes. resync_begins c.args.text.now (c.begins-11.ensures.0 yes)),
   (λ verb. elim (cases_Bool c.begins-11.result) [
     | inl is ↦ is
-    | inr not ↦ absurd (none_begins c.args.text.now
-      (refused_by c.begins.result c.begins.ensures c.if-begins.false)
-      (refused_by c.begins-2.result c.begins-2.ensures c.if-begins-2.false)
-      (refused_by c.begins-3.result c.begins-3.ensures c.if-begins-3.false)
-      (refused_by c.begins-4.result c.begins-4.ensures c.if-begins-4.false)
-      (refused_by c.begins-5.result c.begins-5.ensures c.if-begins-5.false)
-      (refused_by c.begins-6.result c.begins-6.ensures c.if-begins-6.false)
-      (refused_by c.begins-7.result c.begins-7.ensures c.if-begins-7.false)
-      (refused_by c.begins-8.result c.begins-8.ensures c.if-begins-8.false)
-      (refused_by c.begins-9.result c.begins-9.ensures c.if-begins-9.false)
-      (refused_by c.begins-10.result c.begins-10.ensures c.if-begins-10.false)
-      (refused_by c.begins-11.result c.begins-11.ensures not) verb)
+    | inr isnt ↦ absurd (none_begins c.args.text.now
+        (refused_by c.begins.result c.begins.ensures c.if-begins.false)
+        (refused_by c.begins-2.result c.begins-2.ensures c.if-begins-2.false)
+        (refused_by c.begins-3.result c.begins-3.ensures c.if-begins-3.false)
+        (refused_by c.begins-4.result c.begins-4.ensures c.if-begins-4.false)
+        (refused_by c.begins-5.result c.begins-5.ensures c.if-begins-5.false)
+        (refused_by c.begins-6.result c.begins-6.ensures c.if-begins-6.false)
+        (refused_by c.begins-7.result c.begins-7.ensures c.if-begins-7.false)
+        (refused_by c.begins-8.result c.begins-8.ensures c.if-begins-8.false)
+        (refused_by c.begins-9.result c.begins-9.ensures c.if-begins-9.false)
+        (refused_by c.begins-10.result c.begins-10.ensures c.if-begins-10.false)
+        (refused_by c.begins-11.result c.begins-11.ensures isnt) verb)
   ]),
 )
