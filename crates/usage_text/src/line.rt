@@ -46,11 +46,11 @@ fn push_count(line: &mut Octets, verb: &[u8], count: usize, given: usize) -> Res
 fn push_counts(line: &mut Octets, count: usize, given: usize) -> Result<(), NoMemory>
     ensures { OnOk result (line.new ≡ line.old ++ counts_text count given) }
 {
-    line.push_all(b": words after it are ")?;
+    line.push_all(b" takes ")?;
     push_decimal(line, count as u64)?;
-    line.push_all(b", not ")?;
+    line.push_all(b" words after it, not ")?;
     push_decimal(line, given as u64)?;
-    line.push_all(b"; mdbox --help lists them")
+    line.push_all(b"; mdbox --help names them")
 }
 
 /// Appends a word and what its rule allows.

@@ -5,6 +5,6 @@ use Rattle.usage_text.proofs.line.push_counts.Goals as goal
 
 pub returns : goal.returns
 returns c =
-    five_told c.push_all-3.result c.args.line.now (codes ": words after it are ") (decimal_text c.args.count) (codes ", not ") (decimal_text c.args.given) (codes "; mdbox --help lists them")
+    five_told c.push_all-3.result c.args.line.now (codes " takes ") (decimal_text c.args.count) (codes " words after it, not ") (decimal_text c.args.given) (codes "; mdbox --help names them")
     c.push_all.new.self c.push_decimal.new.out c.push_all-2.new.self c.push_decimal-2.new.out c.push_all-3.new.self
     c.in_ok-push_all.ensures.ok c.in_ok-push_decimal.ensures.ok c.in_ok-push_all-2.ensures.ok c.in_ok-push_decimal-2.ensures.ok c.push_all-3.ensures.ok
