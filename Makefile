@@ -59,6 +59,7 @@ bench: all
 	bench/fetch
 	bench/deliver
 	bench/attach
+	bench/threads
 	bench/rebuild
 	bench/purge
 	bench/hostile

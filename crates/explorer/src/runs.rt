@@ -6,7 +6,9 @@ use folder_disk::FolderDisk;
 use folder_kept::KeptFolder;
 use folder_mem::BareFolder;
 use mdbox_base::{NoMemory, Octets};
-use mdbox_top::{Status, mdbox_run};
+use mdbox_threads::InTurn;
+use mdbox_top::{Status, mdbox_alone};
+use request_text::{Outcome, WordsError, read_words, report};
 use std::alloc::Global;
 
 /// The words of a run, and its input.
@@ -16,7 +18,7 @@ pub struct Run<'x> {
     pub input: &'x [u8],
 }
 
-/// Runs the program once, and answers the disk after it, and its status. It promises nothing, so that no caller's proof sees what
+/// Runs the program once, without a thread, and answers the disk after it, and its status. It promises nothing, so that no caller's proof sees what
 /// the program promises.
 pub fn perform<D: Disk>(
     alloc: Global,
@@ -24,15 +26,20 @@ pub fn perform<D: Disk>(
     words: &[String],
     streams: &mut Streams,
 ) -> (D, u8) {
-    let (Status(status), disk) = mdbox_run(
-        alloc,
-        words,
-        disk,
-        &mut streams.input,
-        &mut streams.output,
-        &mut streams.errors,
-        &mut streams.clock,
-    );
+    let (Status(status), disk) = match read_words(alloc, words) {
+        Ok(command) => mdbox_alone(
+            &InTurn,
+            alloc,
+            command,
+            disk,
+            &mut streams.input,
+            &mut streams.output,
+            &mut streams.errors,
+            &mut streams.clock,
+        ),
+        Err(WordsError::Usage) => (report(alloc, &mut streams.errors, Outcome::Usage), disk),
+        Err(WordsError::NoMemory) => (report(alloc, &mut streams.errors, Outcome::NoMemory), disk),
+    };
     (disk, status)
 }
 

@@ -1,13 +1,14 @@
 // A world of two lanes.
-ghost use Rattle.std.specs.Prelude.{◌≡◌, ◌≤◌, All, length, IfOk};
-ghost use Rattle.lanes.specs.Worlds.{AreGiven, AreOfLanes, HasItsMessage};
-ghost use Rattle.script_text.specs.Script.{FitsScript, IsForLanes};
+ghost use Rattle.std.specs.Prelude.{◌≡◌, ◌≤◌, length, IfOk};
+ghost use Rattle.lanes.specs.Worlds.{AreGiven, AreOfLanes};
+ghost use Rattle.script_text.specs.Script.{IsForLanes};
 
-use attach_detach::{Prepared, prepare};
+use attach_detach::Prepared;
 use disk_mem::MemDisk;
 use disk_model::Disk;
 use lanes::{Turn, Turned, World, WorldRefused, world_of, worlds_go_on};
-use mdbox_base::{JournalEntry, MemSink, NoMemory, Octets, Reply, Request, Script, Seq};
+use mdbox_base::{JournalEntry, MemSink, NoMemory, Octets, Reply, Script, Seq};
+use mdbox_threads::prepare_in_turn;
 use request_text::print_batch;
 use script_text::{ScriptError, read_script};
 use std::alloc::{AllocFailed, Global};
@@ -61,7 +62,7 @@ impl Lane {
 pub fn begin(alloc: Global, disk: MemDisk, script: Script) -> Result<TwoLanes<MemDisk>, Wrong>
     requires { (script.lanes ≡ 2) × IsForLanes script }
 {
-    let prepared = prepare_messages(alloc, script.requests.as_slice())?;
+    let prepared = prepare_in_turn(alloc, script.requests.as_slice())?;
     match open(alloc, disk, script, prepared) {
         Ok(world) => Ok(world),
         Err(
@@ -87,32 +88,6 @@ pub fn script_of(alloc: Global, text: &[u8]) -> Result<Script, Wrong>
         Ok(script) => Ok(script),
         Err(ScriptError::Bad(_)) => Err(Wrong::NoScript),
         Err(ScriptError::NoMemory) => Err(Wrong::NoMemory),
-    }
-}
-
-/// What each request is given beside.
-fn prepare_messages(
-    alloc: Global,
-    requests: &[(u32, Request)],
-) -> Result<Seq<Option<Prepared>>, NoMemory>
-    requires { All (λ asked. FitsScript asked.1) requests.now }
-    ensures { IfOk result (AreGiven requests.now) }
-{
-    let mut prepared = Seq::empty(alloc);
-    for request in requests {
-        prepared.push(prepare_message(alloc, &request.1)?)?;
-    }
-    Ok(prepared)
-}
-
-/// What a request is given beside: a delivery its message with its attachments taken out, any other nothing.
-fn prepare_message(alloc: Global, asked: &Request) -> Result<Option<Prepared>, NoMemory>
-    requires { FitsScript asked.now }
-    ensures { IfOk result (HasItsMessage asked.now) }
-{
-    match asked {
-        Request::Deliver { message, .. } => Ok(Some(prepare(alloc, message.as_slice())?)),
-        _ => Ok(None),
     }
 }
 

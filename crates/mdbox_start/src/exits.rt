@@ -1,7 +1,7 @@
 // A run of the program, and its exit.
 ghost use Rattle.std.specs.Prelude.{◌≡◌, ◌≤◌, ◌↔◌, map, string_bytes, IfOk, IsErr};
 ghost use Rattle.std.specs.Process.{exit_status};
-ghost use Rattle.mdbox_top.specs.Run.{Ends, RunOutcome, Moments, Rests, HasStatus, MayHaveFailed};
+ghost use Rattle.mdbox_top.specs.Run.{Ends, Notes, RunOutcome, Moments, Rests, HasStatus, MayHaveFailed};
 ghost use Rattle.piece_writer.specs.Pieces.{WritesOrFaults};
 ghost use Rattle.request_text.specs.Commands.{Says, SayNothing};
 ghost use Rattle.request_text.specs.Outcomes.{status_of, error_text};
@@ -14,9 +14,11 @@ use mdbox_top::{Status, mdbox_run};
 use request_text::{Outcome, report};
 use std::alloc::Global;
 use std::process::ExitCode;
+use std::thread::Threads;
 
 /// Runs the words, or tells that there was no memory for them, and answers that status.
-pub fn run<D: Disk, I: Source, O: Sink, E: Sink, C: Clock>(
+pub fn run<R: Threads + Sync, D: Disk, I: Source, O: Sink, E: Sink, C: Clock>(
+    rt: &R,
     alloc: Global,
     words: Result<Vec<String>, NoMemory>,
     disk: D,
@@ -27,7 +29,7 @@ pub fn run<D: Disk, I: Source, O: Sink, E: Sink, C: Clock>(
 ) -> (Status, D)
     // The status is that of the run.
     ensures run { IfOk words (λ given. (command : Command) → Says (map string_bytes given.items) command
-        → RunOutcome (Ends D command (I.left input.old) (C.time clock.old) (O.held output.old) (O.held output.new) (D.history disk) (D.history result.1) (D.faults disk) (D.faults result.1)) (result.0.0) (E.held errors.old) (E.faults errors.old) (E.held errors.new) (E.faults errors.new)) }
+        → RunOutcome (Ends D command (I.left input.old) (C.time clock.old) (O.held output.old) (O.held output.new) (D.history disk) (D.history result.1) (D.faults disk) (D.faults result.1)) (Notes command (D.history result.1)) (result.0.0) (E.held errors.old) (E.faults errors.old) (E.held errors.new) (E.faults errors.new)) }
 
     // What a crash at any moment leaves, and what the disk is at the end.
     ensures moments { IfOk words (λ given. (command : Command) → Says (map string_bytes given.items) command
@@ -45,6 +47,7 @@ pub fn run<D: Disk, I: Source, O: Sink, E: Sink, C: Clock>(
     match words {
         Ok(words) => {
             let (status, disk) = mdbox_run(
+                rt,
                 alloc,
                 words.as_slice(),
                 disk,

@@ -1,14 +1,13 @@
 -- What jobs come to.
-use Rattle.std.specs.Prelude.{◌≡◌, ◌<◌, ◌+◌, ◌++◌, ℕ, suc, Bool, true, false, List, [], ◌∷◌, All, drop, get_or, if◌then◌else◌, length, map, slice_get, slice_index_or, take, Option, Some}
+use Rattle.std.specs.Prelude.{◌≡◌, ◌<◌, ◌+◌, ◌++◌, ℕ, suc, Bool, true, false, List, [], ◌∷◌, All, drop, get_or, if◌then◌else◌, length, map, slice_get, slice_index_or, take, Some}
 use Rattle.std.proofs.Common.{refl, sym, ◌∙◌, ap, subst, arith, append-nil, append_assoc}
 use Rattle.std.proofs.lemmas.List.{take_more, drop_more, take_at, length-append, length-take-le}
 use Rattle.std.proofs.lemmas.List.Elements.{All-nil, All-cons}
 use Rattle.std.proofs.lemmas.Option.{slice_get-get_or}
 use mathlib.Core.List.{map-append}
-use Rattle.attach_detach.specs.declared.message.Prepared.{Prepared}
 use Rattle.mdbox_base.specs.declared.requests.Request.{Request}
 use Rattle.mdbox_base.specs.declared.requests.Request.TheVariants as request
-use Rattle.mdbox_threads.specs.Jobs.{IsDeliveryAt, IsDoneOf, IsMadeOf, IsNextDone, is_delivery, places_from}
+use Rattle.mdbox_threads.specs.Jobs.{IsDeliveryAt, IsDoneOf, IsMadeOf, IsNextDone, delivers, places_from}
 use Rattle.mdbox_threads.specs.declared.job.Job.{Job}
 
 abbrev pub place_of : Job → ℕ
@@ -31,43 +30,43 @@ given_back n new rest long = take_at new rest n long
 
 -- ---- jobs of deliveries
 
-pub no_delivery : (asked : Request) → ((name : List ℕ) (time : ℕ) (message : List ℕ) → asked ≡ request.Deliver name time message → ⊥) → is_delivery asked ≡ false
-no_delivery (request.Deliver name time message) unlike = absurd (unlike name time message refl)
-no_delivery (request.List name) unlike = refl
-no_delivery (request.Fetch name uid) unlike = refl
-no_delivery (request.Flag name uid flags) unlike = refl
-no_delivery (request.Copy name uid target) unlike = refl
-no_delivery (request.Move name uid target) unlike = refl
-no_delivery (request.Expunge name uid) unlike = refl
-no_delivery (request.Make name) unlike = refl
-no_delivery (request.Delete name) unlike = refl
-no_delivery (request.Rename name target) unlike = refl
-no_delivery request.Counts unlike = refl
-no_delivery request.Purge unlike = refl
-no_delivery request.Resync unlike = refl
+pub no_message : (asked : Request) → ((name : List ℕ) (time : ℕ) (message : List ℕ) → asked ≡ request.Deliver name time message → ⊥) → delivers asked ≡ false
+no_message (request.Deliver name time message) unlike = absurd (unlike name time message refl)
+no_message (request.List name) unlike = refl
+no_message (request.Fetch name uid) unlike = refl
+no_message (request.Flag name uid flags) unlike = refl
+no_message (request.Copy name uid target) unlike = refl
+no_message (request.Move name uid target) unlike = refl
+no_message (request.Expunge name uid) unlike = refl
+no_message (request.Make name) unlike = refl
+no_message (request.Delete name) unlike = refl
+no_message (request.Rename name target) unlike = refl
+no_message request.Counts unlike = refl
+no_message request.Purge unlike = refl
+no_message request.Resync unlike = refl
 
 one_more : (b : Bool) (k : ℕ) (new old tail : List ℕ) → new ≡ old ++ tail → (if b then k ∷ new else new) ≡ (if b then k ∷ old else old) ++ tail
 one_more true k new old tail e = ap (λ (ns : List ℕ). k ∷ ns) e
 one_more false k new old tail e = e
 
-pub places_more : (k : ℕ) (script : List (ℕ × Request)) (asked : ℕ × Request) → places_from k (script ++ asked ∷ []) ≡ places_from k script ++ (if is_delivery asked.1 then (k + length script) ∷ [] else [])
-places_more k [] asked = ap (λ (n : ℕ). if is_delivery asked.1 then n ∷ [] else []) (omega arith)
+pub places_more : (k : ℕ) (script : List (ℕ × Request)) (asked : ℕ × Request) → places_from k (script ++ asked ∷ []) ≡ places_from k script ++ (if delivers asked.1 then (k + length script) ∷ [] else [])
+places_more k [] asked = ap (λ (n : ℕ). if delivers asked.1 then n ∷ [] else []) (omega arith)
 places_more k (x ∷ script) asked =
-    one_more (is_delivery x.1) k _ _ _ (places_more (k + 1) script asked ∙ ap (λ (n : ℕ). places_from (k + 1) script ++ (if is_delivery asked.1 then n ∷ [] else [])) (omega arith))
+    one_more (delivers x.1) k _ _ _ (places_more (k + 1) script asked ∙ ap (λ (n : ℕ). places_from (k + 1) script ++ (if delivers asked.1 then n ∷ [] else [])) (omega arith))
 
 -- the places of one request more in a walk over them
-walked : (script : List (ℕ × Request)) (k : ℕ) (asked : ℕ × Request) → k < length script → asked ≡ get_or script k asked → places_from 0 (take (k + 1) script) ≡ places_from 0 (take k script) ++ (if is_delivery asked.1 then k ∷ [] else [])
+walked : (script : List (ℕ × Request)) (k : ℕ) (asked : ℕ × Request) → k < length script → asked ≡ get_or script k asked → places_from 0 (take (k + 1) script) ≡ places_from 0 (take k script) ++ (if delivers asked.1 then k ∷ [] else [])
 walked script k asked lt is =
     let more : take (k + 1) script ≡ take k script ++ asked ∷ [] = take_more script k asked lt ∙ ap (λ (x : ℕ × Request). take k script ++ x ∷ []) (sym is) in
     let long : 0 + length (take k script) ≡ k = omega (arith, length-take-le k script (omega (arith, lt))) in
-    ap (places_from 0) more ∙ places_more 0 (take k script) asked ∙ ap (λ (n : ℕ). places_from 0 (take k script) ++ (if is_delivery asked.1 then n ∷ [] else [])) long
+    ap (places_from 0) more ∙ places_more 0 (take k script) asked ∙ ap (λ (n : ℕ). places_from 0 (take k script) ++ (if delivers asked.1 then n ∷ [] else [])) long
 
-pub job_more : (script : List (ℕ × Request)) (k : ℕ) (asked : ℕ × Request) (jobs more : List Job) (job : Job) → k < length script → asked ≡ get_or script k asked → is_delivery asked.1 ≡ true → map place_of jobs ≡ places_from 0 (take k script) → job.place ≡ k → more ≡ jobs ++ job ∷ [] → map place_of more ≡ places_from 0 (take (k + 1) script)
-job_more script k asked jobs more job lt is delivers e at m =
+pub job_more : (script : List (ℕ × Request)) (k : ℕ) (asked : ℕ × Request) (jobs more : List Job) (job : Job) → k < length script → asked ≡ get_or script k asked → delivers asked.1 ≡ true → map place_of jobs ≡ places_from 0 (take k script) → job.place ≡ k → more ≡ jobs ++ job ∷ [] → map place_of more ≡ places_from 0 (take (k + 1) script)
+job_more script k asked jobs more job lt is found e at m =
     ap (map place_of) m ∙ map-append place_of jobs (job ∷ []) ∙ ap (λ (ns : List ℕ). ns ++ job.place ∷ []) e ∙ ap (λ (n : ℕ). places_from 0 (take k script) ++ n ∷ []) at
-    ∙ ap (λ (b : Bool). places_from 0 (take k script) ++ (if b then k ∷ [] else [])) (sym delivers) ∙ sym (walked script k asked lt is)
+    ∙ ap (λ (b : Bool). places_from 0 (take k script) ++ (if b then k ∷ [] else [])) (sym found) ∙ sym (walked script k asked lt is)
 
-pub no_job_more : (script : List (ℕ × Request)) (k : ℕ) (asked : ℕ × Request) (jobs : List Job) → k < length script → asked ≡ get_or script k asked → is_delivery asked.1 ≡ false → map place_of jobs ≡ places_from 0 (take k script) → map place_of jobs ≡ places_from 0 (take (k + 1) script)
+pub no_job_more : (script : List (ℕ × Request)) (k : ℕ) (asked : ℕ × Request) (jobs : List Job) → k < length script → asked ≡ get_or script k asked → delivers asked.1 ≡ false → map place_of jobs ≡ places_from 0 (take k script) → map place_of jobs ≡ places_from 0 (take (k + 1) script)
 no_job_more script k asked jobs lt is other e =
     e ∙ sym (append-nil (places_from 0 (take k script))) ∙ ap (λ (b : Bool). places_from 0 (take k script) ++ (if b then k ∷ [] else [])) (sym other) ∙ sym (walked script k asked lt is)
 
@@ -77,7 +76,7 @@ after : {X : Type 0} (before : List X) (x : X) (rest : List X) → slice_get (be
 after [] x rest = refl
 after (y ∷ before) x rest = after before x rest
 
-stand_if : (b : Bool) (asked : ℕ × Request) (before rest : List (ℕ × Request)) (jobs : List Job) → is_delivery asked.1 ≡ b
+stand_if : (b : Bool) (asked : ℕ × Request) (before rest : List (ℕ × Request)) (jobs : List Job) → delivers asked.1 ≡ b
     → map place_of jobs ≡ (if b then length before ∷ places_from (length before + 1) rest else places_from (length before + 1) rest)
     → ((more : List Job) → map place_of more ≡ places_from (length before + 1) rest → All (λ (job : Job). IsDeliveryAt (before ++ asked ∷ rest) job.place) more)
     → All (λ (job : Job). IsDeliveryAt (before ++ asked ∷ rest) job.place) jobs
@@ -94,15 +93,15 @@ stand before [] (job ∷ jobs) e = absurd (cc e)
 stand before (asked ∷ rest) jobs e =
     let whole : (before ++ asked ∷ []) ++ rest ≡ before ++ asked ∷ rest = append_assoc before (asked ∷ []) rest in
     let long : length before + 1 ≡ length (before ++ asked ∷ []) = sym (length-append before (asked ∷ [])) in
-    stand_if (is_delivery asked.1) asked before rest jobs refl e
-        (λ more m. subst (λ (script : List (ℕ × Request)). All (λ (job : Job). IsDeliveryAt script job.place) more) whole (stand (before ++ asked ∷ []) rest more (m ∙ ap (λ (n : ℕ). places_from n rest) long)))
+    stand_if (delivers asked.1) asked before rest jobs refl e
+    (λ more m. subst (λ (script : List (ℕ × Request)). All (λ (job : Job). IsDeliveryAt script job.place) more) whole (stand (before ++ asked ∷ []) rest more (m ∙ ap (λ (n : ℕ). places_from n rest) long)))
 
 pub places_stand : (script : List (ℕ × Request)) (jobs : List Job) → map place_of jobs ≡ places_from 0 script → All (λ (job : Job). IsDeliveryAt script job.place) jobs
 places_stand script jobs e = stand [] script jobs e
 
 -- ---- jobs that are dealt out
 
-left_places : (script : List (ℕ × Request)) (k : ℕ) (asked : ℕ × Request) → k < length script → asked ≡ get_or script k asked → places_from k (drop k script) ≡ (if is_delivery asked.1 then k ∷ places_from (k + 1) (drop (k + 1) script) else places_from (k + 1) (drop (k + 1) script))
+left_places : (script : List (ℕ × Request)) (k : ℕ) (asked : ℕ × Request) → k < length script → asked ≡ get_or script k asked → places_from k (drop k script) ≡ (if delivers asked.1 then k ∷ places_from (k + 1) (drop (k + 1) script) else places_from (k + 1) (drop (k + 1) script))
 left_places script k asked lt is = ap (places_from k) (drop_more script k asked lt ∙ ap (λ (x : ℕ × Request). x ∷ drop (k + 1) script) (sym is))
 
 first_done : (script : List (ℕ × Request)) (k : ℕ) (asked : ℕ × Request) (jobs : List Job) (rest : List ℕ) → k < length script → asked ≡ get_or script k asked → map place_of jobs ≡ k ∷ rest → All (IsDoneOf script) jobs → IsNextDone asked.1 jobs
@@ -114,16 +113,16 @@ first_done script k asked (job ∷ jobs) rest lt is e done =
     let same : own.0 ≡ asked = cc (own.1, at, here) in
     subst (λ (x : ℕ × Request). IsMadeOf x.1 job.made) same own.2
 
-pub next_done : (script : List (ℕ × Request)) (k : ℕ) (asked : ℕ × Request) (jobs : List Job) → k < length script → asked ≡ get_or script k asked → map place_of jobs ≡ places_from k (drop k script) → All (IsDoneOf script) jobs → is_delivery asked.1 ≡ true → IsNextDone asked.1 jobs
-next_done script k asked jobs lt is e done delivers =
-    first_done script k asked jobs (places_from (k + 1) (drop (k + 1) script)) lt is (e ∙ left_places script k asked lt is ∙ ap (λ (b : Bool). if b then k ∷ places_from (k + 1) (drop (k + 1) script) else places_from (k + 1) (drop (k + 1) script)) delivers) done
+pub next_done : (script : List (ℕ × Request)) (k : ℕ) (asked : ℕ × Request) (jobs : List Job) → k < length script → asked ≡ get_or script k asked → map place_of jobs ≡ places_from k (drop k script) → All (IsDoneOf script) jobs → delivers asked.1 ≡ true → IsNextDone asked.1 jobs
+next_done script k asked jobs lt is e done found =
+    first_done script k asked jobs (places_from (k + 1) (drop (k + 1) script)) lt is (e ∙ left_places script k asked lt is ∙ ap (λ (b : Bool). if b then k ∷ places_from (k + 1) (drop (k + 1) script) else places_from (k + 1) (drop (k + 1) script)) found) done
 
 rest_if : (b : Bool) (script : List (ℕ × Request)) (k : ℕ) (jobs : List Job) (rest : List ℕ) → map place_of jobs ≡ (if b then k ∷ rest else rest) → All (IsDoneOf script) jobs → (map place_of (if b then drop 1 jobs else jobs) ≡ rest) × All (IsDoneOf script) (if b then drop 1 jobs else jobs)
 rest_if true script k [] rest e done = absurd (cc e)
 rest_if true script k (job ∷ jobs) rest e done = (ap (drop 1) e, λ i d lt. done (suc i) d (omega (arith, lt)))
 rest_if false script k jobs rest e done = (e, done)
 
-pub next_rest : (script : List (ℕ × Request)) (k : ℕ) (asked : ℕ × Request) (jobs later : List Job) → k < length script → asked ≡ get_or script k asked → map place_of jobs ≡ places_from k (drop k script) → All (IsDoneOf script) jobs → later ≡ (if is_delivery asked.1 then drop 1 jobs else jobs) → (map place_of later ≡ places_from (k + 1) (drop (k + 1) script)) × All (IsDoneOf script) later
+pub next_rest : (script : List (ℕ × Request)) (k : ℕ) (asked : ℕ × Request) (jobs later : List Job) → k < length script → asked ≡ get_or script k asked → map place_of jobs ≡ places_from k (drop k script) → All (IsDoneOf script) jobs → later ≡ (if delivers asked.1 then drop 1 jobs else jobs) → (map place_of later ≡ places_from (k + 1) (drop (k + 1) script)) × All (IsDoneOf script) later
 next_rest script k asked jobs later lt is e done l =
-    let found = rest_if (is_delivery asked.1) script k jobs (places_from (k + 1) (drop (k + 1) script)) (e ∙ left_places script k asked lt is) done in
+    let found = rest_if (delivers asked.1) script k jobs (places_from (k + 1) (drop (k + 1) script)) (e ∙ left_places script k asked lt is) done in
     subst (λ (x : List Job). (map place_of x ≡ places_from (k + 1) (drop (k + 1) script)) × All (IsDoneOf script) x) (sym l) found

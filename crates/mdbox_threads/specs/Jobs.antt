@@ -7,18 +7,18 @@ use Rattle.mdbox_threads.specs.declared.job.Job.{Job}
 use Rattle.mdbox_threads.specs.declared.job.Made.{Made}
 use Rattle.mdbox_threads.specs.declared.job.Made.TheVariants as made
 
-abbrev pub is_delivery : Request → Bool
-is_delivery (request.Deliver name time octets) = true
-is_delivery asked = false
+abbrev pub delivers : Request → Bool
+delivers (request.Deliver name time octets) = true
+delivers asked = false
 
 -- the places of the deliveries among these requests, the first of which has the place k
 abbrev pub places_from : ℕ → List (ℕ × Request) → List ℕ
 places_from k [] = []
-places_from k (asked ∷ script) = if is_delivery asked.1 then k ∷ places_from (k + 1) script else places_from (k + 1) script
+places_from k (asked ∷ script) = if delivers asked.1 then k ∷ places_from (k + 1) script else places_from (k + 1) script
 
 -- at this place of the script stands a delivery
 abbrev pub IsDeliveryAt : List (ℕ × Request) → ℕ → Type 0
-IsDeliveryAt script place = (asked : ℕ × Request) × (slice_get script place ≡ Some asked) × (is_delivery asked.1 ≡ true)
+IsDeliveryAt script place = (asked : ℕ × Request) × (slice_get script place ≡ Some asked) × (delivers asked.1 ≡ true)
 
 -- What came of a request's message: it is what the request is given beside, or there was no memory for it.
 abbrev pub IsMadeOf : Request → Made → Type 0

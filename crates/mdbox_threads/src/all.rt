@@ -3,7 +3,7 @@ ghost use Rattle.std.specs.Prelude.{◌≡◌, ◌<◌, ◌≤◌, true, All, If
 ghost use Rattle.std.specs.Vec.Iter.{into_iter_items};
 ghost use Rattle.lanes.specs.Worlds.{AreGiven, HasItsMessage};
 ghost use Rattle.script_text.specs.Script.{FitsScript};
-ghost use Rattle.mdbox_threads.specs.Jobs.{IsDeliveryAt, IsDoneOf, IsNextDone, is_delivery, places_from};
+ghost use Rattle.mdbox_threads.specs.Jobs.{IsDeliveryAt, IsDoneOf, IsNextDone, delivers, places_from};
 
 use crate::job::{Job, Made, do_job, jobs_of};
 use crate::turn::prepare_in_turn;
@@ -85,10 +85,15 @@ fn do_jobs<R: Threads + Sync>(
     ensures same { map (λ job. job.place) jobs.new ≡ map (λ job. job.place) jobs.old }
     ensures done { All (IsDoneOf requests.now) jobs.new }
 {
-    thread::for_each_mut(rt, jobs, threads, &|_i, job| -> ()
+    thread::for_each_mut(
+        rt,
+        jobs,
+        threads,
+        &|_i, job| -> ()
             requires { All (λ asked. FitsScript asked.1) requests.now × IsDeliveryAt requests.now job.now.place }
             ensures { (job.exit.now.place ≡ job.entry.now.place) × IsDoneOf requests.entry.now job.exit.now }
-        { do_job(alloc, requests, job) });
+        { do_job(alloc, requests, job) },
+    );
 }
 
 /// Gives each delivery what came of its job, and any other request nothing.
@@ -113,9 +118,9 @@ fn deal_out(
 /// What a request is given beside: a delivery what came of the next job, any other nothing.
 fn next_given(jobs: &mut IntoIter<Job>, asked: &Request) -> Result<Option<Prepared>, NoMemory>
     requires fits { FitsScript asked.now }
-    requires next { is_delivery asked.now ≡ true → IsNextDone asked.now (into_iter_items jobs.old) }
+    requires next { delivers asked.now ≡ true → IsNextDone asked.now (into_iter_items jobs.old) }
     ensures given { IfOk result (HasItsMessage asked.now) }
-    ensures rest { into_iter_items jobs.new ≡ (if is_delivery asked.now then drop 1 (into_iter_items jobs.old) else into_iter_items jobs.old) }
+    ensures rest { into_iter_items jobs.new ≡ (if delivers asked.now then drop 1 (into_iter_items jobs.old) else into_iter_items jobs.old) }
 {
     let Request::Deliver { .. } = asked else {
         return Ok(None);

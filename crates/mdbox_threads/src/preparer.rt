@@ -13,7 +13,7 @@ use std::thread::Threads;
 
 /// Prepares the messages of a script.
 pub trait Preparer {
-    /// What it asks of its own type.
+    /// That threads may share its runtime, if it has one. A method isn't told what its type's bounds say, so its caller is asked for it.
     ghost shared: { Self → Type 0 };
 
     /// What each request is given beside: a delivery its message with its attachments taken out, any other nothing.
@@ -28,9 +28,11 @@ pub trait Preparer {
 }
 
 /// Prepares one after another.
+#[derive(Drop)]
 pub struct InTurn;
 
 /// Prepares in threads.
+#[derive(Drop)]
 pub struct InThreads<'x, R: Threads + Sync> {
     pub rt: &'x R,
 }

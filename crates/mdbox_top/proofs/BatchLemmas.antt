@@ -1,22 +1,19 @@
 -- How `batch` ends: by what was read, and by the script.
-use Rattle.std.specs.Prelude.{◌≡◌, ◌≤◌, ◌<◌, ◌+◌, ◌⊎◌, ◌++◌, ℕ, suc, Bool, true, false, cond, if◌then◌else◌, List, [], ◌∷◌, All, Contains, count_by, get_or, length, map, take, Option, Some, None, Result, Ok, Err, IfOk}
+use Rattle.std.specs.Prelude.{◌≡◌, ◌≤◌, ◌<◌, ◌+◌, ◌⊎◌, ℕ, suc, Bool, true, false, cond, if◌then◌else◌, List, [], ◌∷◌, All, Contains, count_by, length, map, Option, Some, None, Result, Ok, Err, IfOk}
 use Rattle.std.specs.List.{AllByRecursion, list_any}
 use Rattle.std.proofs.Common.{refl, sym, ◌∙◌, ap, subst, inl, inr, append-nil, arith}
-use Rattle.std.proofs.lemmas.List.{take_more}
 use Rattle.std.proofs.lemmas.List.Elements.{All-nil, All-cons}
 use Rattle.std.proofs.lemmas.List.Folds.{list_any_at}
 use Rattle.std.proofs.lemmas.List.Sums.{sum_by-cons}
-use Rattle.attach_detach.specs.declared.message.Prepared.{Prepared}
 use Rattle.disk_model.specs.Disk.{History, Faults}
 use Rattle.disk_model.specs.FaultCounts.{AnyFaultCounted, NoFault}
 use Rattle.journal.specs.Journal.{Requests, is_read_fault}
-use Rattle.lanes.specs.Worlds.{AreGiven, AreOfLanes, HasItsMessage}
+use Rattle.lanes.specs.Worlds.{AreOfLanes}
 use Rattle.mdbox_base.specs.Streams.{Appended, Refused}
 use Rattle.mdbox_base.specs.declared.replies.Refusal.TheVariants as refused
 use Rattle.mdbox_base.specs.declared.replies.Reply.{Reply}
 use Rattle.mdbox_base.specs.declared.replies.Reply.TheVariants as reply
 use Rattle.mdbox_base.specs.declared.requests.Request.{Request}
-use Rattle.mdbox_base.specs.declared.requests.Request.TheVariants as request
 use Rattle.mdbox_base.specs.declared.script.JournalEntry.{JournalEntry}
 use Rattle.mdbox_base.specs.declared.script.Script.{Script}
 use Rattle.mdbox_base.specs.declared.stream.InputError.{InputError}
@@ -97,35 +94,6 @@ are_of_lanes lanes (asked ∷ rest) all = All-cons (λ (a : ℕ × Request). (0 
 pub are_fit : (lanes : ℕ) (requests : Requests) → AllByRecursion (FitsLanes lanes) requests → All (λ (asked : ℕ × Request). FitsScript asked.1) requests
 are_fit lanes [] all = All-nil (λ (asked : ℕ × Request). FitsScript asked.1)
 are_fit lanes (asked ∷ rest) all = All-cons (λ (a : ℕ × Request). FitsScript a.1) asked rest all.0.fits (are_fit lanes rest all.1)
-
--- ---- what requests are given
-
-pub given_more : (requests : Requests) (given : List (Option Prepared)) (asked : ℕ × Request) (one : Option Prepared) → AreGiven requests given → HasItsMessage asked.1 one → AreGiven (requests ++ asked ∷ []) (given ++ one ∷ [])
-given_more [] [] asked one g h = (h, tt)
-given_more [] (x ∷ rest) asked one g h = absurd g
-given_more (x ∷ requests) [] asked one g h = absurd g
-given_more (x ∷ requests) (y ∷ rest) asked one g h = (g.0, given_more requests rest asked one g.1 h)
-
--- one request more in a walk over them
-pub given_next : (requests : Requests) (given more : List (Option Prepared)) (k : ℕ) (asked : ℕ × Request) (one : Option Prepared) → k < length requests → asked ≡ get_or requests k asked → AreGiven (take k requests) given → HasItsMessage asked.1 one → more ≡ given ++ one ∷ [] → AreGiven (take (k + 1) requests) more
-given_next requests given more k asked one lt is g h e =
-    let next : take (k + 1) requests ≡ take k requests ++ asked ∷ [] = take_more requests k asked lt ∙ ap (λ (x : ℕ × Request). take k requests ++ x ∷ []) (sym is) in
-    subst (λ (x : Requests). AreGiven x more) (sym next) (subst (λ (x : List (Option Prepared)). AreGiven (take k requests ++ asked ∷ []) x) (sym e) (given_more (take k requests) given asked one g h))
-
-pub nothing_given : (asked : Request) → FitsScript asked → ((name : List ℕ) (time : ℕ) (message : List ℕ) → asked ≡ request.Deliver name time message → ⊥) → HasItsMessage asked None
-nothing_given (request.Deliver name time message) f unlike = absurd (unlike name time message refl)
-nothing_given (request.List name) f unlike = (tt, refl)
-nothing_given (request.Fetch name uid) f unlike = (tt, refl)
-nothing_given (request.Flag name uid flags) f unlike = (tt, refl)
-nothing_given (request.Copy name uid target) f unlike = (tt, refl)
-nothing_given (request.Move name uid target) f unlike = (tt, refl)
-nothing_given (request.Expunge name uid) f unlike = (tt, refl)
-nothing_given (request.Make name) f unlike = (tt, refl)
-nothing_given (request.Delete name) f unlike = absurd f
-nothing_given (request.Rename name target) f unlike = absurd f
-nothing_given request.Counts f unlike = (tt, refl)
-nothing_given request.Purge f unlike = (tt, refl)
-nothing_given request.Resync f unlike = (tt, refl)
 
 -- ---- how replies are printed
 

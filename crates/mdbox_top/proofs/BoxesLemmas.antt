@@ -1,7 +1,7 @@
 -- How `boxes` ends.
-use Rattle.std.specs.Prelude.{◌≡◌, ◌⊎◌, ◌<◌, ◌+◌, ◌==◌, ◌++◌, ℕ, zero, suc, List, [], ◌∷◌, All, AllPairs, find, length, map, slice_get, take, Option, Some, None}
+use Rattle.std.specs.Prelude.{◌≡◌, ◌⊎◌, ◌<◌, ◌+◌, ◌==◌, ◌++◌, ℕ, List, [], ◌∷◌, All, AllPairs, find, length, map, slice_get, take, Option, Some, None, Result, Ok, Err, IfOk}
 use Rattle.std.specs.Option.{option_map}
-use Rattle.std.proofs.Common.{refl, sym, ◌∙◌, ap, subst, inl, inr, arith}
+use Rattle.std.proofs.Common.{zero, suc, refl, sym, ◌∙◌, ap, subst, inl, inr, arith}
 use Rattle.std.proofs.lemmas.Bool.{cond-true, cond-false, eq-eqb, ne_eqb}
 use Rattle.std.proofs.lemmas.List.{take_more}
 use Rattle.std.proofs.lemmas.List.Elements.{All-head, All-tail}
@@ -33,10 +33,14 @@ use Rattle.mdbox_top.specs.BoxesRun.{BoxesOutcome, BoxesRests, PrintsBoxes, box_
 use Rattle.mdbox_top.specs.InputRun.{IsOneOf}
 use Rattle.mdbox_top.specs.Numbers.{box_octets}
 use Rattle.mdbox_top.specs.OpeningOutcome.{opening_outcome}
-use Rattle.mdbox_top.proofs.NumbersLemmas.{same_octets}
+use Rattle.mdbox_top.proofs.NumbersLemmas.{list_octets, same_octets}
 use Rattle.mdbox_top.proofs.RequestLemmas.{damage_lacking, opening_number, refused_by, settled_opens}
 
 -- ---- rows, place by place
+
+same_fields : (n1 n2 x1 x2 m1 m2 o1 o2 : ℕ) (t1 t2 : List ℕ) → n1 ≡ n2 → x1 ≡ x2 → m1 ≡ m2 → o1 ≡ o2 → t1 ≡ t2
+    → (let r : BoxRow = record { number = n1; next_uid = x1; messages = m1; octets = o1; name = t1 } in r) ≡ (let r : BoxRow = record { number = n2; next_uid = x2; messages = m2; octets = o2; name = t2 } in r)
+same_fields n1 n2 x1 x2 m1 m2 o1 o2 t1 t2 e1 e2 e3 e4 e5 = rw (e1, e2, e3, e4, e5) refl
 
 pub row_there : (boxes : List MapBox) (meanings : List BoxMeaning) (i : ℕ) (b : MapBox) (m : BoxMeaning) → slice_get boxes i ≡ Some b → slice_get meanings i ≡ Some m → slice_get (box_rows boxes meanings) i ≡ Some (row_of_box b m)
 row_there [] meanings i b m p q = absurd (let k : None ≡ Some b = p in cc k)
@@ -62,7 +66,7 @@ row_more rows i row is = take_more rows i row (slice_get_within rows i row is) �
 
 -- ---- the mailbox at a place of the map
 
-abbrev BoxRises : MapBox → MapBox → Type 0
+abbrev pub BoxRises : MapBox → MapBox → Type 0
 BoxRises a b = a.number < b.number
 
 later_box : (x : MapBox) (xs : List MapBox) (i : ℕ) (b : MapBox) → All (BoxRises x) xs → slice_get xs i ≡ Some b → x.number < b.number
@@ -85,22 +89,37 @@ box_found (x ∷ xs) (suc i) b rising is =
     ∙ box_found xs i b (pairs_tail BoxRises x xs rising) is
 
 -- it has the name that is found by its number
-name_there : (boxes : List MapBox) (i : ℕ) (b : MapBox) (number : ℕ) (name : List ℕ) → AllPairs BoxRises boxes → slice_get boxes i ≡ Some b → number ≡ b.number → Some name ≡ option_map (λ x. x.name) (find (λ x. x.number == number) boxes) → name ≡ b.name
+pub name_there : (boxes : List MapBox) (i : ℕ) (b : MapBox) (number : ℕ) (name : List ℕ) → AllPairs BoxRises boxes → slice_get boxes i ≡ Some b → number ≡ b.number → Some name ≡ option_map (λ x. x.name) (find (λ x. x.number == number) boxes) → name ≡ b.name
 name_there boxes i b number name rising is same found =
     let k : Some name ≡ Some b.name = found ∙ ap (λ (n : ℕ). option_map (λ (x : MapBox). x.name) (find (λ x. x.number == n) boxes)) same ∙ ap (option_map (λ (x : MapBox). x.name)) (box_found boxes i b rising is) in
     cc k
 
--- the row of what is found by the number that the map tells at a place
-pub row_found_there : {D : Type 0} → (history : Option History) (store : StoreValue D) (m : MapMeaning) (i : ℕ) (at : BoxAt) (found : BoxMeaning) (name : List ℕ) (row : BoxRow) → IsStore history store → m ≡ store.map → Some at ≡ option_map shown_box (slice_get m.boxes i) → Some found ≡ list_numbered store at.number.0
-    → Some name ≡ option_map (λ b. b.name) (box_at m at.number.0) → row ≡ (let r : BoxRow = record { number = at.number.0; next_uid = found.next; messages = length found.rows; octets = box_octets found; name = name } in r) → slice_get (box_rows store.map.boxes (indexes_of store.boxes)) i ≡ Some row
-row_found_there history store m i at found name row s same is numbered named row_is =
+pub no_name_there : (m : MapMeaning) (i : ℕ) (at : BoxAt) → AllPairs BoxRises m.boxes → Some at ≡ option_map shown_box (slice_get m.boxes i) → None ≡ option_map (λ b. b.name) (box_at m at.number.0) → ⊥
+no_name_there m i at rising is none =
     let b = some_there shown_box (slice_get m.boxes i) at is in
-    let here : slice_get store.map.boxes i ≡ Some b.0 = ap (λ (n : MapMeaning). slice_get n.boxes i) (sym same) ∙ b.1 in
+    let k : None ≡ Some b.0.name = none ∙ ap (λ (a : BoxAt). option_map (λ (x : MapBox). x.name) (box_at m a.number.0)) b.2 ∙ ap (option_map (λ (x : MapBox). x.name)) (box_found m.boxes i b.0 rising b.1) in
+    cc k
+
+-- the map of the store, as two calls hand it out
+pub no_name_in : {D : Type 0} → (history : Option History) (store : StoreValue D) (m n : MapMeaning) (i : ℕ) (at : BoxAt) → IsStore history store → m ≡ store.map → n ≡ store.map → Some at ≡ option_map shown_box (slice_get m.boxes i) → None ≡ option_map (λ b. b.name) (box_at n at.number.0) → ⊥
+no_name_in history store m n i at s same also is none =
+    no_name_there store.map i at (store_is_sound history store s).boxes_rising (is ∙ ap (λ (x : MapMeaning). option_map shown_box (slice_get x.boxes i)) same) (none ∙ ap (λ (x : MapMeaning). option_map (λ (b : MapBox). b.name) (box_at x at.number.0)) also)
+
+-- the row of what is found by the number that the map tells at a place
+row_found_there : {D : Type 0} → (history : Option History) (store : StoreValue D) (m n : MapMeaning) (i : ℕ) (at : BoxAt) (found : BoxMeaning) (name : List ℕ) → IsStore history store → m ≡ store.map → n ≡ store.map → Some at ≡ option_map shown_box (slice_get m.boxes i) → Some found ≡ list_numbered store at.number.0
+    → Some name ≡ option_map (λ b. b.name) (box_at n at.number.0) → slice_get (box_rows store.map.boxes (indexes_of store.boxes)) i ≡ Some (let r : BoxRow = record { number = at.number.0; next_uid = found.next; messages = length found.rows; octets = box_octets found; name = name } in r)
+row_found_there history store m n i at found name s same also is numbered named =
+    let b = some_there shown_box (slice_get m.boxes i) at is in
+    let here : slice_get store.map.boxes i ≡ Some b.0 = ap (λ (x : MapMeaning). slice_get x.boxes i) (sym same) ∙ b.1 in
     let number : at.number.0 ≡ b.0.number = ap (λ (a : BoxAt). a.number.0) b.2 in
-    let rising = (store_is_sound history store s).boxes_rising in
-    let named_is : name ≡ b.0.name = name_there store.map.boxes i b.0 at.number.0 name rising here number (named ∙ ap (λ (n : MapMeaning). option_map (λ (x : MapBox). x.name) (box_at n at.number.0)) same) in
+    let named_is : name ≡ b.0.name = name_there store.map.boxes i b.0 at.number.0 name (store_is_sound history store s).boxes_rising here number (named ∙ ap (λ (x : MapMeaning). option_map (λ (y : MapBox). y.name) (box_at x at.number.0)) also) in
     row_there store.map.boxes (indexes_of store.boxes) i b.0 found here (sym (found_there history store m i at (Some found) s same is numbered))
-    ∙ ap Some (rw (number, named_is at row_is) (sym row_is))
+    ∙ ap Some (sym (same_fields at.number.0 b.0.number found.next found.next (length found.rows) (length found.rows) (box_octets found) (box_octets found) name b.0.name number refl refl refl named_is))
+
+pub found_row : {D E : Type 0} → (history : Option History) (store : StoreValue D) (m n : MapMeaning) (i : ℕ) (at : BoxAt) (found : BoxMeaning) (name : List ℕ) (r : Result BoxRow E) → IsStore history store → m ≡ store.map → n ≡ store.map → Some at ≡ option_map shown_box (slice_get m.boxes i) → Some found ≡ list_numbered store at.number.0
+    → Some name ≡ option_map (λ b. b.name) (box_at n at.number.0) → IfOk r (λ row. row ≡ (let x : BoxRow = record { number = at.number.0; next_uid = found.next; messages = length found.rows; octets = box_octets found; name = name } in x)) → IfOk r (λ row. slice_get (box_rows store.map.boxes (indexes_of store.boxes)) i ≡ Some row)
+found_row history store m n i at found name (Ok row) s same also is numbered named made = row_found_there history store m n i at found name s same also is numbered named ∙ ap Some (sym made)
+found_row history store m n i at found name (Err e) s same also is numbered named made = tt
 
 -- ---- what is shown
 
@@ -111,16 +130,11 @@ same_many f g [] (y ∷ ys) e = absurd (cc e)
 same_many f g (x ∷ xs) [] e = absurd (cc e)
 same_many f g (x ∷ xs) (y ∷ ys) e =
     let rest : map f xs ≡ map g ys = cc e in
-    ap (λ (n : ℕ). n + 1) (same_many f g xs ys rest)
+    ap suc (same_many f g xs ys rest)
 
 same_row : (b : MapBox) (m : BoxMeaning) (mailbox : Mailbox) → ShowsMailbox b m mailbox → row_of_box b m ≡ row_of_mailbox mailbox
 same_row b m mailbox s =
-    let number = s.number in
-    let name = s.name in
-    let next = s.next in
-    let many = same_many listed_row listing_row m.rows mailbox.messages s.rows in
-    let octets = same_octets m.rows mailbox.messages s.rows in
-    rw (number, name, next) (rw (sym many) (rw (sym octets) refl))
+    same_fields b.number mailbox.number m.next mailbox.next_uid (length m.rows) (length mailbox.messages) (box_octets m) (list_octets mailbox.messages) b.name mailbox.name (sym s.number) (sym s.next) (same_many listed_row listing_row m.rows mailbox.messages s.rows) (same_octets m.rows mailbox.messages s.rows) (sym s.name)
 
 pub shown_rows : (boxes : List MapBox) (meanings : List BoxMeaning) (lists : Lists) → ShowLists boxes meanings lists → box_rows boxes meanings ≡ map row_of_mailbox lists
 shown_rows [] [] [] h = refl

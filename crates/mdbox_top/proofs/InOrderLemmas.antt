@@ -105,7 +105,7 @@ done_in_order lanes count number held later old new began now ended d one most f
     let script = made_requests lanes count number in
     let may : MayRead script lists old = λ e. absurd (let k : true ≡ false = sym e ∙ made_unread lanes count number in cc k) in
     let serves = d.done.serves lists shown may in
-    let is = end_is script held later old new began now ended d over in
+    let is = end_is (made_script lanes count number) held later old new began now ended d over in
     let quiet = quiet_end (list_any is_disk_no (map Some d.given)) (list_any is_lack (map Some d.given)) (list_any is_no (map Some d.given)) (so is over) in
     let disk = none_any is_disk_no Some d.given quiet.0 in
     let lack = none_any is_lack Some d.given quiet.1 in

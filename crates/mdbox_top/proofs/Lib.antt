@@ -1,3 +1,4 @@
+pub mod BackLemmas
 pub mod BatchLemmas
 pub mod BoxesLemmas
 pub mod CountsLemmas

@@ -16,7 +16,7 @@ use Rattle.mdbox_top.specs.BoxesRun.{BoxesOutcome, BoxesMoments, BoxesRests}
 use Rattle.mdbox_top.specs.ExerciseRun.{ExerciseOutcome, ExerciseMoments, ExerciseRests}
 use Rattle.mdbox_top.specs.InputRun.{DumpPrints, DumpRefuses, LogDumpPrints, LogDumpRefuses, InputOutcome, InputStatus, ShowsText, IsOneOf}
 use Rattle.mdbox_top.specs.InitRun.{InitOutcome, InitMoments, MayMakeStore}
-use Rattle.mdbox_top.specs.RebuildRun.{RebuildOutcome, RebuildMoments, IsLostNow, IsWholeNow}
+use Rattle.mdbox_top.specs.RebuildRun.{RebuildOutcome, RebuildMoments, RebuildNotes, IsLostNow, IsWholeNow}
 use Rattle.mdbox_top.specs.ListRun.{ListOutcome, ListMoments, ListRests}
 use Rattle.mdbox_top.specs.DeliverRun.{DeliverOutcome, DeliverMoments, DeliverRests, DeliverStatus}
 use Rattle.mdbox_top.specs.FetchRun.{FetchOutcome, FetchMoments, FetchRests}
@@ -57,12 +57,20 @@ Ends D command.Version left told held later old new began now outcome = ShowsTex
 abbrev pub EndsOver : {D : Type 0} → D → Command → Option (List ℕ) → Option ℕ → Option (List ℕ) → Option (List ℕ) → Option History → Option History → Faults → Faults → Outcome → Type 0
 EndsOver {D} disk command left told held later old new began now outcome = Ends D command left told held later old new began now outcome
 
--- The run ends as it may: so it ended, with its status, and its text was told on the errors' sink.
-pub record RunOutcome (May : Outcome → Type 0) (status : ℕ) (held : Option (List ℕ)) (faults : ℕ) (later : Option (List ℕ)) (later_faults : ℕ) : Type 0 where
+-- What a command gives to the errors' sink before how it ended: a rebuild tells what came back, by what the disk is then; any other nothing.
+abbrev pub Notes : Command → Option History → Outcome → Option (List ℕ) → ℕ → Option (List ℕ) → ℕ → Type 0
+Notes (command.Rebuild id) new ended held faults later later_faults = RebuildNotes new ended held faults later later_faults
+Notes other new ended held faults later later_faults = (later ≡ held) × (later_faults ≡ faults)
+
+-- The run ends as it may: so it ended, with its status; and on the errors' sink it told what it may note, and then the text of how it ended.
+pub record RunOutcome (May : Outcome → Type 0) (MayNote : Outcome → Option (List ℕ) → ℕ → Option (List ℕ) → ℕ → Type 0) (status : ℕ) (held : Option (List ℕ)) (faults : ℕ) (later : Option (List ℕ)) (later_faults : ℕ) : Type 0 where
   pub outcome : Outcome
   pub status_is : status ≡ status_of outcome
   pub ended : May outcome
-  pub told : WritesOrFaults held faults (error_text outcome) later later_faults
+  pub noted_held : Option (List ℕ)
+  pub noted_faults : ℕ
+  pub noted : MayNote outcome held faults noted_held noted_faults
+  pub told : WritesOrFaults noted_held noted_faults (error_text outcome) later later_faults
 
 -- What a crash at any moment of the command may leave.
 abbrev pub Moments : Command → Option (List ℕ) → Option ℕ → Option History → Option History → Type 0

@@ -1,24 +1,23 @@
 // A script: it is read, its messages are prepared, the store is opened, its requests are done on their lanes, and the replies printed.
-ghost use Rattle.std.specs.Prelude.{◌≡◌, ◌≢◌, ◌≤◌, ◌⊎◌, ◌∷◌, [], length, All, Some, IfOk, IfErr, OnOk};
+ghost use Rattle.std.specs.Prelude.{◌≡◌, ◌≢◌, ◌≤◌, ◌⊎◌, ◌∷◌, [], length, Some, IfOk, IfErr, OnOk};
 ghost use Rattle.disk_model.specs.FaultCounts.{NoFault, AnyFaultCounted};
-ghost use Rattle.lanes.specs.Worlds.{AreGiven, HasItsMessage};
+ghost use Rattle.lanes.specs.Worlds.{AreGiven};
 ghost use Rattle.mdbox_base.specs.Streams.{Rose};
 ghost use Rattle.request_text.specs.BatchText.{batch_text};
 ghost use Rattle.request_text.specs.Outcomes.{status_of};
 ghost use Rattle.request_text.specs.declared.outcome.InputRefusal.{InputRefusal};
 ghost use Rattle.request_text.specs.declared.outcome.Outcome.TheVariants as outcome;
 ghost use Rattle.script_run.specs.Done.{MayBeServed};
-ghost use Rattle.script_text.specs.Script.{FitsScript, IsBadAt, IsForLanes};
+ghost use Rattle.script_text.specs.Script.{IsBadAt, IsForLanes};
 ghost use Rattle.mdbox_top.specs.BatchRun.{BatchOutcome, BatchMoments, BatchRests, HasNoScript, ReadsScript, ScriptOutcome, ScriptMoments, ScriptRests, ShowsReplies, TellsScriptFaults};
 ghost use Rattle.mdbox_top.specs.InputRun.{OfInput, IsOneOf};
 
 use crate::deliver::unread;
 use crate::opening::outcome_of;
-use attach_detach::{Prepared, prepare};
+use attach_detach::Prepared;
 use disk_model::Disk;
-use mdbox_base::{
-    JournalEntry, NoMemory, Octets, Reply, Request, Script, Seq, Sink, Source, read_all,
-};
+use mdbox_base::{JournalEntry, NoMemory, Octets, Reply, Script, Seq, Sink, Source, read_all};
+use mdbox_threads::Preparer;
 use piece_writer::PrintError;
 use request_text::{InputRefusal, Outcome, outcome_of_replies, print_batch};
 use script_run::{ScriptRun, run_script};
@@ -32,13 +31,15 @@ const SCRIPT_LIMIT: u64 = 268_435_456;
 /// Reads a script for so many lanes from the input to its end, takes the attachments out of its messages, opens the store, does the
 /// requests on their lanes, prints the replies in the script's order, and hands the disk back. Unless there is a script no call of the
 /// disk is made.
-pub fn batch<D: Disk, I: Source, O: Sink>(
+pub fn batch<P: Preparer, D: Disk, I: Source, O: Sink>(
+    preparer: &P,
     alloc: Global,
     lanes: u32,
     disk: D,
     input: &mut I,
     output: &mut O,
 ) -> (Outcome, D)
+    requires shared { P.shared preparer.now }
     requires lanes { (1 ≤ lanes) × (lanes ≤ 64) }
     ensures ends { BatchOutcome D lanes (I.left input.old) (O.held output.old) (O.held output.new) (D.history disk) (D.history result.1) (D.faults disk) (D.faults result.1) result.0 }
     ensures moments { BatchMoments lanes (I.left input.old) (D.history disk) (D.history result.1) }
@@ -52,18 +53,20 @@ pub fn batch<D: Disk, I: Source, O: Sink>(
     ensures write_quiet { result.0 ≢ outcome.WriteFault → O.faults output.new ≡ O.faults output.old }
     ensures counted { (I.faults input.old ≤ I.faults input.new) × (O.faults output.old ≤ O.faults output.new) }
 {
-    match read_requests(alloc, lanes, input) {
+    match read_requests(preparer, alloc, lanes, input) {
         Ok((script, prepared)) => run_requests(alloc, script, prepared, disk, output),
         Err(ended) => (ended, disk),
     }
 }
 
 /// The script that the input is, and the message of each delivery with its attachments taken out, at its request's place.
-fn read_requests<I: Source>(
+fn read_requests<P: Preparer, I: Source>(
+    preparer: &P,
     alloc: Global,
     lanes: u32,
     input: &mut I,
 ) -> Result<(Script, Seq<Option<Prepared>>), Outcome>
+    requires shared { P.shared preparer.now }
     ensures script { IfOk result (λ read. OfInput (I.left input.old) (λ octets. ReadsScript lanes octets read.0)) }
     ensures given { IfOk result (λ read. AreGiven read.0.requests read.1) }
     ensures none { IfErr result (HasNoScript lanes (I.left input.old)) }
@@ -77,7 +80,7 @@ fn read_requests<I: Source>(
         Err(error) => return Err(unread(error)),
     };
     let script = script_of(alloc, text, lanes)?;
-    match prepare_messages(alloc, script.requests.as_slice()) {
+    match preparer.prepare_messages(alloc, script.requests.as_slice()) {
         Ok(prepared) => Ok((script, prepared)),
         Err(NoMemory) => Err(Outcome::NoMemory),
     }
@@ -107,32 +110,6 @@ fn refused_at(alloc: Global, text: &Octets, lanes: u32, offset: u64) -> Outcome
     match flaw_at(alloc, text.as_slice(), lanes, offset) {
         Ok(flaw) => Outcome::InputRefused(InputRefusal::Script(flaw)),
         Err(NoMemory) => Outcome::NoMemory,
-    }
-}
-
-/// What each request is given beside.
-pub(crate) fn prepare_messages(
-    alloc: Global,
-    requests: &[(u32, Request)],
-) -> Result<Seq<Option<Prepared>>, NoMemory>
-    requires { All (λ asked. FitsScript asked.1) requests.now }
-    ensures { IfOk result (AreGiven requests.now) }
-{
-    let mut prepared = Seq::empty(alloc);
-    for request in requests {
-        prepared.push(prepare_message(alloc, &request.1)?)?;
-    }
-    Ok(prepared)
-}
-
-/// What a request is given beside: a delivery its message with its attachments taken out, any other nothing.
-fn prepare_message(alloc: Global, asked: &Request) -> Result<Option<Prepared>, NoMemory>
-    requires { FitsScript asked.now }
-    ensures { IfOk result (HasItsMessage asked.now) }
-{
-    match asked {
-        Request::Deliver { message, .. } => Ok(Some(prepare(alloc, message.as_slice())?)),
-        _ => Ok(None),
     }
 }
 

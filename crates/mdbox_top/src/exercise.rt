@@ -15,12 +15,12 @@ ghost use Rattle.mdbox_top.specs.BatchRun.{ScriptMoments, ScriptRests, ShowsRepl
 ghost use Rattle.mdbox_top.specs.ExerciseRun.{CountedOutcome, ExerciseOutcome, ExerciseMoments, ExerciseRests};
 ghost use Rattle.mdbox_top.specs.Numbers.{exercise_text};
 
-use crate::batch::prepare_messages;
 use crate::numbers::count_up;
 use crate::opening::outcome_of;
 use attach_detach::Prepared;
 use disk_model::Disk;
 use mdbox_base::{NoMemory, Reply, Script, Seq, Sink};
+use mdbox_threads::Preparer;
 use piece_writer::PrintError;
 use request_text::{Outcome, outcome_of_replies, print_summary};
 use script_run::{ServedScript, serve_script};
@@ -31,7 +31,8 @@ use store_open::OpenRefused;
 
 /// Makes the script of so many requests for so many lanes that a number makes, takes the attachments out of its messages, opens the
 /// store, does the requests on their lanes, prints the nine lines of what they came to, and hands the disk back.
-pub fn exercise<D: Disk, O: Sink>(
+pub fn exercise<P: Preparer, D: Disk, O: Sink>(
+    preparer: &P,
     alloc: Global,
     lanes: u32,
     count: u32,
@@ -39,6 +40,7 @@ pub fn exercise<D: Disk, O: Sink>(
     disk: D,
     output: &mut O,
 ) -> (Outcome, D)
+    requires shared { P.shared preparer.now }
     requires lanes { (1 ≤ lanes) × (lanes ≤ 64) }
     requires count { (1 ≤ count) × (count ≤ 100000) }
     ensures ends { ExerciseOutcome D lanes count number (O.held output.old) (O.held output.new) (D.history disk) (D.history result.1) (D.faults disk) (D.faults result.1) result.0 }
@@ -51,19 +53,21 @@ pub fn exercise<D: Disk, O: Sink>(
     ensures counted { O.faults output.old ≤ O.faults output.new }
 {
     made_scripts_fit();
-    match make_script(alloc, lanes, count, number) {
+    match make_script(preparer, alloc, lanes, count, number) {
         Ok((script, prepared)) => run_made(alloc, script, prepared, disk, output),
         Err(NoMemory) => (Outcome::NoMemory, disk),
     }
 }
 
 /// The script that a number makes, and the message of each delivery with its attachments taken out, at its request's place.
-fn make_script(
+fn make_script<P: Preparer>(
+    preparer: &P,
     alloc: Global,
     lanes: u32,
     count: u32,
     number: u64,
 ) -> Result<(Script, Seq<Option<Prepared>>), NoMemory>
+    requires shared { P.shared preparer.now }
     requires lanes { (1 ≤ lanes) × (lanes ≤ 64) }
     requires count { (1 ≤ count) × (count ≤ 100000) }
     ensures script { IfOk result (λ made. made.0 ≡ made_script lanes count number) }
@@ -71,7 +75,7 @@ fn make_script(
 {
     made_scripts_fit();
     let script = exercise_script(alloc, lanes, count, number)?;
-    let prepared = prepare_messages(alloc, script.requests.as_slice())?;
+    let prepared = preparer.prepare_messages(alloc, script.requests.as_slice())?;
     Ok((script, prepared))
 }
 

@@ -8,6 +8,7 @@ pub use request_text::Status;
 pub use run::{mdbox_alone, mdbox_run};
 
 mod alone;
+mod back;
 mod batch;
 mod boxes;
 mod deliver;

@@ -9,7 +9,7 @@ ghost use Rattle.request_text.specs.declared.command.Command.{Command};
 ghost use Rattle.request_text.specs.declared.outcome.Outcome.TheVariants as outcome;
 ghost use Rattle.request_text.specs.declared.outcome.InputRefusal.{InputRefusal};
 ghost use Rattle.mdbox_top.specs.DeliverRun.{IsReadWhole};
-ghost use Rattle.mdbox_top.specs.Run.{Ends, RunOutcome, Moments, Rests, HasStatus, MayHaveFailed, TellsFaults, reads_input, uses_disk, asks_clock};
+ghost use Rattle.mdbox_top.specs.Run.{Ends, Notes, RunOutcome, Moments, Rests, HasStatus, MayHaveFailed, TellsFaults, reads_input, uses_disk, asks_clock};
 
 use crate::alone::serve;
 use crate::batch::batch;
@@ -22,11 +22,15 @@ use crate::rebuild::rebuild;
 use crate::show::show;
 use disk_model::Disk;
 use mdbox_base::{Clock, Request, Sink, Source};
+use mdbox_threads::{InThreads, Preparer};
 use request_text::{Command, HELP, Outcome, Status, VERSION, WordsError, read_words, report};
 use std::alloc::Global;
+use std::thread::Threads;
 
-/// Does what the words ask, and hands the disk back. `dump` and `logdump` read standard input to its end.
-pub fn mdbox_run<D: Disk, I: Source, O: Sink, E: Sink, C: Clock>(
+/// Does what the words ask, and hands the disk back. `dump` and `logdump` read standard input to its end. The messages of a script are
+/// prepared in threads of this runtime, if they are many.
+pub fn mdbox_run<R: Threads + Sync, D: Disk, I: Source, O: Sink, E: Sink, C: Clock>(
+    rt: &R,
     alloc: Global,
     words: &[String],
     disk: D,
@@ -37,7 +41,7 @@ pub fn mdbox_run<D: Disk, I: Source, O: Sink, E: Sink, C: Clock>(
 ) -> (Status, D)
     // What was read and printed, what the disk holds, what lanes did, what was told, and the status.
     ensures run { (command : Command) → Says (map string_bytes words.now) command
-        → RunOutcome (Ends D command (I.left input.old) (C.time clock.old) (O.held output.old) (O.held output.new) (D.history disk) (D.history result.1) (D.faults disk) (D.faults result.1)) result.0.0 (E.held errors.old) (E.faults errors.old) (E.held errors.new) (E.faults errors.new) }
+        → RunOutcome (Ends D command (I.left input.old) (C.time clock.old) (O.held output.old) (O.held output.new) (D.history disk) (D.history result.1) (D.faults disk) (D.faults result.1)) (Notes command (D.history result.1)) result.0.0 (E.held errors.old) (E.faults errors.old) (E.held errors.new) (E.faults errors.new) }
 
     // What a crash at any moment of the run leaves, whatever the result.
     ensures moments { (command : Command) → Says (map string_bytes words.now) command → Moments command (I.left input.old) (C.time clock.old) (D.history disk) (D.history result.1) }
@@ -78,14 +82,20 @@ pub fn mdbox_run<D: Disk, I: Source, O: Sink, E: Sink, C: Clock>(
     ensures counted { (I.faults input.old ≤ I.faults input.new) × (O.faults output.old ≤ O.faults output.new) × (E.faults errors.old ≤ E.faults errors.new) × (C.faults clock.old ≤ C.faults clock.new) }
 {
     match read_words(alloc, words) {
-        Ok(command) => mdbox_alone(alloc, command, disk, input, output, errors, clock),
+        Ok(command) => {
+            let preparer = InThreads { rt };
+            mdbox_alone(
+                &preparer, alloc, command, disk, input, output, errors, clock,
+            )
+        }
         Err(WordsError::Usage) => (report(alloc, errors, Outcome::Usage), disk),
         Err(WordsError::NoMemory) => (report(alloc, errors, Outcome::NoMemory), disk),
     }
 }
 
-/// Does one command, and hands the disk back.
-pub fn mdbox_alone<D: Disk, I: Source, O: Sink, E: Sink, C: Clock>(
+/// Does one command, and hands the disk back. The messages of a script are prepared as `preparer` does: `InTurn` starts no thread.
+pub fn mdbox_alone<P: Preparer, D: Disk, I: Source, O: Sink, E: Sink, C: Clock>(
+    preparer: &P,
     alloc: Global,
     command: Command,
     disk: D,
@@ -94,8 +104,9 @@ pub fn mdbox_alone<D: Disk, I: Source, O: Sink, E: Sink, C: Clock>(
     errors: &mut E,
     clock: &mut C,
 ) -> (Status, D)
+    requires shared { P.shared preparer.now }
     requires range { IsInRange command }
-    ensures run { RunOutcome (Ends D command (I.left input.old) (C.time clock.old) (O.held output.old) (O.held output.new) (D.history disk) (D.history result.1) (D.faults disk) (D.faults result.1)) result.0.0 (E.held errors.old) (E.faults errors.old) (E.held errors.new) (E.faults errors.new) }
+    ensures run { RunOutcome (Ends D command (I.left input.old) (C.time clock.old) (O.held output.old) (O.held output.new) (D.history disk) (D.history result.1) (D.faults disk) (D.faults result.1)) (Notes command (D.history result.1)) result.0.0 (E.held errors.old) (E.faults errors.old) (E.held errors.new) (E.faults errors.new) }
     ensures moments { Moments command (I.left input.old) (C.time clock.old) (D.history disk) (D.history result.1) }
     ensures rests { Rests command (I.left input.old) (C.time clock.old) (MayHaveFailed command result.0.0) (D.faults disk) (D.faults result.1) (D.history disk) (D.history result.1) }
     ensures status { HasStatus command (I.left input.old) (D.history disk) result.0.0 }
@@ -114,21 +125,25 @@ pub fn mdbox_alone<D: Disk, I: Source, O: Sink, E: Sink, C: Clock>(
     ensures write_quiet { result.0.0 ≢ 8 → O.faults output.new ≡ O.faults output.old }
     ensures counted { (I.faults input.old ≤ I.faults input.new) × (O.faults output.old ≤ O.faults output.new) × (E.faults errors.old ≤ E.faults errors.new) × (C.faults clock.old ≤ C.faults clock.new) }
 {
-    let (outcome, disk) = perform(alloc, command, disk, input, output, clock);
+    let (outcome, disk) = perform(preparer, alloc, command, disk, input, output, errors, clock);
     (report(alloc, errors, outcome), disk)
 }
 
 /// Does one command, and says how it ended.
-fn perform<D: Disk, I: Source, O: Sink, C: Clock>(
+fn perform<P: Preparer, D: Disk, I: Source, O: Sink, E: Sink, C: Clock>(
+    preparer: &P,
     alloc: Global,
     command: Command,
     disk: D,
     input: &mut I,
     output: &mut O,
+    errors: &mut E,
     clock: &mut C,
 ) -> (Outcome, D)
+    requires shared { P.shared preparer.now }
     requires range { IsInRange command }
     ensures ends { Ends D command (I.left input.old) (C.time clock.old) (O.held output.old) (O.held output.new) (D.history disk) (D.history result.1) (D.faults disk) (D.faults result.1) result.0 }
+    ensures noted { Notes command (D.history result.1) result.0 (E.held errors.old) (E.faults errors.old) (E.held errors.new) (E.faults errors.new) }
     ensures moments { Moments command (I.left input.old) (C.time clock.old) (D.history disk) (D.history result.1) }
     ensures unread { reads_input command ≡ false → input.new ≡ input.old }
     ensures untouched { uses_disk command ≡ false → result.1 ≡ disk }
@@ -144,7 +159,7 @@ fn perform<D: Disk, I: Source, O: Sink, C: Clock>(
     ensures asked { (clock.new ≡ clock.old) ⊎ (IsReadWhole (I.left input.old) (I.left input.new) × (I.faults input.new ≡ I.faults input.old)) }
     ensures refused { (why : InputRefusal) → result.0 ≡ outcome.InputRefused why → clock.new ≡ clock.old }
     ensures write_quiet { result.0 ≢ outcome.WriteFault → O.faults output.new ≡ O.faults output.old }
-    ensures counted { (I.faults input.old ≤ I.faults input.new) × (O.faults output.old ≤ O.faults output.new) × (C.faults clock.old ≤ C.faults clock.new) }
+    ensures counted { (I.faults input.old ≤ I.faults input.new) × (O.faults output.old ≤ O.faults output.new) × (E.faults errors.old ≤ E.faults errors.new) × (C.faults clock.old ≤ C.faults clock.new) }
 {
     match command {
         Command::Init { id } => init(alloc, id, disk, output),
@@ -173,13 +188,13 @@ fn perform<D: Disk, I: Source, O: Sink, C: Clock>(
             serve(alloc, request, None, disk, output)
         }
         Command::Make { name } => serve(alloc, Request::Make { name }, None, disk, output),
-        Command::Batch { lanes } => batch(alloc, lanes, disk, input, output),
+        Command::Batch { lanes } => batch(preparer, alloc, lanes, disk, input, output),
         Command::Exercise {
             lanes,
             count,
             number,
-        } => exercise(alloc, lanes, count, number, disk, output),
-        Command::Rebuild { id } => rebuild(alloc, id, disk, output),
+        } => exercise(preparer, alloc, lanes, count, number, disk, output),
+        Command::Rebuild { id } => rebuild(alloc, id, disk, output, errors),
         Command::Dump => (dump(alloc, input, output), disk),
         Command::LogDump => (logdump(alloc, input, output), disk),
         Command::Help => (show(output, HELP), disk),

@@ -73,9 +73,9 @@ counts      prints OK and four numbers of the store in the current folder: how m
 purge       copies what is wanted out of storage files in which something isn't, removes these files, and the
             attachments that no message names, and prints OK and three numbers: how many messages, storage files
             and attachments went; or prints NO 16 store full or NO 18 read fault
-resync      counts anew how often the mailboxes list each stored message, reads all storage files, and prints OK and
-            two numbers: how many counts were wrong and are put right, and how many messages are damaged; or
-            prints NO 18 read fault
+resync      counts anew how often the mailboxes list each stored message, reads of each its header and what follows
+            its body, and prints OK and two numbers: how many counts were wrong and are put right, and how many
+            messages are damaged; or prints NO 18 read fault
 expunge BOX UID
             removes the message with this UID from the mailbox and prints OK; or prints NO 10 no mailbox or
             NO 12 no message
@@ -100,7 +100,8 @@ exercise LANES COUNT NUMBER
 rebuild ID  makes new logs, with the id ID, for the storage files in the current folder, where the logs are lost or
             damaged; prints for each message that it can't take, or part of a file that it can't read, a line
             SKIPPED, the number of the storage file (m.N), the offset there and the reason, and then OK, how many
-            mailboxes there are and how many messages; no storage file and no attachment is changed
+            mailboxes there are and how many messages, and on standard error each mailbox with its number of
+            messages; no storage file and no attachment is changed
 dump        reads a storage file (m.N) of mdbox from standard input and prints, for each message,
             MESSAGE, its offset and the size of its body, and then its metadata lines, each after two spaces
 logdump     reads a log of mdbox from standard input and prints LOG, its kind (R, M or B), its number and its
@@ -111,7 +112,8 @@ logdump     reads a log of mdbox from standard input and prints LOG, its kind (R
 
 Exit status: 0 done, 1 the reply is NO, 2 unknown command, 3 no store, a store that exists already, storage files
 without a store, or a damaged store, 4 the input is refused, 5 out of memory, 6 disk fault, 7 read fault,
-8 write fault
+8 write fault. A reply may also be NO 17 memory (status 5; not of flag), NO 18 read fault (6; of deliver, fetch,
+purge and resync) or NO 19 stopped (6; of what changes the store, if a change of the disk failed)
 
 Example: mdbox init 0011223344556677 && mdbox list INBOX
 ";
