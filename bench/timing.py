@@ -7,11 +7,11 @@ import sys
 import time
 
 
-def run(command, path):
+def run(command, path, errors=None):
     """The seconds that a command takes on a file, those of the processor, and its peak memory in KiB."""
     with open(path, "rb") as source:
         begin = time.perf_counter()
-        child = subprocess.Popen(command, stdin=source, stdout=subprocess.DEVNULL)
+        child = subprocess.Popen(command, stdin=source, stdout=subprocess.DEVNULL, stderr=errors)
         _, status, usage = os.wait4(child.pid, 0)
         seconds = time.perf_counter() - begin
     if status != 0:
@@ -38,9 +38,9 @@ def through_pipes(command, path, to=os.devnull, errors=None):
     return seconds, usage.ru_utime + usage.ru_stime
 
 
-def peak(command):
+def peak(command, errors=None):
     """The peak memory of a command in KiB, by the last of the looks at it, a thousand a second."""
-    child = subprocess.Popen(command, stdin=subprocess.DEVNULL, stdout=subprocess.DEVNULL)
+    child = subprocess.Popen(command, stdin=subprocess.DEVNULL, stdout=subprocess.DEVNULL, stderr=errors)
     most = 0
     while child.poll() is None:
         try:

@@ -16,7 +16,7 @@ use std::env;
 use std::process::ExitCode;
 use std::thread::Threads;
 
-/// How many octets a run may tell on standard error without memory. Of its end it tells one line, of at most 150; a rebuild tells more.
+/// How many octets a run may tell on standard error without memory. Of its end it tells two lines at most, of 150 and 200; a rebuild tells more.
 const ROOM: usize = 512;
 
 /// Runs the words after the program's name on standard input, output and errors, the system's clock and the files of the

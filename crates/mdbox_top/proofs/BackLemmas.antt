@@ -3,7 +3,8 @@ use Rattle.std.specs.Prelude.{◌≡◌, ◌+◌, ◌++◌, ℕ, List, [], ◌�
 use Rattle.std.specs.Option.{option_map}
 use Rattle.std.proofs.Common.{zero, suc, refl, sym, ◌∙◌, ap, subst, inl, inr, append_assoc, append-nil}
 use Rattle.std.proofs.lemmas.Grind.{flat_map-append}
-use Rattle.disk_model.specs.Disk.{DiskState, Files, History, Between, EachImage, IfTold, IsIdle, IsImage, SameState}
+use Rattle.disk_model.specs.Disk.{DiskState, Faults, Files, History, Between, EachImage, IfTold, IsIdle, IsImage, SameState}
+use Rattle.disk_model.specs.FaultCounts.{NoFault, AnyFaultCounted}
 use Rattle.disk_model.proofs.MomentLemmas.{if_told-map, since-map, since-now, since-then}
 use Rattle.mdbox_base.specs.Numbers.{decimal_text}
 use Rattle.mdbox_base.specs.declared.entries.BoxEntry.{BoxEntry}
@@ -163,6 +164,9 @@ leaves_still old mid new l idle = if_told-map (λ first. EachImage (λ _ image. 
 
 pub whole_still : (old new : Option History) → IfTold old (λ first. IsStoreWhole (files_of first) → ⊥) → LeavesWhole old new
 whole_still old new lost = if_told-map (λ first. IsStoreWhole (files_of first) → ⊥) (λ first. IsStoreWhole (files_of first) → IsIdle old new) old (λ first no whole. absurd (no whole)) lost
+
+pub fault_after : (P : Type 0) (f mid g : Faults) → NoFault f mid → AnyFaultCounted P mid g → AnyFaultCounted P f g
+fault_after P f mid g none fault = subst (λ (x : Faults). AnyFaultCounted P x g) none fault
 
 -- ---- its end
 

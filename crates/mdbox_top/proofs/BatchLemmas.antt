@@ -83,8 +83,8 @@ bad_given lanes text (Err (script_error.Bad offset)) (inl e) = absurd (cc e)
 bad_given lanes text (Err (script_error.Bad offset)) (inr g) = g
 bad_given lanes text (Err script_error.NoMemory) g = tt
 
-pub script_refused : (lanes : ℕ) (text : List ℕ) (r : Result Script ScriptError) (offset : ℕ) → r ≡ Err (script_error.Bad offset) → length text ≤ 268435456 → (r ≡ Err script_error.NoMemory) ⊎ ScriptGives lanes text r → HasNoScript lanes (Some text) (outcome.InputRefused (refusal.Script offset))
-script_refused lanes text r offset is short g = (text, refl, (short, subst (IfBad lanes text) is (bad_given lanes text r g)))
+pub script_wrong : (lanes : ℕ) (text : List ℕ) (r : Result Script ScriptError) (offset : ℕ) → r ≡ Err (script_error.Bad offset) → (r ≡ Err script_error.NoMemory) ⊎ ScriptGives lanes text r → IsBadAt lanes text offset
+script_wrong lanes text r offset is g = subst (IfBad lanes text) is (bad_given lanes text r g)
 
 -- each request is of one of the lanes
 pub are_of_lanes : (lanes : ℕ) (requests : Requests) → AllByRecursion (FitsLanes lanes) requests → AreOfLanes lanes requests
@@ -322,10 +322,10 @@ batch_rests_as lanes left F G f g old new h (inr d) = inr (d.0, d.1, λ none. d.
 -- no input is both a script and refused
 not_both : (lanes : ℕ) (all : List ℕ) (script : Script) (why : InputRefusal) → lanes < 4294967296 → ReadsScript lanes all script → RefusesScript lanes all why → ⊥
 not_both lanes all script (refusal.TooLong limit) few r w = (let a = r.0 in let b = w.1 in omega (arith, a, b))
-not_both lanes all script (refusal.Script offset) few r w =
-    let gives : ScriptGives lanes all (Err (script_error.Bad offset)) = w.1 in
+not_both lanes all script (refusal.Script flaw) few r w =
+    let gives : ScriptGives lanes all (Err (script_error.Bad flaw.offset)) = w.1.bad in
     let read : ScriptGives lanes all (Ok script) = r.1 in
-    let same = answer_same lanes all (Ok script) (Err (script_error.Bad offset)) (omega (arith, few)) read gives in
+    let same = answer_same lanes all (Ok script) (Err (script_error.Bad flaw.offset)) (omega (arith, few)) read gives in
     cc same
 not_both lanes all script (refusal.File why) few r w = w
 not_both lanes all script (refusal.Log place) few r w = w

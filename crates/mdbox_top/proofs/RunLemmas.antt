@@ -48,116 +48,116 @@ use Rattle.mdbox_top.proofs.DeliverLemmas.{deliver_input, deliver_damage, delive
 use Rattle.mdbox_top.proofs.RequestLemmas.{request_status, request_used, request_input, request_damage, still_safe, unasked}
 
 -- a refused input whose text finds no memory
-input_memory : {D : Type 0} → (c : Command) (left : Option (List ℕ)) (told : Option ℕ) (h k : Option (List ℕ)) (old new : Option History) (f g : Faults) (why : InputRefusal) → Ends D c left told h k old new f g (outcome.InputRefused why) → Ends D c left told h k old new f g outcome.NoMemory
-input_memory command.Dump left told h k old new f g why e = inl e.1
-input_memory command.LogDump left told h k old new f g why e = inl e.1
-input_memory (command.Init id) left told h k old new f g why e = absurd e
-input_memory (command.Deliver name) left told h k old new f g why e = deliver_input name left told h k old new f g why e
-input_memory (command.List name) left told h k old new f g why e = absurd (request_input (IsListReply name) (request.List name) h k old new f g why e)
-input_memory (command.Fetch name uid) left told h k old new f g why e = absurd (request_input (IsFetchReply name uid) (request.Fetch name uid) h k old new f g why e)
-input_memory (command.Flag name uid flags) left told h k old new f g why e = absurd (request_input (IsFlagReply name uid flags) (request.Flag name uid flags) h k old new f g why e)
-input_memory (command.Expunge name uid) left told h k old new f g why e = absurd (request_input (IsExpungeReply name uid) (request.Expunge name uid) h k old new f g why e)
-input_memory (command.Copy name uid target) left told h k old new f g why e = absurd (request_input (IsCopyReply name uid target) (request.Copy name uid target) h k old new f g why e)
-input_memory (command.Move name uid target) left told h k old new f g why e = absurd (request_input (IsMoveReply name uid target) (request.Move name uid target) h k old new f g why e)
-input_memory (command.Make name) left told h k old new f g why e = absurd (request_input (IsMakeReply name) (request.Make name) h k old new f g why e)
-input_memory command.Boxes left told h k old new f g why e = absurd (boxes_input h k old new f g why e)
-input_memory command.Counts left told h k old new f g why e = absurd (request_input IsCountsReply request.Counts h k old new f g why e)
-input_memory command.Resync left told h k old new f g why e = absurd (request_input IsResyncReply request.Resync h k old new f g why e)
-input_memory command.Purge left told h k old new f g why e = absurd (request_input IsPurgeReply request.Purge h k old new f g why e)
-input_memory (command.Batch lanes) left told h k old new f g why e = batch_input lanes left h k old new f g why e
-input_memory (command.Exercise lanes count number) left told h k old new f g why e = absurd (exercise_input lanes count number h k old new f g why e)
-input_memory (command.Rebuild id) left told h k old new f g why e = absurd e
-input_memory command.Help left told h k old new f g why e = absurd e
-input_memory command.Version left told h k old new f g why e = absurd e
+input_memory : (D : Type 0) (c : Command) (left : Option (List ℕ)) (told : Option ℕ) (h k : Option (List ℕ)) (old new : Option History) (f g : Faults) (why : InputRefusal) → Ends D c left told h k old new f g (outcome.InputRefused why) → Ends D c left told h k old new f g outcome.NoMemory
+input_memory D command.Dump left told h k old new f g why e = inl e.1
+input_memory D command.LogDump left told h k old new f g why e = inl e.1
+input_memory D (command.Init id) left told h k old new f g why e = absurd e
+input_memory D (command.Deliver name) left told h k old new f g why e = deliver_input name left told h k old new f g why e
+input_memory D (command.List name) left told h k old new f g why e = absurd (request_input (IsListReply name) (request.List name) h k old new f g why e)
+input_memory D (command.Fetch name uid) left told h k old new f g why e = absurd (request_input (IsFetchReply name uid) (request.Fetch name uid) h k old new f g why e)
+input_memory D (command.Flag name uid flags) left told h k old new f g why e = absurd (request_input (IsFlagReply name uid flags) (request.Flag name uid flags) h k old new f g why e)
+input_memory D (command.Expunge name uid) left told h k old new f g why e = absurd (request_input (IsExpungeReply name uid) (request.Expunge name uid) h k old new f g why e)
+input_memory D (command.Copy name uid target) left told h k old new f g why e = absurd (request_input (IsCopyReply name uid target) (request.Copy name uid target) h k old new f g why e)
+input_memory D (command.Move name uid target) left told h k old new f g why e = absurd (request_input (IsMoveReply name uid target) (request.Move name uid target) h k old new f g why e)
+input_memory D (command.Make name) left told h k old new f g why e = absurd (request_input (IsMakeReply name) (request.Make name) h k old new f g why e)
+input_memory D command.Boxes left told h k old new f g why e = absurd (boxes_input h k old new f g why e)
+input_memory D command.Counts left told h k old new f g why e = absurd (request_input IsCountsReply request.Counts h k old new f g why e)
+input_memory D command.Resync left told h k old new f g why e = absurd (request_input IsResyncReply request.Resync h k old new f g why e)
+input_memory D command.Purge left told h k old new f g why e = absurd (request_input IsPurgeReply request.Purge h k old new f g why e)
+input_memory D (command.Batch lanes) left told h k old new f g why e = batch_input lanes left h k old new f g why e
+input_memory D (command.Exercise lanes count number) left told h k old new f g why e = absurd (exercise_input lanes count number h k old new f g why e)
+input_memory D (command.Rebuild id) left told h k old new f g why e = absurd e
+input_memory D command.Help left told h k old new f g why e = absurd e
+input_memory D command.Version left told h k old new f g why e = absurd e
 
 -- damage whose text finds no memory
-damage_memory : {D : Type 0} → (c : Command) (left : Option (List ℕ)) (told : Option ℕ) (h k : Option (List ℕ)) (old new : Option History) (f g : Faults) (name : FileName) (place : ℕ) → Ends D c left told h k old new f g (outcome.StoreRefused (store.Damaged name place)) → Ends D c left told h k old new f g outcome.NoMemory
-damage_memory (command.Init id) left told h k old new f g name place e = absurd e.1
-damage_memory (command.Deliver box) left told h k old new f g name place e = deliver_damage box left told h k old new f g (store.Damaged name place) e
-damage_memory (command.List box) left told h k old new f g name place e = request_damage (IsListReply box) (request.List box) h k old new f g (store.Damaged name place) e
-damage_memory (command.Fetch box uid) left told h k old new f g name place e = request_damage (IsFetchReply box uid) (request.Fetch box uid) h k old new f g (store.Damaged name place) e
-damage_memory (command.Flag box uid flags) left told h k old new f g name place e = request_damage (IsFlagReply box uid flags) (request.Flag box uid flags) h k old new f g (store.Damaged name place) e
-damage_memory (command.Expunge box uid) left told h k old new f g name place e = request_damage (IsExpungeReply box uid) (request.Expunge box uid) h k old new f g (store.Damaged name place) e
-damage_memory (command.Copy box uid target) left told h k old new f g name place e = request_damage (IsCopyReply box uid target) (request.Copy box uid target) h k old new f g (store.Damaged name place) e
-damage_memory (command.Move box uid target) left told h k old new f g name place e = request_damage (IsMoveReply box uid target) (request.Move box uid target) h k old new f g (store.Damaged name place) e
-damage_memory (command.Make box) left told h k old new f g name place e = request_damage (IsMakeReply box) (request.Make box) h k old new f g (store.Damaged name place) e
-damage_memory command.Boxes left told h k old new f g name place e = boxes_damage h k old new f g (store.Damaged name place) e
-damage_memory command.Counts left told h k old new f g name place e = request_damage IsCountsReply request.Counts h k old new f g (store.Damaged name place) e
-damage_memory command.Resync left told h k old new f g name place e = request_damage IsResyncReply request.Resync h k old new f g (store.Damaged name place) e
-damage_memory command.Purge left told h k old new f g name place e = request_damage IsPurgeReply request.Purge h k old new f g (store.Damaged name place) e
-damage_memory (command.Batch lanes) left told h k old new f g name place e = batch_damage lanes left h k old new f g (store.Damaged name place) e
-damage_memory (command.Exercise lanes count number) left told h k old new f g name place e = exercise_damage lanes count number h k old new f g (store.Damaged name place) e
-damage_memory (command.Rebuild id) left told h k old new f g name place e = absurd e
-damage_memory command.Dump left told h k old new f g name place e = absurd e
-damage_memory command.LogDump left told h k old new f g name place e = absurd e
-damage_memory command.Help left told h k old new f g name place e = absurd e
-damage_memory command.Version left told h k old new f g name place e = absurd e
+damage_memory : (D : Type 0) (c : Command) (left : Option (List ℕ)) (told : Option ℕ) (h k : Option (List ℕ)) (old new : Option History) (f g : Faults) (name : FileName) (place : ℕ) → Ends D c left told h k old new f g (outcome.StoreRefused (store.Damaged name place)) → Ends D c left told h k old new f g outcome.NoMemory
+damage_memory D (command.Init id) left told h k old new f g name place e = absurd e.1
+damage_memory D (command.Deliver box) left told h k old new f g name place e = deliver_damage box left told h k old new f g (store.Damaged name place) e
+damage_memory D (command.List box) left told h k old new f g name place e = request_damage (IsListReply box) (request.List box) h k old new f g (store.Damaged name place) e
+damage_memory D (command.Fetch box uid) left told h k old new f g name place e = request_damage (IsFetchReply box uid) (request.Fetch box uid) h k old new f g (store.Damaged name place) e
+damage_memory D (command.Flag box uid flags) left told h k old new f g name place e = request_damage (IsFlagReply box uid flags) (request.Flag box uid flags) h k old new f g (store.Damaged name place) e
+damage_memory D (command.Expunge box uid) left told h k old new f g name place e = request_damage (IsExpungeReply box uid) (request.Expunge box uid) h k old new f g (store.Damaged name place) e
+damage_memory D (command.Copy box uid target) left told h k old new f g name place e = request_damage (IsCopyReply box uid target) (request.Copy box uid target) h k old new f g (store.Damaged name place) e
+damage_memory D (command.Move box uid target) left told h k old new f g name place e = request_damage (IsMoveReply box uid target) (request.Move box uid target) h k old new f g (store.Damaged name place) e
+damage_memory D (command.Make box) left told h k old new f g name place e = request_damage (IsMakeReply box) (request.Make box) h k old new f g (store.Damaged name place) e
+damage_memory D command.Boxes left told h k old new f g name place e = boxes_damage h k old new f g (store.Damaged name place) e
+damage_memory D command.Counts left told h k old new f g name place e = request_damage IsCountsReply request.Counts h k old new f g (store.Damaged name place) e
+damage_memory D command.Resync left told h k old new f g name place e = request_damage IsResyncReply request.Resync h k old new f g (store.Damaged name place) e
+damage_memory D command.Purge left told h k old new f g name place e = request_damage IsPurgeReply request.Purge h k old new f g (store.Damaged name place) e
+damage_memory D (command.Batch lanes) left told h k old new f g name place e = batch_damage lanes left h k old new f g (store.Damaged name place) e
+damage_memory D (command.Exercise lanes count number) left told h k old new f g name place e = exercise_damage lanes count number h k old new f g (store.Damaged name place) e
+damage_memory D (command.Rebuild id) left told h k old new f g name place e = absurd e
+damage_memory D command.Dump left told h k old new f g name place e = absurd e
+damage_memory D command.LogDump left told h k old new f g name place e = absurd e
+damage_memory D command.Help left told h k old new f g name place e = absurd e
+damage_memory D command.Version left told h k old new f g name place e = absurd e
 
 -- the last end is one that the command may have
-pub last_ends : {D : Type 0} → (c : Command) (left : Option (List ℕ)) (told : Option ℕ) (h k : Option (List ℕ)) (old new : Option History) (f g : Faults) (o last : Outcome) → EndsAs o last → Ends D c left told h k old new f g o → Ends D c left told h k old new f g last
-last_ends {D} c left told h k old new f g (outcome.InputRefused why) last y e = elim y [
+pub last_ends : (D : Type 0) (c : Command) (left : Option (List ℕ)) (told : Option ℕ) (h k : Option (List ℕ)) (old new : Option History) (f g : Faults) (o last : Outcome) → EndsAs o last → Ends D c left told h k old new f g o → Ends D c left told h k old new f g last
+last_ends D c left told h k old new f g (outcome.InputRefused why) last y e = elim y [
   | inl same ↦ subst (Ends D c left told h k old new f g) (sym same) e
-  | inr none ↦ subst (Ends D c left told h k old new f g) (sym none) (input_memory c left told h k old new f g why e)
+  | inr none ↦ subst (Ends D c left told h k old new f g) (sym none) (input_memory D c left told h k old new f g why e)
 ]
-last_ends {D} c left told h k old new f g (outcome.StoreRefused (store.Damaged name place)) last y e = elim y [
+last_ends D c left told h k old new f g (outcome.StoreRefused (store.Damaged name place)) last y e = elim y [
   | inl same ↦ subst (Ends D c left told h k old new f g) (sym same) e
-  | inr none ↦ subst (Ends D c left told h k old new f g) (sym none) (damage_memory c left told h k old new f g name place e)
+  | inr none ↦ subst (Ends D c left told h k old new f g) (sym none) (damage_memory D c left told h k old new f g name place e)
 ]
-last_ends {D} c left told h k old new f g (outcome.StoreRefused store.NoStore) last y e = subst (Ends D c left told h k old new f g) (sym y) e
-last_ends {D} c left told h k old new f g (outcome.StoreRefused store.StoreWhole) last y e = subst (Ends D c left told h k old new f g) (sym y) e
-last_ends {D} c left told h k old new f g (outcome.StoreRefused store.MailFiles) last y e = subst (Ends D c left told h k old new f g) (sym y) e
-last_ends {D} c left told h k old new f g outcome.Done last y e = subst (Ends D c left told h k old new f g) (sym y) e
-last_ends {D} c left told h k old new f g outcome.No last y e = subst (Ends D c left told h k old new f g) (sym y) e
-last_ends {D} c left told h k old new f g outcome.Usage last y e = subst (Ends D c left told h k old new f g) (sym y) e
-last_ends {D} c left told h k old new f g outcome.NoMemory last y e = subst (Ends D c left told h k old new f g) (sym y) e
-last_ends {D} c left told h k old new f g outcome.DiskFault last y e = subst (Ends D c left told h k old new f g) (sym y) e
-last_ends {D} c left told h k old new f g outcome.ReadFault last y e = subst (Ends D c left told h k old new f g) (sym y) e
-last_ends {D} c left told h k old new f g outcome.WriteFault last y e = subst (Ends D c left told h k old new f g) (sym y) e
+last_ends D c left told h k old new f g (outcome.StoreRefused store.NoStore) last y e = subst (Ends D c left told h k old new f g) (sym y) e
+last_ends D c left told h k old new f g (outcome.StoreRefused store.StoreWhole) last y e = subst (Ends D c left told h k old new f g) (sym y) e
+last_ends D c left told h k old new f g (outcome.StoreRefused store.MailFiles) last y e = subst (Ends D c left told h k old new f g) (sym y) e
+last_ends D c left told h k old new f g outcome.Done last y e = subst (Ends D c left told h k old new f g) (sym y) e
+last_ends D c left told h k old new f g outcome.No last y e = subst (Ends D c left told h k old new f g) (sym y) e
+last_ends D c left told h k old new f g outcome.Usage last y e = subst (Ends D c left told h k old new f g) (sym y) e
+last_ends D c left told h k old new f g outcome.NoMemory last y e = subst (Ends D c left told h k old new f g) (sym y) e
+last_ends D c left told h k old new f g outcome.DiskFault last y e = subst (Ends D c left told h k old new f g) (sym y) e
+last_ends D c left told h k old new f g outcome.ReadFault last y e = subst (Ends D c left told h k old new f g) (sym y) e
+last_ends D c left told h k old new f g outcome.WriteFault last y e = subst (Ends D c left told h k old new f g) (sym y) e
 
-pub has_status : {D : Type 0} → (c : Command) → IsInRange c → (left : Option (List ℕ)) (told : Option ℕ) (h k : Option (List ℕ)) (old new : Option History) (f g : Faults) (o : Outcome) → Ends D c left told h k old new f g o → HasStatus c left old (status_of o)
-has_status (command.Init id) r left told h k old new f g o e = λ free. init_status id.0 h k old new o e free
-has_status (command.Deliver name) r left told h k old new f g o e = deliver_status name left told h k old new f g o e
-has_status (command.List name) r left told h k old new f g o e = λ lists s. request_status (IsListReply name) (request.List name) h k old new f g o e lists s
-has_status (command.Fetch name uid) r left told h k old new f g o e = λ lists s. request_status (IsFetchReply name uid) (request.Fetch name uid) h k old new f g o e lists s
-has_status (command.Flag name uid flags) r left told h k old new f g o e = λ lists s. request_status (IsFlagReply name uid flags) (request.Flag name uid flags) h k old new f g o e lists s
-has_status (command.Expunge name uid) r left told h k old new f g o e = λ lists s. request_status (IsExpungeReply name uid) (request.Expunge name uid) h k old new f g o e lists s
-has_status (command.Copy name uid target) r left told h k old new f g o e = λ lists s. request_status (IsCopyReply name uid target) (request.Copy name uid target) h k old new f g o e lists s
-has_status (command.Move name uid target) r left told h k old new f g o e = λ lists s. request_status (IsMoveReply name uid target) (request.Move name uid target) h k old new f g o e lists s
-has_status (command.Make name) r left told h k old new f g o e = λ lists s. request_status (IsMakeReply name) (request.Make name) h k old new f g o e lists s
-has_status command.Boxes r left told h k old new f g o e = λ lists s. boxes_status h k old new f g o e lists s
-has_status command.Counts r left told h k old new f g o e = λ lists s. counts_status h k old new f g o e lists s
-has_status command.Resync r left told h k old new f g o e = λ lists s. resync_status h k old new f g o e lists s
-has_status command.Purge r left told h k old new f g o e = λ lists s. request_status IsPurgeReply request.Purge h k old new f g o e lists s
-has_status (command.Batch lanes) r left told h k old new f g o e = batch_status lanes left h k old new f g o (omega (arith, r.1)) e
-has_status (command.Exercise lanes count number) r left told h k old new f g o e = λ lists s. exercise_status lanes count number h k old new f g o e lists s
-has_status (command.Rebuild id) r left told h k old new f g o e = rebuild_status id.0 h k old new o e
-has_status command.Dump r left told h k old new f g o e = input_status DumpPrints DumpRefuses left h k o dumps_apart e
-has_status command.LogDump r left told h k old new f g o e = input_status LogDumpPrints LogDumpRefuses left h k o log_dumps_apart e
-has_status command.Help r left told h k old new f g o e = shows_status _ h k o e
-has_status command.Version r left told h k old new f g o e = shows_status _ h k o e
+pub has_status : (D : Type 0) (c : Command) → IsInRange c → (left : Option (List ℕ)) (told : Option ℕ) (h k : Option (List ℕ)) (old new : Option History) (f g : Faults) (o : Outcome) → Ends D c left told h k old new f g o → HasStatus c left old (status_of o)
+has_status D (command.Init id) r left told h k old new f g o e = λ free. init_status id.0 h k old new o e free
+has_status D (command.Deliver name) r left told h k old new f g o e = deliver_status name left told h k old new f g o e
+has_status D (command.List name) r left told h k old new f g o e = λ lists s. request_status (IsListReply name) (request.List name) h k old new f g o e lists s
+has_status D (command.Fetch name uid) r left told h k old new f g o e = λ lists s. request_status (IsFetchReply name uid) (request.Fetch name uid) h k old new f g o e lists s
+has_status D (command.Flag name uid flags) r left told h k old new f g o e = λ lists s. request_status (IsFlagReply name uid flags) (request.Flag name uid flags) h k old new f g o e lists s
+has_status D (command.Expunge name uid) r left told h k old new f g o e = λ lists s. request_status (IsExpungeReply name uid) (request.Expunge name uid) h k old new f g o e lists s
+has_status D (command.Copy name uid target) r left told h k old new f g o e = λ lists s. request_status (IsCopyReply name uid target) (request.Copy name uid target) h k old new f g o e lists s
+has_status D (command.Move name uid target) r left told h k old new f g o e = λ lists s. request_status (IsMoveReply name uid target) (request.Move name uid target) h k old new f g o e lists s
+has_status D (command.Make name) r left told h k old new f g o e = λ lists s. request_status (IsMakeReply name) (request.Make name) h k old new f g o e lists s
+has_status D command.Boxes r left told h k old new f g o e = λ lists s. boxes_status h k old new f g o e lists s
+has_status D command.Counts r left told h k old new f g o e = λ lists s. counts_status h k old new f g o e lists s
+has_status D command.Resync r left told h k old new f g o e = λ lists s. resync_status h k old new f g o e lists s
+has_status D command.Purge r left told h k old new f g o e = λ lists s. request_status IsPurgeReply request.Purge h k old new f g o e lists s
+has_status D (command.Batch lanes) r left told h k old new f g o e = batch_status lanes left h k old new f g o (omega (arith, r.1)) e
+has_status D (command.Exercise lanes count number) r left told h k old new f g o e = λ lists s. exercise_status lanes count number h k old new f g o e lists s
+has_status D (command.Rebuild id) r left told h k old new f g o e = rebuild_status id.0 h k old new o e
+has_status D command.Dump r left told h k old new f g o e = input_status DumpPrints DumpRefuses left h k o dumps_apart e
+has_status D command.LogDump r left told h k old new f g o e = input_status LogDumpPrints LogDumpRefuses left h k o log_dumps_apart e
+has_status D command.Help r left told h k old new f g o e = shows_status _ h k o e
+has_status D command.Version r left told h k old new f g o e = shows_status _ h k o e
 
 -- no command ends as unknown words
-used : {D : Type 0} → (c : Command) (left : Option (List ℕ)) (told : Option ℕ) (h k : Option (List ℕ)) (old new : Option History) (f g : Faults) → Ends D c left told h k old new f g outcome.Usage → ⊥
-used (command.Init id) left told h k old new f g e = e
-used (command.Deliver name) left told h k old new f g e = deliver_used name left told h k old new f g e
-used (command.List name) left told h k old new f g e = request_used (IsListReply name) (request.List name) h k old new f g e
-used (command.Fetch name uid) left told h k old new f g e = request_used (IsFetchReply name uid) (request.Fetch name uid) h k old new f g e
-used (command.Flag name uid flags) left told h k old new f g e = request_used (IsFlagReply name uid flags) (request.Flag name uid flags) h k old new f g e
-used (command.Expunge name uid) left told h k old new f g e = request_used (IsExpungeReply name uid) (request.Expunge name uid) h k old new f g e
-used (command.Copy name uid target) left told h k old new f g e = request_used (IsCopyReply name uid target) (request.Copy name uid target) h k old new f g e
-used (command.Move name uid target) left told h k old new f g e = request_used (IsMoveReply name uid target) (request.Move name uid target) h k old new f g e
-used (command.Make name) left told h k old new f g e = request_used (IsMakeReply name) (request.Make name) h k old new f g e
-used command.Boxes left told h k old new f g e = boxes_used h k old new f g e
-used command.Counts left told h k old new f g e = request_used IsCountsReply request.Counts h k old new f g e
-used command.Resync left told h k old new f g e = request_used IsResyncReply request.Resync h k old new f g e
-used command.Purge left told h k old new f g e = request_used IsPurgeReply request.Purge h k old new f g e
-used (command.Batch lanes) left told h k old new f g e = batch_used lanes left h k old new f g e
-used (command.Exercise lanes count number) left told h k old new f g e = exercise_used lanes count number h k old new f g e
-used (command.Rebuild id) left told h k old new f g e = e
-used command.Dump left told h k old new f g e = e
-used command.LogDump left told h k old new f g e = e
-used command.Help left told h k old new f g e = e
-used command.Version left told h k old new f g e = e
+used : (D : Type 0) (c : Command) (left : Option (List ℕ)) (told : Option ℕ) (h k : Option (List ℕ)) (old new : Option History) (f g : Faults) → Ends D c left told h k old new f g outcome.Usage → ⊥
+used D (command.Init id) left told h k old new f g e = e
+used D (command.Deliver name) left told h k old new f g e = deliver_used name left told h k old new f g e
+used D (command.List name) left told h k old new f g e = request_used (IsListReply name) (request.List name) h k old new f g e
+used D (command.Fetch name uid) left told h k old new f g e = request_used (IsFetchReply name uid) (request.Fetch name uid) h k old new f g e
+used D (command.Flag name uid flags) left told h k old new f g e = request_used (IsFlagReply name uid flags) (request.Flag name uid flags) h k old new f g e
+used D (command.Expunge name uid) left told h k old new f g e = request_used (IsExpungeReply name uid) (request.Expunge name uid) h k old new f g e
+used D (command.Copy name uid target) left told h k old new f g e = request_used (IsCopyReply name uid target) (request.Copy name uid target) h k old new f g e
+used D (command.Move name uid target) left told h k old new f g e = request_used (IsMoveReply name uid target) (request.Move name uid target) h k old new f g e
+used D (command.Make name) left told h k old new f g e = request_used (IsMakeReply name) (request.Make name) h k old new f g e
+used D command.Boxes left told h k old new f g e = boxes_used h k old new f g e
+used D command.Counts left told h k old new f g e = request_used IsCountsReply request.Counts h k old new f g e
+used D command.Resync left told h k old new f g e = request_used IsResyncReply request.Resync h k old new f g e
+used D command.Purge left told h k old new f g e = request_used IsPurgeReply request.Purge h k old new f g e
+used D (command.Batch lanes) left told h k old new f g e = batch_used lanes left h k old new f g e
+used D (command.Exercise lanes count number) left told h k old new f g e = exercise_used lanes count number h k old new f g e
+used D (command.Rebuild id) left told h k old new f g e = e
+used D command.Dump left told h k old new f g e = e
+used D command.LogDump left told h k old new f g e = e
+used D command.Help left told h k old new f g e = e
+used D command.Version left told h k old new f g e = e
 
 -- what a status says of the end
 two : (o : Outcome) → status_of o ≡ 2 → o ≡ outcome.Usage
@@ -251,8 +251,8 @@ unwritten o last n y s e =
     elim (kept o last y) [ inl same ↦ sym same ∙ l | inr none ↦ absurd (cc (sym none ∙ l)) ]
 
 -- a run of a command doesn't end with status 2
-pub known_words : {D : Type 0} → (c : Command) (left : Option (List ℕ)) (told : Option ℕ) (h k : Option (List ℕ)) (old new : Option History) (f g : Faults) (n : ℕ) (MayNote : Outcome → Option (List ℕ) → ℕ → Option (List ℕ) → ℕ → Type 0) (eh : Option (List ℕ)) (ef : ℕ) (ek : Option (List ℕ)) (eg : ℕ) → RunOutcome (Ends D c left told h k old new f g) MayNote n eh ef ek eg → n ≡ 2 → ⊥
-known_words {D} c left told h k old new f g n MayNote eh ef ek eg r e = used c left told h k old new f g (subst (Ends D c left told h k old new f g) (two r.outcome (sym r.status_is ∙ e)) r.ended)
+pub known_words : (D : Type 0) (c : Command) (left : Option (List ℕ)) (told : Option ℕ) (h k : Option (List ℕ)) (old new : Option History) (f g : Faults) (n : ℕ) (MayNote : Outcome → Option (List ℕ) → ℕ → Option (List ℕ) → ℕ → Type 0) (eh : Option (List ℕ)) (ef : ℕ) (ek : Option (List ℕ)) (eg : ℕ) → RunOutcome (Ends D c left told h k old new f g) MayNote n eh ef ek eg → n ≡ 2 → ⊥
+known_words D c left told h k old new f g n MayNote eh ef ek eg r e = used D c left told h k old new f g (subst (Ends D c left told h k old new f g) (two r.outcome (sym r.status_is ∙ e)) r.ended)
 
 -- ---- what is noted before the end
 
@@ -329,16 +329,16 @@ rests_last other left told F G f g old new h r = tt
 
 -- ---- words that name a mailbox, whose name finds no memory
 
-pub named_unasked : {D : Type 0} → (c : Command) → NamesMailbox c → (left : Option (List ℕ)) (told : Option ℕ) (h : Option (List ℕ)) (old : Option History) (f : Faults) → Ends D c left told h h old old f f outcome.NoMemory
-named_unasked (command.Deliver name) named left told h old f = inl (tt, refl, refl, refl)
-named_unasked (command.List name) named left told h old f = unasked (IsListReply name) (request.List name) h old f
-named_unasked (command.Fetch name uid) named left told h old f = unasked (IsFetchReply name uid) (request.Fetch name uid) h old f
-named_unasked (command.Flag name uid flags) named left told h old f = unasked (IsFlagReply name uid flags) (request.Flag name uid flags) h old f
-named_unasked (command.Expunge name uid) named left told h old f = unasked (IsExpungeReply name uid) (request.Expunge name uid) h old f
-named_unasked (command.Copy name uid target) named left told h old f = unasked (IsCopyReply name uid target) (request.Copy name uid target) h old f
-named_unasked (command.Move name uid target) named left told h old f = unasked (IsMoveReply name uid target) (request.Move name uid target) h old f
-named_unasked (command.Make name) named left told h old f = unasked (IsMakeReply name) (request.Make name) h old f
-named_unasked other named left told h old f = absurd named
+pub named_unasked : (D : Type 0) (c : Command) → NamesMailbox c → (left : Option (List ℕ)) (told : Option ℕ) (h : Option (List ℕ)) (old : Option History) (f : Faults) → Ends D c left told h h old old f f outcome.NoMemory
+named_unasked D (command.Deliver name) named left told h old f = inl (tt, refl, refl, refl)
+named_unasked D (command.List name) named left told h old f = unasked (IsListReply name) (request.List name) h old f
+named_unasked D (command.Fetch name uid) named left told h old f = unasked (IsFetchReply name uid) (request.Fetch name uid) h old f
+named_unasked D (command.Flag name uid flags) named left told h old f = unasked (IsFlagReply name uid flags) (request.Flag name uid flags) h old f
+named_unasked D (command.Expunge name uid) named left told h old f = unasked (IsExpungeReply name uid) (request.Expunge name uid) h old f
+named_unasked D (command.Copy name uid target) named left told h old f = unasked (IsCopyReply name uid target) (request.Copy name uid target) h old f
+named_unasked D (command.Move name uid target) named left told h old f = unasked (IsMoveReply name uid target) (request.Move name uid target) h old f
+named_unasked D (command.Make name) named left told h old f = unasked (IsMakeReply name) (request.Make name) h old f
+named_unasked D other named left told h old f = absurd named
 
 -- a listing of which no call is made
 still_moments : (h : Option History) → ListMoments h h

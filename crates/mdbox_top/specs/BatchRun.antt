@@ -21,7 +21,8 @@ use Rattle.request_text.specs.declared.outcome.Outcome.TheVariants as outcome
 use Rattle.script_run.specs.Done.{IsScriptDone, MayBeServed}
 use Rattle.script_run.specs.Script.{ServesScript}
 use Rattle.script_run.specs.Worked.{IsWorkedOut}
-use Rattle.script_text.specs.Script.{IsScript, IsBadAt}
+use Rattle.script_text.specs.Flaws.{IsFlawOf}
+use Rattle.script_text.specs.Script.{IsScript}
 use Rattle.mdbox_top.specs.InputRun.{OfInput, IsOneOf}
 use Rattle.mdbox_top.specs.Served.{IsNotOpened}
 
@@ -31,10 +32,10 @@ use Rattle.mdbox_top.specs.Served.{IsNotOpened}
 abbrev pub ReadsScript : ℕ → List ℕ → Script → Type 0
 ReadsScript lanes input script = (length input ≤ 268435456) × IsScript lanes input script
 
--- `batch` refuses this input: it is longer than 256 MiB, or goes wrong at this offset.
+-- `batch` refuses this input: it is longer than 256 MiB, or goes wrong so.
 abbrev pub RefusesScript : ℕ → List ℕ → InputRefusal → Type 0
 RefusesScript lanes input (refusal.TooLong limit) = (limit ≡ 268435456) × (268435456 < length input)
-RefusesScript lanes input (refusal.Script offset) = (length input ≤ 268435456) × IsBadAt lanes input offset
+RefusesScript lanes input (refusal.Script flaw) = (length input ≤ 268435456) × IsFlawOf lanes input flaw
 RefusesScript lanes input (refusal.File why) = ⊥
 RefusesScript lanes input (refusal.Log place) = ⊥
 

@@ -48,7 +48,7 @@ abbrev pub DumpRefuses : List ℕ → InputRefusal → Type 0
 DumpRefuses input (refusal.TooLong limit) = (limit ≡ 268435456) × (268435456 < length input)
 DumpRefuses input (refusal.File why) = (length input ≤ 268435456) × IsRefused input (scan_error why)
 DumpRefuses input (refusal.Log place) = ⊥
-DumpRefuses input (refusal.Script place) = ⊥
+DumpRefuses input (refusal.Script flaw) = ⊥
 
 -- `logdump` prints this text of this input, a log of at most 256 MiB.
 abbrev pub LogDumpPrints : List ℕ → List ℕ → Type 0
@@ -59,7 +59,7 @@ abbrev pub LogDumpRefuses : List ℕ → InputRefusal → Type 0
 LogDumpRefuses input (refusal.TooLong limit) = (limit ≡ 268435456) × (268435456 < length input)
 LogDumpRefuses input (refusal.Log place) = (length input ≤ 268435456) × IsDamagedAt None input place
 LogDumpRefuses input (refusal.File why) = ⊥
-LogDumpRefuses input (refusal.Script place) = ⊥
+LogDumpRefuses input (refusal.Script flaw) = ⊥
 
 -- If the source is modelled, what was left is this input, of which the fact holds.
 abbrev pub OfInput : Option (List ℕ) → (List ℕ → Type 0) → Type 0

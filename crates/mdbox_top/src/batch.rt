@@ -8,7 +8,7 @@ ghost use Rattle.request_text.specs.Outcomes.{status_of};
 ghost use Rattle.request_text.specs.declared.outcome.InputRefusal.{InputRefusal};
 ghost use Rattle.request_text.specs.declared.outcome.Outcome.TheVariants as outcome;
 ghost use Rattle.script_run.specs.Done.{MayBeServed};
-ghost use Rattle.script_text.specs.Script.{IsForLanes};
+ghost use Rattle.script_text.specs.Script.{IsBadAt, IsForLanes};
 ghost use Rattle.mdbox_top.specs.BatchRun.{BatchOutcome, BatchMoments, BatchRests, HasNoScript, ReadsScript, ScriptOutcome, ScriptMoments, ScriptRests, ShowsReplies, TellsScriptFaults};
 ghost use Rattle.mdbox_top.specs.InputRun.{OfInput, IsOneOf};
 
@@ -21,7 +21,7 @@ use mdbox_threads::Preparer;
 use piece_writer::PrintError;
 use request_text::{InputRefusal, Outcome, outcome_of_replies, print_batch};
 use script_run::{ScriptRun, run_script};
-use script_text::{ScriptError, read_script};
+use script_text::{ScriptError, flaw_at, read_script};
 use std::alloc::Global;
 use store_open::OpenRefused;
 
@@ -95,8 +95,21 @@ fn script_of(alloc: Global, text: Octets, lanes: u32) -> Result<Script, Outcome>
 {
     match read_script(alloc, text.as_slice(), lanes) {
         Ok(script) => Ok(script),
-        Err(ScriptError::Bad(offset)) => Err(Outcome::InputRefused(InputRefusal::Script(offset))),
+        Err(ScriptError::Bad(offset)) => Err(refused_at(alloc, &text, lanes, offset)),
         Err(ScriptError::NoMemory) => Err(Outcome::NoMemory),
+    }
+}
+
+/// The end of a run whose input goes wrong as a script at this offset.
+fn refused_at(alloc: Global, text: &Octets, lanes: u32, offset: u64) -> Outcome
+    requires short { length text.now ≤ 268435456 }
+    requires bad { IsBadAt lanes text.now offset }
+    ensures none { HasNoScript lanes (Some text.now) result }
+    ensures read { result ≢ outcome.ReadFault }
+{
+    match flaw_at(alloc, text.as_slice(), lanes, offset) {
+        Ok(flaw) => Outcome::InputRefused(InputRefusal::Script(flaw)),
+        Err(NoMemory) => Outcome::NoMemory,
     }
 }
 

@@ -6,6 +6,8 @@ use Rattle.mdbox_base.specs.declared.replies.Refusal.TheVariants as refused
 use Rattle.mdbox_base.specs.declared.replies.Reply.{Reply}
 use Rattle.mdbox_base.specs.declared.replies.Reply.TheVariants as reply
 use Rattle.file_paths.specs.Paths.{path_text}
+use Rattle.script_text.specs.declared.flaw.Need.{Need}
+use Rattle.script_text.specs.declared.flaw.Need.TheVariants as need
 use Rattle.request_text.specs.declared.outcome.FileRefusal.TheVariants as file
 use Rattle.request_text.specs.declared.outcome.InputRefusal.{InputRefusal}
 use Rattle.request_text.specs.declared.outcome.InputRefusal.TheVariants as input
@@ -61,7 +63,20 @@ reason_text (input.File (file.HeaderSize size)) = codes "HeaderSize " ++ decimal
 reason_text (input.File (file.Truncated offset)) = codes "Truncated " ++ decimal_text offset
 reason_text (input.File (file.BadMessage offset)) = codes "BadMessage " ++ decimal_text offset
 reason_text (input.Log place) = codes "LogDamaged " ++ decimal_text place
-reason_text (input.Script place) = codes "Script " ++ decimal_text place
+reason_text (input.Script flaw) = codes "Script " ++ decimal_text flaw.offset
+
+-- what is missing of a request
+abbrev pub need_text : Need → List ℕ
+need_text need.Lane = codes "it doesn't begin with a lane from 1 to LANES and a space"
+need_text need.Verb = codes "no verb after the lane: deliver, list, fetch, flag, copy, move, expunge, make, counts, purge or resync"
+need_text need.Words = codes "not the words that the verb wants: a space before each, a name as LENGTH:NAME, no leading zero, a line feed at the end"
+need_text need.Message = codes "after this line not as many octets as it says, and a line feed"
+need_text need.Fewer = codes "this is request 100001, and a script has at most 100000"
+
+-- a further line: where a script goes wrong
+abbrev pub further_text : InputRefusal → List ℕ
+further_text (input.Script flaw) = codes "line " ++ (decimal_text flaw.line ++ (codes ": " ++ (need_text flaw.need ++ 10 ∷ [])))
+further_text other = []
 
 -- why a store was not made or opened
 abbrev pub store_text : StoreRefusal → List ℕ
@@ -80,7 +95,7 @@ error_text outcome.Done = []
 error_text outcome.No = []
 error_text outcome.Usage = said (codes "usage")
 error_text (outcome.StoreRefused why) = said (store_text why)
-error_text (outcome.InputRefused why) = said (codes "input refused " ++ reason_text why)
+error_text (outcome.InputRefused why) = said (codes "input refused " ++ reason_text why) ++ further_text why
 error_text outcome.NoMemory = said (codes "memory")
 error_text outcome.DiskFault = said (codes "disk fault")
 error_text outcome.ReadFault = said (codes "read fault")

@@ -1,8 +1,8 @@
 // Telling how a run ended.
-ghost use Rattle.std.specs.Prelude.{◌≡◌, ◌≤◌, ◌++◌, codes, IfOk};
+ghost use Rattle.std.specs.Prelude.{◌≡◌, ◌≤◌, ◌++◌, codes, IfOk, OnOk};
 ghost use Rattle.mdbox_base.specs.Numbers.{decimal_text};
 ghost use Rattle.piece_writer.specs.Pieces.{WritesOrFaults};
-ghost use Rattle.request_text.specs.Outcomes.{status_of, reason_text, store_text, said, error_text, EndsAs};
+ghost use Rattle.request_text.specs.Outcomes.{status_of, reason_text, further_text, need_text, store_text, said, error_text, EndsAs};
 ghost use Rattle.request_text.specs.declared.outcome.Outcome.{Outcome};
 ghost use Rattle.request_text.specs.declared.outcome.StoreRefusal.TheVariants as store;
 
@@ -12,6 +12,7 @@ use disk_model::FileName;
 use file_paths::path_of;
 use mdbox_base::{NoMemory, Octets, Sink, push_decimal};
 use piece_writer::write_text;
+use script_text::Need;
 use std::alloc::Global;
 
 /// Tells the errors' sink how the run ended, and answers the exit status.
@@ -65,9 +66,9 @@ fn tell<E: Sink>(errors: &mut E, text: &[u8], status: u8) -> Status
     Status(status)
 }
 
-/// The line that tells why the input is refused.
+/// The line that tells why the input is refused, and of a script another, that tells where.
 fn input_text(alloc: Global, why: InputRefusal) -> Result<Octets, NoMemory>
-    ensures { IfOk result (λ text. text ≡ said (codes "input refused " ++ reason_text why)) }
+    ensures { IfOk result (λ text. text ≡ said (codes "input refused " ++ reason_text why) ++ further_text why) }
 {
     let (reason, number) = reason_of(why);
     let mut text = Octets::empty(alloc);
@@ -75,7 +76,39 @@ fn input_text(alloc: Global, why: InputRefusal) -> Result<Octets, NoMemory>
     text.push_all(reason)?;
     push_decimal(&mut text, number)?;
     text.push_all(b"\n")?;
+    push_further(&mut text, why)?;
     Ok(text)
+}
+
+/// Appends the line that tells where a script goes wrong.
+fn push_further(text: &mut Octets, why: InputRefusal) -> Result<(), NoMemory>
+    ensures { OnOk result (text.new ≡ text.old ++ further_text why) }
+{
+    if let InputRefusal::Script(flaw) = why {
+        text.push_all(b"line ")?;
+        push_decimal(text, flaw.line)?;
+        text.push_all(b": ")?;
+        text.push_all(need_of(flaw.need))?;
+        text.push_all(b"\n")?;
+    }
+    Ok(())
+}
+
+/// What is missing of a request of a script.
+fn need_of(need: Need) -> &'static [u8]
+    ensures { result.now ≡ need_text need }
+{
+    match need {
+        Need::Lane => b"it doesn't begin with a lane from 1 to LANES and a space",
+        Need::Verb => {
+            b"no verb after the lane: deliver, list, fetch, flag, copy, move, expunge, make, counts, purge or resync"
+        }
+        Need::Words => {
+            b"not the words that the verb wants: a space before each, a name as LENGTH:NAME, no leading zero, a line feed at the end"
+        }
+        Need::Message => b"after this line not as many octets as it says, and a line feed",
+        Need::Fewer => b"this is request 100001, and a script has at most 100000",
+    }
 }
 
 /// The word of a refusal, and its number.
@@ -89,7 +122,7 @@ fn reason_of(why: InputRefusal) -> (&'static [u8], u64)
         InputRefusal::File(FileRefusal::Truncated(offset)) => (b"Truncated ", offset),
         InputRefusal::File(FileRefusal::BadMessage(offset)) => (b"BadMessage ", offset),
         InputRefusal::Log(place) => (b"LogDamaged ", place),
-        InputRefusal::Script(place) => (b"Script ", place),
+        InputRefusal::Script(flaw) => (b"Script ", flaw.offset),
     }
 }
 

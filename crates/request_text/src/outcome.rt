@@ -5,6 +5,7 @@ ghost use Rattle.request_text.specs.Outcomes.{reply_outcome, replies_outcome, is
 
 use disk_model::FileName;
 use mdbox_base::{Refusal, Reply};
+use script_text::ScriptFlaw;
 
 /// Why octets are no storage file. Offsets are those of the first place where no whole message stands.
 #[derive(Clone, Copy, Debug, PartialEq, Eq)]
@@ -28,8 +29,8 @@ pub enum InputRefusal {
     File(FileRefusal),
     /// It is no log: it is damaged at this place.
     Log(u64),
-    /// It is no script: no request stands at this offset, or one too many.
-    Script(u64),
+    /// It is no script: here no request stands, or one too many.
+    Script(ScriptFlaw),
 }
 
 /// Why the files let no store be made or opened.

@@ -443,7 +443,7 @@ sealed_run script old mid new first last s world ended r may =
     let start = start_of script old mid s r.opened r.show may in
     let fresh = world_finished start.0 script run [] no_broken from mid first world (r.begins start.0 start.1 start.2) in
     let last_kept = stays_over (HasKeptSealed start.0 script s.map mid) (sealed_on start.0 script s.map mid) 0 r.turns (as_finished world) ended mid new first last r.chain
-        (sealed_first start.0 script run no_broken from s.map mid (as_finished world) first fresh (ap (λ (v : StoreValue _). v.map) r.store_is)) in
+    (sealed_first start.0 script run no_broken from s.map mid (as_finished world) first fresh (ap (λ (v : StoreValue _). v.map) r.store_is)) in
     keeps_sealed old mid new s.map (indexes_of s.boxes) r.opened.opened r.opened.reads r.opened.stays last_kept.kept
 
 done_run : {D : Type 0} → (script : Requests) (old mid new : Option History) (first last : Faults) (s : StoreValue D) (world ended : WorldValue D) → ScriptRan script old mid new first last s world ended → (given : List Reply) → ended.replies ≡ map Some given → IsScriptDone script given ended.journal old new first last

@@ -1,5 +1,6 @@
 pub mod AskedLemmas
 pub mod CutLemmas
+pub mod FlawLemmas
 pub mod MadeLemmas
 pub mod RequestLemmas
 pub mod ScriptLemmas

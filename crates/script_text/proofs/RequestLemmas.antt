@@ -32,7 +32,7 @@ name_number_clear name n p q = spaced_clear (name_word name) (decimal_text n) (n
 name_and_clear : (name : List ℕ) (n : ℕ) (rest : List ℕ) → IsName name → n < 2 ^ 64 → IsTrue (list_all (is_other_than 10) rest) → IsTrue (list_all (is_other_than 10) (name_word name ++ 32 ∷ (decimal_text n ++ 32 ∷ rest)))
 name_and_clear name n rest p q h = spaced_clear (name_word name) (decimal_text n ++ 32 ∷ rest) (name_clear name p) (spaced_clear (decimal_text n) rest (number_word n q) h)
 
-words_clear : (asked : Request) → FitsScript asked → IsTrue (list_all (is_other_than 10) (spaced (request_words asked)))
+pub words_clear : (asked : Request) → FitsScript asked → IsTrue (list_all (is_other_than 10) (spaced (request_words asked)))
 words_clear (request.Deliver name time message) p = name_and_clear name time (decimal_text (length message)) p.0 p.1 (number_word (length message) (omega (arith, p.2)))
 words_clear (request.List name) p = name_clear name p
 words_clear (request.Fetch name uid) p = name_number_clear name uid.0 p.0 (small_uid uid.0 p.1)

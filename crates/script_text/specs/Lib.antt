@@ -1,3 +1,4 @@
+pub mod Flaws
 pub mod MadeScript
 pub mod Reading
 pub mod Script

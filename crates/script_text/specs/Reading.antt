@@ -1,8 +1,13 @@
 -- What is found of a request in the words of a line and what follows the line.
-use Rattle.std.specs.Prelude.{◌≡◌, ℕ, List, [], ◌∷◌, ◌++◌, codes}
+use Rattle.std.specs.Prelude.{◌≡◌, ◌≤◌, ◌<◌, ◌^◌, ℕ, List, [], ◌∷◌, ◌++◌, codes}
+use Rattle.mdbox_base.specs.Numbers.{decimal_text}
+use Rattle.mdbox_base.specs.Words.{IsName}
 use Rattle.mdbox_base.specs.declared.requests.Request.{Request}
 use Rattle.mdbox_base.specs.declared.requests.Request.TheVariants as request
-use Rattle.script_text.specs.Script.{FitsScript, request_words, spaced, message_text}
+use Rattle.script_text.specs.Flaws.{verb_word}
+use Rattle.script_text.specs.Script.{FitsScript, name_word, request_words, spaced, message_text}
+use Rattle.script_text.specs.declared.flaw.Need.{Need}
+use Rattle.script_text.specs.declared.flaw.Need.TheVariants as need
 use Rattle.script_text.specs.declared.verb.Verb.{Verb}
 use Rattle.script_text.specs.declared.verb.Verb.TheVariants as verb
 
@@ -32,3 +37,23 @@ verb_text verb.Copy = codes "copy"
 verb_text verb.Move = codes "move"
 verb_text verb.Expunge = codes "expunge"
 verb_text verb.Make = codes "make"
+
+-- a request has the verb in front of the text
+abbrev pub BeginsVerb : List ℕ → Type 0
+BeginsVerb text = (asked : Request) × (after : List ℕ) × FitsScript asked × (text ≡ verb_word asked ++ after)
+
+-- the words of a delivery, without the lane
+pub record AreDelivery (words : List ℕ) : Type 0 where
+  pub name : List ℕ
+  pub time : ℕ
+  pub size : ℕ
+  pub name_fits : IsName name
+  pub time_fits : time < 2 ^ 64
+  pub size_fits : size ≤ 67108864
+  pub words_are : words ≡ codes "deliver" ++ 32 ∷ spaced (name_word name ∷ decimal_text time ∷ decimal_text size ∷ [])
+
+-- of words that with what follows their line are no request: those of a delivery lack their message, others are wrong
+abbrev pub IsWordsOrMessage : List ℕ → Need → Type 0
+IsWordsOrMessage words need.Message = AreDelivery words
+IsWordsOrMessage words need.Words = AreDelivery words → ⊥
+IsWordsOrMessage words other = ⊥

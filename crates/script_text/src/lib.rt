@@ -3,6 +3,7 @@
 
 pub use error::ScriptError;
 pub use exercise::exercise_script;
+pub use flaw::{Need, ScriptFlaw, flaw_at};
 pub use laws::{
     a_text_is_one_script, made_scripts_fit, scripts_keep_mailboxes, written_scripts_are_read,
 };
@@ -13,6 +14,7 @@ mod arguments;
 mod cut;
 mod error;
 mod exercise;
+mod flaw;
 mod laws;
 mod read;
 mod request;

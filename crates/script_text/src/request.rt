@@ -14,7 +14,7 @@ use mdbox_base::{Octets, Request, read_decimal};
 use std::alloc::Global;
 
 /// How many octets a message has at most.
-const MOST_OCTETS: u64 = 67_108_864;
+pub const MOST_OCTETS: u64 = 67_108_864;
 
 /// The request in front of a text, with its lane, and what follows it.
 pub fn request_at(alloc: Global, text: &[u8], lanes: u32) -> Result<((u32, Request), &[u8]), Flaw>
@@ -32,7 +32,7 @@ pub fn request_at(alloc: Global, text: &[u8], lanes: u32) -> Result<((u32, Reque
 }
 
 /// The lane in front of a line, 1 to so many, and the words that follow it.
-fn lane_and_words(line: &[u8], lanes: u32) -> Option<(u32, &[u8])>
+pub fn lane_and_words(line: &[u8], lanes: u32) -> Option<(u32, &[u8])>
     ensures some { IfSome result (λ x. (1 ≤ x.0) × (x.0 ≤ lanes) × (line.now ≡ decimal_text x.0 ++ 32 ∷ x.1.now)) }
     ensures none { IfNone result ((lane : ℕ) (words : List ℕ) → 1 ≤ lane → lane ≤ lanes → line.now ≢ decimal_text lane ++ 32 ∷ words) }
 {
@@ -45,7 +45,11 @@ fn lane_and_words(line: &[u8], lanes: u32) -> Option<(u32, &[u8])>
 }
 
 /// The request that these words and what follows their line are, and what follows it.
-fn asked_at<'a>(alloc: Global, words: &[u8], rest: &'a [u8]) -> Result<(Request, &'a [u8]), Flaw>
+pub fn asked_at<'a>(
+    alloc: Global,
+    words: &[u8],
+    rest: &'a [u8],
+) -> Result<(Request, &'a [u8]), Flaw>
     ensures found { IfOk result (λ x. IsRequestOf words.now rest.now x.0 x.1.now) }
     ensures bad { IsErrOf result flaw.Bad → AsksNothing words.now rest.now }
 {

@@ -1,14 +1,15 @@
 -- What is to blame of words, by the rules of their verb.
-use Rattle.std.specs.Prelude.{◌≡◌, ◌≢◌, ◌≤◌, ◌<◌, ◌+◌, ◌↔◌, ℕ, zero, suc, List, [], ◌∷◌, length, get_or, refl}
+use Rattle.std.specs.Prelude.{◌≡◌, ◌≢◌, ◌≤◌, ◌<◌, ◌+◌, ◌↔◌, ℕ, zero, suc, List, [], ◌∷◌, length, map, get_or, refl}
 use Rattle.std.proofs.Common.{sym, ◌∙◌, ap, arith, subst, inl, inr}
 use Rattle.std.proofs.lemmas.Bool.{cases_lt}
+use Rattle.std.proofs.lemmas.List.{length-map}
 use Rattle.request_text.specs.Commands.{words_of, Says}
 use Rattle.request_text.specs.declared.command.Command.{Command}
 use Rattle.usage_text.specs.Blames.{FitsRule, HasVerb, StandsInCommand, IsFirstWrong, HasOtherCount, HasNoVerb, word_at}
-use Rattle.usage_text.specs.Rules.{rules_of, AreRulesOf, FitTo, FirstUnfit}
+use Rattle.usage_text.specs.Rules.{AreRulesOf, FitTo, FirstUnfit}
 use Rattle.usage_text.specs.declared.rule.Rule.{Rule}
 use Rattle.usage_text.specs.declared.rule.Rule.TheVariants as rule
-use Rattle.usage_text.proofs.RuleLemmas.{rule_at, fit_all, said_by, said_with, row_length, stands, stands_fits, verb_stands, verb_of, FitAll, SaidBy}
+use Rattle.usage_text.proofs.RuleLemmas.{rule_at, fit_all, said_with, row_length, stands, stands_fits, verb_stands}
 
 pub fit_more : (rules : List Rule) (words : List (List ℕ)) (place : ℕ) → FitTo rules words place → FitsRule (rule_at rules place) (word_at words place) → FitTo rules words (place + 1)
 fit_more rules words place fit one earlier less = elim (cases_lt earlier place) [
@@ -24,12 +25,18 @@ firsts verb others rules place (suc earlier) are lt fit less =
     subst (λ (k : ℕ). StandsInCommand verb k (word_at others earlier)) next
     (stands verb (word_at others earlier) rules earlier are (omega (arith, lt, less)) (fit earlier (omega (arith, less))))
 
+unfit_there : (verb : List ℕ) (others : List (List ℕ)) (rules : List Rule) (place : ℕ) (unfit : Rule) → FirstUnfit rules others place unfit → FitsRule (rule_at rules place) (word_at (verb ∷ others) (place + 1)) → FitsRule unfit (word_at others place)
+unfit_there verb others rules place unfit first fits =
+    let next : place + 1 ≡ suc place = omega arith in
+    let is : word_at (verb ∷ others) (place + 1) ≡ word_at others place = ap (λ (k : ℕ). word_at (verb ∷ others) k) next in
+    subst (λ (r : Rule). FitsRule r (word_at others place)) (sym first.rule_is) (subst (λ (w : List ℕ). FitsRule (rule_at rules place) w) is fits)
+
 pub first_wrong : (verb : List ℕ) (words others : List (List ℕ)) (rules : List Rule) (place : ℕ) (unfit : Rule) → words ≡ verb ∷ others → length others ≡ length rules → AreRulesOf verb rules → FirstUnfit rules others place unfit → IsFirstWrong words (place + 1) unfit
 first_wrong verb words others rules place unfit e l are first = subst (λ (ws : List (List ℕ)). IsFirstWrong ws (place + 1) unfit) (sym e) (record {
   counted = λ c has. let long : length (words_of c) ≡ 1 + length rules = row_length verb rules c are has in omega (arith, long, l);
   wrong = record {
     within = let lt : place < length rules = first.within in omega (arith, lt, l);
-    wrong = λ may. first.wrong (there (stands_fits verb (word_at (verb ∷ others) (place + 1)) rules place are may));
+    wrong = λ may. first.wrong (unfit_there verb others rules place unfit first (stands_fits verb (word_at (verb ∷ others) (place + 1)) rules place are may));
   };
   first = λ earlier less. firsts verb others rules place earlier are first.within first.first less;
   rule_is = λ word. (
@@ -37,12 +44,6 @@ first_wrong verb words others rules place unfit e l are first = subst (λ (ws : 
     (λ may. subst (λ (r : Rule). FitsRule r word) (sym first.rule_is) (stands_fits verb word rules place are may)),
   );
 })
-  where
-    there : FitsRule (rule_at rules place) (word_at (verb ∷ others) (place + 1)) → FitsRule unfit (word_at others place)
-    there fits =
-        let next : place + 1 ≡ suc place = omega arith in
-        let is : word_at (verb ∷ others) (place + 1) ≡ word_at others place = ap (λ (k : ℕ). word_at (verb ∷ others) k) next in
-        subst (λ (r : Rule). FitsRule r (word_at others place)) (sym first.rule_is) (subst (λ (w : List ℕ). FitsRule (rule_at rules place) w) is fits)
 
 pub other_count : (verb : List ℕ) (words others : List (List ℕ)) (rules : List Rule) → words ≡ verb ∷ others → length others ≢ length rules → AreRulesOf verb rules → HasOtherCount words (length rules)
 other_count verb words others rules e l are = subst (λ (ws : List (List ℕ)). HasOtherCount ws (length rules)) (sym e) (record {
@@ -59,3 +60,10 @@ pub all_said : (verb : List ℕ) (words others : List (List ℕ)) (rules : List 
 all_said verb words others rules e l are fit =
     let s = said_with verb rules others are (fit_all rules others l fit) in
     (s.0, (s.1, e ∙ sym s.2))
+
+-- the words after the first
+pub words_split : {S : Type 0} → (f : S → List ℕ) (words others : List S) (first : S) (verb : List ℕ) → words ≡ first ∷ others → verb ≡ f first → map f words ≡ verb ∷ map f others
+words_split f words others first verb e v = ap (map f) e ∙ ap (λ (w : List ℕ). w ∷ map f others) (sym v)
+
+pub as_many : {S : Type 0} → (f : S → List ℕ) (words : List S) (n : ℕ) → length words ≡ n → length (map f words) ≡ n
+as_many f words n l = length-map words f ∙ l

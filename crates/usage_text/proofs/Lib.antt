@@ -1,3 +1,4 @@
 pub mod BlameLemmas
+pub mod LineLemmas
 pub mod PrintLemmas
 pub mod RuleLemmas

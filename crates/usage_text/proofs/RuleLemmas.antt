@@ -69,7 +69,7 @@ one_more : (xs : List ℕ) → IsOctets xs → IsOctets (0 ∷ xs)
 one_more xs all = All-cons (λ (octet : ℕ). octet < 256) 0 xs (omega arith) all
 
 zeros_are_octets : IsOctets zeros
-zeros_are_octets = one_more _ (one_more _ (one_more _ (one_more _ (one_more _ (one_more _ (one_more _ (one_more [] (All-nil (λ (octet : ℕ). octet < 256)))))))))
+zeros_are_octets = one_more (0 ∷ 0 ∷ 0 ∷ 0 ∷ 0 ∷ 0 ∷ 0 ∷ []) (one_more (0 ∷ 0 ∷ 0 ∷ 0 ∷ 0 ∷ 0 ∷ []) (one_more (0 ∷ 0 ∷ 0 ∷ 0 ∷ 0 ∷ []) (one_more (0 ∷ 0 ∷ 0 ∷ 0 ∷ []) (one_more (0 ∷ 0 ∷ 0 ∷ []) (one_more (0 ∷ 0 ∷ []) (one_more (0 ∷ []) (one_more [] (All-nil (λ (octet : ℕ). octet < 256)))))))))
 
 abbrev sample : Rule → List ℕ
 sample rule.Id = encode_lower zeros
@@ -115,9 +115,9 @@ pub decimal_fits : (b : Bool) (number least most : ℕ) (word : List ℕ) → nu
 decimal_fits b number least most word small limit is both = (
   (λ yes. (number, (both.0 yes).0, (both.0 yes).1, is)),
   (λ d.
-    let below : d.0 < 2 ^ 64 = (let high = d.2 in omega (arith, high, limit)) in
-    let same : number ≡ d.0 = decimal_injective number d.0 small below (sym is ∙ d.3) in
-    both.1 (subst (λ (k : ℕ). least ≤ k) (sym same) d.1, subst (λ (k : ℕ). k ≤ most) (sym same) d.2)),
+      let below : d.0 < 2 ^ 64 = (let high = d.2 in omega (arith, high, limit)) in
+      let same : number ≡ d.0 = decimal_injective number d.0 small below (sym is ∙ d.3) in
+      both.1 (subst (λ (k : ℕ). least ≤ k) (sym same) d.1, subst (λ (k : ℕ). k ≤ most) (sym same) d.2)),
 )
 
 -- ---- the commands
@@ -140,6 +140,7 @@ fits_all (command.Expunge name uid) r = (r.0, ((uid.0, r.1.low, r.1.high, refl),
 fits_all (command.Copy name uid target) r = (r.0, ((uid.0, r.1.low, r.1.high, refl), (r.2, tt)))
 fits_all (command.Move name uid target) r = (r.0, ((uid.0, r.1.low, r.1.high, refl), (r.2, tt)))
 fits_all (command.Make name) r = (r, tt)
+fits_all command.Boxes r = tt
 fits_all command.Counts r = tt
 fits_all command.Purge r = tt
 fits_all command.Resync r = tt
@@ -161,11 +162,11 @@ one_fit : (q : Rule) (words : List (List ℕ)) → FitAll (q ∷ []) words → (
 one_fit q [] f = absurd f
 one_fit q (v ∷ words) f = (v, f.0, ap (λ (t : List (List ℕ)). v ∷ t) (none_fit words f.1))
 
-two_fit : (q r : Rule) (words : List (List ℕ)) → FitAll (q ∷ r ∷ []) words → (v w : List ℕ) × FitsRule q v × FitsRule r w × (words ≡ v ∷ w ∷ [])
+two_fit : (q r : Rule) (words : List (List ℕ)) → FitAll (q ∷ r ∷ []) words → (v : List ℕ) × (w : List ℕ) × FitsRule q v × FitsRule r w × (words ≡ v ∷ w ∷ [])
 two_fit q r [] f = absurd f
 two_fit q r (v ∷ words) f = let s = one_fit r words f.1 in (v, s.0, f.0, s.1, ap (λ (t : List (List ℕ)). v ∷ t) s.2)
 
-three_fit : (q r p : Rule) (words : List (List ℕ)) → FitAll (q ∷ r ∷ p ∷ []) words → (v w u : List ℕ) × FitsRule q v × FitsRule r w × FitsRule p u × (words ≡ v ∷ w ∷ u ∷ [])
+three_fit : (q r p : Rule) (words : List (List ℕ)) → FitAll (q ∷ r ∷ p ∷ []) words → (v : List ℕ) × (w : List ℕ) × (u : List ℕ) × FitsRule q v × FitsRule r w × FitsRule p u × (words ≡ v ∷ w ∷ u ∷ [])
 three_fit q r p [] f = absurd f
 three_fit q r p (v ∷ words) f = let s = two_fit r p words f.1 in (v, s.0, s.1, f.0, s.2, s.3, ap (λ (t : List (List ℕ)). v ∷ t) s.4)
 
@@ -198,6 +199,7 @@ said_by (command.Flag name uid flags) words f = let s = three_fit rule.Name rule
 said_by (command.Copy name uid target) words f = let s = three_fit rule.Name rule.Uid rule.Name words f in (command.Copy s.0 (record { 0 = s.4.0 }) s.2, (s.3, record { low = s.4.1; high = s.4.2 }, s.5), same_three (codes "copy") _ _ _ _ _ _ words s.6 refl s.4.3 refl)
 said_by (command.Move name uid target) words f = let s = three_fit rule.Name rule.Uid rule.Name words f in (command.Move s.0 (record { 0 = s.4.0 }) s.2, (s.3, record { low = s.4.1; high = s.4.2 }, s.5), same_three (codes "move") _ _ _ _ _ _ words s.6 refl s.4.3 refl)
 said_by (command.Exercise lanes count number) words f = let s = three_fit rule.Lanes rule.Requests rule.Number words f in (command.Exercise s.3.0 s.4.0 s.5.0, (s.3.1, s.3.2, s.4.1, s.4.2, omega (arith, s.5.2)), same_three (codes "exercise") _ _ _ _ _ _ words s.6 s.3.3 s.4.3 s.5.3)
+said_by command.Boxes words f = plain command.Boxes words tt refl f
 said_by command.Counts words f = plain command.Counts words tt refl f
 said_by command.Purge words f = plain command.Purge words tt refl f
 said_by command.Resync words f = plain command.Resync words tt refl f
@@ -227,6 +229,7 @@ rules_same (command.Expunge a0 a1) (command.Expunge b0 b1) e = refl
 rules_same (command.Copy a0 a1 a2) (command.Copy b0 b1 b2) e = refl
 rules_same (command.Move a0 a1 a2) (command.Move b0 b1 b2) e = refl
 rules_same (command.Make a0) (command.Make b0) e = refl
+rules_same command.Boxes command.Boxes e = refl
 rules_same command.Counts command.Counts e = refl
 rules_same command.Purge command.Purge e = refl
 rules_same command.Resync command.Resync e = refl
@@ -249,6 +252,7 @@ lengths (command.Expunge a0 a1) = refl
 lengths (command.Copy a0 a1 a2) = refl
 lengths (command.Move a0 a1 a2) = refl
 lengths (command.Make a0) = refl
+lengths command.Boxes = refl
 lengths command.Counts = refl
 lengths command.Purge = refl
 lengths command.Resync = refl

@@ -36,9 +36,12 @@ rule_text rule.Lanes = codes "1 to 64, no leading zero"
 rule_text rule.Requests = codes "1 to 100000, no leading zero"
 rule_text rule.Number = codes "0 to 18446744073709551615, no leading zero"
 
--- how many words there are after the verb, and how many there must be
+-- how many words there must be after the verb, and how many there are
+abbrev pub counts_text : ℕ → ℕ → List ℕ
+counts_text count given = codes " takes " ++ (decimal_text count ++ (codes " words after it, not " ++ (decimal_text given ++ codes "; mdbox --help names them")))
+
 abbrev pub count_text : List ℕ → ℕ → ℕ → List ℕ
-count_text verb count given = quoted_word verb ++ (codes ": words after it are " ++ (decimal_text count ++ (codes ", not " ++ (decimal_text given ++ codes "; mdbox --help lists them"))))
+count_text verb count given = quoted_word verb ++ counts_text count given
 
 -- a word, and what it may be
 abbrev pub word_text : List ℕ → Rule → List ℕ

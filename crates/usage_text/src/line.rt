@@ -1,7 +1,7 @@
 // The line that tells what is wrong with words.
-ghost use Rattle.std.specs.Prelude.{◌≡◌, ◌<◌, ◌≤◌, ◌++◌, ◌∷◌, [], length, map, flat_map, string_bytes, codes, IfOk, OnOk, get_or};
+ghost use Rattle.std.specs.Prelude.{◌≡◌, ◌++◌, ◌∷◌, [], length, take, map, string_bytes, codes, if◌then◌else◌, nat_lt, IfOk, OnOk};
 ghost use Rattle.std.specs.Char.Escape.{escape_ascii};
-ghost use Rattle.usage_text.specs.BlameText.{blame_text, count_text, word_text, quoted_word, rule_name, rule_text};
+ghost use Rattle.usage_text.specs.BlameText.{blame_text, count_text, counts_text, word_text, quoted_word, rule_name, rule_text};
 ghost use Rattle.usage_text.specs.Blames.{BlameGives};
 
 use crate::blame::Blame;
@@ -34,16 +34,23 @@ pub fn blame_line(alloc: Global, words: &[String], blame: Blame) -> Result<Octet
     Ok(line)
 }
 
-/// Appends how many words there are after a verb, and how many there must be.
+/// Appends a verb, how many words there must be after it, and how many there are.
 fn push_count(line: &mut Octets, verb: &[u8], count: usize, given: usize) -> Result<(), NoMemory>
     ensures { OnOk result (line.new ≡ line.old ++ count_text verb.now count given) }
 {
     push_quoted(line, verb)?;
-    line.push_all(b": words after it are ")?;
+    push_counts(line, count, given)
+}
+
+/// Appends how many words there must be, and how many there are.
+fn push_counts(line: &mut Octets, count: usize, given: usize) -> Result<(), NoMemory>
+    ensures { OnOk result (line.new ≡ line.old ++ counts_text count given) }
+{
+    line.push_all(b" takes ")?;
     push_decimal(line, count as u64)?;
-    line.push_all(b", not ")?;
+    line.push_all(b" words after it, not ")?;
     push_decimal(line, given as u64)?;
-    line.push_all(b"; mdbox --help lists them")
+    line.push_all(b"; mdbox --help names them")
 }
 
 /// Appends a word and what its rule allows.
@@ -72,10 +79,7 @@ fn told_of(rule: Rule) -> (&'static [u8], &'static [u8])
         ),
         Rule::Lanes => (b"LANES", b"1 to 64, no leading zero"),
         Rule::Requests => (b"COUNT", b"1 to 100000, no leading zero"),
-        Rule::Number => (
-            b"NUMBER",
-            b"0 to 18446744073709551615, no leading zero",
-        ),
+        Rule::Number => (b"NUMBER", b"0 to 18446744073709551615, no leading zero"),
     }
 }
 
@@ -83,16 +87,24 @@ fn told_of(rule: Rule) -> (&'static [u8], &'static [u8])
 pub fn push_quoted(out: &mut Octets, word: &[u8]) -> Result<(), NoMemory>
     ensures { OnOk result (out.new ≡ out.old ++ quoted_word word.now) }
 {
-    let (told, end) = if word.len() > MOST_TOLD {
-        (&word[..MOST_TOLD], b"\"..".as_slice())
-    } else {
-        (word, b"\"".as_slice())
-    };
+    let (told, end) = told_part(word);
     out.push_all(b"\"")?;
     for octet in told {
         push_escaped(out, *octet)?;
     }
     out.push_all(end)
+}
+
+/// The octets of a word that are told, and what follows them: a quote, and two points if they aren't all.
+fn told_part(word: &[u8]) -> (&[u8], &'static [u8])
+    ensures told { result.0.now ≡ take 60 word.now }
+    ensures end { result.1.now ≡ 34 ∷ (if nat_lt 60 (length word.now) then codes ".." else []) }
+{
+    if word.len() > MOST_TOLD {
+        (&word[..MOST_TOLD], b"\"..")
+    } else {
+        (word, b"\"")
+    }
 }
 
 /// Appends an octet, escaped if it isn't a printing one of ASCII.

@@ -18,6 +18,7 @@ pub(crate) fn rules_of(verb: &str) -> Option<&'static [Rule]>
         "list" => Some(&[Rule::Name]),
         "fetch" => Some(&[Rule::Name, Rule::Uid]),
         "flag" => Some(&[Rule::Name, Rule::Uid, Rule::Flags]),
+        "boxes" => Some(&[]),
         "counts" => Some(&[]),
         "purge" => Some(&[]),
         "resync" => Some(&[]),
@@ -37,11 +38,7 @@ pub(crate) fn rules_of(verb: &str) -> Option<&'static [Rule]>
 }
 
 /// The place of the first word that its rule doesn't allow, and the rule.
-pub(crate) fn first_unfit(
-    alloc: Global,
-    rules: &[Rule],
-    words: &[String],
-) -> Option<(usize, Rule)>
+pub(crate) fn first_unfit(alloc: Global, rules: &[Rule], words: &[String]) -> Option<(usize, Rule)>
     requires { length words.now ≡ length rules.now }
     ensures some { IfSome result (λ x. FirstUnfit rules.now (map string_bytes words.now) x.0 x.1) }
     ensures none { IfNone result (FitTo rules.now (map string_bytes words.now) (length rules.now)) }

@@ -8,5 +8,5 @@ returns-in-Ok-told_rows-clause-told g c = tells_checked c.in-Ok.checked _ _ c.in
 pub returns-in-Err-NoStore-clause-told : goal.returns-in-Err-NoStore-clause-told
 returns-in-Err-NoStore-clause-told g c = tells_nothing c.in-Err-NoStore.field-0 _ _ _ c.check_store.ensures.idle c.in-Err-NoStore.ensures.refused (λ e. cc (sym c.in-Err-NoStore.field-0-is ∙ e)) (λ e. cc (sym c.in-Err-NoStore.field-0-is ∙ e))
 
-pub returns-in-Err-Damaged-clause-told : goal.returns-in-Err-Damaged-clause-told
-returns-in-Err-Damaged-clause-told g c = tells_nothing c.in-Err-Damaged.field-0 _ _ _ c.check_store.ensures.idle c.in-Err-Damaged.ensures.refused (λ e. cc (sym c.in-Err-Damaged.field-0-is ∙ e)) (λ e. cc (sym c.in-Err-Damaged.field-0-is ∙ e))
+pub returns-clause-told : goal.returns-clause-told
+returns-clause-told g c = tells_nothing c.in-Err-Damaged.field-0 _ _ _ c.check_store.ensures.idle c.in-Err-Damaged.ensures.refused (λ e. cc (sym c.in-Err-Damaged.field-0-is ∙ e)) (λ e. cc (sym c.in-Err-Damaged.field-0-is ∙ e))

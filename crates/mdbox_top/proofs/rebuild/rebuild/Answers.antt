@@ -1,8 +1,7 @@
-use Rattle.std.proofs.Common.{sym, subst, ap, ◌∙◌}
-use Rattle.disk_model.specs.Disk.{Faults}
+use Rattle.std.proofs.Common.{sym, ap, ◌∙◌}
 use Rattle.mdbox_top.specs.OpeningOutcome.{rebuild_outcome}
 use Rattle.mdbox_top.proofs.InitLemmas.{counted_as}
-use Rattle.mdbox_top.proofs.BackLemmas.{between_still, leaves_still, read_ends, whole_still, untold}
+use Rattle.mdbox_top.proofs.BackLemmas.{between_still, fault_after, leaves_still, read_ends, whole_still, untold}
 use Rattle.mdbox_top.proofs.RebuildLemmas.{unrebuilt_ends, fault_of_rebuild}
 use Rattle.store_rebuild.specs.Rebuilding.{IsRebuilt}
 use Rattle.store_rebuild.specs.Writing.{MailReadsSame}
@@ -17,7 +16,7 @@ pub returns-in-Ok-clause-moments : goal.returns-in-Ok-clause-moments
 returns-in-Ok-clause-moments g c = record { each = leaves_still _ _ _ c.in-Ok.ensures.any_moment c.tell_rebuilt-ended.ensures.idle; untouched = whole_still _ _ c.in-Ok.ensures.lost }
 
 pub returns-in-Ok-clause-disk_fault : goal.returns-in-Ok-clause-disk_fault
-returns-in-Ok-clause-disk_fault g c = (rw c.in-Ok.ensures.unfailed (λ f. f) at c.tell_rebuilt-ended.ensures.disk_fault)
+returns-in-Ok-clause-disk_fault g c = fault_after _ _ _ _ (c.in-Ok.ensures.unfailed (λ f. f)) c.tell_rebuilt-ended.ensures.disk_fault
 
 pub returns-in-Ok-clause-disk_quiet : goal.returns-in-Ok-clause-disk_quiet
 returns-in-Ok-clause-disk_quiet g c = λ no. c.tell_rebuilt-ended.ensures.disk_quiet no ∙ c.in-Ok.ensures.unfailed (λ f. f)

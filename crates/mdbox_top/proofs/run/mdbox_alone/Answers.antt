@@ -10,7 +10,7 @@ returns-clause-run g c =
     record {
       outcome = told.0;
       status_is = told.2;
-      ended = last_ends c.args.command _ _ _ _ _ _ _ _ c.perform-outcome.result.0 told.0 told.1 c.perform-outcome.ensures.ends;
+      ended = last_ends _ c.args.command _ _ _ _ _ _ _ _ c.perform-outcome.result.0 told.0 told.1 c.perform-outcome.ensures.ends;
       noted_held = _;
       noted_faults = _;
       noted = notes_last c.args.command _ c.perform-outcome.result.0 told.0 _ _ _ _ told.1 c.perform-outcome.ensures.noted;
@@ -20,7 +20,7 @@ returns-clause-run g c =
 pub returns-clause-status : goal.returns-clause-status
 returns-clause-status g c =
     let told = c.report.ensures.told in
-    rw told.2 (has_status c.args.command c.requires.range _ _ _ _ _ _ _ _ told.0 (last_ends c.args.command _ _ _ _ _ _ _ _ c.perform-outcome.result.0 told.0 told.1 c.perform-outcome.ensures.ends))
+    rw told.2 (has_status _ c.args.command c.requires.range _ _ _ _ _ _ _ _ told.0 (last_ends _ c.args.command _ _ _ _ _ _ _ _ c.perform-outcome.result.0 told.0 told.1 c.perform-outcome.ensures.ends))
 
 pub returns-clause-rests : goal.returns-clause-rests
 returns-clause-rests g c =

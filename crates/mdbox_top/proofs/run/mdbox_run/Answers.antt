@@ -7,7 +7,7 @@ pub returns-in-Err-NoMemory-clause-run : goal.returns-in-Err-NoMemory-clause-run
 returns-in-Err-NoMemory-clause-run g c = λ said says.
     let found = (rw c.in-Err-NoMemory.field-0-is at c.in-Err-NoMemory.ensures.memory) refl in
     let told = c.report-in-Err-NoMemory.ensures.told in
-    rw (found.2.only said says) (record { outcome = told.0; status_is = told.2; ended = rw told.1 (named_unasked found.0 found.1 _ _ _ _ _); noted_held = _; noted_faults = _; noted = rw told.1 (named_unnoted found.0 found.1 _ _ _); told = told.3 })
+    rw (found.2.only said says) (record { outcome = told.0; status_is = told.2; ended = rw told.1 (named_unasked _ found.0 found.1 _ _ _ _ _); noted_held = g.E.Sink.held c.args.errors.now; noted_faults = g.E.Sink.faults c.args.errors.now; noted = rw told.1 (named_unnoted found.0 found.1 _ (g.E.Sink.held c.args.errors.now) (g.E.Sink.faults c.args.errors.now)); told = told.3 })
 
 pub returns-in-Err-NoMemory-clause-moments : goal.returns-in-Err-NoMemory-clause-moments
 returns-in-Err-NoMemory-clause-moments g c = λ said says.
@@ -36,4 +36,4 @@ returns-in-Ok-clause-disk_fault g c = λ tells. c.mdbox_alone.ensures.disk_fault
 
 pub returns-in-Ok-clause-usage : goal.returns-in-Ok-clause-usage
 returns-in-Ok-clause-usage g c =
-    (λ two said says. known_words c.in-Ok.command _ _ _ _ _ _ _ _ _ _ _ _ _ _ c.mdbox_alone.ensures.run two, λ none. absurd (none c.in-Ok.command c.in-Ok.ensures.says.says))
+    (λ two said says. known_words _ c.in-Ok.command _ _ _ _ _ _ _ _ _ _ _ _ _ _ c.mdbox_alone.ensures.run two, λ none. absurd (none c.in-Ok.command c.in-Ok.ensures.says.says))

@@ -52,7 +52,7 @@ pub returns-in-Purge-clause-rests : goal.returns-in-Purge-clause-rests
 returns-in-Purge-clause-rests g c = rw c.in-Purge.is c.serve-in-Purge.ensures.rests
 
 pub returns-in-List-clause-uncalled : goal.returns-in-List-clause-uncalled
-returns-in-List-clause-uncalled g c = λ e. absurd (request_ended _ _ _ _ _ _ _ _ c.serve-in-List.result.0 c.serve-in-List.ensures.ends e)
+returns-in-List-clause-uncalled g c = λ e. absurd (request_ended _ _ _ _ _ _ _ _ c.serve.result.0 c.serve.ensures.ends e)
 
 pub returns-in-Fetch-clause-uncalled : goal.returns-in-Fetch-clause-uncalled
 returns-in-Fetch-clause-uncalled g c = λ e. absurd (request_ended _ _ _ _ _ _ _ _ c.serve-in-Fetch.result.0 c.serve-in-Fetch.ensures.ends e)
@@ -98,3 +98,9 @@ returns-in-Boxes-clause-disk_quiet g c = rw c.in-Boxes.is (λ tells none. c.boxe
 
 pub returns-in-Boxes-clause-uncalled : goal.returns-in-Boxes-clause-uncalled
 returns-in-Boxes-clause-uncalled g c = λ e. absurd (boxes_ended _ _ _ _ _ _ c.boxes.result.0 c.boxes.ensures.ends e)
+
+pub returns-in-List-clause-rests : goal.returns-in-List-clause-rests
+returns-in-List-clause-rests g c = rw c.in-List.is c.serve.ensures.rests
+
+pub returns-in-Counts-clause-rests : goal.returns-in-Counts-clause-rests
+returns-in-Counts-clause-rests g c = rw c.in-Counts.is c.serve-in-Counts.ensures.rests

@@ -58,3 +58,6 @@ returns-in-text-clause-some c = (command.Help, sym c.in-text.is, refl)
 
 pub returns-in-text-2-clause-some : goal.returns-in-text-2-clause-some
 returns-in-text-2-clause-some c = (command.Version, sym c.in-text-2.is, refl)
+
+pub returns-in-boxes-clause-some : goal.returns-in-boxes-clause-some
+returns-in-boxes-clause-some c = (command.Boxes, sym c.in-boxes.is, refl)
