@@ -1,30 +1,13 @@
 -- A run that serves a made script, each of whose requests is OK: the counts that are kept grow as the messages that are listed do.
-use Rattle.std.specs.Prelude.{◌≡◌, ◌≤◌, ◌<◌, ◌+◌, ◌/◌, ◌%◌, ◌==◌, ℕ, zero, suc, Bool, true, false, All, List, [], ◌∷◌, ◌++◌, length, map, slice_get, slice_index_or, sum_by, take, Option, Some, None, refl}
-use Rattle.std.specs.List.{AllByRecursion}
-use Rattle.std.specs.Option.{option_map}
-use Rattle.std.proofs.Common.{sym, ◌∙◌, ap, arith, subst, inl, inr}
+use Rattle.exercise_course.proofs.Common.{◌≡◌, ◌≤◌, ◌<◌, ◌+◌, ◌/◌, ◌%◌, ◌==◌, ℕ, zero, suc, Bool, true, false, All, List, [], ◌∷◌, ◌++◌, length, map, slice_get, slice_index_or, sum_by, take, Option, Some, None, refl, AllByRecursion, option_map, sym, ◌∙◌, ap, arith, subst, inl, inr, eq-eqb, eqb-true}
+use Rattle.exercise_course.proofs.Common.{take_more, sum_by_push, slice_get-get_or, slice_get-map, slice_get_within, Faults, Highest, Uid, Request, Refusal, Reply, Lists, MapMeaning, EventPart, First, TakesFile, PlacesMessage, StoresRecord, Last, GivesBack, Run, RunEvent, and_then, before, first_in}
+use Rattle.exercise_course.proofs.Common.{map_of, own_events, Broken, JournalStep, left_by, refusal_in, Around, IsEvent, IsNextEvent, behind_delivery, behind_event, last_refusal, AreNextEvents, IsServed, lists_before, own_more, own_other, below, made_request, made_round, made_turn, BeginsFree}
+use Rattle.exercise_course.proofs.Common.{is_hindered, is_ok}
 use Rattle.std.proofs.Math.Seq.{take-length}
-use Rattle.std.proofs.lemmas.Bool.{eq-eqb, eqb-true}
-use Rattle.std.proofs.lemmas.List.{take_more}
-use Rattle.std.proofs.lemmas.List.Sums.{sum_by_push}
-use Rattle.std.proofs.lemmas.Option.{slice_get-get_or, slice_get-map, slice_get_within}
-use Rattle.disk_model.specs.Disk.{Faults}
-use Rattle.mdbox_base.specs.declared.entries.Highest.{Highest}
-use Rattle.mdbox_base.specs.declared.ids.Uid.{Uid}
-use Rattle.mdbox_base.specs.declared.requests.Request.{Request}
 use Rattle.mdbox_base.specs.declared.requests.Request.TheVariants as request
-use Rattle.mdbox_base.specs.declared.replies.Refusal.{Refusal}
-use Rattle.mdbox_base.specs.declared.replies.Reply.{Reply}
 use Rattle.mdbox_base.specs.declared.replies.Reply.TheVariants as reply
-use Rattle.model_lists.specs.Lists.{Lists}
-use Rattle.model_meaning.specs.MapMeaning.{MapMeaning}
-use Rattle.list_machine.specs.Run.{EventPart, First, TakesFile, PlacesMessage, StoresRecord, Last, GivesBack, Run, RunEvent, and_then, before, first_in, map_of, own_events, reply_of}
-use Rattle.journal.specs.Journal.{Broken, JournalStep, left_by, refusal_in}
-use Rattle.journal.specs.Events.{Around, IsEvent, IsNextEvent, behind_delivery, behind_event, behind_expunge, last_refusal, part_behind}
-use Rattle.journal.specs.Makes.{AreNextEvents, IsServed, lists_before}
-use Rattle.journal.proofs.OwnEventLemmas.{own_more, own_other}
-use Rattle.script_text.specs.MadeScript.{below, made_request, made_round, made_turn}
-use Rattle.exercise_course.specs.Hindered.{BeginsFree, is_hindered, is_ok}
+use Rattle.list_machine.specs.Run.{reply_of}
+use Rattle.journal.specs.Events.{behind_expunge, part_behind}
 use Rattle.exercise_course.specs.InOrder.{message_total}
 use Rattle.exercise_course.proofs.CountingLemmas.{AreStraight, Counted, GoesStraight, IsCountable, IsShort, OwnCounted, counted_none, counted_on, counts_of_map, down_by, down_last, down_part, run_counts, up_by, up_last, up_part}
 use Rattle.exercise_course.proofs.CourseLemmas.{adds, left_of, place_of, sizes_of, sum_of_all, takes}

@@ -1,14 +1,8 @@
 -- What a step leaves of a mailbox, of the others, and of what all messages weigh.
-use Rattle.std.specs.Prelude.{◌≡◌, ◌≢◌, ◌≤◌, ◌<◌, ◌+◌, ◌==◌, ℕ, suc, Bool, true, false, cond, if◌then◌else◌, List, [], ◌∷◌, ◌++◌, find, length, sum_by, Option, Some, None, refl}
-use Rattle.std.specs.Option.{option_or}
-use Rattle.std.specs.Str.{bytes_eq}
-use Rattle.std.proofs.Common.{sym, ◌∙◌, ap, arith}
-use Rattle.std.proofs.lemmas.Bool.{eq-eqb, eqb-true}
-use Rattle.std.proofs.lemmas.List.Folds.{find-append}
-use Rattle.std.proofs.lemmas.List.Sums.{sum_by-cons, sum_by-append}
-use Rattle.model_lists.specs.Lists.{ListedMessage, Mailbox, Lists, empty_mailbox, change_first}
-use Rattle.list_machine.specs.Machine.{add_last, add_message, expunge, has_name, is_message_of_uid, mailbox_named, message_in, set_flags, without_first}
-use Rattle.model_octets.proofs.SearchLemmas.{text_is, text_yes}
+use Rattle.exercise_course.proofs.Common.{◌≡◌, ◌≢◌, ◌≤◌, ◌<◌, ◌+◌, ◌==◌, ℕ, suc, Bool, true, false, cond, if◌then◌else◌, List, [], ◌∷◌, ◌++◌, find, length, sum_by, Option, Some, None, refl, option_or, bytes_eq, sym, ◌∙◌, ap, arith, eq-eqb, eqb-true, find-append, sum_by-cons, ListedMessage, Mailbox}
+use Rattle.exercise_course.proofs.Common.{Lists, empty_mailbox, change_first, add_last, add_message, expunge, has_name, is_message_of_uid, mailbox_named, message_in, set_flags, without_first, text_is}
+use Rattle.std.proofs.lemmas.List.Sums.{sum_by-append}
+use Rattle.model_octets.proofs.SearchLemmas.{text_yes}
 
 -- ---- the mailbox with a name
 

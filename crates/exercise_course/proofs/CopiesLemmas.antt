@@ -1,28 +1,19 @@
 -- A made script never meets NO 13: its messages have new GUIDs, of which few counts are kept.
-use Rattle.std.specs.Prelude.{◌≡◌, ◌≤◌, ◌<◌, ◌+◌, ◌/◌, ◌%◌, ◌⊎◌, nat_le, ℕ, zero, suc, Bool, true, false, cond, if◌then◌else◌, All, List, [], ◌∷◌, ◌++◌, find, length, map, slice_get, slice_index_or, Option, Some, None, refl}
-use Rattle.std.specs.List.{AllByRecursion}
-use Rattle.std.specs.Option.{option_and_then, option_map_or, option_or}
-use Rattle.std.proofs.Common.{sym, ◌∙◌, ap, arith, subst, inl, inr}
-use Rattle.std.proofs.lemmas.Grind.{common_steps}
+use Rattle.exercise_course.proofs.Common.{◌≡◌, ◌≤◌, ◌<◌, ◌+◌, ◌/◌, ◌%◌, ◌⊎◌, ℕ, zero, suc, Bool, true, false, cond, if◌then◌else◌, All, List, [], ◌∷◌, ◌++◌, find, length, map, slice_get, slice_index_or, Option, Some, None, refl, AllByRecursion, option_map_or, option_or, sym, ◌∙◌, ap, arith, subst}
+use Rattle.exercise_course.proofs.Common.{inl, inr, common_steps, slice_get-get_or, slice_get_within, Faults, Highest, Request, Refusal, Reply, ListedMessage, Mailbox, Lists, change_first, empty_mailbox, MapMeaning, MapRecord, count_of, text_is, EventPart, First, PlacesInstance, TakesFile}
+use Rattle.exercise_course.proofs.Common.{StoresRecord, Last, StartsOver, Run, RunEvent, before, map_of, Answers, Does, add_last, add_message, expunge, has_name, is_message_of_uid, mailbox_named, message_at, message_in, set_flags, without_first, AreSteps, Broken, IsStep, JournalStep, refusal_in}
+use Rattle.exercise_course.proofs.Common.{IsServed, lane_name, made_request, BeginsFree, is_hindered, is_ok}
+use Rattle.std.specs.Prelude.{nat_le}
+use Rattle.std.specs.Option.{option_and_then}
 use Rattle.std.proofs.lemmas.List.{length-map}
-use Rattle.std.proofs.lemmas.Option.{slice_get-get_or, slice_get_within}
-use Rattle.disk_model.specs.Disk.{Faults}
-use Rattle.mdbox_base.specs.declared.entries.Highest.{Highest}
-use Rattle.mdbox_base.specs.declared.requests.Request.{Request}
 use Rattle.mdbox_base.specs.declared.requests.Request.TheVariants as request
-use Rattle.mdbox_base.specs.declared.replies.Refusal.{Refusal}
 use Rattle.mdbox_base.specs.declared.replies.Refusal.TheVariants as refusal
-use Rattle.mdbox_base.specs.declared.replies.Reply.{Reply}
 use Rattle.mdbox_base.specs.declared.replies.Reply.TheVariants as reply
-use Rattle.model_lists.specs.Lists.{ListedMessage, Mailbox, Lists, change_first, empty_mailbox}
-use Rattle.model_meaning.specs.MapMeaning.{MapMeaning, MapRecord, count_of}
-use Rattle.model_octets.proofs.SearchLemmas.{text_is, text_yes}
-use Rattle.list_machine.specs.Run.{EventPart, First, PlacesInstance, TakesFile, StoresRecord, Last, StartsOver, Run, RunEvent, before, guid_added, map_of}
-use Rattle.list_machine.specs.Machine.{Answers, Check, Does, HasMailbox, IsNotInbox, IsNewName, HasUid, RoomForMailbox, RoomForMessage, NextUid, NextMapUid, NextFiles, TargetFits, NextInstance, NextMailbox, MayBeCopied, add_last, add_message, expunge, first_refusal, has_name, is_message_of_uid, mailbox_named, message_at, message_in, part_checks, refusal_at, refused_where, set_flags, without_first}
-use Rattle.journal.specs.Journal.{AreSteps, Broken, IsStep, JournalStep, refusal_in, steps_of}
-use Rattle.journal.specs.Makes.{IsServed}
-use Rattle.script_text.specs.MadeScript.{lane_name, made_request}
-use Rattle.exercise_course.specs.Hindered.{BeginsFree, is_hindered, is_ok, is_stopped}
+use Rattle.model_octets.proofs.SearchLemmas.{text_yes}
+use Rattle.list_machine.specs.Run.{guid_added}
+use Rattle.list_machine.specs.Machine.{Check, HasMailbox, IsNotInbox, IsNewName, HasUid, RoomForMailbox, RoomForMessage, NextUid, NextMapUid, NextFiles, TargetFits, NextInstance, NextMailbox, MayBeCopied, first_refusal, part_checks, refusal_at, refused_where}
+use Rattle.journal.specs.Journal.{steps_of}
+use Rattle.exercise_course.specs.Hindered.{is_stopped}
 use Rattle.exercise_course.proofs.CountingLemmas.{IsCountable}
 use Rattle.exercise_course.proofs.CourseLemmas.{AreAllPlaces, AreTurns, Turn, all_are_whole, place_of}
 use Rattle.exercise_course.proofs.FreshLemmas.{delivered_new, new_few}

@@ -1,27 +1,17 @@
 -- What the requests of a made script do to the counts that are kept: a delivery and a copy add one, and an expunge takes one.
-use Rattle.std.specs.Prelude.{◌≡◌, ◌≤◌, ◌<◌, ◌+◌, ◌-◌, ◌==◌, ◌||◌, max, ℕ, Bool, true, false, not, cond, if◌then◌else◌, All, AllPairs, List, [], ◌∷◌, ◌++◌, filter, find, length, map, slice_get, sum_by, Option, Some, None, is_some, refl}
-use Rattle.std.specs.Option.{option_or}
-use Rattle.std.proofs.Common.{sym, ◌∙◌, ap, arith, subst}
-use Rattle.std.proofs.lemmas.Bool.{eq-eqb, eqb-true, eqb-false}
-use Rattle.std.proofs.lemmas.List.{append-nil}
-use Rattle.std.proofs.lemmas.List.Elements.{All-head, All-tail, All-weaker, All-push}
-use Rattle.std.proofs.lemmas.List.Sums.{sum_by-cons, sum_by_push}
-use Rattle.mdbox_base.specs.declared.entries.MapEntry.{MapEntry}
+use Rattle.exercise_course.proofs.Common.{◌≡◌, ◌≤◌, ◌<◌, ◌+◌, ◌-◌, ◌==◌, ℕ, Bool, true, false, not, cond, if◌then◌else◌, All, AllPairs, List, [], ◌∷◌, ◌++◌, filter, find, length, map, slice_get, sum_by, Option, Some, None, is_some, refl, option_or, sym, ◌∙◌, ap, arith, subst, eq-eqb, eqb-true}
+use Rattle.exercise_course.proofs.Common.{eqb-false, append-nil, All-head, All-tail, All-weaker, sum_by-cons, sum_by_push, MapEntry, Uid, Request, Refusal, Lists, MapFits, MapMeaning, MapRecord, map_applied, map_meaning, record_changed, map_more, pairs_head, pairs_tail, EventPart, First, Compares}
+use Rattle.exercise_course.proofs.Common.{PlacesInstance, TakesFile, PlacesMessage, StoresRecord, Last, GivesBack, StartsOver, Run, RunEvent, and_then, before, entries_of, map_of, own_events, Around, DidNothing, DidPart, IsEvent, behind_delivery, behind_event, last_refusal, entries_more}
+use Rattle.exercise_course.proofs.Common.{made_request}
+use Rattle.std.specs.Prelude.{◌||◌, max}
+use Rattle.std.proofs.lemmas.List.Elements.{All-push}
 use Rattle.mdbox_base.specs.declared.entries.MapEntry.TheVariants as entry
 use Rattle.mdbox_base.specs.declared.ids.MapUid.{MapUid}
-use Rattle.mdbox_base.specs.declared.ids.Uid.{Uid}
-use Rattle.mdbox_base.specs.declared.requests.Request.{Request}
 use Rattle.mdbox_base.specs.declared.requests.Request.TheVariants as request
-use Rattle.mdbox_base.specs.declared.replies.Refusal.{Refusal}
-use Rattle.model_lists.specs.Lists.{Lists}
-use Rattle.model_meaning.specs.MapFits.{HasRecord, MapFits}
-use Rattle.model_meaning.specs.MapMeaning.{MapMeaning, MapRecord, map_applied, map_meaning, record_at, record_changed}
-use Rattle.model_meaning.proofs.MapLemmas.{map_more}
-use Rattle.model_octets.proofs.PairLemmas.{all_map, pairs_head, pairs_map, pairs_push, pairs_tail}
-use Rattle.list_machine.specs.Run.{EventPart, First, Compares, PlacesInstance, TakesFile, PlacesMessage, StoresRecord, Last, GivesBack, StartsOver, Run, RunEvent, and_then, before, entries_of, map_of, own_events}
-use Rattle.journal.specs.Events.{Around, DidNothing, DidPart, IsEvent, behind_delivery, behind_event, behind_expunge, last_refusal, part_behind}
-use Rattle.journal.proofs.RunLemmas.{entries_more}
-use Rattle.script_text.specs.MadeScript.{made_request}
+use Rattle.model_meaning.specs.MapFits.{HasRecord}
+use Rattle.model_meaning.specs.MapMeaning.{record_at}
+use Rattle.model_octets.proofs.PairLemmas.{all_map, pairs_map, pairs_push}
+use Rattle.journal.specs.Events.{behind_expunge, part_behind}
 use Rattle.exercise_course.proofs.DeliveredLemmas.{last_unrefused}
 use Rattle.exercise_course.proofs.StoringLemmas.{IsSimple, last_of, last_push, next_is, part_after}
 

@@ -1,22 +1,12 @@
 -- The requests of a made script in whatever order lanes do them: each is done, and what messages weigh is as in the script's own order.
-use Rattle.std.specs.Prelude.{◌≡◌, ◌≢◌, ◌≤◌, ◌<◌, ◌+◌, ◌-◌, ◌*◌, ◌/◌, ◌%◌, ◌^◌, ◌==◌, ◌⊎◌, nat_lt, ℕ, zero, suc, Bool, true, false, cond, if◌then◌else◌, List, [], ◌∷◌, ◌++◌, codes, fold, length, map, sum_by, Option, None, refl}
-use Rattle.std.specs.List.{AllByRecursion}
-use Rattle.std.specs.Option.{option_map_or}
-use Rattle.std.proofs.Common.{sym, ◌∙◌, ap, arith, subst, inl, inr}
-use Rattle.std.proofs.Math.Nat.{mod-lt}
-use Rattle.std.proofs.lemmas.Bool.{eqb-true, eqb-false, ltb-true, ltb-false}
+use Rattle.exercise_course.proofs.Common.{◌≡◌, ◌≢◌, ◌≤◌, ◌<◌, ◌+◌, ◌-◌, ◌*◌, ◌/◌, ◌%◌, ◌==◌, ◌⊎◌, nat_lt, ℕ, zero, suc, Bool, true, false, cond, if◌then◌else◌, List, [], ◌∷◌, ◌++◌, length, map, sum_by, Option, None, refl, AllByRecursion, option_map_or, sym, ◌∙◌, ap, arith, subst, inl, inr, mod-lt}
+use Rattle.exercise_course.proofs.Common.{eqb-true, eqb-false, ltb-true, ltb-false, sum_by-cons, sum_by_push, Request, Reply, ListedMessage, Lists, add_message, mailbox_named, below, lane_name, made_request, is_hindered, is_ok}
+use Rattle.std.specs.Prelude.{◌^◌, codes, fold}
 use Rattle.std.proofs.lemmas.Fmt.{decimal_injective}
 use Rattle.std.proofs.lemmas.List.{append_cancel_left}
-use Rattle.std.proofs.lemmas.List.Sums.{sum_by-cons, sum_by_push}
 use Rattle.mdbox_base.specs.Numbers.{decimal_text}
-use Rattle.mdbox_base.specs.declared.requests.Request.{Request}
 use Rattle.mdbox_base.specs.declared.requests.Request.TheVariants as request
-use Rattle.mdbox_base.specs.declared.replies.Reply.{Reply}
 use Rattle.mdbox_base.specs.declared.replies.Reply.TheVariants as reply
-use Rattle.model_lists.specs.Lists.{ListedMessage, Lists}
-use Rattle.list_machine.specs.Machine.{add_message, mailbox_named}
-use Rattle.script_text.specs.MadeScript.{below, lane_name, made_request}
-use Rattle.exercise_course.specs.Hindered.{is_hindered, is_ok}
 use Rattle.exercise_course.specs.InOrder.{lists_done}
 use Rattle.exercise_course.proofs.BoxLemmas.{weight_of}
 use Rattle.exercise_course.proofs.PlaceLemmas.{AreLeft, RiseInLanes, comes_in_turn, lanes_in_turn, le_test, left_behind, one_more, split, times, times_other, times_same}

@@ -1,34 +1,19 @@
 -- A run that serves a made script, each of whose requests is OK: the map has a record more for each delivery, and names the same instances.
-use Rattle.std.specs.Prelude.{◌≡◌, ◌≤◌, ◌<◌, ◌+◌, ◌/◌, ◌%◌, ◌==◌, ◌⊎◌, ℕ, zero, suc, Bool, true, false, if◌then◌else◌, All, List, [], ◌∷◌, ◌++◌, filter, length, map, slice_get, slice_index_or, sum_by, take, Option, Some, None, refl}
-use Rattle.std.specs.List.{AllByRecursion}
-use Rattle.std.specs.Option.{option_map, option_or}
-use Rattle.std.proofs.Common.{sym, ◌∙◌, ap, arith, subst, inl, inr}
+use Rattle.exercise_course.proofs.Common.{◌≡◌, ◌≤◌, ◌<◌, ◌+◌, ◌/◌, ◌%◌, ◌==◌, ◌⊎◌, ℕ, zero, suc, Bool, true, false, if◌then◌else◌, All, List, [], ◌∷◌, ◌++◌, filter, length, map, slice_get, slice_index_or, sum_by, take, Option, Some, None, refl, AllByRecursion, option_map, option_or, sym, ◌∙◌, ap}
+use Rattle.exercise_course.proofs.Common.{arith, subst, inl, inr, eq-eqb, eqb-true, take_more, sum_by-cons, sum_by_push, slice_get-get_or, slice_get-map, slice_get_within, Faults, Highest, Request, Refusal, Reply, Lists, MapMeaning, EventPart, Compares, PlacesInstance, TakesFile, PlacesMessage}
+use Rattle.exercise_course.proofs.Common.{StoresRecord, Last, GivesBack, Run, RunEvent, and_then, before, first_in, map_of, own_events, Broken, JournalStep, refusal_in, Around, IsEvent, IsNextEvent, behind_delivery, behind_event, last_refusal, AreNextEvents, IsServed, lists_before, own_more}
+use Rattle.exercise_course.proofs.Common.{own_other, below, made_request, made_round, made_turn, is_ok}
 use Rattle.std.proofs.Math.Seq.{take-length}
-use Rattle.std.proofs.lemmas.Bool.{eq-eqb, eqb-true}
-use Rattle.std.proofs.lemmas.List.{take_more}
 use Rattle.std.proofs.lemmas.List.Folds.{fold-map}
-use Rattle.std.proofs.lemmas.List.Sums.{sum_by-cons, sum_by_push}
-use Rattle.std.proofs.lemmas.Option.{slice_get-get_or, slice_get-map, slice_get_within}
-use Rattle.disk_model.specs.Disk.{Faults}
-use Rattle.mdbox_base.specs.declared.entries.Highest.{Highest}
-use Rattle.mdbox_base.specs.declared.requests.Request.{Request}
 use Rattle.mdbox_base.specs.declared.requests.Request.TheVariants as request
-use Rattle.mdbox_base.specs.declared.replies.Refusal.{Refusal}
-use Rattle.mdbox_base.specs.declared.replies.Reply.{Reply}
 use Rattle.mdbox_base.specs.declared.replies.Reply.TheVariants as reply
-use Rattle.model_lists.specs.Lists.{Lists}
-use Rattle.model_meaning.specs.MapMeaning.{MapMeaning}
 use Rattle.model_mime.specs.Parts.{parts_in}
 use Rattle.model_mime.proofs.PartsLemmas.{detachable_in_order}
 use Rattle.saved_message.proofs.BigPartLemmas.{big_fill, detachable_big}
-use Rattle.list_machine.specs.Run.{EventPart, Compares, PlacesInstance, TakesFile, PlacesMessage, StoresRecord, Last, GivesBack, Run, RunEvent, and_then, before, first_in, map_of, own_events, reply_of}
-use Rattle.journal.specs.Journal.{Broken, JournalStep, refusal_in}
-use Rattle.journal.specs.Events.{Around, IsEvent, IsNextEvent, IsRepliedBy, behind_delivery, behind_event, last_refusal}
-use Rattle.journal.specs.Makes.{AreNextEvents, IsServed, lists_before}
-use Rattle.journal.proofs.OwnEventLemmas.{own_more, own_other}
-use Rattle.script_text.specs.MadeScript.{below, made_message, made_request, made_round, made_turn}
+use Rattle.list_machine.specs.Run.{reply_of}
+use Rattle.journal.specs.Events.{IsRepliedBy}
+use Rattle.script_text.specs.MadeScript.{made_message}
 use Rattle.script_text.proofs.MadeLemmas.{message_length}
-use Rattle.exercise_course.specs.Hindered.{is_ok}
 use Rattle.exercise_course.specs.InOrder.{delivered_by, deliveries_in}
 use Rattle.exercise_course.proofs.CourseLemmas.{at_one, at_place, sum_both}
 use Rattle.exercise_course.proofs.LegalLemmas.{asked_is, script_length, script_of}

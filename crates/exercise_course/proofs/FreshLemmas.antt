@@ -1,26 +1,12 @@
 -- The GUIDs that a run of a made script gives are of new records, of which few counts are kept.
-use Rattle.std.specs.Prelude.{◌≡◌, ◌≤◌, ◌<◌, ◌+◌, ◌/◌, ◌%◌, ◌==◌, ◌⊎◌, ℕ, zero, suc, Bool, true, false, All, List, [], ◌∷◌, ◌++◌, flat_map, length, slice_get, slice_index_or, sum_by, take, Option, Some, None, refl}
-use Rattle.std.proofs.Common.{sym, ◌∙◌, ap, arith, subst, inl, inr}
-use Rattle.std.proofs.lemmas.Bool.{eq-eqb, eqb-true}
+use Rattle.exercise_course.proofs.Common.{◌≡◌, ◌≤◌, ◌<◌, ◌+◌, ◌/◌, ◌%◌, ◌==◌, ◌⊎◌, ℕ, zero, suc, Bool, true, false, All, List, [], ◌∷◌, ◌++◌, flat_map, length, slice_get, slice_index_or, sum_by, take, Option, Some, None, refl, sym, ◌∙◌, ap, arith, subst, inl, inr, eq-eqb, eqb-true, append-nil}
+use Rattle.exercise_course.proofs.Common.{take_more, All-head, sum_by_push, slice_get-get_or, slice_get_within, Uid, Request, Refusal, Lists, MapFits, MapRecord, count_of, EventPart, First, StoresRecord, Last, GivesBack, StartsOver, Run, RunEvent, and_then, before, first_in, map_of, own_events}
+use Rattle.exercise_course.proofs.Common.{JournalStep, Around, DidNothing, DidPart, IsEvent, IsNextEvent, AreNextEvents, lists_before, own_more, own_other, below, made_request}
 use Rattle.std.proofs.lemmas.Grind.{flat_map-append}
-use Rattle.std.proofs.lemmas.List.{append-nil, take_more}
-use Rattle.std.proofs.lemmas.List.Elements.{All-head}
-use Rattle.std.proofs.lemmas.List.Sums.{sum_by_push}
-use Rattle.std.proofs.lemmas.Option.{slice_get-get_or, slice_get_within}
-use Rattle.mdbox_base.specs.declared.ids.Uid.{Uid}
-use Rattle.mdbox_base.specs.declared.requests.Request.{Request}
 use Rattle.mdbox_base.specs.declared.requests.Request.TheVariants as request
-use Rattle.mdbox_base.specs.declared.replies.Refusal.{Refusal}
 use Rattle.mdbox_base.specs.declared.replies.Refusal.TheVariants as refusal
-use Rattle.model_lists.specs.Lists.{Lists}
-use Rattle.model_meaning.specs.MapFits.{MapFits}
-use Rattle.model_meaning.specs.MapMeaning.{MapRecord, count_of}
-use Rattle.list_machine.specs.Run.{EventPart, First, StoresRecord, Last, GivesBack, StartsOver, Run, RunEvent, and_then, before, first_in, guid_added, map_of, own_events}
-use Rattle.journal.specs.Journal.{JournalStep}
-use Rattle.journal.specs.Events.{Around, DidNothing, DidPart, IsEvent, IsNextEvent, guid_given}
-use Rattle.journal.specs.Makes.{AreNextEvents, lists_before}
-use Rattle.journal.proofs.OwnEventLemmas.{own_more, own_other}
-use Rattle.script_text.specs.MadeScript.{below, made_request}
+use Rattle.list_machine.specs.Run.{guid_added}
+use Rattle.journal.specs.Events.{guid_given}
 use Rattle.exercise_course.proofs.BalanceLemmas.{counted_to, raised_by}
 use Rattle.exercise_course.proofs.CountingLemmas.{AreStraight, GoesStraight, IsCountable, IsShort, begun_own, did_counts, nothing_counts, up_at, up_by}
 use Rattle.exercise_course.proofs.DeliveredLemmas.{event_at, round_simple, sum_by_requests, up_to}

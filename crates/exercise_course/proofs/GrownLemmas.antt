@@ -1,23 +1,10 @@
 -- The records that a run of a made script adds, apart from those that were there: which GUIDs they have, and what counts are kept of them.
-use Rattle.std.specs.Prelude.{◌≡◌, ◌≢◌, ◌≤◌, ◌<◌, ◌+◌, ◌-◌, ◌==◌, ℕ, suc, Bool, true, false, not, cond, if◌then◌else◌, All, AllPairs, List, [], ◌∷◌, ◌++◌, filter, find, map, sum_by, Option, Some, None, refl}
-use Rattle.std.specs.List.{AllByRecursion}
-use Rattle.std.specs.Option.{option_map_or, option_or}
-use Rattle.std.specs.Str.{bytes_eq}
-use Rattle.std.proofs.Common.{sym, ◌∙◌, ap, arith, subst, append_assoc}
-use Rattle.std.proofs.lemmas.Bool.{eqb-true}
-use Rattle.std.proofs.lemmas.List.{append-nil}
-use Rattle.std.proofs.lemmas.List.Elements.{All-head, All-weaker}
-use Rattle.std.proofs.lemmas.List.Folds.{find-append}
-use Rattle.std.proofs.lemmas.List.Sums.{sum_by-cons, sum_by_push}
-use Rattle.mdbox_base.specs.declared.entries.MapEntry.{MapEntry}
+use Rattle.exercise_course.proofs.Common.{◌≡◌, ◌≢◌, ◌≤◌, ◌<◌, ◌+◌, ◌-◌, ◌==◌, ℕ, suc, Bool, true, false, not, cond, if◌then◌else◌, All, AllPairs, List, [], ◌∷◌, ◌++◌, filter, find, map, sum_by, Option, Some, None, refl, AllByRecursion, option_map_or, option_or, bytes_eq, sym, ◌∙◌, ap, arith, subst}
+use Rattle.exercise_course.proofs.Common.{eqb-true, append-nil, All-head, All-weaker, find-append, sum_by-cons, sum_by_push, MapEntry, MapMeaning, MapRecord, count_of, map_applied, map_meaning, record_changed, map_more, pairs_head, pairs_tail, text_is, Run, RunEvent, and_then, entries_of, map_of}
+use Rattle.exercise_course.proofs.Common.{entries_more}
+use Rattle.std.proofs.Common.{append_assoc}
 use Rattle.mdbox_base.specs.declared.entries.MapEntry.TheVariants as entry
 use Rattle.mdbox_base.specs.declared.ids.MapUid.{MapUid}
-use Rattle.model_meaning.specs.MapMeaning.{MapMeaning, MapRecord, count_of, map_applied, map_meaning, record_changed}
-use Rattle.model_meaning.proofs.MapLemmas.{map_more}
-use Rattle.model_octets.proofs.PairLemmas.{pairs_head, pairs_tail}
-use Rattle.model_octets.proofs.SearchLemmas.{text_is}
-use Rattle.list_machine.specs.Run.{Run, RunEvent, and_then, entries_of, map_of}
-use Rattle.journal.proofs.RunLemmas.{entries_more}
 use Rattle.exercise_course.proofs.CountingLemmas.{IsCountable, IsShort, IsStep, Rises, all_kept, apart_back, count_of_row, missed_count, missed_sum, up_by, up_in}
 
 -- The records are those that were there, with whatever counts, and others, whose counts sum to so many at the most.

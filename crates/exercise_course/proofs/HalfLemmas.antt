@@ -1,9 +1,6 @@
 -- At most about half of the requests of a made script raise a count.
-use Rattle.std.specs.Prelude.{◌≡◌, ◌≤◌, ◌+◌, ◌*◌, ◌/◌, ◌%◌, ℕ, zero, suc, sum_by, refl}
-use Rattle.std.proofs.Common.{◌∙◌, ap, arith}
+use Rattle.exercise_course.proofs.Common.{◌≡◌, ◌≤◌, ◌+◌, ◌*◌, ◌/◌, ◌%◌, ℕ, zero, suc, sum_by, refl, ◌∙◌, ap, arith, sum_by_push, below, made_request, made_round, made_turn}
 use Rattle.std.proofs.Math.Nat.{add-mul-div_left}
-use Rattle.std.proofs.lemmas.List.Sums.{sum_by_push}
-use Rattle.script_text.specs.MadeScript.{below, made_request, made_round, made_turn}
 use Rattle.exercise_course.proofs.BalanceLemmas.{raised_by}
 
 -- whether a round raises a count, and whether it doesn't

@@ -1,28 +1,15 @@
 -- A legal journal of a made script is a course of its requests.
-use Rattle.std.specs.Prelude.{◌≡◌, ◌⊎◌, ◌≤◌, ◌<◌, ◌+◌, ◌/◌, ◌%◌, ◌==◌, ℕ, zero, suc, Bool, true, false, cond, if◌then◌else◌, List, [], ◌∷◌, ◌++◌, All, AllPairs, filter, length, map, slice_get, slice_index_or, sum_by, Some, refl}
-use Rattle.std.specs.List.{AllByRecursion}
-use Rattle.std.specs.Option.{option_map}
-use Rattle.std.proofs.Common.{sym, ◌∙◌, ap, arith, subst, inl, inr}
-use Rattle.std.proofs.lemmas.Bool.{eq-eqb, eqb-true, eqb-false}
-use Rattle.std.proofs.lemmas.List.{length-map, length-append}
-use Rattle.std.proofs.lemmas.List.Elements.{All-head, All-tail}
+use Rattle.exercise_course.proofs.Common.{◌≡◌, ◌⊎◌, ◌≤◌, ◌<◌, ◌+◌, ◌/◌, ◌%◌, ◌==◌, ℕ, zero, suc, Bool, true, false, cond, if◌then◌else◌, List, [], ◌∷◌, ◌++◌, All, AllPairs, filter, length, map, slice_get, slice_index_or, sum_by, Some, refl, AllByRecursion, option_map, sym, ◌∙◌, ap, arith, subst}
+use Rattle.exercise_course.proofs.Common.{inl, inr, eq-eqb, eqb-true, eqb-false, length-append, All-head, All-tail, sum_by-cons, slice_get-get_or, slice_get-map, slice_get_within, Faults, Request, Refusal, Reply, Mailbox, Lists, pairs_head, pairs_tail, Run, before, Answers, AreSteps, IsStep}
+use Rattle.exercise_course.proofs.Common.{JournalStep, left_by, below, made_request, made_round, made_turn, BeginsFree, is_hindered, is_ok}
+use Rattle.std.proofs.lemmas.List.{length-map}
 use Rattle.std.proofs.lemmas.List.Folds.{fold-map}
-use Rattle.std.proofs.lemmas.List.Sums.{length-filter, sum_by-cons}
-use Rattle.std.proofs.lemmas.Option.{slice_get-get_or, slice_get-map, slice_get_within}
-use Rattle.disk_model.specs.Disk.{Faults}
-use Rattle.mdbox_base.specs.declared.requests.Request.{Request}
+use Rattle.std.proofs.lemmas.List.Sums.{length-filter}
 use Rattle.mdbox_base.specs.declared.requests.Request.TheVariants as request
-use Rattle.mdbox_base.specs.declared.replies.Refusal.{Refusal}
 use Rattle.mdbox_base.specs.declared.replies.Refusal.TheVariants as refusal
-use Rattle.mdbox_base.specs.declared.replies.Reply.{Reply}
 use Rattle.mdbox_base.specs.declared.replies.Reply.TheVariants as reply
-use Rattle.model_lists.specs.Lists.{Mailbox, Lists}
-use Rattle.model_octets.proofs.PairLemmas.{pairs_head, pairs_tail}
-use Rattle.list_machine.specs.Run.{Run, before}
-use Rattle.list_machine.specs.Machine.{Answers}
-use Rattle.journal.specs.Journal.{AreReplied, AreSteps, HasAllSteps, HasReply, IsLegal, IsReplyOf, IsStep, JournalStep, Requests, left_by, steps_of}
-use Rattle.script_text.specs.MadeScript.{below, made_request, made_round, made_turn}
-use Rattle.exercise_course.specs.Hindered.{BeginsFree, is_hindered, is_ok, is_stopped}
+use Rattle.journal.specs.Journal.{AreReplied, HasAllSteps, HasReply, IsLegal, IsReplyOf, Requests, steps_of}
+use Rattle.exercise_course.specs.Hindered.{is_stopped}
 use Rattle.exercise_course.specs.InOrder.{lists_in_order, message_total, octet_total}
 use Rattle.exercise_course.proofs.BoxLemmas.{weight_in, weight_of}
 use Rattle.exercise_course.proofs.CourseLemmas.{anything, AreAllPlaces, AreTurns, IsWhole, Turn, all_are_whole, left_of, place_of, weighs_in_order}

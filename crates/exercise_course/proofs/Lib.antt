@@ -1,5 +1,6 @@
 pub mod BalanceLemmas
 pub mod BoxLemmas
+pub mod Common
 pub mod CopiesLemmas
 pub mod CountingLemmas
 pub mod CourseLemmas

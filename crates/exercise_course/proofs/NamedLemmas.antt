@@ -1,40 +1,18 @@
 -- A made script deletes no mailbox and renames none: each name of a lane keeps its mailbox, so that no copy begins again.
-use Rattle.std.specs.Prelude.{◌≡◌, ◌≢◌, ◌≤◌, ◌<◌, ◌+◌, ◌-◌, ◌/◌, ◌%◌, ◌==◌, ◌||◌, nat_lt, ℕ, zero, suc, Bool, true, false, not, cond, if◌then◌else◌, All, AllPairs, List, [], ◌∷◌, ◌++◌, filter, find, flat_map, fold, length, map, slice_get, slice_index_or, take, Option, Some, None, is_some, option_map, refl}
-use Rattle.std.specs.Option.{option_map_or, option_or}
-use Rattle.std.specs.Str.{bytes_eq}
-use Rattle.std.proofs.Common.{sym, ◌∙◌, ap, arith, subst}
-use Rattle.std.proofs.Math.Nat.{mod-lt}
-use Rattle.std.proofs.lemmas.Bool.{eq-eqb, eqb-true, ltb-true, ltb-false}
-use Rattle.std.proofs.lemmas.Grind.{common_steps}
-use Rattle.std.proofs.lemmas.List.{append-nil, take_more}
-use Rattle.std.proofs.lemmas.List.Elements.{All-head, All-tail, All-weaker}
-use Rattle.std.proofs.lemmas.List.Folds.{find-append}
-use Rattle.std.proofs.lemmas.Option.{slice_get-get_or, slice_get_within}
-use Rattle.mdbox_base.specs.declared.entries.MapEntry.{MapEntry}
+use Rattle.exercise_course.proofs.Common.{◌≡◌, ◌≢◌, ◌≤◌, ◌<◌, ◌+◌, ◌-◌, ◌/◌, ◌%◌, ◌==◌, nat_lt, ℕ, zero, suc, Bool, true, false, not, cond, if◌then◌else◌, All, AllPairs, List, [], ◌∷◌, ◌++◌, filter, find, flat_map, length, map, slice_get, slice_index_or, take, Option, Some, None, is_some, refl}
+use Rattle.exercise_course.proofs.Common.{option_map_or, option_or, bytes_eq, sym, ◌∙◌, ap, arith, subst, mod-lt, eq-eqb, eqb-true, ltb-true, ltb-false, common_steps, append-nil, take_more, All-head, All-tail, All-weaker, find-append, slice_get-get_or, slice_get_within, MapEntry, Uid, Request}
+use Rattle.exercise_course.proofs.Common.{Refusal, Reply, ListedMessage, Mailbox, Lists, change_first, empty_mailbox, MapFits, MapMeaning, map_applied, map_meaning, map_more, pairs_head, pairs_tail, text_is, EventPart, First, Last, GivesBack, StartsOver, Run, RunEvent, and_then, before, entries_of}
+use Rattle.exercise_course.proofs.Common.{map_of, own_events, Answers, Does, add_last, has_name, is_message_of_uid, mailbox_named, without_first, AreSteps, IsStep, JournalStep, left_by, refusal_in, Around, DidPart, IsEvent, IsNextEvent, behind_event, last_refusal, AreNextEvents, lists_before}
+use Rattle.exercise_course.proofs.Common.{own_more, own_other, entries_more, lane_name, made_request, made_round, made_turn, BeginsFree}
+use Rattle.std.specs.Prelude.{◌||◌, fold, option_map}
 use Rattle.mdbox_base.specs.declared.entries.MapEntry.TheVariants as entry
 use Rattle.mdbox_base.specs.declared.ids.BoxNo.{BoxNo}
-use Rattle.mdbox_base.specs.declared.ids.Uid.{Uid}
-use Rattle.mdbox_base.specs.declared.requests.Request.{Request}
 use Rattle.mdbox_base.specs.declared.requests.Request.TheVariants as request
-use Rattle.mdbox_base.specs.declared.replies.Refusal.{Refusal}
 use Rattle.mdbox_base.specs.declared.replies.Refusal.TheVariants as refusal
-use Rattle.mdbox_base.specs.declared.replies.Reply.{Reply}
 use Rattle.mdbox_base.specs.declared.replies.Reply.TheVariants as reply
-use Rattle.model_lists.specs.Lists.{ListedMessage, Mailbox, Lists, change_first, empty_mailbox}
-use Rattle.model_meaning.specs.MapFits.{MapFits}
-use Rattle.model_meaning.specs.MapMeaning.{MapBox, MapMeaning, box_changed, box_named, map_applied, map_meaning}
-use Rattle.model_meaning.proofs.MapLemmas.{map_more}
-use Rattle.model_octets.proofs.PairLemmas.{pairs_head, pairs_tail}
-use Rattle.model_octets.proofs.SearchLemmas.{text_is}
-use Rattle.list_machine.specs.Run.{EventPart, First, Last, GivesBack, StartsOver, Run, RunEvent, and_then, before, entries_of, map_of, number_made, own_events, source_of, uid_copied}
-use Rattle.list_machine.specs.Machine.{Answers, Does, add_last, has_name, is_message_of_uid, mailbox_named, without_first}
-use Rattle.journal.specs.Journal.{AreSteps, IsStep, JournalStep, left_by, refusal_in}
-use Rattle.journal.specs.Events.{Around, DidPart, IsEvent, IsNextEvent, behind_event, ends_with_count, is_elsewhere, last_refusal, number_of}
-use Rattle.journal.specs.Makes.{AreNextEvents, lists_before}
-use Rattle.journal.proofs.OwnEventLemmas.{own_more, own_other}
-use Rattle.journal.proofs.RunLemmas.{entries_more}
-use Rattle.script_text.specs.MadeScript.{lane_name, made_request, made_round, made_turn}
-use Rattle.exercise_course.specs.Hindered.{BeginsFree}
+use Rattle.model_meaning.specs.MapMeaning.{MapBox, box_changed, box_named}
+use Rattle.list_machine.specs.Run.{number_made, source_of, uid_copied}
+use Rattle.journal.specs.Events.{ends_with_count, is_elsewhere, number_of}
 use Rattle.exercise_course.proofs.CountingLemmas.{AreStraight, GoesStraight, IsShort, IsStep as IsCountStep, did_counts, nothing_counts}
 use Rattle.exercise_course.proofs.DeliveredLemmas.{event_at, round_simple}
 use Rattle.exercise_course.proofs.LegalLemmas.{asked_is, script_length, script_of, step_asked}

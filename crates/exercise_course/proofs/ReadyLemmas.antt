@@ -1,18 +1,12 @@
 -- A request whose mailbox and message are there is done, unless it is hindered.
-use Rattle.std.specs.Prelude.{◌≡◌, ◌<◌, nat_le, ℕ, Bool, true, false, List, [], ◌∷◌, ◌++◌, length, Option, Some, None, is_none, is_some, refl, ◌⊎◌}
-use Rattle.std.specs.Option.{option_map_or, option_or}
-use Rattle.std.proofs.Common.{sym, ◌∙◌, ap, arith, inl, inr}
-use Rattle.std.proofs.lemmas.Grind.{common_steps}
-use Rattle.mdbox_base.specs.declared.requests.Request.{Request}
+use Rattle.exercise_course.proofs.Common.{◌≡◌, ◌<◌, ℕ, Bool, true, false, List, [], ◌∷◌, ◌++◌, length, Option, Some, None, is_some, refl, ◌⊎◌, option_map_or, option_or, sym, ◌∙◌, ap, arith, inl, inr, common_steps, Request, Refusal, Reply, ListedMessage, Mailbox, Lists, empty_mailbox, EventPart}
+use Rattle.exercise_course.proofs.Common.{First, PlacesInstance, TakesFile, StoresRecord, Last, StartsOver, RunEvent, Run, Answers, Does, add_message, expunge, mailbox_named, message_at, set_flags, is_hindered, is_ok}
+use Rattle.std.specs.Prelude.{nat_le, is_none}
 use Rattle.mdbox_base.specs.declared.requests.Request.TheVariants as request
-use Rattle.mdbox_base.specs.declared.replies.Refusal.{Refusal}
 use Rattle.mdbox_base.specs.declared.replies.Refusal.TheVariants as refusal
-use Rattle.mdbox_base.specs.declared.replies.Reply.{Reply}
 use Rattle.mdbox_base.specs.declared.replies.Reply.TheVariants as reply
-use Rattle.model_lists.specs.Lists.{ListedMessage, Mailbox, Lists, empty_mailbox}
-use Rattle.list_machine.specs.Run.{EventPart, First, PlacesInstance, TakesFile, StoresRecord, Last, SecondHalf, StartsOver, RunEvent, Run}
-use Rattle.list_machine.specs.Machine.{Answers, Does, Check, HasMailbox, IsNewName, HasUid, RoomForMailbox, RoomForMessage, NextUid, NextMapUid, NextFiles, NextInstance, NextMailbox, MayBeCopied, add_message, expunge, first_refusal, mailbox_named, message_at, part_checks, refusal_at, refused_where, set_flags}
-use Rattle.exercise_course.specs.Hindered.{is_hindered, is_ok}
+use Rattle.list_machine.specs.Run.{SecondHalf}
+use Rattle.list_machine.specs.Machine.{Check, HasMailbox, IsNewName, HasUid, RoomForMailbox, RoomForMessage, NextUid, NextMapUid, NextFiles, NextInstance, NextMailbox, MayBeCopied, first_refusal, part_checks, refusal_at, refused_where}
 
 -- ---- checks
 

@@ -1,13 +1,8 @@
 -- What a lane's mailbox lists, by how many of the lane's requests are done.
-use Rattle.std.specs.Prelude.{◌≡◌, ◌≢◌, ◌≤◌, ◌<◌, ◌+◌, ◌*◌, ◌/◌, ◌%◌, ◌⊎◌, ℕ, zero, suc, List, [], ◌∷◌, ◌++◌, length, Some, None, refl}
+use Rattle.exercise_course.proofs.Common.{◌≡◌, ◌≢◌, ◌≤◌, ◌<◌, ◌+◌, ◌*◌, ◌/◌, ◌%◌, ◌⊎◌, ℕ, zero, suc, List, [], ◌∷◌, ◌++◌, length, Some, None, refl, sym, ◌∙◌, ap, arith, subst, inl, inr, length-append, Request, ListedMessage, Mailbox, Lists, empty_mailbox, change_first, add_last, add_message}
+use Rattle.exercise_course.proofs.Common.{expunge, has_name, is_message_of_uid, mailbox_named, message_at, message_in, set_flags, without_first, lane_name, made_round, made_turn}
 use Rattle.std.specs.Option.{option_and_then}
-use Rattle.std.proofs.Common.{sym, ◌∙◌, ap, arith, subst, inl, inr}
-use Rattle.std.proofs.lemmas.List.{length-append}
-use Rattle.mdbox_base.specs.declared.requests.Request.{Request}
 use Rattle.mdbox_base.specs.declared.requests.Request.TheVariants as request
-use Rattle.model_lists.specs.Lists.{ListedMessage, Mailbox, Lists, empty_mailbox, change_first}
-use Rattle.list_machine.specs.Machine.{add_last, add_message, expunge, has_name, is_message_of_uid, mailbox_named, message_at, message_in, set_flags, without_first}
-use Rattle.script_text.specs.MadeScript.{lane_name, made_round, made_turn}
 use Rattle.script_text.proofs.MadeLemmas.{message_length}
 use Rattle.exercise_course.proofs.BoxLemmas.{kept_added, length_changed, length_without, named_beside, named_changed, named_made, named_other, new_added, none_added, none_changed, none_without, other_without, weight_added, weight_expunged, weight_flagged, weight_made, weight_of}
 use Rattle.exercise_course.proofs.ReadyLemmas.{HasRoom, IsDone, IsListed, IsReady}

@@ -1,25 +1,17 @@
 -- What the events of a made script's requests add to the map: a delivery one record, which names no instance.
-use Rattle.std.specs.Prelude.{◌≡◌, ◌+◌, ◌==◌, nat_lt, ℕ, suc, Bool, true, false, not, if◌then◌else◌, List, [], ◌∷◌, ◌++◌, filter, flat_map, length, map, sum_by, Option, Some, None, refl}
-use Rattle.std.specs.List.{AllByRecursion}
-use Rattle.std.proofs.Common.{sym, ◌∙◌, ap, arith, subst, append_assoc}
+use Rattle.exercise_course.proofs.Common.{◌≡◌, ◌+◌, ◌==◌, nat_lt, ℕ, suc, Bool, true, false, not, if◌then◌else◌, List, [], ◌∷◌, ◌++◌, filter, flat_map, length, map, sum_by, Option, Some, None, refl, AllByRecursion, sym, ◌∙◌, ap, arith, subst, append-nil, length-append, sum_by-cons, sum_by_push}
+use Rattle.exercise_course.proofs.Common.{MapEntry, Request, Refusal, Lists, MapMeaning, MapRecord, map_applied, map_meaning, record_changed, map_more, EventPart, First, Compares, PlacesInstance, TakesFile, PlacesMessage, StoresRecord, Last, GivesBack, StartsOver, Run, RunEvent, and_then}
+use Rattle.exercise_course.proofs.Common.{entries_of, map_of, own_events, Around, DidNothing, DidPart, IsEvent, behind_delivery, behind_event, entries_more}
+use Rattle.std.proofs.Common.{append_assoc}
 use Rattle.std.proofs.lemmas.Bool.{le-ltb}
 use Rattle.std.proofs.lemmas.Grind.{flat_map-append}
-use Rattle.std.proofs.lemmas.List.{append-nil, length-append}
-use Rattle.std.proofs.lemmas.List.Sums.{sum_by-cons, sum_by_push}
-use Rattle.mdbox_base.specs.declared.entries.MapEntry.{MapEntry}
 use Rattle.mdbox_base.specs.declared.entries.MapEntry.TheVariants as entry
 use Rattle.mdbox_base.specs.declared.entries.InstRow.{InstRow}
-use Rattle.mdbox_base.specs.declared.requests.Request.{Request}
 use Rattle.mdbox_base.specs.declared.requests.Request.TheVariants as request
-use Rattle.mdbox_base.specs.declared.replies.Refusal.{Refusal}
 use Rattle.mdbox_base.specs.declared.replies.Refusal.TheVariants as refusal
-use Rattle.model_lists.specs.Lists.{Lists}
 use Rattle.model_mime.specs.Parts.{parts_in}
-use Rattle.model_meaning.specs.MapMeaning.{MapMeaning, MapRecord, has_map_uid, map_applied, map_meaning, record_changed, record_made}
-use Rattle.model_meaning.proofs.MapLemmas.{map_more}
-use Rattle.list_machine.specs.Run.{EventPart, First, Compares, PlacesInstance, TakesFile, PlacesMessage, StoresRecord, Last, GivesBack, StartsOver, Run, RunEvent, and_then, entries_of, map_of, own_events}
-use Rattle.journal.specs.Events.{Around, DidNothing, DidPart, IsEvent, behind_addition, behind_delivery, behind_event, instances_found, next_part}
-use Rattle.journal.proofs.RunLemmas.{entries_more}
+use Rattle.model_meaning.specs.MapMeaning.{has_map_uid, record_made}
+use Rattle.journal.specs.Events.{behind_addition, instances_found, next_part}
 use Rattle.exercise_course.specs.InOrder.{delivered_by}
 
 -- ---- the map

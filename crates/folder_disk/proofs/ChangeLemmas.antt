@@ -1,27 +1,15 @@
 -- A disk over a system, one change on.
-use Rattle.std.proofs.Common.{◌≡◌, inl, inr, ℕ, ◌<◌, ◌≤◌, Bool, true, false, List, [], ◌∷◌, length, take, All, Option, Some, None, refl, sym, ◌∙◌, ap, subst, arith}
-use Rattle.std.proofs.Math.Logic.{∥∥₁_elim, ∥∥₁_map}
-use Rattle.std.proofs.Props.{props}
-use Rattle.std.proofs.lemmas.Bool.{cases_Bool, cond-true, cond-false, false≢true}
-use Rattle.disk_model.specs.Disk.{FileState, DiskState, History, MayLeave, IfTold, Reaches, AfterFailed, reading, change, written, half_written, overlaid, after}
-use Rattle.disk_model.specs.Name.{same_name}
-use Rattle.disk_model.specs.declared.name.FileName.{FileName}
-use Rattle.disk_model.proofs.NameLemmas.{same_name-true}
-use Rattle.file_paths.specs.Paths.{path_text, IsStoreFile}
-use Rattle.file_paths.proofs.OneFileLemmas.{own_paths}
-use Rattle.folder_model.specs.System.{System, IsHalfWritten, with_content}
-use Rattle.folder_model.specs.Calls.{Modelled, IfModelled, IsLocked, Becomes}
+use Rattle.folder_disk.proofs.Common.{◌≡◌, inl, inr, ℕ, ◌<◌, ◌≤◌, Bool, true, false, List, [], ◌∷◌, length, take, All, Option, Some, None, refl, sym, ◌∙◌, ap, subst, arith, ∥∥₁_elim, ∥∥₁_map, props, cases_Bool, cond-true, cond-false, false≢true, FileState, DiskState, History, MayLeave, IfTold}
+use Rattle.folder_disk.proofs.Common.{AfterFailed, reading, written, half_written, after, same_name, FileName, same_name-true, path_text, IsStoreFile, own_paths, System, with_content, Modelled, IfModelled, IsLocked, Becomes, octets_at, FollowsSystem, CoversSystem, covered, content_follows}
+use Rattle.folder_disk.proofs.Common.{reads_there, Change, state_after, HasFileAt, IsChanged, IsPartlyChanged, IsStoreSystem, IsDiskOf, IsStoreDisk, IsOver, IsDiskOver, IsFailedChange, told_history, hold_is}
+use Rattle.disk_model.specs.Disk.{Reaches, change, overlaid}
+use Rattle.folder_model.specs.System.{IsHalfWritten}
 use Rattle.folder_model.proofs.PartLemmas.{length-overlaid, overlaid-octets}
 use Rattle.folder_calls.specs.Writing.{IsWriting}
-use Rattle.disk_files.specs.Follows.{octets_at, FollowsSystem, CoversSystem, half_written_as}
-use Rattle.disk_files.proofs.ImageLemmas.{covered}
-use Rattle.disk_files.proofs.StepLemmas.{content_follows, written-alike, half-alike, reads_there}
-use Rattle.disk_record.specs.declared.change.Change.{Change}
+use Rattle.disk_files.specs.Follows.{half_written_as}
+use Rattle.disk_files.proofs.StepLemmas.{written-alike, half-alike}
 use Rattle.disk_record.specs.declared.change.Change.TheVariants.{Written, HalfWritten}
-use Rattle.disk_record.specs.Record.{state_after}
-use Rattle.folder_disk.specs.Files.{HasFileAt, IfFile, IsChanged, IsPartlyChanged, AreAfter}
-use Rattle.folder_disk.specs.Over.{IsStoreSystem, IsDiskOf, IsStoreDisk, IsOver, IsDiskOver, IsFailedChange, told_history}
-use Rattle.folder_disk.specs.ReadsImage.{hold_is}
+use Rattle.folder_disk.specs.Files.{IfFile, AreAfter}
 use Rattle.folder_disk.proofs.OverLemmas.{so_far, next_of, over_goes_on}
 use Rattle.folder_disk.proofs.WideLemmas.{front_leaves, front_half_leaves, half_leaves, covers_more, change_leaves, covers_weakened, wider_leaves, wider_reads, failed_wider, failed_after}
 

@@ -1,28 +1,15 @@
 -- The folders in which names have changed, one call on.
-use Rattle.std.proofs.Common.{◌≡◌, ◌≢◌, ◌⊎◌, inl, inr, ℕ, ◌<◌, length, Bool, true, false, if◌then◌else◌, List, [], ◌∷◌, ◌++◌, Option, Some, None, Result, Ok, Err, OnOk, All, Contains, codes, refl, sym, ◌∙◌, ap, subst, arith}
-use Rattle.std.proofs.Math.Logic.{∥∥₁_elim, ∥∥₁_map}
-use Rattle.std.proofs.Props.{props}
-use Rattle.std.proofs.lemmas.Bool.{cases_Bool, cond-true, cond-false, false≢true}
+use Rattle.folder_disk.proofs.Common.{◌≡◌, ◌≢◌, ◌⊎◌, inl, inr, ℕ, ◌<◌, length, Bool, true, false, if◌then◌else◌, List, [], ◌∷◌, ◌++◌, Option, Some, None, Result, Ok, Err, All, Contains, codes, refl, sym, ◌∙◌, ap, subst, arith, ∥∥₁_elim, ∥∥₁_map, props, cases_Bool, cond-true, cond-false, false≢true}
+use Rattle.folder_disk.proofs.Common.{FileState, synced, after, same_octets, FileName, same_octets-true, path_text, IsStoreFile, folder_at, Node, Nothing, PlainFile, AFolder, System, with_node, with_new_file, with_content, with_synced_file, with_synced_names, Modelled, IfModelled, Becomes, done_by}
+use Rattle.folder_disk.proofs.Common.{HasDurableNames, state_after, Change, IsToSync, KeepsNames, ChangesName, NotesNames, HasFileAt, IsChanged, folder_text, folder_for, upper_of, IsFolderName, IsSyncedFolder, AreSynced, HasSameNodes, IsUnseen, HasFolders, IsDiskOver, FolderName}
+use Rattle.std.proofs.Common.{OnOk}
 use Rattle.std.proofs.lemmas.List.Elements.{Contains-push, Contains-append_left, All-contains}
-use Rattle.disk_model.specs.Disk.{FileState, synced, after}
-use Rattle.disk_model.specs.Name.{same_octets}
-use Rattle.disk_model.specs.declared.name.FileName.{FileName}
-use Rattle.disk_model.proofs.NameLemmas.{same_octets-true, same_octets-refl}
-use Rattle.file_paths.specs.Paths.{path_text, IsStoreFile}
-use Rattle.folder_model.specs.Paths.{folder_at}
-use Rattle.folder_model.specs.System.{Node, Nothing, PlainFile, AFolder, System, with_node, with_new_file, with_content, with_synced_file, with_synced_names}
-use Rattle.folder_model.specs.Calls.{Modelled, IfModelled, Becomes, done_by}
+use Rattle.disk_model.proofs.NameLemmas.{same_octets-refl}
 use Rattle.disk_files.proofs.NameStepLemmas.{node-apart}
-use Rattle.disk_files.specs.Follows.{HasDurableNames}
-use Rattle.disk_record.specs.Record.{state_after}
-use Rattle.disk_record.specs.declared.change.Change.{Change}
 use Rattle.disk_record.specs.declared.change.Change.TheVariants as change
-use Rattle.folder_disk.specs.Changed.{IsToSync, KeepsToSync, AreSyncedBut, StaysSynced, KeepsNames, ChangesName, NotesNames}
-use Rattle.folder_disk.specs.Files.{HasFileAt, IsChanged}
-use Rattle.folder_disk.specs.Folders.{folder_text, folder_for, upper_of, IsFolderName, IsSyncedFolder, AreSynced, HasSameNodes, IsUnseen, IsSeenAs}
-use Rattle.folder_disk.specs.Over.{HasFolders, IsDiskOver}
+use Rattle.folder_disk.specs.Changed.{KeepsToSync, AreSyncedBut, StaysSynced}
+use Rattle.folder_disk.specs.Folders.{IsSeenAs}
 use Rattle.folder_disk.specs.declared.changed.Changed.{Changed}
-use Rattle.folder_disk.specs.declared.folder_name.FolderName.{FolderName}
 use Rattle.folder_disk.specs.declared.folder_name.FolderName.TheVariants as folder
 use Rattle.folder_disk.proofs.DurableLemmas.{durable}
 use Rattle.folder_disk.proofs.PlaceLemmas.{file_folder, upper_at}

@@ -1,24 +1,15 @@
 -- A disk over a system, one cut on.
-use Rattle.std.proofs.Common.{◌≡◌, inl, inr, ℕ, ◌<◌, ◌≤◌, true, false, List, ◌∷◌, [], length, take, slice_get, get_or, Option, Some, None, refl, sym, ◌∙◌, ap, subst, arith}
-use Rattle.std.proofs.Math.Logic.{∥∥₁_map}
-use Rattle.std.proofs.lemmas.Bool.{cond-true, false≢true, cases_lt}
+use Rattle.folder_disk.proofs.Common.{◌≡◌, inl, inr, ℕ, ◌<◌, ◌≤◌, true, false, List, ◌∷◌, [], length, take, slice_get, get_or, Option, Some, None, refl, sym, ◌∙◌, ap, subst, arith, ∥∥₁_map, cond-true, false≢true, FileState, History, MayLeave, IfTold, AfterFailed, reading, cut_to, half_cut, after}
+use Rattle.folder_disk.proofs.Common.{FileName, path_text, IsStoreFile, own_paths, System, IsHalfCut, with_content, Modelled, HasPassed, Becomes, CoversFile, FollowsSystem, CoversSystem, covered, content_follows, Change, IsChanged, IsPartlyChanged, IsStoreSystem, IsOver, IsDiskOver, told_history}
+use Rattle.folder_disk.proofs.Common.{hold_is}
+use Rattle.std.proofs.lemmas.Bool.{cases_lt}
 use Rattle.std.proofs.lemmas.List.{length-take, places}
 use Rattle.std.proofs.lemmas.List.Elements.{All-take}
 use Rattle.std.proofs.lemmas.Option.{slice_get-get_or, slice_get_past}
-use Rattle.disk_model.specs.Disk.{FileState, History, MayLeave, IfTold, Reaches, AfterFailed, reading, change, cut_to, half_cut, after}
-use Rattle.disk_model.specs.declared.name.FileName.{FileName}
-use Rattle.file_paths.specs.Paths.{path_text, IsStoreFile}
-use Rattle.file_paths.proofs.OneFileLemmas.{own_paths}
-use Rattle.folder_model.specs.System.{System, IsHalfCut, with_content}
-use Rattle.folder_model.specs.Calls.{Modelled, HasPassed, Becomes}
-use Rattle.disk_files.specs.Follows.{CoversFile, ChangesAlike, FollowsSystem, CoversSystem}
-use Rattle.disk_files.proofs.ImageLemmas.{covered}
-use Rattle.disk_files.proofs.StepLemmas.{content_follows, cut-alike}
-use Rattle.disk_record.specs.declared.change.Change.{Change}
+use Rattle.disk_model.specs.Disk.{Reaches, change}
+use Rattle.disk_files.specs.Follows.{ChangesAlike}
+use Rattle.disk_files.proofs.StepLemmas.{cut-alike}
 use Rattle.disk_record.specs.declared.change.Change.TheVariants.{Cut, HalfCut}
-use Rattle.folder_disk.specs.Files.{IsChanged, IsPartlyChanged}
-use Rattle.folder_disk.specs.Over.{IsStoreSystem, IsOver, IsDiskOver, told_history}
-use Rattle.folder_disk.specs.ReadsImage.{hold_is}
 use Rattle.folder_disk.proofs.OverLemmas.{so_far, over_goes_on}
 use Rattle.folder_disk.proofs.WideLemmas.{Leaves, covers_more, change_leaves, covers_weakened, wider_leaves, failed_wider, failed_after}
 use Rattle.folder_disk.proofs.ChangeLemmas.{after_then, by_path, changed_store, failed_store, content_stays}

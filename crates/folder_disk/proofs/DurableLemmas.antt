@@ -1,22 +1,11 @@
 -- The names of a disk, once those of each folder were synced.
-use Rattle.std.proofs.Common.{◌≡◌, ◌≢◌, inl, inr, ℕ, ◌<◌, Bool, true, false, List, [], ◌∷◌, length, Option, Some, None, Contains, codes, refl, sym, ◌∙◌, ap, subst, arith}
-use Rattle.std.proofs.lemmas.Bool.{cases_Bool, cond-true, cond-false, false≢true}
-use Rattle.disk_model.specs.Disk.{FileState, DiskState, MayLeave, reading, no_file, change_all, named}
-use Rattle.disk_model.specs.declared.name.FileName.{FileName}
-use Rattle.file_paths.specs.Paths.{path_text, IsStoreFile}
-use Rattle.folder_model.specs.Paths.{folder_at}
-use Rattle.folder_model.specs.System.{Node, Nothing, PlainFile, AFolder, System, MayStand}
-use Rattle.folder_model.specs.Calls.{Modelled}
-use Rattle.disk_files.specs.Follows.{StaysFolder, Current, Below, FollowsSystem, HasDurableNames}
-use Rattle.disk_files.proofs.ImageLemmas.{covered}
+use Rattle.folder_disk.proofs.Common.{◌≡◌, ◌≢◌, inl, inr, ℕ, ◌<◌, Bool, true, false, List, [], ◌∷◌, length, Option, Some, None, Contains, codes, refl, sym, ◌∙◌, ap, subst, arith, cases_Bool, cond-true, cond-false, false≢true, FileState, DiskState, MayLeave, reading, no_file, change_all, named}
+use Rattle.folder_disk.proofs.Common.{FileName, path_text, IsStoreFile, folder_at, Node, Nothing, PlainFile, AFolder, System, MayStand, Modelled, StaysFolder, FollowsSystem, HasDurableNames, covered, Change, folder_text, folder_for, upper_of, IsFolderName, IsSyncedFolder, AreSynced, HasFolders}
+use Rattle.folder_disk.proofs.Common.{IsStoreDisk, IsOver, FolderName, hold_is}
+use Rattle.disk_files.specs.Follows.{Current, Below}
 use Rattle.disk_files.proofs.NameStepLemmas.{names_follow}
-use Rattle.disk_record.specs.declared.change.Change.{Change}
 use Rattle.disk_record.specs.declared.change.Change.TheVariants.{NamesSynced}
-use Rattle.folder_disk.specs.Folders.{folder_text, folder_for, upper_of, IsFolderName, IsSyncedFolder, AreSynced}
-use Rattle.folder_disk.specs.Over.{HasFolders, IsStoreDisk, IsOver}
-use Rattle.folder_disk.specs.declared.folder_name.FolderName.{FolderName}
 use Rattle.folder_disk.specs.declared.folder_name.FolderName.TheVariants as folder
-use Rattle.folder_disk.specs.ReadsImage.{hold_is}
 use Rattle.folder_disk.proofs.OverLemmas.{so_far, over_goes_on}
 use Rattle.folder_disk.proofs.PlaceLemmas.{file_folder, file_folder_name, folder_not_top, upper_at, no_file_at}
 

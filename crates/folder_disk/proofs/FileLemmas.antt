@@ -1,16 +1,10 @@
 -- The file at a path, as calls find it and change it.
-use Rattle.std.proofs.Common.{◌≡◌, ◌≢◌, inl, inr, ℕ, List, Option, Some, None, refl, sym, ◌∙◌, ap, subst}
-use Rattle.disk_model.specs.Disk.{FileState}
-use Rattle.disk_model.specs.declared.name.FileName.{FileName}
-use Rattle.file_paths.specs.Paths.{path_text, IsStoreFile}
-use Rattle.disk_files.proofs.SpelledLemmas.{spelled}
-use Rattle.folder_model.specs.Paths.{IsPath}
-use Rattle.folder_model.specs.System.{Node, Nothing, PlainFile, AFolder, Another, System, with_content}
-use Rattle.folder_model.specs.Calls.{Modelled, IfModelled, IfSound, IsPartlyDone, Becomes, AreSince, done_by, kind_of_node}
-use Rattle.folder_model.specs.declared.folder.Kind.{Kind}
+use Rattle.folder_disk.proofs.Common.{◌≡◌, ◌≢◌, inl, inr, ℕ, List, Option, Some, None, refl, sym, ◌∙◌, ap, subst, FileState, FileName, path_text, IsStoreFile, spelled, IsPath, Node, Nothing, PlainFile, AFolder, Another, System, with_content, Modelled, IfModelled, IfSound, Becomes, AreSince, done_by}
+use Rattle.folder_disk.proofs.Common.{kind_of_node, Kind, IsOpenedAt, IsSoundSystem, HasFileAt, IsChanged, IsPartlyChanged}
+use Rattle.folder_model.specs.Calls.{IsPartlyDone}
 use Rattle.folder_model.specs.declared.folder.Kind.TheVariants as kind
 use Rattle.folder_calls.specs.Writing.{IsWriting, IsOnItsWay}
-use Rattle.folder_disk.specs.Files.{IsOpenedAt, IsSoundSystem, HasFileAt, IsChanged, IsPartlyChanged, AreAfter}
+use Rattle.folder_disk.specs.Files.{AreAfter}
 
 -- a fact of a sound system
 pub by_sound : (P : System → Type 0) (m : Option Modelled) → IsSoundSystem m → IfSound m P → IfModelled m P

@@ -1,27 +1,19 @@
 -- The names that a disk knows, one call on.
-use Rattle.std.proofs.Common.{◌≡◌, ◌≢◌, ◌⊎◌, inl, inr, ℕ, Bool, true, false, cond, List, [], ◌∷◌, Option, Some, None, Result, Ok, Err, IfOk, IfSome, IfNone, IsTrue, Contains, refl, sym, ◌∙◌, ap, subst}
-use Rattle.std.proofs.Math.Logic.{∥∥₁_elim, ∥∥₁_map}
-use Rattle.std.proofs.Props.{props}
-use Rattle.std.specs.BTreeSet.{BTreeSet, contains, Updates}
+use Rattle.folder_disk.proofs.Common.{◌≡◌, ◌≢◌, ◌⊎◌, inl, inr, ℕ, Bool, true, false, List, [], ◌∷◌, Option, Some, None, Result, Ok, Err, IfSome, IfNone, IsTrue, Contains, refl, sym, ◌∙◌, ap, subst, ∥∥₁_elim, ∥∥₁_map, props, BTreeSet, contains, Ordering, Less, Greater, cases_Bool, cond-true}
+use Rattle.folder_disk.proofs.Common.{cond-false, false≢true, FileState, DiskState, History, IfTold, IsNext, after, change_all, written, cut_to, half_written, half_cut, half_made, half_removed, synced, made, removed, named, no_file, FileName, ghosts, System, Modelled, IfModelled, Change}
+use Rattle.folder_disk.proofs.Common.{state_after, AreKnownNames, AreFileNames, HasFolders, IsOver, IsDiskOver, IsFailedChange, told_history}
+use Rattle.std.proofs.Common.{cond, IfOk}
+use Rattle.std.specs.BTreeSet.{Updates}
 use Rattle.std.specs.BTreeMap.{is_at}
 use Rattle.std.specs.Ordering.{is_eq, ordering_reverse}
-use Rattle.std.specs.declared.cmp.Ordering.{Ordering}
-use Rattle.std.specs.declared.cmp.Ordering.TheVariants.{Less, Equal, Greater}
-use Rattle.std.proofs.lemmas.Bool.{cases_Bool, cond-true, cond-false, false≢true}
-use Rattle.disk_model.specs.Disk.{FileState, DiskState, History, IfTold, IsThere, IsNext, after, change, change_all, written, cut_to, half_written, half_cut, half_made, half_removed, synced, made, removed, named, no_file}
-use Rattle.disk_model.specs.declared.name.FileName.{FileName}
-use Rattle.disk_model.specs.contracts.name.FileNameOrd.TheImpl.{ghosts}
+use Rattle.std.specs.declared.cmp.Ordering.TheVariants.{Equal}
+use Rattle.disk_model.specs.Disk.{IsThere, change}
 use Rattle.disk_model.specs.contracts.name.FileNameOrd.TheImpl.Laws.{total-law}
 use Rattle.disk_model.proofs.OneFileLemmas.{change-here, change-other}
-use Rattle.folder_model.specs.System.{System}
-use Rattle.folder_model.specs.Calls.{Modelled, IfModelled}
 use Rattle.folder_model.specs.declared.folder.CallError.{CallError}
-use Rattle.disk_record.specs.declared.change.Change.{Change}
 use Rattle.disk_record.specs.declared.change.Change.TheVariants.{Nothing}
-use Rattle.disk_record.specs.Record.{state_after}
-use Rattle.folder_disk.specs.Known.{AreToldNames, AreKnownNames}
-use Rattle.folder_disk.specs.Names.{AreFileNames, IsNextName}
-use Rattle.folder_disk.specs.Over.{HasFolders, IsOver, IsDiskOver, IsFailedChange, told_history}
+use Rattle.folder_disk.specs.Known.{AreToldNames}
+use Rattle.folder_disk.specs.Names.{IsNextName}
 use Rattle.folder_disk.proofs.ChangeLemmas.{by_name}
 use Rattle.folder_disk.proofs.NamesLemmas.{at_same}
 use Rattle.folder_disk.proofs.NextLemmas.{there_stands, stands_there, not_before}

@@ -1,5 +1,6 @@
 pub mod ChangeLemmas
 pub mod ChangedLemmas
+pub mod Common
 pub mod CutLemmas
 pub mod DurableLemmas
 pub mod EachLemmas

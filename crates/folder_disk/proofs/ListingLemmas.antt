@@ -1,20 +1,15 @@
 -- What is listed of a store's folders.
-use Rattle.std.proofs.Common.{◌≡◌, ◌≢◌, ◌⊎◌, inl, inr, ℕ, ◌+◌, ◌<◌, ◌≤◌, Bool, true, false, List, [], ◌∷◌, ◌++◌, length, get_or, map, Option, Some, None, All, Contains, IsTrue, IsUtf8, codes, append_assoc, refl, sym, ◌∙◌, ap, subst, arith}
+use Rattle.folder_disk.proofs.Common.{◌≡◌, ◌≢◌, ◌⊎◌, inl, inr, ℕ, ◌+◌, ◌<◌, ◌≤◌, Bool, true, false, List, [], ◌∷◌, ◌++◌, length, get_or, map, Option, Some, None, All, Contains, IsTrue, IsUtf8, codes, refl, sym, ◌∙◌, ap, subst, arith, Contains-append_right, encode_lower, folder_at, Node, Nothing}
+use Rattle.folder_disk.proofs.Common.{PlainFile, AFolder, Another, System, ArePathsIn, Modelled, IfModelled, IfSound, kind_of_node, Kind, IsSoundSystem, folder_text, upper_of, IsFolderName, StandInFolders, KeepsAll, HasFoldersOf, HasAllFolders, HasOctetNames, FolderName}
+use Rattle.std.proofs.Common.{append_assoc}
 use Rattle.std.proofs.lemmas.List.{length-append, length-map, get_or-map}
-use Rattle.std.proofs.lemmas.List.Elements.{Contains-append_left, Contains-append_right}
-use Rattle.hex.specs.Hex.{encode_lower}
+use Rattle.std.proofs.lemmas.List.Elements.{Contains-append_left}
 use Rattle.file_paths.proofs.InstLemmas.{one_octet}
 use Rattle.model_octets.proofs.PiecesLemmas.{split_same}
 use Rattle.model_storage.proofs.ReferenceLemmas.{hex_same}
-use Rattle.folder_model.specs.Paths.{folder_at}
-use Rattle.folder_model.specs.System.{Node, Nothing, PlainFile, AFolder, Another, System, StandsIn, ArePathsIn}
-use Rattle.folder_model.specs.Calls.{Modelled, IfModelled, IfSound, kind_of_node}
-use Rattle.folder_model.specs.declared.folder.Kind.{Kind}
+use Rattle.folder_model.specs.System.{StandsIn}
 use Rattle.folder_model.specs.declared.folder.Kind.TheVariants as kind
 use Rattle.disk_files.proofs.SpelledLemmas.{two_digits, octet_name}
-use Rattle.folder_disk.specs.Files.{IsSoundSystem}
-use Rattle.folder_disk.specs.Folders.{folder_text, upper_of, IsFolderName, StandInFolders, KeepsAll, HasFoldersOf, HasAllFolders, HasOctetNames}
-use Rattle.folder_disk.specs.declared.folder_name.FolderName.{FolderName}
 use Rattle.folder_disk.specs.declared.folder_name.FolderName.TheVariants as folder
 use Rattle.folder_disk.proofs.EachLemmas.{EachSoFar}
 use Rattle.folder_disk.proofs.PlaceLemmas.{folder_apart, upper_at, folder_not_top}

@@ -1,29 +1,14 @@
 -- A disk over a system, one file made or removed.
-use Rattle.std.proofs.Common.{◌≡◌, ◌≢◌, ◌⊎◌, inl, inr, ℕ, ◌<◌, ◌≤◌, min, not, ◌||◌, Bool, true, false, if◌then◌else◌, List, [], ◌∷◌, length, Option, Some, None, Contains, codes, refl, sym, ◌∙◌, ap, subst, arith}
+use Rattle.folder_disk.proofs.Common.{◌≡◌, ◌≢◌, ◌⊎◌, inl, inr, ℕ, ◌<◌, ◌≤◌, not, ◌||◌, Bool, true, false, if◌then◌else◌, List, [], ◌∷◌, length, Option, Some, None, Contains, codes, refl, sym, ◌∙◌, ap, subst, arith, ∥∥₁_map, cases_Bool, cond-true, cond-false, false≢true, FileState, DiskState}
+use Rattle.folder_disk.proofs.Common.{History, MayLeave, reading, cut_to, half_cut, made, half_made, removed, half_removed, same_name, FileName, same_name-true, path_text, IsStoreFile, own_paths, folder_at, Nothing, PlainFile, AFolder, System, IsSystem, IsHalfCut, MayStand, with_node, with_new_file}
+use Rattle.folder_disk.proofs.Common.{Modelled, HasPassed, Becomes, first_or_later, octets_at, FollowsSystem, CoversSystem, covered, reads_there, Change, state_after, HasFileAt, HasNoFile, IsChanged, IsPartlyChanged, folder_text, folder_for, IsSyncedFolder, IsStoreSystem, IsDiskOf, IsStoreDisk}
+use Rattle.folder_disk.proofs.Common.{IsCovered, IsOver, IsFailedChange}
+use Rattle.std.proofs.Common.{min}
 use mathlib.Core.Path.{fun_ext}
-use Rattle.std.proofs.Math.Logic.{∥∥₁_map}
-use Rattle.std.proofs.lemmas.Bool.{cases_Bool, cond-true, cond-false, false≢true}
-use Rattle.disk_model.specs.Disk.{FileState, DiskState, History, MayLeave, reading, joined_by, change, cut_to, half_cut, made, half_made, removed, half_removed}
-use Rattle.disk_model.specs.Name.{same_name}
-use Rattle.disk_model.specs.declared.name.FileName.{FileName}
-use Rattle.disk_model.proofs.NameLemmas.{same_name-true}
-use Rattle.file_paths.specs.Paths.{path_text, IsStoreFile}
-use Rattle.file_paths.proofs.OneFileLemmas.{own_paths}
-use Rattle.folder_model.specs.Paths.{folder_at}
-use Rattle.folder_model.specs.System.{Nothing, PlainFile, AFolder, System, IsSystem, IsHalfCut, MayStand, with_node, with_new_file}
-use Rattle.folder_model.specs.Calls.{Modelled, HasPassed, Becomes}
-use Rattle.folder_model.proofs.PastLemmas.{first_or_later}
-use Rattle.disk_files.specs.Follows.{octets_at, FollowsSystem, CoversSystem}
-use Rattle.disk_files.proofs.ImageLemmas.{covered}
-use Rattle.disk_files.proofs.StepLemmas.{reads_there}
+use Rattle.disk_model.specs.Disk.{joined_by, change}
 use Rattle.disk_files.proofs.NameStepLemmas.{making_follows, removal_follows}
 use Rattle.disk_files.proofs.OwnLemmas.{owns_put, owns_new}
-use Rattle.disk_record.specs.declared.change.Change.{Change}
 use Rattle.disk_record.specs.declared.change.Change.TheVariants as change
-use Rattle.disk_record.specs.Record.{state_after}
-use Rattle.folder_disk.specs.Files.{HasFileAt, HasNoFile, IsChanged, IsPartlyChanged}
-use Rattle.folder_disk.specs.Folders.{folder_text, folder_for, IsSyncedFolder}
-use Rattle.folder_disk.specs.Over.{IsStoreSystem, IsDiskOf, IsStoreDisk, IsCovered, IsOver, IsFailedChange}
 use Rattle.folder_disk.specs.declared.folder_name.FolderName.TheVariants as folder
 use Rattle.folder_disk.proofs.OverLemmas.{so_far, over_goes_on, more_in}
 use Rattle.folder_disk.proofs.ChangeLemmas.{by_path, changed_store, failed_store}

@@ -1,13 +1,11 @@
 -- The test of a store's file names.
-use Rattle.std.proofs.Common.{◌≡◌, ℕ, suc, ◌==◌, ◌&&◌, ◌<◌, nat_lt, nat_le, Bool, true, false, List, [], ◌∷◌, length, refl, arith}
-use Rattle.std.specs.List.{list_all}
-use Rattle.std.proofs.lemmas.Bool.{false≢true, leb-true, ltb-true, lt-ltb, le-leb, eqb-true, eq-eqb}
+use Rattle.folder_disk.proofs.Common.{◌≡◌, ℕ, suc, ◌==◌, ◌&&◌, ◌<◌, Bool, true, false, List, [], ◌∷◌, length, refl, arith, list_all, false≢true, FileName, IsStoreFile, is_store_file}
+use Rattle.std.proofs.Common.{nat_lt, nat_le}
+use Rattle.std.proofs.lemmas.Bool.{leb-true, ltb-true, lt-ltb, le-leb, eqb-true, eq-eqb}
 use Rattle.std.proofs.lemmas.List.Elements.{All-nil, All-cons}
-use Rattle.disk_model.specs.declared.name.FileName.{FileName}
 use Rattle.disk_model.specs.declared.name.FileName.TheVariants as file
 use Rattle.mdbox_base.specs.Words.{IsNumber, IsOctets}
-use Rattle.file_paths.specs.Paths.{IsStoreFile}
-use Rattle.folder_disk.specs.Start.{is_file_number, are_so_many_octets, is_store_file}
+use Rattle.folder_disk.specs.Start.{is_file_number, are_so_many_octets}
 
 pub and_parts : (a b : Bool) → a && b ≡ true → (a ≡ true) × (b ≡ true)
 and_parts true b e = (refl, e)

@@ -1,26 +1,15 @@
 -- The names that a walk over folders adds.
-use Rattle.std.proofs.Common.{◌≡◌, ◌≢◌, ◌⊎◌, inl, inr, ℕ, ◌≤◌, Bool, true, false, cond, List, [], length, map, Option, Some, None, IsTrue, Contains, codes, refl, sym, ◌∙◌, ap, subst}
-use Rattle.std.specs.BTreeSet.{BTreeSet, contains, Updates}
+use Rattle.folder_disk.proofs.Common.{◌≡◌, ◌≢◌, ◌⊎◌, inl, inr, ℕ, ◌≤◌, Bool, true, false, List, [], length, map, Option, Some, None, IsTrue, Contains, codes, refl, sym, ◌∙◌, ap, subst, BTreeSet, contains, Ordering, Less, Greater, cases_Bool, false≢true, FileName, ghosts, path_text, IsStoreFile}
+use Rattle.folder_disk.proofs.Common.{own_paths, folder_at, Node, Nothing, PlainFile, AFolder, Another, System, ArePathsIn, Modelled, IfModelled, IfSound, kind_of_node, Kind, IsSoundSystem, folder_text, folder_for, StandInFolders, HasAllFolders, AddsFiles, AreFileNames, HasFolders, FolderName}
+use Rattle.std.proofs.Common.{cond}
+use Rattle.std.specs.BTreeSet.{Updates}
 use Rattle.std.specs.BTreeMap.{is_at}
 use Rattle.std.specs.Ordering.{is_eq}
-use Rattle.std.specs.declared.cmp.Ordering.{Ordering}
-use Rattle.std.specs.declared.cmp.Ordering.TheVariants.{Less, Equal, Greater}
-use Rattle.std.proofs.lemmas.Bool.{cases_Bool, false≢true}
-use Rattle.disk_model.specs.declared.name.FileName.{FileName}
-use Rattle.disk_model.specs.contracts.name.FileNameOrd.TheImpl.{ghosts}
+use Rattle.std.specs.declared.cmp.Ordering.TheVariants.{Equal}
 use Rattle.disk_model.proofs.NameOrderLemmas.{same_order}
-use Rattle.file_paths.specs.Paths.{path_text, IsStoreFile}
-use Rattle.file_paths.proofs.OneFileLemmas.{own_paths}
-use Rattle.folder_model.specs.Paths.{folder_at}
-use Rattle.folder_model.specs.System.{Node, Nothing, PlainFile, AFolder, Another, System, StandsIn, ArePathsIn}
-use Rattle.folder_model.specs.Calls.{Modelled, IfModelled, IfSound, kind_of_node}
-use Rattle.folder_model.specs.declared.folder.Kind.{Kind}
+use Rattle.folder_model.specs.System.{StandsIn}
 use Rattle.folder_model.specs.declared.folder.Kind.TheVariants as kind
-use Rattle.folder_disk.specs.Files.{IsSoundSystem}
-use Rattle.folder_disk.specs.Folders.{folder_text, folder_for, StandInFolders, HasAllFolders}
-use Rattle.folder_disk.specs.Names.{IsFileThere, AddsFiles, AreFileNames}
-use Rattle.folder_disk.specs.Over.{HasFolders}
-use Rattle.folder_disk.specs.declared.folder_name.FolderName.{FolderName}
+use Rattle.folder_disk.specs.Names.{IsFileThere}
 use Rattle.folder_disk.specs.declared.folder_name.FolderName.TheVariants as folder
 use Rattle.folder_disk.proofs.EachLemmas.{EachSoFar}
 use Rattle.folder_disk.proofs.ListingLemmas.{found_in, among}

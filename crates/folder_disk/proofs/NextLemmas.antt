@@ -1,26 +1,11 @@
 -- The names that a disk reads, and those of the files that stand at their paths.
-use Rattle.std.proofs.Common.{◌≡◌, ◌≢◌, ◌⊎◌, inl, inr, ℕ, Bool, true, false, List, Option, Some, None, IfSome, IsTrue, refl, sym, ◌∙◌, ap, subst}
-use Rattle.std.specs.BTreeSet.{BTreeSet, contains}
+use Rattle.folder_disk.proofs.Common.{◌≡◌, ◌≢◌, ◌⊎◌, inl, inr, ℕ, Bool, true, false, List, Option, Some, None, IfSome, IsTrue, refl, sym, ◌∙◌, ap, subst, BTreeSet, contains, Ordering, Less, Greater, ∥∥₁_elim, props, cases_Bool, cond-true, false≢true, FileState, DiskState, History, IfTold, IsNext}
+use Rattle.folder_disk.proofs.Common.{reading, FileName, ghosts, path_text, IsStoreFile, System, Modelled, IfModelled, octets_at, reads_there, Change, AreFileNames, HasFolders, IsOver, IsDiskOver, told_history, is_store_file}
 use Rattle.std.specs.Ordering.{is_gt, ordering_reverse}
-use Rattle.std.specs.declared.cmp.Ordering.{Ordering}
-use Rattle.std.specs.declared.cmp.Ordering.TheVariants.{Less, Greater}
-use Rattle.std.proofs.Math.Logic.{∥∥₁_elim}
-use Rattle.std.proofs.Props.{props}
-use Rattle.std.proofs.lemmas.Bool.{cases_Bool, cond-true, false≢true}
-use Rattle.disk_model.specs.Disk.{FileState, DiskState, History, IfTold, IsThere, IsPast, IsNext, reading}
-use Rattle.disk_model.specs.declared.name.FileName.{FileName}
-use Rattle.disk_model.specs.contracts.name.FileNameOrd.TheImpl.{ghosts}
+use Rattle.disk_model.specs.Disk.{IsThere, IsPast}
 use Rattle.disk_model.specs.contracts.name.FileNameOrd.TheImpl.Laws.{total-law}
-use Rattle.file_paths.specs.Paths.{path_text, IsStoreFile}
-use Rattle.folder_model.specs.System.{System}
-use Rattle.folder_model.specs.Calls.{Modelled, IfModelled}
-use Rattle.disk_files.specs.Follows.{octets_at}
 use Rattle.disk_files.proofs.NameStepLemmas.{file_there}
-use Rattle.disk_files.proofs.StepLemmas.{reads_there}
-use Rattle.disk_record.specs.declared.change.Change.{Change}
-use Rattle.folder_disk.specs.Names.{IsFileThere, AreFileNames, IsNextName}
-use Rattle.folder_disk.specs.Over.{HasFolders, IsOver, IsDiskOver, told_history}
-use Rattle.folder_disk.specs.Start.{is_store_file}
+use Rattle.folder_disk.specs.Names.{IsFileThere, IsNextName}
 use Rattle.folder_disk.proofs.NameTestLemmas.{file_true, file_from}
 use Rattle.folder_disk.proofs.OverLemmas.{so_far}
 

@@ -1,22 +1,14 @@
 -- A disk over a system, one call on.
-use Rattle.std.proofs.Common.{◌≡◌, ◌⊎◌, inl, inr, ℕ, ◌<◌, Bool, true, false, List, [], ◌∷◌, Option, Some, None, Contains, refl, sym, ◌∙◌, ap, subst, arith}
-use Rattle.std.proofs.Math.Logic.{∥∥₁_elim, ∥∥₁_map}
-use Rattle.std.proofs.Props.{props}
-use Rattle.std.proofs.lemmas.Bool.{cases_Bool, cond-true, cond-false}
-use Rattle.std.proofs.lemmas.List.Elements.{Contains-append_right}
-use Rattle.disk_model.specs.Disk.{FileState, DiskState, History, MayHold, MayLeave, IsImage, IfTold, after, reading}
-use Rattle.folder_model.specs.System.{System, IsSystem, with_lock}
-use Rattle.folder_model.specs.Calls.{Modelled, IfModelled, IsLocked, HasPassed, AreSince, Becomes, done_by}
-use Rattle.folder_model.proofs.PastLemmas.{first_or_later}
-use Rattle.disk_files.specs.Follows.{FollowsSystem, CoversSystem}
-use Rattle.disk_files.proofs.ImageLemmas.{covered}
+use Rattle.folder_disk.proofs.Common.{◌≡◌, ◌⊎◌, inl, inr, ℕ, ◌<◌, Bool, true, false, List, [], ◌∷◌, Option, Some, None, Contains, refl, sym, ◌∙◌, ap, subst, arith, ∥∥₁_elim, ∥∥₁_map, props, cases_Bool, cond-true, cond-false, Contains-append_right, FileState, DiskState, History, MayLeave, IfTold}
+use Rattle.folder_disk.proofs.Common.{after, reading, System, IsSystem, Modelled, IfModelled, IsLocked, HasPassed, AreSince, Becomes, done_by, first_or_later, FollowsSystem, CoversSystem, covered, Change, state_after, IsStoreSystem, IsDiskOf, IsStoreDisk, IsCovered, IsOver, IsDiskOver, told_history}
+use Rattle.folder_disk.proofs.Common.{IsSoundSystem}
+use Rattle.disk_model.specs.Disk.{MayHold, IsImage}
+use Rattle.folder_model.specs.System.{with_lock}
 use Rattle.disk_files.proofs.StepLemmas.{flags_follow}
-use Rattle.disk_record.specs.declared.change.Change.{Change}
 use Rattle.disk_record.specs.declared.change.Change.TheVariants.{Nothing}
-use Rattle.disk_record.specs.Record.{history_of, state_after}
+use Rattle.disk_record.specs.Record.{history_of}
 use Rattle.folder_disk.specs.Start.{started_disk}
-use Rattle.folder_disk.specs.Over.{IsStoreSystem, IsDiskOf, IsStoreDisk, IsCovered, IsOver, IsDiskOver, HasBegun, told_history}
-use Rattle.folder_disk.specs.Files.{IsSoundSystem}
+use Rattle.folder_disk.specs.Over.{HasBegun}
 use Rattle.folder_disk.proofs.StartLemmas.{start_follows, start_is_disk}
 
 pub more_in : {A : Type 0} (x y : A) (xs : List A) → Contains xs y → Contains (x ∷ xs) y

@@ -1,19 +1,15 @@
 -- The paths of a store's folders, and what stands in them.
-use Rattle.std.proofs.Common.{◌≡◌, ◌≢◌, ◌⊎◌, inl, inr, ℕ, ◌+◌, ◌<◌, ◌==◌, not, ◌&&◌, Bool, true, false, List, [], ◌∷◌, ◌++◌, length, slice_index, Option, Some, None, codes, IsTrue, refl, sym, ◌∙◌, ap, subst, arith}
-use Rattle.std.specs.List.{list_all}
-use Rattle.std.proofs.lemmas.Bool.{cond-false, false≢true}
+use Rattle.folder_disk.proofs.Common.{◌≡◌, ◌≢◌, ◌⊎◌, inl, inr, ℕ, ◌+◌, ◌<◌, ◌==◌, not, ◌&&◌, Bool, true, false, List, [], ◌∷◌, ◌++◌, length, Option, Some, None, codes, IsTrue, refl, sym, ◌∙◌, ap, subst, arith, list_all, cond-false, false≢true, encode_lower, FileName, path_text, IsStoreFile}
+use Rattle.folder_disk.proofs.Common.{folder_at, IsPath, spelled, folder_text, folder_for, upper_of, IsFolderName, FolderName}
+use Rattle.std.proofs.Common.{slice_index}
 use Rattle.std.proofs.lemmas.List.{length-append}
-use Rattle.hex.specs.Hex.{encode_with, encode_lower}
+use Rattle.hex.specs.Hex.{encode_with}
 use Rattle.mdbox_base.specs.Numbers.{decimal_text}
 use Rattle.mdbox_base.specs.Words.{is_other_than}
-use Rattle.disk_model.specs.declared.name.FileName.{FileName}
 use Rattle.disk_model.specs.declared.name.FileName.TheVariants as file
-use Rattle.file_paths.specs.Paths.{path_text, IsStoreFile}
 use Rattle.file_paths.proofs.InstLemmas.{inst_text}
-use Rattle.folder_model.specs.Paths.{put_before_slash, before_slash, or_current, folder_at, IsPathName, IsPath, Within, IsFolderPath}
-use Rattle.disk_files.proofs.SpelledLemmas.{HasNo, spelled, none_in, no_slash_in_number, storage, mailboxes, attachments, digits_of, two_digits, octet_name, outer_path, regroup, inst_name}
-use Rattle.folder_disk.specs.Folders.{folder_text, folder_for, upper_of, IsFolderName}
-use Rattle.folder_disk.specs.declared.folder_name.FolderName.{FolderName}
+use Rattle.folder_model.specs.Paths.{put_before_slash, before_slash, or_current, IsPathName, Within, IsFolderPath}
+use Rattle.disk_files.proofs.SpelledLemmas.{HasNo, none_in, no_slash_in_number, storage, mailboxes, attachments, digits_of, two_digits, octet_name, outer_path, regroup, inst_name}
 use Rattle.folder_disk.specs.declared.folder_name.FolderName.TheVariants as folder
 use Rattle.folder_disk.proofs.NameTestLemmas.{and_parts}
 

@@ -1,22 +1,10 @@
 -- What a disk reads is what the system does.
-use Rattle.std.proofs.Common.{◌≡◌, ◌≢◌, ℕ, Bool, false, List, length, take, drop, Option, Some, None, Result, Ok, Err, IfOk, IfSome, IfNone, refl, inl, sym, ◌∙◌, ap, subst}
-use Rattle.std.proofs.Math.Logic.{∥∥₁_elim}
-use Rattle.std.proofs.Props.{props}
-use Rattle.std.proofs.lemmas.Bool.{cond-false}
+use Rattle.folder_disk.proofs.Common.{◌≡◌, ◌≢◌, ℕ, Bool, false, List, length, take, Option, Some, None, Result, Ok, Err, IfSome, IfNone, refl, inl, sym, ◌∙◌, ap, subst, ∥∥₁_elim, props, cond-false, History, IfTold, after, reading, BTreeSet, FileName, ghosts, path_text, IsStoreFile, Node, Nothing}
+use Rattle.folder_disk.proofs.Common.{PlainFile, AFolder, Another, System, Modelled, IfModelled, octets_at, reads_there, Change, HasFileAt, HasNoFile, IsSettledLog, IsDiskOver, told_history}
+use Rattle.std.proofs.Common.{drop, IfOk}
 use Rattle.std.specs.Option.{option_map}
-use Rattle.disk_model.specs.Disk.{History, IfTold, Unchanged, after, reading}
-use Rattle.std.specs.BTreeSet.{BTreeSet}
-use Rattle.disk_model.specs.declared.name.FileName.{FileName}
-use Rattle.disk_model.specs.contracts.name.FileNameOrd.TheImpl.{ghosts}
-use Rattle.file_paths.specs.Paths.{path_text, IsStoreFile}
-use Rattle.folder_model.specs.System.{Node, Nothing, PlainFile, AFolder, Another, System}
-use Rattle.folder_model.specs.Calls.{Modelled, IfModelled}
+use Rattle.disk_model.specs.Disk.{Unchanged}
 use Rattle.folder_model.specs.declared.folder.CallError.{CallError}
-use Rattle.disk_files.specs.Follows.{octets_at}
-use Rattle.disk_files.proofs.StepLemmas.{reads_there}
-use Rattle.disk_record.specs.declared.change.Change.{Change}
-use Rattle.folder_disk.specs.Files.{HasFileAt, HasNoFile, IsSettledLog}
-use Rattle.folder_disk.specs.Over.{IsDiskOver, told_history}
 use Rattle.folder_disk.proofs.OverLemmas.{so_far}
 
 -- the file reads what stands at its path

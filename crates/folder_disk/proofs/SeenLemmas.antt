@@ -1,19 +1,10 @@
 -- Calls of the system that a disk tells as a change.
-use Rattle.std.proofs.Common.{◌≡◌, ◌⊎◌, inl, inr, ℕ, Bool, true, false, List, [], ◌∷◌, Option, Some, None, refl, sym, ◌∙◌, ap, subst}
-use Rattle.std.proofs.Math.Logic.{∥∥₁_map}
-use Rattle.std.proofs.lemmas.Bool.{cases_Bool, cond-true}
-use Rattle.disk_model.specs.Disk.{FileState, DiskState, History, AfterFailed, after, reading, change, cut_to, half_made, removed, half_removed}
-use Rattle.disk_model.specs.declared.name.FileName.{FileName}
-use Rattle.file_paths.specs.Paths.{path_text, IsStoreFile}
-use Rattle.folder_model.specs.System.{Node, Nothing, PlainFile, AFolder, Another, System, IsSystem, IsHalfCut, with_node, with_new_file}
-use Rattle.folder_model.specs.Calls.{Modelled, IfModelled, IsLocked, IsDoneOrNot, HasPassed, Becomes, done_by}
-use Rattle.disk_files.specs.Follows.{octets_at, HasDurableNames}
-use Rattle.disk_record.specs.declared.change.Change.{Change}
+use Rattle.folder_disk.proofs.Common.{◌≡◌, ◌⊎◌, inl, inr, ℕ, Bool, true, false, List, [], ◌∷◌, Option, Some, None, refl, sym, ◌∙◌, ap, subst, ∥∥₁_map, cases_Bool, cond-true, FileState, DiskState, History, AfterFailed, after, reading, cut_to, half_made, removed, half_removed, FileName, path_text}
+use Rattle.folder_disk.proofs.Common.{IsStoreFile, Node, Nothing, PlainFile, AFolder, Another, System, IsSystem, IsHalfCut, with_node, with_new_file, Modelled, IfModelled, IsLocked, IsDoneOrNot, HasPassed, Becomes, done_by, octets_at, HasDurableNames, Change, state_after, HasNoFile, IsChanged}
+use Rattle.folder_disk.proofs.Common.{IsPartlyChanged, folder_text, folder_for, IsSyncedFolder, IsUnseen, HasFolders, IsFailedChange, IsOver, IsDiskOver, told_history}
+use Rattle.disk_model.specs.Disk.{change}
 use Rattle.disk_record.specs.declared.change.Change.TheVariants as change
-use Rattle.disk_record.specs.Record.{state_after}
-use Rattle.folder_disk.specs.Files.{HasNoFile, IsChanged, IsPartlyChanged}
-use Rattle.folder_disk.specs.Folders.{folder_text, folder_for, IsSyncedFolder, IsUnseen, IsSeenAs}
-use Rattle.folder_disk.specs.Over.{HasFolders, IsFailedChange, IsOver, IsDiskOver, told_history}
+use Rattle.folder_disk.specs.Folders.{IsSeenAs}
 use Rattle.folder_disk.proofs.OverLemmas.{so_far, history_goes_on}
 use Rattle.folder_disk.proofs.ChangeLemmas.{nothing_done, after_then}
 use Rattle.folder_disk.proofs.UnseenLemmas.{unseen_same}

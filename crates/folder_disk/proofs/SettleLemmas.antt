@@ -1,18 +1,11 @@
 -- A sync of a file that a disk doesn't tell.
-use Rattle.std.proofs.Common.{◌≡◌, ◌⊎◌, inl, inr, ℕ, ◌==◌, ◌<◌, ◌≤◌, Bool, true, false, if◌then◌else◌, List, length, slice_get, Option, Some, None, refl, sym, ◌∙◌, ap, subst, arith}
-use Rattle.std.proofs.Math.Logic.{∥∥₁_map}
-use Rattle.std.proofs.lemmas.Bool.{cases_eq, cond-true}
-use Rattle.disk_model.specs.Disk.{FileState, DiskState, synced}
-use Rattle.disk_model.specs.declared.name.FileName.{FileName}
-use Rattle.file_paths.specs.Paths.{path_text, IsStoreFile}
-use Rattle.folder_model.specs.Paths.{folder_at}
-use Rattle.folder_model.specs.System.{Node, Nothing, PlainFile, AFolder, Another, System, IsSystem, IsContent, MayStand, with_content, with_synced_file}
-use Rattle.folder_model.specs.Calls.{Modelled, IfModelled, IsDoneOrNot, HasPassed, done_by}
-use Rattle.disk_files.specs.Follows.{octets_at, CoversFile, StaysFolder, FollowsPath, FollowsSystem}
+use Rattle.folder_disk.proofs.Common.{◌≡◌, ◌⊎◌, inl, inr, ℕ, ◌==◌, ◌<◌, ◌≤◌, Bool, true, false, if◌then◌else◌, List, length, slice_get, Option, Some, None, refl, sym, ◌∙◌, ap, subst, arith, ∥∥₁_map, cond-true, FileState, DiskState, synced, FileName, path_text, IsStoreFile, folder_at, Node, Nothing}
+use Rattle.folder_disk.proofs.Common.{PlainFile, AFolder, Another, System, IsSystem, MayStand, with_content, with_synced_file, Modelled, IfModelled, IsDoneOrNot, HasPassed, done_by, octets_at, CoversFile, StaysFolder, FollowsSystem, IsSoundSystem, HasNoFile, IsUnseen, IsDiskOf}
+use Rattle.std.proofs.lemmas.Bool.{cases_eq}
+use Rattle.folder_model.specs.System.{IsContent}
+use Rattle.disk_files.specs.Follows.{FollowsPath}
 use Rattle.disk_files.proofs.StepLemmas.{stays-like, content-same, content-apart}
-use Rattle.folder_disk.specs.Files.{IsSoundSystem, HasNoFile, HasDurableFile}
-use Rattle.folder_disk.specs.Folders.{IsUnseen}
-use Rattle.folder_disk.specs.Over.{IsDiskOf}
+use Rattle.folder_disk.specs.Files.{HasDurableFile}
 use Rattle.folder_disk.proofs.ChangeLemmas.{content_stays}
 use Rattle.folder_disk.proofs.UnseenLemmas.{unseen_step}
 

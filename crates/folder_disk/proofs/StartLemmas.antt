@@ -1,18 +1,10 @@
 -- A disk follows the system that its process began with.
-use Rattle.std.proofs.Common.{◌≡◌, ◌⊎◌, inl, inr, ℕ, zero, suc, ◌<◌, ◌&&◌, ◌||◌, not, Bool, true, false, if◌then◌else◌, List, [], ◌∷◌, Option, Some, None, Contains, codes, refl, sym, ◌∙◌, ap, subst, arith}
-use Rattle.std.proofs.lemmas.Bool.{cases_Bool, cond-true, cond-false, false≢true}
-use Rattle.std.proofs.lemmas.List.Elements.{Contains-append_right}
-use Rattle.disk_model.specs.Disk.{FileState, MayLeave, no_file, reading}
-use Rattle.disk_model.specs.Name.{same_octets}
-use Rattle.disk_model.proofs.NameLemmas.{same_octets-true}
-use Rattle.file_paths.specs.Paths.{path_text}
-use Rattle.folder_model.specs.Paths.{folder_at, IsPath}
-use Rattle.folder_model.specs.System.{Node, Nothing, PlainFile, AFolder, Another, System, MayStand, IsSystem, IsContent}
-use Rattle.folder_model.proofs.PastLemmas.{first_or_later}
-use Rattle.disk_files.specs.Follows.{octets_at, CoversFile, StaysFolder, Current, Below, FollowsPath, FollowsSystem, HasOwnFiles}
-use Rattle.disk_files.proofs.SpelledLemmas.{spelled}
-use Rattle.folder_disk.specs.Start.{is_store_file, is_plain, is_folder, has_none, keeps_folder, first_file, is_loose_path, started, started_at, started_disk}
-use Rattle.folder_disk.specs.Over.{IsStoreDisk}
+use Rattle.folder_disk.proofs.Common.{◌≡◌, ◌⊎◌, inl, inr, ℕ, suc, ◌<◌, ◌&&◌, ◌||◌, not, Bool, true, false, if◌then◌else◌, List, [], ◌∷◌, Option, Some, None, Contains, codes, refl, sym, ◌∙◌, ap, subst, arith, cases_Bool, cond-true, cond-false, false≢true, Contains-append_right, FileState, MayLeave}
+use Rattle.folder_disk.proofs.Common.{no_file, reading, same_octets, same_octets-true, path_text, folder_at, IsPath, Node, Nothing, PlainFile, AFolder, Another, System, MayStand, IsSystem, first_or_later, octets_at, CoversFile, StaysFolder, FollowsSystem, spelled, is_store_file, IsStoreDisk}
+use Rattle.std.proofs.Common.{zero}
+use Rattle.folder_model.specs.System.{IsContent}
+use Rattle.disk_files.specs.Follows.{Current, Below, FollowsPath, HasOwnFiles}
+use Rattle.folder_disk.specs.Start.{is_plain, is_folder, has_none, keeps_folder, first_file, is_loose_path, started, started_at, started_disk}
 use Rattle.folder_disk.proofs.NameTestLemmas.{and_parts, file_true, file_from}
 
 unread : (s : System) (loose : Bool) (o : Option ℕ) → reading (started s false loose o) ≡ None

@@ -1,23 +1,13 @@
 -- A disk over a system, one sync on.
-use Rattle.std.proofs.Common.{◌≡◌, ◌⊎◌, inl, inr, ℕ, suc, ◌-◌, ◌^◌, min, Bool, true, false, if◌then◌else◌, List, ◌∷◌, [], length, Option, Some, None, Contains, refl, sym, ◌∙◌, ap, subst, arith}
-use Rattle.std.proofs.Math.Logic.{∥∥₁_map}
-use Rattle.std.proofs.lemmas.Bool.{cases_Bool, cond-true, cond-false, false≢true}
-use Rattle.disk_model.specs.Disk.{FileState, DiskState, History, MayLeave, AfterFailed, IsMoment, reading, change, synced, after}
-use Rattle.disk_model.specs.declared.name.FileName.{FileName}
-use Rattle.file_paths.specs.Paths.{path_text, IsStoreFile}
-use Rattle.file_paths.proofs.OneFileLemmas.{own_paths}
-use Rattle.folder_model.specs.System.{System, with_synced_file, with_failed_sync}
-use Rattle.folder_model.specs.Calls.{Modelled, IsLocked, IsDoneOrNot, HasPassed, Becomes, AreSince}
-use Rattle.folder_model.proofs.PastLemmas.{first_or_later}
-use Rattle.disk_files.specs.Follows.{FollowsSystem, CoversSystem}
-use Rattle.disk_files.proofs.ImageLemmas.{covered}
-use Rattle.disk_files.proofs.StepLemmas.{content_follows, synced-alike}
-use Rattle.disk_record.specs.declared.change.Change.{Change}
+use Rattle.folder_disk.proofs.Common.{◌≡◌, ◌⊎◌, inl, inr, ℕ, suc, Bool, true, false, if◌then◌else◌, List, ◌∷◌, [], length, Option, Some, None, Contains, refl, sym, ◌∙◌, ap, subst, arith, ∥∥₁_map, cases_Bool, cond-true, cond-false, false≢true, FileState, DiskState, History, MayLeave, AfterFailed}
+use Rattle.folder_disk.proofs.Common.{reading, synced, after, FileName, path_text, IsStoreFile, own_paths, System, with_synced_file, Modelled, IsLocked, IsDoneOrNot, HasPassed, Becomes, AreSince, first_or_later, FollowsSystem, CoversSystem, covered, content_follows, Change, HasFileAt, IsStoreSystem}
+use Rattle.folder_disk.proofs.Common.{IsCovered, IsOver, IsDiskOver, told_history, hold_is}
+use Rattle.std.proofs.Common.{◌-◌, ◌^◌, min}
+use Rattle.disk_model.specs.Disk.{IsMoment, change}
+use Rattle.folder_model.specs.System.{with_failed_sync}
+use Rattle.disk_files.proofs.StepLemmas.{synced-alike}
 use Rattle.disk_record.specs.declared.change.Change.TheVariants.{Nothing, Synced}
 use Rattle.disk_record.specs.Record.{history_of}
-use Rattle.folder_disk.specs.Files.{HasFileAt}
-use Rattle.folder_disk.specs.Over.{IsStoreSystem, IsCovered, IsOver, IsDiskOver, told_history}
-use Rattle.folder_disk.specs.ReadsImage.{hold_is}
 use Rattle.folder_disk.proofs.OverLemmas.{so_far, over_goes_on, now_covered}
 use Rattle.folder_disk.proofs.WideLemmas.{covers_weakened, failed_after}
 use Rattle.folder_disk.proofs.ChangeLemmas.{after_then, by_path, changed_store, content_stays}

@@ -1,24 +1,12 @@
 -- A system's folders and their names, one call on.
-use Rattle.std.proofs.Common.{◌≡◌, ◌≢◌, ◌⊎◌, inl, inr, ℕ, ◌≤◌, length, Bool, true, false, if◌then◌else◌, List, [], ◌∷◌, Option, Some, None, All, Contains, codes, refl, sym, ◌∙◌, ap, subst}
-use Rattle.std.proofs.lemmas.Bool.{cases_Bool, cond-true, cond-false}
-use Rattle.disk_model.specs.Disk.{DiskState}
-use Rattle.disk_model.specs.Name.{same_octets}
-use Rattle.disk_model.specs.declared.name.FileName.{FileName}
-use Rattle.disk_model.proofs.NameLemmas.{same_octets-true, same_octets-refl}
-use Rattle.file_paths.specs.Paths.{path_text, IsStoreFile}
-use Rattle.folder_model.specs.Paths.{folder_at}
-use Rattle.folder_model.specs.System.{Node, Nothing, PlainFile, AFolder, Another, System, with_node, with_synced_names, with_failed_sync}
-use Rattle.folder_model.specs.Calls.{Modelled, IfModelled, IfSound, IsLocked, IsDoneOrNot, HasPassed, Becomes, done_by, kind_of_node}
-use Rattle.folder_model.specs.declared.folder.Kind.{Kind}
+use Rattle.folder_disk.proofs.Common.{◌≡◌, ◌≢◌, ◌⊎◌, inl, inr, ℕ, ◌≤◌, length, Bool, true, false, if◌then◌else◌, List, [], ◌∷◌, Option, Some, None, All, Contains, codes, refl, sym, ◌∙◌, ap, subst, cases_Bool, cond-true, cond-false, DiskState, same_octets, FileName, same_octets-true, path_text}
+use Rattle.folder_disk.proofs.Common.{IsStoreFile, folder_at, Node, Nothing, PlainFile, AFolder, Another, System, with_node, with_synced_names, Modelled, IfModelled, IfSound, IsLocked, IsDoneOrNot, HasPassed, Becomes, done_by, kind_of_node, Kind, CoversSystem, covered, IsSoundSystem, HasNoFile}
+use Rattle.folder_disk.proofs.Common.{folder_text, upper_of, IsFolderName, IsSyncedFolder, AreSynced, HasSameNodes, HasAllFolders, StandInFolders, IsUnseen, HasFolders, IsDiskOf, FolderName}
+use Rattle.disk_model.proofs.NameLemmas.{same_octets-refl}
+use Rattle.folder_model.specs.System.{with_failed_sync}
 use Rattle.folder_model.specs.declared.folder.Kind.TheVariants as kind
-use Rattle.disk_files.specs.Follows.{CoversSystem}
-use Rattle.disk_files.proofs.ImageLemmas.{covered}
 use Rattle.disk_files.proofs.NameStepLemmas.{node-apart, node-put, folder_follows, names_kept}
 use Rattle.disk_files.proofs.OwnLemmas.{owns_put, owns_synced}
-use Rattle.folder_disk.specs.Files.{IsSoundSystem, HasNoFile}
-use Rattle.folder_disk.specs.Folders.{folder_text, upper_of, IsFolderName, IsSyncedFolder, AreSynced, HasSameNodes, HasAllFolders, StandInFolders, IsUnseen}
-use Rattle.folder_disk.specs.Over.{HasFolders, IsDiskOf}
-use Rattle.folder_disk.specs.declared.folder_name.FolderName.{FolderName}
 use Rattle.folder_disk.specs.declared.folder_name.FolderName.TheVariants as folder
 use Rattle.folder_disk.proofs.EachLemmas.{EachSoFar, each_all}
 use Rattle.folder_disk.proofs.FileLemmas.{both_told}

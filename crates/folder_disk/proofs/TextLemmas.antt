@@ -1,18 +1,16 @@
 -- Paths of a store are text.
-use Rattle.std.proofs.Common.{◌≡◌, Bool, true, nat_lt, ℕ, zero, suc, ◌+◌, ◌<◌, ◌/◌, ◌%◌, ◌^◌, List, [], ◌∷◌, ◌++◌, codes, slice_index, refl, sym, ◌∙◌, ap, subst, arith, IsUtf8}
-use Rattle.std.specs.List.{list_all}
+use Rattle.folder_disk.proofs.Common.{◌≡◌, Bool, true, ℕ, suc, ◌+◌, ◌<◌, List, [], ◌∷◌, ◌++◌, codes, refl, sym, ◌∙◌, ap, subst, arith, IsUtf8, list_all, encode_lower, FileName, path_text, IsStoreFile}
+use Rattle.std.proofs.Common.{nat_lt, zero, ◌/◌, ◌%◌, ◌^◌, slice_index}
 use Rattle.std.specs.Str.{IsAscii}
 use Rattle.std.proofs.lemmas.Bool.{ltb-true}
 use Rattle.std.proofs.lemmas.Grind.{common_steps}
 use Rattle.std.proofs.lemmas.Str.{IsUtf8-append, IsUtf8-from_ascii}
-use Rattle.hex.specs.Hex.{encode_with, encode_lower, lower_digits}
+use Rattle.hex.specs.Hex.{encode_with, lower_digits}
 use Rattle.mdbox_base.specs.Numbers.{decimal_text}
 use Rattle.mdbox_base.specs.Words.{IsOctets, IsNumber}
 use Rattle.mdbox_base.proofs.DecimalLemmas.{is_text}
 use Rattle.mdbox_base.proofs.LowerHexLemmas.{lower_digit}
-use Rattle.disk_model.specs.declared.name.FileName.{FileName}
 use Rattle.disk_model.specs.declared.name.FileName.TheVariants as file
-use Rattle.file_paths.specs.Paths.{path_text, IsStoreFile}
 use Rattle.file_paths.specs.InstPath.{inst_path}
 use Rattle.file_paths.proofs.InstLemmas.{inst_text, one_octet}
 use Rattle.folder_disk.proofs.NameTestLemmas.{and_parts}

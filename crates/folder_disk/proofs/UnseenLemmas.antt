@@ -1,16 +1,8 @@
 -- Calls of the system that a disk doesn't tell.
-use Rattle.std.proofs.Common.{◌≡◌, ◌⊎◌, inl, inr, ℕ, Bool, true, false, List, Option, Some, None, Result, Ok, Err, OnOk, OnErr, Contains, refl, sym, ◌∙◌, ap, subst}
-use Rattle.std.proofs.Math.Logic.{∥∥₁_map}
-use Rattle.std.proofs.lemmas.Bool.{false≢true}
-use Rattle.disk_model.specs.Disk.{DiskState}
-use Rattle.disk_record.specs.declared.change.Change.{Change}
-use Rattle.folder_model.specs.System.{System, with_lock}
-use Rattle.folder_model.specs.Calls.{Modelled, IfModelled, IsLocked, IsDoneOrNot, HasPassed, done_by}
-use Rattle.disk_files.specs.Follows.{CoversSystem}
-use Rattle.disk_files.proofs.ImageLemmas.{covered}
-use Rattle.folder_disk.specs.Files.{IsSoundSystem}
-use Rattle.folder_disk.specs.Folders.{IsUnseen}
-use Rattle.folder_disk.specs.Over.{IsDiskOf, IsOver, IsDiskOver, told_history}
+use Rattle.folder_disk.proofs.Common.{◌≡◌, ◌⊎◌, inl, inr, ℕ, Bool, true, false, List, Option, Some, None, Result, Ok, Err, Contains, refl, sym, ◌∙◌, ap, subst, ∥∥₁_map, false≢true, DiskState, Change, System, Modelled, IfModelled, IsLocked, IsDoneOrNot, HasPassed, done_by, CoversSystem, covered}
+use Rattle.folder_disk.proofs.Common.{IsSoundSystem, IsUnseen, IsDiskOf, IsOver, IsDiskOver, told_history}
+use Rattle.std.proofs.Common.{OnOk, OnErr}
+use Rattle.folder_model.specs.System.{with_lock}
 use Rattle.folder_disk.proofs.OverLemmas.{so_far, over_same, over_locked, over_refused, since_covered}
 
 -- a disk whose next change is refused

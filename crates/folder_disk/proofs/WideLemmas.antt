@@ -1,19 +1,14 @@
 -- What a crash may leave of a disk after a part of a change it may leave after the change.
-use Rattle.std.proofs.Common.{◌≡◌, inl, inr, ℕ, ◌+◌, ◌<◌, ◌≤◌, max, ◌||◌, if◌then◌else◌, Bool, true, false, List, length, take, slice_get, Option, Some, None, refl, sym, ◌∙◌, ap, subst, arith}
-use Rattle.std.proofs.lemmas.Bool.{cases_Bool, cond-true, cond-false, false≢true}
+use Rattle.folder_disk.proofs.Common.{◌≡◌, inl, inr, ℕ, ◌+◌, ◌<◌, ◌≤◌, ◌||◌, if◌then◌else◌, Bool, true, false, List, length, take, slice_get, Option, Some, None, refl, sym, ◌∙◌, ap, subst, arith, cases_Bool, cond-true, cond-false, false≢true, FileState, DiskState, History, AfterFailed, after}
+use Rattle.folder_disk.proofs.Common.{MayLeave, reading, written, half_written, half_cut, half_made, half_removed, same_name, FileName, same_name-true, System, Change, state_after, IsFailedChange, CoversSystem}
+use Rattle.std.proofs.Common.{max}
 use Rattle.std.proofs.lemmas.Bool.Decides.{nat_tests}
 use Rattle.std.proofs.lemmas.List.{length-take}
-use Rattle.disk_model.specs.Disk.{FileState, DiskState, History, AfterFailed, after, MayLeave, reading, covers, change, written, half_written, half_cut, half_made, half_removed}
-use Rattle.disk_model.specs.Name.{same_name}
-use Rattle.disk_model.specs.declared.name.FileName.{FileName}
-use Rattle.disk_model.proofs.NameLemmas.{same_name-true}
-use Rattle.folder_model.specs.System.{System, IsHalfWritten, weakened}
+use Rattle.disk_model.specs.Disk.{covers, change}
+use Rattle.folder_model.specs.System.{IsHalfWritten, weakened}
 use Rattle.folder_model.proofs.PartLemmas.{overlaid-get}
-use Rattle.disk_record.specs.declared.change.Change.{Change}
 use Rattle.disk_record.specs.declared.change.Change.TheVariants as change
-use Rattle.disk_record.specs.Record.{state_after}
-use Rattle.folder_disk.specs.Over.{IsFailedChange}
-use Rattle.disk_files.specs.Follows.{files_at, CoversSystem, half_written_as}
+use Rattle.disk_files.specs.Follows.{files_at, half_written_as}
 
 -- what the one file may leave the other may
 abbrev pub Leaves : FileState → FileState → Type 0

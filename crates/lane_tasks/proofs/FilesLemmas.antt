@@ -1,20 +1,12 @@
 -- Events of requests that read or change mailboxes take no storage file.
-use Rattle.std.proofs.Common.{◌≡◌, ◌==◌, ℕ, Bool, false, List, [], ◌∷◌, Option, Some, None, refl, sym, ◌∙◌, ap, subst}
-use Rattle.std.specs.Prelude.{◌≢◌, ◌&&◌, ◌||◌, All, is_none}
-use Rattle.std.specs.List.{list_any}
-use Rattle.std.proofs.lemmas.Bool.{eq-eqb, ne_eqb}
-use Rattle.std.proofs.lemmas.List.Elements.{All-head, All-push, All-tail}
-use Rattle.mdbox_base.specs.declared.ids.Uid.{Uid}
-use Rattle.mdbox_base.specs.declared.replies.Refusal.{Refusal}
-use Rattle.mdbox_base.specs.declared.requests.Request.{Request}
+use Rattle.lane_tasks.proofs.Common.{◌≡◌, ◌==◌, ℕ, Bool, false, List, [], ◌∷◌, Option, Some, None, refl, sym, ◌∙◌, ap, subst, ◌≢◌, ◌&&◌, ◌||◌, All, is_none, list_any, eq-eqb, ne_eqb, All-head, All-tail, Uid, Refusal, Request, Lists, EventPart, First, RunEvent, Run, TakenFile, and_then, own_events}
+use Rattle.lane_tasks.proofs.Common.{Around, took_file, own_more, own_other, TookNoFile}
+use Rattle.std.proofs.lemmas.List.Elements.{All-push}
 use Rattle.mdbox_base.specs.declared.requests.Request.TheVariants as request
-use Rattle.model_lists.specs.Lists.{ListedMessage, Lists}
+use Rattle.model_lists.specs.Lists.{ListedMessage}
 use Rattle.list_machine.specs.Machine.{message_numbered}
-use Rattle.list_machine.specs.Run.{EventPart, First, Last, SecondHalf, GivesBack, StartsOver, ReadsFile, RemovesFile, RunEvent, Run, TakenFile, and_then, own_events, source_of}
-use Rattle.journal.specs.Events.{Around, DidCopy, DidPart, RemovesIfThere}
-use Rattle.journal.specs.Found.{took_file}
-use Rattle.journal.proofs.OwnEventLemmas.{own_more, own_other}
-use Rattle.lane_tasks.specs.Tasks.{TookNoFile}
+use Rattle.list_machine.specs.Run.{Last, SecondHalf, GivesBack, StartsOver, ReadsFile, RemovesFile, source_of}
+use Rattle.journal.specs.Events.{DidCopy, DidPart, RemovesIfThere}
 
 -- ---- one event
 

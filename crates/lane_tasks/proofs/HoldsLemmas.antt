@@ -1,25 +1,17 @@
 -- The instances that tasks claim to hold are those that their requests' events found, placed or pinned.
-use Rattle.std.proofs.Common.{◌≡◌, ◌≤◌, ◌+◌, ◌==◌, ◌&&◌, ◌||◌, ℕ, Bool, true, false, cond, List, [], ◌∷◌, ◌++◌, map, Option, Some, None, refl, sym, ◌∙◌, ap, subst, arith, inl, inr}
-use Rattle.std.specs.Prelude.{◌⊎◌, All, find, flat_map, is_none, option_map}
-use Rattle.std.specs.List.{list_any}
-use Rattle.std.specs.Option.{option_map_or}
+use Rattle.lane_tasks.proofs.Common.{◌≡◌, ◌+◌, ◌==◌, ℕ, Bool, true, false, cond, List, [], ◌∷◌, ◌++◌, map, Option, Some, None, refl, sym, ◌∙◌, ap, subst, arith, inl, inr, ◌⊎◌, All, flat_map, is_none, list_any, option_map_or, All-head, All-nil, All-cons, All-tail, list_any-append, sum_by-cons}
+use Rattle.lane_tasks.proofs.Common.{History, InstRow, Uid, Refusal, Reply, Request, MapMeaning, EventPart, Run, RunEvent, own_events, StoreValue, Held, one_if, fetch_claims, IsAtFetch, FetchStage, MakeStage, make_claims, IsAt, save_claims, IsAtSave, IsReadyToDeliver, SaveValue, SaveStage}
+use Rattle.lane_tasks.proofs.Common.{purge_claims, IsReadyTask, HasNamedFound, StandsTask, claims_at, Task}
+use Rattle.std.proofs.Common.{◌≤◌, ◌&&◌, ◌||◌}
+use Rattle.std.specs.Prelude.{find, option_map}
 use Rattle.std.specs.Str.{bytes_eq}
 use Rattle.std.proofs.lemmas.List.Concat.{flat_map-cons}
-use Rattle.std.proofs.lemmas.List.Elements.{All-head, All-nil, All-cons, All-tail}
-use Rattle.std.proofs.lemmas.List.Folds.{list_any-append}
-use Rattle.std.proofs.lemmas.List.Sums.{sum_by-cons}
 use Rattle.std.proofs.lemmas.Slice.Eq.{bytes_eq-Decides}
 use Rattle.attach_detach.specs.declared.message.Detached.{Detached}
-use Rattle.disk_model.specs.Disk.{History}
-use Rattle.mdbox_base.specs.declared.entries.InstRow.{InstRow}
 use Rattle.mdbox_base.specs.declared.ids.InstId.{InstId}
-use Rattle.mdbox_base.specs.declared.ids.Uid.{Uid}
-use Rattle.mdbox_base.specs.declared.replies.Refusal.{Refusal}
-use Rattle.mdbox_base.specs.declared.replies.Reply.{Reply}
-use Rattle.mdbox_base.specs.declared.requests.Request.{Request}
 use Rattle.mdbox_base.specs.declared.requests.Request.TheVariants as request
-use Rattle.model_meaning.specs.MapMeaning.{MapMeaning, MapRecord, named_instances, record_at}
-use Rattle.list_machine.specs.Run.{EventPart, Pin, Run, RunEvent, is_unpinning, is_unpinning_part, own_events}
+use Rattle.model_meaning.specs.MapMeaning.{MapRecord, named_instances, record_at}
+use Rattle.list_machine.specs.Run.{Pin, is_unpinning, is_unpinning_part}
 use Rattle.journal.specs.Found.{is_same_instance}
 use Rattle.map_index.specs.Shown.{is_instance_named}
 use Rattle.save_instances.specs.Attaching.{AreOfParts}
@@ -28,30 +20,17 @@ use Rattle.sis_store.specs.declared.instance.KnownInstance.{KnownInstance}
 use Rattle.store_core.specs.Keeping.{holds_of}
 use Rattle.store_core.specs.Knows.{knows_instance}
 use Rattle.store_core.specs.StoreInstances.{IsKnownRow}
-use Rattle.store_core.specs.Value.{StoreValue}
-use Rattle.task_claims.specs.Claims.{Held, one_if}
-use Rattle.mail_fetch.specs.Claims.{IsReadyToFetch, fetch_claims}
-use Rattle.mail_fetch.specs.Stages.{HasPinned, HasReadAllBut, IsAtFetch, ReadPiece, UnpinsNext}
+use Rattle.mail_fetch.specs.Claims.{IsReadyToFetch}
+use Rattle.mail_fetch.specs.Stages.{HasPinned, HasReadAllBut, ReadPiece, UnpinsNext}
 use Rattle.mail_fetch.specs.declared.parts.StoredAt.{StoredAt}
-use Rattle.mail_fetch.specs.declared.task.FetchStage.{FetchStage}
 use Rattle.mail_fetch.specs.declared.task.FetchStage.TheVariants as fetch_stage
-use Rattle.mail_ops.specs.declared.making.MakeStage.{MakeStage}
 use Rattle.mail_ops.specs.declared.making.MakeStage.TheVariants as make_stage
-use Rattle.mail_ops.specs.Claims.{make_claims}
-use Rattle.mail_ops.specs.Task.{IsAt}
 use Rattle.mail_ops.specs.declared.task.TaskStage.{TaskStage}
 use Rattle.mail_ops.specs.declared.task.TaskStage.TheVariants as ops_stage
-use Rattle.mail_save.specs.Claims.{save_claims}
-use Rattle.mail_save.specs.SaveSeen.{IsAtSave}
 use Rattle.mail_save.specs.SaveStages.{AreTakenSoFar}
-use Rattle.mail_save.specs.Task.{IsReadyToDeliver, SaveValue}
-use Rattle.mail_save.specs.declared.task.SaveStage.{SaveStage}
 use Rattle.mail_save.specs.declared.task.SaveStage.TheVariants as save_stage
-use Rattle.purge_task.specs.Claims.{purge_claims}
-use Rattle.lane_tasks.specs.Tasks.{IsReadyTask, HasNamedFound, StandsTask, claims_at}
 use Rattle.lane_tasks.specs.Uses.{UsesInstance, finds_instance, pins_instance}
 use Rattle.lane_tasks.proofs.RoomLemmas.{purge_holds}
-use Rattle.lane_tasks.specs.declared.task.Task.{Task}
 use Rattle.lane_tasks.specs.declared.task.Task.TheVariants as task
 use Rattle.lane_tasks.proofs.NamedLemmas.{found_by, front_found, one_more, placed_found}
 

@@ -1,19 +1,18 @@
 -- What an event of a task keeps, by its kind.
-use Rattle.std.specs.Prelude.{◌⊎◌, ◌&&◌, ◌==◌}
-use Rattle.std.proofs.Common.{◌≡◌, ◌≤◌, ℕ, zero, suc, Bool, true, false, List, Option, Some, None, refl, sym, ◌∙◌, ap, subst, arith, inl, inr}
-use Rattle.disk_model.specs.Disk.{History, Faults, Grows, IsIdle, DiskState, told_calls}
+use Rattle.lane_tasks.proofs.Common.{◌⊎◌, ◌&&◌, ◌≡◌, ℕ, suc, Bool, true, false, List, Option, Some, None, refl, sym, ◌∙◌, ap, subst, arith, inl, inr, History, Faults, Progress, MapMeaning, StoreValue, FetchStage, PurgeValue, SaveValue, FileNo, Uid, Refusal, Reply, Request, ended_by, MakeAnswers}
+use Rattle.lane_tasks.proofs.Common.{MakeStage, SaveEffects, SaveStage, Task}
+use Rattle.std.specs.Prelude.{◌==◌}
+use Rattle.std.proofs.Common.{◌≤◌, zero}
+use Rattle.disk_model.specs.Disk.{Grows, IsIdle, DiskState, told_calls}
 use Rattle.disk_model.specs.declared.name.FileName.TheVariants as file
 use Rattle.disk_model.specs.FaultCounts.{NoFault}
 use Rattle.disk_model.proofs.IdleLemmas.{idle-begins}
 use Rattle.mdbox_base.specs.declared.progress.Did.{Did}
-use Rattle.mdbox_base.specs.declared.progress.Progress.{Progress}
 use Rattle.mdbox_base.specs.declared.progress.Progress.TheVariants as progress
 use Rattle.mdbox_base.specs.declared.replies.Refusal.TheVariants as refusal
 use Rattle.mdbox_base.specs.declared.replies.Reply.TheVariants as reply
 use Rattle.model_kept.specs.Kept.{MailIsKept}
 use Rattle.model_kept.proofs.KeptLemmas.{kept_idle}
-use Rattle.model_meaning.specs.MapMeaning.{MapMeaning}
-use Rattle.store_core.specs.Value.{StoreValue}
 use Rattle.task_claims.specs.Leaving.{SyncsMail}
 use Rattle.task_steps.proofs.UnmovedLemmas.{mail_still}
 use Rattle.mail_ops.specs.OnlyLogs.{ChangesOnlyLogs}
@@ -23,27 +22,19 @@ use Rattle.mail_fetch.specs.Events.{FetchesNext, GoesOnWith, fetch_refusal, with
 use Rattle.mail_fetch.specs.Parts.{pieces_left}
 use Rattle.mail_fetch.specs.Task.{FetchValue}
 use Rattle.mail_fetch.specs.declared.parts.StoredAt.{StoredAt}
-use Rattle.mail_fetch.specs.declared.task.FetchStage.{FetchStage}
 use Rattle.mail_fetch.specs.declared.task.FetchStage.TheVariants as fetch_stage
 use Rattle.mail_fetch.proofs.StageLemmas.{used_undoomed, used_runs}
-use Rattle.purge_task.specs.Keeping.{PurgeValue}
-use Rattle.mail_save.specs.Task.{EndsSave, FaultsAt, SaveValue, Saves}
+use Rattle.mail_save.specs.Task.{EndsSave, FaultsAt, Saves}
 use Rattle.attach_detach.specs.declared.message.Prepared.{Prepared}
 use Rattle.list_machine.specs.Machine.{is_step}
-use Rattle.mdbox_base.specs.declared.ids.FileNo.{FileNo}
-use Rattle.mdbox_base.specs.declared.ids.Uid.{Uid}
 use Rattle.mdbox_base.specs.Streams.{Rose}
 use Rattle.storage_files.specs.Files.{pins_in}
-use Rattle.mdbox_base.specs.declared.replies.Refusal.{Refusal}
-use Rattle.mdbox_base.specs.declared.replies.Reply.{Reply}
-use Rattle.mdbox_base.specs.declared.requests.Request.{Request}
 use Rattle.mdbox_base.specs.declared.requests.Request.TheVariants as request
-use Rattle.task_steps.specs.Step.{ended_by}
 use Rattle.mail_ops.specs.Copy.{CopyAnswers}
 use Rattle.mail_ops.specs.Event.{refusal_told}
 use Rattle.mail_ops.specs.Expunging.{ExpungeAnswers}
 use Rattle.mail_ops.specs.Flagging.{flag_refusal}
-use Rattle.mail_ops.specs.Making.{IsLogNotMade, MakeAnswers}
+use Rattle.mail_ops.specs.Making.{IsLogNotMade}
 use Rattle.mail_ops.specs.Moving.{MoveAnswers}
 use Rattle.mail_ops.specs.Requests.{AppendsNothing, Replies}
 use Rattle.mail_ops.specs.declared.copy.CopyStage.{CopyStage}
@@ -52,19 +43,15 @@ use Rattle.mail_ops.specs.declared.event.NotDone.{NotDone}
 use Rattle.mail_ops.specs.declared.event.NotDone.TheVariants as not_done
 use Rattle.mail_ops.specs.declared.expunging.ExpungeStage.{ExpungeStage}
 use Rattle.mail_ops.specs.declared.expunging.ExpungeStage.TheVariants as expunge_stage
-use Rattle.mail_ops.specs.declared.making.MakeStage.{MakeStage}
 use Rattle.mail_ops.specs.declared.making.MakeStage.TheVariants as make_stage
 use Rattle.mail_ops.specs.declared.moving.MoveStage.{MoveStage}
 use Rattle.mail_ops.specs.declared.moving.MoveStage.TheVariants as move_stage
-use Rattle.mail_save.specs.SaveEffects.{SaveEffects}
-use Rattle.mail_save.specs.declared.task.SaveStage.{SaveStage}
 use Rattle.mail_save.specs.declared.task.SaveStage.TheVariants as save_stage
 use Rattle.resync_task.specs.Clause.{ResyncKeeps}
 use Rattle.resync_task.specs.Correcting.{AreExact}
 use Rattle.resync_task.specs.Stages.{ResyncAt, ToList, ToRead}
 use Rattle.resync_task.specs.Task.{ResyncValue, ResyncsOn}
 use Rattle.lane_tasks.specs.Clause.{DoomsNone, DoomsNothing, FetchesSo, IsAtStart, PurgesSo, RemovesNothing, StaysOfRequest, TaskKeeps, TellsStore, OnlyReads, WritesTask, progress_by}
-use Rattle.lane_tasks.specs.declared.task.Task.{Task}
 use Rattle.lane_tasks.specs.declared.task.Task.TheVariants as task
 use Rattle.lane_tasks.proofs.StepLemmas.{ran_before, rest_files, undoomed_by, undoomed_rest}
 

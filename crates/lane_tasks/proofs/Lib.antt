@@ -1,3 +1,4 @@
+pub mod Common
 pub mod FilesLemmas
 pub mod HoldsLemmas
 pub mod KeepLemmas

@@ -1,33 +1,21 @@
 -- The record that a delivery has stored names the instances that its events found.
-use Rattle.std.proofs.Common.{◌≡◌, ◌==◌, ◌≤◌, ℕ, List, [], ◌∷◌, ◌++◌, Option, Some, refl, sym, ◌∙◌, ap, subst, append_assoc, arith}
-use Rattle.std.specs.Prelude.{◌≢◌, flat_map}
-use Rattle.std.proofs.lemmas.Bool.{eq-eqb, ne_eqb}
+use Rattle.lane_tasks.proofs.Common.{◌≡◌, ◌==◌, ℕ, List, [], ◌∷◌, ◌++◌, Option, Some, refl, sym, ◌∙◌, ap, subst, arith, ◌≢◌, flat_map, eq-eqb, ne_eqb, History, InstRow, Progress, Refusal, Reply, MapMeaning, Run, RunEvent, and_then, own_events, own_more, own_other, StoreValue, one_if, save_claims}
+use Rattle.lane_tasks.proofs.Common.{SaveEffects, IsAtSave, SaveStage, HasNamedFound}
+use Rattle.std.proofs.Common.{◌≤◌, append_assoc}
 use Rattle.std.proofs.lemmas.Grind.{flat_map-append}
 use Rattle.std.proofs.lemmas.List.{append-nil}
 use Rattle.std.proofs.lemmas.List.Concat.{flat_map-cons}
-use Rattle.disk_model.specs.Disk.{History}
-use Rattle.mdbox_base.specs.declared.entries.InstRow.{InstRow}
 use Rattle.mdbox_base.specs.declared.ids.MapUid.{MapUid}
-use Rattle.mdbox_base.specs.declared.progress.Progress.{Progress}
 use Rattle.mdbox_base.specs.declared.progress.Progress.TheVariants as progress
-use Rattle.mdbox_base.specs.declared.replies.Refusal.{Refusal}
-use Rattle.mdbox_base.specs.declared.replies.Reply.{Reply}
 use Rattle.model_meaning.specs.MapFits.{HasRecord}
-use Rattle.model_meaning.specs.MapMeaning.{MapMeaning, MapRecord, record_at}
-use Rattle.list_machine.specs.Run.{Run, RunEvent, and_then, own_events}
+use Rattle.model_meaning.specs.MapMeaning.{MapRecord, record_at}
 use Rattle.journal.specs.Events.{DidNothing, instances_found}
-use Rattle.journal.proofs.OwnEventLemmas.{own_more, own_other}
-use Rattle.store_core.specs.Value.{StoreValue}
-use Rattle.task_claims.specs.Claims.{Due, one_if}
+use Rattle.task_claims.specs.Claims.{Due}
 use Rattle.task_claims.specs.Stable.{Beside}
 use Rattle.task_claims.proofs.LeftLemmas.{record_left}
-use Rattle.mail_save.specs.Claims.{save_claims}
-use Rattle.mail_save.specs.SaveEffects.{SaveEffects, saved_row}
-use Rattle.mail_save.specs.SaveSeen.{IsAtSave}
+use Rattle.mail_save.specs.SaveEffects.{saved_row}
 use Rattle.mail_save.specs.SaveStages.{AreAttachedSoFar, ArePlacedSoFar, AreRefusedSoFar, AreStoredSoFar}
-use Rattle.mail_save.specs.declared.task.SaveStage.{SaveStage}
 use Rattle.mail_save.specs.declared.task.SaveStage.TheVariants as save_stage
-use Rattle.lane_tasks.specs.Tasks.{HasNamedFound}
 
 -- ---- what its events found
 

@@ -1,28 +1,14 @@
 -- A storage file that a purge claims to have taken, or drew as a target, is one that its events took and haven't given back.
-use Rattle.std.proofs.Common.{◌≡◌, ◌==◌, ◌<◌, ◌+◌, ℕ, suc, Bool, true, false, cond, List, [], ◌∷◌, map, Option, Some, None, refl, sym, ◌∙◌, ap, subst, arith, inl, inr}
-use Rattle.std.specs.Prelude.{◌≤◌, ◌≢◌, ◌⊎◌, ◌||◌, ◌&&◌, ◌++◌, All, AllPairs, Contains, drop, flat_map, is_none}
-use Rattle.std.specs.List.{list_any}
-use Rattle.std.specs.Option.{option_map_or, option_or}
-use Rattle.std.proofs.lemmas.Grind.{common_steps}
-use Rattle.std.proofs.lemmas.List.Elements.{All-cons, All-contains, All-head, All-nil, All-tail}
-use Rattle.std.proofs.lemmas.List.Folds.{list_any-append}
-use Rattle.std.proofs.lemmas.List.Sums.{sum_by-cons}
-use Rattle.disk_model.specs.Disk.{History}
-use Rattle.mdbox_base.specs.declared.ids.FileNo.{FileNo}
-use Rattle.mdbox_base.specs.declared.replies.Refusal.{Refusal}
-use Rattle.mdbox_base.specs.declared.replies.Reply.{Reply}
+use Rattle.lane_tasks.proofs.Common.{◌≡◌, ◌==◌, ◌<◌, ◌+◌, ℕ, suc, Bool, true, false, cond, List, [], ◌∷◌, map, Option, Some, None, refl, sym, ◌∙◌, ap, subst, arith, inl, inr, ◌≤◌, ◌≢◌, ◌⊎◌, ◌||◌, ◌&&◌, All, drop, flat_map, is_none, list_any, option_map_or, common_steps, All-cons, All-head, All-nil}
+use Rattle.lane_tasks.proofs.Common.{All-tail, list_any-append, sum_by-cons, History, FileNo, Refusal, Reply, Run, RunEvent, TakenFile, is_one_of, own_events, is_done, gave_back, is_storing, took_file, StoreValue, Emptied, Taken, claims_of_sources, claims_of_switched, claims_of_target, purge_claims}
+use Rattle.lane_tasks.proofs.Common.{sources_left, PurgeValue, IsAtPurgeStage, PurgeStage, Source}
+use Rattle.std.specs.Prelude.{◌++◌, AllPairs, Contains}
+use Rattle.std.specs.Option.{option_or}
+use Rattle.std.proofs.lemmas.List.Elements.{All-contains}
 use Rattle.model_octets.proofs.PairLemmas.{pairs_head, pairs_tail}
-use Rattle.list_machine.specs.Run.{Run, RunEvent, TakenFile, is_one_of, own_events}
-use Rattle.journal.specs.Events.{is_done, last_refusal}
-use Rattle.journal.specs.Found.{gave_back, is_storing, took_file}
-use Rattle.store_core.specs.Value.{StoreValue}
-use Rattle.task_claims.specs.Claims.{Emptied, Taken}
-use Rattle.purge_task.specs.Claims.{claims_of_sources, claims_of_switched, claims_of_target, purge_claims, sources_left}
-use Rattle.purge_task.specs.Keeping.{PurgeValue}
-use Rattle.purge_task.specs.Stages.{HaveTaken, IsAtPurgeStage, IsAtSwitched, told_taken}
-use Rattle.purge_task.specs.declared.task.PurgeStage.{PurgeStage}
+use Rattle.journal.specs.Events.{last_refusal}
+use Rattle.purge_task.specs.Stages.{HaveTaken, IsAtSwitched, told_taken}
 use Rattle.purge_task.specs.declared.task.PurgeStage.TheVariants as stage
-use Rattle.purge_task.specs.declared.work.Source.{Source}
 use Rattle.lane_tasks.specs.Tasks.{DoomsWithin, IsTakenWithin, TookApart}
 use Rattle.lane_tasks.proofs.PurgeTakenLemmas.{and_both, counted, is_gone, is_of, is_target_done, or_both, same}
 

@@ -1,25 +1,10 @@
 -- A storage file that a purge took, or drew as a target, and hasn't given back is claimed by it.
-use Rattle.std.proofs.Common.{◌≡◌, ◌==◌, ◌+◌, ℕ, Bool, true, false, cond, List, [], ◌∷◌, map, Option, Some, None, refl, sym, ◌∙◌, ap, subst, arith, inl, inr}
-use Rattle.std.specs.Prelude.{◌≤◌, ◌⊎◌, ◌||◌, ◌&&◌, ◌++◌, All, drop, flat_map, is_none}
-use Rattle.std.specs.List.{list_any}
-use Rattle.std.specs.Option.{option_map_or}
-use Rattle.std.proofs.lemmas.Grind.{common_steps}
-use Rattle.std.proofs.lemmas.List.Elements.{All-head, All-tail}
-use Rattle.std.proofs.lemmas.List.Folds.{list_any-append}
-use Rattle.std.proofs.lemmas.List.Sums.{sum_by-cons}
-use Rattle.mdbox_base.specs.declared.ids.FileNo.{FileNo}
-use Rattle.mdbox_base.specs.declared.replies.Reply.{Reply}
-use Rattle.list_machine.specs.Run.{RunEvent, Run, TakenFile, is_one_of, own_events}
-use Rattle.journal.specs.Events.{is_done}
-use Rattle.journal.specs.Found.{gave_back, is_storing, took_file}
-use Rattle.store_core.specs.Value.{StoreValue}
-use Rattle.task_claims.specs.Claims.{Emptied, Taken}
-use Rattle.purge_task.specs.Claims.{claims_of_sources, claims_of_switched, claims_of_target, purge_claims, sources_left}
-use Rattle.purge_task.specs.Keeping.{PurgeValue}
-use Rattle.purge_task.specs.Stages.{HaveTaken, IsAtPurgeStage, IsAtSwitched, told_taken}
-use Rattle.purge_task.specs.declared.task.PurgeStage.{PurgeStage}
+use Rattle.lane_tasks.proofs.Common.{◌≡◌, ◌==◌, ◌+◌, ℕ, Bool, true, false, cond, List, [], ◌∷◌, map, Option, Some, None, refl, sym, ◌∙◌, ap, subst, arith, inl, inr, ◌≤◌, ◌⊎◌, ◌||◌, ◌&&◌, All, drop, flat_map, is_none, list_any, option_map_or, common_steps, All-head, All-tail, list_any-append}
+use Rattle.lane_tasks.proofs.Common.{sum_by-cons, FileNo, Reply, RunEvent, Run, TakenFile, is_one_of, own_events, is_done, gave_back, is_storing, took_file, StoreValue, Emptied, Taken, claims_of_sources, claims_of_switched, claims_of_target, purge_claims, sources_left, PurgeValue, IsAtPurgeStage}
+use Rattle.lane_tasks.proofs.Common.{PurgeStage, Source}
+use Rattle.std.specs.Prelude.{◌++◌}
+use Rattle.purge_task.specs.Stages.{HaveTaken, IsAtSwitched, told_taken}
 use Rattle.purge_task.specs.declared.task.PurgeStage.TheVariants as stage
-use Rattle.purge_task.specs.declared.work.Source.{Source}
 
 -- ---- tests
 

@@ -1,40 +1,22 @@
 -- What tasks claim leaves room for their next events.
-use Rattle.std.proofs.Common.{◌≡◌, ◌+◌, ◌*◌, ℕ, false, List, [], ◌∷◌, All, length, Option, Some, None, refl, sym, ◌∙◌, ap, subst, arith}
-use Rattle.std.specs.Prelude.{◌≤◌, drop}
-use Rattle.std.specs.Option.{option_map_or}
-use Rattle.std.proofs.lemmas.List.Elements.{All-cons, All-nil, All-head, All-tail}
-use Rattle.std.proofs.lemmas.List.Sums.{sum_by-cons}
-use Rattle.disk_model.specs.Disk.{History}
+use Rattle.lane_tasks.proofs.Common.{◌≡◌, ◌+◌, ℕ, false, List, [], ◌∷◌, Option, Some, None, refl, sym, ◌∙◌, ap, subst, arith, ◌≤◌, drop, option_map_or, All-cons, All-nil, All-head, All-tail, sum_by-cons, History, Request, Lists, Around, AreFilesInOrder, IsStore, StoreValue, Claims, Held, MakeStage}
+use Rattle.lane_tasks.proofs.Common.{make_claims, SaveValue, SaveStage, claims_of_sources, claims_of_switched, claims_of_target, purge_claims, sources_left, PurgeStage, Source, IsReadyTask, claims_at, Task}
+use Rattle.std.proofs.Common.{◌*◌, All, length}
 use Rattle.mdbox_base.specs.declared.ids.InstId.{InstId}
-use Rattle.mdbox_base.specs.declared.requests.Request.{Request}
 use Rattle.mdbox_base.specs.declared.requests.Request.TheVariants as request
-use Rattle.model_lists.specs.Lists.{Lists}
-use Rattle.journal.specs.Events.{Around}
-use Rattle.storage_files.specs.Files.{AreFilesInOrder}
 use Rattle.storage_files.specs.declared.file.MailFile.{MailFile}
-use Rattle.store_core.specs.Running.{IsStore}
-use Rattle.store_core.specs.Value.{StoreValue}
-use Rattle.task_claims.specs.Claims.{AddsUp, Claims, Held, Pinned, Thing, total_claims}
-use Rattle.mail_ops.specs.declared.making.MakeStage.{MakeStage}
+use Rattle.task_claims.specs.Claims.{AddsUp, Pinned, Thing, total_claims}
 use Rattle.mail_ops.specs.declared.making.MakeStage.TheVariants as make_stage
-use Rattle.mail_ops.specs.Claims.{make_claims}
 use Rattle.mail_fetch.specs.Claims.{HasUseRoom}
 use Rattle.mail_fetch.specs.Clause.{ReadsSafe}
 use Rattle.mail_fetch.proofs.StableLemmas.{claims_few, claims_one_pin}
 use Rattle.mail_fetch.proofs.StepLemmas.{safe_fetched}
 use Rattle.mail_save.specs.SaveSeen.{room_among, room_at}
-use Rattle.mail_save.specs.Task.{SaveValue}
-use Rattle.mail_save.specs.declared.task.SaveStage.{SaveStage}
 use Rattle.mail_save.specs.declared.task.SaveStage.TheVariants as save_stage
 use Rattle.mail_save.proofs.SaveReadyLemmas.{holds_are_few}
 use Rattle.mail_save.proofs.SaveRoomLemmas.{room_is}
-use Rattle.purge_task.specs.Claims.{claims_of_sources, claims_of_switched, claims_of_target, purge_claims, sources_left}
-use Rattle.purge_task.specs.declared.task.PurgeStage.{PurgeStage}
 use Rattle.purge_task.specs.declared.task.PurgeStage.TheVariants as purge_stage
-use Rattle.purge_task.specs.declared.work.Source.{Source}
 use Rattle.lane_tasks.specs.Clause.{CanAnswer, ClaimsFew, IsFreeToTake, around_at, found_saving}
-use Rattle.lane_tasks.specs.Tasks.{IsReadyTask, claims_at}
-use Rattle.lane_tasks.specs.declared.task.Task.{Task}
 use Rattle.lane_tasks.specs.declared.task.Task.TheVariants as task
 
 -- ---- each kind

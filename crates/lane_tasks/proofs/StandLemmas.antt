@@ -1,35 +1,24 @@
 -- Where tasks begin, and that they stay where they stand, and ready, beside events of others.
-use Rattle.std.proofs.Common.{◌≡◌, ℕ, true, false, List, [], Option, None, refl, sym, ◌∙◌, ap, subst, arith, inl}
-use Rattle.std.specs.Prelude.{◌≢◌, ◌⊎◌, ◌≤◌, All}
-use Rattle.std.specs.List.{list_any}
-use Rattle.std.proofs.lemmas.List.Elements.{All-nil}
-use Rattle.disk_model.specs.Disk.{Faults, History}
-use Rattle.mdbox_base.specs.declared.replies.Reply.{Reply}
-use Rattle.mdbox_base.specs.declared.requests.Request.{Request}
+use Rattle.lane_tasks.proofs.Common.{◌≡◌, ℕ, true, false, List, [], Option, None, refl, sym, ◌∙◌, ap, subst, arith, inl, ◌≢◌, ◌⊎◌, ◌≤◌, All, list_any, All-nil, Faults, History, Reply, Request, Run, RunEvent, and_then, own_events, gave_back, took_file, AreFilesInOrder, IsStore, StoreValue, Claims}
+use Rattle.lane_tasks.proofs.Common.{Emptied, Held, Taken, make_claims, IsAt, MakeStage, fetch_claims, IsAtFetch, FetchStage, save_claims, IsAtSave, IsReadyToDeliver, SaveValue, SaveStage, purge_claims, IsAtPurgeStage, PurgeStage, IsMakeNumber, IsReadyTask, HasNamedFound, StandsTask, TookNoFile}
+use Rattle.lane_tasks.proofs.Common.{claims_at, Task}
 use Rattle.mdbox_base.specs.declared.requests.Request.TheVariants as request
-use Rattle.list_machine.specs.Run.{Run, RunEvent, and_then, own_events}
 use Rattle.journal.specs.Events.{last_refusal}
-use Rattle.journal.specs.Found.{gave_back, took_file}
-use Rattle.storage_files.specs.Files.{AreFilesInOrder}
-use Rattle.store_core.specs.Running.{IsStore}
-use Rattle.store_core.specs.Value.{StoreValue}
-use Rattle.task_claims.specs.Claims.{Claims, ClaimsNothing, Due, Emptied, Held, Made, Taken, Thing}
+use Rattle.task_claims.specs.Claims.{ClaimsNothing, Due, Made, Thing}
 use Rattle.task_claims.specs.Stable.{Beside}
 use Rattle.task_claims.proofs.RestLemmas.{none_claimed_of}
 use Rattle.task_steps.specs.Step.{GivesNew, HasNotBegun}
 use Rattle.task_steps.proofs.SeenLemmas.{not_begun_stays}
-use Rattle.mail_ops.specs.Claims.{copy_claims, expunge_claims, make_claims, move_claims}
+use Rattle.mail_ops.specs.Claims.{copy_claims, expunge_claims, move_claims}
 use Rattle.mail_ops.specs.Copy.{IsAtCopy, IsReadyToCopy, copy_dues}
 use Rattle.mail_ops.specs.Expunging.{IsAtExpunge, expunge_amounts, expunge_dues}
 use Rattle.mail_ops.specs.Making.{IsAtMake, IsReadyToMake}
 use Rattle.mail_ops.specs.Moving.{IsAtMove, IsReadyToMove, move_dues}
 use Rattle.mail_ops.specs.Owing.{AreDueIn}
-use Rattle.mail_ops.specs.Task.{IsAt}
 use Rattle.mail_ops.specs.declared.copy.CopyStage.{CopyStage}
 use Rattle.mail_ops.specs.declared.copy.CopyStage.TheVariants as copy_stage
 use Rattle.mail_ops.specs.declared.expunging.ExpungeStage.{ExpungeStage}
 use Rattle.mail_ops.specs.declared.expunging.ExpungeStage.TheVariants as expunge_stage
-use Rattle.mail_ops.specs.declared.making.MakeStage.{MakeStage}
 use Rattle.mail_ops.specs.declared.making.MakeStage.TheVariants as make_stage
 use Rattle.mail_ops.specs.declared.moving.MoveStage.{MoveStage}
 use Rattle.mail_ops.specs.declared.moving.MoveStage.TheVariants as move_stage
@@ -42,30 +31,21 @@ use Rattle.mail_ops.proofs.MoveStepLemmas.{move_kept}
 use Rattle.mail_ops.proofs.StableLemmas.{copy_stable, expunge_stable, make_stable, move_stable}
 use Rattle.mail_ops.proofs.StageLemmas.{stages_kept}
 use Rattle.attach_detach.specs.declared.message.Prepared.{Prepared}
-use Rattle.mail_fetch.specs.Claims.{IsReadyToFetch, fetch_claims}
-use Rattle.mail_fetch.specs.Stages.{IsAtFetch}
-use Rattle.mail_fetch.specs.declared.task.FetchStage.{FetchStage}
+use Rattle.mail_fetch.specs.Claims.{IsReadyToFetch}
 use Rattle.mail_fetch.proofs.StableLemmas.{fetch_stable, stay_beside}
-use Rattle.mail_save.specs.Claims.{save_claims}
-use Rattle.mail_save.specs.SaveSeen.{HasItsParts, IsAtSave}
-use Rattle.mail_save.specs.Task.{IsReadyToDeliver, SaveValue}
-use Rattle.mail_save.specs.declared.task.SaveStage.{SaveStage}
+use Rattle.mail_save.specs.SaveSeen.{HasItsParts}
 use Rattle.mail_save.specs.declared.task.SaveStage.TheVariants as save_stage
 use Rattle.mail_save.proofs.SaveKeptLemmas.{save_kept}
 use Rattle.mail_save.proofs.SaveReadyLemmas.{begins_ready as fresh_delivery}
 use Rattle.mail_save.proofs.SaveTakenLemmas.{taken_claimed}
 use Rattle.mail_save.proofs.StableSaveLemmas.{save_stable}
-use Rattle.purge_task.specs.Claims.{purge_claims}
 use Rattle.purge_task.specs.Keeping.{HasPurged}
-use Rattle.purge_task.specs.Stages.{IsAtPurgeStage}
-use Rattle.purge_task.specs.declared.task.PurgeStage.{PurgeStage}
 use Rattle.purge_task.proofs.BesideLemmas.{purge_stands}
 use Rattle.purge_task.proofs.StableLemmas.{purge_stable}
 use Rattle.resync_task.specs.Stages.{ResyncAt, IsAtResync}
 use Rattle.resync_task.proofs.ResyncEventLemmas.{resyncs_are_kept}
 use Rattle.lane_tasks.specs.Clause.{PassesBy, PassesInRun}
-use Rattle.lane_tasks.specs.Tasks.{BeginsTask, IsAtDelivery, IsAtFirst, IsAtTask, IsFreshDelivery, IsMakeNumber, IsReadyTask, HasNamedFound, StandsTask, TookFiles, TookNoFile, claims_at}
-use Rattle.lane_tasks.specs.declared.task.Task.{Task}
+use Rattle.lane_tasks.specs.Tasks.{BeginsTask, IsAtDelivery, IsAtFirst, IsAtTask, IsFreshDelivery, TookFiles}
 use Rattle.lane_tasks.specs.declared.task.Task.TheVariants as task
 use Rattle.lane_tasks.proofs.FilesLemmas.{none_taken, took_none_other}
 use Rattle.lane_tasks.proofs.PurgeApartLemmas.{apart_first, apart_other}

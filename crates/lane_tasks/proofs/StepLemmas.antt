@@ -1,63 +1,48 @@
 -- The clause of a task's step, from that of its kind.
-use Rattle.std.proofs.Common.{◌≡◌, ◌<◌, ◌-◌, ℕ, Bool, true, false, List, Option, Some, None, refl, sym, ◌∙◌, ap, subst, arith}
-use Rattle.std.specs.Prelude.{◌≤◌, ◌==◌, is_some}
-use Rattle.disk_model.specs.Disk.{History, Faults}
+use Rattle.lane_tasks.proofs.Common.{◌≡◌, ◌<◌, ℕ, Bool, true, false, List, Option, Some, None, refl, sym, ◌∙◌, ap, subst, arith, ◌≤◌, History, Faults, Uid, Progress, Refusal, Reply, Request, Lists, MapMeaning, Run, RunEvent, and_then, Around, AreFilesInOrder, IsStore, StoreValue, ended_by}
+use Rattle.lane_tasks.proofs.Common.{MakeAnswers, IsAt, MakeStage, IsAtFetch, FetchStage, save_claims, SaveEffects, IsAtSave, IsReadyToDeliver, SaveValue, PurgeValue, IsMakeNumber, TookNoFile, work_left, Task}
+use Rattle.std.proofs.Common.{◌-◌}
+use Rattle.std.specs.Prelude.{◌==◌, is_some}
 use Rattle.mdbox_base.specs.declared.entries.Highest.{Highest}
-use Rattle.mdbox_base.specs.declared.ids.Uid.{Uid}
 use Rattle.mdbox_base.specs.declared.progress.Did.{Did}
 use Rattle.mdbox_base.specs.declared.progress.Did.TheVariants as did
-use Rattle.mdbox_base.specs.declared.progress.Progress.{Progress}
 use Rattle.mdbox_base.specs.declared.progress.Progress.TheVariants as progress
-use Rattle.mdbox_base.specs.declared.replies.Refusal.{Refusal}
 use Rattle.mdbox_base.specs.declared.replies.Refusal.TheVariants as refusal
-use Rattle.mdbox_base.specs.declared.replies.Reply.{Reply}
 use Rattle.mdbox_base.specs.declared.replies.Reply.TheVariants as reply
-use Rattle.mdbox_base.specs.declared.requests.Request.{Request}
 use Rattle.mdbox_base.specs.declared.requests.Request.TheVariants as request
-use Rattle.model_lists.specs.Lists.{Lists}
-use Rattle.model_meaning.specs.MapMeaning.{MapMeaning}
 use Rattle.model_octets.proofs.PairLemmas.{found_holds}
-use Rattle.list_machine.specs.Run.{Run, RunEvent, and_then, drawn_of}
-use Rattle.journal.specs.Events.{Around, DidPart, IsEvent, behind_event}
+use Rattle.list_machine.specs.Run.{drawn_of}
+use Rattle.journal.specs.Events.{DidPart, IsEvent, behind_event}
 use Rattle.journal.specs.Found.{AgreesWithRun, IsFreeFile}
-use Rattle.storage_files.specs.Files.{AreFilesInOrder, FilesValue, end_in, is_doomed_in, pins_in}
+use Rattle.storage_files.specs.Files.{FilesValue, end_in, is_doomed_in, pins_in}
 use Rattle.storage_files.specs.declared.file.MailFile.{MailFile}
 use Rattle.storage_files.proofs.UseLemmas.{found-ending}
 use Rattle.store_core.specs.Keeping.{KeepsRest}
 use Rattle.store_core.specs.MadeLogs.{without_box}
-use Rattle.store_core.specs.Running.{IsStore}
-use Rattle.store_core.specs.Value.{StoreValue}
 use Rattle.store_seen.specs.Seeing.{seen_of}
-use Rattle.task_steps.specs.Step.{DidEvent, and_told, Fell, HasComeTo, HasNotBegun, Leads, Seen, Steps, Went, ended_by}
+use Rattle.task_steps.specs.Step.{DidEvent, and_told, Fell, HasComeTo, HasNotBegun, Leads, Seen, Steps, Went}
 use Rattle.task_claims.specs.Claims.{MovesClaims, Pinned}
 use Rattle.mail_ops.specs.Copy.{CopyValue, IsAtCopy}
 use Rattle.mail_ops.specs.Expunging.{ExpungeValue, IsAtExpunge}
-use Rattle.mail_ops.specs.Making.{IsAtMake, KeepsAllButLogs, MakeAnswers, MakeValue, make_left, with_drawn_box}
+use Rattle.mail_ops.specs.Making.{IsAtMake, KeepsAllButLogs, MakeValue, make_left, with_drawn_box}
 use Rattle.mail_ops.specs.Moving.{IsAtMove, MoveValue}
 use Rattle.mail_ops.specs.Requests.{AppendsNothing, IsOpsRequest, Replies}
-use Rattle.mail_ops.specs.Task.{IsAt, TaskValue}
-use Rattle.mail_ops.specs.declared.making.MakeStage.{MakeStage}
+use Rattle.mail_ops.specs.Task.{TaskValue}
 use Rattle.mail_ops.specs.declared.making.MakeStage.TheVariants as make_stage
 use Rattle.mail_fetch.specs.Claims.{HasFetchRoom, HasUseRoom}
 use Rattle.mail_fetch.specs.Clause.{CanFetch, FetchSteps, StepsOf}
-use Rattle.mail_fetch.specs.Stages.{IsAtFetch}
 use Rattle.mail_fetch.specs.Task.{FetchValue, seen_in}
-use Rattle.mail_fetch.specs.declared.task.FetchStage.{FetchStage}
 use Rattle.mail_fetch.specs.declared.task.FetchStage.TheVariants as fetch_stage
-use Rattle.mail_save.specs.Claims.{save_claims}
 use Rattle.mail_save.specs.Ready.{IsReadyToSave}
-use Rattle.mail_save.specs.SaveEffects.{SaveEffects}
-use Rattle.mail_save.specs.SaveSeen.{HasItsParts, IsAtSave, StepsWithRoom, around_saving}
-use Rattle.mail_save.specs.Task.{EndsSave, IsReadyToDeliver, SaveValue}
+use Rattle.mail_save.specs.SaveSeen.{HasItsParts, StepsWithRoom, around_saving}
+use Rattle.mail_save.specs.Task.{EndsSave}
 use Rattle.mail_save.proofs.SavePartLemmas.{ready_has_parts}
 use Rattle.purge_task.specs.Clause.{PurgeSteps, TellsUses, around_purging}
-use Rattle.purge_task.specs.Keeping.{PurgeValue}
 use Rattle.purge_task.specs.Stages.{IsAtPurge}
 use Rattle.resync_task.specs.Clause.{ResyncClause}
 use Rattle.resync_task.specs.Task.{ResyncValue}
 use Rattle.lane_tasks.specs.Clause.{DoomsNone, FindsAround, LeavesUndoomed, SetsNoFlags, StaysOfRequest, StepsTask, around_at}
-use Rattle.lane_tasks.specs.Tasks.{IsAtTask, IsDeliveryOf, IsMakeNumber, IsTaskOf, TookFiles, TookNoFile, did_of, work_left}
-use Rattle.lane_tasks.specs.declared.task.Task.{Task}
+use Rattle.lane_tasks.specs.Tasks.{IsAtTask, IsDeliveryOf, IsTaskOf, TookFiles, did_of}
 use Rattle.lane_tasks.specs.declared.task.Task.TheVariants as task
 use Rattle.lane_tasks.proofs.NamedLemmas.{names_on}
 use Rattle.lane_tasks.proofs.FilesLemmas.{TakesNone, copy_takes_none, counts_takes_none, expunge_takes_none, fetch_takes_none, flag_takes_none, list_takes_none, make_takes_none, move_takes_none, resync_takes_none, took_none_more}

@@ -1,35 +1,16 @@
 -- The storage files that tasks claim to have taken are those that their requests' events took and haven't given back.
-use Rattle.std.proofs.Common.{◌≡◌, ◌≤◌, ◌==◌, ◌&&◌, ◌||◌, ℕ, Bool, true, false, List, [], ◌∷◌, ◌++◌, Option, None, refl, sym, ◌∙◌, ap, subst, arith, inl, inr}
-use Rattle.std.specs.Prelude.{◌⊎◌, flat_map, is_none}
-use Rattle.std.specs.List.{AllByRecursion, list_any}
-use Rattle.std.proofs.lemmas.Bool.{eq-eqb, eqb-true}
-use Rattle.std.proofs.lemmas.List.Folds.{list_any-append}
-use Rattle.disk_model.specs.Disk.{History}
-use Rattle.mdbox_base.specs.declared.entries.InstRow.{InstRow}
-use Rattle.mdbox_base.specs.declared.replies.Refusal.{Refusal}
-use Rattle.mdbox_base.specs.declared.replies.Reply.{Reply}
-use Rattle.mdbox_base.specs.declared.requests.Request.{Request}
+use Rattle.lane_tasks.proofs.Common.{◌≡◌, ◌==◌, ℕ, Bool, true, false, List, [], ◌∷◌, ◌++◌, Option, None, refl, sym, ◌∙◌, ap, subst, arith, inl, inr, ◌⊎◌, flat_map, is_none, list_any, eq-eqb, list_any-append, History, InstRow, Refusal, Reply, Request, EventPart, First, Run, RunEvent, TakenFile}
+use Rattle.lane_tasks.proofs.Common.{is_one_of, own_events, is_done, gave_back, is_storing, took_file, StoreValue, Emptied, Taken, one_if, fetch_claims, FetchStage, make_claims, MakeStage, save_claims, IsAtSave, SaveValue, SaveStage, StandsTask, claims_at, Task}
+use Rattle.std.proofs.Common.{◌≤◌, ◌&&◌, ◌||◌}
+use Rattle.std.specs.List.{AllByRecursion}
+use Rattle.std.proofs.lemmas.Bool.{eqb-true}
 use Rattle.mdbox_base.specs.declared.requests.Request.TheVariants as request
-use Rattle.list_machine.specs.Run.{Compares, EventPart, First, PlacesInstance, PlacesMessage, Run, RunEvent, TakenFile, TakesFile, is_one_of, own_events}
-use Rattle.journal.specs.Events.{is_done}
-use Rattle.journal.specs.Found.{gave_back, is_storing, took_file}
-use Rattle.store_core.specs.Value.{StoreValue}
-use Rattle.task_claims.specs.Claims.{Emptied, Taken, one_if}
-use Rattle.mail_fetch.specs.Claims.{fetch_claims}
-use Rattle.mail_fetch.specs.declared.task.FetchStage.{FetchStage}
+use Rattle.list_machine.specs.Run.{Compares, PlacesInstance, PlacesMessage, TakesFile}
 use Rattle.mail_fetch.specs.declared.task.FetchStage.TheVariants as fetch_stage
-use Rattle.mail_ops.specs.Claims.{make_claims}
-use Rattle.mail_ops.specs.declared.making.MakeStage.{MakeStage}
 use Rattle.mail_ops.specs.declared.making.MakeStage.TheVariants as make_stage
-use Rattle.mail_save.specs.Claims.{save_claims}
-use Rattle.mail_save.specs.SaveSeen.{IsAtSave}
 use Rattle.mail_save.specs.SaveStages.{AreAttachedSoFar, HasAttached, TookFile}
-use Rattle.mail_save.specs.Task.{SaveValue}
-use Rattle.mail_save.specs.declared.task.SaveStage.{SaveStage}
 use Rattle.mail_save.specs.declared.task.SaveStage.TheVariants as save_stage
-use Rattle.lane_tasks.specs.Tasks.{StandsTask, claims_at}
 use Rattle.lane_tasks.proofs.PurgeClaimedLemmas.{purge_claimed}
-use Rattle.lane_tasks.specs.declared.task.Task.{Task}
 use Rattle.lane_tasks.specs.declared.task.Task.TheVariants as task
 
 -- What a task's own events say of a file: one took it, and none gave it back.

@@ -1,24 +1,17 @@
 -- No event of another task raises the number of events that are still to come.
-use Rattle.std.proofs.Common.{◌≡◌, ◌<◌, ◌+◌, ◌*◌, ◌-◌, ℕ, Bool, true, false, Option, ap, arith, inl, inr}
-use Rattle.std.specs.Prelude.{◌≤◌, ◌⊎◌, nat_lt, if◌then◌else◌}
+use Rattle.lane_tasks.proofs.Common.{◌≡◌, ◌<◌, ◌+◌, ℕ, Bool, true, false, Option, ap, arith, inl, inr, ◌≤◌, ◌⊎◌, common_steps, History, StoreValue, Claims, MakeStage, SaveStage, IsMakeNumber, IsReadyTask, work_left, Task}
+use Rattle.std.proofs.Common.{◌*◌, ◌-◌}
+use Rattle.std.specs.Prelude.{nat_lt, if◌then◌else◌}
 use Rattle.std.proofs.lemmas.Bool.{cases_lt}
-use Rattle.std.proofs.lemmas.Grind.{common_steps}
-use Rattle.disk_model.specs.Disk.{History}
 use Rattle.sis_store.specs.Instances.{InstancesValue}
-use Rattle.store_core.specs.Value.{StoreValue}
-use Rattle.task_claims.specs.Claims.{Claims}
 use Rattle.task_claims.specs.Leaving.{LeavesOthers, PlacesFew}
 use Rattle.save_instances.specs.Attaching.{nothing_found}
 use Rattle.save_instances.proofs.AttachCountLemmas.{none_more}
 use Rattle.mail_ops.specs.Making.{make_left}
-use Rattle.mail_ops.specs.declared.making.MakeStage.{MakeStage}
 use Rattle.mail_ops.specs.declared.making.MakeStage.TheVariants as make_stage
 use Rattle.mail_save.specs.Task.{save_events_left}
-use Rattle.mail_save.specs.declared.task.SaveStage.{SaveStage}
 use Rattle.mail_save.specs.declared.task.SaveStage.TheVariants as save_stage
 use Rattle.purge_task.proofs.StableLemmas.{left_stays}
-use Rattle.lane_tasks.specs.Tasks.{IsMakeNumber, IsReadyTask, work_left}
-use Rattle.lane_tasks.specs.declared.task.Task.{Task}
 use Rattle.lane_tasks.specs.declared.task.Task.TheVariants as task
 
 -- ---- a make

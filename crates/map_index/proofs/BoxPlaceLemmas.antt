@@ -1,18 +1,10 @@
 -- The mailbox of a number gets another generation at its place.
-use Rattle.std.proofs.Common.{◌≡◌, ◌≢◌, ℕ, zero, suc, ◌<◌, ◌≤◌, ◌==◌, true, false, List, [], ◌∷◌, length, get_or, set, map, All, ap, sym, subst, refl, ◌∙◌, arith}
-use Rattle.std.specs.Prelude.{AllPairs}
-use Rattle.std.specs.List.{position_or_len}
-use Rattle.std.proofs.lemmas.Bool.Decides.{nat_tests}
+use Rattle.map_index.proofs.Common.{◌≡◌, ◌≢◌, ℕ, zero, suc, ◌<◌, ◌≤◌, ◌==◌, true, false, List, [], ◌∷◌, length, get_or, map, ap, sym, subst, refl, ◌∙◌, arith, AllPairs, position_or_len, nat_tests, All-head, All-tail, All-weaker, pairs_head, pairs_tail, BoxNo, MapBox, equal_is, Mailbox, box_of}
+use Rattle.std.proofs.Common.{set, All}
 use Rattle.std.proofs.lemmas.List.{get_or_default}
-use Rattle.std.proofs.lemmas.List.Elements.{All-head, All-tail, All-weaker}
 use Rattle.std.proofs.lemmas.List.Sums.{passes_at_first, fails_before_first}
-use Rattle.model_octets.proofs.PairLemmas.{pairs_head, pairs_tail}
-use Rattle.mdbox_base.specs.declared.ids.BoxNo.{BoxNo}
 use Rattle.mdbox_base.specs.declared.entries.MapEntry.TheVariants as entry
-use Rattle.model_meaning.specs.MapMeaning.{MapBox, box_changed}
-use Rattle.model_meaning.proofs.MapPlaceLemmas.{equal_is}
-use Rattle.map_index.specs.declared.rows.Mailbox.{Mailbox}
-use Rattle.map_index.specs.Shown.{box_of}
+use Rattle.model_meaning.specs.MapMeaning.{box_changed}
 
 abbrev BoxesRise : List Mailbox → Type 0
 BoxesRise boxes = AllPairs (λ a b. a.at.number.0 < b.at.number.0) boxes

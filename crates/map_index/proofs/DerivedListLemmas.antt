@@ -1,10 +1,8 @@
 -- Look-ups in a list that is made of another one.
-use Rattle.std.proofs.Common.{filter, ◌≡◌, ◌||◌, Bool, true, false, cond, Option, Some, List, [], ◌∷◌, map, find, subst, refl, sym, ap, ◌∙◌}
-use Rattle.std.specs.Prelude.{flat_map, All, ◌↔◌}
-use Rattle.std.specs.List.{list_any}
-use Rattle.std.specs.Option.{option_map}
+use Rattle.map_index.proofs.Common.{filter, ◌≡◌, ◌||◌, Bool, true, false, cond, Option, Some, List, [], ◌∷◌, map, find, subst, refl, sym, ap, ◌∙◌, All, ◌↔◌, list_any, option_map, All-nil, All-cons, All-head, All-tail}
+use Rattle.std.specs.Prelude.{flat_map}
 use Rattle.std.proofs.lemmas.List.Folds.{list_any-append}
-use Rattle.std.proofs.lemmas.List.Elements.{All-nil, All-cons, All-head, All-tail, All-map}
+use Rattle.std.proofs.lemmas.List.Elements.{All-map}
 
 found : {X Y : Type 0} → (f : X → Y) (b : Bool) (x : X) (rest : Option X) → cond b (Some (f x)) (option_map f rest) ≡ option_map f (cond b (Some x) rest)
 found f true x rest = refl

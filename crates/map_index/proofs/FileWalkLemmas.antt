@@ -1,18 +1,15 @@
 -- The records of a storage file, one after another in order of offset.
-use Rattle.std.proofs.Common.{◌≡◌, inl, inr, ℕ, ◌+◌, ◌<◌, ◌≤◌, ◌==◌, ◌&&◌, Bool, true, false, cond, Option, Some, None, List, [], ◌∷◌, get_or, filter, fold, All, refl, sym, ap, subst, ◌∙◌, arith}
-use Rattle.std.specs.Prelude.{nat_le, AllPairs, ◌⊎◌}
-use Rattle.std.specs.Option.{option_map}
+use Rattle.map_index.proofs.Common.{◌≡◌, inl, inr, ℕ, ◌+◌, ◌<◌, ◌≤◌, ◌==◌, Bool, true, false, cond, Option, Some, None, List, [], ◌∷◌, get_or, filter, fold, refl, sym, ap, subst, ◌∙◌, arith, AllPairs, option_map, nat_tests, All-nil, All-cons, All-head, All-tail, MapRecord, MapRow, shown_record}
+use Rattle.map_index.proofs.Common.{equal_is}
+use Rattle.std.proofs.Common.{◌&&◌, All}
+use Rattle.std.specs.Prelude.{nat_le, ◌⊎◌}
 use Rattle.std.proofs.lemmas.Bool.{cases_lt, cases_eq}
-use Rattle.std.proofs.lemmas.Bool.Decides.{nat_tests}
 use Rattle.std.proofs.lemmas.List.{get_or_default}
-use Rattle.std.proofs.lemmas.List.Elements.{All-nil, All-cons, All-head, All-tail, All-filter, filter_passes}
-use Rattle.model_meaning.specs.MapMeaning.{MapRecord}
+use Rattle.std.proofs.lemmas.List.Elements.{All-filter, filter_passes}
 use Rattle.model_meaning.specs.Sound.{AreApart}
-use Rattle.map_rows.specs.declared.rows.MapRow.{MapRow}
 use Rattle.map_rows.specs.TableKept.{AreTableRows, IsTableRow}
-use Rattle.map_index.specs.Shown.{shown_record}
 use Rattle.map_index.proofs.ShownLemmas.{shown_behind, none_behind}
-use Rattle.model_meaning.proofs.MapPlaceLemmas.{turned, equal_is, equal_yes}
+use Rattle.model_meaning.proofs.MapPlaceLemmas.{turned, equal_yes}
 use Rattle.map_rows.specs.Lookups.{nearer, least, is_from}
 
 -- ---- the nearest of some records

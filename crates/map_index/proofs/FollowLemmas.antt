@@ -1,12 +1,10 @@
 -- Moved regions that follow one another.
-use Rattle.std.proofs.Common.{◌≡◌, inl, ℕ, ◌+◌, ◌<◌, ◌≤◌, List, [], ◌∷◌, ◌++◌, length, get_or, take, refl, sym, ap, subst, ◌∙◌, arith}
-use Rattle.std.specs.Prelude.{All, AllPairs}
+use Rattle.map_index.proofs.Common.{◌≡◌, inl, ℕ, ◌+◌, ◌<◌, ◌≤◌, List, [], ◌∷◌, ◌++◌, length, get_or, refl, sym, ap, subst, ◌∙◌, arith, All, AllPairs, All-nil, All-weaker, pairs_nil, MapPlace, MapMeaning, ArePlacedApart}
+use Rattle.std.proofs.Common.{take}
 use Rattle.std.proofs.lemmas.List.{take_more, take_all}
-use Rattle.std.proofs.lemmas.List.Elements.{All-nil, All-push, All-weaker}
-use Rattle.model_octets.proofs.PairLemmas.{pairs_nil, pairs_push}
-use Rattle.mdbox_base.specs.declared.entries.MapPlace.{MapPlace}
-use Rattle.model_meaning.specs.MapMeaning.{MapMeaning}
-use Rattle.model_meaning.specs.MapFits.{ArePlacedApart, size_at}
+use Rattle.std.proofs.lemmas.List.Elements.{All-push}
+use Rattle.model_octets.proofs.PairLemmas.{pairs_push}
+use Rattle.model_meaning.specs.MapFits.{size_at}
 
 -- where the region of a place ends
 abbrev place_end : MapMeaning → MapPlace → ℕ

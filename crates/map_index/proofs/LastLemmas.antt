@@ -1,15 +1,11 @@
 -- The record of a file whose region ends last, and the place of a record.
-use Rattle.std.proofs.Common.{◌≡◌, ◌+◌, ◌==◌, ◌||◌, ◌<◌, ℕ, max, Bool, true, false, cond, Option, Some, None, List, [], ◌∷◌, length, filter, fold, find, refl, ap, sym, ◌∙◌, arith}
-use Rattle.std.specs.Prelude.{nat_le, nat_lt, position, slice_get}
-use Rattle.std.specs.List.{list_any, position_or_len}
-use Rattle.std.specs.Option.{is_some, option_map, option_map_or}
-use Rattle.std.proofs.lemmas.Bool.Decides.{nat_tests}
+use Rattle.map_index.proofs.Common.{◌≡◌, ◌+◌, ◌==◌, ◌||◌, ◌<◌, ℕ, max, Bool, true, false, cond, Option, Some, None, List, [], ◌∷◌, length, filter, fold, find, refl, ap, sym, ◌∙◌, arith, nat_lt, list_any, position_or_len, option_map, option_map_or, nat_tests, MapRecord, MapRow, shown_record}
+use Rattle.std.specs.Prelude.{nat_le, position, slice_get}
+use Rattle.std.specs.Option.{is_some}
 use Rattle.std.proofs.lemmas.List.Folds.{find_at}
 use Rattle.std.proofs.lemmas.Option.{slice_get_past}
-use Rattle.model_meaning.specs.MapMeaning.{MapRecord}
-use Rattle.map_rows.specs.declared.rows.MapRow.{MapRow}
 use Rattle.map_rows.specs.Lookups.{later}
-use Rattle.map_index.specs.Shown.{shown_record, region_end}
+use Rattle.map_index.specs.Shown.{region_end}
 
 abbrev is_in : ℕ → MapRecord → Bool
 is_in file row = row.file == file

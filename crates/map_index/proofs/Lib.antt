@@ -1,4 +1,5 @@
 pub mod BoxPlaceLemmas
+pub mod Common
 pub mod DerivedListLemmas
 pub mod FileWalkLemmas
 pub mod FollowLemmas

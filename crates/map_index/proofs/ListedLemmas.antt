@@ -1,17 +1,10 @@
 -- Records that lists name, changed one after another.
-use Rattle.std.proofs.Common.{◌≡◌, ◌≢◌, ◌+◌, ◌-◌, ◌<◌, ◌≤◌, ◌==◌, ◌||◌, ℕ, zero, suc, Bool, true, false, cond, List, [], ◌∷◌, length, get_or, map, fold, find, drop, Some, None, All, refl, sym, ◌∙◌, ap, arith, add-one, drop-cons}
-use Rattle.std.specs.Prelude.{if◌then◌else◌, AllPairs}
-use Rattle.std.specs.Option.{option_map_or}
-use Rattle.std.proofs.lemmas.Bool.Decides.{nat_tests}
-use Rattle.std.proofs.lemmas.List.Elements.{All-head, All-tail}
-use Rattle.model_octets.proofs.PairLemmas.{pairs_head, pairs_tail}
-use Rattle.mdbox_base.specs.declared.ids.MapUid.{MapUid}
-use Rattle.mdbox_base.specs.declared.entries.MapCount.{MapCount}
+use Rattle.map_index.proofs.Common.{◌≡◌, ◌≢◌, ◌+◌, ◌-◌, ◌<◌, ◌≤◌, ◌==◌, ◌||◌, ℕ, zero, suc, Bool, true, false, cond, List, [], ◌∷◌, length, get_or, map, fold, find, drop, Some, None, refl, sym, ◌∙◌, ap, arith, AllPairs, option_map_or, nat_tests, All-head, All-tail, pairs_head, pairs_tail, MapUid}
+use Rattle.map_index.proofs.Common.{MapCount, MapRecord, record_changed, equal_is, lowered_by, TableValue}
+use Rattle.std.proofs.Common.{All, add-one, drop-cons}
+use Rattle.std.specs.Prelude.{if◌then◌else◌}
 use Rattle.mdbox_base.specs.declared.entries.MapEntry.TheVariants as entry
-use Rattle.model_meaning.specs.MapMeaning.{MapRecord, record_changed, has_map_uid}
-use Rattle.model_meaning.proofs.MapPlaceLemmas.{equal_is}
-use Rattle.map_rows.specs.Lookups.{lowered_by}
-use Rattle.map_rows.specs.TableValue.{TableValue}
+use Rattle.model_meaning.specs.MapMeaning.{has_map_uid}
 
 -- ---- one item more
 

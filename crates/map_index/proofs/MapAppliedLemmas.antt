@@ -1,20 +1,12 @@
 -- One entry more, in the words of the code.
-use Rattle.std.proofs.Common.{◌≡◌, ◌≤◌, ◌+◌, ◌-◌, ℕ, max, List, refl, sym, subst, arith}
-use Rattle.mdbox_base.specs.declared.ids.BoxNo.{BoxNo}
-use Rattle.mdbox_base.specs.declared.ids.FileNo.{FileNo}
+use Rattle.map_index.proofs.Common.{◌≡◌, ◌≤◌, ◌+◌, ◌-◌, ℕ, max, List, refl, sym, subst, arith, BoxNo, FileNo, MapUid, MapPlace, MapCount, Highest, MapEntry, MapRecord, MapBox, MapMeaning, TableValue}
 use Rattle.mdbox_base.specs.declared.ids.Guid.{Guid}
-use Rattle.mdbox_base.specs.declared.ids.MapUid.{MapUid}
 use Rattle.mdbox_base.specs.declared.entries.InstRow.{InstRow}
-use Rattle.mdbox_base.specs.declared.entries.MapPlace.{MapPlace}
-use Rattle.mdbox_base.specs.declared.entries.MapCount.{MapCount}
-use Rattle.mdbox_base.specs.declared.entries.Highest.{Highest}
-use Rattle.mdbox_base.specs.declared.entries.MapEntry.{MapEntry}
 use Rattle.mdbox_base.specs.declared.entries.MapEntry.TheVariants as entry
 use Rattle.model_meaning.specs.Rows.{rows_by}
-use Rattle.model_meaning.specs.MapMeaning.{MapRecord, MapBox, MapMeaning, record_rules, box_rules, sealed_by}
+use Rattle.model_meaning.specs.MapMeaning.{record_rules, box_rules, sealed_by}
 use Rattle.model_meaning.proofs.AppliedLemmas.{records_by_highest, records_by_generation, boxes_by_highest, boxes_by_stored, boxes_by_raised, boxes_by_lowered, boxes_by_counted, boxes_by_purged, boxes_by_sealed}
 use Rattle.map_index.specs.declared.room.MapRoom.{MapRoom}
-use Rattle.map_rows.specs.TableValue.{TableValue}
 use Rattle.map_index.specs.Needs.{TakesMemory}
 use Rattle.map_index.specs.Value.{no_room, larger_room, room_for, room_left, IsNoLessRoom}
 use Rattle.map_index.proofs.ListedLemmas.{table_is}

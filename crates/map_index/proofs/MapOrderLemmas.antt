@@ -1,22 +1,19 @@
 -- One entry more that fits keeps the order of an index.
-use Rattle.std.proofs.Common.{◌≡◌, ◌≢◌, ◌<◌, ◌≤◌, ◌^◌, ◌==◌, ℕ, max, Bool, true, false, List, [], ◌∷◌, ◌++◌, refl, sym, ap, subst, ◌∙◌, arith, append-nil, length-append}
-use Rattle.std.specs.Prelude.{All, AllPairs, nat_lt, if◌then◌else◌, slice_index_or}
+use Rattle.map_index.proofs.Common.{◌≡◌, ◌≢◌, ◌<◌, ◌≤◌, ◌^◌, ◌==◌, ℕ, max, Bool, true, false, List, [], ◌∷◌, ◌++◌, refl, sym, ap, subst, ◌∙◌, arith, All, AllPairs, nat_lt, All-nil, All-cons, All-weaker, AllPairs-cons, BoxNo, MapUid, MapEntry, MapRecord, MapBox, MapMeaning, IsNumber, equal_is}
+use Rattle.map_index.proofs.Common.{pairs_nil, pairs_head, pairs_tail, IsMapInOrder}
+use Rattle.std.proofs.Common.{append-nil, length-append}
+use Rattle.std.specs.Prelude.{if◌then◌else◌, slice_index_or}
 use Rattle.std.proofs.lemmas.Grind.{common_steps}
-use Rattle.std.proofs.lemmas.List.Elements.{All-nil, All-cons, All-weaker, All-push}
-use Rattle.std.proofs.lemmas.List.Kept.{AllPairs-cons}
-use Rattle.mdbox_base.specs.declared.ids.BoxNo.{BoxNo}
-use Rattle.mdbox_base.specs.declared.ids.MapUid.{MapUid}
-use Rattle.mdbox_base.specs.declared.entries.MapEntry.{MapEntry}
+use Rattle.std.proofs.lemmas.List.Elements.{All-push}
 use Rattle.mdbox_base.specs.declared.entries.MapEntry.TheVariants as map
-use Rattle.model_meaning.specs.MapMeaning.{MapRecord, MapBox, MapMeaning, map_applied, record_rules, box_rules, with_number, sealed_by}
+use Rattle.model_meaning.specs.MapMeaning.{map_applied, record_rules, box_rules, with_number, sealed_by}
 use Rattle.model_meaning.specs.MapFits.{MapFits, FitsRenamed}
 use Rattle.model_meaning.proofs.MapSoundLemmas.{KeepsNames, box_name, box_number, pair_named, turned_equal}
-use Rattle.mdbox_base.specs.Words.{IsNumber}
-use Rattle.model_meaning.proofs.MapPlaceLemmas.{changed_same, equal_is, equal_yes}
+use Rattle.model_meaning.proofs.MapPlaceLemmas.{changed_same, equal_yes}
 use Rattle.model_meaning.proofs.SealedLemmas.{all_with}
-use Rattle.model_octets.proofs.PairLemmas.{found_only, pairs_nil, pairs_push, pairs_head, pairs_tail}
+use Rattle.model_octets.proofs.PairLemmas.{found_only, pairs_push}
 use Rattle.model_meaning.proofs.KeptRowLemmas.{kept_all, kept_length, kept_pairs, kept_pairs_from, kept_rows}
-use Rattle.map_index.specs.Kept.{AreKeptRecords, AreKeptBoxes, AreKeptFiles, IsMapInOrder}
+use Rattle.map_index.specs.Kept.{AreKeptRecords, AreKeptBoxes, AreKeptFiles}
 use Rattle.map_index.proofs.RisingLemmas.{few_rising}
 
 -- ---- records

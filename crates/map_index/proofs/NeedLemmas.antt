@@ -1,21 +1,14 @@
 -- What an entry that fits says of the records.
-use Rattle.std.proofs.Common.{◌≡◌, ◌≢◌, inl, inr, ◌+◌, ◌<◌, ◌≤◌, ◌==◌, ℕ, Bool, true, false, cond, List, [], ◌∷◌, map, find, Option, Some, None, All, refl, sym, ◌∙◌, ap, arith}
-use Rattle.std.specs.Prelude.{AllPairs, ◌⊎◌}
-use Rattle.std.specs.Option.{option_map, option_map_or}
-use Rattle.std.proofs.lemmas.Bool.Decides.{nat_tests}
-use Rattle.std.proofs.lemmas.List.Elements.{All-head, All-tail, All-map, All-weaker}
-use Rattle.std.proofs.lemmas.List.Kept.{AllPairs-from_increasing}
-use Rattle.model_octets.proofs.PairLemmas.{found_holds, found_only, pairs_head, pairs_map, pairs_tail}
-use Rattle.mdbox_base.specs.declared.ids.FileNo.{FileNo}
-use Rattle.mdbox_base.specs.declared.ids.MapUid.{MapUid}
-use Rattle.mdbox_base.specs.declared.entries.MapPlace.{MapPlace}
-use Rattle.mdbox_base.specs.declared.entries.MapEntry.{MapEntry}
+use Rattle.map_index.proofs.Common.{◌≡◌, ◌≢◌, inl, inr, ◌+◌, ◌<◌, ◌≤◌, ◌==◌, ℕ, Bool, true, false, cond, List, [], ◌∷◌, map, find, Option, Some, None, refl, sym, ◌∙◌, ap, arith, AllPairs, option_map, option_map_or, nat_tests, All-head, All-tail, All-weaker, AllPairs-from_increasing, pairs_head}
+use Rattle.map_index.proofs.Common.{pairs_tail, FileNo, MapUid, MapPlace, MapEntry, MapRecord, MapMeaning, equal_is, IsMapInOrder}
+use Rattle.std.proofs.Common.{All}
+use Rattle.std.specs.Prelude.{◌⊎◌}
+use Rattle.std.proofs.lemmas.List.Elements.{All-map}
+use Rattle.model_octets.proofs.PairLemmas.{found_holds, found_only, pairs_map}
 use Rattle.mdbox_base.specs.declared.entries.MapEntry.TheVariants as entry
-use Rattle.model_meaning.specs.MapMeaning.{MapRecord, MapMeaning, moved_record, place_given}
+use Rattle.model_meaning.specs.MapMeaning.{moved_record, place_given}
 use Rattle.model_meaning.specs.MapFits.{MapFits, FitsTarget, IsApart}
-use Rattle.model_meaning.proofs.MapPlaceLemmas.{equal_is}
 use Rattle.map_rows.specs.TableKept.{FitsMoved, CanMoveEach}
-use Rattle.map_index.specs.Kept.{IsMapInOrder}
 use Rattle.map_index.specs.Needs.{FitsTable}
 use Rattle.map_index.proofs.DerivedListLemmas.{find-map, All-unmap}
 use Rattle.map_index.proofs.MapOrderLemmas.{can_rise}

@@ -1,11 +1,7 @@
 -- Pairs of a list, the front ones first.
-use Rattle.std.proofs.Common.{◌≡◌, ◌<◌, ◌≤◌, ◌+◌, ◌-◌, ℕ, List, [], ◌∷◌, length, get_or, refl, sym, ap, subst, ◌∙◌, arith, below_more, map}
-use Rattle.std.specs.Prelude.{All, AllPairs}
+use Rattle.map_index.proofs.Common.{◌≡◌, ◌<◌, ◌≤◌, ◌+◌, ◌-◌, ℕ, List, [], ◌∷◌, length, get_or, refl, sym, ap, subst, ◌∙◌, arith, map, All, AllPairs, All-head, All-tail, AllPairs-cons, pairs_head, pairs_tail, IsNumber}
+use Rattle.std.proofs.Common.{below_more}
 use Rattle.std.proofs.lemmas.List.{get_or-map}
-use Rattle.std.proofs.lemmas.List.Elements.{All-head, All-tail}
-use Rattle.std.proofs.lemmas.List.Kept.{AllPairs-cons}
-use Rattle.model_octets.proofs.PairLemmas.{pairs_head, pairs_tail}
-use Rattle.mdbox_base.specs.Words.{IsNumber}
 
 -- the pairs of a list are those of its first item, and those of the rest
 pub pairs_split : {X : Type 0} → (R : X → X → Type 0) (x : X) (xs ys : List X) → ys ≡ x ∷ xs → AllPairs R ys → All (R x) xs × AllPairs R xs

@@ -1,12 +1,9 @@
 -- A file more among the sealed ones.
-use Rattle.std.proofs.Common.{◌≡◌, ◌==◌, ◌<◌, ◌≤◌, ℕ, zero, suc, true, false, List, [], ◌∷◌, length, get_or, map, refl, ap, sym, ◌∙◌, arith}
-use Rattle.std.specs.Prelude.{nat_lt, insert, AllPairs, Ok, Err}
+use Rattle.map_index.proofs.Common.{◌≡◌, ◌==◌, ◌<◌, ◌≤◌, ℕ, zero, suc, true, false, List, [], ◌∷◌, length, get_or, map, refl, ap, sym, ◌∙◌, arith, nat_lt, AllPairs, nat_tests, pairs_tail, FileNo}
+use Rattle.std.specs.Prelude.{insert, Ok, Err}
 use Rattle.std.specs.List.Sorted.{IsSearchInRange, IsBinarySearchResult}
 use Rattle.std.specs.Ordering.{nat_cmp}
 use Rattle.std.proofs.lemmas.Cmp.{ranked}
-use Rattle.std.proofs.lemmas.Bool.Decides.{nat_tests}
-use Rattle.model_octets.proofs.PairLemmas.{pairs_tail}
-use Rattle.mdbox_base.specs.declared.ids.FileNo.{FileNo}
 use Rattle.model_meaning.specs.MapMeaning.{with_number}
 use Rattle.map_index.proofs.SearchLemmas.{answers_rise}
 

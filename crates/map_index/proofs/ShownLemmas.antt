@@ -1,11 +1,7 @@
 -- Records as look-ups show them.
-use Rattle.std.proofs.Common.{◌≡◌, Option, Some, None, refl, ap, ◌∙◌}
-use Rattle.std.specs.Option.{option_map}
-use Rattle.model_meaning.specs.MapMeaning.{MapRecord}
-use Rattle.map_rows.specs.declared.rows.MapRow.{MapRow}
+use Rattle.map_index.proofs.Common.{◌≡◌, Option, Some, None, refl, ap, ◌∙◌, option_map, MapRecord, MapRow, shown_record}
 use Rattle.map_rows.specs.declared.rows.Record.{Record}
 use Rattle.map_rows.specs.Lookups.{meant_record}
-use Rattle.map_index.specs.Shown.{shown_record}
 
 row_of_each : (o : Option Record) → option_map (λ r. r.row) o ≡ option_map shown_record (option_map meant_record o)
 row_of_each None = refl

@@ -1,10 +1,6 @@
 -- The target of a purge that moves records.
-use Rattle.std.proofs.Common.{◌≡◌, ◌≢◌, ℕ, List, [], ◌∷◌, length, refl, arith}
-use Rattle.std.specs.Prelude.{◌↔◌, All, AllPairs}
-use Rattle.mdbox_base.specs.declared.entries.MapPlace.{MapPlace}
-use Rattle.model_meaning.specs.MapMeaning.{MapMeaning}
-use Rattle.model_meaning.specs.MapFits.{FitsPlace, FitsTarget, ArePlacedApart}
-use Rattle.mdbox_base.specs.Words.{IsNumber}
+use Rattle.map_index.proofs.Common.{◌≡◌, ◌≢◌, ℕ, List, [], ◌∷◌, length, refl, arith, ◌↔◌, All, AllPairs, MapPlace, MapMeaning, ArePlacedApart, IsNumber}
+use Rattle.model_meaning.specs.MapFits.{FitsPlace, FitsTarget}
 
 pub no_target : (m : MapMeaning) (file target : ℕ) (moved : List MapPlace) (T : Type 0) → length moved ≡ 0 → (T ↔ (target ≡ 0)) → (T ↔ FitsTarget m file target moved)
 no_target m file target [] T none h = h

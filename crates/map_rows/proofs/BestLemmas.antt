@@ -1,7 +1,5 @@
 -- The best of what passes, which a fold keeps.
-use Rattle.std.specs.Prelude.{◌⊎◌}
-use Rattle.std.proofs.Common.{◌≡◌, Bool, true, false, cond, Option, Some, None, List, [], ◌∷◌, filter, find, fold, All, refl, sym, ◌∙◌, ap, subst, inl, inr}
-use Rattle.std.proofs.lemmas.List.Elements.{All-head, All-tail}
+use Rattle.map_rows.proofs.Common.{◌⊎◌, ◌≡◌, Bool, true, false, cond, Option, Some, None, List, [], ◌∷◌, filter, find, fold, All, refl, sym, ◌∙◌, ap, subst, inl, inr, All-head, All-tail}
 
 -- what a step keeps, of the best so far and an item
 pub record IsKeeping {X : Type 0} (keeps : X → X → Bool) (step : Option X → X → Option X) : Type 0 where

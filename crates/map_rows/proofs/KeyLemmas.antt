@@ -1,13 +1,10 @@
 -- Numbers of GUIDs and of places: these are equal if and only if their numbers are.
-use Rattle.std.proofs.Common.{◌≡◌, ◌+◌, ◌*◌, ◌<◌, ◌≤◌, ◌==◌, ℕ, zero, suc, true, List, [], ◌∷◌, length, get_or, drop, refl, sym, ap, ◌∙◌, arith, drop-cons}
+use Rattle.map_rows.proofs.Common.{◌≡◌, ◌+◌, ◌<◌, ◌≤◌, ◌==◌, ℕ, zero, suc, true, List, [], ◌∷◌, length, get_or, drop, refl, sym, ap, ◌∙◌, arith, bytes_eq, nat_tests, All-head, All-tail, IsOctets, text_is, text_yes, place_number}
+use Rattle.std.proofs.Common.{◌*◌, drop-cons}
 use Rattle.std.specs.Int.{w128, from_be_bytes}
-use Rattle.std.specs.Str.{bytes_eq}
-use Rattle.std.proofs.lemmas.Bool.Decides.{nat_tests}
-use Rattle.std.proofs.lemmas.List.Elements.{All-head, All-tail}
 use Rattle.std.proofs.lemmas.Nat.{same_from_place}
-use Rattle.mdbox_base.specs.Words.{IsOctets}
-use Rattle.model_octets.proofs.SearchLemmas.{both_same, text_is, text_yes}
-use Rattle.map_rows.specs.Keys.{guid_number, place_number}
+use Rattle.model_octets.proofs.SearchLemmas.{both_same}
+use Rattle.map_rows.specs.Keys.{guid_number}
 
 -- octets behind a number, as one number
 abbrev spelled : ℕ → List ℕ → ℕ

@@ -1,4 +1,5 @@
 pub mod BestLemmas
+pub mod Common
 pub mod DerivedListLemmas
 pub mod EditLemmas
 pub mod KeyLemmas

@@ -1,24 +1,10 @@
 -- What a search in an order of the table finds is what the definitions name.
-use Rattle.std.specs.Prelude.{nat_le, nat_lt, AllPairs}
-use Rattle.std.specs.Prelude.{◌↔◌, IsTrue, is_some, not}
-use Rattle.std.specs.Option.{option_map, option_copied}
-use Rattle.std.specs.Str.{bytes_eq}
-use Rattle.std.proofs.Common.{◌≡◌, ◌≢◌, ◌+◌, ◌<◌, ◌≤◌, ◌==◌, ◌&&◌, ◌||◌, ℕ, Bool, true, false, cond, Option, Some, None, List, [], ◌∷◌, length, get_or, filter, find, All, refl, sym, ◌∙◌, ap, subst, inl, inr, arith}
-use Rattle.std.proofs.lemmas.Bool.{cases_lt, cases_eq}
-use Rattle.std.proofs.lemmas.Bool.Decides.{nat_tests}
-use Rattle.std.proofs.lemmas.List.Elements.{All-head, All-tail, All-weaker}
-use Rattle.mdbox_base.specs.Words.{IsOctets}
-use Rattle.mdbox_base.specs.declared.ids.MapUid.{MapUid}
-use Rattle.std.specs.Borrow.{Bor}
-use Rattle.model_octets.proofs.PairLemmas.{pairs_head, pairs_tail, found_holds, found_among}
-use Rattle.model_octets.proofs.SearchLemmas.{found_none, text_is, text_yes}
-use Rattle.model_meaning.specs.MapMeaning.{MapRecord}
-use Rattle.map_rows.specs.declared.order.OrderKey.{OrderKey}
-use Rattle.map_rows.specs.declared.rows.Record.{Record}
-use Rattle.map_rows.specs.Keys.{guid_number, guid_key, place_number, place_key}
-use Rattle.map_rows.specs.Lookups.{meant_record, is_from, nearer, least, IsLastBefore}
-use Rattle.map_rows.specs.Orders.{NumbersRise, times, AreKeysOf, last_of}
-use Rattle.map_rows.specs.TableKept.{IsTableRow, AreTableRows}
+use Rattle.map_rows.proofs.Common.{nat_le, nat_lt, AllPairs, ◌↔◌, IsTrue, option_map, option_copied, bytes_eq, ◌≡◌, ◌≢◌, ◌+◌, ◌<◌, ◌≤◌, ◌==◌, ◌&&◌, ◌||◌, ℕ, Bool, true, false, cond, Option, Some, None, List, [], ◌∷◌, length, get_or, filter, find, All, refl, sym, ◌∙◌, ap, subst, inl, inr, arith}
+use Rattle.map_rows.proofs.Common.{cases_lt, cases_eq, nat_tests, All-head, All-tail, All-weaker, IsOctets, MapUid, Bor, pairs_head, pairs_tail, found_holds, found_among, found_none, text_is, text_yes, MapRecord, OrderKey, Record, guid_key, place_number, place_key, meant_record, NumbersRise, times}
+use Rattle.map_rows.proofs.Common.{AreKeysOf, last_of, IsTableRow, AreTableRows}
+use Rattle.std.specs.Prelude.{is_some, not}
+use Rattle.map_rows.specs.Keys.{guid_number}
+use Rattle.map_rows.specs.Lookups.{is_from, nearer, least, IsLastBefore}
 use Rattle.map_rows.proofs.BestLemmas.{IsKeeping, IsNoBetter, best_kept, none_kept}
 use Rattle.map_rows.proofs.KeyLemmas.{guid_test}
 use Rattle.map_rows.proofs.MemberLemmas.{row_found, row_missing, rise_once, found_by, both, equal_is, same_number}

@@ -1,11 +1,6 @@
 -- An order whose keys are those of some rows: what a search in it finds is what a walk over the rows finds.
-use Rattle.std.proofs.Common.{◌≡◌, ◌+◌, ◌<◌, ◌≤◌, ◌==◌, ◌&&◌, ℕ, Bool, true, false, not, cond, List, [], ◌∷◌, ◌++◌, map, filter, find, Option, Some, None, All, refl, sym, ◌∙◌, ap, subst, arith}
-use Rattle.std.specs.Prelude.{nat_lt}
-use Rattle.std.proofs.lemmas.Bool.Decides.{nat_tests}
-use Rattle.std.proofs.lemmas.List.Elements.{All-head, All-tail, All-weaker}
-use Rattle.model_octets.proofs.PairLemmas.{pairs_head, pairs_tail, found_holds}
-use Rattle.map_rows.specs.declared.order.OrderKey.{OrderKey}
-use Rattle.map_rows.specs.Orders.{NumbersRise, with_key, times, AreKeysOf}
+use Rattle.map_rows.proofs.Common.{◌≡◌, ◌+◌, ◌<◌, ◌≤◌, ◌==◌, ◌&&◌, ℕ, Bool, true, false, not, cond, List, [], ◌∷◌, ◌++◌, map, filter, find, Option, Some, None, All, refl, sym, ◌∙◌, ap, subst, arith, nat_lt, nat_tests, All-head, All-tail, All-weaker, pairs_head, pairs_tail, found_holds, OrderKey}
+use Rattle.map_rows.proofs.Common.{NumbersRise, with_key, times, AreKeysOf}
 
 -- ---- counts and searches
 

@@ -1,37 +1,21 @@
 -- Namings of instances: how many there are after a change, and what is named.
-use Rattle.std.specs.Prelude.{AllPairs, ◌⊎◌, insert, remove, nat_le, flat_map, is_some, ◌↔◌, IsTrue}
-use Rattle.std.specs.Borrow.{Bor}
-use Rattle.std.specs.List.{list_any}
-use Rattle.std.specs.Option.{option_map, option_copied}
-use Rattle.std.specs.Str.{bytes_eq}
+use Rattle.map_rows.proofs.Common.{AllPairs, ◌⊎◌, nat_le, ◌↔◌, IsTrue, Bor, list_any, option_map, option_copied, bytes_eq, IsSearchInRange, IsBinarySearchResult, nat_cmp, ranked, IsOctets, Result, Ok, Err, ◌≡◌, ◌+◌, ◌<◌, ◌≤◌, ◌==◌, ◌&&◌, ◌||◌, ◌++◌, ℕ, zero, suc, Bool, true, false, not, cond}
+use Rattle.map_rows.proofs.Common.{Option, Some, None, List, [], ◌∷◌, length, get_or, take, drop, find, filter, map, All, refl, sym, ◌∙◌, ap, subst, inl, inr, arith, cases_lt, nat_tests, All-nil, All-cons, All-head, All-tail, All-weaker, AllPairs-cons, AllPairs-filter, AllPairs-from_increasing}
+use Rattle.map_rows.proofs.Common.{InstRow, pairs_head, pairs_tail, pairs_nil, found_among, found_holds, found_none, text_is, text_yes, MapRecord, AgreesOn, MapUid, has_map_uid, Record, meant_record, NamedInstance, namings_of, all_namings, AreNamesOf, AreNumbered, AreNamings, instances_of, times}
+use Rattle.std.specs.Prelude.{insert, remove, flat_map, is_some}
 use Rattle.std.specs.Prelude.{IfOk, IfErr}
-use Rattle.std.specs.List.Sorted.{IsSearchInRange, IsBinarySearchResult, IsStrictlyIncreasing}
-use Rattle.std.specs.Ordering.{nat_cmp}
-use Rattle.std.proofs.lemmas.Cmp.{ranked}
-use Rattle.mdbox_base.specs.Words.{IsOctets}
-use Rattle.std.proofs.Common.{Result, Ok, Err, ◌≡◌, ◌+◌, ◌<◌, ◌≤◌, ◌==◌, ◌&&◌, ◌||◌, ◌++◌, ℕ, zero, suc, Bool, true, false, not, cond, Option, Some, None, List, [], ◌∷◌, length, get_or, set, take, drop, find, filter, map, All, refl, sym, ◌∙◌, ap, subst, inl, inr, arith, add-one}
-use Rattle.std.proofs.lemmas.Bool.{cases_lt}
-use Rattle.std.proofs.lemmas.Bool.Decides.{nat_tests}
-use Rattle.std.proofs.lemmas.List.Elements.{All-nil, All-cons, All-head, All-tail, All-weaker, All-append, All-take, All-drop, All-filter, filter_passes, Contains-get_or}
+use Rattle.std.specs.List.Sorted.{IsStrictlyIncreasing}
+use Rattle.std.proofs.Common.{set, add-one}
+use Rattle.std.proofs.lemmas.List.Elements.{All-append, All-take, All-drop, All-filter, filter_passes, Contains-get_or}
 use Rattle.std.proofs.lemmas.List.Folds.{list_any_none}
-use Rattle.std.proofs.lemmas.List.Kept.{AllPairs-cons, AllPairs-filter, AllPairs-from_increasing}
 use Rattle.mdbox_base.specs.declared.ids.Hash.{Hash}
 use Rattle.mdbox_base.specs.declared.ids.InstId.{InstId}
-use Rattle.mdbox_base.specs.declared.entries.InstRow.{InstRow}
-use Rattle.model_octets.proofs.PairLemmas.{NotBoth, pairs_head, pairs_map, pairs_tail, pairs_nil, found_among, found_holds, found_only}
-use Rattle.model_octets.proofs.SearchLemmas.{found_is, found_none, text_is, text_yes}
-use Rattle.model_meaning.specs.MapMeaning.{MapRecord}
-use Rattle.model_meaning.specs.MapFits.{AgreesOn}
-use Rattle.mdbox_base.specs.declared.ids.MapUid.{MapUid}
-use Rattle.model_meaning.specs.MapMeaning.{has_map_uid}
-use Rattle.map_rows.specs.declared.rows.Record.{Record}
-use Rattle.map_rows.specs.Lookups.{meant_record}
+use Rattle.model_octets.proofs.PairLemmas.{NotBoth, pairs_map, found_only}
+use Rattle.model_octets.proofs.SearchLemmas.{found_is}
 use Rattle.map_rows.proofs.DerivedListLemmas.{list_any-flat_map, find-map}
 use Rattle.map_rows.proofs.LookupLemmas.{uid_once}
-use Rattle.map_rows.specs.declared.names.NamedInstance.{NamedInstance}
 use Rattle.map_rows.specs.Keys.{guid_number}
-use Rattle.map_rows.specs.Named.{namings_of, all_namings, AreNamesOf, is_instance, IsOnlyNaming, IsNumbered, AreNumbered, IsNaming, AreNamings, IsNamedAt, IsGapFor, instances_of}
-use Rattle.map_rows.specs.Orders.{times}
+use Rattle.map_rows.specs.Named.{is_instance, IsOnlyNaming, IsNumbered, IsNaming, IsNamedAt, IsGapFor}
 use Rattle.map_rows.proofs.KeyLemmas.{guid_only}
 use Rattle.map_rows.proofs.NearLemmas.{none_found}
 use Rattle.map_rows.proofs.SearchLemmas.{answers_rise, pairs_unmap}

@@ -1,12 +1,6 @@
 -- The record of the first key from a number on, and of the last below one.
-use Rattle.std.specs.Prelude.{◌⊎◌, nat_le, nat_lt}
-use Rattle.std.proofs.Common.{◌≡◌, ◌+◌, ◌<◌, ◌≤◌, ◌==◌, ◌&&◌, ◌||◌, ℕ, Bool, true, false, not, cond, Option, Some, None, List, [], ◌∷◌, filter, find, fold, All, refl, sym, ◌∙◌, ap, subst, inl, inr, arith}
-use Rattle.std.proofs.lemmas.Bool.Decides.{nat_tests}
-use Rattle.std.proofs.lemmas.List.Elements.{All-nil, All-cons, All-head, All-tail, All-weaker}
-use Rattle.model_octets.proofs.PairLemmas.{pairs_head, pairs_tail, found_holds}
-use Rattle.model_octets.proofs.SearchLemmas.{found_none}
-use Rattle.map_rows.specs.declared.order.OrderKey.{OrderKey}
-use Rattle.map_rows.specs.Orders.{NumbersRise, times, AreKeysOf, last_of}
+use Rattle.map_rows.proofs.Common.{◌⊎◌, nat_le, nat_lt, ◌≡◌, ◌+◌, ◌<◌, ◌≤◌, ◌==◌, ◌&&◌, ◌||◌, ℕ, Bool, true, false, not, cond, Option, Some, None, List, [], ◌∷◌, filter, find, fold, All, refl, sym, ◌∙◌, ap, subst, inl, inr, arith, nat_tests, All-nil, All-cons, All-head, All-tail, All-weaker}
+use Rattle.map_rows.proofs.Common.{pairs_head, pairs_tail, found_holds, found_none, OrderKey, NumbersRise, times, AreKeysOf, last_of}
 use Rattle.map_rows.proofs.MemberLemmas.{some_counted, find_counted, none_counted, no_count, found_by, both, same_number}
 
 -- ---- what all keys have, all rows have

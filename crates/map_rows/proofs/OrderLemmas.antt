@@ -1,21 +1,12 @@
 -- What a search finds among keys in order of number.
 use Rattle.std.specs.Prelude.{insert}
-use Rattle.std.proofs.Common.{◌≡◌, ◌≢◌, inl, inr, ℕ, zero, suc, ◌-◌, ◌<◌, ◌≤◌, ◌==◌, Bool, true, false, List, [], ◌∷◌, ◌++◌, length, take, drop, slice_get, get_or, filter, find, fold, Option, Some, None, Result, Ok, Err, IfOk, IfErr, All, refl, sym, ◌∙◌, ap, arith}
-use Rattle.std.specs.Prelude.{nat_lt, nat_le}
-use Rattle.std.specs.List.Sorted.{IsSearchInRange, IsBinarySearchResult, IsNonDecreasingBy}
-use Rattle.std.specs.Ordering.{nat_cmp, ordering_index}
-use Rattle.std.proofs.lemmas.Cmp.{ranked}
-use Rattle.std.proofs.lemmas.Bool.{cases_lt, cases_eq}
-use Rattle.std.proofs.lemmas.Bool.Decides.{nat_tests}
-use Rattle.std.proofs.lemmas.Option.{slice_get_past}
-use Rattle.std.proofs.lemmas.List.Elements.{All-cons, All-head, All-tail, All-append, All-weaker, filter_passes}
-use Rattle.std.proofs.lemmas.List.Kept.{AllPairs-cons, AllPairs-filter}
-use Rattle.std.proofs.lemmas.List.Folds.{find_at}
+use Rattle.map_rows.proofs.Common.{◌≡◌, ◌≢◌, inl, inr, ℕ, zero, suc, ◌-◌, ◌<◌, ◌≤◌, ◌==◌, Bool, true, false, List, [], ◌∷◌, ◌++◌, length, take, drop, slice_get, get_or, filter, find, fold, Option, Some, None, Result, Ok, Err, All, refl, sym, ◌∙◌, ap, arith, nat_lt, nat_le, IsSearchInRange}
+use Rattle.map_rows.proofs.Common.{IsBinarySearchResult, IsNonDecreasingBy, nat_cmp, ranked, cases_lt, cases_eq, nat_tests, slice_get_past, All-cons, All-head, All-tail, All-weaker, AllPairs-cons, AllPairs-filter, find_at, pairs_head, pairs_tail, OrderKey, OrderValue, NumbersRise, last_of, with_key}
+use Rattle.std.proofs.Common.{IfOk, IfErr}
+use Rattle.std.specs.Ordering.{ordering_index}
+use Rattle.std.proofs.lemmas.List.Elements.{All-append, filter_passes}
 use Rattle.std.proofs.lemmas.List.Sums.{position_or_len_is}
-use Rattle.model_octets.proofs.PairLemmas.{pairs_head, pairs_tail}
-use Rattle.map_rows.specs.declared.order.OrderKey.{OrderKey}
-use Rattle.map_rows.specs.Value.{OrderValue}
-use Rattle.map_rows.specs.Orders.{NumbersRise, IsFoundAt, IsPlaceFor, IsFirstFrom, last_of, with_key}
+use Rattle.map_rows.specs.Orders.{IsFoundAt, IsPlaceFor, IsFirstFrom}
 
 -- the answers of a search rise along the keys
 answers_rise : (keys : List OrderKey) (n : ℕ) → NumbersRise keys → IsNonDecreasingBy (λ k. ordering_index (nat_cmp k.number n)) keys

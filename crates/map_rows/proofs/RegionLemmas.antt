@@ -1,17 +1,8 @@
 -- Regions of one file that lie apart: the one that ends last, and whether octets are free.
-use Rattle.std.specs.Prelude.{◌⊎◌, min, nat_le, AllPairs, IfSome, IfNone, IsTrue, ◌↔◌}
-use Rattle.std.specs.Borrow.{Bor}
-use Rattle.std.specs.Option.{option_map, option_copied}
-use Rattle.std.proofs.Common.{◌≡◌, ◌≢◌, ◌+◌, ◌<◌, ◌≤◌, ◌==◌, ℕ, Bool, true, false, cond, Option, Some, None, List, [], ◌∷◌, find, All, refl, sym, ◌∙◌, ap, subst, inl, inr, arith}
-use Rattle.std.proofs.lemmas.Bool.{cases_lt, cases_eq}
-use Rattle.std.proofs.lemmas.Bool.Decides.{nat_tests}
-use Rattle.std.proofs.lemmas.List.Elements.{All-cons, All-weaker}
-use Rattle.model_octets.proofs.PairLemmas.{pairs_head, pairs_tail, found_among}
-use Rattle.model_meaning.specs.MapMeaning.{MapRecord}
-use Rattle.model_meaning.specs.MapFits.{IsApart}
-use Rattle.map_rows.specs.declared.rows.Record.{Record}
-use Rattle.map_rows.specs.Lookups.{meant_record, later, last_ending, IsLastBefore}
-use Rattle.map_rows.specs.TableKept.{IsTableRow, LieApart, AreTableRows}
+use Rattle.map_rows.proofs.Common.{◌⊎◌, nat_le, AllPairs, IsTrue, ◌↔◌, Bor, option_map, option_copied, ◌≡◌, ◌≢◌, ◌+◌, ◌<◌, ◌≤◌, ◌==◌, ℕ, Bool, true, false, cond, Option, Some, None, List, [], ◌∷◌, find, All, refl, sym, ◌∙◌, ap, subst, inl, inr, arith, cases_lt, cases_eq, nat_tests, All-cons}
+use Rattle.map_rows.proofs.Common.{All-weaker, pairs_head, pairs_tail, found_among, MapRecord, IsApart, Record, meant_record, IsTableRow, LieApart, AreTableRows}
+use Rattle.std.specs.Prelude.{min, IfSome, IfNone}
+use Rattle.map_rows.specs.Lookups.{later, last_ending, IsLastBefore}
 use Rattle.map_rows.proofs.BestLemmas.{IsKeeping, IsNoBetter, best_kept, none_kept}
 use Rattle.map_rows.proofs.LookupLemmas.{uid_only}
 use Rattle.map_rows.proofs.MemberLemmas.{equal_is}

@@ -1,23 +1,15 @@
 -- What a search finds among records in order of map uid.
-use Rattle.std.specs.Prelude.{AllPairs, nat_lt, position, slice_get}
-use Rattle.std.proofs.Common.{◌≡◌, ◌≢◌, inl, inr, ℕ, ◌<◌, ◌≤◌, ◌==◌, Bool, true, false, not, cond, Some, None, List, [], ◌∷◌, length, find, get_or, map, Result, Ok, Err, refl, sym, ◌∙◌, ap, subst, ◌+◌, arith}
+use Rattle.map_rows.proofs.Common.{AllPairs, nat_lt, ◌≡◌, ◌≢◌, inl, inr, ℕ, ◌<◌, ◌≤◌, ◌==◌, Bool, true, false, not, cond, Some, None, List, [], ◌∷◌, length, find, get_or, map, Result, Ok, Err, refl, sym, ◌∙◌, ap, subst, ◌+◌, arith, list_any, IsSearchInRange, IsBinarySearchResult, IsNonDecreasingBy}
+use Rattle.map_rows.proofs.Common.{nat_cmp, ranked, cases_lt, cases_eq, nat_tests, find_at, slice_get_past, AllPairs-cons, pairs_head, pairs_tail, pairs_nil, MapRecord, Record, meant_record}
+use Rattle.std.specs.Prelude.{position, slice_get}
 use Rattle.std.specs.Prelude.{MatchResult}
 use Rattle.std.specs.Result.{is_ok}
-use Rattle.std.specs.List.{list_any, position_or_len}
-use Rattle.std.specs.List.Sorted.{IsSearchInRange, IsBinarySearchResult, IsNonDecreasingBy}
-use Rattle.std.specs.Ordering.{nat_cmp, ordering_index}
-use Rattle.std.proofs.lemmas.Cmp.{ranked}
-use Rattle.std.proofs.lemmas.Bool.{cases_lt, cases_eq}
-use Rattle.std.proofs.lemmas.Bool.Decides.{nat_tests}
+use Rattle.std.specs.List.{position_or_len}
+use Rattle.std.specs.Ordering.{ordering_index}
 use Rattle.std.proofs.lemmas.List.{length-map}
-use Rattle.std.proofs.lemmas.List.Folds.{find_at, list_any_at, list_any_none}
-use Rattle.std.proofs.lemmas.Option.{slice_get-get_or, slice_get_past}
+use Rattle.std.proofs.lemmas.List.Folds.{list_any_at, list_any_none}
+use Rattle.std.proofs.lemmas.Option.{slice_get-get_or}
 use Rattle.std.proofs.lemmas.List.Sums.{fails_before_first, passes_at_first, position_or_len_is}
-use Rattle.std.proofs.lemmas.List.Kept.{AllPairs-cons}
-use Rattle.model_octets.proofs.PairLemmas.{pairs_head, pairs_tail, pairs_nil}
-use Rattle.model_meaning.specs.MapMeaning.{MapRecord}
-use Rattle.map_rows.specs.declared.rows.Record.{Record}
-use Rattle.map_rows.specs.Lookups.{meant_record}
 use Rattle.map_rows.proofs.DerivedListLemmas.{All-unmap}
 
 -- the answers of a search rise along the items

@@ -1,28 +1,16 @@
 -- What a purge of a storage file leaves of a table: its records, and the keys of its orders.
-use Rattle.std.specs.Prelude.{AllPairs}
+use Rattle.map_rows.proofs.Common.{AllPairs, IsNonDecreasingBy, ◌≡◌, ◌≢◌, ◌+◌, ◌<◌, ◌≤◌, ◌==◌, ◌&&◌, ◌++◌, ℕ, zero, suc, Bool, true, false, not, cond, Option, Some, None, List, [], ◌∷◌, length, get_or, take, map, filter, fold, All, refl, sym, ◌∙◌, ap, subst, inl, inr, arith, cases_eq, nat_tests}
+use Rattle.map_rows.proofs.Common.{All-head, All-tail, All-weaker, AllPairs-from_increasing, pairs_head, pairs_tail, MapUid, MapPlace, MapRecord, has_map_uid, place_given, moved_record, IsApart, OrderKey, guid_key, place_number, place_key, AreNamesOf, instances_of, NumbersRise, times, AreKeysOf}
+use Rattle.map_rows.proofs.Common.{IsTableRow, LieApart, AreTableRows, AreIndexed, NamedInstance}
 use Rattle.std.specs.List.Retain.{RetainsInTurn}
-use Rattle.std.specs.List.Sorted.{IsPermutation, IsNonDecreasingBy, IsStrictlyIncreasing}
-use Rattle.std.proofs.Common.{◌≡◌, ◌≢◌, ◌+◌, ◌<◌, ◌≤◌, ◌==◌, ◌&&◌, ◌++◌, ℕ, zero, suc, Bool, true, false, not, cond, Option, Some, None, List, [], ◌∷◌, length, get_or, take, map, filter, fold, All, refl, sym, ◌∙◌, ap, subst, inl, inr, arith}
-use Rattle.std.proofs.lemmas.Bool.{cases_eq}
-use Rattle.std.proofs.lemmas.Bool.Decides.{nat_tests}
-use Rattle.std.proofs.lemmas.List.Elements.{All-head, All-tail, All-weaker}
-use Rattle.std.proofs.lemmas.List.Kept.{AllPairs-from_increasing}
+use Rattle.std.specs.List.Sorted.{IsPermutation, IsStrictlyIncreasing}
 use Rattle.std.proofs.lemmas.List.Sorted.{sum_by-IsPermutation}
-use Rattle.model_octets.proofs.PairLemmas.{pairs_head, pairs_tail}
-use Rattle.mdbox_base.specs.declared.ids.MapUid.{MapUid}
-use Rattle.mdbox_base.specs.declared.entries.MapPlace.{MapPlace}
-use Rattle.model_meaning.specs.MapMeaning.{MapRecord, has_map_uid, place_given, moved_record}
-use Rattle.model_meaning.specs.MapFits.{IsApart}
-use Rattle.map_rows.specs.declared.order.OrderKey.{OrderKey}
-use Rattle.map_rows.specs.Keys.{guid_key, place_number, place_key, key_at, moved_key}
-use Rattle.map_rows.specs.Named.{AreNamesOf, instances_of}
-use Rattle.map_rows.specs.Orders.{NumbersRise, times, AreKeysOf}
-use Rattle.map_rows.specs.TableKept.{IsTableRow, LieApart, AreTableRows, FitsMoved, CanMoveEach, AreIndexed}
+use Rattle.map_rows.specs.Keys.{key_at, moved_key}
+use Rattle.map_rows.specs.TableKept.{FitsMoved, CanMoveEach}
 use Rattle.map_rows.proofs.KeyLemmas.{place_only}
 use Rattle.map_rows.proofs.MemberLemmas.{count_filter, equal_is, keys_mapped}
 use Rattle.map_rows.proofs.NameLemmas.{names_kept}
 use Rattle.map_rows.proofs.TableLemmas.{moved_rows, before_move, filtered_rows, uid_stays, names_stay, guid_key_stays, times-map, times_same}
-use Rattle.map_rows.specs.declared.names.NamedInstance.{NamedInstance}
 
 -- ---- a vector after one pass
 

@@ -1,24 +1,13 @@
 -- What each change leaves of a table: its records in order, and the keys of its orders.
-use Rattle.std.specs.Prelude.{AllPairs}
-use Rattle.std.proofs.Common.{◌≡◌, ◌≢◌, ◌+◌, ◌<◌, ◌≤◌, ◌==◌, ◌++◌, ◌-◌, ℕ, Bool, true, false, cond, Option, Some, None, List, [], ◌∷◌, length, map, filter, find, All, refl, sym, ◌∙◌, ap, subst, inl, inr, arith}
-use Rattle.std.proofs.lemmas.Bool.Decides.{nat_tests}
-use Rattle.std.proofs.lemmas.List.Elements.{All-nil, All-weaker, All-filter, All-push}
-use Rattle.std.proofs.lemmas.List.Kept.{AllPairs-filter}
-use Rattle.mdbox_base.specs.Words.{IsOctets}
-use Rattle.mdbox_base.specs.declared.ids.MapUid.{MapUid}
+use Rattle.map_rows.proofs.Common.{AllPairs, ◌≡◌, ◌≢◌, ◌+◌, ◌<◌, ◌≤◌, ◌==◌, ◌++◌, ◌-◌, ℕ, Bool, true, false, cond, Option, Some, None, List, [], ◌∷◌, length, map, filter, find, All, refl, sym, ◌∙◌, ap, subst, inl, inr, arith, nat_tests, All-nil, All-weaker, AllPairs-filter, IsOctets, MapUid}
+use Rattle.map_rows.proofs.Common.{MapPlace, pairs_nil, MapRecord, record_changed, has_map_uid, place_given, moved_record, IsApart, AgreesOn, OrderKey, Record, lowered_by, meant_record, guid_key, place_number, place_key, times, AreKeysOf, with_key, IsTableRow, LieApart, AreTableRows, AreIndexed}
+use Rattle.map_rows.proofs.Common.{TableValue}
+use Rattle.std.proofs.lemmas.List.Elements.{All-filter, All-push}
 use Rattle.mdbox_base.specs.declared.entries.MapCount.{MapCount}
-use Rattle.mdbox_base.specs.declared.entries.MapPlace.{MapPlace}
 use Rattle.mdbox_base.specs.declared.entries.MapEntry.TheVariants as entry
-use Rattle.model_octets.proofs.PairLemmas.{pairs_nil, pairs_push, pairs_map, all_map}
-use Rattle.model_meaning.specs.MapMeaning.{MapRecord, record_changed, has_map_uid, place_given, moved_record}
-use Rattle.model_meaning.specs.MapFits.{IsApart, AgreesOn}
-use Rattle.map_rows.specs.declared.order.OrderKey.{OrderKey}
-use Rattle.map_rows.specs.declared.rows.Record.{Record}
-use Rattle.map_rows.specs.Lookups.{lowered_by, meant_record}
-use Rattle.map_rows.specs.Keys.{guid_number, guid_key, place_number, place_key}
-use Rattle.map_rows.specs.Orders.{times, AreKeysOf, with_key}
-use Rattle.map_rows.specs.TableKept.{IsTableRow, LieApart, NameAlike, AreTableRows, FitsBehind, AreIndexed}
-use Rattle.map_rows.specs.TableValue.{TableValue}
+use Rattle.model_octets.proofs.PairLemmas.{pairs_push, pairs_map, all_map}
+use Rattle.map_rows.specs.Keys.{guid_number}
+use Rattle.map_rows.specs.TableKept.{NameAlike, FitsBehind}
 use Rattle.map_rows.proofs.KeyLemmas.{guid_only, place_only}
 use Rattle.map_rows.proofs.LookupLemmas.{uid_only}
 use Rattle.map_rows.proofs.NearLemmas.{none_found}

@@ -1,41 +1,19 @@
 -- How entries change how many messages of a record are listed, and what the counts of records are made of.
-use Rattle.std.proofs.Common.{◌≡◌, ◌<◌, ◌≤◌, ◌+◌, ◌-◌, ◌==◌, ℕ, Bool, true, false, cond, List, [], ◌∷◌, ◌++◌, map, find, Option, Some, None, All, refl, sym, ◌∙◌, ap, subst, arith}
-use Rattle.std.specs.Prelude.{AllPairs, count_by, sum_by, filter, not, ◌||◌, if◌then◌else◌}
-use Rattle.std.specs.Option.{option_map_or}
-use Rattle.std.proofs.lemmas.List.Elements.{All-head, All-tail}
-use Rattle.std.proofs.lemmas.List.Sums.{sum_by-cons, sum_by-append}
-use Rattle.mdbox_base.specs.declared.ids.Uid.{Uid}
-use Rattle.mdbox_base.specs.declared.ids.MapUid.{MapUid}
-use Rattle.mdbox_base.specs.declared.ids.Guid.{Guid}
-use Rattle.mdbox_base.specs.declared.entries.BoxEntry.{BoxEntry}
+use Rattle.model_appends.proofs.Common.{sym, ◌∙◌, ap, subst, arith, AllPairs, count_by, sum_by, filter, not, if◌then◌else◌, option_map_or, All-head, All-tail, sum_by-cons, sum_by-append, Uid, MapUid, Guid, BoxEntry, one_more, LogRow, BoxMeaning, row_rules, rows_after, box_meaning, MapRecord, MapBox}
+use Rattle.model_appends.proofs.Common.{record_changed, has_map_uid, equal_is, equal_yes, pairs_head, pairs_tail, meaning_numbered, AreBoxEntries, HasItsRecord, IsCounted, listed_of, logs_by, OnlyAdds, logs_made, all_map, found_one, AllByRecursion, IsSoundMap, map_sound, MapMeaning, map_meaning}
+use Rattle.model_appends.proofs.Common.{record_made, MapFits, AreGoodLogs, MapCount, MapEntry, BoxFits, All-weaker, All-append, All-nil, All-cons, All-contains, IsAccounted, bit}
+use Rattle.std.proofs.Common.{◌≡◌, ◌<◌, ◌≤◌, ◌+◌, ◌-◌, ◌==◌, ℕ, Bool, true, false, cond, List, [], ◌∷◌, ◌++◌, map, find, Option, Some, None, All, refl}
+use Rattle.std.specs.Prelude.{◌||◌}
 use Rattle.mdbox_base.specs.declared.entries.BoxEntry.TheVariants as entry
 use Rattle.mdbox_base.specs.declared.entries.MapEntry.TheVariants as map_entry
-use Rattle.model_meaning.proofs.RowLemmas.{one_more}
 use Rattle.model_meaning.proofs.AppliedLemmas.{rows_by_next, rows_by_removed, rows_by_added}
-use Rattle.model_meaning.specs.BoxMeaning.{LogRow, BoxMeaning, row_rules, rows_after, box_meaning, row_at}
-use Rattle.model_meaning.specs.MapMeaning.{MapRecord, MapBox, record_changed, has_map_uid}
-use Rattle.model_meaning.proofs.MapPlaceLemmas.{equal_is, equal_yes}
-use Rattle.model_octets.proofs.PairLemmas.{pairs_head, pairs_tail}
-use Rattle.model_store.specs.Listing.{meaning_numbered}
-use Rattle.model_store.specs.Opening.{AreBoxEntries, HasItsRecord, IsCounted, listed_of}
-use Rattle.model_appends.specs.Appending.{logs_by}
-use Rattle.model_appends.specs.MapAppending.{OnlyAdds, logs_made, stored_row}
+use Rattle.model_meaning.specs.BoxMeaning.{row_at}
+use Rattle.model_appends.specs.MapAppending.{stored_row}
 use Rattle.model_appends.proofs.AppendOpenLemmas.{listed_flagged}
 use Rattle.model_appends.proofs.AppendMapOpenLemmas.{records_added}
-use Rattle.model_octets.proofs.PairLemmas.{all_map}
-use Rattle.model_octets.proofs.SearchLemmas.{found_one}
-use Rattle.std.specs.List.{AllByRecursion}
-use Rattle.model_meaning.specs.Sound.{IsSoundBox, IsSoundMap, IsSoundRecord}
+use Rattle.model_meaning.specs.Sound.{IsSoundBox, IsSoundRecord}
 use Rattle.model_meaning.proofs.BoxSoundLemmas.{box_sound}
-use Rattle.model_meaning.proofs.MapSoundLemmas.{map_sound}
-use Rattle.model_meaning.specs.MapMeaning.{MapMeaning, map_meaning, record_made}
-use Rattle.model_meaning.specs.MapFits.{MapFits}
-use Rattle.model_store.specs.GoodLogs.{AreGoodLogs}
-use Rattle.mdbox_base.specs.declared.entries.MapCount.{MapCount}
-use Rattle.mdbox_base.specs.declared.entries.MapEntry.{MapEntry}
-use Rattle.model_meaning.specs.BoxMeaning.{BoxFits}
-use Rattle.std.proofs.lemmas.List.Elements.{All-weaker, All-append, All-nil, All-cons, All-contains}
-use Rattle.model_appends.specs.Amounts.{IsAccounted, bit, more_due, less_due, due_by_box, HoldsAdded, due_by, leak_by, MayChange}
+use Rattle.model_appends.specs.Amounts.{more_due, less_due, due_by_box, HoldsAdded, due_by, leak_by, MayChange}
 
 abbrev RowsRise : LogRow → LogRow → Type 0
 RowsRise a b = a.uid < b.uid

@@ -1,35 +1,20 @@
 -- One entry more in the log of a mailbox.
-use Rattle.std.specs.Prelude.{◌≡◌, ◌≢◌, ◌<◌, ◌==◌, ℕ, max, true, false, not, cond, Bool, if◌then◌else◌, List, [], ◌∷◌, ◌++◌, map, filter, Option, All, AllPairs, Contains, refl}
-use Rattle.std.proofs.Common.{sym, ◌∙◌, subst, ap, arith, inl, inr}
-use Rattle.std.proofs.lemmas.Bool.{false≢true}
-use Rattle.std.proofs.lemmas.List.Elements.{All-head, All-tail, All-weaker, All-contains}
-use Rattle.disk_model.specs.Disk.{Files}
-use Rattle.disk_model.specs.declared.name.FileName.{FileName}
+use Rattle.model_appends.proofs.Common.{◌≡◌, ◌≢◌, ◌<◌, ◌==◌, ℕ, true, false, not, cond, Bool, if◌then◌else◌, List, [], ◌∷◌, ◌++◌, map, filter, Option, All, AllPairs, Contains, refl, sym, ◌∙◌, subst, ap, arith, inl, inr, false≢true, All-head, All-tail, All-weaker, All-contains, Files, FileName}
+use Rattle.model_appends.proofs.Common.{InstRow, MapEntry, BoxEntry, ListedMessage, Mailbox, Lists, rows_by, one_more, LogRow, row_made, row_rules, rows_after, box_meaning, BoxFits, MapBox, MapMeaning, map_meaning, box_text, BoxInRange, each_more, pairs_head, pairs_tail, equal_is, equal_yes}
+use Rattle.model_appends.proofs.Common.{IsSoundMap, map_sound, HasBox, AreListed, IsMailbox, AreMailboxes, NamesOwn, NamesAny, StoredOnce, KeepsDetached, StandsBy, CarryOver, SameBut, HasOneMore, CarryMore, message_made, lists_by}
+use Rattle.std.specs.Prelude.{max}
 use Rattle.disk_model.specs.declared.name.FileName.TheVariants as file
-use Rattle.mdbox_base.specs.declared.entries.InstRow.{InstRow}
-use Rattle.mdbox_base.specs.declared.entries.MapEntry.{MapEntry}
-use Rattle.mdbox_base.specs.declared.entries.BoxEntry.{BoxEntry}
 use Rattle.mdbox_base.specs.declared.entries.BoxEntry.TheVariants as entry
-use Rattle.model_lists.specs.Lists.{ListedMessage, Mailbox, Lists}
-use Rattle.model_meaning.specs.Rows.{rows_by}
-use Rattle.model_meaning.proofs.RowLemmas.{one_more}
-use Rattle.model_meaning.specs.BoxMeaning.{LogRow, row_made, row_removed, row_changed, row_rules, rows_after, next_after, next_named, box_meaning, BoxFits}
+use Rattle.model_meaning.specs.BoxMeaning.{row_removed, row_changed, next_after, next_named}
 use Rattle.model_meaning.proofs.BoxLemmas.{next_more}
-use Rattle.model_meaning.specs.MapMeaning.{MapBox, MapMeaning, map_meaning}
-use Rattle.model_logs.specs.Entries.{box_text, BoxInRange}
 use Rattle.model_logs.proofs.EntryLemmas.{box_one}
-use Rattle.model_meaning.proofs.FitLemmas.{each_more, box_fit_more}
-use Rattle.model_octets.proofs.PairLemmas.{pairs_head, pairs_tail}
+use Rattle.model_meaning.proofs.FitLemmas.{box_fit_more}
 use Rattle.model_octets.proofs.SearchLemmas.{among}
-use Rattle.model_meaning.proofs.MapPlaceLemmas.{equal_is, equal_yes}
-use Rattle.model_meaning.specs.Sound.{IsSoundMap}
-use Rattle.model_meaning.proofs.MapSoundLemmas.{map_sound}
 use Rattle.model_logs.specs.declared.log_head.LogKind.TheVariants as kind
-use Rattle.model_store.specs.Stands.{head_of, HasMap, HasBox, IsListed, AreListed, IsMailbox, AreMailboxes, NamesOwn, NamesAny, StoredOnce, KeepsDetached, StandsBy}
+use Rattle.model_store.specs.Stands.{head_of, HasMap, IsListed}
 use Rattle.model_store.proofs.StandsLemmas.{log_same}
 use Rattle.model_store.proofs.SettledLemmas.{all_listed_along, stands_carried}
-use Rattle.model_store.specs.Carrying.{CarryOver}
-use Rattle.model_appends.specs.Appending.{SameBut, HasOneMore, CarryMore, message_made, message_removed, message_changed, message_rules, mailbox_by, lists_by}
+use Rattle.model_appends.specs.Appending.{message_removed, message_changed, message_rules, mailbox_by}
 use Rattle.model_appends.proofs.AppendFileLemmas.{message_as, log_more, log_as, mixed, mixed-here, same_but_mixed, carry_mixed, box_itself, SameStored, box_stored, stored_back, count_itself, kept_as}
 
 -- ---- rows and messages

@@ -1,32 +1,13 @@
 -- References and counts, with an entry more: how many listed messages have a GUID, and that counts stay at least these.
-use Rattle.std.specs.Prelude.{◌≡◌, ◌≤◌, ◌+◌, ◌==◌, ℕ, Bool, true, false, not, cond, if◌then◌else◌, List, [], ◌∷◌, ◌++◌, map, filter, count_by, sum_by, Option, Some, None, All, Contains, refl}
-use Rattle.std.specs.Str.{bytes_eq}
-use Rattle.std.proofs.Common.{sym, ◌∙◌, ap, arith, append-nil}
-use Rattle.std.proofs.lemmas.List.Elements.{All-contains, All-head}
-use Rattle.std.proofs.lemmas.List.Sums.{sum_by-cons, sum_by-append}
-use Rattle.disk_model.specs.Disk.{Files}
-use Rattle.mdbox_base.specs.declared.ids.Uid.{Uid}
-use Rattle.mdbox_base.specs.declared.ids.MapUid.{MapUid}
-use Rattle.mdbox_base.specs.declared.ids.Guid.{Guid}
-use Rattle.mdbox_base.specs.declared.entries.BoxEntry.{BoxEntry}
+use Rattle.model_appends.proofs.Common.{◌≡◌, ◌≤◌, ◌+◌, ◌==◌, ℕ, Bool, true, false, not, cond, if◌then◌else◌, List, [], ◌∷◌, ◌++◌, map, filter, count_by, sum_by, Option, Some, None, All, Contains, refl, bytes_eq, sym, ◌∙◌, ap, arith, All-contains, All-head, sum_by-cons, sum_by-append, Files, Uid}
+use Rattle.model_appends.proofs.Common.{MapUid, Guid, BoxEntry, MapEntry, ListedMessage, Mailbox, Lists, refs_of, empty_mailbox, BoxInRange, only_changes, equal_is, equal_yes, map_sound, LogRow, row_made, MapRecord, MapBox, MapMeaning, map_meaning, record_changed, record_of, count_of, box_made}
+use Rattle.model_appends.proofs.Common.{IsSoundMap, found_one, text_is, at_uid, count_is, AreGoodLogs, HasItsRecord, IsCounted, Opens, listed_of, AreListed, StandsBy, bit, message_made, lists_by, logs_by, OnlyAdds, logs_made}
+use Rattle.std.proofs.Common.{append-nil}
 use Rattle.mdbox_base.specs.declared.entries.BoxEntry.TheVariants as entry
-use Rattle.mdbox_base.specs.declared.entries.MapEntry.{MapEntry}
-use Rattle.model_lists.specs.Lists.{ListedMessage, Mailbox, Lists, refs_of, empty_mailbox}
-use Rattle.model_logs.specs.Entries.{BoxInRange}
-use Rattle.model_meaning.proofs.AppliedLemmas.{only_changes, only_adds, leaves}
-use Rattle.model_meaning.proofs.MapPlaceLemmas.{equal_is, equal_yes}
-use Rattle.model_meaning.proofs.MapSoundLemmas.{map_sound}
-use Rattle.model_meaning.specs.BoxMeaning.{LogRow, row_made}
-use Rattle.model_meaning.specs.MapMeaning.{MapRecord, MapBox, MapMeaning, map_meaning, record_changed, record_of, count_of, box_made}
-use Rattle.model_meaning.specs.Sound.{IsSoundMap}
-use Rattle.model_octets.proofs.SearchLemmas.{found_one, text_is}
-use Rattle.model_store.proofs.OpeningSafeLemmas.{have_records, at_uid, count_is, unlisted, opens_safe, listed_are_refs}
-use Rattle.model_store.specs.GoodLogs.{AreGoodLogs}
-use Rattle.model_store.specs.Opening.{HasItsRecord, IsCounted, Opens, listed_of}
-use Rattle.model_store.specs.Stands.{AreListed, StandsBy}
-use Rattle.model_appends.specs.Amounts.{bit}
-use Rattle.model_appends.specs.Appending.{IsBoxAppend, message_made, message_changed, mailbox_by, lists_by, logs_by, FitsIn}
-use Rattle.model_appends.specs.MapAppending.{OnlyAdds, lists_made, logs_made}
+use Rattle.model_meaning.proofs.AppliedLemmas.{only_adds, leaves}
+use Rattle.model_store.proofs.OpeningSafeLemmas.{have_records, unlisted, opens_safe, listed_are_refs}
+use Rattle.model_appends.specs.Appending.{IsBoxAppend, message_changed, mailbox_by, FitsIn}
+use Rattle.model_appends.specs.MapAppending.{lists_made}
 use Rattle.model_appends.proofs.AmountLemmas.{listed_added, listed_made}
 use Rattle.model_appends.proofs.AppendFileLemmas.{SameButCount}
 use Rattle.model_appends.proofs.AppendOpenLemmas.{log_there}

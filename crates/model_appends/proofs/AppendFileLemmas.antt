@@ -1,23 +1,16 @@
 -- Files that differ in one log alone.
-use Rattle.std.specs.Prelude.{◌≡◌, ◌≢◌, ℕ, take, drop, true, false, cond, Bool, if◌then◌else◌, List, [], ◌∷◌, ◌++◌, map, Option, Some, All, refl}
-use Rattle.std.proofs.Common.{sym, ◌∙◌, subst, ap, arith}
+use Rattle.model_appends.proofs.Common.{◌≡◌, ◌≢◌, ℕ, take, drop, true, false, cond, Bool, if◌then◌else◌, List, [], ◌∷◌, ◌++◌, map, Option, Some, All, refl, sym, ◌∙◌, subst, ap, arith, All-nil, All-cons, Files, same_name, same_name-true, same_name-apart, FileName, InstRow, MapRecord, MapBox}
+use Rattle.model_appends.proofs.Common.{MapMeaning, StoresMessage, HasOneMore, SameBut, CarryOver, CarriesOver}
 use Rattle.std.proofs.lemmas.List.{map-append}
 use Rattle.model_logs.specs.LogFile.{IsLogFile}
 use Rattle.model_store.proofs.SettledLemmas.{log_in}
-use Rattle.std.proofs.lemmas.List.Elements.{All-nil, All-cons}
-use Rattle.disk_model.specs.Disk.{Files}
-use Rattle.disk_model.specs.Name.{same_name}
-use Rattle.disk_model.proofs.NameLemmas.{same_name-true, same_name-refl, same_name-false, same_name-apart}
-use Rattle.disk_model.specs.declared.name.FileName.{FileName}
+use Rattle.disk_model.proofs.NameLemmas.{same_name-refl, same_name-false}
 use Rattle.disk_model.specs.declared.name.FileName.TheVariants as file
 use Rattle.model_logs.specs.declared.log_head.LogHead.{LogHead}
-use Rattle.mdbox_base.specs.declared.entries.InstRow.{InstRow}
-use Rattle.model_meaning.specs.MapMeaning.{MapRecord, MapBox, MapMeaning}
 use Rattle.model_storage.specs.StorageFile.{IsMessage}
-use Rattle.model_store.specs.Stands.{HasLog, HasInstances, NameInstances, HoldsMessage, StoresMessage}
+use Rattle.model_store.specs.Stands.{HasLog, HasInstances, NameInstances, HoldsMessage}
 use Rattle.model_store.specs.Settled.{IsSameRegion}
-use Rattle.model_appends.specs.Appending.{HasOneMore, SameBut}
-use Rattle.model_store.specs.Carrying.{HasSameEntries, CarryOver, CarriesOver}
+use Rattle.model_store.specs.Carrying.{HasSameEntries}
 use Rattle.model_store.proofs.CarryingLemmas.{each_name}
 
 -- the second files, but with this log as the first have it

@@ -1,31 +1,13 @@
 -- One entry more in the map log.
-use Rattle.std.specs.Prelude.{◌≡◌, ◌≤◌, ◌==◌, ℕ, count_by, true, false, cond, Bool, List, [], ◌∷◌, ◌++◌, map, find, Option, Some, None, Contains, refl}
-use Rattle.std.proofs.Common.{sym, ◌∙◌, subst, ap, arith}
-use Rattle.std.specs.Str.{bytes_eq}
-use Rattle.std.proofs.lemmas.List.Sums.{sum_by-cons}
-use Rattle.model_octets.proofs.SearchLemmas.{found_one, text_yes}
-use Rattle.model_store.proofs.OpeningSafeLemmas.{count_is}
-use Rattle.std.proofs.lemmas.List.Elements.{All-contains, All-contains_itself}
-use Rattle.disk_model.specs.Disk.{Files}
-use Rattle.disk_model.specs.declared.name.FileName.{FileName}
+use Rattle.model_appends.proofs.Common.{◌≡◌, ◌≤◌, ◌==◌, ℕ, count_by, true, false, cond, Bool, List, [], ◌∷◌, ◌++◌, map, find, Option, Some, None, Contains, refl, sym, ◌∙◌, subst, ap, arith, bytes_eq, sum_by-cons, found_one, count_is, All-contains, All-contains_itself, Files, FileName, InstRow}
+use Rattle.model_appends.proofs.Common.{MapEntry, ListedMessage, Mailbox, Lists, refs_of, empty_mailbox, LogRow, MapRecord, MapBox, MapMeaning, map_meaning, record_at, count_of, MapFits, map_text, box_text, MapInRange, each_more, map_fit_more, IsSoundMap, map_sound, all_map, HasBox, StoresMessage}
+use Rattle.model_appends.proofs.Common.{AreListed, IsMailbox, AreMailboxes, NamesOwn, NamesAny, StoredOnce, KeepsDetached, StandsBy, bit, SameBut, HasOneMore, CarryMore, IsMapStep}
+use Rattle.model_octets.proofs.SearchLemmas.{text_yes}
 use Rattle.disk_model.specs.declared.name.FileName.TheVariants as file
 use Rattle.model_logs.specs.declared.log_head.LogKind.TheVariants as kind
-use Rattle.mdbox_base.specs.declared.entries.InstRow.{InstRow}
-use Rattle.mdbox_base.specs.declared.entries.MapEntry.{MapEntry}
-use Rattle.model_lists.specs.Lists.{ListedMessage, Mailbox, Lists, refs_of, empty_mailbox}
-use Rattle.model_meaning.specs.BoxMeaning.{LogRow}
-use Rattle.model_meaning.specs.MapMeaning.{MapRecord, MapBox, MapMeaning, map_meaning, record_at, count_of}
-use Rattle.model_meaning.specs.MapFits.{MapFits, HasRecord}
-use Rattle.model_logs.specs.Entries.{map_text, box_text, MapInRange}
-use Rattle.model_meaning.proofs.FitLemmas.{each_more, map_fit_more}
-use Rattle.model_meaning.specs.Sound.{IsSoundMap}
-use Rattle.model_meaning.proofs.MapSoundLemmas.{map_sound}
-use Rattle.model_octets.proofs.PairLemmas.{all_map}
-use Rattle.model_store.specs.Stands.{head_of, HasLog, HasBox, HasMap, StoresMessage, IsListed, AreListed, IsMailbox, AreMailboxes, NamesOwn, NamesAny, StoredOnce, KeepsDetached, StandsBy}
+use Rattle.model_meaning.specs.MapFits.{HasRecord}
+use Rattle.model_store.specs.Stands.{head_of, HasLog, HasMap, IsListed}
 use Rattle.model_store.proofs.SettledLemmas.{stands_carried}
-use Rattle.model_appends.specs.Amounts.{bit}
-use Rattle.model_appends.specs.Appending.{SameBut, HasOneMore, CarryMore}
-use Rattle.model_appends.specs.MapAppending.{IsMapStep}
 use Rattle.model_appends.proofs.AppendFileLemmas.{message_as, SameButCount, count_back, carry_back, log_more, log_as, mixed, mixed-here, mixed-other, SameStored, map_stored, count_itself, kept_as}
 use Rattle.model_appends.proofs.AppendBoxLemmas.{once_as, detached_as}
 

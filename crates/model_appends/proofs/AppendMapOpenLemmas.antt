@@ -1,29 +1,12 @@
 -- Files open with one entry more in the map log, and good logs are good with it.
-use Rattle.std.specs.Prelude.{◌≡◌, ◌==◌, ◌+◌, ℕ, false, not, List, [], ◌∷◌, ◌++◌, length, map, filter, find, flat_map, Some, All, refl}
-use Rattle.std.specs.List.{AllByRecursion}
-use Rattle.std.proofs.Common.{sym, ◌∙◌, subst, ap, suc, length-append}
+use Rattle.model_appends.proofs.Common.{◌≡◌, ◌==◌, ◌+◌, ℕ, false, not, List, [], ◌∷◌, ◌++◌, length, map, filter, find, flat_map, Some, All, refl, AllByRecursion, sym, ◌∙◌, subst, ap, All-nil, All-append, All-weaker, All-head, All-tail, Files, InstRow, BoxEntry, MapEntry, map_text, MapInRange}
+use Rattle.model_appends.proofs.Common.{each_more, map_fit_more, map_more, LogRow, rows_after, MapFits, MapRecord, MapBox, MapMeaning, map_meaning, record_rules, record_changed, record_made, box_made, record_at, rows_by, all_map, AreGoodLogs, AreBoxEntries, HasItsRecord, PassBoxes, IsCounted, Opens}
+use Rattle.model_appends.proofs.Common.{LiesInFile, IsThereWhole, HasBox, HasOneMore, SameBut, OnlyAdds, logs_made}
+use Rattle.std.proofs.Common.{suc, length-append}
 use Rattle.std.proofs.lemmas.List.Concat.{flat_map-append}
-use Rattle.std.proofs.lemmas.List.Elements.{All-nil, All-append, All-weaker, All-head, All-tail}
-use Rattle.disk_model.specs.Disk.{Files}
 use Rattle.disk_model.specs.declared.name.FileName.TheVariants as file
-use Rattle.mdbox_base.specs.declared.entries.InstRow.{InstRow}
-use Rattle.mdbox_base.specs.declared.entries.BoxEntry.{BoxEntry}
-use Rattle.mdbox_base.specs.declared.entries.MapEntry.{MapEntry}
 use Rattle.mdbox_base.specs.declared.entries.MapEntry.TheVariants as entry
-use Rattle.model_logs.specs.Entries.{map_text, MapInRange}
-use Rattle.model_meaning.proofs.FitLemmas.{each_more, map_fit_more}
-use Rattle.model_meaning.proofs.MapLemmas.{map_more}
-use Rattle.model_meaning.specs.BoxMeaning.{LogRow, rows_after}
-use Rattle.model_meaning.specs.MapFits.{MapFits}
-use Rattle.model_meaning.specs.MapMeaning.{MapRecord, MapBox, MapMeaning, map_meaning, record_rules, record_changed, record_made, box_rules, box_made, record_at, named_instances}
-use Rattle.model_meaning.specs.Rows.{rows_by}
-use Rattle.model_octets.proofs.PairLemmas.{all_map}
-use Rattle.model_store.specs.GoodLogs.{AreGoodLogs}
-use Rattle.model_store.specs.Opening.{AreBoxEntries, HasItsRecord, PassBoxes, IsCounted, Opens}
-use Rattle.model_store.specs.Safe.{LiesInFile, IsThereWhole}
-use Rattle.model_store.specs.Stands.{HasBox}
-use Rattle.model_appends.specs.Appending.{HasOneMore, SameBut}
-use Rattle.model_appends.specs.MapAppending.{OnlyAdds, logs_made}
+use Rattle.model_meaning.specs.MapMeaning.{box_rules, named_instances}
 use Rattle.model_appends.proofs.AppendBoxLemmas.{box_log_as}
 use Rattle.model_appends.proofs.AppendFileLemmas.{SameButCount, SameStored, count_itself, map_stored}
 use Rattle.model_appends.proofs.AppendMapLemmas.{find_changed, find_first, map_log_more}

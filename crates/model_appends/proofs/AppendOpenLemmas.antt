@@ -1,35 +1,17 @@
 -- Files open with one entry more in the log of a mailbox.
-use Rattle.std.specs.Prelude.{◌≡◌, ◌≢◌, ◌+◌, ◌==◌, ℕ, true, false, cond, Bool, if◌then◌else◌, List, [], ◌∷◌, ◌++◌, length, map, Some, All, count_by, sum_by, AllPairs, Contains, ◌<◌, refl}
-use Rattle.std.specs.List.{AllByRecursion}
-use Rattle.std.proofs.Common.{sym, ◌∙◌, subst, ap, arith, suc, inl, inr}
-use Rattle.std.proofs.lemmas.Bool.{false≢true}
-use Rattle.std.proofs.lemmas.List.Elements.{All-append, All-weaker, All-head, All-tail, All-contains}
-use Rattle.std.proofs.lemmas.List.Sums.{sum_by-cons}
-use Rattle.disk_model.specs.Disk.{Files}
+use Rattle.model_appends.proofs.Common.{◌≡◌, ◌≢◌, ◌+◌, ◌==◌, ℕ, true, false, cond, Bool, if◌then◌else◌, List, [], ◌∷◌, ◌++◌, length, map, Some, All, count_by, sum_by, AllPairs, Contains, ◌<◌, refl, AllByRecursion, sym, ◌∙◌, subst, ap, arith, inl, inr, false≢true, All-append, All-weaker, All-head}
+use Rattle.model_appends.proofs.Common.{All-tail, All-contains, sum_by-cons, Files, Uid, MapEntry, BoxEntry, one_more, LogRow, BoxMeaning, row_made, row_rules, rows_after, box_meaning, BoxFits, MapBox, MapMeaning, map_meaning, box_text, BoxInRange, each_more, equal_is, equal_yes, IsSoundMap}
+use Rattle.model_appends.proofs.Common.{map_sound, HasBox, LiesInFile, IsThereWhole, meaning_numbered, AreBoxEntries, HasItsRecord, PassBoxes, listed_of, IsCounted, Opens, AreGoodLogs, pairs_head, pairs_tail, SameBut, HasOneMore, logs_by}
+use Rattle.std.proofs.Common.{suc}
 use Rattle.disk_model.specs.declared.name.FileName.TheVariants as file
-use Rattle.mdbox_base.specs.declared.ids.Uid.{Uid}
-use Rattle.mdbox_base.specs.declared.entries.MapEntry.{MapEntry}
-use Rattle.mdbox_base.specs.declared.entries.BoxEntry.{BoxEntry}
 use Rattle.mdbox_base.specs.declared.entries.BoxEntry.TheVariants as entry
-use Rattle.model_meaning.proofs.RowLemmas.{one_more}
 use Rattle.model_meaning.proofs.AppliedLemmas.{rows_by_flagged}
-use Rattle.model_meaning.specs.BoxMeaning.{LogRow, BoxMeaning, row_made, row_changed, row_rules, rows_after, box_meaning, box_applied, BoxFits}
+use Rattle.model_meaning.specs.BoxMeaning.{row_changed, box_applied}
 use Rattle.model_meaning.proofs.BoxLemmas.{box_more}
-use Rattle.model_meaning.specs.MapMeaning.{MapBox, MapMeaning, map_meaning}
-use Rattle.model_logs.specs.Entries.{box_text, BoxInRange}
-use Rattle.model_meaning.proofs.FitLemmas.{each_more, box_fit_more}
-use Rattle.model_meaning.proofs.MapPlaceLemmas.{equal_is, equal_yes}
+use Rattle.model_meaning.proofs.FitLemmas.{box_fit_more}
 use Rattle.model_octets.proofs.SearchLemmas.{among}
-use Rattle.model_meaning.specs.Sound.{IsSoundMap}
-use Rattle.model_meaning.proofs.MapSoundLemmas.{map_sound}
-use Rattle.model_store.specs.Stands.{HasBox}
-use Rattle.model_store.specs.Safe.{LiesInFile, IsThereWhole}
-use Rattle.model_store.specs.Listing.{meaning_numbered}
-use Rattle.model_store.specs.Opening.{AreBoxEntries, HasItsRecord, PassBoxes, listed_of, IsCounted, Opens}
-use Rattle.model_store.specs.GoodLogs.{AreGoodLogs}
-use Rattle.model_octets.proofs.PairLemmas.{pairs_head, pairs_tail}
 use Rattle.model_meaning.proofs.KeptRowLemmas.{kept_all}
-use Rattle.model_appends.specs.Appending.{FitsIn, SameBut, HasOneMore, logs_by, meanings_by}
+use Rattle.model_appends.specs.Appending.{FitsIn, meanings_by}
 use Rattle.model_appends.proofs.AppendFileLemmas.{SameStored, box_stored}
 use Rattle.model_appends.proofs.AppendBoxLemmas.{box_log_more, box_log_as, map_as, other_box}
 use Rattle.model_appends.proofs.AppendSafeLemmas.{regions_as, instances_as}

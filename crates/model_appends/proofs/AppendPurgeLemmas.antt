@@ -1,38 +1,24 @@
 -- One entry more in the map log that moves and drops the records of a file.
-use Rattle.std.specs.Prelude.{◌≡◌, ◌≤◌, ◌<◌, ◌==◌, ℕ, Bool, true, false, not, cond, ◌||◌, List, [], ◌∷◌, ◌++◌, take, drop, map, filter, find, flat_map, Option, Some, None, All, Contains, refl}
-use Rattle.std.specs.Option.{option_map_or}
-use Rattle.std.specs.Str.{bytes_eq}
-use Rattle.std.proofs.Common.{sym, ◌∙◌, subst, ap, arith, inl, inr, ◌⊎◌}
-use Rattle.std.proofs.lemmas.Bool.{false≢true, cases_lt}
-use Rattle.std.proofs.lemmas.List.Elements.{All-nil, All-cons, All-head, All-tail, All-append, All-contains, All-contains_itself}
-use Rattle.disk_model.specs.Disk.{Files, DiskState}
+use Rattle.model_appends.proofs.Common.{◌≡◌, ◌≤◌, ◌<◌, ◌==◌, ℕ, Bool, true, false, not, cond, List, [], ◌∷◌, ◌++◌, take, drop, map, filter, find, flat_map, Option, Some, None, All, Contains, refl, option_map_or, bytes_eq, sym, ◌∙◌, subst, ap, arith, inl, inr, false≢true, All-nil, All-cons, All-head}
+use Rattle.model_appends.proofs.Common.{All-tail, All-append, All-contains, All-contains_itself, Files, DiskState, FileNo, MapUid, InstRow, MapEntry, Lists, refs_of, MapInRange, each_more, map_fit_more, map_more, equal_is, map_sound, MapFits, MapRecord, MapBox, MapMeaning, map_meaning, record_rules}
+use Rattle.model_appends.proofs.Common.{record_changed, record_at, record_of, count_of, has_map_uid, IsSoundMap, found_one, text_is, at_uid, count_is, LiesInFile, IsThereWhole, SafeBy, files_of, HasSameRegion, HasSameInstance, AreAlike, IsSettled, StoresMessage, NamesOwn, NamesAny, StoredOnce}
+use Rattle.model_appends.proofs.Common.{AreMailboxes, IsMapStep, LeavesAlike}
+use Rattle.std.specs.Prelude.{◌||◌}
+use Rattle.std.proofs.Common.{◌⊎◌}
+use Rattle.std.proofs.lemmas.Bool.{cases_lt}
 use Rattle.disk_model.specs.declared.name.FileName.TheVariants as file
-use Rattle.mdbox_base.specs.declared.ids.FileNo.{FileNo}
-use Rattle.mdbox_base.specs.declared.ids.MapUid.{MapUid}
-use Rattle.mdbox_base.specs.declared.entries.InstRow.{InstRow}
-use Rattle.mdbox_base.specs.declared.entries.MapEntry.{MapEntry}
 use Rattle.mdbox_base.specs.declared.entries.MapEntry.TheVariants as entry
 use Rattle.mdbox_base.specs.declared.entries.MapPlace.{MapPlace}
 use Rattle.model_attach.specs.Detached.{AreDetached}
-use Rattle.model_lists.specs.Lists.{Lists, refs_of}
-use Rattle.model_logs.specs.Entries.{MapInRange}
 use Rattle.model_meaning.proofs.AppliedLemmas.{records_by_purged, boxes_by_purged}
-use Rattle.model_meaning.proofs.FitLemmas.{each_more, map_fit_more}
 use Rattle.model_meaning.proofs.KeptRowLemmas.{kept_all}
-use Rattle.model_meaning.proofs.MapLemmas.{map_more}
-use Rattle.model_meaning.proofs.MapPlaceLemmas.{IsSameMessage, changed_same, equal_is}
-use Rattle.model_meaning.proofs.MapSoundLemmas.{map_sound}
-use Rattle.model_meaning.specs.MapFits.{MapFits, HasRecord}
-use Rattle.model_meaning.specs.MapMeaning.{MapRecord, MapBox, MapMeaning, map_meaning, record_rules, record_changed, record_dropped, record_at, record_of, count_of, has_map_uid, place_given, moved_record}
-use Rattle.model_meaning.specs.Sound.{IsSoundMap}
-use Rattle.model_octets.proofs.SearchLemmas.{found_one, text_is}
+use Rattle.model_meaning.proofs.MapPlaceLemmas.{IsSameMessage, changed_same}
+use Rattle.model_meaning.specs.MapFits.{HasRecord}
+use Rattle.model_meaning.specs.MapMeaning.{record_dropped, place_given, moved_record}
 use Rattle.model_storage.specs.StorageFile.{IsMessage}
-use Rattle.model_store.proofs.OpeningSafeLemmas.{at_uid, count_is}
-use Rattle.model_store.specs.Safe.{LiesInFile, IsThereWhole, SafeBy}
-use Rattle.model_store.specs.Settled.{files_of, HasSameRegion, HasSameInstance, AreAlike, IsSettled}
-use Rattle.model_store.specs.Stands.{HoldsMessage, StoresMessage, NamesOwn, NamesAny, StoredOnce, AreMailboxes}
+use Rattle.model_store.specs.Stands.{HoldsMessage}
 use Rattle.model_appends.proofs.AppendMapLemmas.{mailboxes_still}
-use Rattle.model_appends.specs.MapAppending.{IsMapStep, IsMapAppend, LeavesAlike, IsCopiedTo, AreCopied, AreCopiesSynced}
+use Rattle.model_appends.specs.MapAppending.{IsMapAppend, IsCopiedTo, AreCopied, AreCopiesSynced}
 
 some_same : {X : Type 0} → (o : Option X) (a b : X) → o ≡ Some a → o ≡ Some b → a ≡ b
 some_same o a b p q = let h : Some a ≡ Some b = sym p ∙ q in cc h

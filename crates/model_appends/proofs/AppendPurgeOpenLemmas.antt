@@ -1,32 +1,12 @@
 -- Files open with a purge more in the map log, good logs are good with it, and counts are made up as before.
-use Rattle.std.specs.Prelude.{◌≡◌, ◌≤◌, ◌==◌, ℕ, List, [], ◌∷◌, ◌++◌, length, count_by, All, Contains, refl}
-use Rattle.std.specs.List.{AllByRecursion}
-use Rattle.std.proofs.Common.{sym, ◌∙◌, subst, ap, arith}
-use Rattle.std.proofs.lemmas.List.Elements.{All-nil, All-cons, All-head, All-tail, All-contains, All-contains_itself}
-use Rattle.std.proofs.lemmas.List.Sums.{sum_by-cons}
-use Rattle.disk_model.specs.Disk.{Files}
+use Rattle.model_appends.proofs.Common.{◌≡◌, ◌≤◌, ◌==◌, ℕ, List, [], ◌∷◌, ◌++◌, length, count_by, All, Contains, refl, AllByRecursion, sym, ◌∙◌, subst, ap, arith, All-nil, All-cons, All-head, All-tail, All-contains, All-contains_itself, sum_by-cons, Files, FileNo, MapUid, InstRow, BoxEntry}
+use Rattle.model_appends.proofs.Common.{MapEntry, map_text, MapInRange, each_more, map_fit_more, equal_is, equal_yes, map_sound, LogRow, rows_after, MapFits, MapRecord, MapBox, MapMeaning, map_meaning, IsSoundMap, found_one, AreGoodLogs, HasItsRecord, PassBoxes, IsCounted, listed_of, Opens}
+use Rattle.model_appends.proofs.Common.{LiesInFile, IsThereWhole, IsAccounted, bit, HasOneMore, SameBut}
 use Rattle.disk_model.specs.declared.name.FileName.TheVariants as file
-use Rattle.mdbox_base.specs.declared.ids.FileNo.{FileNo}
-use Rattle.mdbox_base.specs.declared.ids.MapUid.{MapUid}
-use Rattle.mdbox_base.specs.declared.entries.InstRow.{InstRow}
-use Rattle.mdbox_base.specs.declared.entries.BoxEntry.{BoxEntry}
-use Rattle.mdbox_base.specs.declared.entries.MapEntry.{MapEntry}
 use Rattle.mdbox_base.specs.declared.entries.MapEntry.TheVariants as entry
 use Rattle.mdbox_base.specs.declared.entries.MapPlace.{MapPlace}
-use Rattle.model_logs.specs.Entries.{map_text, MapInRange}
-use Rattle.model_meaning.proofs.FitLemmas.{each_more, map_fit_more}
-use Rattle.model_meaning.proofs.MapPlaceLemmas.{changed_same, equal_is, equal_yes}
-use Rattle.model_meaning.proofs.MapSoundLemmas.{map_sound}
-use Rattle.model_meaning.specs.BoxMeaning.{LogRow, rows_after}
-use Rattle.model_meaning.specs.MapFits.{MapFits}
-use Rattle.model_meaning.specs.MapMeaning.{MapRecord, MapBox, MapMeaning, map_meaning, place_given, moved_record}
-use Rattle.model_meaning.specs.Sound.{IsSoundMap}
-use Rattle.model_octets.proofs.SearchLemmas.{found_one}
-use Rattle.model_store.specs.GoodLogs.{AreGoodLogs}
-use Rattle.model_store.specs.Opening.{HasItsRecord, PassBoxes, IsCounted, listed_of, Opens}
-use Rattle.model_store.specs.Safe.{LiesInFile, IsThereWhole}
-use Rattle.model_appends.specs.Amounts.{IsAccounted, bit}
-use Rattle.model_appends.specs.Appending.{HasOneMore, SameBut}
+use Rattle.model_meaning.proofs.MapPlaceLemmas.{changed_same}
+use Rattle.model_meaning.specs.MapMeaning.{place_given, moved_record}
 use Rattle.model_appends.specs.MapAppending.{IsCopiedTo, AreCopied}
 use Rattle.model_appends.proofs.AppendBoxLemmas.{box_log_as}
 use Rattle.model_appends.proofs.AppendFileLemmas.{SameStored, map_stored}

@@ -1,31 +1,21 @@
 -- What an append to a log leaves of a settled disk.
-use Rattle.std.specs.Prelude.{◌≡◌, ◌≢◌, ◌≤◌, ℕ, true, false, Bool, List, [], ◌∷◌, ◌++◌, Option, Some, None, All, Contains, refl}
-use Rattle.std.proofs.Common.{sym, ◌∙◌, subst, ap}
-use Rattle.std.proofs.lemmas.Bool.{false≢true}
-use Rattle.std.proofs.lemmas.List.Elements.{All-weaker, All-nil, All-cons}
-use Rattle.disk_model.specs.Disk.{Files, FileState, DiskState, IsImage, MayLeave, reading}
-use Rattle.disk_model.specs.Name.{same_name, is_log, IsLogName}
-use Rattle.disk_model.proofs.NameLemmas.{same_name-true, same_name-apart}
-use Rattle.disk_model.specs.declared.name.FileName.{FileName}
+use Rattle.model_appends.proofs.Common.{◌≡◌, ◌≢◌, ◌≤◌, ℕ, true, false, Bool, List, [], ◌∷◌, ◌++◌, Option, Some, None, All, Contains, refl, sym, ◌∙◌, subst, ap, false≢true, All-weaker, All-nil, All-cons, Files, DiskState, IsImage, reading, same_name, same_name-true, same_name-apart, FileName}
+use Rattle.model_appends.proofs.Common.{InstRow, MapEntry, BoxEntry, Lists, refs_of, row_made, box_meaning, BoxFits, MapRecord, MapBox, MapMeaning, map_meaning, count_of, box_text, BoxInRange, HasBox, AreListed, LiesInFile, IsThereWhole, SafeBy, files_of, HasSameRegion, HasSameInstance, AreAlike}
+use Rattle.model_appends.proofs.Common.{IsSettled, CarryOver, CarriesOver, LeavesAsRead, SameBut, HasOneMore, CarryMore, message_made, lists_by}
+use Rattle.disk_model.specs.Disk.{FileState, MayLeave}
+use Rattle.disk_model.specs.Name.{is_log, IsLogName}
 use Rattle.disk_model.specs.declared.name.FileName.TheVariants as file
 use Rattle.model_logs.specs.declared.log_head.LogHead.{LogHead}
-use Rattle.mdbox_base.specs.declared.entries.InstRow.{InstRow}
-use Rattle.mdbox_base.specs.declared.entries.MapEntry.{MapEntry}
-use Rattle.mdbox_base.specs.declared.entries.BoxEntry.{BoxEntry}
-use Rattle.model_lists.specs.Lists.{Lists, refs_of}
 use Rattle.model_logs.specs.LogFile.{IsLogFile}
 use Rattle.model_logs.proofs.LogFileLemmas.{one_log}
-use Rattle.model_meaning.specs.BoxMeaning.{row_made, box_meaning, BoxFits}
-use Rattle.model_meaning.specs.MapMeaning.{MapRecord, MapBox, MapMeaning, map_meaning, count_of}
-use Rattle.model_logs.specs.Entries.{box_text, BoxInRange}
-use Rattle.model_store.specs.Stands.{HasRoot, HasBox, AreListed}
+use Rattle.model_store.specs.Stands.{HasRoot}
 use Rattle.model_store.proofs.StandsLemmas.{root_same}
-use Rattle.model_store.specs.Safe.{LiesInFile, IsThereWhole, HasAll, SafeBy, Safe}
-use Rattle.model_store.specs.Settled.{files_of, IsSameRegion, HasSameRegion, HasSameInstance, AreAlike, IsSettled}
+use Rattle.model_store.specs.Safe.{HasAll, Safe}
+use Rattle.model_store.specs.Settled.{IsSameRegion}
 use Rattle.model_store.proofs.SettledLemmas.{safe_carried, has_all_carried}
-use Rattle.model_store.specs.Carrying.{HasSameEntries, CarryOver, CarriesOver}
+use Rattle.model_store.specs.Carrying.{HasSameEntries}
 use Rattle.model_store.proofs.CarryingLemmas.{each_name}
-use Rattle.model_appends.specs.Appending.{LeftBut, LeavesAsRead, IsBoxAppend, StatesBut, SameBut, HasOneMore, CarryMore, message_made, lists_by}
+use Rattle.model_appends.specs.Appending.{LeftBut, IsBoxAppend, StatesBut}
 use Rattle.model_appends.proofs.AppendFileLemmas.{log_as, mixed, mixed-here, mixed-other, same_but_mixed, carry_mixed, box_itself, SameStored, box_stored}
 use Rattle.model_appends.proofs.AppendBoxLemmas.{stands_by_box_entry}
 

@@ -1,39 +1,21 @@
 -- Safe, with one entry more in the map log.
-use Rattle.std.specs.Prelude.{◌≡◌, ◌≤◌, ◌+◌, ◌-◌, ◌==◌, ℕ, Bool, true, false, if◌then◌else◌, List, [], ◌∷◌, ◌++◌, length, take, drop, map, flat_map, filter, not, cond, sum_by, Option, All, refl, find, count_by}
-use Rattle.std.proofs.Common.{sym, ◌∙◌, subst, ap, arith, append-nil}
-use Rattle.std.specs.Option.{option_map_or}
-use Rattle.std.specs.Str.{bytes_eq}
+use Rattle.model_appends.proofs.Common.{◌≡◌, ◌≤◌, ◌+◌, ◌==◌, ℕ, Bool, true, false, if◌then◌else◌, List, [], ◌∷◌, ◌++◌, length, take, drop, map, flat_map, filter, not, cond, sum_by, Option, All, refl, find, count_by, sym, ◌∙◌, subst, ap, arith, option_map_or, bytes_eq, sum_by-append, sum_by-cons}
+use Rattle.model_appends.proofs.Common.{All-nil, All-cons, All-append, All-head, FileNo, BoxNo, Guid, empty_mailbox, ListedMessage, Mailbox, Lists, refs_of, Files, DiskState, IsImage, reading, FileName, InstRow, MapCount, MapEntry, MapUid, boxes_by_deleted, boxes_by_renamed, only_changes, MapRecord}
+use Rattle.model_appends.proofs.Common.{MapBox, MapMeaning, map_meaning, box_changed, record_changed, record_made, box_made, has_map_uid, count_of, map_more, MapFits, map_text, MapInRange, all_map, LiesInFile, IsThereWhole, SafeBy, HasBox, IsMailbox, AreMailboxes, StoredOnce, KeepsDetached}
+use Rattle.model_appends.proofs.Common.{IsSoundMap, map_sound, LeavesAsRead, SameBut, HasOneMore, CarryMore, LeavesAlike, OnlyAdds, IsMapStep, files_of, HasSameRegion, HasSameInstance, AreAlike, IsSettled, CarriesOver}
+use Rattle.std.specs.Prelude.{◌-◌}
+use Rattle.std.proofs.Common.{append-nil}
 use Rattle.std.proofs.lemmas.List.Concat.{flat_map-append}
-use Rattle.std.proofs.lemmas.List.Sums.{sum_by-append, sum_by-cons}
-use Rattle.std.proofs.lemmas.List.Elements.{All-nil, All-cons, All-append, All-head}
-use Rattle.mdbox_base.specs.declared.ids.FileNo.{FileNo}
-use Rattle.mdbox_base.specs.declared.ids.BoxNo.{BoxNo}
-use Rattle.mdbox_base.specs.declared.ids.Guid.{Guid}
-use Rattle.model_lists.specs.Lists.{empty_mailbox, ListedMessage, Mailbox, Lists, refs_of}
-use Rattle.disk_model.specs.Disk.{Files, DiskState, IsImage, reading}
-use Rattle.disk_model.specs.declared.name.FileName.{FileName}
 use Rattle.disk_model.specs.declared.name.FileName.TheVariants as file
-use Rattle.mdbox_base.specs.declared.entries.InstRow.{InstRow}
-use Rattle.mdbox_base.specs.declared.entries.MapCount.{MapCount}
-use Rattle.mdbox_base.specs.declared.entries.MapEntry.{MapEntry}
 use Rattle.mdbox_base.specs.declared.entries.MapEntry.TheVariants as entry
-use Rattle.mdbox_base.specs.declared.ids.MapUid.{MapUid}
-use Rattle.model_meaning.proofs.AppliedLemmas.{records_by_deleted, boxes_by_deleted, records_by_renamed, boxes_by_renamed, records_by_stored, boxes_by_stored, records_by_mailbox, boxes_by_mailbox, records_by_raised, records_by_lowered, records_by_counted, boxes_by_raised, boxes_by_lowered, boxes_by_counted, boxes_by_highest, boxes_by_sealed, only_changes}
-use Rattle.model_meaning.specs.MapMeaning.{MapRecord, MapBox, MapMeaning, map_meaning, map_applied, box_changed, record_changed, record_made, box_made, has_map_uid, count_of, named_instances}
-use Rattle.model_meaning.proofs.MapLemmas.{map_more}
-use Rattle.model_meaning.specs.MapFits.{MapFits}
-use Rattle.model_logs.specs.Entries.{map_text, MapInRange}
-use Rattle.model_octets.proofs.PairLemmas.{all_map}
-use Rattle.model_store.specs.Safe.{LiesInFile, IsThereWhole, SafeBy, Safe}
+use Rattle.model_meaning.proofs.AppliedLemmas.{records_by_deleted, records_by_renamed, records_by_stored, boxes_by_stored, records_by_mailbox, boxes_by_mailbox, records_by_raised, records_by_lowered, records_by_counted, boxes_by_raised, boxes_by_lowered, boxes_by_counted, boxes_by_highest, boxes_by_sealed}
+use Rattle.model_meaning.specs.MapMeaning.{map_applied, named_instances}
+use Rattle.model_store.specs.Safe.{Safe}
 use Rattle.model_store.proofs.SettledLemmas.{has_all_carried}
-use Rattle.model_store.specs.Stands.{HasRoot, HasBox, IsMailbox, AreMailboxes, StoredOnce, KeepsDetached}
-use Rattle.model_meaning.specs.Sound.{IsSoundMap}
-use Rattle.model_meaning.proofs.MapSoundLemmas.{map_sound}
-use Rattle.model_appends.specs.Appending.{LeftBut, LeavesAsRead, StatesBut, SameBut, HasOneMore, CarryMore}
-use Rattle.model_appends.specs.MapAppending.{LeavesAlike, IsMapAppend, AddsSynced, OnlyAdds, ChangesCounts, lists_changed, named_anew, stored_row, IsMapStep}
+use Rattle.model_store.specs.Stands.{HasRoot}
+use Rattle.model_appends.specs.Appending.{LeftBut, StatesBut}
+use Rattle.model_appends.specs.MapAppending.{IsMapAppend, AddsSynced, ChangesCounts, lists_changed, named_anew, stored_row}
 use Rattle.model_appends.proofs.AppendFileLemmas.{log_as, SameButCount, count_itself, mixed, mixed-other, map_stored, carry_back}
-use Rattle.model_store.specs.Settled.{files_of, HasSameRegion, HasSameInstance, AreAlike, IsSettled}
-use Rattle.model_store.specs.Carrying.{CarriesOver}
 use Rattle.model_store.proofs.StandsLemmas.{root_same}
 use Rattle.model_appends.proofs.AppendSafeLemmas.{has_all_as, carries_alike, mixed_image, left_before, settled_but}
 use Rattle.model_appends.proofs.AppendMapLemmas.{stands_by_map_entry, mailboxes_append, mailboxes_still, made_mailbox, counts_step, stored_step, made_step}

@@ -1,36 +1,14 @@
 -- Logs that are good, and files that open, where a mailbox is deleted or renamed.
-use Rattle.std.specs.Prelude.{◌≡◌, ◌+◌, ◌==◌, ℕ, suc, Bool, true, false, not, cond, List, [], ◌∷◌, ◌++◌, length, map, filter, flat_map, find, Option, Some, None, All, Contains, ◌≤◌, refl}
-use Rattle.std.specs.List.{AllByRecursion}
-use Rattle.std.specs.Str.{bytes_eq}
-use Rattle.std.proofs.Common.{sym, ◌∙◌, ap, arith, subst}
-use Rattle.std.proofs.lemmas.List.Elements.{All-contains, All-weaker}
-use Rattle.disk_model.specs.Disk.{Files}
+use Rattle.model_appends.proofs.Common.{◌≡◌, ◌+◌, ◌==◌, ℕ, Bool, true, false, not, cond, List, [], ◌∷◌, ◌++◌, length, map, filter, flat_map, find, Option, Some, None, All, Contains, ◌≤◌, refl, AllByRecursion, bytes_eq, sym, ◌∙◌, ap, arith, subst, All-contains, All-weaker, Files, BoxNo, MapCount}
+use Rattle.model_appends.proofs.Common.{BoxEntry, InstRow, MapEntry, Lists, refs_of, map_text, MapInRange, only_changes, boxes_by_deleted, boxes_by_renamed, each_more, map_fit_more, map_more, map_sound, IsSoundMap, LogRow, box_meaning, rows_after, MapFits, MapRecord, MapBox, MapMeaning, map_meaning}
+use Rattle.model_appends.proofs.Common.{record_at, record_of, count_of, record_changed, record_rules, box_changed, rows_by, all_map, found_one, text_is, at_uid, count_is, AreGoodLogs, AreBoxEntries, HasItsRecord, PassBoxes, IsCounted, Opens, listed_of, LiesInFile, IsThereWhole, AreMailboxes}
+use Rattle.model_appends.proofs.Common.{StandsBy, SameBut, HasOneMore}
+use Rattle.std.specs.Prelude.{suc}
 use Rattle.disk_model.specs.declared.name.FileName.TheVariants as file
-use Rattle.mdbox_base.specs.declared.ids.BoxNo.{BoxNo}
-use Rattle.mdbox_base.specs.declared.entries.MapCount.{MapCount}
-use Rattle.mdbox_base.specs.declared.entries.BoxEntry.{BoxEntry}
-use Rattle.mdbox_base.specs.declared.entries.InstRow.{InstRow}
-use Rattle.mdbox_base.specs.declared.entries.MapEntry.{MapEntry}
 use Rattle.mdbox_base.specs.declared.entries.MapEntry.TheVariants as entry
-use Rattle.model_lists.specs.Lists.{Lists, refs_of}
-use Rattle.model_logs.specs.Entries.{map_text, MapInRange}
-use Rattle.model_meaning.proofs.AppliedLemmas.{only_changes, boxes_by_deleted, boxes_by_renamed}
-use Rattle.model_meaning.proofs.FitLemmas.{each_more, map_fit_more}
-use Rattle.model_meaning.proofs.MapLemmas.{map_more}
-use Rattle.model_meaning.proofs.MapSoundLemmas.{map_sound}
-use Rattle.model_meaning.specs.Sound.{IsSoundMap}
-use Rattle.model_meaning.specs.BoxMeaning.{LogRow, box_meaning, rows_after}
-use Rattle.model_meaning.specs.MapFits.{MapFits}
-use Rattle.model_meaning.specs.MapMeaning.{MapRecord, MapBox, MapMeaning, map_meaning, record_at, record_of, count_of, count_given, record_changed, record_rules, box_changed}
-use Rattle.model_meaning.specs.Rows.{rows_by}
-use Rattle.model_octets.proofs.PairLemmas.{all_map}
-use Rattle.model_octets.proofs.SearchLemmas.{found_one, text_is}
-use Rattle.model_store.proofs.OpeningSafeLemmas.{at_uid, count_is, counted, listed_are_refs, passed_by, unlisted}
-use Rattle.model_store.specs.GoodLogs.{AreGoodLogs}
-use Rattle.model_store.specs.Opening.{AreBoxEntries, HasItsRecord, PassesBox, PassBoxes, IsCounted, Opens, listed_of}
-use Rattle.model_store.specs.Safe.{LiesInFile, IsThereWhole}
-use Rattle.model_store.specs.Stands.{AreMailboxes, StandsBy}
-use Rattle.model_appends.specs.Appending.{SameBut, HasOneMore}
+use Rattle.model_meaning.specs.MapMeaning.{count_given}
+use Rattle.model_store.proofs.OpeningSafeLemmas.{counted, listed_are_refs, passed_by, unlisted}
+use Rattle.model_store.specs.Opening.{PassesBox}
 use Rattle.model_appends.specs.MapAppending.{ChangesMailbox, NamesListed, beside_changed, beside_without, lists_changed}
 use Rattle.model_appends.proofs.AppendFileLemmas.{SameButCount, SameStored, count_itself, map_stored}
 use Rattle.model_appends.proofs.AppendMapLemmas.{find_changed, map_log_more}

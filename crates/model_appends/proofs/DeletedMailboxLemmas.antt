@@ -1,32 +1,13 @@
 -- A mailbox that is deleted: its listings leave, and the counts fall by as much. Nothing else that a store reads changes.
-use Rattle.std.specs.Prelude.{◌≡◌, ◌<◌, ◌+◌, ◌==◌, ℕ, Bool, true, false, not, cond, if◌then◌else◌, List, [], ◌∷◌, ◌++◌, length, map, count_by, Option, Some, All, AllPairs, refl}
-use Rattle.std.specs.Option.{option_map_or}
-use Rattle.std.proofs.Common.{sym, ◌∙◌, ap, arith, subst}
-use Rattle.std.proofs.lemmas.List.Elements.{All-head, All-tail, All-filter}
-use Rattle.std.proofs.lemmas.List.Sums.{sum_by-cons}
-use Rattle.disk_model.specs.Disk.{Files, DiskState}
+use Rattle.model_appends.proofs.Common.{◌≡◌, ◌<◌, ◌+◌, ◌==◌, ℕ, Bool, true, false, not, cond, if◌then◌else◌, List, [], ◌∷◌, ◌++◌, length, map, count_by, Option, Some, All, AllPairs, refl, option_map_or, sym, ◌∙◌, ap, arith, subst, All-head, All-tail, sum_by-cons, Files, DiskState, BoxNo, BoxEntry}
+use Rattle.model_appends.proofs.Common.{MapCount, MapEntry, Lists, boxes_by_deleted, boxes_by_renamed, map_more, equal_is, equal_yes, map_sound, BoxMeaning, rows_after, box_meaning, MapRecord, MapBox, MapMeaning, map_meaning, record_changed, box_changed, IsSoundMap, all_map, pairs_head, pairs_tail}
+use Rattle.model_appends.proofs.Common.{AreGoodLogs, meaning_numbered, listed_of, files_of, HasSameRegion, HasSameInstance, AreAlike, IsSettled, IsAccounted, LeavesAlike}
+use Rattle.std.proofs.lemmas.List.Elements.{All-filter}
 use Rattle.disk_model.specs.declared.name.FileName.TheVariants as file
-use Rattle.mdbox_base.specs.declared.ids.BoxNo.{BoxNo}
-use Rattle.mdbox_base.specs.declared.entries.BoxEntry.{BoxEntry}
-use Rattle.mdbox_base.specs.declared.entries.MapCount.{MapCount}
-use Rattle.mdbox_base.specs.declared.entries.MapEntry.{MapEntry}
 use Rattle.mdbox_base.specs.declared.entries.MapEntry.TheVariants as entry
-use Rattle.model_lists.specs.Lists.{Lists}
-use Rattle.model_meaning.proofs.AppliedLemmas.{records_by_deleted, boxes_by_deleted, records_by_renamed, boxes_by_renamed}
-use Rattle.model_meaning.proofs.MapLemmas.{map_more}
-use Rattle.model_meaning.proofs.MapPlaceLemmas.{equal_is, equal_yes}
-use Rattle.model_meaning.proofs.MapSoundLemmas.{map_sound}
-use Rattle.model_meaning.specs.BoxMeaning.{BoxMeaning, rows_after, box_meaning}
-use Rattle.model_meaning.specs.MapMeaning.{MapRecord, MapBox, MapMeaning, map_meaning, record_changed, box_changed}
-use Rattle.model_meaning.specs.Sound.{IsSoundMap}
-use Rattle.model_octets.proofs.PairLemmas.{all_map, pairs_head, pairs_tail}
+use Rattle.model_meaning.proofs.AppliedLemmas.{records_by_deleted, records_by_renamed}
 use Rattle.model_octets.proofs.SearchLemmas.{both_same}
-use Rattle.model_store.specs.GoodLogs.{AreGoodLogs}
-use Rattle.model_store.specs.Listing.{meaning_numbered}
-use Rattle.model_store.specs.Opening.{listed_of}
-use Rattle.model_store.specs.Settled.{files_of, HasSameRegion, HasSameInstance, AreAlike, IsSettled}
-use Rattle.model_appends.specs.Amounts.{IsAccounted}
-use Rattle.model_appends.specs.MapAppending.{LeavesAlike, NamesListed, beside_without}
+use Rattle.model_appends.specs.MapAppending.{NamesListed, beside_without}
 use Rattle.model_appends.proofs.AppendFileLemmas.{SameButCount}
 use Rattle.model_appends.proofs.AppendSafeMapLemmas.{region_same}
 

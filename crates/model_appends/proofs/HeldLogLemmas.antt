@@ -1,16 +1,7 @@
 -- A settled disk leaves its logs as it reads them, and how logs compare is known from their heads and entries.
-use Rattle.std.specs.Prelude.{◌≡◌, ℕ, List, Bool, true, false, Option, Contains, refl}
-use Rattle.std.proofs.Common.{sym, ◌∙◌, subst}
-use Rattle.std.proofs.lemmas.List.Elements.{All-contains}
-use Rattle.disk_model.specs.Disk.{Files, DiskState, IsImage, MayLeave, reading}
-use Rattle.disk_model.specs.Name.{same_name}
-use Rattle.disk_model.proofs.NameLemmas.{same_name-true, same_name-apart}
-use Rattle.disk_model.specs.declared.name.FileName.{FileName}
+use Rattle.model_appends.proofs.Common.{◌≡◌, ℕ, List, Bool, true, false, Option, Contains, refl, sym, ◌∙◌, subst, All-contains, Files, DiskState, IsImage, reading, same_name, same_name-true, same_name-apart, FileName, Lists, MapBox, map_meaning, files_of, IsSettled, LeavesAsRead}
+use Rattle.disk_model.specs.Disk.{MayLeave}
 use Rattle.disk_model.specs.declared.name.FileName.TheVariants as file
-use Rattle.model_lists.specs.Lists.{Lists}
-use Rattle.model_meaning.specs.MapMeaning.{MapBox, map_meaning}
-use Rattle.model_store.specs.Settled.{files_of, IsSettled}
-use Rattle.model_appends.specs.Appending.{LeavesAsRead}
 use Rattle.model_appends.proofs.AppendFileLemmas.{mixed, mixed-here, mixed-other}
 
 -- an image with what may be left of one file, and the rest as the disk reads it

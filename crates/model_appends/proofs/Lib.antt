@@ -10,5 +10,6 @@ pub mod AppendPurgeOpenLemmas
 pub mod AppendSafeLemmas
 pub mod AppendSafeMapLemmas
 pub mod ChangedLogsLemmas
+pub mod Common
 pub mod DeletedMailboxLemmas
 pub mod HeldLogLemmas

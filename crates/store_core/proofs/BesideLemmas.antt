@@ -1,18 +1,10 @@
 -- Rows that are counted beside records.
-use Rattle.std.proofs.Common.{◌≡◌, ◌==◌, ◌<◌, ◌≤◌, ◌+◌, ◌*◌, ℕ, suc, Bool, true, false, cond, List, [], ◌∷◌, map, length, take, take_all, zero, get_or, slice_get, replicate, Some, refl, sym, ◌∙◌, ap, subst, arith}
-use Rattle.std.specs.Prelude.{IfOk, Result, Ok, Err, AllPairs, count_by, sum_by, if◌then◌else◌}
-use Rattle.std.proofs.lemmas.List.Sums.{count_by_more_yes, count_by_more_no, sum_by_more, sum_by-cons}
-use Rattle.std.proofs.lemmas.List.{length-map}
+use Rattle.store_core.proofs.Common.{◌≡◌, ◌==◌, ◌<◌, ◌≤◌, ◌+◌, ◌*◌, ℕ, suc, Bool, true, false, cond, List, [], ◌∷◌, map, length, take, zero, get_or, slice_get, Some, refl, sym, ◌∙◌, ap, subst, arith, AllPairs, count_by, sum_by, if◌then◌else◌, sum_by-cons, length-map, row_of, BoxRow, LogRow}
+use Rattle.store_core.proofs.Common.{BoxMeaning, MapRecord, change_beside, number_beside, listed_at, StoreValue, indexes_of, in_rows, in_boxes, StandBeside, OpenBox}
+use Rattle.std.proofs.Common.{take_all, replicate}
+use Rattle.std.specs.Prelude.{IfOk, Result, Ok, Err}
+use Rattle.std.proofs.lemmas.List.Sums.{count_by_more_yes, count_by_more_no, sum_by_more}
 use Rattle.std.proofs.lemmas.Option.{get_or_from_slice_get}
-use Rattle.box_index.specs.Row.{row_of}
-use Rattle.box_index.specs.declared.index.BoxRow.{BoxRow}
-use Rattle.model_meaning.specs.BoxMeaning.{LogRow, BoxMeaning}
-use Rattle.model_meaning.specs.MapMeaning.{MapRecord}
-use Rattle.store_core.specs.Append.{change_beside}
-use Rattle.store_core.specs.Dues.{number_beside, listed_at}
-use Rattle.store_core.specs.Value.{StoreValue, indexes_of}
-use Rattle.store_core.specs.Beside.{in_rows, in_boxes, StandBeside}
-use Rattle.store_core.specs.declared.store.OpenBox.{OpenBox}
 use Rattle.store_core.proofs.DueLemmas.{AreNumbers, OneEach, RecordsRise, at_own_place}
 use Rattle.store_core.proofs.DueChangeLemmas.{raises, is_raise, changed_are, numbers_are}
 

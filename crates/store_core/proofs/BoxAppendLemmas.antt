@@ -1,37 +1,14 @@
 -- A store with one entry more in the log of a mailbox.
-use Rattle.std.proofs.Common.{inr, ◌≡◌, ◌≢◌, ◌<◌, ℕ, true, false, List, [], ◌∷◌, ◌++◌, map, length, slice_index_or, slice_set, Option, Some, None, All, refl, sym, ◌∙◌, ap, subst}
-use Rattle.std.specs.Prelude.{Contains}
-use Rattle.std.proofs.lemmas.List.{map-append}
-use Rattle.disk_model.specs.Disk.{DiskState, History, IfTold, SameButFor, reading}
-use Rattle.disk_model.specs.declared.name.FileName.{FileName}
+use Rattle.store_core.proofs.Common.{inr, ◌≡◌, ◌≢◌, ◌<◌, ℕ, true, false, List, [], ◌∷◌, ◌++◌, map, length, slice_index_or, slice_set, Option, Some, None, All, refl, sym, ◌∙◌, ap, subst, Contains, map-append, DiskState, History, IfTold, SameButFor, reading, FileName, LogHead, MapEntry, BoxEntry}
+use Rattle.store_core.proofs.Common.{map_text, box_text, BoxInRange, IsLogFile, BoxMeaning, row_made, box_meaning, box_applied, MapBox, MapMeaning, map_meaning, IsSoundMap, HasRoot, files_of, meaning_numbered, HasItsRecord, Opens, IsCounted, AreGoodLogs, IsAccounted, due_by_box, HasOneMore, logs_by}
+use Rattle.store_core.proofs.Common.{meanings_by, log_as, more_log, accounted_counted, LogState, IsLogRead, Reads, IsSameBox, due_change_of, dues_by, due_at, leak_at, StoreValue, indexes_of, list_numbered, AreBoxLogs, ReadBoxLogs, IsRunning, CoverDues, IsStore, OpenBox}
 use Rattle.disk_model.specs.declared.name.FileName.TheVariants as file
-use Rattle.model_logs.specs.declared.log_head.LogHead.{LogHead}
-use Rattle.mdbox_base.specs.declared.entries.MapEntry.{MapEntry}
-use Rattle.mdbox_base.specs.declared.entries.BoxEntry.{BoxEntry}
-use Rattle.model_logs.specs.Entries.{map_text, box_text, BoxInRange}
-use Rattle.model_logs.specs.LogFile.{IsLogFile}
-use Rattle.model_meaning.specs.BoxMeaning.{BoxMeaning, row_made, box_meaning, BoxFits, box_applied}
-use Rattle.model_meaning.specs.MapMeaning.{MapBox, MapMeaning, map_meaning}
-use Rattle.model_meaning.specs.Sound.{IsSoundMap}
+use Rattle.model_meaning.specs.BoxMeaning.{BoxFits}
 use Rattle.model_meaning.proofs.MapSoundLemmas.{map_sound}
-use Rattle.model_store.specs.Stands.{HasRoot}
-use Rattle.model_store.specs.Settled.{files_of}
-use Rattle.model_store.specs.Listing.{meaning_numbered}
-use Rattle.model_store.specs.Opening.{HasItsRecord, Opens, IsCounted}
-use Rattle.model_store.specs.GoodLogs.{AreGoodLogs}
-use Rattle.model_appends.specs.Amounts.{IsAccounted, due_by_box, HoldsAdded}
-use Rattle.model_appends.specs.Appending.{HasOneMore, logs_by, meanings_by, FitsIn}
-use Rattle.model_appends.proofs.AppendFileLemmas.{log_as}
-use Rattle.model_appends.proofs.AppendSafeLemmas.{more_log}
+use Rattle.model_appends.specs.Amounts.{HoldsAdded}
+use Rattle.model_appends.specs.Appending.{FitsIn}
 use Rattle.model_appends.proofs.AppendOpenLemmas.{meanings_more, good_by_box_entry, opens_by_box_entry}
-use Rattle.model_appends.proofs.AmountLemmas.{accounted_by_box_entry, accounted_counted}
-use Rattle.gate_log.specs.State.{LogState}
-use Rattle.gate_log.specs.Log.{IsLogRead, Reads}
-use Rattle.store_core.specs.Append.{IsSameBox, due_change_of, dues_by}
-use Rattle.store_core.specs.Dues.{due_at, leak_at}
-use Rattle.store_core.specs.Value.{StoreValue, indexes_of, list_numbered}
-use Rattle.store_core.specs.Running.{AreBoxLogs, ReadBoxLogs, IsRunning, CoverDues, IsStore}
-use Rattle.store_core.specs.declared.store.OpenBox.{OpenBox}
+use Rattle.model_appends.proofs.AmountLemmas.{accounted_by_box_entry}
 use Rattle.store_core.proofs.DueLemmas.{dues_each, covered_by, store_counts}
 use Rattle.store_core.proofs.MailChangeLemmas.{known_beside, stay_beside}
 use Rattle.store_core.proofs.DueChangeLemmas.{dues_are}

@@ -1,35 +1,18 @@
 -- What a crash within an append to the log of a mailbox leaves, and what the append leaves of a settled disk.
-use Rattle.std.proofs.Common.{inl, inr, ◌≡◌, ℕ, List, [], ◌∷◌, ◌++◌, map, Option, Some, None, All, refl, sym, ◌∙◌, ap, subst, ◌⊎◌}
-use Rattle.std.specs.Prelude.{Contains}
-use Rattle.disk_model.specs.Disk.{Files, DiskState, History, IsImage, MayLeave, IfTold, OthersStay, SameButFor, reading}
-use Rattle.disk_model.specs.declared.name.FileName.{FileName}
+use Rattle.store_core.proofs.Common.{inl, inr, ◌≡◌, ℕ, List, [], ◌∷◌, ◌++◌, map, Option, Some, None, All, refl, sym, ◌∙◌, ap, subst, Contains, Files, DiskState, History, IsImage, MayLeave, IfTold, OthersStay, SameButFor, reading, FileName, each_image-map, LogHead, MapEntry, BoxEntry, box_text}
+use Rattle.store_core.proofs.Common.{BoxInRange, IsLogFile, Lists, row_made, MapBox, MapMeaning, map_meaning, Safe, files_of, IsSettled, IsSettledFor, Leaves, Opens, IsCounted, map_same, HasOneMore, LeftBut, LeavesAsRead, logs_by, same_log, more_log, safe_without, LogState, IsLogRead, IsLogHeld}
+use Rattle.store_core.proofs.Common.{Holds, IsLogWithOrWithout, AddsText, IsSameBox, count_itself, kept_as, KeepsStored, StoreValue, OpenBox}
+use Rattle.std.proofs.Common.{◌⊎◌}
 use Rattle.disk_model.specs.declared.name.FileName.TheVariants as file
-use Rattle.disk_model.proofs.MomentLemmas.{each_image-map, each_image-begins}
-use Rattle.model_logs.specs.declared.log_head.LogHead.{LogHead}
-use Rattle.mdbox_base.specs.declared.entries.MapEntry.{MapEntry}
-use Rattle.mdbox_base.specs.declared.entries.BoxEntry.{BoxEntry}
-use Rattle.model_logs.specs.Entries.{box_text, BoxInRange}
-use Rattle.model_logs.specs.LogFile.{IsLogFile}
-use Rattle.model_lists.specs.Lists.{Lists}
-use Rattle.model_meaning.specs.BoxMeaning.{row_made}
-use Rattle.model_meaning.specs.MapMeaning.{MapBox, MapMeaning, map_meaning}
+use Rattle.disk_model.proofs.MomentLemmas.{each_image-begins}
 use Rattle.model_store.specs.Stands.{AreListed, StandsBy}
-use Rattle.model_store.specs.Safe.{Safe}
-use Rattle.model_store.specs.Settled.{files_of, IsSettled, IsSettledFor, Leaves}
-use Rattle.model_store.specs.Opening.{Opens, IsCounted}
 use Rattle.model_store.proofs.SettledLemmas.{settled_safe}
-use Rattle.model_store.proofs.StandsLemmas.{map_same}
-use Rattle.model_appends.specs.Appending.{HasOneMore, LeftBut, LeavesAsRead, message_made, lists_by, logs_by, FitsIn, IsBoxAppend}
+use Rattle.model_appends.specs.Appending.{message_made, lists_by, FitsIn, IsBoxAppend}
 use Rattle.model_appends.proofs.AppendCountLemmas.{box_append}
-use Rattle.model_appends.proofs.AppendSafeLemmas.{same_log, more_log, safe_without, safe_with_box_entry, settled_by_box_append}
+use Rattle.model_appends.proofs.AppendSafeLemmas.{safe_with_box_entry, settled_by_box_append}
 use Rattle.model_appends.proofs.HeldLogLemmas.{holds_box}
-use Rattle.gate_log.specs.State.{LogState}
-use Rattle.gate_log.specs.Log.{IsLogRead, IsLogHeld, Holds, IsLogWithOrWithout}
-use Rattle.store_core.specs.Append.{AddsText, Brings, IsSameBox}
-use Rattle.model_appends.proofs.AppendFileLemmas.{box_stored, count_itself, kept_as}
-use Rattle.store_core.specs.Dues.{KeepsStored}
-use Rattle.store_core.specs.Value.{StoreValue}
-use Rattle.store_core.specs.declared.store.OpenBox.{OpenBox}
+use Rattle.store_core.specs.Append.{Brings}
+use Rattle.model_appends.proofs.AppendFileLemmas.{box_stored}
 use Rattle.store_core.proofs.PickingLemmas.{Picked}
 use Rattle.store_core.proofs.BoxAppendLemmas.{Placed, is_log, disk_more, fits_logs, enough_there, own_box}
 

@@ -1,22 +1,12 @@
 -- References that are counted, row by row and mailbox by mailbox.
-use Rattle.std.proofs.Common.{◌≡◌, ◌<◌, ◌≤◌, ◌+◌, ℕ, suc, All, Bool, true, false, List, map, [], ◌∷◌, length, take, get_or, slice_get, if◌then◌else◌, Some, refl, sym, ◌∙◌, ap, arith}
-use Rattle.std.specs.Prelude.{count_by, sum_by}
-use Rattle.std.specs.Option.{option_map}
-use Rattle.std.specs.Str.{bytes_eq}
-use Rattle.std.proofs.lemmas.List.Sums.{count_by_more_no, count_by_more_yes, sum_by-cons}
-use Rattle.std.proofs.lemmas.Option.{slice_get-map, slice_get-get_or, get_or_from_slice_get}
+use Rattle.store_core.proofs.Common.{◌≡◌, ◌<◌, ◌≤◌, ◌+◌, ℕ, suc, All, Bool, true, false, List, map, [], ◌∷◌, length, take, get_or, slice_get, Some, refl, sym, ◌∙◌, ap, arith, count_by, sum_by, option_map, bytes_eq, sum_by-cons, slice_get-get_or, LogRow, BoxMeaning, All-head, All-tail, BoxEntry}
+use Rattle.store_core.proofs.Common.{listed_of, IsCounted, indexes_of, MapBox, MapRecord, row_of, BoxRow, AreBoxLogs, CoverDues, OpenBox}
+use Rattle.std.proofs.Common.{if◌then◌else◌}
+use Rattle.std.proofs.lemmas.List.Sums.{count_by_more_no, count_by_more_yes}
+use Rattle.std.proofs.lemmas.Option.{slice_get-map, get_or_from_slice_get}
 use Rattle.std.proofs.Math.Seq.{take-length}
-use Rattle.model_meaning.specs.BoxMeaning.{LogRow, BoxMeaning}
 use Rattle.model_store.specs.Listing.{refs_in}
-use Rattle.std.proofs.lemmas.List.Elements.{All-head, All-tail}
-use Rattle.mdbox_base.specs.declared.entries.BoxEntry.{BoxEntry}
-use Rattle.model_store.specs.Opening.{listed_of, IsCounted}
-use Rattle.store_core.specs.Value.{indexes_of, none_due}
-use Rattle.model_meaning.specs.MapMeaning.{MapBox, MapRecord}
-use Rattle.box_index.specs.Row.{row_of}
-use Rattle.box_index.specs.declared.index.BoxRow.{BoxRow}
-use Rattle.store_core.specs.Running.{AreBoxLogs, CoverDues}
-use Rattle.store_core.specs.declared.store.OpenBox.{OpenBox}
+use Rattle.store_core.specs.Value.{none_due}
 
 -- as many mailboxes are open as the map has
 pub one_each : (store : List ℕ) (mailboxes : List MapBox) (boxes : List OpenBox) → AreBoxLogs store mailboxes boxes → length boxes ≡ length mailboxes

@@ -1,26 +1,13 @@
 -- What an entry of a mailbox's log makes of what is due of each record.
-use Rattle.std.proofs.Common.{◌≡◌, ◌≢◌, ◌==◌, ◌<◌, ◌≤◌, ◌+◌, ◌-◌, ℕ, suc, Bool, true, false, cond, List, [], ◌∷◌, map, length, get_or, slice_set, find, All, Option, Some, None, refl, sym, ◌∙◌, ap, subst, arith}
-use Rattle.std.specs.Prelude.{AllPairs, nat_lt, not, ◌||◌, if◌then◌else◌}
-use Rattle.std.specs.Option.{option_map_or}
+use Rattle.store_core.proofs.Common.{◌≡◌, ◌≢◌, ◌==◌, ◌<◌, ◌≤◌, ◌+◌, ◌-◌, ℕ, suc, Bool, true, false, cond, List, [], ◌∷◌, map, length, get_or, slice_set, find, All, Option, Some, None, refl, sym, ◌∙◌, ap, subst, arith, AllPairs, not, ◌||◌, if◌then◌else◌, option_map_or, cond-true, cond-false, ne_eqb}
+use Rattle.store_core.proofs.Common.{eq-eqb, All-head, All-tail, BoxEntry, MapUid, pairs_head, pairs_tail, LogRow, BoxMeaning, MapRecord, MapMeaning, has_map_uid, IsSoundRecord, listed_of, CoverDues, bit, due_by_box, equal_is, nat_tests, due_change_of, change_beside, dues_by, number_beside}
+use Rattle.std.specs.Prelude.{nat_lt}
 use Rattle.std.proofs.lemmas.List.{get_or_default}
-use Rattle.std.proofs.lemmas.Bool.{cond-true, cond-false, ne_eqb, eq-eqb}
 use Rattle.std.specs.List.{position_or_len}
 use Rattle.map_index.specs.Shown.{place_of_record}
-use Rattle.std.proofs.lemmas.List.Elements.{All-head, All-tail}
-use Rattle.mdbox_base.specs.declared.entries.BoxEntry.{BoxEntry}
 use Rattle.mdbox_base.specs.declared.entries.BoxEntry.TheVariants as entry
-use Rattle.mdbox_base.specs.declared.ids.MapUid.{MapUid}
-use Rattle.model_octets.proofs.PairLemmas.{pairs_head, pairs_tail}
-use Rattle.model_meaning.specs.BoxMeaning.{LogRow, BoxMeaning, row_at}
-use Rattle.model_meaning.specs.MapMeaning.{MapRecord, MapMeaning, has_map_uid}
-use Rattle.model_meaning.specs.Sound.{IsSoundRecord}
-use Rattle.model_store.specs.Opening.{listed_of}
-use Rattle.store_core.specs.Running.{CoverDues}
-use Rattle.model_appends.specs.Amounts.{bit, more_due, due_by_box}
-use Rattle.model_meaning.proofs.MapPlaceLemmas.{equal_is}
-use Rattle.std.proofs.lemmas.Bool.Decides.{nat_tests}
-use Rattle.store_core.specs.Append.{due_change_of, change_beside, dues_by}
-use Rattle.store_core.specs.Dues.{number_beside}
+use Rattle.model_meaning.specs.BoxMeaning.{row_at}
+use Rattle.model_appends.specs.Amounts.{more_due}
 use Rattle.store_core.specs.declared.due.DueChange.{DueChange}
 use Rattle.store_core.specs.declared.due.DueChange.TheVariants as change
 use Rattle.store_core.proofs.DueLemmas.{AreNumbers, OneEach, RecordsRise, at_own_place}

@@ -1,21 +1,8 @@
 -- Numbers that stand at records, and counts that are made up of what is listed, what is due, and a leak.
-use Rattle.std.proofs.Common.{◌≡◌, ◌==◌, ◌<◌, ◌≤◌, ◌+◌, ◌-◌, ℕ, Bool, true, false, cond, find, List, [], ◌∷◌, map, All, Option, Some, None, refl, sym, ◌∙◌, ap, subst, arith}
-use Rattle.std.specs.Prelude.{AllPairs, count_by, sum_by}
-use Rattle.std.proofs.lemmas.Bool.{cond-true, cond-false, ne_eqb, eq-eqb}
-use Rattle.std.proofs.lemmas.List.Elements.{All-head, All-tail, All-cons, All-nil}
-use Rattle.std.proofs.lemmas.List.Sums.{sum_by-cons}
-use Rattle.mdbox_base.specs.declared.entries.BoxEntry.{BoxEntry}
-use Rattle.model_octets.proofs.PairLemmas.{pairs_head, pairs_tail}
-use Rattle.model_meaning.specs.BoxMeaning.{BoxMeaning, box_meaning, rows_after}
-use Rattle.model_meaning.specs.MapMeaning.{MapRecord, MapMeaning, record_at}
-use Rattle.model_store.specs.Opening.{listed_of}
-use Rattle.model_appends.specs.Amounts.{IsAccounted}
-use Rattle.disk_model.specs.Disk.{History, Between}
-use Rattle.model_store.specs.Settled.{files_of}
-use Rattle.model_store.specs.Stands.{StoresMessage}
-use Rattle.store_core.specs.Dues.{number_beside, due_at, listed_at, leak_at, Amounts, Moves, KeepsStored, Spares}
-use Rattle.store_core.specs.Running.{CoverDues, IsStore}
-use Rattle.store_core.specs.Value.{StoreValue, indexes_of}
+use Rattle.store_core.proofs.Common.{◌≡◌, ◌==◌, ◌<◌, ◌≤◌, ◌+◌, ◌-◌, ℕ, Bool, true, false, cond, find, List, [], ◌∷◌, map, All, Option, Some, None, refl, sym, ◌∙◌, ap, subst, arith, AllPairs, count_by, sum_by, cond-true, cond-false, ne_eqb, eq-eqb, All-head, All-tail, All-cons, All-nil, sum_by-cons}
+use Rattle.store_core.proofs.Common.{BoxEntry, pairs_head, pairs_tail, BoxMeaning, box_meaning, rows_after, MapRecord, MapMeaning, record_at, listed_of, IsAccounted, History, Between, files_of, StoresMessage, number_beside, due_at, listed_at, leak_at, KeepsStored, CoverDues, IsStore, StoreValue}
+use Rattle.store_core.proofs.Common.{indexes_of}
+use Rattle.store_core.specs.Dues.{Amounts, Moves, Spares}
 
 abbrev pub RecordsRise : MapRecord → MapRecord → Type 0
 RecordsRise a b = a.uid < b.uid

@@ -1,18 +1,9 @@
 -- What a store keeps of its storage files, with one entry more in the map log that moves and drops no record and seals no file.
-use Rattle.std.specs.Prelude.{not, ◌||◌, ◌-◌, filter, if◌then◌else◌}
-use Rattle.std.specs.List.{list_any}
-use Rattle.std.proofs.Common.{inl, inr, ◌≡◌, ◌+◌, ◌==◌, ℕ, Bool, true, false, List, [], ◌∷◌, ◌++◌, map, All, refl, sym, ◌∙◌, ap, subst}
-use Rattle.std.proofs.lemmas.Bool.{cases_Bool, cond-true}
-use Rattle.std.proofs.lemmas.List.Elements.{All-append}
-use Rattle.disk_model.specs.Disk.{DiskState}
-use Rattle.mdbox_base.specs.declared.entries.Highest.{Highest}
-use Rattle.mdbox_base.specs.declared.entries.MapEntry.{MapEntry}
+use Rattle.store_core.proofs.Common.{not, ◌||◌, filter, if◌then◌else◌, list_any, inl, inr, ◌≡◌, ◌+◌, ◌==◌, ℕ, Bool, true, false, List, [], ◌∷◌, ◌++◌, map, All, refl, sym, ◌∙◌, ap, subst, cases_Bool, cond-true, All-append, DiskState, Highest, MapEntry, MapRecord, MapMeaning, map_applied, record_made}
+use Rattle.store_core.proofs.Common.{record_changed, record_rules, has_map_uid, is_own, number_at, kept_all, kept_rows, MailFile, FilesValue, is_doomed_in, EndsBehind, LiesBelowEnd, AreFilesKept, StayThere}
+use Rattle.std.specs.Prelude.{◌-◌}
 use Rattle.mdbox_base.specs.declared.entries.MapEntry.TheVariants as entry
-use Rattle.model_meaning.specs.MapMeaning.{MapRecord, MapMeaning, map_applied, record_made, record_changed, record_dropped, record_rules, has_map_uid, is_own, number_at, sealed_by}
-use Rattle.model_meaning.proofs.KeptRowLemmas.{kept_all, kept_rows}
-use Rattle.storage_files.specs.declared.file.MailFile.{MailFile}
-use Rattle.storage_files.specs.Files.{FilesValue, is_doomed_in}
-use Rattle.store_core.specs.Files.{EndsBehind, LiesBelowEnd, AreFilesKept, StayThere}
+use Rattle.model_meaning.specs.MapMeaning.{record_dropped, sealed_by}
 
 -- entries that leave each record where it is, and seal nothing
 abbrev pub LeavesPlaces : MapEntry → Type 0

@@ -1,9 +1,5 @@
 -- A store whose map log has more room.
-use Rattle.std.proofs.Common.{◌≡◌, ◌≤◌, Option, sym, subst, arith}
-use Rattle.disk_model.specs.Disk.{History}
-use Rattle.gate_log.specs.State.{LogState}
-use Rattle.store_core.specs.Value.{StoreValue, entry_room}
-use Rattle.store_core.specs.Running.{HasEntryRoom, IsStore}
+use Rattle.store_core.proofs.Common.{◌≡◌, ◌≤◌, Option, sym, subst, arith, History, LogState, StoreValue, entry_room, HasEntryRoom, IsStore}
 use Rattle.store_core.proofs.MapAppendLemmas.{roomier}
 
 pub roomier_as : {D : Type 0} → (h : Option History) (v : StoreValue D) (log : LogState) → log ≡ record v.map_log { room = log.room } → IsStore h v → IsStore h (record v { map_log = log })

@@ -1,15 +1,10 @@
 -- The highest file number of a map is at least those that GUIDs of its records name, and those of its sealed files.
-use Rattle.std.specs.Prelude.{◌≡◌, ◌≢◌, ◌≤◌, ◌==◌, ◌||◌, ◌&&◌, not, ℕ, max, Bool, true, List, [], ◌∷◌, ◌++◌, All, if◌then◌else◌}
-use Rattle.std.specs.List.{list_any}
-use Rattle.std.proofs.Common.{inl, inr, sym, ◌∙◌, ap, subst, arith, append-nil, append_assoc}
-use Rattle.std.proofs.lemmas.Bool.{cases_Bool, false≢true, ne_eqb}
-use Rattle.std.proofs.lemmas.List.Elements.{All-nil, All-cons, All-head, All-tail, All-append, All-weaker}
-use Rattle.mdbox_base.specs.declared.entries.MapEntry.{MapEntry}
+use Rattle.store_core.proofs.Common.{◌||◌, ◌&&◌, not, if◌then◌else◌, list_any, inl, inr, sym, ◌∙◌, ap, subst, arith, append-nil, cases_Bool, false≢true, ne_eqb, All-nil, All-cons, All-head, All-tail, All-append, All-weaker, MapEntry, MapRecord, MapMeaning, map_meaning, map_applied, record_made}
+use Rattle.store_core.proofs.Common.{record_rules, is_sealed, is_own, number_at, kept_all, kept_rows, map_more, equal_is, changed_same}
+use Rattle.std.specs.Prelude.{◌≡◌, ◌≢◌, ◌≤◌, ◌==◌, ℕ, max, Bool, true, List, [], ◌∷◌, ◌++◌, All}
+use Rattle.std.proofs.Common.{append_assoc}
 use Rattle.mdbox_base.specs.declared.entries.MapEntry.TheVariants as map
-use Rattle.model_meaning.specs.MapMeaning.{MapRecord, MapMeaning, map_meaning, map_applied, record_made, record_rules, numbers_of, sealed_by, is_sealed, is_own, own_number, number_at, guid_file}
-use Rattle.model_meaning.proofs.KeptRowLemmas.{kept_all, kept_rows}
-use Rattle.model_meaning.proofs.MapLemmas.{map_more}
-use Rattle.model_meaning.proofs.MapPlaceLemmas.{equal_is, changed_same}
+use Rattle.model_meaning.specs.MapMeaning.{numbers_of, sealed_by, own_number, guid_file}
 use Rattle.model_meaning.proofs.SealedLemmas.{all_with}
 
 pub record NamesUpTo (m : MapMeaning) : Type 0 where

@@ -1,21 +1,11 @@
 -- How many hold an instance, with one more or one fewer, and with an instance that is placed.
-use Rattle.std.specs.Prelude.{Contains, IsSome, if◌then◌else◌}
-use Rattle.std.specs.Option.{option_map_or}
-use Rattle.std.specs.Str.{bytes_eq}
-use Rattle.std.proofs.Common.{◌≡◌, ◌≢◌, ℕ, ◌+◌, ◌-◌, ◌<◌, ◌≤◌, Bool, true, false, cond, List, [], ◌∷◌, Option, Some, None, All, refl, sym, ◌∙◌, ap, subst, arith}
-use Rattle.std.proofs.lemmas.Bool.{true≢false, false≢true}
-use Rattle.std.proofs.lemmas.List.Elements.{All-weaker}
-use Rattle.std.proofs.lemmas.List.Sums.{sum_by-cons}
-use Rattle.mdbox_base.specs.declared.entries.InstRow.{InstRow}
-use Rattle.mdbox_base.specs.declared.ids.Hash.{Hash}
-use Rattle.mdbox_base.specs.declared.ids.InstId.{InstId}
+use Rattle.store_core.proofs.Common.{Contains, if◌then◌else◌, option_map_or, bytes_eq, ◌≡◌, ◌≢◌, ℕ, ◌+◌, ◌-◌, ◌<◌, ◌≤◌, Bool, true, false, cond, List, [], ◌∷◌, Option, Some, None, All, refl, sym, ◌∙◌, ap, subst, arith, true≢false, false≢true, All-weaker, sum_by-cons, InstRow, Hash, InstId}
+use Rattle.store_core.proofs.Common.{InstancesValue, AreInstances, HasDrawnNumber, after_placing, has_id, instance_in, instance_placed, next_id, with_holders, with_instance, KnownInstance, instance-in, same_id, found-among, StoreValue}
+use Rattle.std.specs.Prelude.{IsSome}
 use Rattle.model_octets.proofs.SearchLemmas.{found_none, text_is, text_yes}
-use Rattle.sis_store.specs.Instances.{InstancesValue, AreInstances, HasDrawnNumber, IsInstanceKnown, after_placing, has_id, holders_in, instance_in, instance_placed, next_id, with_holders, with_instance}
-use Rattle.sis_store.specs.declared.instance.KnownInstance.{KnownInstance}
-use Rattle.sis_store.proofs.IdLemmas.{all-with, find_none, hasnt, instance-in, instance-none, same_id}
-use Rattle.sis_store.proofs.KeysLemmas.{found-among}
+use Rattle.sis_store.specs.Instances.{IsInstanceKnown, holders_in}
+use Rattle.sis_store.proofs.IdLemmas.{all-with, find_none, hasnt, instance-none}
 use Rattle.store_core.specs.Keeping.{MovesHolds, holds_of}
-use Rattle.store_core.specs.Value.{StoreValue}
 use Rattle.store_core.proofs.PlacedInstanceLemmas.{new_known, next_is_new, still_known}
 
 -- ---- a task's own

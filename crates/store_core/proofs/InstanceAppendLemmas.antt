@@ -1,35 +1,17 @@
 -- The instances that a message names which an entry of the map log stores: they are there, a crash leaves them, their numbers
 -- were drawn, and each attachment is stored once.
-use Rattle.std.specs.Prelude.{◌⊎◌, ◌&&◌, Contains, flat_map}
-use Rattle.std.specs.Option.{option_map}
-use Rattle.std.specs.Ordering.{nat_cmp}
-use Rattle.std.specs.Cmp.Lexicographic.{slice_cmp}
-use Rattle.std.specs.Str.{bytes_eq}
+use Rattle.store_core.proofs.Common.{◌⊎◌, ◌&&◌, Contains, flat_map, option_map, nat_cmp, slice_cmp, bytes_eq, Less, inl, inr, ◌≡◌, ◌==◌, ℕ, Bool, true, List, [], ◌∷◌, ◌++◌, length, Option, Some, None, All, refl, sym, ◌∙◌, ap, subst, arith, append-nil, nat_tests, All-nil, All-cons, All-head}
+use Rattle.store_core.proofs.Common.{All-tail, All-append, All-contains, All-contains_itself, All-weaker, bytes_eq-Decides, Files, DiskState, History, IfTold, IsImage, reading, InstRow, MapEntry, Hash, stored_row, MapRecord, MapMeaning, record_made, named_instances, IsThereWhole, files_of}
+use Rattle.store_core.proofs.Common.{HasSameInstance, turned, same_id, lt_less, found-among, instance_in, is_of_kind, instance_file, KnownInstance, NamesFirm, NamesKnown, IsOtherThan, IsFirstKnown, IsFirmInstance, IsKnownRow, AreInstancesThere}
 use Rattle.std.specs.declared.cmp.Ordering.{Ordering}
-use Rattle.std.specs.declared.cmp.Ordering.TheVariants.{Less, Equal, Greater}
-use Rattle.std.proofs.Common.{inl, inr, ◌≡◌, ◌==◌, ℕ, Bool, true, List, [], ◌∷◌, ◌++◌, length, Option, Some, None, All, refl, sym, ◌∙◌, ap, subst, arith, append-nil}
-use Rattle.std.proofs.lemmas.Bool.Decides.{nat_tests}
-use Rattle.std.proofs.lemmas.List.Elements.{All-nil, All-cons, All-head, All-tail, All-append, All-contains, All-contains_itself, All-weaker, Contains-append_cases}
-use Rattle.std.proofs.lemmas.Slice.Eq.{bytes_eq-Decides}
+use Rattle.std.specs.declared.cmp.Ordering.TheVariants.{Equal, Greater}
+use Rattle.std.proofs.lemmas.List.Elements.{Contains-append_cases}
 use Rattle.sha1.specs.Sha1.{sha1}
-use Rattle.disk_model.specs.Disk.{Files, DiskState, History, IfTold, IsImage, reading}
-use Rattle.mdbox_base.specs.declared.entries.InstRow.{InstRow}
-use Rattle.mdbox_base.specs.declared.entries.MapEntry.{MapEntry}
 use Rattle.mdbox_base.specs.declared.entries.MapEntry.TheVariants as entry
-use Rattle.mdbox_base.specs.declared.ids.Hash.{Hash}
-use Rattle.model_appends.specs.MapAppending.{stored_row}
-use Rattle.model_meaning.specs.MapMeaning.{MapRecord, MapMeaning, record_made, named_instances}
 use Rattle.model_octets.proofs.SearchLemmas.{among}
-use Rattle.model_store.specs.Safe.{IsThereWhole}
-use Rattle.model_store.specs.Settled.{files_of, HasSameInstance}
 use Rattle.model_store.specs.Stands.{IsLess, NamesOwn, NamesAny, StoredOnce}
-use Rattle.sis_store.proofs.IdLemmas.{turned, same_octets, same_id, less_lt, lt_less}
-use Rattle.sis_store.proofs.KeysLemmas.{found-among}
-use Rattle.sis_store.specs.Instances.{instance_in, is_of_kind}
-use Rattle.sis_store.specs.OnDisk.{instance_file}
-use Rattle.sis_store.specs.declared.instance.KnownInstance.{KnownInstance}
-use Rattle.store_core.specs.MapAppend.{NamesFirm, NamesKnown, HasItsHash}
-use Rattle.store_core.specs.StoreInstances.{IsOtherThan, IsFirstKnown, IsFirmInstance, IsKnownRow, AreInstancesThere}
+use Rattle.sis_store.proofs.IdLemmas.{same_octets, less_lt}
+use Rattle.store_core.specs.MapAppend.{HasItsHash}
 
 -- ---- instances that are known
 

@@ -1,31 +1,12 @@
 -- Of a settled disk a record that is made may name each instance that a record names.
-use Rattle.std.specs.Prelude.{◌==◌, ◌&&◌, Contains}
-use Rattle.std.specs.Str.{bytes_eq}
-use Rattle.std.specs.Ordering.{nat_cmp}
-use Rattle.std.specs.Cmp.Lexicographic.{slice_cmp}
-use Rattle.std.proofs.Common.{inl, inr, ◌≡◌, ℕ, Bool, true, false, get_or, List, Option, Some, None, All, refl, sym, ◌∙◌, ap, subst}
-use Rattle.std.proofs.lemmas.Bool.{false≢true}
-use Rattle.std.proofs.lemmas.List.Elements.{All-contains, All-contains_itself, All-weaker}
-use Rattle.std.proofs.lemmas.Slice.Eq.{bytes_eq-Decides}
-use Rattle.disk_model.specs.Disk.{DiskState, History, IfTold, IsImage, reading}
-use Rattle.mdbox_base.specs.declared.entries.InstRow.{InstRow}
-use Rattle.model_appends.specs.Appending.{LeavesAsRead}
-use Rattle.model_lists.specs.Lists.{Lists}
-use Rattle.model_meaning.specs.MapMeaning.{MapRecord, MapMeaning, map_meaning, named_instances}
-use Rattle.model_store.proofs.StandsLemmas.{map_same}
-use Rattle.model_store.specs.Safe.{IsThereWhole}
-use Rattle.model_store.specs.Settled.{files_of, HasSameInstance, IsSettled, IsSettledFor}
+use Rattle.store_core.proofs.Common.{◌&&◌, Contains, bytes_eq, nat_cmp, slice_cmp, inl, inr, ◌≡◌, ℕ, Bool, true, false, get_or, List, Option, Some, None, All, refl, sym, ◌∙◌, ap, subst, false≢true, All-contains, All-contains_itself, All-weaker, bytes_eq-Decides, DiskState, History, IfTold, IsImage}
+use Rattle.store_core.proofs.Common.{reading, InstRow, LeavesAsRead, Lists, MapRecord, MapMeaning, map_meaning, named_instances, map_same, IsThereWhole, files_of, HasSameInstance, IsSettled, IsSettledFor, lt_less, is_of_kind, instance_file, IsStore, AreInstancesFirm, IsFirmInstance, IsOtherThan}
+use Rattle.store_core.proofs.Common.{HasKnownInstances, StoreValue, mixed, mixed-here}
+use Rattle.std.specs.Prelude.{◌==◌}
 use Rattle.model_store.specs.Stands.{StoredOnce}
 use Rattle.sis_store.proofs.HashLemmas.{hash_made}
-use Rattle.sis_store.proofs.IdLemmas.{lt_less}
-use Rattle.sis_store.specs.Instances.{is_of_kind}
-use Rattle.sis_store.specs.OnDisk.{instance_file}
-use Rattle.store_core.specs.Running.{IsStore}
-use Rattle.store_core.specs.StoreInstances.{AreInstancesFirm, IsFirmInstance, IsOtherThan, HasKnownInstances}
-use Rattle.store_core.specs.Value.{StoreValue}
 use Rattle.store_core.proofs.InstanceAppendLemmas.{named_by, of_named}
 use Rattle.store_core.proofs.MailChangeLemmas.{Own, left_image}
-use Rattle.model_appends.proofs.AppendFileLemmas.{mixed, mixed-here}
 
 -- ---- one that a record names
 

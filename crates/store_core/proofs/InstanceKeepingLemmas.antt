@@ -1,31 +1,21 @@
 -- What events leave to a task that compares instances, or has found some.
-use Rattle.std.specs.Prelude.{AllPairs, IsSome}
-use Rattle.std.specs.Option.{option_map, option_map_or}
-use Rattle.std.proofs.Common.{inl, inr, ◌≡◌, ◌≢◌, ℕ, true, false, List, [], get_or, Option, Some, None, All, map, refl, sym, ◌∙◌, ap, subst, arith}
-use Rattle.std.proofs.lemmas.List.Elements.{All-weaker}
-use Rattle.std.proofs.lemmas.Option.{same_Some}
-use Rattle.disk_model.specs.Disk.{DiskState, History, Between, IfTold, IsIdle, SameButFor, named, reading}
-use Rattle.disk_model.specs.declared.name.FileName.{FileName}
+use Rattle.store_core.proofs.Common.{AllPairs, option_map, option_map_or, inl, inr, ◌≡◌, ◌≢◌, ℕ, true, false, List, [], get_or, Option, Some, None, All, map, refl, sym, ◌∙◌, ap, subst, arith, All-weaker, same_Some, DiskState, History, Between, IfTold, SameButFor, named, reading, FileName}
+use Rattle.store_core.proofs.Common.{between-map, between-on, if_told-map, NamedButFor, InstRow, Hash, InstId, MapMeaning, MapRecord, InstancesValue, HasDrawnNumber, instance_in, is_of_kind, with_holders, instance_file, KnownInstance, OthersAreNamed, KeepsFirm, KeepsMail, AreInstancesFirm}
+use Rattle.store_core.proofs.Common.{HasKnownInstances, IsFirmInstance, IsFirstKnown, IsKnownRow, IsOtherThan, StoreValue}
+use Rattle.std.specs.Prelude.{IsSome}
+use Rattle.disk_model.specs.Disk.{IsIdle}
 use Rattle.disk_model.specs.declared.name.FileName.TheVariants as file
-use Rattle.disk_model.proofs.BetweenLemmas.{between-begins, between-map, between-on, between-then}
-use Rattle.disk_model.proofs.MomentLemmas.{if_told-both, if_told-map}
-use Rattle.gate_log.specs.Log.{NamedButFor}
-use Rattle.mdbox_base.specs.declared.entries.InstRow.{InstRow}
-use Rattle.mdbox_base.specs.declared.ids.Hash.{Hash}
-use Rattle.mdbox_base.specs.declared.ids.InstId.{InstId}
+use Rattle.disk_model.proofs.BetweenLemmas.{between-begins, between-then}
+use Rattle.disk_model.proofs.MomentLemmas.{if_told-both}
 use Rattle.mdbox_base.specs.declared.ids.StoreId.{StoreId}
 use Rattle.model_meaning.specs.MapFits.{AgreesOn}
-use Rattle.model_meaning.specs.MapMeaning.{MapMeaning, MapRecord}
 use Rattle.sis_store.specs.Comparing.{IsUnlikeCompared, IsUnlikeUpTo}
-use Rattle.sis_store.specs.Instances.{InstancesValue, HasDrawnNumber, IsInstanceKnown, candidate_in, instance_in, is_id_past, is_of_kind, with_holders}
-use Rattle.sis_store.specs.OnDisk.{file_of, instance_file}
-use Rattle.sis_store.specs.declared.instance.KnownInstance.{KnownInstance}
+use Rattle.sis_store.specs.Instances.{IsInstanceKnown, candidate_in, is_id_past}
+use Rattle.sis_store.specs.OnDisk.{file_of}
 use Rattle.sis_store.proofs.CandidateLemmas.{candidate_row, candidate_first}
 use Rattle.sis_store.proofs.IdLemmas.{Rise}
-use Rattle.storage_files.specs.OnDisk.{OthersAreNamed}
-use Rattle.store_core.specs.Keeping.{KeepsFirm, KeepsInstances, KeepsMail, NameTheSame, ReadsInstances, SyncsInstances, origin_and_names}
-use Rattle.store_core.specs.StoreInstances.{AreInstancesFirm, HasKnownInstances, IsFirmInstance, IsFirstKnown, IsFirstWith, IsKnownRow, IsOtherThan}
-use Rattle.store_core.specs.Value.{StoreValue}
+use Rattle.store_core.specs.Keeping.{KeepsInstances, NameTheSame, ReadsInstances, SyncsInstances, origin_and_names}
+use Rattle.store_core.specs.StoreInstances.{IsFirstWith}
 use Rattle.store_core.proofs.InstanceAppendLemmas.{parts_of}
 use Rattle.store_core.proofs.KnownInstanceLemmas.{all_held, firm_same, mail_is_none, row_held}
 use Rattle.store_core.proofs.MailChangeLemmas.{named_reads}

@@ -1,29 +1,22 @@
 -- The running numbers of instances that a message names which is stored were drawn.
-use Rattle.std.specs.Prelude.{◌&&◌, not, flat_map, if◌then◌else◌}
+use Rattle.store_core.proofs.Common.{◌&&◌, not, flat_map, if◌then◌else◌, ◌≡◌, ◌<◌, ◌≤◌, ◌+◌, ◌^◌, ◌==◌, ℕ, Bool, true, false, List, [], ◌∷◌, ◌++◌, length, take, drop, All, refl, sym, ◌∙◌, ap, subst, arith, nat_tests, All-nil, All-cons, All-head, All-tail, bytes_eq-Decides, InstRow, MapEntry, InstId}
+use Rattle.store_core.proofs.Common.{map_text, MapInRange, is_own, number_at, InstancesValue, AreInstances, HasDrawnNumber, KnownInstance, NamesKnown, IsKnownRow}
 use Rattle.std.specs.List.{AllByRecursion}
 use Rattle.std.specs.Int.{w16, w32, to_be_bytes}
-use Rattle.std.proofs.Common.{◌≡◌, ◌<◌, ◌≤◌, ◌+◌, ◌^◌, ◌==◌, ℕ, Bool, true, false, List, [], ◌∷◌, ◌++◌, length, take, drop, All, refl, sym, ◌∙◌, ap, subst, arith}
 use Rattle.std.proofs.Math.Seq.{take-append_seam}
-use Rattle.std.proofs.lemmas.Bool.Decides.{nat_tests}
 use Rattle.std.proofs.lemmas.Grind.{common_steps}
 use Rattle.std.proofs.lemmas.List.{take-append-drop, length-take, length-drop, drop-drop, take_all}
-use Rattle.std.proofs.lemmas.List.Elements.{All-nil, All-cons, All-head, All-tail, All-take, All-drop}
+use Rattle.std.proofs.lemmas.List.Elements.{All-take, All-drop}
 use Rattle.std.proofs.lemmas.Nat.{be_bytes_4}
-use Rattle.std.proofs.lemmas.Slice.Eq.{bytes_eq-Decides}
 use Rattle.mdbox_base.specs.Words.{IsOctets}
-use Rattle.mdbox_base.specs.declared.entries.InstRow.{InstRow}
-use Rattle.mdbox_base.specs.declared.entries.MapEntry.{MapEntry}
 use Rattle.mdbox_base.specs.declared.entries.MapEntry.TheVariants as entry
-use Rattle.mdbox_base.specs.declared.ids.InstId.{InstId}
 use Rattle.mdbox_base.specs.declared.ids.StoreId.{StoreId}
 use Rattle.log_records.proofs.EntrySizeLemmas.{stored_size}
 use Rattle.model_logs.proofs.LogHeadLemmas.{octet_at, number_below}
-use Rattle.model_logs.specs.Entries.{four, instance_row_text, map_text, MapInRange, RowInRange}
-use Rattle.model_meaning.specs.MapMeaning.{instance_number, is_own, number_at, own_number}
-use Rattle.sis_store.specs.Instances.{InstancesValue, AreInstances, HasDrawnNumber, numbered_id}
-use Rattle.sis_store.specs.declared.instance.KnownInstance.{KnownInstance}
-use Rattle.store_core.specs.MapAppend.{HasOctetIds, NamesKnown}
-use Rattle.store_core.specs.StoreInstances.{IsKnownRow}
+use Rattle.model_logs.specs.Entries.{four, instance_row_text, RowInRange}
+use Rattle.model_meaning.specs.MapMeaning.{instance_number, own_number}
+use Rattle.sis_store.specs.Instances.{numbered_id}
+use Rattle.store_core.specs.MapAppend.{HasOctetIds}
 use Rattle.store_core.proofs.InstanceAppendLemmas.{of_known}
 
 -- ---- by id

@@ -1,53 +1,16 @@
 -- Disks from which an instance was removed that no record names: what they read, what a crash leaves, and what a store makes of it.
-use Rattle.std.specs.Prelude.{◌⊎◌, ◌||◌, Contains, flat_map, not}
-use Rattle.std.specs.List.{list_any}
-use Rattle.std.specs.Option.{option_map, option_map_or}
-use Rattle.std.specs.Str.{bytes_eq}
-use Rattle.std.proofs.Common.{inl, inr, ◌≡◌, ◌≢◌, ℕ, Bool, true, false, cond, List, [], ◌∷◌, get_or, map, Option, Some, None, All, refl, sym, ◌∙◌, ap, subst, arith}
-use Rattle.std.proofs.lemmas.Bool.{cases_Bool, cond-true, cond-false, true≢false}
-use Rattle.std.proofs.lemmas.List.Elements.{All-nil, All-cons, All-head, All-tail, All-contains, All-contains_itself, All-weaker}
-use Rattle.std.proofs.lemmas.Slice.Eq.{bytes_eq-Decides}
-use Rattle.disk_model.specs.Disk.{Files, FileState, DiskState, History, Between, IfTold, SameButFor, EachImage, Grows, OthersStay, IsImage, MayLeave, after, change, removed, reading}
-use Rattle.disk_model.specs.Name.{same_name}
-use Rattle.disk_model.specs.declared.name.FileName.{FileName}
+use Rattle.store_core.proofs.Common.{◌⊎◌, ◌||◌, Contains, flat_map, not, list_any, option_map, option_map_or, bytes_eq, inl, inr, ◌≡◌, ◌≢◌, ℕ, Bool, true, false, cond, List, [], ◌∷◌, get_or, map, Option, Some, None, All, refl, sym, ◌∙◌, ap, subst, arith, cases_Bool, cond-true, cond-false}
+use Rattle.store_core.proofs.Common.{true≢false, All-nil, All-cons, All-head, All-tail, All-contains, All-contains_itself, All-weaker, bytes_eq-Decides, Files, FileState, DiskState, History, Between, IfTold, SameButFor, EachImage, Grows, OthersStay, IsImage, MayLeave, removed, reading, same_name}
+use Rattle.store_core.proofs.Common.{FileName, between-on, between-map, each_image-map, same_name-true, same_name-apart, LogState, IsLogRead, Reads, is_instance_named, BoxEntry, MapEntry, InstRow, InstId, LeftBut, log_as, mixed, mixed-other, others_carry, MailIsKept, kept_beside, Lists, box_text}
+use Rattle.store_core.proofs.Common.{map_text, MapRecord, MapBox, MapMeaning, map_meaning, named_instances, HasRoot, StoresMessage, LiesInFile, IsThereWhole, HasAll, SafeBy, Safe, files_of, IsSameRegion, HasSameRegion, HasSameInstance, AreAlike, IsSettled, IsSettledFor, Leaves, CarryOver}
+use Rattle.store_core.proofs.Common.{CarriesOver, Opens, each_name, safe_carried, has_all_carried, map_along, kept_along, map_same, root_same, InstancesValue, AreInstances, has_id, instance_in, instance_file, KnownInstance, instance-in, same_id, KeepsFirm, AreBoxLogs, ReadBoxLogs, IsRunning}
+use Rattle.store_core.proofs.Common.{IsStore, HasEntryRoom, IsFirmInstance, IsKnownRow, IsOtherThan, AreInstancesFirm, AreInstancesThere, HasKnownInstances, StoreValue, OpenBox}
+use Rattle.disk_model.specs.Disk.{after, change}
 use Rattle.disk_model.specs.declared.name.FileName.TheVariants as file
-use Rattle.disk_model.proofs.BetweenLemmas.{between-on, between-map}
-use Rattle.disk_model.proofs.MomentLemmas.{each_image-map}
-use Rattle.disk_model.proofs.NameLemmas.{same_name-true, same_name-apart}
 use Rattle.disk_model.proofs.OneFileLemmas.{change-here, same-begins, same-goes_on}
-use Rattle.gate_log.specs.State.{LogState}
-use Rattle.gate_log.specs.Log.{IsLogRead, Reads}
-use Rattle.map_index.specs.Shown.{is_instance_named}
-use Rattle.mdbox_base.specs.declared.entries.BoxEntry.{BoxEntry}
-use Rattle.mdbox_base.specs.declared.entries.MapEntry.{MapEntry}
-use Rattle.mdbox_base.specs.declared.entries.InstRow.{InstRow}
-use Rattle.mdbox_base.specs.declared.ids.InstId.{InstId}
-use Rattle.model_appends.specs.Appending.{LeftBut}
-use Rattle.model_appends.proofs.AppendFileLemmas.{log_as, mixed, mixed-other}
-use Rattle.model_appends.proofs.AppendSafeLemmas.{others_carry}
-use Rattle.model_kept.specs.Kept.{MailIsKept, IsUnknownTo}
-use Rattle.model_kept.proofs.KeptLemmas.{kept_beside}
-use Rattle.model_lists.specs.Lists.{Lists}
-use Rattle.model_logs.specs.Entries.{box_text, map_text}
-use Rattle.model_meaning.specs.MapMeaning.{MapRecord, MapBox, MapMeaning, map_meaning, named_instances}
-use Rattle.model_store.specs.Stands.{HasRoot, StoresMessage}
-use Rattle.model_store.specs.Safe.{LiesInFile, IsThereWhole, HasAll, SafeBy, Safe}
-use Rattle.model_store.specs.Settled.{files_of, IsSameRegion, HasSameRegion, HasSameInstance, AreAlike, IsSettled, IsSettledFor, Leaves}
-use Rattle.model_store.specs.Carrying.{CarryOver, CarriesOver}
-use Rattle.model_store.specs.Opening.{Opens}
-use Rattle.model_store.proofs.CarryingLemmas.{each_name}
-use Rattle.model_store.proofs.SettledLemmas.{safe_carried, has_all_carried, map_along, kept_along}
-use Rattle.model_store.proofs.StandsLemmas.{map_same, root_same}
-use Rattle.sis_store.specs.Instances.{InstancesValue, AreInstances, has_id, instance_in, without_instance}
-use Rattle.sis_store.specs.OnDisk.{instance_file}
-use Rattle.sis_store.specs.declared.instance.KnownInstance.{KnownInstance}
-use Rattle.sis_store.proofs.IdLemmas.{instance-in, same_id}
-use Rattle.store_core.specs.Keeping.{KeepsFirm}
+use Rattle.model_kept.specs.Kept.{IsUnknownTo}
+use Rattle.sis_store.specs.Instances.{without_instance}
 use Rattle.store_core.specs.Removing.{NameOthers, KeepsStoredBeside}
-use Rattle.store_core.specs.Running.{AreBoxLogs, ReadBoxLogs, IsRunning, IsStore, HasEntryRoom}
-use Rattle.store_core.specs.StoreInstances.{IsFirmInstance, IsKnownRow, IsOtherThan, AreInstancesFirm, AreInstancesThere, HasKnownInstances}
-use Rattle.store_core.specs.Value.{StoreValue}
-use Rattle.store_core.specs.declared.store.OpenBox.{OpenBox}
 use Rattle.store_core.proofs.InstanceAppendLemmas.{of_named}
 use Rattle.store_core.proofs.MailChangeLemmas.{Own, left_image, boxes_pass, same_entries, known_beside, stay_beside}
 use Rattle.store_core.proofs.PlacedInstanceLemmas.{all_parts}

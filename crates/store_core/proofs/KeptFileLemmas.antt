@@ -1,20 +1,14 @@
 -- What a store keeps of its storage files, over what is done to one of them.
-use Rattle.std.specs.Prelude.{◌⊎◌, Contains, slice_get}
-use Rattle.std.proofs.Common.{inl, inr, ◌≡◌, ◌≢◌, ◌<◌, ◌≤◌, ◌+◌, ℕ, Bool, true, false, List, [], ◌∷◌, ◌++◌, Option, Some, None, All, refl, sym, ◌∙◌, ap, subst, arith, slice_index_or}
-use Rattle.std.specs.Prelude.{is_some, if◌then◌else◌, ◌==◌}
-use Rattle.std.specs.List.{list_any}
-use Rattle.std.specs.Option.{option_map, option_map_or, option_and_then}
-use Rattle.std.proofs.lemmas.Bool.{cases_Bool, cases_eq, false≢true, true≢false}
-use Rattle.std.proofs.lemmas.Option.{same_Some, slice_get-get_or}
-use Rattle.std.proofs.lemmas.List.Elements.{All-weaker}
-use Rattle.mdbox_base.specs.declared.entries.Highest.{Highest}
-use Rattle.mdbox_base.specs.declared.ids.FileNo.{FileNo}
-use Rattle.model_meaning.specs.MapMeaning.{MapRecord, MapMeaning, number_at, guid_file, is_sealed}
-use Rattle.storage_files.specs.declared.file.MailFile.{MailFile}
-use Rattle.storage_files.specs.Files.{FilesValue, AreFilesInOrder, MayBeTakenFor, file_in, end_in, is_taken_in, is_doomed_in, changed_in, without_file, released_in, ending_at, with_taken, given_back, file_begun, made_doomed}
+use Rattle.store_core.proofs.Common.{◌⊎◌, Contains, inl, inr, ◌≡◌, ◌≢◌, ◌<◌, ◌≤◌, ◌+◌, ℕ, Bool, true, false, List, [], ◌∷◌, ◌++◌, Option, Some, None, All, refl, sym, ◌∙◌, ap, subst, arith, slice_index_or, if◌then◌else◌, list_any, option_map, option_map_or, option_and_then, cases_Bool, cases_eq}
+use Rattle.store_core.proofs.Common.{false≢true, true≢false, same_Some, slice_get-get_or, All-weaker, Highest, FileNo, MapRecord, MapMeaning, number_at, is_sealed, MailFile, FilesValue, AreFilesInOrder, file_in, end_in, is_taken_in, is_doomed_in, changed_in, ending_at, made_doomed, MayGrow}
+use Rattle.store_core.proofs.Common.{EndsBehind, LiesBelowEnd, AreFilesKept}
+use Rattle.std.specs.Prelude.{slice_get}
+use Rattle.std.specs.Prelude.{is_some, ◌==◌}
+use Rattle.model_meaning.specs.MapMeaning.{guid_file}
+use Rattle.storage_files.specs.Files.{MayBeTakenFor, without_file, released_in, with_taken, given_back, file_begun}
 use Rattle.storage_files.proofs.FileListLemmas.{KeepsNumber, file-none, file-found, file-here, file-other, file-gone, file-without, file-begun, file-before_begun, ends-here}
 use Rattle.storage_files.proofs.KnownLemmas.{taken-there}
-use Rattle.store_core.specs.Files.{MayGrow, EndsBehind, LiesBelowEnd, ArePinsOfRecords, AreFilesKept}
+use Rattle.store_core.specs.Files.{ArePinsOfRecords}
 use Rattle.store_core.proofs.HighestFileLemmas.{NamesUpTo, sealed_low, guid_low}
 
 -- ---- a file that was there before

@@ -1,13 +1,6 @@
 -- An append to a log leaves storage files and instances as they are.
-use Rattle.std.proofs.Common.{◌≡◌, ◌≢◌, ◌∙◌, ℕ, List, Option}
-use Rattle.disk_model.specs.Disk.{History, SameButFor}
-use Rattle.disk_model.specs.declared.name.FileName.{FileName}
+use Rattle.store_core.proofs.Common.{◌≡◌, ◌≢◌, ◌∙◌, ℕ, List, Option, History, SameButFor, FileName, between-map, BoxEntry, KeepsMail, StoreValue, OpenBox}
 use Rattle.disk_model.specs.declared.name.FileName.TheVariants as file
-use Rattle.disk_model.proofs.BetweenLemmas.{between-map}
-use Rattle.mdbox_base.specs.declared.entries.BoxEntry.{BoxEntry}
-use Rattle.store_core.specs.Keeping.{KeepsMail}
-use Rattle.store_core.specs.Value.{StoreValue}
-use Rattle.store_core.specs.declared.store.OpenBox.{OpenBox}
 use Rattle.store_core.proofs.BoxAppendLemmas.{Placed, own_box}
 
 mail_beside : (name : FileName) (old new : Option History) → ((number : ℕ) → file.Mail number ≢ name) → ((hash id : List ℕ) → file.Inst hash id ≢ name) → SameButFor name old new → KeepsMail old new

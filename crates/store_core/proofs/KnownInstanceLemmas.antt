@@ -1,41 +1,18 @@
 -- What a store knows of its instances, over changes of other files and entries of the map log.
-use Rattle.std.specs.Prelude.{◌⊎◌, Contains, not, filter}
-use Rattle.std.proofs.Common.{inl, inr, ◌≡◌, ◌≢◌, ℕ, Bool, true, false, List, [], ◌∷◌, ◌++◌, map, flat_map, get_or, Option, Some, None, All, if◌then◌else◌, refl, sym, ◌∙◌, ap, subst}
-use Rattle.std.proofs.lemmas.Bool.{cond-true, true≢false}
+use Rattle.store_core.proofs.Common.{◌⊎◌, Contains, not, filter, inl, inr, ◌≡◌, ◌≢◌, ℕ, Bool, true, false, List, [], ◌∷◌, ◌++◌, map, get_or, Option, Some, None, All, refl, sym, ◌∙◌, ap, subst, cond-true, true≢false, option_map, All-nil, All-cons, All-head, All-tail, All-contains, All-append}
+use Rattle.store_core.proofs.Common.{All-contains_itself, All-weaker, FileState, DiskState, History, MayLeave, IfTold, Between, SameState, SameButFor, reading, named, FileName, between-map, between-on, if_told-map, named-narrows, BoxEntry, Highest, InstRow, MapEntry, InstId, stored_row, MapRecord}
+use Rattle.store_core.proofs.Common.{MapMeaning, map_applied, record_made, record_changed, record_rules, named_instances, FileNo, MapUid, MapPlace, kept_all, kept_rows, changed_same, IsThereWhole, files_of, InstancesValue, instance_in, has_id, with_holders, KnownInstance, OthersAreNamed, KeepsFirm}
+use Rattle.store_core.proofs.Common.{IsAppendable, NamesKnown, NamesFirst, drawn_by, IsStore, IsOtherThan, IsFirstKnown, IsFirmInstance, IsKnownRow, AreInstancesFirm, AreInstancesThere, HasKnownInstances, StoreValue, OpenBox}
+use Rattle.std.proofs.Common.{flat_map, if◌then◌else◌}
 use Rattle.std.proofs.lemmas.Grind.{flat_map-append}
-use Rattle.std.specs.Option.{option_map}
-use Rattle.std.proofs.lemmas.List.Elements.{All-nil, All-cons, All-head, All-tail, All-contains, All-append, All-contains_itself, All-weaker, Contains-append_left}
-use Rattle.disk_model.specs.Disk.{FileState, DiskState, History, MayLeave, IfTold, Between, SameState, SameButFor, reading, named}
-use Rattle.disk_model.specs.declared.name.FileName.{FileName}
+use Rattle.std.proofs.lemmas.List.Elements.{Contains-append_left}
 use Rattle.disk_model.specs.declared.name.FileName.TheVariants as file
-use Rattle.disk_model.proofs.BetweenLemmas.{between-begins, between-map, between-on}
-use Rattle.disk_model.proofs.MomentLemmas.{if_told-map}
-use Rattle.disk_model.proofs.OneFileLemmas.{named-narrows}
-use Rattle.mdbox_base.specs.declared.entries.BoxEntry.{BoxEntry}
-use Rattle.mdbox_base.specs.declared.entries.Highest.{Highest}
-use Rattle.mdbox_base.specs.declared.entries.InstRow.{InstRow}
-use Rattle.mdbox_base.specs.declared.entries.MapEntry.{MapEntry}
+use Rattle.disk_model.proofs.BetweenLemmas.{between-begins}
 use Rattle.mdbox_base.specs.declared.entries.MapEntry.TheVariants as entry
-use Rattle.mdbox_base.specs.declared.ids.InstId.{InstId}
-use Rattle.model_appends.specs.MapAppending.{stored_row}
-use Rattle.model_meaning.specs.MapMeaning.{MapRecord, MapMeaning, map_applied, record_made, record_changed, record_dropped, record_rules, named_instances}
-use Rattle.mdbox_base.specs.declared.ids.FileNo.{FileNo}
-use Rattle.mdbox_base.specs.declared.ids.MapUid.{MapUid}
-use Rattle.mdbox_base.specs.declared.entries.MapPlace.{MapPlace}
+use Rattle.model_meaning.specs.MapMeaning.{record_dropped}
 use Rattle.model_meaning.proofs.AppliedLemmas.{records_by_purged}
-use Rattle.model_meaning.proofs.KeptRowLemmas.{kept_all, kept_rows}
-use Rattle.model_meaning.proofs.MapPlaceLemmas.{changed_same}
-use Rattle.model_store.specs.Safe.{IsThereWhole}
-use Rattle.model_store.specs.Settled.{files_of}
-use Rattle.sis_store.specs.Instances.{InstancesValue, instance_in, has_id, with_holders}
-use Rattle.sis_store.specs.declared.instance.KnownInstance.{KnownInstance}
-use Rattle.storage_files.specs.OnDisk.{OthersAreNamed}
-use Rattle.store_core.specs.Keeping.{KeepsFirm, NameTheSame, SyncsInstances, origin_and_names}
-use Rattle.store_core.specs.MapAppend.{IsAppendable, NamesKnown, NamesFirst, drawn_by}
-use Rattle.store_core.specs.Running.{IsStore}
-use Rattle.store_core.specs.StoreInstances.{IsOtherThan, IsFirstKnown, IsFirmInstance, IsKnownRow, AreInstancesFirm, AreInstancesKept, AreInstancesThere, HasKnownInstances}
-use Rattle.store_core.specs.Value.{StoreValue}
-use Rattle.store_core.specs.declared.store.OpenBox.{OpenBox}
+use Rattle.store_core.specs.Keeping.{NameTheSame, SyncsInstances, origin_and_names}
+use Rattle.store_core.specs.StoreInstances.{AreInstancesKept}
 use Rattle.store_core.proofs.BoxAppendLemmas.{Placed, own_box}
 use Rattle.store_core.proofs.EntryFileLemmas.{LeavesPlaces, none_dropped}
 use Rattle.store_core.proofs.InstanceAppendLemmas.{names_made, of_named, parts_of}

@@ -1,16 +1,10 @@
 -- Numbers of records of which some are left out: those that stay move forward, one by one.
-use Rattle.std.proofs.Common.{◌≡◌, ◌<◌, ◌≤◌, ◌+◌, ℕ, Bool, true, false, List, [], ◌∷◌, ◌++◌, length, take, drop, get_or, Option, Some, refl, sym, ◌∙◌, ap, arith}
-use Rattle.std.specs.Prelude.{◌==◌, not, slice_get, slice_set, slice_index_or}
-use Rattle.std.specs.List.{list_any}
-use Rattle.std.specs.Option.{option_map, option_map_or}
+use Rattle.store_core.proofs.Common.{◌≡◌, ◌<◌, ◌≤◌, ◌+◌, ℕ, Bool, true, false, List, [], ◌∷◌, ◌++◌, length, take, drop, get_or, Option, Some, refl, sym, ◌∙◌, ap, arith, not, list_any, option_map, option_map_or, cond-true, cond-false, slice_get-get_or, MapUid, MapRecord, has_map_uid}
+use Rattle.std.specs.Prelude.{◌==◌, slice_get, slice_set, slice_index_or}
 use Rattle.std.proofs.Math.Seq.{drop-length}
-use Rattle.std.proofs.lemmas.Bool.{cond-true, cond-false}
 use Rattle.std.proofs.lemmas.List.{append_assoc, append-nil, drop_more, drop-set-lt, length-set, take_more_set}
-use Rattle.std.proofs.lemmas.Option.{slice_get-get_or}
 use Rattle.map_index.proofs.ShownLemmas.{shown_behind}
 use Rattle.map_index.specs.Shown.{MapRow, shown_record}
-use Rattle.mdbox_base.specs.declared.ids.MapUid.{MapUid}
-use Rattle.model_meaning.specs.MapMeaning.{MapRecord, has_map_uid}
 use Rattle.store_core.specs.Switching.{dues_without}
 
 -- The numbers of records before a place, but those that are left out, stand in front; from the place on all are as they were.

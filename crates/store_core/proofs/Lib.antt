@@ -1,6 +1,7 @@
 pub mod BesideLemmas
 pub mod BoxAppendLemmas
 pub mod BoxCrashLemmas
+pub mod Common
 pub mod CountingLemmas
 pub mod DueChangeLemmas
 pub mod DueLemmas

@@ -1,19 +1,9 @@
 -- Mailboxes that are looked up by number and by name.
-use Rattle.std.proofs.Common.{◌≡◌, ◌<◌, ◌==◌, ℕ, Bool, true, false, cond, List, [], ◌∷◌, find, Option, Some, None, All, refl, sym, ◌∙◌, ap, subst, arith}
-use Rattle.std.specs.Prelude.{AllPairs, IfSome, IfNone}
-use Rattle.std.specs.Str.{bytes_eq}
-use Rattle.std.specs.Option.{option_map}
-use Rattle.std.proofs.lemmas.Bool.{cond-true, cond-false, ne_eqb, eq-eqb}
-use Rattle.std.proofs.lemmas.List.Elements.{All-head, All-tail}
-use Rattle.mdbox_base.specs.declared.ids.BoxNo.{BoxNo}
+use Rattle.store_core.proofs.Common.{◌≡◌, ◌<◌, ◌==◌, ℕ, Bool, true, false, cond, List, [], ◌∷◌, find, Option, Some, None, All, refl, sym, ◌∙◌, ap, subst, arith, AllPairs, bytes_eq, option_map, cond-true, cond-false, ne_eqb, eq-eqb, All-head, All-tail, BoxNo, pairs_head, pairs_tail, BoxMeaning}
+use Rattle.store_core.proofs.Common.{MapBox, MapMeaning, meaning_numbered, indexes_of, AreBoxLogs, OpenBox}
+use Rattle.std.specs.Prelude.{IfSome, IfNone}
 use Rattle.box_index.specs.State.{BoxState}
-use Rattle.model_octets.proofs.PairLemmas.{pairs_head, pairs_tail}
-use Rattle.model_meaning.specs.BoxMeaning.{BoxMeaning}
-use Rattle.model_meaning.specs.MapMeaning.{MapBox, MapMeaning}
-use Rattle.model_store.specs.Listing.{meaning_named, meaning_numbered}
-use Rattle.store_core.specs.Value.{indexes_of}
-use Rattle.store_core.specs.Running.{AreBoxLogs}
-use Rattle.store_core.specs.declared.store.OpenBox.{OpenBox}
+use Rattle.model_store.specs.Listing.{meaning_named}
 
 through : (b : Bool) (x : OpenBox) (rest : Option OpenBox) → option_map (λ (o : OpenBox). o.index.meaning) (cond b (Some x) rest) ≡ cond b (Some x.index.meaning) (option_map (λ (o : OpenBox). o.index.meaning) rest)
 through true x rest = refl

@@ -1,30 +1,15 @@
 -- A store that makes, removes or names the log of a mailbox, by what the calls have at hand.
-use Rattle.std.specs.Prelude.{◌||◌, AllPairs, not, remove, slice_get, max}
-use Rattle.std.specs.List.{list_any}
-use Rattle.std.specs.Option.{option_map}
-use Rattle.std.proofs.Common.{◌≡◌, ◌≢◌, ◌<◌, ◌≤◌, ◌==◌, ℕ, Bool, true, false, List, [], ◌∷◌, ◌++◌, length, find, slice_index_or, Option, Some, All, sym, ◌∙◌, ap, subst, arith}
-use Rattle.std.proofs.lemmas.List.Elements.{All-nil, All-cons, All-append, All-filter, All-weaker}
-use Rattle.std.proofs.lemmas.Bool.{ne_eqb}
+use Rattle.store_core.proofs.Common.{◌||◌, AllPairs, not, list_any, option_map, ◌≡◌, ◌≢◌, ◌<◌, ◌≤◌, ◌==◌, ℕ, Bool, true, false, List, [], ◌∷◌, ◌++◌, length, find, slice_index_or, Option, Some, All, sym, ◌∙◌, ap, subst, arith, All-nil, All-cons, All-append, All-filter, All-weaker, ne_eqb, History}
+use Rattle.store_core.proofs.Common.{if_told-map, LogState, IsLogHeld, Holds, box_meaning, MapBox, MapMeaning, head_of, OthersAreNamed, HaveOtherNumbers, IsMadeLog, IsUnnamed, KeepsMadeLogs, has_made_log, without_box, HasEntryRoom, IsStore, StoreValue, entry_room, OpenBox}
+use Rattle.std.specs.Prelude.{remove, slice_get, max}
 use Rattle.std.proofs.Math.Bool.{or-false}
 use Rattle.std.proofs.lemmas.List.Folds.{list_any_none, list_any-append}
 use Rattle.std.proofs.lemmas.List.Kept.{AllPairs-filter}
-use Rattle.disk_model.specs.Disk.{History}
 use Rattle.disk_model.specs.declared.name.FileName.TheVariants as file
-use Rattle.disk_model.proofs.MomentLemmas.{if_told-map}
-use Rattle.gate_log.specs.State.{LogState}
-use Rattle.gate_log.specs.Log.{IsLogHeld, Holds}
 use Rattle.mdbox_base.specs.Words.{IsNumber}
 use Rattle.model_logs.specs.declared.log_head.LogKind.TheVariants as kind
-use Rattle.model_meaning.specs.BoxMeaning.{box_meaning}
-use Rattle.model_meaning.specs.MapMeaning.{MapBox, MapMeaning}
 use Rattle.model_meaning.specs.Sound.{IsSoundMapBox}
 use Rattle.model_octets.proofs.PairLemmas.{pairs_push}
-use Rattle.model_store.specs.Stands.{head_of}
-use Rattle.storage_files.specs.OnDisk.{OthersAreNamed}
-use Rattle.store_core.specs.MadeLogs.{HaveOtherNumbers, IsMadeLog, IsUnnamed, KeepsMadeLogs, has_made_log, without_box}
-use Rattle.store_core.specs.Running.{HasEntryRoom, IsStore}
-use Rattle.store_core.specs.Value.{StoreValue, entry_room}
-use Rattle.store_core.specs.declared.store.OpenBox.{OpenBox}
 use Rattle.store_core.proofs.BoxAppendLemmas.{store_sound}
 use Rattle.store_core.proofs.MadeLogLemmas.{IsHeldBy, apart_from_made, held_named, none_has, others_left, taken_left, taken_found, left_has, more_has, find_made, found_made}
 use Rattle.store_core.proofs.PlacingLemmas.{number_at}

@@ -1,27 +1,14 @@
 -- Logs that were made and that the map doesn't name yet, as other files change.
-use Rattle.std.specs.Prelude.{Contains, not}
-use Rattle.std.specs.List.{list_any}
-use Rattle.std.proofs.Common.{◌≡◌, ◌≢◌, ◌≤◌, ◌<◌, ◌==◌, ◌||◌, ℕ, zero, suc, Bool, true, false, cond, List, [], ◌∷◌, ◌++◌, length, find, slice_index_or, Option, Some, None, All, refl, sym, ◌∙◌, ap, subst, arith}
-use Rattle.std.specs.Prelude.{AllPairs, remove}
-use Rattle.std.proofs.lemmas.Bool.{cond-true, cond-false, eq-eqb, ne_eqb, false≢true, true≢false}
-use Rattle.std.proofs.lemmas.List.Elements.{All-nil, All-cons, All-head, All-tail, All-contains}
-use Rattle.disk_model.specs.Disk.{FileState, DiskState, History, SameState, SameButFor, Keeps, reading, named, no_file}
-use Rattle.disk_model.specs.declared.name.FileName.{FileName}
+use Rattle.store_core.proofs.Common.{Contains, not, list_any, ◌≡◌, ◌≢◌, ◌≤◌, ◌<◌, ◌==◌, ℕ, zero, suc, Bool, true, false, cond, List, [], ◌∷◌, ◌++◌, length, find, slice_index_or, Option, Some, None, All, refl, sym, ◌∙◌, ap, subst, arith, AllPairs, cond-true, cond-false, eq-eqb, ne_eqb, false≢true}
+use Rattle.store_core.proofs.Common.{true≢false, All-nil, All-cons, All-head, All-tail, All-contains, FileState, DiskState, History, SameState, SameButFor, Keeps, reading, named, no_file, FileName, between-on, LogState, IsLogHeld, Holds, Highest, MapBox, MapMeaning, head_of, equal_is, pairs_head}
+use Rattle.store_core.proofs.Common.{pairs_tail, OthersAreNamed, HaveOtherNumbers, IsMadeLog, KeepsMadeLogs, without_box, StoreValue, OpenBox}
+use Rattle.std.proofs.Common.{◌||◌}
+use Rattle.std.specs.Prelude.{remove}
 use Rattle.disk_model.specs.declared.name.FileName.TheVariants as file
-use Rattle.disk_model.proofs.BetweenLemmas.{between-on}
 use Rattle.disk_model.proofs.FirmLemmas.{firm_from_keeps}
-use Rattle.gate_log.specs.State.{LogState}
-use Rattle.gate_log.specs.Log.{log_text, IsLogHeld, Holds}
-use Rattle.mdbox_base.specs.declared.entries.Highest.{Highest}
+use Rattle.gate_log.specs.Log.{log_text}
 use Rattle.model_logs.specs.declared.log_head.LogKind.TheVariants as kind
-use Rattle.model_meaning.specs.MapMeaning.{MapBox, MapMeaning}
-use Rattle.model_store.specs.Stands.{head_of}
-use Rattle.model_meaning.proofs.MapPlaceLemmas.{equal_is}
-use Rattle.model_octets.proofs.PairLemmas.{pairs_head, pairs_tail, pairs_nil}
-use Rattle.storage_files.specs.OnDisk.{OthersAreNamed}
-use Rattle.store_core.specs.MadeLogs.{HaveOtherNumbers, IsMadeLog, KeepsMadeLogs, without_box}
-use Rattle.store_core.specs.Value.{StoreValue}
-use Rattle.store_core.specs.declared.store.OpenBox.{OpenBox}
+use Rattle.model_octets.proofs.PairLemmas.{pairs_nil}
 
 -- the disk holds the log, which has no entry
 abbrev pub IsHeldBy : Option History → OpenBox → Type 0

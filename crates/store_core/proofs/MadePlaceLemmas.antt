@@ -1,16 +1,7 @@
 -- Logs that were made, beside an append to the log of a mailbox or to the map log.
-use Rattle.std.proofs.Common.{◌≡◌, ℕ, Option, All, refl, sym, ◌∙◌, ap, subst, arith}
-use Rattle.disk_model.specs.Disk.{History, SameButFor}
+use Rattle.store_core.proofs.Common.{◌≡◌, ℕ, Option, All, refl, sym, ◌∙◌, ap, subst, arith, History, SameButFor, BoxEntry, Highest, MapEntry, MapMeaning, map_meaning, map_applied, IsMadeLog, KeepsMadeLogs, drawn_by, StoreValue, OpenBox}
 use Rattle.disk_model.specs.declared.name.FileName.TheVariants as file
-use Rattle.mdbox_base.specs.declared.entries.BoxEntry.{BoxEntry}
-use Rattle.mdbox_base.specs.declared.entries.Highest.{Highest}
-use Rattle.mdbox_base.specs.declared.entries.MapEntry.{MapEntry}
 use Rattle.mdbox_base.specs.declared.entries.MapEntry.TheVariants as entry
-use Rattle.model_meaning.specs.MapMeaning.{MapMeaning, map_meaning, map_applied}
-use Rattle.store_core.specs.MadeLogs.{IsMadeLog, KeepsMadeLogs}
-use Rattle.store_core.specs.MapAppend.{drawn_by}
-use Rattle.store_core.specs.Value.{StoreValue}
-use Rattle.store_core.specs.declared.store.OpenBox.{OpenBox}
 use Rattle.store_core.proofs.BoxAppendLemmas.{Placed, own_box}
 use Rattle.store_core.proofs.MadeLogLemmas.{made_kept, no_less, held_beside, apart_from, apart_from_named}
 use Rattle.store_core.proofs.MapAppendLemmas.{Readied}

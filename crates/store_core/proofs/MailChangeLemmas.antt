@@ -1,39 +1,15 @@
 -- Disks on which one storage file was made or added to: what they read, what a crash leaves, and what a store makes of it.
-use Rattle.std.specs.Prelude.{◌⊎◌}
-use Rattle.std.specs.List.{list_any}
-use Rattle.std.proofs.Common.{inl, inr, ◌≡◌, ◌≢◌, ◌≤◌, ◌+◌, ◌==◌, ◌||◌, ℕ, Bool, true, false, List, [], ◌∷◌, ◌++◌, length, take, drop, Option, Some, None, All, refl, sym, ◌∙◌, ap, subst, arith, length-append}
-use Rattle.std.specs.Option.{option_map}
-use Rattle.std.proofs.lemmas.Bool.{cases_Bool, cases_eq, cond-true, cond-false, false≢true}
+use Rattle.store_core.proofs.Common.{◌⊎◌, list_any, inl, inr, ◌≡◌, ◌≢◌, ◌≤◌, ◌+◌, ◌==◌, ℕ, Bool, true, false, List, [], ◌∷◌, ◌++◌, length, take, drop, Option, Some, None, All, refl, sym, ◌∙◌, ap, subst, arith, length-append, option_map, cases_Bool, cases_eq, cond-true, cond-false, false≢true}
+use Rattle.store_core.proofs.Common.{All-head, All-tail, All-weaker, Files, FileState, DiskState, History, IfTold, SameButFor, IsImage, IsThere, MayLeave, reading, named, no_file, between-on, same_name, FileName, same_name-true, same_name-apart, named-narrows, BoxEntry, MapEntry, Lists, IsLogFile}
+use Rattle.store_core.proofs.Common.{MapRecord, MapBox, MapMeaning, map_meaning, equal_is, HasRoot, StoresMessage, LiesInFile, HasAll, SafeBy, Safe, files_of, IsSameRegion, HasSameRegion, HasSameInstance, AreAlike, IsSettled, CarryOver, CarriesOver, Opens, each_name, safe_carried, has_all_carried}
+use Rattle.store_core.proofs.Common.{map_along, kept_along, root_same, LeftBut, LeavesAsRead, log_as, mixed, mixed-here, mixed-other, others_carry, MailFile, end_in, IsAddedTo, IsAsKnown, StayThere}
+use Rattle.std.proofs.Common.{◌||◌}
 use Rattle.std.proofs.lemmas.List.{take-append-drop, take-append-le, drop-append-le, length-drop}
-use Rattle.std.proofs.lemmas.List.Elements.{All-head, All-tail, All-weaker}
-use Rattle.disk_model.specs.Disk.{Files, FileState, DiskState, History, IfTold, SameButFor, IsImage, IsThere, MayLeave, reading, named, no_file}
-use Rattle.disk_model.proofs.BetweenLemmas.{between-on}
-use Rattle.disk_model.specs.Name.{same_name}
-use Rattle.disk_model.specs.declared.name.FileName.{FileName}
 use Rattle.disk_model.specs.declared.name.FileName.TheVariants as file
-use Rattle.disk_model.proofs.NameLemmas.{same_name-true, same_name-apart}
-use Rattle.disk_model.proofs.OneFileLemmas.{named-narrows}
-use Rattle.mdbox_base.specs.declared.entries.BoxEntry.{BoxEntry}
-use Rattle.mdbox_base.specs.declared.entries.MapEntry.{MapEntry}
-use Rattle.model_lists.specs.Lists.{Lists}
-use Rattle.model_logs.specs.LogFile.{IsLogFile}
-use Rattle.model_meaning.specs.MapMeaning.{MapRecord, MapBox, MapMeaning, map_meaning}
-use Rattle.model_meaning.proofs.MapPlaceLemmas.{equal_is}
-use Rattle.model_store.specs.Stands.{HasRoot, StoresMessage}
-use Rattle.model_store.specs.Safe.{LiesInFile, HasAll, SafeBy, Safe}
-use Rattle.model_store.specs.Settled.{files_of, IsSameRegion, HasSameRegion, HasSameInstance, AreAlike, IsSettled}
-use Rattle.model_store.specs.Carrying.{HasSameEntries, CarryOver, CarriesOver}
-use Rattle.model_store.specs.Opening.{PassBoxes, Opens}
-use Rattle.model_store.proofs.CarryingLemmas.{each_name}
-use Rattle.model_store.proofs.SettledLemmas.{safe_carried, has_all_carried, log_along, map_along, kept_along}
-use Rattle.model_store.proofs.StandsLemmas.{root_same}
-use Rattle.model_appends.specs.Appending.{LeftBut, LeavesAsRead}
-use Rattle.model_appends.proofs.AppendFileLemmas.{log_as, mixed, mixed-here, mixed-other}
-use Rattle.model_appends.proofs.AppendSafeLemmas.{carries_alike, others_carry}
-use Rattle.storage_files.specs.declared.file.MailFile.{MailFile}
-use Rattle.storage_files.specs.Files.{end_in}
-use Rattle.storage_files.specs.OnDisk.{IsAddedTo, IsAsKnown}
-use Rattle.store_core.specs.Files.{StayThere}
+use Rattle.model_store.specs.Carrying.{HasSameEntries}
+use Rattle.model_store.specs.Opening.{PassBoxes}
+use Rattle.model_store.proofs.SettledLemmas.{log_along}
+use Rattle.model_appends.proofs.AppendSafeLemmas.{carries_alike}
 
 abbrev pub Own : DiskState → Type 0
 Own disk = IsImage disk (files_of disk)

@@ -1,34 +1,17 @@
 -- Storage files and instances stay at each moment of a call.
-use Rattle.std.specs.Prelude.{◌==◌, Contains}
-use Rattle.std.proofs.Common.{◌≡◌, ◌≢◌, ◌<◌, ◌≤◌, ◌+◌, ◌||◌, inl, inr, ℕ, Bool, true, false, List, take, Option, Some, None, All, refl, sym, ◌∙◌, ap, subst, arith}
-use Rattle.std.specs.Option.{option_map, option_map_or, option_and_then}
-use Rattle.std.proofs.lemmas.Bool.{cases_Bool, true≢false}
-use Rattle.std.proofs.lemmas.Option.{same_Some}
+use Rattle.store_core.proofs.Common.{Contains, ◌≡◌, ◌≢◌, ◌<◌, ◌≤◌, ◌+◌, inl, inr, ℕ, Bool, true, false, List, take, Option, Some, None, All, refl, sym, ◌∙◌, ap, subst, arith, option_map, option_map_or, option_and_then, cases_Bool, true≢false, same_Some, All-weaker, All-contains_itself, Files}
+use Rattle.store_core.proofs.Common.{FileState, History, EachImage, MayLeave, OthersStay, FileName, InstRow, Hash, MailIsKept, kept_beside, MapRecord, MapMeaning, is_sealed, found_holds, same_id, AreInstances, next_id, next_instance_file, KnownInstance, MailFile, AreFilesInOrder, file_in}
+use Rattle.store_core.proofs.Common.{is_doomed_in, is_emptied_in, end_in, is_taken_in, FrontStays, MayGrow, EndsBehind, LiesBelowEnd, AreElsewhere, IsStore, HasKnownInstances, IsKnownRow, StoreValue}
+use Rattle.std.specs.Prelude.{◌==◌}
+use Rattle.std.proofs.Common.{◌||◌}
 use Rattle.std.proofs.lemmas.List.{take-take}
-use Rattle.std.proofs.lemmas.List.Elements.{All-weaker, All-contains_itself}
-use Rattle.disk_model.specs.Disk.{Files, FileState, History, EachImage, MayLeave, OthersStay}
-use Rattle.disk_model.specs.declared.name.FileName.{FileName}
 use Rattle.disk_model.specs.declared.name.FileName.TheVariants as file
-use Rattle.mdbox_base.specs.declared.entries.InstRow.{InstRow}
-use Rattle.mdbox_base.specs.declared.ids.Hash.{Hash}
-use Rattle.model_kept.specs.Kept.{StaysTo, MailIsKept, IsUnknownTo}
-use Rattle.model_kept.proofs.KeptLemmas.{left_stays, kept_beside, kept_one}
-use Rattle.model_meaning.specs.MapMeaning.{MapRecord, MapMeaning, is_sealed}
-use Rattle.model_octets.proofs.PairLemmas.{found_holds}
-use Rattle.sis_store.proofs.IdLemmas.{same_id}
-use Rattle.sis_store.specs.Instances.{AreInstances, next_id}
-use Rattle.sis_store.specs.OnDisk.{next_instance_file}
-use Rattle.sis_store.specs.declared.instance.KnownInstance.{KnownInstance}
-use Rattle.storage_files.specs.declared.file.MailFile.{MailFile}
-use Rattle.storage_files.specs.Files.{AreFilesInOrder, IsUsedFile, file_in, is_doomed_in, is_emptied_in, end_in, is_taken_in, place_begun_in}
-use Rattle.storage_files.specs.OnDisk.{FrontStays, IsLeftAsBefore}
+use Rattle.model_kept.specs.Kept.{StaysTo, IsUnknownTo}
+use Rattle.model_kept.proofs.KeptLemmas.{left_stays, kept_one}
+use Rattle.storage_files.specs.Files.{IsUsedFile, place_begun_in}
+use Rattle.storage_files.specs.OnDisk.{IsLeftAsBefore}
 use Rattle.storage_files.proofs.KnownLemmas.{taken-there}
 use Rattle.storage_files.proofs.UseLemmas.{found-begun}
-use Rattle.store_core.specs.Files.{MayGrow, EndsBehind, LiesBelowEnd}
-use Rattle.store_core.specs.Removing.{AreElsewhere}
-use Rattle.store_core.specs.Running.{IsStore}
-use Rattle.store_core.specs.StoreInstances.{HasKnownInstances, IsKnownRow}
-use Rattle.store_core.specs.Value.{StoreValue}
 use Rattle.store_core.proofs.InstanceAppendLemmas.{of_known}
 use Rattle.store_core.proofs.KeptFileLemmas.{HasFile, file_there}
 use Rattle.store_core.proofs.PlacedInstanceLemmas.{all_parts, next_is_new}

@@ -1,41 +1,16 @@
 -- A store with one entry more in the map log.
-use Rattle.std.proofs.Common.{◌≡◌, ◌≢◌, ◌<◌, ◌≤◌, ◌+◌, ◌-◌, ◌^◌, ◌==◌, ℕ, true, false, List, [], ◌∷◌, ◌++◌, map, length, Option, Some, None, All, refl, sym, ◌∙◌, ap, subst, arith}
-use Rattle.std.specs.Prelude.{count_by, sum_by}
-use Rattle.std.proofs.lemmas.List.{map-append}
-use Rattle.std.proofs.lemmas.List.Elements.{All-nil, All-cons, All-weaker}
-use Rattle.disk_model.specs.Disk.{History, IfTold, SameButFor, reading}
+use Rattle.store_core.proofs.Common.{◌≡◌, ◌≢◌, ◌<◌, ◌≤◌, ◌+◌, ◌-◌, ◌^◌, ◌==◌, ℕ, true, false, List, [], ◌∷◌, ◌++◌, map, length, Option, Some, None, All, refl, sym, ◌∙◌, ap, subst, arith, count_by, sum_by, map-append, All-nil, All-cons, All-weaker, History, IfTold, SameButFor, reading, LogState}
+use Rattle.store_core.proofs.Common.{IsSameLog, Reads, BoxEntry, Highest, MapEntry, IsAccounted, HasOneMore, logs_made, stored_row, accounted_counted, map_text, box_text, MapInRange, map_more, BoxMeaning, MapFits, MapRecord, MapBox, MapMeaning, map_meaning, map_applied, record_at, record_made}
+use Rattle.store_core.proofs.Common.{IsSoundMap, root_same, AreGoodLogs, Opens, IsCounted, listed_of, LiesInFile, IsThereWhole, files_of, HasRoot, HasBox, number_beside, due_at, listed_at, leak_at, IsAppendable, NamesKnown, NamesFirst, drawn_by, AreBoxLogs, ReadBoxLogs, IsRunning, CoverDues}
+use Rattle.store_core.proofs.Common.{IsStore, HasEntryRoom, AreInstancesThere, HasKnownInstances, StoreValue, entry_room, OpenBox, LiesBelowEnd, StayThere, AreInstances, FilesValue, IsAsKnown, if_told-map}
 use Rattle.disk_model.specs.declared.name.FileName.TheVariants as file
-use Rattle.gate_log.specs.State.{LogState, IsSameLog}
-use Rattle.gate_log.specs.Log.{Reads}
 use Rattle.log_records.proofs.EntrySizeLemmas.{lowered_size, counted_size, stored_size}
-use Rattle.mdbox_base.specs.declared.entries.BoxEntry.{BoxEntry}
-use Rattle.mdbox_base.specs.declared.entries.Highest.{Highest}
-use Rattle.mdbox_base.specs.declared.entries.MapEntry.{MapEntry}
 use Rattle.mdbox_base.specs.declared.entries.MapEntry.TheVariants as entry
-use Rattle.model_appends.specs.Amounts.{IsAccounted, due_by, leak_by}
-use Rattle.model_appends.specs.Appending.{HasOneMore}
-use Rattle.model_appends.specs.MapAppending.{logs_made, stored_row}
-use Rattle.model_appends.proofs.AmountLemmas.{accounted_by_map_entry, accounted_counted}
+use Rattle.model_appends.specs.Amounts.{due_by, leak_by}
+use Rattle.model_appends.proofs.AmountLemmas.{accounted_by_map_entry}
 use Rattle.model_appends.proofs.AppendMapOpenLemmas.{good_by_map_entry, opens_by_map_entry}
-use Rattle.model_logs.specs.Entries.{map_text, box_text, MapInRange}
-use Rattle.model_meaning.proofs.MapLemmas.{map_more}
 use Rattle.model_meaning.proofs.MapSoundLemmas.{map_sound_more}
-use Rattle.model_meaning.specs.BoxMeaning.{BoxMeaning}
-use Rattle.model_meaning.specs.MapFits.{MapFits}
-use Rattle.model_meaning.specs.MapMeaning.{MapRecord, MapBox, MapMeaning, map_meaning, map_applied, record_at, record_made}
-use Rattle.model_meaning.specs.Sound.{IsSoundMap}
-use Rattle.model_store.proofs.StandsLemmas.{root_same}
-use Rattle.model_store.specs.GoodLogs.{AreGoodLogs}
-use Rattle.model_store.specs.Opening.{Opens, IsCounted, listed_of}
-use Rattle.model_store.specs.Safe.{LiesInFile, IsThereWhole}
-use Rattle.model_store.specs.Settled.{files_of}
-use Rattle.model_store.specs.Stands.{HasRoot, HasBox}
-use Rattle.store_core.specs.Dues.{number_beside, due_at, listed_at, leak_at}
-use Rattle.store_core.specs.MapAppend.{IsAppendable, HasDrawnNumbers, FitsDue, HasRegion, NamesKnown, NamesFirst, HasOctetIds, drawn_by, dues_with}
-use Rattle.store_core.specs.Running.{AreBoxLogs, ReadBoxLogs, IsRunning, CoverDues, IsStore, HasEntryRoom}
-use Rattle.store_core.specs.StoreInstances.{AreInstancesThere, HasKnownInstances}
-use Rattle.store_core.specs.Value.{StoreValue, entry_room}
-use Rattle.store_core.specs.declared.store.OpenBox.{OpenBox}
+use Rattle.store_core.specs.MapAppend.{HasDrawnNumbers, FitsDue, HasRegion, HasOctetIds, dues_with}
 use Rattle.store_core.proofs.BoxAppendLemmas.{dues_of, store_sound, disk_more, root_stays}
 use Rattle.store_core.proofs.DueLemmas.{OneEach, dues_each, listed_meant, covered_by, store_counts}
 use Rattle.store_core.proofs.DueChangeLemmas.{as_many, number_few}
@@ -45,11 +20,6 @@ use Rattle.store_core.proofs.InstanceNumberLemmas.{AreNumbersDrawn, numbers_draw
 use Rattle.store_core.proofs.PickingLemmas.{reads_other}
 use Rattle.store_core.proofs.EntryFileLemmas.{LeavesPlaces, kept_applied, stay_applied}
 use Rattle.store_core.proofs.MailChangeLemmas.{known_beside, stay_beside}
-use Rattle.store_core.specs.Files.{LiesBelowEnd, StayThere}
-use Rattle.sis_store.specs.Instances.{AreInstances}
-use Rattle.storage_files.specs.Files.{FilesValue}
-use Rattle.storage_files.specs.OnDisk.{IsAsKnown}
-use Rattle.disk_model.proofs.MomentLemmas.{if_told-map}
 
 -- ---- an entry for the map log
 

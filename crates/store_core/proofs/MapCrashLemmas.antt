@@ -1,45 +1,23 @@
 -- What a crash within an append to the map log leaves, what the append leaves of a settled disk, and what records store then.
-use Rattle.std.proofs.Common.{inl, inr, ◌≡◌, ℕ, List, [], ◌∷◌, ◌++◌, map, Option, Some, None, All, refl, sym, ◌∙◌, ap, subst, ◌⊎◌, append-nil}
+use Rattle.store_core.proofs.Common.{inl, inr, ◌≡◌, ℕ, List, [], ◌∷◌, ◌++◌, map, Option, Some, None, All, refl, sym, ◌∙◌, ap, subst, append-nil, All-nil, All-cons, All-head, All-weaker, Files, DiskState, History, IsImage, MayLeave, IfTold, OthersStay, SameButFor, Between, reading, FileName}
+use Rattle.store_core.proofs.Common.{each_image-map, LogState, IsSameLog, IsLogRead, IsLogHeld, Holds, IsLogWithOrWithout, BoxEntry, MapEntry, HasOneMore, LeftBut, LeavesAsRead, logs_made, stored_row, kept_as, map_stored, count_itself, same_record, same_log, more_log, safe_without}
+use Rattle.store_core.proofs.Common.{settled_by_map_append, Lists, empty_mailbox, map_text, MapInRange, IsLogFile, LogHead, map_more, MapFits, MapRecord, MapBox, MapMeaning, map_meaning, named_instances, record_changed, record_made, map_same, root_same, AreGoodLogs, Opens, LiesInFile, IsThereWhole}
+use Rattle.store_core.proofs.Common.{SafeBy, Safe, files_of, IsSettled, IsSettledFor, Leaves, HasSameRegion, HasSameInstance, StoresMessage, KnownInstance, AddsText, KeepsStored, IsAppendable, NamesKnown, NamesFirst, NamesFirm, IsFirmInstance, IsKnownRow, IsFirstKnown, AreInstancesThere, StoreValue}
+use Rattle.std.proofs.Common.{◌⊎◌}
 use Rattle.std.specs.Prelude.{◌≤◌}
-use Rattle.std.proofs.lemmas.List.Elements.{All-nil, All-cons, All-head, All-weaker}
-use Rattle.disk_model.specs.Disk.{Files, DiskState, History, IsImage, MayLeave, IfTold, OthersStay, SameButFor, Between, reading}
-use Rattle.disk_model.specs.declared.name.FileName.{FileName}
 use Rattle.disk_model.specs.declared.name.FileName.TheVariants as file
-use Rattle.disk_model.proofs.MomentLemmas.{each_image-map}
-use Rattle.gate_log.specs.State.{LogState, IsSameLog}
-use Rattle.gate_log.specs.Log.{IsLogRead, IsLogHeld, Holds, IsLogWithOrWithout}
-use Rattle.mdbox_base.specs.declared.entries.BoxEntry.{BoxEntry}
-use Rattle.mdbox_base.specs.declared.entries.MapEntry.{MapEntry}
 use Rattle.mdbox_base.specs.declared.entries.MapEntry.TheVariants as entry
-use Rattle.model_appends.specs.Appending.{HasOneMore, LeftBut, LeavesAsRead}
-use Rattle.model_appends.specs.MapAppending.{logs_made, lists_made, stored_row, IsMapAppend, AddsSynced, LeavesAlike}
+use Rattle.model_appends.specs.MapAppending.{lists_made, IsMapAppend, AddsSynced, LeavesAlike}
 use Rattle.model_appends.proofs.AppendCountLemmas.{counts_by_map_entry}
-use Rattle.model_appends.proofs.AppendFileLemmas.{SameStored, kept_as, map_stored, count_itself}
-use Rattle.model_appends.proofs.AppendMapOpenLemmas.{same_record}
-use Rattle.model_appends.proofs.AppendSafeLemmas.{same_log, more_log, safe_without}
-use Rattle.model_appends.proofs.AppendSafeMapLemmas.{counts_append, stored_append, counts_synced, leaves_added, safe_with_map_entry, settled_by_map_append}
+use Rattle.model_appends.proofs.AppendFileLemmas.{SameStored}
+use Rattle.model_appends.proofs.AppendSafeMapLemmas.{counts_append, stored_append, counts_synced, leaves_added, safe_with_map_entry}
 use Rattle.model_appends.proofs.HeldLogLemmas.{holds_map}
 use Rattle.model_attach.specs.Detached.{AreDetached}
-use Rattle.model_lists.specs.Lists.{Lists, refs_of, empty_mailbox}
-use Rattle.model_logs.specs.Entries.{map_text, MapInRange}
-use Rattle.model_logs.specs.LogFile.{IsLogFile}
-use Rattle.model_logs.specs.declared.log_head.LogHead.{LogHead}
+use Rattle.model_lists.specs.Lists.{refs_of}
 use Rattle.model_meaning.proofs.AppliedLemmas.{records_by_stored}
-use Rattle.model_meaning.proofs.MapLemmas.{map_more}
-use Rattle.model_meaning.specs.MapFits.{MapFits}
-use Rattle.model_meaning.specs.MapMeaning.{MapRecord, MapBox, MapMeaning, map_meaning, named_instances, record_changed, record_made, count_of}
-use Rattle.model_store.proofs.StandsLemmas.{map_same, root_same}
-use Rattle.model_store.specs.GoodLogs.{AreGoodLogs}
-use Rattle.model_store.specs.Opening.{Opens}
-use Rattle.model_store.specs.Safe.{LiesInFile, IsThereWhole, SafeBy, Safe}
-use Rattle.model_store.specs.Settled.{files_of, IsSettled, IsSettledFor, Leaves, HasSameRegion, HasSameInstance}
-use Rattle.model_store.specs.Stands.{KeepsDetached, StoresMessage}
-use Rattle.sis_store.specs.declared.instance.KnownInstance.{KnownInstance}
-use Rattle.store_core.specs.Append.{AddsText}
-use Rattle.store_core.specs.Dues.{KeepsStored}
-use Rattle.store_core.specs.MapAppend.{IsAppendable, NamesKnown, NamesFirst, NamesFirm, StoresDetached, IsOwnSave, IsReadyToStore}
-use Rattle.store_core.specs.StoreInstances.{IsFirmInstance, IsKnownRow, IsFirstKnown, AreInstancesThere}
-use Rattle.store_core.specs.Value.{StoreValue}
+use Rattle.model_meaning.specs.MapMeaning.{count_of}
+use Rattle.model_store.specs.Stands.{KeepsDetached}
+use Rattle.store_core.specs.MapAppend.{StoresDetached, IsOwnSave, IsReadyToStore}
 use Rattle.store_core.proofs.BoxAppendLemmas.{is_log, disk_more}
 use Rattle.store_core.proofs.BoxCrashLemmas.{ReadsImage}
 use Rattle.store_core.proofs.InstanceAppendLemmas.{KnowsNamed, NamesMore, of_known, of_named, left_firm, was_there, once_with}

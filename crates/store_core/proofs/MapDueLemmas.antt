@@ -1,36 +1,20 @@
 -- What an entry of the map log makes of records, and of what is due of each.
-use Rattle.std.proofs.Common.{◌≡◌, ◌==◌, ◌<◌, ◌≤◌, ◌+◌, ◌-◌, ℕ, Bool, true, false, cond, List, [], ◌∷◌, ◌++◌, map, fold, find, All, Option, Some, None, refl, sym, ◌∙◌, ap, subst, arith, append-nil}
-use Rattle.std.specs.Prelude.{AllPairs, ◌||◌, if◌then◌else◌}
-use Rattle.std.specs.Option.{option_map_or}
-use Rattle.std.proofs.lemmas.Bool.{cond-true, cond-false, ne_eqb, eq-eqb}
-use Rattle.std.proofs.lemmas.List.Elements.{All-head, All-tail, All-cons, All-nil, All-weaker, All-contains}
+use Rattle.store_core.proofs.Common.{◌≡◌, ◌==◌, ◌<◌, ◌≤◌, ◌+◌, ◌-◌, ℕ, Bool, true, false, cond, List, [], ◌∷◌, ◌++◌, map, find, All, Option, Some, None, refl, sym, ◌∙◌, ap, subst, arith, append-nil, AllPairs, ◌||◌, if◌then◌else◌, option_map_or, cond-true, cond-false, ne_eqb, eq-eqb, All-head}
+use Rattle.store_core.proofs.Common.{All-tail, All-cons, All-nil, All-weaker, All-contains, BoxEntry, Highest, InstRow, MapEntry, MapUid, IsAccounted, bit, logs_made, stored_row, same_record, MapFits, HasRecord, MapRecord, MapBox, MapMeaning, map_applied, record_at, record_changed, record_made}
+use Rattle.store_core.proofs.Common.{has_map_uid, IsSoundMap, IsSoundRecord, equal_is, pairs_head, pairs_tail, found_holds, found_one, listed_of, change_beside, number_beside, IsAppendable, drawn_by, IsUpTo}
+use Rattle.std.proofs.Common.{fold}
 use Rattle.std.proofs.lemmas.List.Kept.{AllPairs-from_increasing}
-use Rattle.mdbox_base.specs.declared.entries.BoxEntry.{BoxEntry}
-use Rattle.mdbox_base.specs.declared.entries.Highest.{Highest}
-use Rattle.mdbox_base.specs.declared.entries.InstRow.{InstRow}
 use Rattle.mdbox_base.specs.declared.entries.MapCount.{MapCount}
-use Rattle.mdbox_base.specs.declared.entries.MapEntry.{MapEntry}
 use Rattle.mdbox_base.specs.declared.entries.MapEntry.TheVariants as entry
-use Rattle.mdbox_base.specs.declared.ids.MapUid.{MapUid}
-use Rattle.model_appends.specs.Amounts.{IsAccounted, bit, due_by, leak_by, MayChange}
-use Rattle.model_appends.specs.MapAppending.{OnlyAdds, logs_made, stored_row}
+use Rattle.model_appends.specs.Amounts.{due_by, leak_by, MayChange}
+use Rattle.model_appends.specs.MapAppending.{OnlyAdds}
 use Rattle.model_appends.proofs.AppendFileLemmas.{SameButCount}
 use Rattle.model_appends.proofs.AppendMapLemmas.{find_changed, find_first}
-use Rattle.model_appends.proofs.AppendMapOpenLemmas.{same_record}
-use Rattle.model_meaning.specs.MapFits.{MapFits, HasRecord}
-use Rattle.model_meaning.specs.MapMeaning.{MapRecord, MapBox, MapMeaning, map_applied, record_at, record_changed, record_made, box_made, has_map_uid, numbers_of, higher, greatest, instance_number}
-use Rattle.model_meaning.specs.Sound.{IsSoundMap, IsSoundRecord}
+use Rattle.model_meaning.specs.MapMeaning.{box_made, numbers_of, higher, greatest, instance_number}
 use Rattle.model_meaning.proofs.AppliedLemmas.{records_by_stored, records_by_raised, records_by_lowered, records_by_counted, boxes_by_stored, boxes_by_raised, boxes_by_lowered, boxes_by_counted}
-use Rattle.model_meaning.proofs.MapPlaceLemmas.{equal_is}
 use Rattle.model_meaning.proofs.MapSoundLemmas.{greatest_fits}
-use Rattle.model_octets.proofs.PairLemmas.{pairs_head, pairs_tail, found_holds}
-use Rattle.model_octets.proofs.SearchLemmas.{found_one}
-use Rattle.model_store.specs.Opening.{listed_of}
-use Rattle.store_core.specs.Append.{change_beside}
-use Rattle.store_core.specs.Dues.{number_beside}
 use Rattle.store_core.proofs.InstanceNumberLemmas.{AreNumbersDrawn}
-use Rattle.store_core.specs.MapAppend.{IsAppendable, HasDrawnNumbers, FitsDue, drawn_by, dues_with}
-use Rattle.store_core.specs.Running.{IsUpTo}
+use Rattle.store_core.specs.MapAppend.{HasDrawnNumbers, FitsDue, dues_with}
 use Rattle.store_core.proofs.DueLemmas.{AreNumbers, OneEach, RecordsRise, at_own_place}
 use Rattle.store_core.proofs.DueChangeLemmas.{changed_beside, each_changed, raises, lowers, is_raise, is_lower, numbers_are, less_none}
 

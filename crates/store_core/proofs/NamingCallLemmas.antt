@@ -1,30 +1,12 @@
 -- A store that names a mailbox, by what the call has at hand.
-use Rattle.std.specs.Prelude.{AllPairs, not}
-use Rattle.std.proofs.Common.{◌≡◌, ◌≢◌, ◌≤◌, ◌+◌, ◌-◌, ◌==◌, ℕ, false, true, List, [], ◌∷◌, ◌++◌, find, map, slice_index_or, Option, Some, All, refl, sym, ◌∙◌, ap, subst, arith}
-use Rattle.std.specs.Prelude.{sum_by, count_by}
-use Rattle.std.proofs.lemmas.List.{map-append}
-use Rattle.std.proofs.lemmas.List.Elements.{All-nil, All-cons, All-append, All-filter}
+use Rattle.store_core.proofs.Common.{AllPairs, not, ◌≡◌, ◌≢◌, ◌≤◌, ◌+◌, ◌-◌, ◌==◌, ℕ, false, true, List, [], ◌∷◌, ◌++◌, find, map, slice_index_or, Option, Some, All, refl, sym, ◌∙◌, ap, subst, arith, sum_by, count_by, map-append, All-nil, All-cons, All-append, All-filter, History, SameButFor}
+use Rattle.store_core.proofs.Common.{LogState, IsSameLog, Reads, Holds, Highest, MapEntry, BoxNo, map_text, MapInRange, BoxMeaning, box_meaning, MapFits, MapBox, MapRecord, MapMeaning, map_applied, head_of, number_beside, HaveOtherNumbers, IsMadeLog, KeepsMadeLogs, has_made_log, without_box}
+use Rattle.store_core.proofs.Common.{IsStore, HasEntryRoom, StoreValue, indexes_of, entry_room, OpenBox}
 use Rattle.std.proofs.lemmas.List.Sums.{sum_by-append}
 use Rattle.std.proofs.lemmas.List.Kept.{AllPairs-filter}
-use Rattle.disk_model.specs.Disk.{History, SameButFor}
 use Rattle.disk_model.specs.declared.name.FileName.TheVariants as file
-use Rattle.gate_log.specs.State.{LogState, IsSameLog}
-use Rattle.gate_log.specs.Log.{Reads, Holds}
 use Rattle.mdbox_base.specs.Words.{IsName}
-use Rattle.mdbox_base.specs.declared.entries.Highest.{Highest}
-use Rattle.mdbox_base.specs.declared.entries.MapEntry.{MapEntry}
-use Rattle.mdbox_base.specs.declared.ids.BoxNo.{BoxNo}
-use Rattle.model_logs.specs.Entries.{map_text, MapInRange}
-use Rattle.model_meaning.specs.BoxMeaning.{BoxMeaning, box_meaning}
-use Rattle.model_meaning.specs.MapFits.{MapFits}
-use Rattle.model_meaning.specs.MapMeaning.{MapBox, MapRecord, MapMeaning, map_applied}
 use Rattle.model_logs.specs.declared.log_head.LogKind.TheVariants as kind
-use Rattle.model_store.specs.Stands.{head_of}
-use Rattle.store_core.specs.Dues.{number_beside}
-use Rattle.store_core.specs.MadeLogs.{HaveOtherNumbers, IsMadeLog, KeepsMadeLogs, has_made_log, without_box}
-use Rattle.store_core.specs.Running.{IsStore, HasEntryRoom}
-use Rattle.store_core.specs.Value.{StoreValue, indexes_of, entry_room}
-use Rattle.store_core.specs.declared.store.OpenBox.{OpenBox}
 use Rattle.store_core.proofs.MadeLogLemmas.{IsHeldBy, apart_from, held_beside, others_left, find_made, found_made}
 use Rattle.store_core.proofs.MapAppendLemmas.{prepared, prepared_store}
 use Rattle.store_core.proofs.NamingLemmas.{naming, box_named, CanName, one_box_more, store_named}

@@ -1,52 +1,19 @@
 -- A store with one entry more in the map log, which names a mailbox whose log was made.
-use Rattle.std.specs.Prelude.{◌⊎◌}
-use Rattle.std.proofs.Common.{inl, inr, ◌≡◌, ◌≢◌, ◌≤◌, ℕ, false, List, [], ◌∷◌, ◌++◌, map, length, Option, Some, None, All, refl, sym, ◌∙◌, ap, subst, arith}
-use Rattle.std.proofs.lemmas.List.{map-append}
-use Rattle.std.proofs.lemmas.List.Elements.{All-nil, All-cons}
-use Rattle.disk_model.specs.Disk.{Files, DiskState, History, MayLeave, IfTold, OthersStay, SameButFor, reading}
-use Rattle.disk_model.specs.declared.name.FileName.{FileName}
+use Rattle.store_core.proofs.Common.{◌⊎◌, inl, inr, ◌≡◌, ◌≢◌, ◌≤◌, ℕ, false, List, [], ◌∷◌, ◌++◌, map, length, Option, Some, None, All, refl, sym, ◌∙◌, ap, subst, arith, map-append, All-nil, All-cons, Files, DiskState, History, MayLeave, IfTold, OthersStay, SameButFor, reading, FileName}
+use Rattle.store_core.proofs.Common.{each_image-map, if_told-map, LogState, IsSameLog, IsLogRead, IsLogHeld, Reads, Holds, IsLogWithOrWithout, BoxEntry, Highest, MapEntry, BoxNo, IsAccounted, HasOneMore, LeftBut, logs_made, accounted_counted, kept_as, map_stored, count_itself, same_log, more_log}
+use Rattle.store_core.proofs.Common.{safe_without, settled_by_map_append, Lists, empty_mailbox, map_text, MapInRange, IsLogFile, LogHead, map_more, BoxMeaning, box_meaning, MapFits, MapRecord, MapBox, MapMeaning, map_meaning, map_applied, map_same, root_same, AreGoodLogs, Opens, IsCounted}
+use Rattle.store_core.proofs.Common.{listed_of, LiesInFile, IsThereWhole, Safe, files_of, IsSettled, IsSettledFor, Leaves, HasSameRegion, HasSameInstance, head_of, HasBox, AddsText, KeepsStored, leak_at, LiesBelowEnd, IsMadeLog, AreBoxLogs, ReadBoxLogs, IsRunning, CoverDues, IsUpTo, IsStore}
+use Rattle.store_core.proofs.Common.{StoreValue, OpenBox}
 use Rattle.disk_model.specs.declared.name.FileName.TheVariants as file
-use Rattle.disk_model.proofs.MomentLemmas.{each_image-map, if_told-map}
-use Rattle.gate_log.specs.State.{LogState, IsSameLog}
-use Rattle.gate_log.specs.Log.{IsLogRead, IsLogHeld, Reads, Holds, IsLogWithOrWithout}
-use Rattle.mdbox_base.specs.declared.entries.BoxEntry.{BoxEntry}
-use Rattle.mdbox_base.specs.declared.entries.Highest.{Highest}
-use Rattle.mdbox_base.specs.declared.entries.MapEntry.{MapEntry}
 use Rattle.mdbox_base.specs.declared.entries.MapEntry.TheVariants as entry
-use Rattle.mdbox_base.specs.declared.ids.BoxNo.{BoxNo}
 use Rattle.mdbox_base.specs.Words.{IsName}
-use Rattle.model_appends.specs.Amounts.{IsAccounted}
-use Rattle.model_appends.specs.Appending.{HasOneMore, LeftBut}
-use Rattle.model_appends.specs.MapAppending.{logs_made, IsMapAppend, AddsSynced, LeavesAlike}
-use Rattle.model_appends.proofs.AmountLemmas.{accounted_by_map_entry, accounted_counted, listed_made}
-use Rattle.model_appends.proofs.AppendFileLemmas.{kept_as, map_stored, count_itself}
+use Rattle.model_appends.specs.MapAppending.{IsMapAppend, AddsSynced, LeavesAlike}
+use Rattle.model_appends.proofs.AmountLemmas.{accounted_by_map_entry, listed_made}
 use Rattle.model_appends.proofs.AppendMapOpenLemmas.{good_by_map_entry, opens_by_map_entry}
-use Rattle.model_appends.proofs.AppendSafeLemmas.{same_log, more_log, safe_without}
-use Rattle.model_appends.proofs.AppendSafeMapLemmas.{made_append, leaves_added, safe_with_map_entry, settled_by_map_append}
-use Rattle.model_lists.specs.Lists.{Lists, empty_mailbox}
-use Rattle.model_logs.specs.Entries.{map_text, MapInRange}
-use Rattle.model_logs.specs.LogFile.{IsLogFile}
-use Rattle.model_logs.specs.declared.log_head.LogHead.{LogHead}
+use Rattle.model_appends.proofs.AppendSafeMapLemmas.{made_append, leaves_added, safe_with_map_entry}
 use Rattle.model_logs.specs.declared.log_head.LogKind.TheVariants as kind
 use Rattle.model_meaning.proofs.AppliedLemmas.{records_by_mailbox, boxes_by_mailbox}
-use Rattle.model_meaning.proofs.MapLemmas.{map_more}
-use Rattle.model_meaning.specs.BoxMeaning.{BoxMeaning, box_meaning}
-use Rattle.model_meaning.specs.MapFits.{MapFits}
-use Rattle.model_meaning.specs.MapMeaning.{MapRecord, MapBox, MapMeaning, map_meaning, map_applied}
 use Rattle.model_store.proofs.SettledLemmas.{log_in}
-use Rattle.model_store.proofs.StandsLemmas.{map_same, root_same}
-use Rattle.model_store.specs.GoodLogs.{AreGoodLogs}
-use Rattle.model_store.specs.Opening.{Opens, IsCounted, listed_of}
-use Rattle.model_store.specs.Safe.{LiesInFile, IsThereWhole, Safe}
-use Rattle.model_store.specs.Settled.{files_of, IsSettled, IsSettledFor, Leaves, HasSameRegion, HasSameInstance}
-use Rattle.model_store.specs.Stands.{head_of, HasBox}
-use Rattle.store_core.specs.Append.{AddsText}
-use Rattle.store_core.specs.Dues.{KeepsStored, leak_at}
-use Rattle.store_core.specs.Files.{LiesBelowEnd}
-use Rattle.store_core.specs.MadeLogs.{IsMadeLog}
-use Rattle.store_core.specs.Running.{AreBoxLogs, ReadBoxLogs, IsRunning, CoverDues, IsUpTo, IsStore}
-use Rattle.store_core.specs.Value.{StoreValue}
-use Rattle.store_core.specs.declared.store.OpenBox.{OpenBox}
 use Rattle.store_core.proofs.BoxAppendLemmas.{dues_of, store_sound, is_log, disk_more, root_stays}
 use Rattle.store_core.proofs.BoxCrashLemmas.{ReadsImage}
 use Rattle.store_core.proofs.DueLemmas.{store_counts}

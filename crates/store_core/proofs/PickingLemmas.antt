@@ -1,28 +1,11 @@
 -- The open mailbox at a place, and another in its stead.
-use Rattle.std.proofs.Common.{◌≡◌, ◌≢◌, ◌<◌, ◌≤◌, ℕ, zero, suc, Bool, cond, List, [], ◌∷◌, ◌++◌, map, length, slice_index_or, slice_set, Option, Some, None, All, refl, sym, ◌∙◌, ap, subst, arith}
-use Rattle.std.specs.Prelude.{AllPairs, Contains}
+use Rattle.store_core.proofs.Common.{◌≡◌, ◌≢◌, ◌<◌, ◌≤◌, ℕ, zero, suc, Bool, cond, List, [], ◌∷◌, ◌++◌, map, length, slice_index_or, slice_set, Option, Some, None, All, refl, sym, ◌∙◌, ap, subst, arith, AllPairs, Contains, ne_eqb, eq-eqb, All-head, All-tail, All-cons, All-contains}
+use Rattle.store_core.proofs.Common.{All-contains_itself, Files, History, SameButFor, reading, FileName, BoxEntry, BoxMeaning, rows_after, box_meaning, box_applied, MapBox, MapMeaning, box_text, head_of, HasBox, meaning_numbered, HasItsRecord, pairs_head, pairs_tail, logs_by, meanings_by, LogState}
+use Rattle.store_core.proofs.Common.{Reads, IsSameBox, indexes_of, AreBoxLogs, ReadBoxLogs, OpenBox}
 use Rattle.std.specs.List.{AllByRecursion}
-use Rattle.std.proofs.lemmas.Bool.{ne_eqb, eq-eqb}
-use Rattle.std.proofs.lemmas.List.Elements.{All-head, All-tail, All-cons, All-contains, All-contains_itself}
-use Rattle.disk_model.specs.Disk.{Files, History, SameButFor, reading}
-use Rattle.disk_model.specs.declared.name.FileName.{FileName}
 use Rattle.disk_model.specs.declared.name.FileName.TheVariants as file
 use Rattle.model_logs.specs.declared.log_head.LogKind.TheVariants as kind
-use Rattle.mdbox_base.specs.declared.entries.BoxEntry.{BoxEntry}
-use Rattle.model_meaning.specs.BoxMeaning.{BoxMeaning, rows_after, box_meaning, box_applied}
-use Rattle.model_meaning.specs.MapMeaning.{MapBox, MapMeaning}
-use Rattle.model_logs.specs.Entries.{box_text}
-use Rattle.model_store.specs.Stands.{head_of, HasBox}
-use Rattle.model_store.specs.Listing.{meaning_numbered}
-use Rattle.model_store.specs.Opening.{AreBoxEntries, HasItsRecord, PassBoxes}
-use Rattle.model_octets.proofs.PairLemmas.{pairs_head, pairs_tail}
-use Rattle.model_appends.specs.Appending.{logs_by, meanings_by}
-use Rattle.gate_log.specs.State.{LogState}
-use Rattle.gate_log.specs.Log.{Reads}
-use Rattle.store_core.specs.Append.{IsSameBox}
-use Rattle.store_core.specs.Value.{indexes_of}
-use Rattle.store_core.specs.Running.{AreBoxLogs, ReadBoxLogs}
-use Rattle.store_core.specs.declared.store.OpenBox.{OpenBox}
+use Rattle.model_store.specs.Opening.{AreBoxEntries, PassBoxes}
 
 abbrev pub Rising : MapBox → MapBox → Type 0
 Rising x y = x.number < y.number

@@ -1,25 +1,11 @@
 -- A store to whose storage file a piece was added, or of which a placing was ended: what is settled, and what no crash takes away.
-use Rattle.std.specs.Prelude.{◌⊎◌}
-use Rattle.std.specs.List.{list_any}
-use Rattle.std.proofs.Common.{inl, inr, ◌≡◌, ◌≢◌, ◌≤◌, ◌+◌, ◌==◌, ℕ, true, false, List, ◌++◌, length, take, drop, Option, Some, None, refl, sym, ◌∙◌, ap, subst, arith, length-append}
-use Rattle.std.specs.Option.{option_map}
-use Rattle.std.proofs.lemmas.Bool.{cases_eq, cond-true}
-use Rattle.disk_model.specs.Disk.{Files, FileState, DiskState, History, IsThere, IfTold, Between, SameButFor, EachImage, OthersStay, MayLeave, reading}
-use Rattle.disk_model.specs.declared.name.FileName.{FileName}
+use Rattle.store_core.proofs.Common.{◌⊎◌, list_any, inl, inr, ◌≡◌, ◌≢◌, ◌≤◌, ◌+◌, ◌==◌, ℕ, true, false, List, ◌++◌, length, take, drop, Option, Some, None, refl, sym, ◌∙◌, ap, subst, arith, length-append, option_map, cases_eq, cond-true, Files, FileState, DiskState, History, IsThere, IfTold}
+use Rattle.store_core.proofs.Common.{Between, SameButFor, EachImage, OthersStay, MayLeave, reading, FileName, reads_there, each_image-map, Lists, MapRecord, Safe, files_of, IsSameRegion, IsSettledFor, Leaves, mixed, mixed-here, MailFile, FilesValue, end_in, changed_in, ending_at, IsAsKnown}
+use Rattle.store_core.proofs.Common.{FrontStays, MayGrow, StayThere, StoreValue, IsStore}
 use Rattle.disk_model.specs.declared.name.FileName.TheVariants as file
-use Rattle.disk_model.proofs.FirmLemmas.{reads_there}
-use Rattle.disk_model.proofs.MomentLemmas.{each_image-map, since-now}
-use Rattle.model_lists.specs.Lists.{Lists}
-use Rattle.model_meaning.specs.MapMeaning.{MapRecord}
-use Rattle.model_store.specs.Safe.{Safe}
-use Rattle.model_store.specs.Settled.{files_of, IsSameRegion, IsSettledFor, Leaves}
-use Rattle.model_appends.proofs.AppendFileLemmas.{mixed, mixed-here}
-use Rattle.storage_files.specs.declared.file.MailFile.{MailFile}
-use Rattle.storage_files.specs.Files.{FilesValue, end_in, changed_in, ending_at, placing_ended}
-use Rattle.storage_files.specs.OnDisk.{IsAsKnown, FrontStays, IsPieceAdded, IsSyncedFile, IsLeftAsBefore}
-use Rattle.store_core.specs.Files.{MayGrow, StayThere}
-use Rattle.store_core.specs.Value.{StoreValue}
-use Rattle.store_core.specs.Running.{IsStore}
+use Rattle.disk_model.proofs.MomentLemmas.{since-now}
+use Rattle.storage_files.specs.Files.{placing_ended}
+use Rattle.storage_files.specs.OnDisk.{IsPieceAdded, IsSyncedFile, IsLeftAsBefore}
 use Rattle.store_core.proofs.KeptFileLemmas.{with_change, CameAll, came_longer, came_changed, grew, pins_kept, kept_on}
 use Rattle.store_core.proofs.MailChangeLemmas.{Own, MailChange, left_image, region_grown, region_nowhere, region_untaken, part_behind, mail_safe, regions_left}
 use Rattle.store_core.proofs.StoreFileLemmas.{store_on}

@@ -1,63 +1,24 @@
 -- Disks on which an instance was made that no file was before: what they read, what a crash leaves, and what a store makes of it.
-use Rattle.std.specs.Prelude.{◌⊎◌, ◌&&◌, Contains, filter}
-use Rattle.std.specs.Str.{bytes_eq}
-use Rattle.std.proofs.Common.{inl, inr, ◌≡◌, ◌≢◌, ◌<◌, ◌≤◌, ◌+◌, ◌==◌, ℕ, Bool, true, false, List, [], ◌∷◌, ◌++◌, map, flat_map, get_or, length, Option, Some, None, All, cond, refl, sym, ◌∙◌, ap, subst, arith}
-use Rattle.std.specs.Option.{option_map}
-use Rattle.std.specs.Ordering.{nat_cmp, is_lt}
-use Rattle.std.specs.Cmp.Lexicographic.{slice_cmp}
+use Rattle.store_core.proofs.Common.{◌⊎◌, ◌&&◌, Contains, filter, bytes_eq, inl, inr, ◌≡◌, ◌≢◌, ◌<◌, ◌≤◌, ◌+◌, ◌==◌, ℕ, Bool, true, false, List, [], ◌∷◌, ◌++◌, map, get_or, length, Option, Some, None, All, cond, refl, sym, ◌∙◌, ap, subst, arith, option_map, nat_cmp, slice_cmp, Less, cases_eq}
+use Rattle.store_core.proofs.Common.{cond-true, true≢false, nat_tests, bytes_eq-Decides, All-nil, All-cons, All-head, All-tail, All-append, All-filter, All-contains, All-weaker, Files, FileState, DiskState, History, IsImage, IsThere, IfTold, Between, EachImage, OthersStay, Keeps, MayLeave, reading}
+use Rattle.store_core.proofs.Common.{named, same_name, FileName, between-map, between-on, each_image-map, if_told-map, same_name-true, same_name-apart, named-narrows, LogState, IsLogRead, Reads, BoxEntry, Highest, InstRow, MapEntry, Hash, InstId, Lists, box_text, map_text, MapRecord, MapBox}
+use Rattle.store_core.proofs.Common.{MapMeaning, map_meaning, named_instances, CarryOver, CarriesOver, Opens, LiesInFile, IsThereWhole, HasAll, SafeBy, Safe, files_of, IsSameRegion, HasSameRegion, HasSameInstance, AreAlike, IsSettled, IsSettledFor, Leaves, HasRoot, StoresMessage, each_name}
+use Rattle.store_core.proofs.Common.{safe_carried, has_all_carried, map_along, kept_along, root_same, LeftBut, log_as, mixed, mixed-other, others_carry, turned, same_id, instance-in, found-among, InstancesValue, AreInstances, HasDrawnNumber, after_placing, instance_in, instance_placed, is_of_kind}
+use Rattle.store_core.proofs.Common.{next_id, with_instance, IsUnlikeKnown, instance_file, next_instance_file, KnownInstance, end_in, MailFile, KeepsStored, StayThere, AreBoxLogs, ReadBoxLogs, HasEntryRoom, IsStore, IsOtherThan, IsFirmInstance, IsKnownRow, AreInstancesFirm, AreInstancesThere}
+use Rattle.store_core.proofs.Common.{HasKnownInstances, StoreValue, OpenBox}
+use Rattle.std.proofs.Common.{flat_map}
+use Rattle.std.specs.Ordering.{is_lt}
 use Rattle.std.specs.declared.cmp.Ordering.{Ordering}
-use Rattle.std.specs.declared.cmp.Ordering.TheVariants.{Less, Equal, Greater}
-use Rattle.std.proofs.lemmas.Bool.{cases_eq, cond-true, true≢false}
-use Rattle.std.proofs.lemmas.Bool.Decides.{nat_tests}
-use Rattle.std.proofs.lemmas.Slice.Eq.{bytes_eq-Decides}
-use Rattle.std.proofs.lemmas.List.Elements.{All-nil, All-cons, All-head, All-tail, All-append, All-filter, All-contains, All-weaker, Contains-append_left, Contains-append_right}
-use Rattle.disk_model.specs.Disk.{Files, FileState, DiskState, History, IsImage, IsThere, IfTold, Between, EachImage, OthersStay, Keeps, MayLeave, reading, named}
-use Rattle.disk_model.specs.Name.{same_name}
-use Rattle.disk_model.specs.declared.name.FileName.{FileName}
+use Rattle.std.specs.declared.cmp.Ordering.TheVariants.{Equal, Greater}
+use Rattle.std.proofs.lemmas.List.Elements.{Contains-append_left, Contains-append_right}
 use Rattle.disk_model.specs.declared.name.FileName.TheVariants as file
-use Rattle.disk_model.proofs.BetweenLemmas.{between-map, between-on}
-use Rattle.disk_model.proofs.MomentLemmas.{each_image-map, if_told-map}
-use Rattle.disk_model.proofs.NameLemmas.{same_name-true, same_name-apart}
-use Rattle.disk_model.proofs.OneFileLemmas.{named-narrows}
-use Rattle.gate_log.specs.State.{LogState}
-use Rattle.gate_log.specs.Log.{IsLogRead, Reads}
-use Rattle.mdbox_base.specs.declared.entries.BoxEntry.{BoxEntry}
-use Rattle.mdbox_base.specs.declared.entries.Highest.{Highest}
-use Rattle.mdbox_base.specs.declared.entries.InstRow.{InstRow}
-use Rattle.mdbox_base.specs.declared.entries.MapEntry.{MapEntry}
-use Rattle.mdbox_base.specs.declared.ids.Hash.{Hash}
-use Rattle.mdbox_base.specs.declared.ids.InstId.{InstId}
-use Rattle.model_lists.specs.Lists.{Lists}
-use Rattle.model_logs.specs.Entries.{box_text, map_text}
-use Rattle.model_meaning.specs.MapMeaning.{MapRecord, MapBox, MapMeaning, map_meaning, named_instances}
-use Rattle.model_store.specs.Carrying.{CarryOver, CarriesOver}
-use Rattle.model_store.specs.Opening.{Opens}
-use Rattle.model_store.specs.Safe.{LiesInFile, IsThereWhole, HasAll, SafeBy, Safe}
-use Rattle.model_store.specs.Settled.{files_of, IsSameRegion, HasSameRegion, HasSameInstance, AreAlike, IsSettled, IsSettledFor, Leaves}
-use Rattle.model_store.specs.Stands.{HasRoot, HasInstances, StoresMessage}
-use Rattle.model_store.proofs.CarryingLemmas.{each_name}
-use Rattle.model_store.proofs.SettledLemmas.{safe_carried, has_all_carried, map_along, kept_along}
-use Rattle.model_store.proofs.StandsLemmas.{root_same}
-use Rattle.model_appends.specs.Appending.{LeftBut}
-use Rattle.model_appends.proofs.AppendFileLemmas.{log_as, mixed, mixed-other}
-use Rattle.model_appends.proofs.AppendSafeLemmas.{others_carry}
-use Rattle.sis_store.proofs.IdLemmas.{turned, same_octets, same_id, instance-in}
-use Rattle.sis_store.proofs.KeysLemmas.{found-among}
-use Rattle.sis_store.specs.Instances.{InstancesValue, AreInstances, HasDrawnNumber, after_placing, instance_in, instance_placed, is_of_kind, next_id, with_instance}
-use Rattle.sis_store.specs.OnDisk.{IsUnlikeKnown, OnlyNamesSynced, instance_file, next_instance_file}
+use Rattle.model_store.specs.Stands.{HasInstances}
+use Rattle.sis_store.proofs.IdLemmas.{same_octets}
+use Rattle.sis_store.specs.OnDisk.{OnlyNamesSynced}
 use Rattle.sis_store.specs.Refusals.{IsPlaceError}
 use Rattle.sis_store.specs.declared.error.PlaceFault.TheVariants as fault
-use Rattle.sis_store.specs.declared.instance.KnownInstance.{KnownInstance}
-use Rattle.storage_files.specs.Files.{end_in}
-use Rattle.storage_files.specs.declared.file.MailFile.{MailFile}
-use Rattle.store_core.specs.Dues.{KeepsStored}
-use Rattle.store_core.specs.Files.{StayThere}
 use Rattle.store_core.specs.PlaceStops.{IsPlaceStop}
-use Rattle.store_core.specs.Running.{AreBoxLogs, ReadBoxLogs, HasEntryRoom, IsStore}
-use Rattle.store_core.specs.StoreInstances.{IsOtherThan, IsFirmInstance, IsKnownRow, AreInstancesFirm, AreInstancesThere, HasKnownInstances}
-use Rattle.store_core.specs.Value.{StoreValue}
 use Rattle.store_core.specs.declared.error.PlaceStop.TheVariants as stop
-use Rattle.store_core.specs.declared.store.OpenBox.{OpenBox}
 use Rattle.store_core.proofs.InstanceAppendLemmas.{of_known}
 use Rattle.store_core.proofs.MailChangeLemmas.{Own, boxes_pass, same_entries, left_image, named_reads}
 use Rattle.store_core.proofs.StoreFileLemmas.{named_there}

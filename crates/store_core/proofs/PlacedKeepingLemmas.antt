@@ -1,24 +1,12 @@
 -- What the placing of an instance leaves to a task that compares instances, or has found some; and the one that is placed is found.
-use Rattle.std.specs.Option.{option_map}
-use Rattle.std.proofs.Common.{◌≡◌, ◌≢◌, ℕ, ◌+◌, ◌<◌, true, List, length, Option, Some, None, All, refl, sym, ◌∙◌, ap, subst, arith}
-use Rattle.std.proofs.lemmas.List.Elements.{All-weaker}
-use Rattle.disk_model.specs.Disk.{DiskState, History, Between, IfTold, Keeps, reading}
-use Rattle.disk_model.proofs.BetweenLemmas.{between-map}
-use Rattle.mdbox_base.specs.declared.entries.InstRow.{InstRow}
-use Rattle.mdbox_base.specs.declared.ids.Hash.{Hash}
-use Rattle.mdbox_base.specs.declared.ids.InstId.{InstId}
-use Rattle.model_meaning.specs.MapMeaning.{MapMeaning, named_instances}
-use Rattle.model_store.specs.Safe.{IsThereWhole}
-use Rattle.model_store.specs.Settled.{files_of}
+use Rattle.store_core.proofs.Common.{option_map, ◌≡◌, ◌≢◌, ℕ, ◌+◌, ◌<◌, true, List, length, Option, Some, None, All, refl, sym, ◌∙◌, ap, subst, arith, All-weaker, DiskState, History, Between, IfTold, Keeps, reading, between-map, InstRow, Hash, InstId, MapMeaning, named_instances, IsThereWhole}
+use Rattle.store_core.proofs.Common.{files_of, InstancesValue, AreInstances, after_placing, instance_placed, is_of_kind, next_id, with_instance, IsUnlikeKnown, instance_file, next_instance_file, KnownInstance, instance-in, AreInstancesFirm, AreInstancesThere, IsFirstKnown, IsKnownRow, IsOtherThan}
+use Rattle.store_core.proofs.Common.{StoreValue}
 use Rattle.sis_store.specs.Comparing.{IsUnlikeCompared}
-use Rattle.sis_store.specs.Instances.{InstancesValue, AreInstances, after_placing, instance_placed, is_of_kind, next_id, with_instance}
-use Rattle.sis_store.specs.OnDisk.{IsUnlikeKnown, instance_file, next_instance_file}
-use Rattle.sis_store.specs.declared.instance.KnownInstance.{KnownInstance}
 use Rattle.sis_store.proofs.CandidateLemmas.{compared_placed}
-use Rattle.sis_store.proofs.IdLemmas.{all-with, instance-in, not_before_itself}
+use Rattle.sis_store.proofs.IdLemmas.{all-with, not_before_itself}
 use Rattle.store_core.specs.Keeping.{KeepsInstances}
-use Rattle.store_core.specs.StoreInstances.{AreInstancesFirm, AreInstancesThere, IsFirstKnown, IsFirstWith, IsKnownRow, IsOtherThan}
-use Rattle.store_core.specs.Value.{StoreValue}
+use Rattle.store_core.specs.StoreInstances.{IsFirstWith}
 use Rattle.store_core.proofs.InstanceAppendLemmas.{of_known}
 use Rattle.store_core.proofs.PlacedInstanceLemmas.{FileMade, IsUnlike, apart_read, firm_placed, kind_turned, new_known, reads_made, row_placed}
 

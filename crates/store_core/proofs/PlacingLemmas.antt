@@ -1,36 +1,19 @@
 -- The mailbox at the place that was found, and what is due with the entry.
-use Rattle.std.proofs.Common.{◌≡◌, ◌≢◌, ◌<◌, ◌≤◌, ◌+◌, ◌-◌, ◌^◌, ◌==◌, ℕ, zero, suc, Bool, true, false, cond, List, [], ◌∷◌, map, length, slice_get, slice_index_or, slice_set, Option, Some, None, All, refl, sym, ◌∙◌, ap, subst, arith}
-use Rattle.std.specs.Prelude.{AllPairs, Contains, count_by, sum_by, ◌||◌}
-use Rattle.std.specs.Option.{option_map, option_map_or}
-use Rattle.std.proofs.lemmas.Option.{slice_get-get_or}
+use Rattle.store_core.proofs.Common.{◌≡◌, ◌≢◌, ◌<◌, ◌≤◌, ◌+◌, ◌-◌, ◌^◌, ◌==◌, ℕ, zero, suc, Bool, true, false, cond, List, [], ◌∷◌, map, length, slice_get, slice_index_or, slice_set, Option, Some, None, All, refl, sym, ◌∙◌, ap, subst, arith, AllPairs, Contains, count_by, sum_by, ◌||◌, option_map}
+use Rattle.store_core.proofs.Common.{option_map_or, slice_get-get_or, ne_eqb, eq-eqb, All-head, All-tail, All-contains, History, MapUid, BoxEntry, box_text, BoxInRange, found_one, LogRow, BoxMeaning, row_made, rows_after, box_meaning, box_applied, MapRecord, MapBox, MapMeaning, map_meaning}
+use Rattle.store_core.proofs.Common.{record_at, has_map_uid, equal_is, meaning_numbered, HasItsRecord, listed_of, bit, due_by_box, logs_by, meanings_by, pairs_head, pairs_tail, Reads, due_change_of, change_beside, dues_by, number_beside, due_at, listed_at, leak_at, StoreValue, indexes_of}
+use Rattle.store_core.proofs.Common.{list_numbered, entry_room, AreBoxLogs, CoverDues, IsStore, HasEntryRoom, OpenBox}
 use Rattle.std.proofs.lemmas.List.{get_or_default}
-use Rattle.std.proofs.lemmas.Bool.{ne_eqb, eq-eqb}
-use Rattle.std.proofs.lemmas.List.Elements.{All-head, All-tail, All-contains}
-use Rattle.disk_model.specs.Disk.{History}
-use Rattle.mdbox_base.specs.declared.ids.MapUid.{MapUid}
-use Rattle.mdbox_base.specs.declared.entries.BoxEntry.{BoxEntry}
 use Rattle.mdbox_base.specs.declared.entries.BoxEntry.TheVariants as entry
-use Rattle.model_logs.specs.Entries.{box_text, BoxInRange}
-use Rattle.model_octets.proofs.SearchLemmas.{found_one}
-use Rattle.model_meaning.specs.BoxMeaning.{LogRow, BoxMeaning, row_made, rows_after, row_at, box_meaning, box_applied, BoxFits}
-use Rattle.model_meaning.specs.MapMeaning.{MapRecord, MapBox, MapMeaning, map_meaning, record_at, has_map_uid}
+use Rattle.model_meaning.specs.BoxMeaning.{row_at, BoxFits}
 use Rattle.model_meaning.proofs.BoxSoundLemmas.{box_sound}
-use Rattle.model_meaning.proofs.MapPlaceLemmas.{equal_is}
-use Rattle.model_store.specs.Listing.{meaning_numbered}
-use Rattle.model_store.specs.Opening.{AreBoxEntries, HasItsRecord, listed_of}
-use Rattle.model_appends.specs.Amounts.{bit, more_due, due_by_box, HoldsAdded}
-use Rattle.model_appends.specs.Appending.{logs_by, meanings_by}
+use Rattle.model_store.specs.Opening.{AreBoxEntries}
+use Rattle.model_appends.specs.Amounts.{more_due, HoldsAdded}
 use Rattle.model_appends.proofs.AmountLemmas.{listed_removed, listed_added, listed_next}
 use Rattle.model_appends.proofs.AppendOpenLemmas.{listed_flagged, meanings_more}
-use Rattle.model_octets.proofs.PairLemmas.{pairs_head, pairs_tail}
-use Rattle.gate_log.specs.Log.{Reads}
-use Rattle.store_core.specs.Append.{FitsBox, due_change_of, change_beside, dues_by}
-use Rattle.store_core.specs.Dues.{number_beside, due_at, listed_at, leak_at}
-use Rattle.store_core.specs.Value.{StoreValue, indexes_of, list_numbered, entry_room}
-use Rattle.store_core.specs.Running.{AreBoxLogs, CoverDues, IsStore, HasEntryRoom}
+use Rattle.store_core.specs.Append.{FitsBox}
 use Rattle.store_core.specs.declared.due.DueChange.{DueChange}
 use Rattle.store_core.specs.declared.due.DueChange.TheVariants as change
-use Rattle.store_core.specs.declared.store.OpenBox.{OpenBox}
 use Rattle.store_core.proofs.DueLemmas.{dues_each, listed_meant}
 use Rattle.store_core.proofs.DueChangeLemmas.{HasRemoved, due_is, as_many, number_few, raised_number}
 use Rattle.store_core.proofs.PickingLemmas.{Rising, Picked, above_first, indexes_set, room_at, rooms_set}

@@ -1,41 +1,13 @@
 -- Disks from which one storage file was removed in which no record lies: what they read, what a crash leaves, and what a store makes of it.
-use Rattle.std.specs.Prelude.{◌⊎◌}
-use Rattle.std.specs.List.{list_any}
-use Rattle.std.proofs.Common.{inl, inr, ◌≡◌, ◌≢◌, ◌==◌, ℕ, true, false, List, [], ◌∷◌, map, length, Option, Some, None, All, refl, sym, ◌∙◌, ap, subst, arith}
-use Rattle.std.specs.Option.{option_map}
-use Rattle.std.proofs.lemmas.Bool.{cases_eq}
-use Rattle.std.proofs.lemmas.List.Elements.{All-weaker}
-use Rattle.disk_model.specs.Disk.{Files, FileState, DiskState, History, IsThere, IfTold, Between, SameButFor, EachImage, OthersStay, IsImage, MayLeave, reading}
-use Rattle.disk_model.specs.declared.name.FileName.{FileName}
+use Rattle.store_core.proofs.Common.{◌⊎◌, list_any, inl, inr, ◌≡◌, ◌≢◌, ◌==◌, ℕ, true, false, List, [], ◌∷◌, map, length, Option, Some, None, All, refl, sym, ◌∙◌, ap, subst, arith, option_map, cases_eq, All-weaker, Files, FileState, DiskState, History, IsThere, IfTold, Between, SameButFor}
+use Rattle.store_core.proofs.Common.{EachImage, OthersStay, IsImage, MayLeave, reading, FileName, between-on, between-map, reads_there, each_image-map, LogState, IsLogRead, Reads, BoxEntry, MapEntry, Lists, box_text, map_text, MapRecord, MapBox, MapMeaning, map_meaning, HasRoot, StoresMessage}
+use Rattle.store_core.proofs.Common.{LiesInFile, HasAll, SafeBy, Safe, files_of, IsSameRegion, HasSameRegion, HasSameInstance, AreAlike, IsSettled, IsSettledFor, Leaves, CarryOver, Opens, safe_carried, has_all_carried, map_along, kept_along, map_same, root_same, LeftBut, log_as, mixed, mixed-other}
+use Rattle.store_core.proofs.Common.{MailFile, FilesValue, end_in, file_in, IsAsKnown, StayThere, AreElsewhere, StoreValue, AreBoxLogs, ReadBoxLogs, IsRunning, IsStore, OpenBox}
 use Rattle.disk_model.specs.declared.name.FileName.TheVariants as file
-use Rattle.disk_model.proofs.BetweenLemmas.{between-on, between-map}
-use Rattle.disk_model.proofs.FirmLemmas.{reads_there}
-use Rattle.disk_model.proofs.MomentLemmas.{each_image-map}
-use Rattle.gate_log.specs.State.{LogState}
-use Rattle.gate_log.specs.Log.{IsLogRead, Reads}
-use Rattle.mdbox_base.specs.declared.entries.BoxEntry.{BoxEntry}
-use Rattle.mdbox_base.specs.declared.entries.MapEntry.{MapEntry}
-use Rattle.model_lists.specs.Lists.{Lists}
-use Rattle.model_logs.specs.Entries.{box_text, map_text}
-use Rattle.model_meaning.specs.MapMeaning.{MapRecord, MapBox, MapMeaning, map_meaning}
-use Rattle.model_store.specs.Stands.{HasRoot, StoresMessage}
-use Rattle.model_store.specs.Safe.{LiesInFile, HasAll, SafeBy, Safe}
-use Rattle.model_store.specs.Settled.{files_of, IsSameRegion, HasSameRegion, HasSameInstance, AreAlike, IsSettled, IsSettledFor, Leaves}
-use Rattle.model_store.specs.Carrying.{CarryOver}
-use Rattle.model_store.specs.Opening.{Opens}
-use Rattle.model_store.proofs.SettledLemmas.{safe_carried, has_all_carried, map_along, kept_along}
-use Rattle.model_store.proofs.StandsLemmas.{map_same, root_same}
-use Rattle.model_appends.specs.Appending.{LeftBut}
-use Rattle.model_appends.proofs.AppendFileLemmas.{log_as, mixed, mixed-other}
-use Rattle.storage_files.specs.declared.file.MailFile.{MailFile}
-use Rattle.storage_files.specs.Files.{FilesValue, end_in, file_in, without_file}
-use Rattle.storage_files.specs.OnDisk.{IsAsKnown, IsLeftOrNone}
+use Rattle.storage_files.specs.Files.{without_file}
+use Rattle.storage_files.specs.OnDisk.{IsLeftOrNone}
 use Rattle.storage_files.proofs.FileListLemmas.{file-gone}
-use Rattle.store_core.specs.Files.{StayThere}
-use Rattle.store_core.specs.Removing.{AreElsewhere, KeepsStoredBut}
-use Rattle.store_core.specs.Value.{StoreValue}
-use Rattle.store_core.specs.Running.{AreBoxLogs, ReadBoxLogs, IsRunning, IsStore}
-use Rattle.store_core.specs.declared.store.OpenBox.{OpenBox}
+use Rattle.store_core.specs.Removing.{KeepsStoredBut}
 use Rattle.store_core.proofs.KeptFileLemmas.{came_without, grew, pins_without, kept_on}
 use Rattle.store_core.proofs.MailChangeLemmas.{Own, left_image, mail_safe, boxes_pass, same_entries}
 

@@ -1,24 +1,11 @@
 -- A store whose logs have more room.
-use Rattle.std.proofs.Common.{◌≡◌, ◌≤◌, ℕ, max, false, List, [], ◌∷◌, map, length, All, Option, refl, sym, ◌∙◌, ap, arith}
+use Rattle.store_core.proofs.Common.{◌≡◌, ◌≤◌, ℕ, false, List, [], ◌∷◌, map, length, All, Option, refl, sym, ◌∙◌, ap, arith, Highest, All-nil, All-cons, History, if_told-map, BoxEntry, map_text, box_text, BoxMeaning, MapRecord, MapBox, LogState, IsLogRead, Reads, InstancesValue, FilesValue}
+use Rattle.store_core.proofs.Common.{StoreValue, indexes_of, entry_room, roomy_box, AreBoxLogs, ReadBoxLogs, IsStore, HasEntryRoom, HasKnownInstances, OpenBox}
+use Rattle.std.proofs.Common.{max}
 use Rattle.std.specs.Prelude.{replicate}
 use Rattle.std.specs.declared.alloc.Global.{Global}
-use Rattle.mdbox_base.specs.declared.entries.Highest.{Highest}
 use Rattle.store_core.specs.declared.store.OpenLogs.{OpenLogs}
-use Rattle.std.proofs.lemmas.List.Elements.{All-nil, All-cons}
-use Rattle.disk_model.specs.Disk.{History}
-use Rattle.disk_model.proofs.MomentLemmas.{if_told-map}
-use Rattle.mdbox_base.specs.declared.entries.BoxEntry.{BoxEntry}
-use Rattle.model_logs.specs.Entries.{map_text, box_text}
-use Rattle.model_meaning.specs.BoxMeaning.{BoxMeaning}
-use Rattle.model_meaning.specs.MapMeaning.{MapRecord, MapBox}
-use Rattle.gate_log.specs.State.{LogState}
-use Rattle.gate_log.specs.Log.{IsLogRead, Reads}
-use Rattle.sis_store.specs.Instances.{InstancesValue}
-use Rattle.storage_files.specs.Files.{FilesValue}
-use Rattle.store_core.specs.Value.{StoreValue, indexes_of, none_due, entry_room, roomy_log, roomy_box, with_entry_room, newly_open}
-use Rattle.store_core.specs.Running.{AreBoxLogs, ReadBoxLogs, IsStore, HasEntryRoom}
-use Rattle.store_core.specs.StoreInstances.{HasKnownInstances}
-use Rattle.store_core.specs.declared.store.OpenBox.{OpenBox}
+use Rattle.store_core.specs.Value.{none_due, roomy_log, with_entry_room, newly_open}
 
 pub indexes_roomy : (boxes : List OpenBox) → indexes_of (map roomy_box boxes) ≡ indexes_of boxes
 indexes_roomy [] = refl

@@ -1,13 +1,7 @@
 -- Lists that are shown.
-use Rattle.std.proofs.Common.{◌≡◌, ◌+◌, ℕ, cond, List, [], ◌∷◌, map, refl, sym, ◌∙◌, ap}
-use Rattle.std.specs.Prelude.{count_by}
-use Rattle.std.specs.Str.{bytes_eq}
-use Rattle.std.proofs.lemmas.List.Sums.{sum_by-cons}
-use Rattle.mdbox_base.specs.declared.entries.BoxEntry.{BoxEntry}
+use Rattle.store_core.proofs.Common.{◌≡◌, ◌+◌, ℕ, cond, List, [], ◌∷◌, map, refl, sym, ◌∙◌, ap, count_by, bytes_eq, sum_by-cons, BoxEntry, Lists, LogRow, BoxMeaning, box_meaning, MapBox}
 use Rattle.mdbox_base.specs.declared.replies.ListRow.{ListRow}
-use Rattle.model_lists.specs.Lists.{ListedMessage, Mailbox, Lists, refs_of, listing_row}
-use Rattle.model_meaning.specs.BoxMeaning.{LogRow, BoxMeaning, box_meaning}
-use Rattle.model_meaning.specs.MapMeaning.{MapBox}
+use Rattle.model_lists.specs.Lists.{ListedMessage, Mailbox, refs_of, listing_row}
 use Rattle.model_store.specs.Listing.{listed_row, HaveListings, ShowLists, refs_in}
 
 pub logs_show : (boxes : List MapBox) (logs : List (List BoxEntry)) (lists : Lists) → HaveListings boxes logs lists → ShowLists boxes (map box_meaning logs) lists

@@ -1,41 +1,14 @@
 -- A store whose storage files have changed, or of whose disk one of them has.
-use Rattle.std.specs.Prelude.{◌⊎◌}
-use Rattle.std.specs.List.{list_any}
-use Rattle.std.proofs.Common.{inl, inr, ◌≡◌, ◌≢◌, ◌<◌, ◌≤◌, ◌+◌, ◌==◌, ℕ, ◌-◌, Bool, true, false, List, [], ◌∷◌, ◌++◌, map, length, Option, Some, None, refl, sym, ◌∙◌, ap, subst, arith}
-use Rattle.std.specs.Option.{option_map, option_and_then}
-use Rattle.std.proofs.lemmas.Option.{same_Some}
-use Rattle.std.proofs.lemmas.Bool.{cases_Bool, cases_eq, cond-true, cond-false, false≢true, true≢false}
-use Rattle.disk_model.specs.Disk.{Files, FileState, DiskState, History, IsThere, IfTold, Between, SameState, SameButFor, EachImage, OthersStay, Grows, Keeps, MayLeave, reading, named, no_file}
-use Rattle.disk_model.specs.declared.name.FileName.{FileName}
+use Rattle.store_core.proofs.Common.{◌⊎◌, list_any, inl, inr, ◌≡◌, ◌≢◌, ◌<◌, ◌≤◌, ◌+◌, ◌==◌, ℕ, ◌-◌, Bool, true, false, List, [], ◌∷◌, ◌++◌, map, length, Option, Some, None, refl, sym, ◌∙◌, ap, subst, arith, option_map, option_and_then, same_Some, cases_Bool, cases_eq, cond-true, cond-false}
+use Rattle.store_core.proofs.Common.{false≢true, true≢false, Files, FileState, DiskState, History, IsThere, IfTold, Between, SameState, SameButFor, EachImage, OthersStay, Grows, Keeps, MayLeave, reading, named, no_file, FileName, between-on, between-map, reads_there, each_image-map, if_told-map}
+use Rattle.store_core.proofs.Common.{named-narrows, LogState, IsLogRead, Reads, BoxEntry, Highest, FileNo, Lists, box_text, map_text, MapRecord, MapBox, MapMeaning, map_meaning, Opens, Safe, files_of, IsSettled, IsSettledFor, Leaves, HasRoot, StoresMessage, map_same, LeavesAsRead, MailFile}
+use Rattle.store_core.proofs.Common.{FilesValue, AreFilesInOrder, file_in, end_in, ending_at, IsAsKnown, FrontStays, IsAddedTo, OthersAreNamed, KeepsStored, MayGrow, AreFilesKept, StayThere, StoreValue, AreBoxLogs, ReadBoxLogs, IsRunning, IsUpTo, HasEntryRoom, IsStore, OpenBox}
 use Rattle.disk_model.specs.declared.name.FileName.TheVariants as file
-use Rattle.disk_model.proofs.BetweenLemmas.{between-on, between-map}
-use Rattle.disk_model.proofs.FirmLemmas.{reads_there}
-use Rattle.disk_model.proofs.MomentLemmas.{each_image-map, if_told-map}
-use Rattle.disk_model.proofs.OneFileLemmas.{named-narrows}
-use Rattle.gate_log.specs.State.{LogState}
-use Rattle.gate_log.specs.Log.{IsLogRead, Reads}
-use Rattle.mdbox_base.specs.declared.entries.BoxEntry.{BoxEntry}
-use Rattle.mdbox_base.specs.declared.entries.Highest.{Highest}
-use Rattle.mdbox_base.specs.declared.ids.FileNo.{FileNo}
-use Rattle.model_lists.specs.Lists.{Lists}
-use Rattle.model_logs.specs.Entries.{box_text, map_text}
-use Rattle.model_meaning.specs.MapMeaning.{MapRecord, MapBox, MapMeaning, map_meaning}
-use Rattle.model_store.specs.Opening.{Opens}
-use Rattle.model_store.specs.Safe.{Safe}
-use Rattle.model_store.specs.Settled.{files_of, IsSettled, IsSettledFor, Leaves}
-use Rattle.model_store.specs.Stands.{HasRoot, StoresMessage}
-use Rattle.model_store.proofs.StandsLemmas.{map_same}
-use Rattle.model_appends.specs.Appending.{LeavesAsRead}
-use Rattle.storage_files.specs.declared.file.MailFile.{MailFile}
 use Rattle.storage_files.specs.declared.file.Take.{Take}
 use Rattle.storage_files.specs.declared.file.Take.TheVariants.{Known, New, Full}
-use Rattle.storage_files.specs.Files.{FilesValue, AreFilesInOrder, IsTakeFor, after_take, file_in, end_in, file_begun, ending_at, with_taken, released_in}
-use Rattle.storage_files.specs.OnDisk.{IsAsKnown, FrontStays, IsAddedTo, IsNewOrNone, OthersAreNamed}
-use Rattle.store_core.specs.Dues.{KeepsStored}
-use Rattle.store_core.specs.Files.{MayGrow, ArePinsOfRecords, AreFilesKept, StayThere, EndsWith}
-use Rattle.store_core.specs.Value.{StoreValue}
-use Rattle.store_core.specs.Running.{AreBoxLogs, ReadBoxLogs, IsRunning, IsUpTo, HasEntryRoom, IsStore}
-use Rattle.store_core.specs.declared.store.OpenBox.{OpenBox}
+use Rattle.storage_files.specs.Files.{IsTakeFor, after_take, file_begun, with_taken, released_in}
+use Rattle.storage_files.specs.OnDisk.{IsNewOrNone}
+use Rattle.store_core.specs.Files.{ArePinsOfRecords, EndsWith}
 use Rattle.store_core.proofs.BoxAppendLemmas.{store_sound}
 use Rattle.store_core.proofs.HighestFileLemmas.{NamesUpTo, names_up_to}
 use Rattle.store_core.proofs.KeptFileLemmas.{with_change, CameAll, HasFile, came_longer, came_made, came_taken, came_released, grew, pins_kept, pins_released, kept_on, kept_begun, none_begun, begun_or_before}

@@ -1,31 +1,11 @@
 -- Switching a storage file, by the entry that a caller hands in.
-use Rattle.std.proofs.Common.{◌≡◌, ◌==◌, ◌≤◌, ◌+◌, ◌-◌, ℕ, true, false, List, [], ◌∷◌, ◌++◌, map, length, Option, Some, All, refl, sym, ◌∙◌, ap, subst}
-use Rattle.disk_model.specs.Disk.{History, IfTold, SameButFor}
-use Rattle.gate_log.specs.State.{LogState, IsSameLog}
-use Rattle.gate_log.specs.Log.{Reads, Holds}
-use Rattle.mdbox_base.specs.declared.entries.MapEntry.{MapEntry}
+use Rattle.store_core.proofs.Common.{◌≡◌, ◌==◌, ◌≤◌, ◌+◌, ◌-◌, ℕ, true, false, List, [], ◌∷◌, ◌++◌, map, length, Option, Some, All, refl, sym, ◌∙◌, ap, subst, History, IfTold, SameButFor, LogState, IsSameLog, Reads, Holds, MapEntry, MapPlace, FileNo, MapUid, Lists, map_text, MapInRange, MapFits}
+use Rattle.store_core.proofs.Common.{MapRecord, MapMeaning, map_applied, record_at, IsSettledFor, Leaves, MailFile, FilesValue, AreFilesInOrder, is_emptied_in, made_doomed, found_holds, equal_is, AddsText, number_beside, due_at, leak_at, listed_at, KeepsStored, KeepsFirm, KeepsMadeLogs, IsStore}
+use Rattle.store_core.proofs.Common.{HasKnownInstances, StoreValue}
 use Rattle.mdbox_base.specs.declared.entries.MapEntry.TheVariants as entry
-use Rattle.mdbox_base.specs.declared.entries.MapPlace.{MapPlace}
-use Rattle.mdbox_base.specs.declared.ids.FileNo.{FileNo}
-use Rattle.mdbox_base.specs.declared.ids.MapUid.{MapUid}
-use Rattle.model_lists.specs.Lists.{Lists}
-use Rattle.model_logs.specs.Entries.{map_text, MapInRange}
-use Rattle.model_meaning.specs.MapFits.{MapFits}
-use Rattle.model_meaning.specs.MapMeaning.{MapRecord, MapMeaning, map_applied, record_at}
-use Rattle.model_store.specs.Settled.{IsSettledFor, Leaves}
-use Rattle.storage_files.specs.declared.file.MailFile.{MailFile}
-use Rattle.storage_files.specs.Files.{FilesValue, AreFilesInOrder, is_emptied_in, made_doomed}
 use Rattle.storage_files.proofs.UseLemmas.{found-emptied}
-use Rattle.model_octets.proofs.PairLemmas.{found_holds}
-use Rattle.model_meaning.proofs.MapPlaceLemmas.{equal_is}
-use Rattle.store_core.specs.Append.{AddsText}
-use Rattle.store_core.specs.Dues.{number_beside, due_at, leak_at, listed_at, IsSpared, KeepsStored}
-use Rattle.store_core.specs.Keeping.{KeepsFirm}
-use Rattle.store_core.specs.MadeLogs.{KeepsMadeLogs}
-use Rattle.store_core.specs.Running.{IsStore}
-use Rattle.store_core.specs.StoreInstances.{HasKnownInstances}
+use Rattle.store_core.specs.Dues.{IsSpared}
 use Rattle.store_core.specs.Switching.{Switches, PlacesLieBelow, HasCopies, HasCopiesSynced, dues_switched}
-use Rattle.store_core.specs.Value.{StoreValue}
 use Rattle.store_core.proofs.BoxCrashLemmas.{ReadsImage}
 use Rattle.store_core.proofs.DueChangeLemmas.{as_many}
 use Rattle.store_core.proofs.DueLemmas.{dues_each}

@@ -1,38 +1,18 @@
 -- What a crash leaves of a store in which a storage file is switched, and what records store then.
-use Rattle.std.proofs.Common.{inl, ◌≡◌, ◌==◌, ℕ, List, [], ◌∷◌, ◌++◌, map, Option, Some, None, refl, sym, ◌∙◌, ap, subst, ◌⊎◌}
+use Rattle.store_core.proofs.Common.{inl, ◌≡◌, ◌==◌, ℕ, List, [], ◌∷◌, ◌++◌, map, Option, Some, None, refl, sym, ◌∙◌, ap, subst, Files, History, MayLeave, IfTold, OthersStay, SameButFor, Between, reading, FileName, each_image-map, LogState, IsSameLog, IsLogHeld, Holds, IsLogWithOrWithout, MapEntry}
+use Rattle.store_core.proofs.Common.{MapPlace, FileNo, MapUid, HasOneMore, kept_as, map_stored, count_itself, settled_by_map_append, Lists, map_text, IsLogFile, changed_same, MapFits, MapRecord, MapMeaning, map_meaning, map_applied, record_at, IsSoundMap, found_one, map_same, root_same, Safe}
+use Rattle.store_core.proofs.Common.{files_of, IsSettled, IsSettledFor, Leaves, StoresMessage, AddsText, KeepsStored, StoreValue}
+use Rattle.std.proofs.Common.{◌⊎◌}
 use Rattle.std.specs.Prelude.{◌≤◌, take, drop}
-use Rattle.disk_model.specs.Disk.{Files, History, MayLeave, IfTold, OthersStay, SameButFor, Between, reading}
-use Rattle.disk_model.specs.declared.name.FileName.{FileName}
 use Rattle.disk_model.specs.declared.name.FileName.TheVariants as file
-use Rattle.disk_model.proofs.MomentLemmas.{each_image-map}
-use Rattle.gate_log.specs.State.{LogState, IsSameLog}
-use Rattle.gate_log.specs.Log.{IsLogHeld, Holds, IsLogWithOrWithout}
-use Rattle.mdbox_base.specs.declared.entries.MapEntry.{MapEntry}
 use Rattle.mdbox_base.specs.declared.entries.MapEntry.TheVariants as entry
-use Rattle.mdbox_base.specs.declared.entries.MapPlace.{MapPlace}
-use Rattle.mdbox_base.specs.declared.ids.FileNo.{FileNo}
-use Rattle.mdbox_base.specs.declared.ids.MapUid.{MapUid}
-use Rattle.model_appends.specs.Appending.{HasOneMore}
 use Rattle.model_appends.specs.MapAppending.{IsCopiedTo, AreCopied, AreCopiesSynced}
 use Rattle.model_appends.proofs.AppendPurgeLemmas.{purged_append, leaves_purged, found_purged, place_found}
-use Rattle.model_appends.proofs.AppendFileLemmas.{SameStored, kept_as, map_stored, count_itself}
-use Rattle.model_appends.proofs.AppendSafeMapLemmas.{settled_by_map_append}
-use Rattle.model_lists.specs.Lists.{Lists}
-use Rattle.model_logs.specs.Entries.{map_text}
-use Rattle.model_logs.specs.LogFile.{IsLogFile}
-use Rattle.model_meaning.proofs.MapPlaceLemmas.{changed_same}
-use Rattle.model_meaning.specs.MapFits.{MapFits}
-use Rattle.model_meaning.specs.MapMeaning.{MapRecord, MapMeaning, map_meaning, map_applied, record_at, place_given, moved_record}
-use Rattle.model_meaning.specs.Sound.{IsSoundMap}
-use Rattle.model_octets.proofs.SearchLemmas.{found_one}
-use Rattle.model_store.proofs.StandsLemmas.{map_same, root_same}
-use Rattle.model_store.specs.Safe.{Safe}
-use Rattle.model_store.specs.Settled.{files_of, IsSettled, IsSettledFor, Leaves}
+use Rattle.model_appends.proofs.AppendFileLemmas.{SameStored}
+use Rattle.model_meaning.specs.MapMeaning.{place_given, moved_record}
 use Rattle.model_storage.specs.StorageFile.{IsMessage}
-use Rattle.model_store.specs.Stands.{HoldsMessage, StoresMessage}
-use Rattle.store_core.specs.Append.{AddsText}
-use Rattle.store_core.specs.Dues.{IsSpared, KeepsStored}
-use Rattle.store_core.specs.Value.{StoreValue}
+use Rattle.model_store.specs.Stands.{HoldsMessage}
+use Rattle.store_core.specs.Dues.{IsSpared}
 use Rattle.store_core.proofs.BoxAppendLemmas.{store_sound, is_log, disk_more}
 use Rattle.store_core.proofs.BoxCrashLemmas.{ReadsImage}
 use Rattle.store_core.proofs.MapCrashLemmas.{MapAppends, held_map, image_safe}

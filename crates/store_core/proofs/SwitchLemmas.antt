@@ -1,52 +1,23 @@
 -- A store in whose map log one entry more moves and drops the records of a storage file, which is doomed then.
-use Rattle.std.proofs.Common.{inl, inr, ◌⊎◌, ◌≡◌, ◌≢◌, ◌==◌, ◌≤◌, ◌+◌, ◌-◌, ℕ, Bool, true, false, cond, List, [], ◌∷◌, ◌++◌, map, length, Option, Some, None, All, refl, sym, ◌∙◌, ap, subst, arith}
-use Rattle.std.specs.Prelude.{not, filter, find, ◌||◌, ◌⊎◌, Contains}
-use Rattle.std.specs.List.{list_any}
-use Rattle.std.specs.Option.{option_map}
-use Rattle.std.proofs.lemmas.Bool.{cases_Bool, cases_eq, cond-true, cond-false, true≢false, false≢true}
-use Rattle.std.proofs.lemmas.List.{map-append}
-use Rattle.std.proofs.lemmas.List.Elements.{All-nil, All-cons, All-head, All-tail, All-weaker, All-contains, All-contains_itself}
-use Rattle.disk_model.specs.Disk.{DiskState, History, IfTold, SameButFor, reading}
+use Rattle.store_core.proofs.Common.{inl, inr, ◌≡◌, ◌≢◌, ◌==◌, ◌≤◌, ◌+◌, ◌-◌, ℕ, Bool, true, false, cond, List, [], ◌∷◌, ◌++◌, map, length, Option, Some, None, All, refl, sym, ◌∙◌, ap, subst, arith, not, filter, ◌||◌, ◌⊎◌, Contains, list_any, option_map, cases_Bool, cases_eq, cond-true, cond-false}
+use Rattle.store_core.proofs.Common.{true≢false, false≢true, map-append, All-nil, All-cons, All-head, All-tail, All-weaker, All-contains, All-contains_itself, DiskState, History, IfTold, SameButFor, reading, if_told-map, LogState, IsSameLog, Reads, BoxEntry, MapEntry, MapPlace, FileNo, MapUid}
+use Rattle.store_core.proofs.Common.{IsAccounted, HasOneMore, map_text, MapInRange, kept_rows, map_more, changed_same, equal_is, MapFits, HasRecord, MapRecord, MapBox, MapMeaning, map_meaning, map_applied, record_at, record_rules, record_changed, has_map_uid, IsSoundMap, IsSoundRecord, found_holds}
+use Rattle.store_core.proofs.Common.{found_one, root_same, Opens, listed_of, files_of, HasRoot, MailFile, FilesValue, file_in, end_in, changed_in, made_doomed, IsAsKnown, number_beside, due_at, listed_at, leak_at, LiesBelowEnd, AreFilesKept, StayThere, AreBoxLogs, IsRunning, IsUpTo, CoverDues}
+use Rattle.store_core.proofs.Common.{IsStore, StoreValue}
+use Rattle.std.proofs.Common.{◌⊎◌}
+use Rattle.std.specs.Prelude.{find}
 use Rattle.disk_model.specs.declared.name.FileName.TheVariants as file
-use Rattle.disk_model.proofs.MomentLemmas.{if_told-map}
-use Rattle.gate_log.specs.State.{LogState, IsSameLog}
-use Rattle.gate_log.specs.Log.{Reads}
-use Rattle.mdbox_base.specs.declared.entries.BoxEntry.{BoxEntry}
-use Rattle.mdbox_base.specs.declared.entries.MapEntry.{MapEntry}
 use Rattle.mdbox_base.specs.declared.entries.MapEntry.TheVariants as entry
-use Rattle.mdbox_base.specs.declared.entries.MapPlace.{MapPlace}
-use Rattle.mdbox_base.specs.declared.ids.FileNo.{FileNo}
-use Rattle.mdbox_base.specs.declared.ids.MapUid.{MapUid}
-use Rattle.model_appends.specs.Amounts.{IsAccounted}
-use Rattle.model_appends.specs.Appending.{HasOneMore}
 use Rattle.model_appends.specs.MapAppending.{AreCopied}
 use Rattle.model_appends.proofs.AppendPurgeLemmas.{place_found, purged_boxes, found_purged}
 use Rattle.model_appends.proofs.AppendPurgeOpenLemmas.{good_by_purge, opens_by_purge, accounted_by_purge}
-use Rattle.model_logs.specs.Entries.{map_text, MapInRange}
 use Rattle.model_meaning.proofs.AppliedLemmas.{records_by_purged}
-use Rattle.model_meaning.proofs.KeptRowLemmas.{kept_rows}
-use Rattle.model_meaning.proofs.MapLemmas.{map_more}
-use Rattle.model_meaning.proofs.MapPlaceLemmas.{changed_same, equal_is}
 use Rattle.model_meaning.proofs.MapSoundLemmas.{greatest_fits}
-use Rattle.model_meaning.specs.MapFits.{MapFits, HasRecord, IsMovedOrDropped}
-use Rattle.model_meaning.specs.MapMeaning.{MapRecord, MapBox, MapMeaning, map_meaning, map_applied, record_at, record_rules, record_changed, has_map_uid, place_given, moved_record}
-use Rattle.model_meaning.specs.Sound.{IsSoundMap, IsSoundRecord}
-use Rattle.model_octets.proofs.PairLemmas.{found_holds}
-use Rattle.model_octets.proofs.SearchLemmas.{found_one}
+use Rattle.model_meaning.specs.MapFits.{IsMovedOrDropped}
+use Rattle.model_meaning.specs.MapMeaning.{place_given, moved_record}
 use Rattle.model_store.proofs.OpeningSafeLemmas.{at_uid}
-use Rattle.model_store.proofs.StandsLemmas.{root_same}
-use Rattle.model_store.specs.Opening.{Opens, listed_of}
-use Rattle.model_store.specs.Settled.{files_of}
-use Rattle.model_store.specs.Stands.{HasRoot}
-use Rattle.storage_files.specs.declared.file.MailFile.{MailFile}
-use Rattle.storage_files.specs.Files.{FilesValue, file_in, end_in, changed_in, made_doomed}
-use Rattle.storage_files.specs.OnDisk.{IsAsKnown}
 use Rattle.storage_files.proofs.FileListLemmas.{file-here, file-other, ends-kept}
-use Rattle.store_core.specs.Dues.{number_beside, due_at, listed_at, leak_at}
-use Rattle.store_core.specs.Files.{LiesBelowEnd, AreFilesKept, StayThere}
-use Rattle.store_core.specs.Running.{AreBoxLogs, IsRunning, IsUpTo, CoverDues, IsStore}
 use Rattle.store_core.specs.Switching.{dues_without}
-use Rattle.store_core.specs.Value.{StoreValue}
 use Rattle.store_core.proofs.BoxAppendLemmas.{dues_of, store_sound, disk_more, root_stays}
 use Rattle.store_core.proofs.DueLemmas.{AreNumbers, dues_each, at_own_place, covered_by, store_counts}
 use Rattle.store_core.proofs.DueChangeLemmas.{numbers_are}

@@ -1,44 +1,15 @@
 -- Disks on which one log was made or removed that the map doesn't name: nothing that a store reads has changed.
-use Rattle.std.specs.Prelude.{◌⊎◌}
-use Rattle.std.specs.Option.{option_map}
-use Rattle.std.proofs.Common.{inl, inr, ◌≡◌, ◌≢◌, ℕ, Bool, true, false, List, [], ◌∷◌, map, length, slice_index_or, Option, Some, None, All, refl, sym, ◌∙◌, ap, subst, arith}
-use Rattle.std.proofs.lemmas.List.Elements.{All-head, All-tail, All-weaker}
-use Rattle.disk_model.specs.Disk.{Files, FileState, DiskState, History, IfTold, Between, IsImage, IsThere, MayLeave, EachImage, OthersStay, after, change, change_all, removed, no_file, reading, named}
-use Rattle.disk_model.specs.Name.{same_name}
-use Rattle.disk_model.specs.declared.name.FileName.{FileName}
+use Rattle.store_core.proofs.Common.{◌⊎◌, option_map, inl, inr, ◌≡◌, ◌≢◌, ℕ, Bool, true, false, List, [], ◌∷◌, map, length, slice_index_or, Option, Some, None, All, refl, sym, ◌∙◌, ap, subst, arith, All-head, All-tail, All-weaker, Files, FileState, DiskState, History, IfTold, Between, IsImage}
+use Rattle.store_core.proofs.Common.{IsThere, MayLeave, EachImage, OthersStay, removed, no_file, reading, named, same_name, FileName, between-on, between-map, reads_there, each_image-map, same_name-true, same_name-apart, named-narrows, LogState, IsLogRead, Reads, NamedButFor, BoxEntry, MapEntry}
+use Rattle.store_core.proofs.Common.{Lists, box_text, map_text, MapRecord, MapBox, MapMeaning, map_meaning, CarryOver, CarriesOver, Opens, LiesInFile, HasAll, SafeBy, Safe, files_of, IsSameRegion, HasSameRegion, HasSameInstance, AreAlike, IsSettled, IsSettledFor, Leaves, HasRoot, StoresMessage}
+use Rattle.store_core.proofs.Common.{each_name, safe_carried, has_all_carried, map_along, kept_along, map_same, root_same, LeftBut, log_as, mixed, mixed-other, others_carry, MailFile, end_in, OthersAreNamed, KeepsStored, StayThere, IsUnnamed, AreBoxLogs, ReadBoxLogs, IsRunning, IsStore, StoreValue}
+use Rattle.store_core.proofs.Common.{OpenBox}
+use Rattle.disk_model.specs.Disk.{after, change, change_all}
 use Rattle.disk_model.specs.declared.name.FileName.TheVariants as file
-use Rattle.disk_model.proofs.BetweenLemmas.{between-on, between-map}
-use Rattle.disk_model.proofs.FirmLemmas.{reads_there, reading_from_there}
-use Rattle.disk_model.proofs.MomentLemmas.{each_image-map}
-use Rattle.disk_model.proofs.NameLemmas.{same_name-true, same_name-apart}
-use Rattle.disk_model.proofs.OneFileLemmas.{change-here, change-other, named-narrows}
-use Rattle.gate_log.specs.State.{LogState}
-use Rattle.gate_log.specs.Log.{IsLogRead, Reads, NamedButFor}
-use Rattle.mdbox_base.specs.declared.entries.BoxEntry.{BoxEntry}
-use Rattle.mdbox_base.specs.declared.entries.MapEntry.{MapEntry}
-use Rattle.model_lists.specs.Lists.{Lists}
-use Rattle.model_logs.specs.Entries.{box_text, map_text}
-use Rattle.model_meaning.specs.MapMeaning.{MapRecord, MapBox, MapMeaning, map_meaning}
-use Rattle.model_store.specs.Carrying.{HasSameEntries, CarryOver, CarriesOver}
-use Rattle.model_store.specs.Opening.{Opens}
-use Rattle.model_store.specs.Safe.{LiesInFile, HasAll, SafeBy, Safe}
-use Rattle.model_store.specs.Settled.{files_of, IsSameRegion, HasSameRegion, HasSameInstance, AreAlike, IsSettled, IsSettledFor, Leaves}
-use Rattle.model_store.specs.Stands.{HasRoot, StoresMessage}
-use Rattle.model_store.proofs.CarryingLemmas.{each_name}
-use Rattle.model_store.proofs.SettledLemmas.{safe_carried, has_all_carried, map_along, kept_along}
-use Rattle.model_store.proofs.StandsLemmas.{map_same, root_same}
-use Rattle.model_appends.specs.Appending.{LeftBut}
-use Rattle.model_appends.proofs.AppendFileLemmas.{log_as, mixed, mixed-other}
-use Rattle.model_appends.proofs.AppendSafeLemmas.{mixed_image, others_carry}
-use Rattle.storage_files.specs.declared.file.MailFile.{MailFile}
-use Rattle.storage_files.specs.Files.{end_in}
-use Rattle.storage_files.specs.OnDisk.{OthersAreNamed}
-use Rattle.store_core.specs.Dues.{KeepsStored}
-use Rattle.store_core.specs.Files.{StayThere}
-use Rattle.store_core.specs.MadeLogs.{IsUnnamed}
-use Rattle.store_core.specs.Running.{AreBoxLogs, ReadBoxLogs, IsRunning, IsStore}
-use Rattle.store_core.specs.Value.{StoreValue}
-use Rattle.store_core.specs.declared.store.OpenBox.{OpenBox}
+use Rattle.disk_model.proofs.FirmLemmas.{reading_from_there}
+use Rattle.disk_model.proofs.OneFileLemmas.{change-here, change-other}
+use Rattle.model_store.specs.Carrying.{HasSameEntries}
+use Rattle.model_appends.proofs.AppendSafeLemmas.{mixed_image}
 use Rattle.store_core.proofs.MailChangeLemmas.{Own, boxes_pass, same_entries, named_reads}
 
 -- The other files read as before, and are left so.

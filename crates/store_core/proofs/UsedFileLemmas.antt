@@ -1,16 +1,9 @@
 -- A store of which a storage file was pinned, taken to be emptied or taken anew, or in which placing in pieces was begun.
-use Rattle.std.specs.Prelude.{◌⊎◌, ◌==◌}
-use Rattle.std.specs.List.{list_any}
-use Rattle.std.specs.Option.{option_map_or}
-use Rattle.std.proofs.Common.{inl, inr, ◌≡◌, ◌≤◌, ◌-◌, ℕ, true, Option, Some, refl, sym, subst, arith}
-use Rattle.disk_model.specs.Disk.{History}
-use Rattle.mdbox_base.specs.declared.ids.FileNo.{FileNo}
-use Rattle.storage_files.specs.declared.file.MailFile.{MailFile}
+use Rattle.store_core.proofs.Common.{◌⊎◌, list_any, option_map_or, inl, inr, ◌≡◌, ◌≤◌, ◌-◌, ℕ, true, Option, Some, refl, sym, subst, arith, History, FileNo, MailFile, FilesValue, AreFilesInOrder, end_in, file_in, changed_in, StoreValue, IsStore}
+use Rattle.std.specs.Prelude.{◌==◌}
 use Rattle.storage_files.specs.declared.file.Take.{Take}
 use Rattle.storage_files.specs.declared.file.Take.TheVariants.{Known, New, Full}
-use Rattle.storage_files.specs.Files.{FilesValue, AreFilesInOrder, IsTakeNew, after_take, end_in, file_in, pins_in, changed_in, with_pins, to_empty, placing_begun}
-use Rattle.store_core.specs.Value.{StoreValue}
-use Rattle.store_core.specs.Running.{IsStore}
+use Rattle.storage_files.specs.Files.{IsTakeNew, after_take, pins_in, with_pins, to_empty, placing_begun}
 use Rattle.store_core.proofs.KeptFileLemmas.{IsStep, came_changed, pins_changed}
 use Rattle.store_core.proofs.StoreFileLemmas.{store_came, store_begun}
 

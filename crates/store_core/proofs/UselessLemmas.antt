@@ -1,22 +1,12 @@
 -- The next instance that is of no use: from one that nobody holds to the next, past those that records name.
-use Rattle.std.specs.Prelude.{◌⊎◌, ◌==◌, ◌&&◌, not, cond, filter, find}
-use Rattle.std.specs.Option.{option_map}
+use Rattle.store_core.proofs.Common.{◌⊎◌, ◌&&◌, not, filter, option_map, Less, inl, inr, ◌≡◌, ◌<◌, ℕ, Bool, true, false, List, [], ◌∷◌, length, Option, Some, None, All, refl, sym, ◌∙◌, ap, subst, arith, cond-true, cond-false, cases_Bool, false≢true, same_Some, All-head, All-tail, All-contains}
+use Rattle.store_core.proofs.Common.{All-weaker, is_instance_named, InstId, MapMeaning, pairs_head, pairs_tail, found_one, KnownInstance, turned, lt_less, useless_past}
+use Rattle.std.specs.Prelude.{◌==◌, cond, find}
 use Rattle.std.specs.Ordering.{is_lt}
-use Rattle.std.specs.declared.cmp.Ordering.TheVariants.{Less}
-use Rattle.std.proofs.Common.{inl, inr, ◌≡◌, ◌<◌, ℕ, Bool, true, false, List, [], ◌∷◌, length, Option, Some, None, All, refl, sym, ◌∙◌, ap, subst, arith}
 use Rattle.std.proofs.lemmas.Cmp.{nat_list_cmp_total}
-use Rattle.std.proofs.lemmas.Bool.{cond-true, cond-false, cases_Bool, false≢true}
-use Rattle.std.proofs.lemmas.Option.{same_Some}
-use Rattle.std.proofs.lemmas.List.Elements.{All-head, All-tail, All-contains, All-weaker}
-use Rattle.map_index.specs.Shown.{is_instance_named}
-use Rattle.mdbox_base.specs.declared.ids.InstId.{InstId}
-use Rattle.model_meaning.specs.MapMeaning.{MapMeaning}
-use Rattle.model_octets.proofs.PairLemmas.{pairs_head, pairs_tail}
-use Rattle.model_octets.proofs.SearchLemmas.{found_one}
 use Rattle.sis_store.specs.Instances.{IsIdBefore, is_id_past, unheld_past}
-use Rattle.sis_store.specs.declared.instance.KnownInstance.{KnownInstance}
-use Rattle.sis_store.proofs.IdLemmas.{by_octets, Rise, turned, not_before_itself, lt_less, less_lt}
-use Rattle.store_core.specs.Removing.{is_useless, useless_past}
+use Rattle.sis_store.proofs.IdLemmas.{by_octets, Rise, not_before_itself, less_lt}
+use Rattle.store_core.specs.Removing.{is_useless}
 
 -- nobody holds it, and it is past this one
 abbrev pub is_unheld : Option InstId → KnownInstance → Bool

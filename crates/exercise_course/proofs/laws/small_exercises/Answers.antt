@@ -1,5 +1,4 @@
-use Rattle.std.specs.Prelude.{◌≡◌, ◌∷◌, [], refl}
-use Rattle.std.proofs.Common.{arith}
+use Rattle.exercise_course.proofs.Common.{◌≡◌, ◌∷◌, [], refl, arith}
 use Rattle.std.proofs.lemmas.Fmt.{decimal_digit}
 use Rattle.mdbox_base.specs.Numbers.{decimal_text}
 use Rattle.exercise_course.proofs.laws.small_exercises.Goals as goal

@@ -1,7 +1,5 @@
-use Rattle.std.proofs.Common.{◌≡◌, Bool, true, false, List, Option, Ok, Err, refl, sym, ◌∙◌, ap, subst}
+use Rattle.folder_disk.proofs.Common.{◌≡◌, Bool, true, false, List, Option, Ok, Err, refl, sym, ◌∙◌, ap, subst, folder_text, IsToSync}
 use Rattle.disk_record.specs.declared.change.Change.TheVariants.{Made, HalfMade}
-use Rattle.folder_disk.specs.Folders.{folder_text}
-use Rattle.folder_disk.specs.Changed.{IsToSync}
 use Rattle.folder_disk.proofs.ChangedLemmas.{file_notes}
 use Rattle.folder_disk.proofs.SeenLemmas.{half_seen, seen_then}
 use Rattle.folder_disk.proofs.UnseenLemmas.{unseen_then, on_err, on_ok_map, on_err_map}

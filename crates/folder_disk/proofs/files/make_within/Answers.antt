@@ -1,10 +1,5 @@
-use Rattle.std.proofs.Common.{◌≡◌, Bool, true, false, List, Option, Ok, Err, refl, sym, ◌∙◌, ap, subst}
-use Rattle.folder_model.specs.System.{System, IsSystem}
-use Rattle.folder_model.specs.Calls.{Modelled, IfModelled, Becomes}
+use Rattle.folder_disk.proofs.Common.{◌≡◌, Bool, true, false, List, Option, Ok, Err, refl, sym, ◌∙◌, ap, subst, System, IsSystem, Modelled, IfModelled, Becomes, folder_text, folder_for, IsSyncedFolder, with_new_file, ChangesName}
 use Rattle.disk_record.specs.declared.change.Change.TheVariants.{Made, HalfMade}
-use Rattle.folder_disk.specs.Folders.{folder_text, folder_for, IsSyncedFolder}
-use Rattle.folder_model.specs.System.{with_new_file}
-use Rattle.folder_disk.specs.Changed.{ChangesName}
 use Rattle.folder_disk.proofs.ChangedLemmas.{becomes_done, new_changes}
 use Rattle.folder_disk.proofs.FileLemmas.{by_sound}
 use Rattle.folder_disk.proofs.SystemLemmas.{nothing_found}

@@ -1,8 +1,5 @@
-use Rattle.std.proofs.Common.{◌≡◌, Bool, true, false, List, Option, Ok, Err, refl, sym, ◌∙◌, ap, subst}
+use Rattle.folder_disk.proofs.Common.{◌≡◌, Bool, true, false, List, Option, Ok, Err, refl, sym, ◌∙◌, ap, subst, Nothing, AFolder, with_node, Modelled, Becomes, ChangesName}
 use Rattle.disk_record.specs.declared.change.Change.TheVariants.{Removed, HalfRemoved}
-use Rattle.folder_model.specs.System.{Nothing, AFolder, with_node}
-use Rattle.folder_model.specs.Calls.{Modelled, Becomes}
-use Rattle.folder_disk.specs.Changed.{ChangesName}
 use Rattle.folder_disk.proofs.ChangedLemmas.{becomes_done, put_changes}
 use Rattle.folder_disk.proofs.FileLemmas.{by_sound}
 use Rattle.folder_disk.proofs.SystemLemmas.{file_found, no_file_found}

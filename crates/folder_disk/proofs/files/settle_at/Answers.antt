@@ -1,7 +1,4 @@
-use Rattle.std.proofs.Common.{◌≡◌, Some, None, Bool, true, false, List, Option, Ok, Err, refl, sym, ◌∙◌, ap, subst}
-use Rattle.folder_model.specs.System.{with_synced_file}
-use Rattle.folder_model.specs.Calls.{Modelled, IfModelled}
-use Rattle.folder_disk.specs.Files.{IsOpenedAt, IsSoundSystem}
+use Rattle.folder_disk.proofs.Common.{◌≡◌, Some, None, Bool, true, false, List, Option, Ok, Err, refl, sym, ◌∙◌, ap, subst, with_synced_file, Modelled, IfModelled, IsOpenedAt, IsSoundSystem}
 use Rattle.folder_disk.proofs.SettleLemmas.{settled_unseen, settled_durable, none_durable}
 use Rattle.folder_disk.proofs.SystemLemmas.{sound_by, unsynced_unseen}
 use Rattle.folder_disk.proofs.UnseenLemmas.{unseen_same, unseen_then, on_err, on_ok_map, on_err_map}

@@ -1,8 +1,5 @@
-use Rattle.std.proofs.Common.{List, Option, subst}
-use Rattle.folder_model.specs.System.{System}
-use Rattle.folder_model.specs.Calls.{Modelled, IfModelled, AreSince}
+use Rattle.folder_disk.proofs.Common.{List, Option, subst, System, Modelled, IfModelled, AreSince, IsOpenedAt}
 use Rattle.folder_calls.specs.Writing.{IsOnItsWay}
-use Rattle.folder_disk.specs.Files.{IsOpenedAt}
 use Rattle.folder_disk.proofs.FileLemmas.{on_way_at}
 use Rattle.folder_disk.proofs.files.write_at.Goals as goal
 

@@ -1,5 +1,4 @@
-use Rattle.std.proofs.Common.{◌≡◌, Bool, true, false, List, Option, Ok, Err, refl, sym, ◌∙◌, ap, subst}
-use Rattle.folder_disk.specs.Folders.{folder_text}
+use Rattle.folder_disk.proofs.Common.{◌≡◌, Bool, true, false, List, Option, Ok, Err, refl, sym, ◌∙◌, ap, subst, folder_text}
 use Rattle.folder_disk.specs.declared.folder_name.FolderName.TheVariants.{Top}
 use Rattle.folder_disk.proofs.SystemLemmas.{folder_found}
 use Rattle.folder_disk.proofs.UnseenLemmas.{unseen_same, on_err}

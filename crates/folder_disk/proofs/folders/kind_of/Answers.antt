@@ -1,5 +1,4 @@
-use Rattle.std.proofs.Common.{◌≡◌, Bool, true, false, List, Option, Ok, Err, refl, sym, ◌∙◌, ap, subst}
-use Rattle.folder_disk.specs.Folders.{folder_text}
+use Rattle.folder_disk.proofs.Common.{◌≡◌, Bool, true, false, List, Option, Ok, Err, refl, sym, ◌∙◌, ap, subst, folder_text}
 use Rattle.folder_disk.proofs.PlaceLemmas.{folder_path_is}
 use Rattle.folder_disk.proofs.folders.kind_of.Goals as goal
 

@@ -1,4 +1,4 @@
-use Rattle.std.proofs.Common.{◌≡◌, Bool, true, false, List, Option, Ok, Err, refl, sym, ◌∙◌, ap, subst}
+use Rattle.folder_disk.proofs.Common.{◌≡◌, Bool, true, false, List, Option, Ok, Err, refl, sym, ◌∙◌, ap, subst}
 use Rattle.folder_disk.proofs.UnseenLemmas.{unseen_then, on_err, on_ok_map, on_err_map}
 use Rattle.folder_disk.proofs.folders.make_first.Goals as goal
 

@@ -1,7 +1,4 @@
-use Rattle.std.proofs.Common.{◌≡◌, Bool, true, false, List, Option, Ok, Err, refl, sym, ◌∙◌, ap, subst}
-use Rattle.folder_model.specs.System.{AFolder, System, with_node}
-use Rattle.folder_model.specs.Calls.{Modelled, IfModelled, IsDoneOrNot}
-use Rattle.folder_disk.specs.Folders.{folder_text}
+use Rattle.folder_disk.proofs.Common.{◌≡◌, Bool, true, false, List, Option, Ok, Err, refl, sym, ◌∙◌, ap, subst, AFolder, System, with_node, Modelled, IfModelled, IsDoneOrNot, folder_text}
 use Rattle.folder_disk.proofs.ChangedLemmas.{made_notes}
 use Rattle.folder_disk.proofs.PlaceLemmas.{folder_spelled_is}
 use Rattle.folder_disk.proofs.SystemLemmas.{made_folder, unmade_folder, made_there, sound_by}

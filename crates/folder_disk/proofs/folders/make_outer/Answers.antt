@@ -1,5 +1,4 @@
-use Rattle.std.proofs.Common.{◌≡◌, Bool, true, false, List, Option, Ok, Err, refl, sym, ◌∙◌, ap, subst}
-use Rattle.folder_disk.specs.Changed.{NotesNames}
+use Rattle.folder_disk.proofs.Common.{◌≡◌, Bool, true, false, List, Option, Ok, Err, refl, sym, ◌∙◌, ap, subst, NotesNames}
 use Rattle.folder_disk.proofs.ChangedLemmas.{becomes_then, notes_then}
 use Rattle.folder_disk.proofs.UnseenLemmas.{unseen_then, on_err, on_ok_map, on_err_map}
 use Rattle.folder_disk.proofs.folders.make_outer.Goals as goal

@@ -1,7 +1,4 @@
-use Rattle.std.proofs.Common.{◌≡◌, true, false, List, Option, Ok, Err, sym, subst}
-use Rattle.folder_model.specs.Calls.{Modelled, IfModelled}
-use Rattle.folder_disk.specs.Folders.{HasAllFolders, StandInFolders}
-use Rattle.folder_disk.specs.declared.folder_name.FolderName.{FolderName}
+use Rattle.folder_disk.proofs.Common.{◌≡◌, true, false, List, Option, Ok, Err, sym, subst, Modelled, IfModelled, HasAllFolders, StandInFolders, FolderName}
 use Rattle.folder_disk.proofs.SystemLemmas.{all_are_synced}
 use Rattle.folder_disk.proofs.UnseenLemmas.{unseen_same, unseen_then, on_err, on_ok_map, on_ok_both, on_err_map}
 use Rattle.folder_disk.proofs.folders.sync_all.Goals as goal

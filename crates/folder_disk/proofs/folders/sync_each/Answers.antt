@@ -1,8 +1,4 @@
-use Rattle.std.proofs.Common.{◌≡◌, Bool, true, false, ℕ, List, [], ◌∷◌, ◌++◌, Option, Ok, Err, Contains, map, codes, string_bytes, refl, sym, ◌∙◌, ap, subst}
-use Rattle.folder_model.specs.Calls.{IfModelled}
-use Rattle.folder_disk.specs.Folders.{folder_text, IsSyncedFolder}
-use Rattle.folder_disk.specs.declared.folder_name.FolderName.{FolderName}
-use Rattle.folder_disk.specs.Changed.{KeepsNames}
+use Rattle.folder_disk.proofs.Common.{◌≡◌, Bool, true, false, ℕ, List, [], ◌∷◌, ◌++◌, Option, Ok, Err, Contains, map, codes, string_bytes, refl, sym, ◌∙◌, ap, subst, IfModelled, folder_text, IsSyncedFolder, FolderName, KeepsNames}
 use Rattle.folder_disk.proofs.ChangedLemmas.{becomes_same, becomes_then, names_same, names_then}
 use Rattle.folder_disk.proofs.EachLemmas.{each_none, each_at, each_all}
 use Rattle.folder_disk.proofs.SystemLemmas.{same_nodes, same_nodes_then, synced_stays_told, all_told_of}

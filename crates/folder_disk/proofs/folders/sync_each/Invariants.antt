@@ -1,8 +1,4 @@
-use Rattle.std.proofs.Common.{false}
-use Rattle.folder_model.specs.Calls.{IfModelled, IsLocked, Becomes}
-use Rattle.folder_disk.specs.Changed.{KeepsNames}
-use Rattle.folder_disk.specs.Files.{IsSoundSystem}
-use Rattle.folder_disk.specs.Folders.{folder_text, IsSyncedFolder, HasSameNodes, IsUnseen}
+use Rattle.folder_disk.proofs.Common.{false, IfModelled, IsLocked, Becomes, KeepsNames, IsSoundSystem, folder_text, IsSyncedFolder, HasSameNodes, IsUnseen}
 use Rattle.folder_disk.proofs.EachLemmas.{EachSoFar}
 use Rattle.folder_disk.proofs.folders.sync_each.Given as goal
 

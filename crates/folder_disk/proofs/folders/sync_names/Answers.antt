@@ -1,4 +1,4 @@
-use Rattle.std.proofs.Common.{true, false}
+use Rattle.folder_disk.proofs.Common.{true, false}
 use Rattle.disk_record.specs.declared.change.Change.TheVariants as change
 use Rattle.folder_disk.proofs.ChangedLemmas.{synced_seen}
 use Rattle.folder_disk.proofs.SeenLemmas.{half_seen}

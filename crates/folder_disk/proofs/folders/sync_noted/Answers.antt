@@ -1,5 +1,4 @@
-use Rattle.std.proofs.Common.{◌≡◌, List, Option, sym, subst}
-use Rattle.folder_model.specs.Calls.{Modelled, IfModelled}
+use Rattle.folder_disk.proofs.Common.{◌≡◌, List, Option, sym, subst, Modelled, IfModelled}
 use Rattle.folder_disk.specs.Changed.{AreSyncedBut}
 use Rattle.folder_disk.proofs.ChangedLemmas.{all_synced}
 use Rattle.folder_disk.proofs.UnseenLemmas.{on_ok_three}

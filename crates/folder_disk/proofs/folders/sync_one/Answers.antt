@@ -1,7 +1,4 @@
-use Rattle.std.proofs.Common.{◌≡◌, Bool, true, false, List, Option, Ok, Err, refl, sym, ◌∙◌, ap, subst}
-use Rattle.folder_model.specs.System.{System, with_synced_names}
-use Rattle.folder_model.specs.Calls.{Modelled, IfModelled, done_by}
-use Rattle.folder_disk.specs.Folders.{folder_text, IsSyncedFolder}
+use Rattle.folder_disk.proofs.Common.{◌≡◌, Bool, true, false, List, Option, Ok, Err, refl, sym, ◌∙◌, ap, subst, System, with_synced_names, Modelled, IfModelled, done_by, folder_text, IsSyncedFolder}
 use Rattle.folder_disk.proofs.PlaceLemmas.{folder_path_is}
 use Rattle.folder_disk.proofs.SystemLemmas.{synced_done, synced_unseen, unsynced_unseen}
 use Rattle.folder_disk.proofs.UnseenLemmas.{unseen_same, on_err, on_ok_map, on_ok_both, on_err_map}

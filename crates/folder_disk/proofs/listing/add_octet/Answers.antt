@@ -1,6 +1,4 @@
-use Rattle.std.proofs.Common.{◌≡◌, ◌<◌, ◌++◌, ◌∷◌, [], List, ℕ, Contains, codes, sym, ◌∙◌, ap, subst, refl}
-use Rattle.hex.specs.Hex.{encode_lower}
-use Rattle.folder_disk.specs.Folders.{KeepsAll}
+use Rattle.folder_disk.proofs.Common.{◌≡◌, ◌<◌, ◌++◌, ◌∷◌, [], List, ℕ, Contains, codes, sym, ◌∙◌, ap, subst, refl, encode_lower, KeepsAll}
 use Rattle.folder_disk.proofs.ListingLemmas.{keeps_more, added_octet}
 use Rattle.folder_disk.proofs.UnseenLemmas.{on_ok_map}
 use Rattle.folder_disk.proofs.listing.add_octet.Goals as goal

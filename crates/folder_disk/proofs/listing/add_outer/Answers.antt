@@ -1,7 +1,4 @@
-use Rattle.std.proofs.Common.{◌≡◌, Bool, true, false, ℕ, List, [], ◌∷◌, ◌++◌, Option, Ok, Err, Contains, get_or, map, codes, string_bytes, refl, sym, ◌∙◌, ap, subst}
-use Rattle.folder_model.specs.System.{System, AFolder}
-use Rattle.folder_model.specs.Calls.{Modelled, IfModelled}
-use Rattle.folder_disk.specs.Folders.{folder_text, HasOctetNames}
+use Rattle.folder_disk.proofs.Common.{◌≡◌, Bool, true, false, ℕ, List, [], ◌∷◌, ◌++◌, Option, Ok, Err, Contains, get_or, map, codes, string_bytes, refl, sym, ◌∙◌, ap, subst, System, AFolder, Modelled, IfModelled, folder_text, HasOctetNames}
 use Rattle.folder_disk.specs.declared.folder_name.FolderName.TheVariants as folder
 use Rattle.folder_disk.proofs.EachLemmas.{each_none, each_at}
 use Rattle.folder_disk.proofs.ListingLemmas.{told_at, told_more, outer_told}

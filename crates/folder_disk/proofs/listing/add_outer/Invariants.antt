@@ -1,7 +1,4 @@
-use Rattle.std.proofs.Common.{◌≡◌, Contains}
-use Rattle.folder_model.specs.System.{AFolder}
-use Rattle.folder_model.specs.Calls.{IfModelled}
-use Rattle.folder_disk.specs.Folders.{folder_text, KeepsAll}
+use Rattle.folder_disk.proofs.Common.{◌≡◌, Contains, AFolder, IfModelled, folder_text, KeepsAll}
 use Rattle.folder_disk.specs.declared.folder_name.FolderName.TheVariants as folder
 use Rattle.folder_disk.proofs.EachLemmas.{EachSoFar}
 use Rattle.folder_disk.proofs.listing.add_outer.Given as goal

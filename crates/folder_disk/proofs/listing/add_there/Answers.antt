@@ -1,6 +1,4 @@
-use Rattle.std.proofs.Common.{◌≡◌, Bool, true, false, List, [], ◌∷◌, ◌++◌, Option, Ok, Err, Contains, refl, sym, ◌∙◌, ap, subst}
-use Rattle.folder_disk.specs.Folders.{KeepsAll}
-use Rattle.folder_disk.specs.declared.folder_name.FolderName.{FolderName}
+use Rattle.folder_disk.proofs.Common.{◌≡◌, Bool, true, false, List, [], ◌∷◌, ◌++◌, Option, Ok, Err, Contains, refl, sym, ◌∙◌, ap, subst, KeepsAll, FolderName}
 use Rattle.folder_disk.proofs.ListingLemmas.{keeps_more, has_last, added_told}
 use Rattle.folder_disk.proofs.UnseenLemmas.{on_ok_map}
 use Rattle.folder_disk.proofs.listing.add_there.Goals as goal

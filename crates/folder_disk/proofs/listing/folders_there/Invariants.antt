@@ -1,6 +1,4 @@
-use Rattle.std.proofs.Common.{◌≡◌}
-use Rattle.folder_model.specs.Calls.{IfModelled}
-use Rattle.folder_disk.specs.Folders.{KeepsAll, HasFoldersOf}
+use Rattle.folder_disk.proofs.Common.{◌≡◌, IfModelled, KeepsAll, HasFoldersOf}
 use Rattle.folder_disk.proofs.EachLemmas.{EachSoFar}
 use Rattle.folder_disk.proofs.listing.folders_there.Given as goal
 

@@ -1,8 +1,7 @@
-use Rattle.std.proofs.Common.{◌≡◌, ◌≢◌, ◌++◌, ◌∷◌, [], List, ℕ, codes, sym, ◌∙◌, ap, refl}
+use Rattle.folder_disk.proofs.Common.{◌≡◌, ◌≢◌, ◌++◌, ◌∷◌, [], List, ℕ, codes, sym, ◌∙◌, ap, refl, encode_lower}
 use Rattle.std.proofs.lemmas.Bool.Decides.{Decides-eqb}
 use Rattle.std.proofs.lemmas.Slice.Eq.{strip_prefix_is}
 use Rattle.std.proofs.lemmas.Option.{IfSome_then}
-use Rattle.hex.specs.Hex.{encode_lower}
 use Rattle.folder_disk.proofs.listing.octet_at.Goals as goal
 
 pub returns-in_err-strip_prefix-clause-none : goal.returns-in_err-strip_prefix-clause-none

@@ -1,10 +1,5 @@
-use Rattle.std.proofs.Common.{◌≡◌, Bool, true, false, ℕ, List, [], ◌∷◌, ◌++◌, Option, Ok, Err, Contains, map, codes, string_bytes, refl, sym, ◌∙◌, ap, subst}
-use Rattle.hex.specs.Hex.{encode_lower}
-use Rattle.std.proofs.Common.{◌<◌, IsUtf8}
+use Rattle.folder_disk.proofs.Common.{◌≡◌, Bool, true, false, ℕ, List, [], ◌∷◌, ◌++◌, Option, Ok, Err, Contains, map, codes, string_bytes, refl, sym, ◌∙◌, ap, subst, encode_lower, ◌<◌, IsUtf8, System, ArePathsIn, IfModelled, IfSound, folder_text}
 use Rattle.std.proofs.lemmas.Str.{IsUtf8-string_bytes}
-use Rattle.folder_model.specs.System.{System, ArePathsIn}
-use Rattle.folder_model.specs.Calls.{IfModelled, IfSound}
-use Rattle.folder_disk.specs.Folders.{folder_text}
 use Rattle.folder_disk.proofs.EachLemmas.{each_none, each_more}
 use Rattle.folder_disk.proofs.PlaceLemmas.{folder_path_is}
 use Rattle.folder_disk.proofs.ListingLemmas.{ListsOctet, octets_told}

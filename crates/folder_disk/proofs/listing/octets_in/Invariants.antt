@@ -1,4 +1,4 @@
-use Rattle.std.proofs.Common.{string_bytes}
+use Rattle.folder_disk.proofs.Common.{string_bytes}
 use Rattle.folder_disk.proofs.EachLemmas.{EachSoFar}
 use Rattle.folder_disk.proofs.ListingLemmas.{ListsOctet}
 use Rattle.folder_disk.proofs.listing.octets_in.Given as goal

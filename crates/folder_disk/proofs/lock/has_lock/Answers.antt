@@ -1,4 +1,4 @@
-use Rattle.std.proofs.Common.{◌≡◌, Bool, true, false, ℕ, List, [], ◌∷◌, ◌++◌, Option, Ok, Err, map, string_bytes, refl, sym, ◌∙◌, ap, subst}
+use Rattle.folder_disk.proofs.Common.{◌≡◌, Bool, true, false, ℕ, List, [], ◌∷◌, ◌++◌, Option, Ok, Err, map, string_bytes, refl, sym, ◌∙◌, ap, subst}
 use Rattle.folder_disk.proofs.UnseenLemmas.{unseen_same, unseen_then, locked_unseen, refused_unseen}
 use Rattle.folder_disk.proofs.lock.has_lock.Goals as goal
 

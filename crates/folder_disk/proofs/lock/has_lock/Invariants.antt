@@ -1,5 +1,4 @@
-use Rattle.std.proofs.Common.{false}
-use Rattle.folder_disk.specs.Folders.{IsUnseen}
+use Rattle.folder_disk.proofs.Common.{false, IsUnseen}
 use Rattle.folder_disk.proofs.lock.has_lock.Given as goal
 
 abbrev pub invariant-loop : goal.invariant-loop

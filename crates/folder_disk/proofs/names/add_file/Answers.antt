@@ -1,6 +1,4 @@
-use Rattle.std.proofs.Common.{◌≡◌, Bool, true, false, ℕ, List, [], ◌∷◌, ◌++◌, Option, Ok, Err, map, string_bytes, refl, sym, ◌∙◌, ap, subst}
-use Rattle.disk_model.specs.declared.name.FileName.{FileName}
-use Rattle.file_paths.specs.Paths.{path_text, IsStoreFile}
+use Rattle.folder_disk.proofs.Common.{◌≡◌, Bool, true, false, ℕ, List, [], ◌∷◌, ◌++◌, Option, Ok, Err, map, string_bytes, refl, sym, ◌∙◌, ap, subst, FileName, path_text, IsStoreFile}
 use Rattle.folder_disk.proofs.NamesLemmas.{adds_none, no_name}
 use Rattle.folder_disk.proofs.names.add_file.Goals as goal
 

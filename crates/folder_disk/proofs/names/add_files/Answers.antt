@@ -1,9 +1,4 @@
-use Rattle.std.proofs.Common.{◌≡◌, Bool, true, false, ℕ, List, [], ◌∷◌, ◌++◌, Option, Ok, Err, map, string_bytes, refl, sym, ◌∙◌, ap, subst}
-use Rattle.folder_model.specs.System.{System, ArePathsIn}
-use Rattle.folder_model.specs.Calls.{Modelled, IfModelled, IfSound}
-use Rattle.disk_model.specs.contracts.name.FileNameOrd.TheImpl.{ghosts}
-use Rattle.folder_disk.specs.Folders.{folder_text}
-use Rattle.folder_disk.specs.Names.{AddsFiles}
+use Rattle.folder_disk.proofs.Common.{◌≡◌, Bool, true, false, ℕ, List, [], ◌∷◌, ◌++◌, Option, Ok, Err, map, string_bytes, refl, sym, ◌∙◌, ap, subst, System, ArePathsIn, Modelled, IfModelled, IfSound, ghosts, folder_text, AddsFiles}
 use Rattle.folder_disk.proofs.EachLemmas.{each_none, each_more}
 use Rattle.folder_disk.proofs.NamesLemmas.{HasFilesAt, NoPath, adds_so_far, files_stay, files_added, adds_folder, none_so_far}
 use Rattle.folder_disk.proofs.PlaceLemmas.{folder_path_is}

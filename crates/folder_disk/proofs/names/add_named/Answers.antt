@@ -1,4 +1,4 @@
-use Rattle.std.proofs.Common.{◌≡◌, Bool, true, false, ℕ, List, [], ◌∷◌, ◌++◌, Option, Ok, Err, map, string_bytes, refl, sym, ◌∙◌, ap, subst}
+use Rattle.folder_disk.proofs.Common.{◌≡◌, Bool, true, false, ℕ, List, [], ◌∷◌, ◌++◌, Option, Ok, Err, map, string_bytes, refl, sym, ◌∙◌, ap, subst}
 use Rattle.folder_disk.proofs.FileLemmas.{by_sound, path_is}
 use Rattle.folder_disk.proofs.NamesLemmas.{adds_none, adds_named, no_plain_file}
 use Rattle.folder_disk.proofs.PlaceLemmas.{file_path_is}

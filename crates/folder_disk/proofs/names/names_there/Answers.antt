@@ -1,10 +1,4 @@
-use Rattle.std.proofs.Common.{◌≡◌, Bool, true, false, ℕ, List, [], ◌∷◌, ◌++◌, Option, Ok, Err, map, string_bytes, refl, sym, ◌∙◌, ap, subst}
-use Rattle.folder_model.specs.Paths.{folder_at}
-use Rattle.folder_model.specs.Calls.{Modelled, IfModelled}
-use Rattle.disk_model.specs.contracts.name.FileNameOrd.TheImpl.{ghosts}
-use Rattle.folder_disk.specs.Folders.{folder_text, HasAllFolders, StandInFolders}
-use Rattle.folder_disk.specs.Names.{AddsFiles}
-use Rattle.folder_disk.specs.declared.folder_name.FolderName.{FolderName}
+use Rattle.folder_disk.proofs.Common.{◌≡◌, Bool, true, false, ℕ, List, [], ◌∷◌, ◌++◌, Option, Ok, Err, map, string_bytes, refl, sym, ◌∙◌, ap, subst, folder_at, Modelled, IfModelled, ghosts, folder_text, HasAllFolders, StandInFolders, AddsFiles, FolderName}
 use Rattle.folder_disk.proofs.EachLemmas.{each_none, each_at}
 use Rattle.folder_disk.proofs.NamesLemmas.{HasFilesAt, NoPath, adds_so_far, adds_at, files_stay, files_added, adds_all, none_so_far}
 use Rattle.folder_disk.proofs.names.names_there.Goals as goal

@@ -1,9 +1,4 @@
-use Rattle.std.proofs.Common.{◌≡◌, string_bytes}
-use Rattle.disk_model.specs.contracts.name.FileNameOrd.TheImpl.{ghosts}
-use Rattle.folder_model.specs.Paths.{folder_at}
-use Rattle.folder_model.specs.Calls.{IfModelled}
-use Rattle.folder_disk.specs.Folders.{folder_text}
-use Rattle.folder_disk.specs.Names.{AddsFiles}
+use Rattle.folder_disk.proofs.Common.{◌≡◌, string_bytes, ghosts, folder_at, IfModelled, folder_text, AddsFiles}
 use Rattle.folder_disk.proofs.EachLemmas.{EachSoFar}
 use Rattle.folder_disk.proofs.NamesLemmas.{HasFilesAt, NoPath}
 use Rattle.folder_disk.proofs.names.names_there.Given as goal

@@ -1,5 +1,5 @@
-use Rattle.std.proofs.Common.{◌≡◌, rules, string_bytes}
-use Rattle.file_paths.specs.Paths.{path_text, IsStoreFile}
+use Rattle.folder_disk.proofs.Common.{◌≡◌, string_bytes, path_text, IsStoreFile}
+use Rattle.std.proofs.Common.{rules}
 use Rattle.folder_disk.proofs.FileLemmas.{path_is}
 use Rattle.folder_disk.proofs.paths.path_of.Goals as goal
 

@@ -1,6 +1,5 @@
-use Rattle.std.proofs.Common.{◌∙◌, sym, map}
+use Rattle.map_index.proofs.Common.{◌∙◌, sym, map, box_of}
 use Rattle.model_meaning.proofs.AppliedLemmas.{boxes_by_deleted, boxes_by_generation}
-use Rattle.map_index.specs.Shown.{box_of}
 use Rattle.map_index.proofs.MapAppliedLemmas.{boxes_stay}
 use Rattle.map_index.proofs.changes.change_boxes.Goals as goal
 

@@ -1,5 +1,4 @@
-use Rattle.std.proofs.Common.{◌∙◌, sym, ap, List}
-use Rattle.model_meaning.specs.MapMeaning.{MapRecord}
+use Rattle.map_index.proofs.Common.{◌∙◌, sym, ap, List, MapRecord}
 use Rattle.model_meaning.proofs.AppliedLemmas.{records_by_raised, records_by_lowered, records_by_counted, records_by_deleted}
 use Rattle.map_index.proofs.MapAppliedLemmas.{records_stay}
 use Rattle.map_index.proofs.changes.change_records.Goals as goal

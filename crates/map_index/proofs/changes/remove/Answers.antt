@@ -1,8 +1,6 @@
-use Rattle.std.proofs.Common.{◌==◌, ◌∙◌, ap, map, not, rules}
+use Rattle.map_index.proofs.Common.{◌==◌, ◌∙◌, ap, map, rules, MapBox, box_of, Mailbox}
+use Rattle.std.proofs.Common.{not}
 use Rattle.std.proofs.lemmas.Fn.{filter_same}
-use Rattle.model_meaning.specs.MapMeaning.{MapBox}
-use Rattle.map_index.specs.Shown.{box_of}
-use Rattle.map_index.specs.declared.rows.Mailbox.{Mailbox}
 use Rattle.map_index.proofs.DerivedListLemmas.{filter-map}
 use Rattle.map_index.proofs.changes.remove.Goals as goal
 

@@ -1,5 +1,4 @@
-use Rattle.std.proofs.Common.{◌<◌, ◌≤◌, List, length, ap, arith}
-use Rattle.map_index.specs.declared.rows.Mailbox.{Mailbox}
+use Rattle.map_index.proofs.Common.{◌<◌, ◌≤◌, List, length, ap, arith, Mailbox}
 use Rattle.map_index.proofs.BoxPlaceLemmas.{renamed_at, renamed_nowhere}
 use Rattle.map_index.proofs.changes.rename.Goals as goal
 

@@ -1,5 +1,4 @@
-use Rattle.std.proofs.Common.{◌∙◌, ap, map, rules}
-use Rattle.std.proofs.lemmas.List.Sorted.{answers_always}
+use Rattle.map_index.proofs.Common.{◌∙◌, ap, map, rules, answers_always}
 use Rattle.map_index.proofs.SealedFileLemmas.{added, there}
 use Rattle.map_index.proofs.changes.seal.Goals as goal
 

@@ -1,9 +1,6 @@
-use Rattle.std.proofs.Common.{◌++◌, ◌∷◌, [], ◌∙◌, sym, ap, map, arith}
+use Rattle.map_index.proofs.Common.{◌++◌, ◌∷◌, [], ◌∙◌, sym, ap, map, arith, TableValue, box_of, Mailbox}
 use Rattle.std.proofs.lemmas.List.{map_push}
 use Rattle.model_meaning.proofs.AppliedLemmas.{records_by_stored, records_by_mailbox, records_by_sealed, records_by_renamed, boxes_by_stored, boxes_by_mailbox, boxes_by_sealed, boxes_by_renamed}
-use Rattle.map_rows.specs.TableValue.{TableValue}
-use Rattle.map_index.specs.Shown.{box_of}
-use Rattle.map_index.specs.declared.rows.Mailbox.{Mailbox}
 use Rattle.map_index.proofs.ListedLemmas.{table_is}
 use Rattle.map_index.proofs.MapAppliedLemmas.{adds_none, room_stays}
 use Rattle.map_index.proofs.changes.take_parts.Goals as goal

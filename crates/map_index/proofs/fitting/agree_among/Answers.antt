@@ -1,5 +1,4 @@
-use Rattle.std.proofs.Common.{◌≡◌, ◌∙◌, sym, true, false}
-use Rattle.model_meaning.specs.MapFits.{AgreesOn}
+use Rattle.map_index.proofs.Common.{◌≡◌, ◌∙◌, sym, true, false, AgreesOn}
 use Rattle.map_index.proofs.RisingLemmas.{pairs_split, pairs_joined}
 use Rattle.map_index.proofs.fitting.agree_among.Goals as goal
 

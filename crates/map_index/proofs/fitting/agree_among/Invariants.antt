@@ -1,6 +1,4 @@
-use Rattle.std.proofs.Common.{length}
-use Rattle.std.specs.Prelude.{AllPairs, ◌↔◌}
-use Rattle.model_meaning.specs.MapFits.{AgreesOn}
+use Rattle.map_index.proofs.Common.{length, AllPairs, ◌↔◌, AgreesOn}
 use Rattle.map_index.proofs.fitting.agree_among.Given as goal
 
 -- the instances agree if and only if the rest does

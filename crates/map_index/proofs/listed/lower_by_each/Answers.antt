@@ -1,9 +1,4 @@
-use Rattle.std.proofs.Common.{◌∷◌, [], List, fold, map, drop, ◌≤◌, ◌+◌, length, ap, refl, sym, ◌∙◌}
-use Rattle.std.proofs.lemmas.List.Kept.{AllPairs-from_increasing}
-use Rattle.mdbox_base.specs.declared.entries.MapCount.{MapCount}
-use Rattle.model_meaning.specs.MapMeaning.{MapRecord}
-use Rattle.map_rows.specs.Lookups.{lowered_by}
-use Rattle.map_rows.specs.TableValue.{TableValue}
+use Rattle.map_index.proofs.Common.{◌∷◌, [], List, fold, map, drop, ◌≤◌, ◌+◌, length, ap, refl, sym, ◌∙◌, AllPairs-from_increasing, MapCount, MapRecord, lowered_by, TableValue}
 use Rattle.map_index.proofs.ListedLemmas.{fold_step, fold_end, same_table, lowered_by_each}
 use Rattle.map_index.proofs.listed.lower_by_each.Goals as goal
 

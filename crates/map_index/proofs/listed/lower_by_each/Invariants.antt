@@ -1,7 +1,4 @@
-use Rattle.std.proofs.Common.{◌≡◌, ◌∷◌, [], List, fold, map, drop}
-use Rattle.mdbox_base.specs.declared.entries.MapCount.{MapCount}
-use Rattle.model_meaning.specs.MapMeaning.{MapRecord}
-use Rattle.map_rows.specs.Lookups.{lowered_by}
+use Rattle.map_index.proofs.Common.{◌≡◌, ◌∷◌, [], List, fold, map, drop, MapCount, MapRecord, lowered_by}
 use Rattle.map_index.proofs.listed.lower_by_each.Given as goal
 
 -- the records so far, and the rest

@@ -1,9 +1,5 @@
-use Rattle.std.proofs.Common.{◌∷◌, [], List, fold, map, drop, ◌≤◌, ◌+◌, length, ap, refl, sym, ◌∙◌}
-use Rattle.std.proofs.lemmas.List.Kept.{AllPairs-from_increasing}
-use Rattle.mdbox_base.specs.declared.ids.MapUid.{MapUid}
+use Rattle.map_index.proofs.Common.{◌∷◌, [], List, fold, map, drop, ◌≤◌, ◌+◌, length, ap, refl, sym, ◌∙◌, AllPairs-from_increasing, MapUid, MapRecord, record_changed, TableValue}
 use Rattle.mdbox_base.specs.declared.entries.MapEntry.TheVariants as entry
-use Rattle.model_meaning.specs.MapMeaning.{MapRecord, record_changed}
-use Rattle.map_rows.specs.TableValue.{TableValue}
 use Rattle.map_index.proofs.ListedLemmas.{fold_step, fold_end, same_table, lowered_each}
 use Rattle.map_index.proofs.listed.lower_each.Goals as goal
 

@@ -1,7 +1,5 @@
-use Rattle.std.proofs.Common.{◌≡◌, ◌∷◌, [], List, fold, map, drop}
-use Rattle.mdbox_base.specs.declared.ids.MapUid.{MapUid}
+use Rattle.map_index.proofs.Common.{◌≡◌, ◌∷◌, [], List, fold, map, drop, MapUid, MapRecord, record_changed}
 use Rattle.mdbox_base.specs.declared.entries.MapEntry.TheVariants as entry
-use Rattle.model_meaning.specs.MapMeaning.{MapRecord, record_changed}
 use Rattle.map_index.proofs.listed.lower_each.Given as goal
 
 -- the records so far, and the rest

@@ -1,7 +1,5 @@
-use Rattle.std.proofs.Common.{◌≡◌, ◌∷◌, [], List, fold, map, drop}
-use Rattle.mdbox_base.specs.declared.entries.MapCount.{MapCount}
+use Rattle.map_index.proofs.Common.{◌≡◌, ◌∷◌, [], List, fold, map, drop, MapCount, MapRecord, record_changed}
 use Rattle.mdbox_base.specs.declared.entries.MapEntry.TheVariants as entry
-use Rattle.model_meaning.specs.MapMeaning.{MapRecord, record_changed}
 use Rattle.map_index.proofs.listed.set_counts.Given as goal
 
 -- the records so far, and the rest

@@ -1,6 +1,4 @@
-use Rattle.std.proofs.Common.{◌<◌, ℕ, ◌∙◌, rules}
-use Rattle.std.proofs.lemmas.List.Kept.{AllPairs-from_increasing}
-use Rattle.std.proofs.lemmas.List.Sorted.{answers_always}
+use Rattle.map_index.proofs.Common.{◌<◌, ℕ, ◌∙◌, rules, AllPairs-from_increasing, answers_always}
 use Rattle.map_index.proofs.SearchLemmas.{any_searched, pairs_unmap}
 use Rattle.map_index.proofs.named.names.Goals as goal
 

@@ -1,4 +1,4 @@
-use Rattle.std.proofs.Common.{◌≡◌, ◌<◌, ◌≤◌, ◌+◌, ◌-◌, ℕ, subst, arith, length, map, get_or}
+use Rattle.map_index.proofs.Common.{◌≡◌, ◌<◌, ◌≤◌, ◌+◌, ◌-◌, ℕ, subst, arith, length, map, get_or}
 use Rattle.std.proofs.lemmas.List.{length-map}
 use Rattle.map_index.proofs.RisingLemmas.{number_of, rises_more}
 use Rattle.map_index.proofs.named.rise.Goals as goal

@@ -1,4 +1,4 @@
-use Rattle.std.proofs.Common.{map}
+use Rattle.map_index.proofs.Common.{map}
 use Rattle.map_index.proofs.RisingLemmas.{RisesBelow}
 use Rattle.map_index.proofs.named.rise.Given as goal
 

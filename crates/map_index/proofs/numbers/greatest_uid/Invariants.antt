@@ -1,4 +1,4 @@
-use Rattle.std.proofs.Common.{◌≡◌, max, fold, drop}
+use Rattle.map_index.proofs.Common.{◌≡◌, max, fold, drop}
 use Rattle.model_meaning.specs.MapMeaning.{greatest}
 use Rattle.map_index.proofs.numbers.greatest_uid.Given as goal
 

@@ -1,6 +1,4 @@
-use Rattle.std.proofs.Common.{◌∙◌, rules}
-use Rattle.std.proofs.lemmas.List.Sorted.{answers_always}
-use Rattle.mdbox_base.specs.declared.ids.FileNo.{FileNo}
+use Rattle.map_index.proofs.Common.{◌∙◌, rules, answers_always, FileNo}
 use Rattle.map_index.proofs.SearchLemmas.{any_searched}
 use Rattle.map_index.proofs.rows.has_file.Goals as goal
 

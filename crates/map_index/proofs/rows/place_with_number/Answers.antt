@@ -1,6 +1,5 @@
-use Rattle.std.proofs.Common.{rules, Ok, Err}
-use Rattle.std.proofs.lemmas.List.Sorted.{answers_always}
-use Rattle.map_index.specs.declared.rows.Mailbox.{Mailbox}
+use Rattle.map_index.proofs.Common.{rules, answers_always, Mailbox}
+use Rattle.std.proofs.Common.{Ok, Err}
 use Rattle.map_index.proofs.SearchLemmas.{searched}
 use Rattle.map_index.proofs.rows.place_with_number.Goals as goal
 

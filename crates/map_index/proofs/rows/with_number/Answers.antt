@@ -1,7 +1,7 @@
-use Rattle.std.proofs.Common.{◌≡◌, ◌==◌, ◌∙◌, find, sym, ap, slice_get, Some}
+use Rattle.map_index.proofs.Common.{◌≡◌, ◌==◌, ◌∙◌, find, sym, ap, Some, Mailbox}
+use Rattle.std.proofs.Common.{slice_get}
 use Rattle.std.proofs.lemmas.List.Folds.{find_at}
 use Rattle.std.proofs.lemmas.Option.{slice_get-get_or, slice_get_past}
-use Rattle.map_index.specs.declared.rows.Mailbox.{Mailbox}
 use Rattle.map_index.proofs.rows.with_number.Goals as goal
 
 pub returns-then-place-boxes : goal.returns-then-place-boxes

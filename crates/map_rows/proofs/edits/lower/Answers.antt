@@ -1,7 +1,5 @@
-use Rattle.std.proofs.Common.{◌<◌, ◌≤◌, ◌-◌, ◌∷◌, [], List, ℕ, length, ap, arith}
+use Rattle.map_rows.proofs.Common.{◌<◌, ◌≤◌, ◌-◌, ◌∷◌, [], List, ℕ, length, ap, arith, record_changed, Record}
 use Rattle.mdbox_base.specs.declared.entries.MapEntry.TheVariants as entry
-use Rattle.model_meaning.specs.MapMeaning.{record_changed}
-use Rattle.map_rows.specs.declared.rows.Record.{Record}
 use Rattle.map_rows.proofs.EditLemmas.{count_at, changed_nowhere, lowers_only, lowered}
 use Rattle.map_rows.proofs.edits.lower.Goals as goal
 

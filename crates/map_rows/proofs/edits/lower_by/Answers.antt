@@ -1,6 +1,4 @@
-use Rattle.std.proofs.Common.{◌<◌, ◌≤◌, ◌-◌, ◌∷◌, [], List, ℕ, length, ap, arith}
-use Rattle.map_rows.specs.Lookups.{lowered_by}
-use Rattle.map_rows.specs.declared.rows.Record.{Record}
+use Rattle.map_rows.proofs.Common.{◌<◌, ◌≤◌, ◌-◌, ◌∷◌, [], List, ℕ, length, ap, arith, lowered_by, Record}
 use Rattle.map_rows.proofs.EditLemmas.{count_at, changed_nowhere, lowers_by_only, lowered_count}
 use Rattle.map_rows.proofs.edits.lower_by.Goals as goal
 

@@ -1,6 +1,4 @@
-use Rattle.std.proofs.Common.{not, rules}
-use Rattle.model_meaning.specs.MapMeaning.{MapRecord, has_map_uid, moved_record, place_given}
-use Rattle.map_rows.specs.Lookups.{meant_record}
+use Rattle.map_rows.proofs.Common.{not, rules, MapRecord, has_map_uid, moved_record, place_given, meant_record}
 use Rattle.map_rows.proofs.SwitchLemmas.{retained_as}
 use Rattle.map_rows.proofs.edits.switch_each.Goals as goal
 

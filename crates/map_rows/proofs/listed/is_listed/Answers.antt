@@ -1,7 +1,4 @@
-use Rattle.std.proofs.Common.{◌<◌, ℕ, ◌∙◌, rules}
-use Rattle.std.proofs.lemmas.List.Kept.{AllPairs-from_increasing}
-use Rattle.std.proofs.lemmas.List.Sorted.{answers_always}
-use Rattle.mdbox_base.specs.declared.ids.MapUid.{MapUid}
+use Rattle.map_rows.proofs.Common.{◌<◌, ℕ, ◌∙◌, rules, AllPairs-from_increasing, answers_always, MapUid}
 use Rattle.map_rows.proofs.SearchLemmas.{any_searched, pairs_unmap}
 use Rattle.map_rows.proofs.listed.is_listed.Goals as goal
 

@@ -1,7 +1,4 @@
-use Rattle.std.proofs.Common.{◌<◌, ℕ, Ok, Err, rules}
-use Rattle.std.proofs.lemmas.List.Kept.{AllPairs-from_increasing}
-use Rattle.std.proofs.lemmas.List.Sorted.{answers_always}
-use Rattle.mdbox_base.specs.declared.entries.MapPlace.{MapPlace}
+use Rattle.map_rows.proofs.Common.{◌<◌, ℕ, Ok, Err, rules, AllPairs-from_increasing, answers_always, MapPlace}
 use Rattle.map_rows.proofs.SearchLemmas.{searched, pairs_unmap, found_at, found_nowhere}
 use Rattle.map_rows.proofs.listed.place_given.Goals as goal
 

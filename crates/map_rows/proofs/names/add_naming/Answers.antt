@@ -1,6 +1,4 @@
-use Rattle.std.proofs.Common.{◌∙◌, List, ap, sym, subst, refl, arith}
-use Rattle.map_rows.specs.declared.names.NamedInstance.{NamedInstance}
-use Rattle.map_rows.specs.Named.{AreNamings, namings_of}
+use Rattle.map_rows.proofs.Common.{◌∙◌, List, ap, sym, subst, refl, arith, NamedInstance, AreNamings, namings_of}
 use Rattle.map_rows.proofs.NameLemmas.{namings_within, same_at, one_more, first_naming, insert_are}
 use Rattle.map_rows.proofs.names.add_naming.Goals as goal
 

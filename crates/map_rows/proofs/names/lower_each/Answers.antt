@@ -1,4 +1,4 @@
-use Rattle.std.proofs.Common.{◌∙◌, arith}
+use Rattle.map_rows.proofs.Common.{◌∙◌, arith}
 use Rattle.map_rows.proofs.NameLemmas.{next_there, one_further, no_row}
 use Rattle.map_rows.proofs.names.lower_each.Goals as goal
 

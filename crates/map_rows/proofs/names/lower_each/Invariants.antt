@@ -1,8 +1,5 @@
-use Rattle.std.proofs.Common.{◌≡◌, ◌+◌, Bool, take}
+use Rattle.map_rows.proofs.Common.{◌≡◌, ◌+◌, Bool, take, InstRow, namings_of, AreNumbered, times}
 use Rattle.std.specs.Prelude.{vec_len, vec_capacity}
-use Rattle.mdbox_base.specs.declared.entries.InstRow.{InstRow}
-use Rattle.map_rows.specs.Named.{namings_of, AreNumbered}
-use Rattle.map_rows.specs.Orders.{times}
 use Rattle.map_rows.proofs.names.lower_each.Given as goal
 
 -- those so far are removed

@@ -1,5 +1,4 @@
-use Rattle.std.proofs.Common.{◌≤◌, ◌∙◌, ap, sym, subst, refl, arith}
-use Rattle.map_rows.specs.declared.names.NamedInstance.{NamedInstance}
+use Rattle.map_rows.proofs.Common.{◌≤◌, ◌∙◌, ap, sym, subst, refl, arith, NamedInstance}
 use Rattle.map_rows.proofs.NameLemmas.{named_there, row_there, one_less}
 use Rattle.map_rows.proofs.names.lower_naming.Goals as goal
 

@@ -1,8 +1,4 @@
-use Rattle.std.proofs.Common.{◌∙◌, List, map, length, ap, sym, subst, refl, arith}
-use Rattle.mdbox_base.specs.declared.entries.InstRow.{InstRow}
-use Rattle.model_meaning.specs.MapMeaning.{MapRecord}
-use Rattle.map_rows.specs.Lookups.{meant_record}
-use Rattle.map_rows.specs.Named.{AreNamesOf, instances_of}
+use Rattle.map_rows.proofs.Common.{◌∙◌, List, map, length, ap, sym, subst, refl, arith, InstRow, MapRecord, meant_record, AreNamesOf, instances_of}
 use Rattle.map_rows.proofs.NameLemmas.{fewer, left_first, next_named, next_dropped, next_missing}
 use Rattle.map_rows.proofs.names.lower_records.Goals.{in-Some, in-None}
 use Rattle.map_rows.proofs.names.lower_records.Goals as goal

@@ -1,8 +1,5 @@
-use Rattle.std.proofs.Common.{◌≡◌, ◌+◌, map, filter, take, not}
+use Rattle.map_rows.proofs.Common.{◌≡◌, ◌+◌, map, filter, take, not, has_map_uid, meant_record, all_namings, AreNumbered, AreNamesOf, instances_of}
 use Rattle.std.specs.Prelude.{vec_len, vec_capacity}
-use Rattle.model_meaning.specs.MapMeaning.{has_map_uid}
-use Rattle.map_rows.specs.Lookups.{meant_record}
-use Rattle.map_rows.specs.Named.{all_namings, AreNumbered, AreNamesOf, instances_of}
 use Rattle.map_rows.proofs.names.lower_records.Given as goal
 
 -- the namings of the records so far are removed

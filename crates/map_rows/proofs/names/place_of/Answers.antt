@@ -1,5 +1,4 @@
-use Rattle.std.proofs.Common.{rules}
-use Rattle.std.proofs.lemmas.List.Sorted.{answers_always}
+use Rattle.map_rows.proofs.Common.{rules, answers_always}
 use Rattle.map_rows.proofs.NameLemmas.{searched_names}
 use Rattle.map_rows.proofs.names.place_of.Goals as goal
 

@@ -1,5 +1,4 @@
-use Rattle.std.proofs.Common.{rules}
-use Rattle.std.proofs.lemmas.List.Sorted.{answers_always}
+use Rattle.map_rows.proofs.Common.{rules, answers_always}
 use Rattle.map_rows.proofs.OrderLemmas.{searched}
 use Rattle.map_rows.proofs.order.place_of.Goals as goal
 

@@ -1,6 +1,4 @@
-use Rattle.std.proofs.Common.{rules, Ok, Err}
-use Rattle.std.proofs.lemmas.List.Sorted.{answers_always}
-use Rattle.map_rows.specs.declared.rows.Record.{Record}
+use Rattle.map_rows.proofs.Common.{rules, Ok, Err, answers_always, Record}
 use Rattle.map_rows.proofs.SearchLemmas.{searched}
 use Rattle.map_rows.proofs.rows.place_with_uid.Goals as goal
 

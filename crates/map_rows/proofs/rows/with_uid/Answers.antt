@@ -1,7 +1,5 @@
-use Rattle.std.proofs.Common.{◌≡◌, ◌==◌, ◌∙◌, find, sym, ap, slice_get, Some}
-use Rattle.std.proofs.lemmas.List.Folds.{find_at}
-use Rattle.std.proofs.lemmas.Option.{slice_get-get_or, slice_get_past}
-use Rattle.map_rows.specs.declared.rows.Record.{Record}
+use Rattle.map_rows.proofs.Common.{◌≡◌, ◌==◌, ◌∙◌, find, sym, ap, slice_get, Some, find_at, slice_get_past, Record}
+use Rattle.std.proofs.lemmas.Option.{slice_get-get_or}
 use Rattle.map_rows.proofs.rows.with_uid.Goals as goal
 
 pub returns-then-place-records : goal.returns-then-place-records

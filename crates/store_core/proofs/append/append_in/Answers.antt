@@ -1,6 +1,4 @@
-use Rattle.std.proofs.Common.{◌≡◌, ap, subst}
-use Rattle.disk_model.specs.Disk.{EachImage, OthersStay}
-use Rattle.gate_log.specs.State.{LogState}
+use Rattle.store_core.proofs.Common.{◌≡◌, ap, subst, EachImage, OthersStay, LogState}
 use Rattle.store_core.proofs.append.append_in.Goals.{in-A+in_ok-reserve_row, in_default}
 use Rattle.store_core.proofs.append.append_in.Goals as goal
 

@@ -1,5 +1,4 @@
-use Rattle.std.proofs.Common.{◌≢◌, ℕ, ◌<◌, slice_index_or}
-use Rattle.store_core.specs.declared.store.OpenBox.{OpenBox}
+use Rattle.store_core.proofs.Common.{◌≢◌, ℕ, ◌<◌, slice_index_or, OpenBox}
 use Rattle.store_core.proofs.append.place_of.Given as goal
 
 abbrev pub invariant-loop-place : goal.invariant-loop-place

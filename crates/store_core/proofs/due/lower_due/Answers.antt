@@ -1,4 +1,4 @@
-use Rattle.std.proofs.Common.{◌-◌, ℕ, slice_set, sym, ◌∙◌, ap}
+use Rattle.store_core.proofs.Common.{◌-◌, ℕ, slice_set, sym, ◌∙◌, ap}
 use Rattle.store_core.proofs.DueChangeLemmas.{found_place, lost_place, own_number}
 use Rattle.store_core.proofs.due.lower_due.Goals as goal
 

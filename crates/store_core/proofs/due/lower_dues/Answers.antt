@@ -1,7 +1,5 @@
-use Rattle.std.proofs.Common.{◌-◌, ℕ, List, sym, ◌∙◌, ap}
+use Rattle.store_core.proofs.Common.{◌-◌, ℕ, List, sym, ◌∙◌, ap, MapUid, change_beside}
 use Rattle.std.proofs.lemmas.List.Sums.{fold_more}
-use Rattle.mdbox_base.specs.declared.ids.MapUid.{MapUid}
-use Rattle.store_core.specs.Append.{change_beside}
 use Rattle.store_core.proofs.DueChangeLemmas.{length_after}
 use Rattle.store_core.proofs.due.lower_dues.Goals as goal
 

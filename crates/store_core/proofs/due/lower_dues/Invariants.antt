@@ -1,5 +1,5 @@
-use Rattle.std.proofs.Common.{◌≡◌, ◌-◌, fold, take, length}
-use Rattle.store_core.specs.Append.{change_beside}
+use Rattle.store_core.proofs.Common.{◌≡◌, ◌-◌, take, length, change_beside}
+use Rattle.std.proofs.Common.{fold}
 use Rattle.store_core.proofs.due.lower_dues.Given as goal
 
 -- the numbers after the map uids so far

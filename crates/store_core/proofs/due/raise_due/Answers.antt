@@ -1,4 +1,4 @@
-use Rattle.std.proofs.Common.{◌+◌, ℕ, slice_set, sym, ◌∙◌, ap, arith}
+use Rattle.store_core.proofs.Common.{◌+◌, ℕ, slice_set, sym, ◌∙◌, ap, arith}
 use Rattle.store_core.proofs.DueChangeLemmas.{found_place, lost_place, own_number}
 use Rattle.store_core.proofs.due.raise_due.Goals as goal
 

@@ -1,8 +1,7 @@
-use Rattle.std.proofs.Common.{◌≡◌, sym, ◌∙◌, ap, arith, add-one, length, slice_set, List}
-use Rattle.gate_log.specs.State.{LogState}
+use Rattle.store_core.proofs.Common.{◌≡◌, sym, ◌∙◌, ap, arith, length, slice_set, List, LogState, roomy_box, OpenBox}
+use Rattle.std.proofs.Common.{add-one}
 use Rattle.model_octets.proofs.InPlaceLemmas.{changed_to-none, changed_to-full, changed_to-set, length-changed_to}
-use Rattle.store_core.specs.Value.{roomy_log, roomy_box}
-use Rattle.store_core.specs.declared.store.OpenBox.{OpenBox}
+use Rattle.store_core.specs.Value.{roomy_log}
 use Rattle.store_core.proofs.RoomLemmas.{roomy_by}
 use Rattle.store_core.proofs.room.give_rooms.Goals as goal
 

@@ -1,7 +1,6 @@
-use Rattle.std.proofs.Common.{◌≡◌, ◌+◌, length, All}
+use Rattle.store_core.proofs.Common.{◌≡◌, ◌+◌, length, All, entry_room, roomy_box}
 use Rattle.std.specs.Prelude.{vec_len}
 use Rattle.model_octets.proofs.InPlaceLemmas.{changed_to}
-use Rattle.store_core.specs.Value.{entry_room, roomy_box}
 use Rattle.store_core.proofs.room.give_rooms.Given as goal
 
 -- the boxes before this place have their room, and there is one for each of the others

@@ -1,5 +1,4 @@
-use Rattle.std.proofs.Common.{◌≡◌, length, All}
-use Rattle.store_core.specs.Value.{entry_room}
+use Rattle.store_core.proofs.Common.{◌≡◌, length, All, entry_room}
 use Rattle.store_core.proofs.room.rooms_for.Given as goal
 
 abbrev pub invariant-loop : goal.invariant-loop

@@ -1,11 +1,6 @@
-use Rattle.std.proofs.Common.{◌≡◌, ◌∙◌, ◌∷◌, ◌+◌, [], ℕ, List, length, length-append, take, take_all, sym, ap, arith}
-use Rattle.std.specs.Prelude.{count_by}
-use Rattle.std.specs.Str.{bytes_eq}
-use Rattle.std.proofs.lemmas.List.{length-map}
+use Rattle.store_core.proofs.Common.{◌≡◌, ◌∙◌, ◌∷◌, ◌+◌, [], ℕ, List, length, length-append, take, sym, ap, arith, count_by, bytes_eq, length-map, row_of, BoxRow, LogRow}
+use Rattle.std.proofs.Common.{take_all}
 use Rattle.std.proofs.lemmas.Iterator.Consumers.{YieldsList-from_first, YieldsList-turn, YieldsList-end}
-use Rattle.box_index.specs.Row.{row_of}
-use Rattle.box_index.specs.declared.index.BoxRow.{BoxRow}
-use Rattle.model_meaning.specs.BoxMeaning.{LogRow}
 use Rattle.store_core.proofs.CountingLemmas.{count_more, count_none, row_here}
 use Rattle.store_core.proofs.store.listed_in.Goals as goal
 

@@ -1,6 +1,4 @@
-use Rattle.std.proofs.Common.{◌≡◌, ◌≤◌, length, take}
-use Rattle.std.specs.Prelude.{count_by}
-use Rattle.std.specs.Str.{bytes_eq}
+use Rattle.store_core.proofs.Common.{◌≡◌, ◌≤◌, length, take, count_by, bytes_eq}
 use Rattle.store_core.proofs.store.listed_in.Given as goal
 
 abbrev pub invariant-loop-row : goal.invariant-loop-row

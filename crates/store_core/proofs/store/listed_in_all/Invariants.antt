@@ -1,6 +1,4 @@
-use Rattle.std.proofs.Common.{◌≡◌, ◌≤◌, ◌*◌, take}
-use Rattle.std.specs.Prelude.{count_by, sum_by}
-use Rattle.std.specs.Str.{bytes_eq}
+use Rattle.store_core.proofs.Common.{◌≡◌, ◌≤◌, ◌*◌, take, count_by, sum_by, bytes_eq}
 use Rattle.store_core.proofs.store.listed_in_all.Given as goal
 
 abbrev pub invariant-loop-open_box : goal.invariant-loop-open_box

@@ -1,5 +1,4 @@
-use Rattle.std.proofs.Common.{Bool, sym, subst}
-use Rattle.folder_disk.specs.Over.{IsDiskOver}
+use Rattle.folder_disk.proofs.Common.{Bool, sym, subst, IsDiskOver}
 use Rattle.folder_disk.proofs.ChangedLemmas.{noted_all}
 use Rattle.folder_disk.proofs.disk.FolderDisk.ask.Goals as goal
 

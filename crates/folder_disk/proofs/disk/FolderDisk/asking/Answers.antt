@@ -1,7 +1,4 @@
-use Rattle.std.proofs.Common.{ℕ, List, false, sym, subst}
-use Rattle.std.proofs.lemmas.Bool.{false≢true}
-use Rattle.disk_record.specs.declared.change.Change.{Change}
-use Rattle.folder_disk.specs.Over.{IsDiskOver}
+use Rattle.folder_disk.proofs.Common.{ℕ, List, false, sym, subst, false≢true, Change, IsDiskOver}
 use Rattle.folder_disk.proofs.OverLemmas.{disk_begins}
 use Rattle.folder_disk.proofs.ChangedLemmas.{noted_all}
 use Rattle.folder_disk.proofs.disk.FolderDisk.asking.Goals as goal

@@ -1,22 +1,12 @@
-use Rattle.std.proofs.Common.{ℕ, List, [], ◌∷◌, Bool, true, sym, subst}
-use Rattle.std.proofs.lemmas.Bool.{false≢true}
-use Rattle.disk_model.specs.Disk.{cut_to}
-use Rattle.disk_record.specs.declared.change.Change.{Change}
+use Rattle.folder_disk.proofs.Common.{ℕ, List, [], ◌∷◌, Bool, true, sym, subst, false≢true, cut_to, Change, IsDiskOver, ghosts, AreKnownNames, told_history, refl, half_cut, KeepsNames, IsChanged}
 use Rattle.disk_record.specs.declared.change.Change.TheVariants.{Cut}
-use Rattle.folder_disk.specs.Over.{IsDiskOver}
 use Rattle.folder_disk.proofs.ChangeLemmas.{locked_changed}
 use Rattle.folder_disk.proofs.CutLemmas.{cut_over, half_cut_over}
-use Rattle.disk_model.specs.contracts.name.FileNameOrd.TheImpl.{ghosts}
 use Rattle.disk_record.specs.declared.change.Change.TheVariants as step
-use Rattle.folder_disk.specs.Known.{AreKnownNames}
-use Rattle.folder_disk.specs.Over.{told_history}
 use Rattle.folder_disk.proofs.OverLemmas.{history_goes_on}
 use Rattle.folder_disk.proofs.KnownLemmas.{known_then, keeps_one}
-use Rattle.std.proofs.Common.{refl}
-use Rattle.disk_model.specs.Disk.{change, half_cut}
-use Rattle.folder_disk.specs.Changed.{KeepsNames}
+use Rattle.disk_model.specs.Disk.{change}
 use Rattle.folder_disk.proofs.ChangedLemmas.{becomes_map, noted_kept, changed_keeps}
-use Rattle.folder_disk.specs.Files.{IsChanged}
 use Rattle.folder_disk.proofs.disk.FolderDisk.cut_to_end.Goals as goal
 
 pub invariant_of-self-clause-over : goal.invariant_of-self-clause-over

@@ -1,9 +1,4 @@
-use Rattle.std.proofs.Common.{ℕ, List, [], true, sym, subst}
-use Rattle.std.proofs.lemmas.Bool.{false≢true}
-use Rattle.disk_record.specs.declared.change.Change.{Change}
-use Rattle.disk_model.specs.contracts.name.FileNameOrd.TheImpl.{ghosts}
-use Rattle.folder_disk.specs.Known.{AreKnownNames}
-use Rattle.folder_disk.specs.Over.{IsDiskOver, told_history}
+use Rattle.folder_disk.proofs.Common.{ℕ, List, [], true, sym, subst, false≢true, Change, ghosts, AreKnownNames, IsDiskOver, told_history}
 use Rattle.folder_disk.proofs.ChangeLemmas.{nothing_done}
 use Rattle.folder_disk.proofs.KnownLemmas.{known_fails}
 use Rattle.folder_disk.proofs.disk.FolderDisk.fail.Goals as goal

@@ -1,7 +1,4 @@
-use Rattle.std.proofs.Common.{◌≡◌, Option, sym, subst}
-use Rattle.disk_model.specs.contracts.name.FileNameOrd.TheImpl.{ghosts}
-use Rattle.folder_disk.specs.Known.{AreKnownNames}
-use Rattle.folder_disk.specs.Over.{told_history}
+use Rattle.folder_disk.proofs.Common.{◌≡◌, Option, sym, subst, ghosts, AreKnownNames, told_history}
 use Rattle.folder_disk.proofs.KnownLemmas.{looked_found}
 use Rattle.folder_disk.proofs.ChangedLemmas.{noted_same}
 use Rattle.folder_disk.proofs.OverLemmas.{over_same, locked_same}

@@ -1,16 +1,6 @@
-use Rattle.std.proofs.Common.{◌≡◌, ℕ, List, [], ◌∷◌, Bool, true, false, sym, subst}
-use Rattle.std.proofs.lemmas.Bool.{false≢true}
-use Rattle.disk_model.specs.Disk.{after}
-use Rattle.disk_record.specs.Record.{state_after}
-use Rattle.disk_record.specs.declared.change.Change.{Change}
+use Rattle.folder_disk.proofs.Common.{◌≡◌, ℕ, List, [], ◌∷◌, Bool, true, false, sym, subst, false≢true, after, state_after, Change, IsLocked, IsDiskOver, told_history, ghosts, AreKnownNames, refl, made, half_made}
 use Rattle.disk_record.specs.declared.change.Change.TheVariants as change
-use Rattle.folder_model.specs.Calls.{IsLocked}
-use Rattle.folder_disk.specs.Over.{IsDiskOver, told_history}
-use Rattle.disk_model.specs.contracts.name.FileNameOrd.TheImpl.{ghosts}
-use Rattle.folder_disk.specs.Known.{AreKnownNames}
 use Rattle.folder_disk.proofs.KnownLemmas.{known_then, known_changed, known_taken, keeps_one}
-use Rattle.std.proofs.Common.{refl}
-use Rattle.disk_model.specs.Disk.{made, half_made}
 use Rattle.folder_disk.proofs.ChangedLemmas.{noted_through}
 use Rattle.folder_disk.proofs.disk.FolderDisk.make_to.Goals as goal
 

@@ -1,7 +1,4 @@
-use Rattle.std.proofs.Common.{Option, subst}
-use Rattle.disk_model.specs.Disk.{History, IfTold, IsNext}
-use Rattle.disk_model.specs.contracts.name.FileNameOrd.TheImpl.{ghosts}
-use Rattle.folder_disk.specs.Over.{told_history}
+use Rattle.folder_disk.proofs.Common.{Option, subst, History, IfTold, IsNext, ghosts, told_history}
 use Rattle.folder_disk.proofs.KnownLemmas.{next_known}
 use Rattle.folder_disk.proofs.NextLemmas.{next_past}
 use Rattle.folder_disk.proofs.disk.FolderDisk.next_of.Goals as goal

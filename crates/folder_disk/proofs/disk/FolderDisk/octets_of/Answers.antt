@@ -1,9 +1,4 @@
-use Rattle.std.proofs.Common.{◌≡◌, length, IfSome, IfNone, string_bytes, subst}
-use Rattle.file_paths.specs.Paths.{path_text, IsStoreFile}
-use Rattle.std.proofs.Common.{Option, ap}
-use Rattle.disk_model.specs.contracts.name.FileNameOrd.TheImpl.{ghosts}
-use Rattle.folder_disk.specs.Files.{IsSettledLog}
-use Rattle.folder_disk.specs.Over.{told_history}
+use Rattle.folder_disk.proofs.Common.{◌≡◌, length, IfSome, IfNone, string_bytes, subst, path_text, IsStoreFile, Option, ap, ghosts, IsSettledLog, told_history}
 use Rattle.folder_disk.proofs.ReadLemmas.{settled_read, octets_found, none_found, other_found}
 use Rattle.folder_disk.proofs.ChangedLemmas.{noted_same}
 use Rattle.folder_disk.proofs.KnownLemmas.{known_same}

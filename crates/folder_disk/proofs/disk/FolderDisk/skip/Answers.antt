@@ -1,16 +1,7 @@
-use Rattle.std.proofs.Common.{ℕ, List, [], ◌∷◌, Bool, true, false, sym, subst}
-use Rattle.std.proofs.lemmas.Bool.{false≢true}
-use Rattle.disk_record.specs.declared.change.Change.{Change}
+use Rattle.folder_disk.proofs.Common.{ℕ, List, [], ◌∷◌, Bool, true, false, sym, subst, false≢true, Change, IsLocked, IsDiskOver, told_history, ghosts, AreKnownNames, refl, removed}
 use Rattle.disk_record.specs.declared.change.Change.TheVariants as change
-use Rattle.folder_model.specs.Calls.{IsLocked}
-use Rattle.folder_disk.specs.Over.{IsDiskOver, told_history}
 use Rattle.folder_disk.proofs.SeenLemmas.{skipped_over, told_as}
-use Rattle.disk_model.specs.contracts.name.FileNameOrd.TheImpl.{ghosts}
-use Rattle.folder_disk.specs.Known.{AreKnownNames}
-use Rattle.folder_disk.specs.Over.{told_history}
 use Rattle.folder_disk.proofs.KnownLemmas.{known_changed, known_taken, told_step}
-use Rattle.std.proofs.Common.{ℕ, List, [], ◌∷◌, Bool, false, refl, sym, subst}
-use Rattle.disk_model.specs.Disk.{removed}
 use Rattle.folder_disk.proofs.disk.FolderDisk.skip.Goals as goal
 
 pub invariant_of-self-clause-over : goal.invariant_of-self-clause-over

@@ -1,16 +1,6 @@
-use Rattle.std.proofs.Common.{◌≡◌, ℕ, List, [], ◌∷◌, Bool, true, false, sym, subst}
-use Rattle.std.proofs.lemmas.Bool.{false≢true}
-use Rattle.disk_model.specs.Disk.{after}
-use Rattle.disk_record.specs.Record.{state_after}
-use Rattle.disk_record.specs.declared.change.Change.{Change}
+use Rattle.folder_disk.proofs.Common.{◌≡◌, ℕ, List, [], ◌∷◌, Bool, true, false, sym, subst, false≢true, after, state_after, Change, IsLocked, IsDiskOver, told_history, ghosts, AreKnownNames, refl, change_all, named}
 use Rattle.disk_record.specs.declared.change.Change.TheVariants as change
-use Rattle.folder_model.specs.Calls.{IsLocked}
-use Rattle.folder_disk.specs.Over.{IsDiskOver, told_history}
-use Rattle.disk_model.specs.contracts.name.FileNameOrd.TheImpl.{ghosts}
-use Rattle.folder_disk.specs.Known.{AreKnownNames}
 use Rattle.folder_disk.proofs.KnownLemmas.{known_then, keeps_all}
-use Rattle.std.proofs.Common.{refl}
-use Rattle.disk_model.specs.Disk.{change_all, named}
 use Rattle.folder_disk.proofs.ChangedLemmas.{cleared_noted, noted_now}
 use Rattle.folder_disk.proofs.disk.FolderDisk.sync_all_names.Goals as goal
 

@@ -1,6 +1,4 @@
-use Rattle.std.proofs.Common.{Bool, false, true, sym, subst}
-use Rattle.std.proofs.lemmas.Bool.{false≢true}
-use Rattle.folder_disk.specs.Over.{IsDiskOver}
+use Rattle.folder_disk.proofs.Common.{Bool, false, true, sym, subst, false≢true, IsDiskOver}
 use Rattle.folder_disk.proofs.ChangedLemmas.{noted_kept}
 use Rattle.folder_disk.proofs.disk.FolderDisk.sync_quietly.Goals as goal
 

@@ -1,23 +1,12 @@
-use Rattle.std.proofs.Common.{ℕ, List, [], ◌∷◌, Bool, true, sym, subst}
-use Rattle.std.proofs.lemmas.Bool.{false≢true}
-use Rattle.disk_record.specs.declared.change.Change.{Change}
+use Rattle.folder_disk.proofs.Common.{ℕ, List, [], ◌∷◌, Bool, true, sym, subst, false≢true, Change, IsDiskOver, ghosts, AreKnownNames, told_history, refl, synced, KeepsNames, ◌≡◌, with_synced_file, HasFileAt}
 use Rattle.disk_record.specs.declared.change.Change.TheVariants.{Synced}
-use Rattle.folder_disk.specs.Over.{IsDiskOver}
 use Rattle.folder_disk.proofs.SyncLemmas.{synced_over, unsynced_over, locked_synced}
-use Rattle.disk_model.specs.contracts.name.FileNameOrd.TheImpl.{ghosts}
 use Rattle.disk_record.specs.declared.change.Change.TheVariants as step
-use Rattle.folder_disk.specs.Known.{AreKnownNames}
-use Rattle.folder_disk.specs.Over.{told_history}
 use Rattle.folder_disk.proofs.OverLemmas.{history_goes_on}
 use Rattle.folder_disk.proofs.KnownLemmas.{known_then, keeps_one}
-use Rattle.std.proofs.Common.{refl}
-use Rattle.disk_model.specs.Disk.{change, synced}
+use Rattle.disk_model.specs.Disk.{change}
 use Rattle.folder_disk.proofs.SyncLemmas.{unsynced_told}
-use Rattle.folder_disk.specs.Changed.{KeepsNames}
 use Rattle.folder_disk.proofs.ChangedLemmas.{becomes_map, noted_kept, file_synced_keeps}
-use Rattle.std.proofs.Common.{◌≡◌}
-use Rattle.folder_model.specs.System.{with_synced_file}
-use Rattle.folder_disk.specs.Files.{HasFileAt}
 use Rattle.folder_disk.proofs.disk.FolderDisk.sync_to.Goals as goal
 
 pub invariant_of-self-clause-over : goal.invariant_of-self-clause-over

@@ -1,22 +1,13 @@
-use Rattle.std.proofs.Common.{◌<◌, ℕ, List, [], ◌∷◌, Bool, true, All, Fits, w8, get_or, sym, subst, arith}
-use Rattle.std.proofs.lemmas.Bool.{false≢true}
+use Rattle.folder_disk.proofs.Common.{◌<◌, ℕ, List, [], ◌∷◌, Bool, true, All, get_or, sym, subst, arith, false≢true, written, Change, IsDiskOver, ghosts, AreKnownNames, told_history, refl, length, half_written, KeepsNames, IsChanged}
+use Rattle.std.proofs.Common.{Fits, w8}
 use Rattle.std.proofs.lemmas.List.Elements.{All-from_get_or}
-use Rattle.disk_model.specs.Disk.{written}
-use Rattle.disk_record.specs.declared.change.Change.{Change}
 use Rattle.disk_record.specs.declared.change.Change.TheVariants.{Written}
-use Rattle.folder_disk.specs.Over.{IsDiskOver}
 use Rattle.folder_disk.proofs.ChangeLemmas.{wrote_over, half_wrote_over, locked_changed}
-use Rattle.disk_model.specs.contracts.name.FileNameOrd.TheImpl.{ghosts}
 use Rattle.disk_record.specs.declared.change.Change.TheVariants as step
-use Rattle.folder_disk.specs.Known.{AreKnownNames}
-use Rattle.folder_disk.specs.Over.{told_history}
 use Rattle.folder_disk.proofs.OverLemmas.{history_goes_on}
 use Rattle.folder_disk.proofs.KnownLemmas.{known_then, keeps_one}
-use Rattle.std.proofs.Common.{refl, length}
-use Rattle.disk_model.specs.Disk.{change, half_written}
-use Rattle.folder_disk.specs.Changed.{KeepsNames}
+use Rattle.disk_model.specs.Disk.{change}
 use Rattle.folder_disk.proofs.ChangedLemmas.{becomes_map, noted_kept, changed_keeps}
-use Rattle.folder_disk.specs.Files.{IsChanged}
 use Rattle.folder_disk.proofs.disk.FolderDisk.write_to.Goals as goal
 
 pub invariant_of-self-clause-over : goal.invariant_of-self-clause-over

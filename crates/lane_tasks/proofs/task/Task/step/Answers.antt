@@ -1,23 +1,17 @@
-use Rattle.std.proofs.Common.{◌≡◌, ◌<◌, Bool, true, false, refl, sym, ◌∙◌, ap, subst}
+use Rattle.lane_tasks.proofs.Common.{◌≡◌, ◌<◌, Bool, true, false, refl, sym, ◌∙◌, ap, subst, Progress, StoreValue, ended_by, IsReadyTask, claims_at, work_left, Task, MakeAnswers}
 use Rattle.std.specs.Prelude.{◌↔◌}
-use Rattle.mdbox_base.specs.declared.progress.Progress.{Progress}
 use Rattle.mdbox_base.specs.declared.progress.Progress.TheVariants as progress
 use Rattle.mdbox_base.specs.declared.replies.Refusal.TheVariants as refusal
 use Rattle.mdbox_base.specs.declared.replies.Reply.TheVariants as reply
-use Rattle.store_core.specs.Value.{StoreValue}
 use Rattle.task_claims.specs.Claims.{no_claims}
 use Rattle.task_claims.specs.Stable.{MovesOwnClaims}
-use Rattle.task_steps.specs.Step.{ended_by}
 use Rattle.purge_task.specs.Clause.{BeginsPurge}
 use Rattle.purge_task.specs.Dropped.{TellsCounts}
 use Rattle.purge_task.specs.Quiet.{KeepsQuiet}
 use Rattle.lane_tasks.specs.Clause.{TaskKeeps, StepsTask, progress_by}
-use Rattle.lane_tasks.specs.Tasks.{IsReadyTask, claims_at, work_left}
-use Rattle.lane_tasks.specs.declared.task.Task.{Task}
 use Rattle.lane_tasks.specs.declared.task.Task.TheVariants as task
 use Rattle.mail_ops.specs.Copy.{CopyAnswers}
 use Rattle.mail_ops.specs.Expunging.{ExpungeAnswers}
-use Rattle.mail_ops.specs.Making.{MakeAnswers}
 use Rattle.mail_ops.specs.Moving.{MoveAnswers}
 use Rattle.mail_ops.proofs.LeavingLemmas.{same_leaves}
 use Rattle.mail_fetch.proofs.StageLemmas.{halted_reply, used_halted}

@@ -1,8 +1,5 @@
-use Rattle.std.proofs.Common.{IsTrue, subst}
-use Rattle.std.specs.Prelude.{All, ◌↔◌}
-use Rattle.model_meaning.specs.MapMeaning.{MapRecord}
-use Rattle.model_meaning.specs.MapFits.{AgreesOn}
-use Rattle.map_index.specs.Value.{MapIndexValue}
+use Rattle.map_index.proofs.Common.{subst, All, ◌↔◌, MapRecord, AgreesOn, MapIndexValue}
+use Rattle.std.proofs.Common.{IsTrue}
 use Rattle.map_index.proofs.index.MapIndex.agrees.Goals as goal
 
 pub returns : goal.returns

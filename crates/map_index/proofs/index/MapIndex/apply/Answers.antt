@@ -1,6 +1,5 @@
-use Rattle.std.proofs.Common.{◌≡◌, subst, Option}
+use Rattle.map_index.proofs.Common.{◌≡◌, subst, Option, MapEntry}
 use Rattle.std.specs.Prelude.{MatchOption}
-use Rattle.mdbox_base.specs.declared.entries.MapEntry.{MapEntry}
 use Rattle.map_index.specs.Needs.{TakesMemory}
 use Rattle.map_index.proofs.index.MapIndex.apply.Goals as goal
 

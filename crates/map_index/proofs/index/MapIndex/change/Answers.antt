@@ -1,9 +1,5 @@
-use Rattle.std.proofs.Common.{◌<◌, ◌^◌, ◌∙◌, sym, ap, subst, arith}
-use Rattle.mdbox_base.specs.declared.entries.Highest.{Highest}
-use Rattle.model_meaning.specs.MapMeaning.{MapBox, higher}
-use Rattle.map_rows.specs.TableValue.{TableValue}
-use Rattle.map_index.specs.Kept.{IsMapInOrder}
-use Rattle.map_index.specs.Shown.{box_of}
+use Rattle.map_index.proofs.Common.{◌<◌, ◌^◌, ◌∙◌, sym, ap, subst, arith, Highest, MapBox, TableValue, IsMapInOrder, box_of}
+use Rattle.model_meaning.specs.MapMeaning.{higher}
 use Rattle.map_index.proofs.SearchLemmas.{pairs_unmap}
 use Rattle.map_index.proofs.MapOrderLemmas.{kept_more}
 use Rattle.map_index.proofs.MapAppliedLemmas.{files_stay, same_parts, space_kept, room_kept}

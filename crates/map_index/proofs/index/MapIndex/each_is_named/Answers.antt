@@ -1,10 +1,7 @@
-use Rattle.std.proofs.Common.{◌≡◌, ◌==◌, ◌∙◌, ℕ, List, not, sym, subst, refl, true, false, arith}
-use Rattle.std.specs.List.{list_any}
-use Rattle.mdbox_base.specs.declared.ids.MapUid.{MapUid}
-use Rattle.mdbox_base.specs.declared.entries.MapPlace.{MapPlace}
+use Rattle.map_index.proofs.Common.{◌≡◌, ◌==◌, ◌∙◌, ℕ, List, sym, subst, refl, true, false, arith, list_any, MapUid, MapPlace, MapIndexValue}
+use Rattle.std.proofs.Common.{not}
 use Rattle.model_meaning.specs.MapMeaning.{has_map_uid}
 use Rattle.map_rows.specs.TableKept.{AreTableRows}
-use Rattle.map_index.specs.Value.{MapIndexValue}
 use Rattle.map_index.proofs.FileWalkLemmas.{row_lies, row_walked, rows_walked, all_walked}
 use Rattle.map_index.proofs.index.MapIndex.each_is_named.Goals as goal
 

@@ -1,5 +1,4 @@
-use Rattle.std.proofs.Common.{◌≡◌, ◌<◌, ◌-◌}
-use Rattle.std.specs.Prelude.{All}
+use Rattle.map_index.proofs.Common.{◌≡◌, ◌<◌, ◌-◌, All}
 use Rattle.model_meaning.specs.MapFits.{IsMovedOrDropped}
 use Rattle.map_index.proofs.index.MapIndex.each_is_named.Given as goal
 

@@ -1,9 +1,4 @@
-use Rattle.std.specs.Prelude.{AllPairs}
-use Rattle.std.proofs.Common.{◌==◌, ◌<◌, List, ap, sym, subst}
-use Rattle.model_meaning.specs.MapMeaning.{MapBox}
-use Rattle.map_index.specs.declared.rows.Mailbox.{Mailbox}
-use Rattle.map_index.specs.Shown.{box_of}
-use Rattle.map_index.specs.Value.{MapIndexValue}
+use Rattle.map_index.proofs.Common.{AllPairs, ◌==◌, ◌<◌, List, ap, sym, subst, MapBox, Mailbox, box_of, MapIndexValue}
 use Rattle.map_index.proofs.DerivedListLemmas.{found_in}
 use Rattle.map_index.proofs.SearchLemmas.{pairs_unmap}
 use Rattle.map_index.proofs.index.MapIndex.find_box.Goals as goal

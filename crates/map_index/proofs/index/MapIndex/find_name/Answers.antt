@@ -1,8 +1,5 @@
-use Rattle.std.proofs.Common.{ap}
+use Rattle.map_index.proofs.Common.{ap, MapBox, box_of, MapIndexValue}
 use Rattle.std.specs.Str.{bytes_eq}
-use Rattle.model_meaning.specs.MapMeaning.{MapBox}
-use Rattle.map_index.specs.Shown.{box_of}
-use Rattle.map_index.specs.Value.{MapIndexValue}
 use Rattle.map_index.proofs.DerivedListLemmas.{found_in}
 use Rattle.map_index.proofs.index.MapIndex.find_name.Goals as goal
 

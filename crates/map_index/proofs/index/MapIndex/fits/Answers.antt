@@ -1,4 +1,4 @@
-use Rattle.std.proofs.Common.{◌∙◌, sym, arith}
+use Rattle.map_index.proofs.Common.{◌∙◌, sym, arith}
 use Rattle.std.proofs.lemmas.Bool.{leb-true}
 use Rattle.map_index.proofs.index.MapIndex.fits.Goals as goal
 use Rattle.map_index.proofs.index.MapIndex.fits.Goals.{then-origin-le1, else-origin-le1, then-is_new, else-is_new}

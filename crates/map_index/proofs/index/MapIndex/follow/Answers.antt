@@ -1,4 +1,4 @@
-use Rattle.std.proofs.Common.{refl, arith}
+use Rattle.map_index.proofs.Common.{refl, arith}
 use Rattle.map_index.proofs.FollowLemmas.{none_yet, one_follows, all_follow}
 use Rattle.map_index.proofs.index.MapIndex.follow.Goals as goal
 

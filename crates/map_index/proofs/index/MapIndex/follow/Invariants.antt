@@ -1,6 +1,6 @@
-use Rattle.std.proofs.Common.{◌+◌, ◌≤◌, take}
-use Rattle.std.specs.Prelude.{All, AllPairs}
-use Rattle.model_meaning.specs.MapFits.{ArePlacedApart, size_at}
+use Rattle.map_index.proofs.Common.{◌+◌, ◌≤◌, All, AllPairs, ArePlacedApart}
+use Rattle.std.proofs.Common.{take}
+use Rattle.model_meaning.specs.MapFits.{size_at}
 use Rattle.map_index.proofs.index.MapIndex.follow.Given as goal
 
 -- the regions so far are apart, and have ended

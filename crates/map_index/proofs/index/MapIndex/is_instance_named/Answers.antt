@@ -1,9 +1,6 @@
-use Rattle.std.proofs.Common.{◌∙◌, ap, sym}
+use Rattle.map_index.proofs.Common.{◌∙◌, ap, sym, list_any, MapRecord, MapIndexValue}
 use Rattle.std.specs.Str.{bytes_eq}
-use Rattle.std.specs.List.{list_any}
 use Rattle.mdbox_base.specs.declared.entries.InstRow.{InstRow}
-use Rattle.model_meaning.specs.MapMeaning.{MapRecord}
-use Rattle.map_index.specs.Value.{MapIndexValue}
 use Rattle.map_index.proofs.DerivedListLemmas.{list_any-flat_map}
 use Rattle.map_index.proofs.index.MapIndex.is_instance_named.Goals as goal
 

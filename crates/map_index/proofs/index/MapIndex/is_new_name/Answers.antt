@@ -1,7 +1,4 @@
-use Rattle.std.proofs.Common.{◌≢◌, ap}
-use Rattle.model_meaning.specs.MapMeaning.{MapBox}
-use Rattle.map_index.specs.Shown.{box_of}
-use Rattle.map_index.specs.Value.{MapIndexValue}
+use Rattle.map_index.proofs.Common.{◌≢◌, ap, MapBox, box_of, MapIndexValue}
 use Rattle.map_index.proofs.DerivedListLemmas.{all_in}
 use Rattle.map_index.proofs.index.MapIndex.is_new_name.Goals as goal
 

@@ -1,7 +1,4 @@
-use Rattle.std.specs.Prelude.{AllPairs}
-use Rattle.std.proofs.Common.{◌==◌, ◌<◌, List, ap, sym, subst, ℕ}
-use Rattle.mdbox_base.specs.declared.ids.FileNo.{FileNo}
-use Rattle.map_index.specs.Value.{MapIndexValue}
+use Rattle.map_index.proofs.Common.{AllPairs, ◌==◌, ◌<◌, List, ap, sym, subst, ℕ, FileNo, MapIndexValue}
 use Rattle.map_index.proofs.DerivedListLemmas.{any_in}
 use Rattle.map_index.proofs.SearchLemmas.{pairs_unmap}
 use Rattle.map_index.proofs.index.MapIndex.is_sealed.Goals as goal

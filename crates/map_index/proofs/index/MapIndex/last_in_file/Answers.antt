@@ -1,6 +1,5 @@
-use Rattle.std.proofs.Common.{◌+◌, ◌∙◌, ap, Option, None}
-use Rattle.std.specs.Option.{is_some, option_map_or}
-use Rattle.map_rows.specs.declared.rows.MapRow.{MapRow}
+use Rattle.map_index.proofs.Common.{◌+◌, ◌∙◌, ap, Option, None, option_map_or, MapRow}
+use Rattle.std.specs.Option.{is_some}
 use Rattle.map_index.specs.Shown.{last_record}
 use Rattle.map_index.proofs.LastLemmas.{end_shown, last_ends, some_shown, last_is_some}
 use Rattle.map_index.proofs.index.MapIndex.last_in_file.Goals as goal

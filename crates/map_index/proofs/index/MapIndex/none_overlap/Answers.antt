@@ -1,5 +1,4 @@
-use Rattle.std.proofs.Common.{◌≡◌, ◌∙◌, sym, true, false, refl, arith}
-use Rattle.model_meaning.specs.MapFits.{ArePlacedApart}
+use Rattle.map_index.proofs.Common.{◌≡◌, ◌∙◌, sym, true, false, refl, arith, ArePlacedApart}
 use Rattle.map_index.proofs.RisingLemmas.{pairs_split, pairs_joined}
 use Rattle.map_index.proofs.index.MapIndex.none_overlap.Goals as goal
 

@@ -1,6 +1,4 @@
-use Rattle.std.proofs.Common.{length}
-use Rattle.std.specs.Prelude.{AllPairs, ◌↔◌}
-use Rattle.model_meaning.specs.MapFits.{ArePlacedApart}
+use Rattle.map_index.proofs.Common.{length, AllPairs, ◌↔◌, ArePlacedApart}
 use Rattle.map_index.proofs.index.MapIndex.none_overlap.Given as goal
 
 -- the places are apart if and only if the rest is

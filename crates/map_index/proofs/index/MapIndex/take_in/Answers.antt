@@ -1,12 +1,7 @@
-use Rattle.std.proofs.Common.{◌<◌, ◌^◌, ◌∙◌, ℕ, sym, ap, subst, arith}
-use Rattle.mdbox_base.specs.declared.entries.Highest.{Highest}
-use Rattle.model_meaning.specs.MapMeaning.{MapBox, higher}
-use Rattle.map_rows.specs.TableValue.{TableValue}
+use Rattle.map_index.proofs.Common.{◌<◌, ◌^◌, ◌∙◌, ℕ, sym, ap, subst, arith, Highest, MapBox, TableValue, IsMapInOrder, MapIndexValue, box_of, FileNo}
+use Rattle.model_meaning.specs.MapMeaning.{higher}
 use Rattle.map_index.specs.declared.room.MapRoom.{MapRoom}
-use Rattle.map_index.specs.Kept.{IsMapInOrder}
-use Rattle.map_index.specs.Value.{MapIndexValue, HasRoomFor}
-use Rattle.map_index.specs.Shown.{box_of}
-use Rattle.mdbox_base.specs.declared.ids.FileNo.{FileNo}
+use Rattle.map_index.specs.Value.{HasRoomFor}
 use Rattle.map_index.proofs.SearchLemmas.{pairs_unmap}
 use Rattle.map_index.proofs.MapOrderLemmas.{kept_more}
 use Rattle.map_index.proofs.MapAppliedLemmas.{same_parts, space_left, room_left_over}

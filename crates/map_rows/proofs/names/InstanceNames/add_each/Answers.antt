@@ -1,6 +1,4 @@
-use Rattle.std.proofs.Common.{List, ap, arith}
-use Rattle.mdbox_base.specs.declared.entries.InstRow.{InstRow}
-use Rattle.map_rows.specs.Orders.{times}
+use Rattle.map_rows.proofs.Common.{List, ap, arith, InstRow, times}
 use Rattle.map_rows.proofs.NameLemmas.{next_only, one_further, all_taken, no_row}
 use Rattle.map_rows.proofs.names.InstanceNames.add_each.Goals as goal
 

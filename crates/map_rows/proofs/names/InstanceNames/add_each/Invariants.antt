@@ -1,7 +1,4 @@
-use Rattle.std.proofs.Common.{◌≡◌, ◌+◌, Bool, take}
-use Rattle.mdbox_base.specs.declared.entries.InstRow.{InstRow}
-use Rattle.map_rows.specs.Named.{AreNamings, namings_of}
-use Rattle.map_rows.specs.Orders.{times}
+use Rattle.map_rows.proofs.Common.{◌≡◌, ◌+◌, Bool, take, InstRow, AreNamings, namings_of, times}
 use Rattle.map_rows.proofs.names.InstanceNames.add_each.Given as goal
 
 -- those so far are added

@@ -1,4 +1,4 @@
-use Rattle.std.proofs.Common.{arith}
+use Rattle.map_rows.proofs.Common.{arith}
 use Rattle.map_rows.proofs.NameLemmas.{none_named}
 use Rattle.map_rows.proofs.names.InstanceNames.empty.Goals as goal
 

@@ -1,8 +1,4 @@
-use Rattle.std.specs.Option.{option_map}
-use Rattle.std.specs.Str.{bytes_eq}
-use Rattle.std.proofs.Common.{◌∙◌, Some, find, ap, sym}
-use Rattle.map_rows.specs.declared.names.NamedInstance.{NamedInstance}
-use Rattle.map_rows.specs.Named.{NamesValue}
+use Rattle.map_rows.proofs.Common.{option_map, bytes_eq, ◌∙◌, Some, find, ap, sym, NamedInstance, NamesValue}
 use Rattle.map_rows.proofs.NameLemmas.{numbered, named_at, named_gap}
 use Rattle.map_rows.proofs.names.InstanceNames.find.Goals as goal
 

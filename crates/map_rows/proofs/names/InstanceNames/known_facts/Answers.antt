@@ -1,5 +1,4 @@
-use Rattle.std.proofs.Common.{ap, subst}
-use Rattle.map_rows.specs.Named.{AreNamings, NamesValue}
+use Rattle.map_rows.proofs.Common.{ap, subst, AreNamings, NamesValue}
 use Rattle.map_rows.proofs.names.InstanceNames.known_facts.Goals as goal
 
 pub returns : goal.returns

@@ -1,8 +1,5 @@
-use Rattle.std.specs.Prelude.{nat_le}
-use Rattle.std.proofs.Common.{◌≡◌, ◌∙◌, true, ap, sym, subst, arith, rules}
+use Rattle.map_rows.proofs.Common.{nat_le, ◌≡◌, ◌∙◌, true, ap, sym, subst, arith, rules, NamedInstance, AreNamings, all_namings, namings_of}
 use Rattle.std.proofs.lemmas.Fn.{filter_same}
-use Rattle.map_rows.specs.declared.names.NamedInstance.{NamedInstance}
-use Rattle.map_rows.specs.Named.{AreNamings, all_namings, namings_of}
 use Rattle.map_rows.proofs.NameLemmas.{swept_names, swept_are}
 use Rattle.map_rows.proofs.names.InstanceNames.remove_each.Goals as goal
 

@@ -1,7 +1,4 @@
-use Rattle.std.proofs.Common.{◌≡◌, ◌≤◌, ◌+◌, ◌-◌, ◌==◌, ◌∙◌, ap, sym, subst, find, None, arith, vec_len, vec_capacity}
-use Rattle.map_rows.specs.declared.order.OrderKey.{OrderKey}
-use Rattle.map_rows.specs.Value.{OrderValue}
-use Rattle.map_rows.specs.Orders.{NumbersRise, with_key}
+use Rattle.map_rows.proofs.Common.{◌≡◌, ◌≤◌, ◌+◌, ◌-◌, ◌==◌, ◌∙◌, ap, sym, subst, find, None, arith, vec_len, vec_capacity, OrderKey, OrderValue, NumbersRise, with_key}
 use Rattle.map_rows.proofs.OrderLemmas.{not_new, inserted_is, with_rises, same_value}
 use Rattle.map_rows.proofs.order.Order.add.Goals as goal
 

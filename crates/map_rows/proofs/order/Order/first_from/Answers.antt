@@ -1,8 +1,4 @@
-use Rattle.std.proofs.Common.{◌∙◌, ap, sym, find, slice_get}
-use Rattle.std.specs.Prelude.{nat_le}
-use Rattle.std.specs.Option.{option_map}
-use Rattle.map_rows.specs.declared.order.OrderKey.{OrderKey}
-use Rattle.map_rows.specs.Value.{OrderValue}
+use Rattle.map_rows.proofs.Common.{◌∙◌, ap, sym, find, slice_get, nat_le, option_map, OrderKey, OrderValue}
 use Rattle.map_rows.proofs.OrderLemmas.{first_is}
 use Rattle.map_rows.proofs.order.Order.first_from.Goals as goal
 

@@ -1,9 +1,4 @@
-use Rattle.std.proofs.Common.{◌≡◌, ◌≤◌, ◌-◌, ◌∙◌, ap, sym, filter, slice_get, arith}
-use Rattle.std.specs.Prelude.{nat_lt}
-use Rattle.std.specs.Option.{option_map}
-use Rattle.map_rows.specs.declared.order.OrderKey.{OrderKey}
-use Rattle.map_rows.specs.Value.{OrderValue}
-use Rattle.map_rows.specs.Orders.{last_of}
+use Rattle.map_rows.proofs.Common.{◌≡◌, ◌≤◌, ◌-◌, ◌∙◌, ap, sym, filter, slice_get, arith, nat_lt, option_map, OrderKey, OrderValue, last_of}
 use Rattle.map_rows.proofs.OrderLemmas.{last_is, none_below}
 use Rattle.map_rows.proofs.order.Order.last_below.Goals as goal
 

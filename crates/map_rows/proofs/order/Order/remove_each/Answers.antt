@@ -1,10 +1,5 @@
-use Rattle.std.proofs.Common.{◌+◌, ◌≤◌, ◌<◌, ◌∙◌, not, ap, sym, subst, arith, rules, vec_len, vec_capacity}
+use Rattle.map_rows.proofs.Common.{◌+◌, ◌≤◌, ◌<◌, ◌∙◌, not, ap, sym, subst, arith, rules, vec_len, vec_capacity, AllPairs-filter, has_map_uid, OrderKey, OrderValue, NumbersRise}
 use Rattle.std.proofs.lemmas.Fn.{filter_same}
-use Rattle.std.proofs.lemmas.List.Kept.{AllPairs-filter}
-use Rattle.model_meaning.specs.MapMeaning.{has_map_uid}
-use Rattle.map_rows.specs.declared.order.OrderKey.{OrderKey}
-use Rattle.map_rows.specs.Value.{OrderValue}
-use Rattle.map_rows.specs.Orders.{NumbersRise}
 use Rattle.map_rows.proofs.SwitchLemmas.{left_keys}
 use Rattle.map_rows.proofs.order.Order.remove_each.Goals as goal
 

@@ -1,8 +1,5 @@
-use Rattle.std.proofs.Common.{◌+◌, ◌≤◌, ◌==◌, ◌∙◌, ℕ, Bool, ap, sym, subst, arith, rules, vec_len, vec_capacity}
+use Rattle.map_rows.proofs.Common.{◌+◌, ◌≤◌, ◌==◌, ◌∙◌, ℕ, Bool, ap, sym, subst, arith, rules, vec_len, vec_capacity, OrderKey, OrderValue, times}
 use Rattle.std.proofs.lemmas.List.Sorted.{IsNonDecreasingBy-from_sort_by_key}
-use Rattle.map_rows.specs.declared.order.OrderKey.{OrderKey}
-use Rattle.map_rows.specs.Value.{OrderValue}
-use Rattle.map_rows.specs.Orders.{times}
 use Rattle.map_rows.proofs.SwitchLemmas.{times_permuted, rises_once, moved_keys}
 use Rattle.map_rows.proofs.order.Order.switch.Goals as goal
 

@@ -1,7 +1,4 @@
-use Rattle.std.proofs.Common.{◌==◌, ◌∙◌, ap, sym, find, slice_get}
-use Rattle.std.specs.Option.{option_map}
-use Rattle.map_rows.specs.declared.order.OrderKey.{OrderKey}
-use Rattle.map_rows.specs.Value.{OrderValue}
+use Rattle.map_rows.proofs.Common.{◌==◌, ◌∙◌, ap, sym, find, slice_get, option_map, OrderKey, OrderValue}
 use Rattle.map_rows.proofs.OrderLemmas.{found_is, absent_is}
 use Rattle.map_rows.proofs.order.Order.uid_of.Goals as goal
 

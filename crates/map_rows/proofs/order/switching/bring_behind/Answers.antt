@@ -1,6 +1,5 @@
 use Rattle.std.specs.List.Sorted.{IsPermutation}
-use Rattle.std.proofs.Common.{List, subst, sym, arith}
-use Rattle.map_rows.specs.declared.order.OrderKey.{OrderKey}
+use Rattle.map_rows.proofs.Common.{List, subst, sym, arith, OrderKey}
 use Rattle.map_rows.proofs.SwitchLemmas.{written_back}
 use Rattle.map_rows.proofs.order.switching.bring_behind.Goals as goal
 

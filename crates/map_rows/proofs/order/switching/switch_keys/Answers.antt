@@ -1,6 +1,4 @@
-use Rattle.std.proofs.Common.{not, rules}
-use Rattle.model_meaning.specs.MapMeaning.{has_map_uid}
-use Rattle.map_rows.specs.declared.order.OrderKey.{OrderKey}
+use Rattle.map_rows.proofs.Common.{not, rules, has_map_uid, OrderKey}
 use Rattle.map_rows.specs.Keys.{moved_key}
 use Rattle.map_rows.proofs.SwitchLemmas.{retained}
 use Rattle.map_rows.proofs.order.switching.switch_keys.Goals as goal

@@ -1,4 +1,4 @@
-use Rattle.std.proofs.Common.{rules}
+use Rattle.map_rows.proofs.Common.{rules}
 use Rattle.std.proofs.lemmas.List.Sorted.{IsPermutation-put_mid}
 use Rattle.map_rows.proofs.order.switching.turn_behind.Goals as goal
 

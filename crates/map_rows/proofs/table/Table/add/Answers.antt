@@ -1,16 +1,7 @@
-use Rattle.std.specs.Prelude.{AllPairs}
-use Rattle.std.proofs.Common.{◌≡◌, ◌≤◌, ◌==◌, ◌∙◌, List, All, None, map, find, ap, sym, subst, arith}
-use Rattle.map_rows.specs.declared.order.OrderKey.{OrderKey}
-use Rattle.map_rows.specs.Lookups.{meant_record}
-use Rattle.map_rows.specs.Named.{AreNamesOf, IsOnlyNaming, instances_of}
-use Rattle.map_rows.specs.Orders.{with_key}
+use Rattle.map_rows.proofs.Common.{AllPairs, ◌≡◌, ◌≤◌, ◌==◌, ◌∙◌, List, All, None, map, find, ap, sym, subst, arith, OrderKey, meant_record, AreNamesOf, instances_of, with_key, MapRecord, AgreesOn, InstRow, TableValue, OrderValue}
+use Rattle.map_rows.specs.Named.{IsOnlyNaming}
 use Rattle.map_rows.proofs.NameLemmas.{names_added, names_new}
-use Rattle.model_meaning.specs.MapMeaning.{MapRecord}
-use Rattle.model_meaning.specs.MapFits.{AgreesOn}
-use Rattle.mdbox_base.specs.declared.entries.InstRow.{InstRow}
 use Rattle.map_rows.specs.TableKept.{FitsBehind}
-use Rattle.map_rows.specs.TableValue.{TableValue}
-use Rattle.map_rows.specs.Value.{OrderValue}
 use Rattle.map_rows.proofs.TableLemmas.{guid_key_new, place_key_new, added_indexed, same_indexed, mapped_push}
 use Rattle.map_rows.proofs.table.Table.add.Goals as goal
 

@@ -1,9 +1,5 @@
-use Rattle.std.specs.Prelude.{IsTrue, ◌↔◌, All}
-use Rattle.std.proofs.Common.{map, subst, refl}
-use Rattle.model_meaning.specs.MapFits.{AgreesOn}
-use Rattle.map_rows.specs.Lookups.{meant_record}
-use Rattle.map_rows.specs.Named.{instances_of}
-use Rattle.map_rows.specs.TableValue.{TableValue}
+use Rattle.map_rows.proofs.Common.{IsTrue, ◌↔◌, map, subst, refl, AgreesOn, meant_record, instances_of, TableValue}
+use Rattle.std.specs.Prelude.{All}
 use Rattle.map_rows.proofs.NameLemmas.{agrees_some, agrees_none}
 use Rattle.map_rows.proofs.table.Table.agrees_on.Goals as goal
 

@@ -1,7 +1,4 @@
-use Rattle.std.proofs.Common.{map, ap, arith}
-use Rattle.map_rows.specs.Lookups.{meant_record}
-use Rattle.map_rows.specs.Named.{NamesValue}
-use Rattle.map_rows.specs.Value.{OrderValue}
+use Rattle.map_rows.proofs.Common.{map, ap, arith, meant_record, NamesValue, OrderValue}
 use Rattle.map_rows.proofs.NameLemmas.{no_names}
 use Rattle.map_rows.proofs.TableLemmas.{empty_indexed, same_indexed}
 use Rattle.map_rows.proofs.table.Table.empty.Goals as goal

@@ -1,9 +1,4 @@
-use Rattle.std.specs.Prelude.{AllPairs}
-use Rattle.std.proofs.Common.{◌==◌, ◌<◌, List, ap, sym, subst}
-use Rattle.model_meaning.specs.MapMeaning.{MapRecord}
-use Rattle.map_rows.specs.declared.rows.Record.{Record}
-use Rattle.map_rows.specs.Lookups.{meant_record}
-use Rattle.map_rows.specs.TableValue.{TableValue}
+use Rattle.map_rows.proofs.Common.{AllPairs, ◌==◌, ◌<◌, List, ap, sym, subst, MapRecord, Record, meant_record, TableValue}
 use Rattle.map_rows.proofs.DerivedListLemmas.{found_in}
 use Rattle.map_rows.proofs.SearchLemmas.{pairs_unmap}
 use Rattle.map_rows.proofs.table.Table.find.Goals as goal

@@ -1,9 +1,4 @@
-use Rattle.std.specs.Option.{option_map}
-use Rattle.std.proofs.Common.{◌==◌, ◌∙◌, ℕ, List, find, ap, sym, subst}
-use Rattle.model_meaning.specs.MapMeaning.{MapRecord}
-use Rattle.map_rows.specs.declared.order.OrderKey.{OrderKey}
-use Rattle.map_rows.specs.TableKept.{AreIndexed}
-use Rattle.map_rows.specs.TableValue.{TableValue}
+use Rattle.map_rows.proofs.Common.{option_map, ◌==◌, ◌∙◌, ℕ, List, find, ap, sym, subst, MapRecord, OrderKey, AreIndexed, TableValue}
 use Rattle.map_rows.proofs.LookupLemmas.{guid_found, guid_missing}
 use Rattle.map_rows.proofs.table.Table.find_guid.Goals as goal
 

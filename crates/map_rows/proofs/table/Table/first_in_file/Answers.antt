@@ -1,12 +1,4 @@
-use Rattle.std.specs.Prelude.{nat_le}
-use Rattle.std.specs.Option.{option_map}
-use Rattle.std.proofs.Common.{◌∙◌, ℕ, List, find, ap, sym, subst}
-use Rattle.model_meaning.specs.MapMeaning.{MapRecord}
-use Rattle.map_rows.specs.declared.order.OrderKey.{OrderKey}
-use Rattle.map_rows.specs.Lookups.{meant_record}
-use Rattle.map_rows.specs.Keys.{place_number}
-use Rattle.map_rows.specs.TableKept.{AreIndexed}
-use Rattle.map_rows.specs.TableValue.{TableValue}
+use Rattle.map_rows.proofs.Common.{nat_le, option_map, ◌∙◌, ℕ, List, find, ap, sym, subst, MapRecord, OrderKey, meant_record, place_number, AreIndexed, TableValue}
 use Rattle.map_rows.proofs.LookupLemmas.{first_here, first_elsewhere, first_none, row_there}
 use Rattle.map_rows.proofs.table.Table.first_in_file.Goals as goal
 

@@ -1,6 +1,5 @@
 use Rattle.std.specs.Prelude.{min}
-use Rattle.std.proofs.Common.{◌≡◌, ◌+◌, arith}
-use Rattle.map_rows.specs.Lookups.{meant_record}
+use Rattle.map_rows.proofs.Common.{◌≡◌, ◌+◌, arith, meant_record}
 use Rattle.map_rows.proofs.RegionLemmas.{free_test}
 use Rattle.map_rows.proofs.table.Table.is_free.Goals as goal
 

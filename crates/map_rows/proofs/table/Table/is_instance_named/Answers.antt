@@ -1,6 +1,4 @@
-use Rattle.std.proofs.Common.{map, ap}
-use Rattle.map_rows.specs.Lookups.{meant_record}
-use Rattle.map_rows.specs.TableValue.{TableValue}
+use Rattle.map_rows.proofs.Common.{map, ap, meant_record, TableValue}
 use Rattle.map_rows.proofs.NameLemmas.{id_in_records}
 use Rattle.map_rows.proofs.table.Table.is_instance_named.Goals as goal
 

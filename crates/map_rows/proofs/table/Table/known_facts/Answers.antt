@@ -1,6 +1,4 @@
-use Rattle.std.proofs.Common.{ap, subst}
-use Rattle.map_rows.specs.TableKept.{AreTableRows}
-use Rattle.map_rows.specs.TableValue.{TableValue}
+use Rattle.map_rows.proofs.Common.{ap, subst, AreTableRows, TableValue}
 use Rattle.map_rows.proofs.table.Table.known_facts.Goals as goal
 
 pub returns : goal.returns

@@ -1,13 +1,4 @@
-use Rattle.std.specs.Prelude.{nat_lt}
-use Rattle.std.specs.Option.{option_map}
-use Rattle.std.proofs.Common.{◌∙◌, ℕ, List, filter, ap, sym, subst}
-use Rattle.model_meaning.specs.MapMeaning.{MapRecord}
-use Rattle.map_rows.specs.declared.order.OrderKey.{OrderKey}
-use Rattle.map_rows.specs.Lookups.{meant_record}
-use Rattle.map_rows.specs.Keys.{place_number}
-use Rattle.map_rows.specs.Orders.{last_of}
-use Rattle.map_rows.specs.TableKept.{AreIndexed}
-use Rattle.map_rows.specs.TableValue.{TableValue}
+use Rattle.map_rows.proofs.Common.{nat_lt, option_map, ◌∙◌, ℕ, List, filter, ap, sym, subst, MapRecord, OrderKey, meant_record, place_number, last_of, AreIndexed, TableValue}
 use Rattle.map_rows.proofs.LookupLemmas.{last_here, last_elsewhere, last_none, last_there}
 use Rattle.map_rows.proofs.table.Table.last_before.Goals as goal
 

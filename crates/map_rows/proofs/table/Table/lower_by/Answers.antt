@@ -1,8 +1,4 @@
-use Rattle.std.proofs.Common.{◌<◌, ◌∷◌, [], List, map, ap, sym, subst, ◌∙◌, arith}
-use Rattle.model_meaning.specs.MapMeaning.{MapRecord}
-use Rattle.map_rows.specs.Lookups.{lowered_by, meant_record}
-use Rattle.map_rows.specs.TableKept.{AreIndexed}
-use Rattle.map_rows.specs.TableValue.{TableValue}
+use Rattle.map_rows.proofs.Common.{◌<◌, ◌∷◌, [], List, map, ap, sym, subst, ◌∙◌, arith, MapRecord, lowered_by, meant_record, AreIndexed, TableValue}
 use Rattle.map_rows.proofs.NameLemmas.{names_changed}
 use Rattle.map_rows.proofs.SearchLemmas.{pairs_unmap}
 use Rattle.map_rows.proofs.TableLemmas.{counted_indexed, lowers_by_count, same_table}

@@ -1,7 +1,4 @@
-use Rattle.std.specs.Str.{bytes_eq}
-use Rattle.std.proofs.Common.{◌≡◌, map, ap, ◌∙◌, rules}
-use Rattle.map_rows.specs.Lookups.{meant_record}
-use Rattle.map_rows.specs.TableValue.{TableValue}
+use Rattle.map_rows.proofs.Common.{bytes_eq, ◌≡◌, map, ap, ◌∙◌, rules, meant_record, TableValue}
 use Rattle.map_rows.proofs.NameLemmas.{file_in_records, no_file_in_records}
 use Rattle.map_rows.proofs.table.Table.names_file.Goals as goal
 

@@ -1,9 +1,4 @@
-use Rattle.std.specs.Prelude.{AllPairs}
-use Rattle.std.proofs.Common.{◌<◌, ◌≤◌, List, length, ap, sym, subst, arith}
-use Rattle.model_meaning.specs.MapMeaning.{MapRecord}
-use Rattle.map_rows.specs.declared.rows.Record.{Record}
-use Rattle.map_rows.specs.Lookups.{meant_record}
-use Rattle.map_rows.specs.TableValue.{TableValue}
+use Rattle.map_rows.proofs.Common.{AllPairs, ◌<◌, ◌≤◌, List, length, ap, sym, subst, arith, MapRecord, Record, meant_record, TableValue}
 use Rattle.map_rows.proofs.SearchLemmas.{pairs_unmap, place_found, place_missing}
 use Rattle.map_rows.proofs.table.Table.place_of.Goals as goal
 

@@ -1,9 +1,5 @@
-use Rattle.std.proofs.Common.{◌≡◌, ◌<◌, ◌≤◌, List, All, map, ap, sym, subst, ◌∙◌, arith}
+use Rattle.map_rows.proofs.Common.{◌≡◌, ◌<◌, ◌≤◌, List, All, map, ap, sym, subst, ◌∙◌, arith, MapRecord, record_changed, meant_record, AreIndexed, TableValue}
 use Rattle.mdbox_base.specs.declared.entries.MapEntry.TheVariants as entry
-use Rattle.model_meaning.specs.MapMeaning.{MapRecord, record_changed}
-use Rattle.map_rows.specs.Lookups.{meant_record}
-use Rattle.map_rows.specs.TableKept.{AreIndexed}
-use Rattle.map_rows.specs.TableValue.{TableValue}
 use Rattle.map_rows.proofs.NameLemmas.{names_changed}
 use Rattle.map_rows.proofs.SearchLemmas.{pairs_unmap}
 use Rattle.map_rows.proofs.TableLemmas.{counted_indexed, raises_count, same_table}

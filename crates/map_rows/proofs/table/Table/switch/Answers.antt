@@ -1,12 +1,6 @@
-use Rattle.std.specs.Prelude.{AllPairs}
-use Rattle.std.proofs.Common.{◌<◌, ◌∙◌, List, map, ap, sym, subst, refl, arith}
-use Rattle.model_meaning.specs.MapMeaning.{MapRecord}
+use Rattle.map_rows.proofs.Common.{AllPairs, ◌<◌, ◌∙◌, List, map, ap, sym, subst, refl, arith, MapRecord, Record, meant_record, AreNamesOf, instances_of, TableValue}
 use Rattle.model_meaning.proofs.AppliedLemmas.{records_by_purged}
-use Rattle.map_rows.specs.declared.rows.Record.{Record}
-use Rattle.map_rows.specs.Lookups.{meant_record}
-use Rattle.map_rows.specs.Named.{AreNamesOf, instances_of}
 use Rattle.map_rows.specs.TableKept.{CanMoveEach}
-use Rattle.map_rows.specs.TableValue.{TableValue}
 use Rattle.map_rows.proofs.SearchLemmas.{pairs_unmap}
 use Rattle.map_rows.proofs.SwitchLemmas.{switched, switched_indexed, switched_names, places_apart}
 use Rattle.map_rows.proofs.TableLemmas.{same_indexed, same_table}

@@ -1,15 +1,9 @@
-use Rattle.std.proofs.Common.{◌≡◌, ◌∙◌, ap, subst, refl}
-use Rattle.disk_model.specs.Disk.{Grows}
+use Rattle.store_core.proofs.Common.{◌≡◌, ◌∙◌, ap, subst, refl, Grows, Lists, IsSettledFor, Leaves, end_in, KeepsStored, MailIsKept}
 use Rattle.disk_model.specs.declared.name.FileName.TheVariants as file
-use Rattle.model_lists.specs.Lists.{Lists}
-use Rattle.model_store.specs.Settled.{IsSettledFor, Leaves}
-use Rattle.storage_files.specs.Files.{end_in}
-use Rattle.store_core.specs.Dues.{KeepsStored}
 use Rattle.store_core.proofs.StoreFileLemmas.{placed_leaves, settled_then, stored_then, each_grows, room_kept}
 use Rattle.store_core.proofs.PieceLemmas.{pieced_store, change_pieced}
 use Rattle.store_core.proofs.MadeLogLemmas.{made_beside}
 use Rattle.store_core.proofs.KnownInstanceLemmas.{instances_placed}
-use Rattle.model_kept.specs.Kept.{MailIsKept}
 use Rattle.storage_files.specs.Files.{place_begun_in}
 use Rattle.store_core.proofs.MailStayLemmas.{added_kept, placing_taken}
 use Rattle.store_core.proofs.store.Store.add_piece.Goals as goal

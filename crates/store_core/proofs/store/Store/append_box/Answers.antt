@@ -1,14 +1,8 @@
-use Rattle.std.proofs.Common.{◌≡◌, ◌+◌, ◌-◌, ◌==◌, ℕ, List, map, slice_set, sym, ◌∙◌, ap, subst, refl, Err, Some}
-use Rattle.std.specs.Prelude.{count_by, sum_by}
-use Rattle.model_appends.specs.Amounts.{due_by_box}
-use Rattle.model_appends.specs.Appending.{lists_by, meanings_by}
-use Rattle.model_lists.specs.Lists.{Lists}
-use Rattle.model_meaning.specs.BoxMeaning.{BoxMeaning}
-use Rattle.model_store.specs.Settled.{IsSettledFor, Leaves}
+use Rattle.store_core.proofs.Common.{◌≡◌, ◌+◌, ◌-◌, ◌==◌, ℕ, List, map, slice_set, sym, ◌∙◌, ap, subst, refl, Some, count_by, sum_by, due_by_box, meanings_by, Lists, BoxMeaning, IsSettledFor, Leaves, number_beside, due_at, leak_at, KeepsStored, indexes_of, list_numbered, KeepsMail, MailIsKept}
+use Rattle.store_core.proofs.Common.{kept_begins}
+use Rattle.std.proofs.Common.{Err}
+use Rattle.model_appends.specs.Appending.{lists_by}
 use Rattle.store_core.specs.Append.{Brings}
-use Rattle.store_core.specs.Dues.{number_beside, due_at, leak_at, KeepsStored}
-use Rattle.store_core.specs.Value.{indexes_of, list_numbered}
-use Rattle.store_core.specs.Keeping.{KeepsMail}
 use Rattle.store_core.proofs.BoxAppendLemmas.{store_there, stopped_there}
 use Rattle.store_core.proofs.BoxCrashLemmas.{leaves_there, settled_there, stored_there, leaves_none}
 use Rattle.store_core.proofs.KeptMailLemmas.{mail_boxed}
@@ -17,8 +11,6 @@ use Rattle.store_core.proofs.PlacingLemmas.{placed, place_below, must_be, read_t
 use Rattle.store_core.proofs.MadeLogLemmas.{made_stopped}
 use Rattle.store_core.proofs.MadePlaceLemmas.{made_placed}
 use Rattle.store_core.proofs.KnownInstanceLemmas.{instances_boxed, instances_stopped}
-use Rattle.model_kept.specs.Kept.{MailIsKept}
-use Rattle.model_kept.proofs.KeptLemmas.{kept_begins}
 use Rattle.store_core.proofs.BoxAppendLemmas.{own_box}
 use Rattle.store_core.proofs.MailStayLemmas.{box_log_kept}
 use Rattle.store_core.proofs.store.Store.append_box.Goals as goal

@@ -1,26 +1,12 @@
-use Rattle.std.proofs.Common.{rules, ◌≡◌, ◌++◌, ◌∷◌, [], true, List, refl, sym, ◌∙◌, ap, subst}
-use Rattle.mdbox_base.specs.declared.entries.MapEntry.{MapEntry}
+use Rattle.store_core.proofs.Common.{rules, ◌≡◌, ◌++◌, ◌∷◌, [], true, List, refl, sym, ◌∙◌, ap, subst, MapEntry, LogState, Lists, empty_mailbox, map_text, box_meaning, MapMeaning, map_applied, IsSettledFor, Leaves, AddsText, KeepsStored, KeepsMail, has_made_log, indexes_of, OpenBox, MailIsKept}
+use Rattle.store_core.proofs.Common.{kept_begins}
 use Rattle.mdbox_base.specs.declared.entries.MapEntry.TheVariants as entry
-use Rattle.gate_log.specs.State.{LogState}
-use Rattle.model_lists.specs.Lists.{Lists, empty_mailbox}
-use Rattle.model_logs.specs.Entries.{map_text}
-use Rattle.model_meaning.specs.BoxMeaning.{box_meaning}
-use Rattle.model_meaning.specs.MapMeaning.{MapMeaning, map_applied}
-use Rattle.model_store.specs.Settled.{IsSettledFor, Leaves}
-use Rattle.store_core.specs.Append.{AddsText}
-use Rattle.store_core.specs.Dues.{KeepsStored}
-use Rattle.store_core.specs.Keeping.{KeepsMail}
-use Rattle.store_core.specs.MadeLogs.{has_made_log}
-use Rattle.store_core.specs.Value.{indexes_of}
-use Rattle.store_core.specs.declared.store.OpenBox.{OpenBox}
 use Rattle.store_core.proofs.BoxCrashLemmas.{leaves_none}
 use Rattle.store_core.proofs.KnownInstanceLemmas.{instances_naming}
 use Rattle.store_core.proofs.MadeCallLemmas.{left_others}
 use Rattle.store_core.proofs.KeptMailLemmas.{mail_mapped}
 use Rattle.store_core.proofs.NamingLemmas.{same_records, leaves_named, settled_named, stored_named}
 use Rattle.store_core.proofs.NamingCallLemmas.{AddsRead, AddsHeld, can_name, some_name, read_named, store_after_naming, made_after_naming, room_after_naming, indexes_more, due_stays, leak_stays}
-use Rattle.model_kept.specs.Kept.{MailIsKept}
-use Rattle.model_kept.proofs.KeptLemmas.{kept_begins}
 use Rattle.store_core.proofs.MailStayLemmas.{map_log_kept}
 use Rattle.store_core.proofs.store.Store.append_made.Goals as goal
 

@@ -1,14 +1,5 @@
-use Rattle.std.proofs.Common.{rules, ◌≡◌, sym, ◌∙◌, ap, subst, refl}
-use Rattle.disk_model.specs.Disk.{Between}
-use Rattle.gate_log.specs.State.{LogState}
-use Rattle.model_lists.specs.Lists.{Lists}
-use Rattle.model_appends.proofs.AppendMapOpenLemmas.{same_record}
-use Rattle.model_meaning.specs.MapMeaning.{MapMeaning, map_applied, record_at, record_changed}
-use Rattle.model_store.specs.Settled.{files_of, IsSettledFor, Leaves}
-use Rattle.model_store.specs.Stands.{StoresMessage}
-use Rattle.store_core.specs.Dues.{KeepsStored}
-use Rattle.store_core.specs.Keeping.{KeepsMail}
-use Rattle.store_core.specs.MapAppend.{HasRegion, NamesFirm, NamesKnown, NamesFirst, IsReadyToStore}
+use Rattle.store_core.proofs.Common.{rules, ◌≡◌, sym, ◌∙◌, ap, subst, refl, Between, LogState, Lists, same_record, MapMeaning, map_applied, record_at, record_changed, files_of, IsSettledFor, Leaves, StoresMessage, KeepsStored, KeepsMail, NamesFirm, NamesKnown, NamesFirst, MailIsKept, kept_begins}
+use Rattle.store_core.specs.MapAppend.{HasRegion, IsReadyToStore}
 use Rattle.store_core.proofs.BoxCrashLemmas.{leaves_none}
 use Rattle.store_core.proofs.KeptMailLemmas.{mail_mapped}
 use Rattle.store_core.proofs.MapAppendLemmas.{readied, seen_prepared, store_after, room_after, read_with, size_with, room_to_rise, due_seen, leak_seen, made_with}
@@ -16,8 +7,6 @@ use Rattle.store_core.proofs.MapCrashLemmas.{leaves_with, settled_with, stored_w
 use Rattle.store_core.proofs.MapDueLemmas.{adds, mailboxes_stay, found_with}
 use Rattle.store_core.proofs.MadePlaceLemmas.{made_with_entry}
 use Rattle.store_core.proofs.KnownInstanceLemmas.{firm_seen, firm_with, instances_with}
-use Rattle.model_kept.specs.Kept.{MailIsKept}
-use Rattle.model_kept.proofs.KeptLemmas.{kept_begins}
 use Rattle.store_core.proofs.MailStayLemmas.{map_log_kept}
 use Rattle.store_core.proofs.store.Store.append_map.Goals as goal
 

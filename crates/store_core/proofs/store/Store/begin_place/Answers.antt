@@ -1,4 +1,4 @@
-use Rattle.std.proofs.Common.{refl}
+use Rattle.store_core.proofs.Common.{refl}
 use Rattle.store_core.proofs.StoreFileLemmas.{room_kept}
 use Rattle.store_core.proofs.UsedFileLemmas.{placing_store}
 use Rattle.store_core.proofs.MadeLogLemmas.{made_still}

@@ -1,18 +1,9 @@
-use Rattle.std.proofs.Common.{◌≡◌, ◌==◌, ◌++◌, ◌∷◌, ◌≤◌, [], false, true, List, refl, sym, ◌∙◌, ap, subst, arith}
-use Rattle.std.specs.Prelude.{◌||◌}
+use Rattle.store_core.proofs.Common.{◌≡◌, ◌==◌, ◌++◌, ◌∷◌, ◌≤◌, [], false, true, List, refl, sym, ◌∙◌, ap, subst, arith, ◌||◌, NamedButFor, Lists, IsSettledFor, Leaves, KeepsStored, IsUnnamed, has_made_log, OpenBox, MailIsKept, kept_begins}
 use Rattle.disk_model.specs.declared.name.FileName.TheVariants as file
-use Rattle.gate_log.specs.Log.{NamedButFor}
-use Rattle.model_lists.specs.Lists.{Lists}
-use Rattle.model_store.specs.Settled.{IsSettledFor, Leaves}
-use Rattle.store_core.specs.Dues.{KeepsStored}
-use Rattle.store_core.specs.MadeLogs.{IsUnnamed, has_made_log}
-use Rattle.store_core.specs.declared.store.OpenBox.{OpenBox}
 use Rattle.store_core.proofs.BoxCrashLemmas.{leaves_none}
 use Rattle.store_core.proofs.KnownInstanceLemmas.{instances_logged}
 use Rattle.store_core.proofs.MadeCallLemmas.{created, one_more, keeps_others, logged_as, room_same}
 use Rattle.store_core.proofs.UnnamedLogLemmas.{besides, leaves_beside, named_but, settled_then, store_beside, stored_then}
-use Rattle.model_kept.specs.Kept.{MailIsKept}
-use Rattle.model_kept.proofs.KeptLemmas.{kept_begins}
 use Rattle.store_core.proofs.MailStayLemmas.{box_log_kept}
 use Rattle.store_core.proofs.store.Store.create_box.Goals as goal
 

@@ -1,13 +1,9 @@
-use Rattle.std.proofs.Common.{◌≡◌, ◌∙◌, ap, subst, refl}
+use Rattle.store_core.proofs.Common.{◌≡◌, ◌∙◌, ap, subst, refl, Lists, IsSettledFor, Leaves, KeepsStored, MailIsKept}
 use Rattle.disk_model.specs.declared.name.FileName.TheVariants as file
-use Rattle.model_lists.specs.Lists.{Lists}
-use Rattle.model_store.specs.Settled.{IsSettledFor, Leaves}
-use Rattle.store_core.specs.Dues.{KeepsStored}
 use Rattle.store_core.proofs.StoreFileLemmas.{settled_then, stored_then, room_kept}
 use Rattle.store_core.proofs.PieceLemmas.{synced_store, change_synced, left_leaves}
 use Rattle.store_core.proofs.MadeLogLemmas.{made_beside}
 use Rattle.store_core.proofs.KnownInstanceLemmas.{instances_placed}
-use Rattle.model_kept.specs.Kept.{MailIsKept}
 use Rattle.store_core.proofs.MailStayLemmas.{synced_kept}
 use Rattle.store_core.proofs.store.Store.end_place.Goals as goal
 

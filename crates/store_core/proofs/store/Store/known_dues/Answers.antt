@@ -1,6 +1,4 @@
-use Rattle.std.proofs.Common.{◌≤◌, ℕ, subst}
-use Rattle.model_meaning.specs.MapFits.{HasRecord}
-use Rattle.store_core.specs.Dues.{due_at}
+use Rattle.store_core.proofs.Common.{◌≤◌, ℕ, subst, HasRecord, due_at}
 use Rattle.store_core.proofs.DueLemmas.{due_record}
 use Rattle.store_core.proofs.store.Store.known_dues.Goals as goal
 

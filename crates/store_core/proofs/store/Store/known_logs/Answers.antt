@@ -1,6 +1,5 @@
-use Rattle.std.proofs.Common.{◌≡◌, ◌<◌, ◌≤◌, ℕ, true, false, subst}
+use Rattle.store_core.proofs.Common.{◌≡◌, ◌<◌, ◌≤◌, ℕ, true, false, subst, IsUnnamed, has_made_log}
 use Rattle.mdbox_base.specs.Words.{IsNumber}
-use Rattle.store_core.specs.MadeLogs.{IsUnnamed, has_made_log}
 use Rattle.store_core.proofs.MadeCallLemmas.{log_known, number_fresh}
 use Rattle.store_core.proofs.store.Store.known_logs.Goals as goal
 

@@ -1,4 +1,4 @@
-use Rattle.std.proofs.Common.{refl}
+use Rattle.store_core.proofs.Common.{refl}
 use Rattle.store_core.proofs.HolderLemmas.{letting_moves}
 use Rattle.store_core.proofs.InstanceKeepingLemmas.{kept_holding}
 use Rattle.store_core.proofs.KnownInstanceLemmas.{store_holding, instances_holding}

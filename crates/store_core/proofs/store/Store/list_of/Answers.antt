@@ -1,5 +1,5 @@
-use Rattle.std.proofs.Common.{ap}
-use Rattle.std.specs.Option.{option_copied, option_map}
+use Rattle.store_core.proofs.Common.{ap, option_map}
+use Rattle.std.specs.Option.{option_copied}
 use Rattle.box_index.specs.State.{BoxState}
 use Rattle.store_core.proofs.LookupLemmas.{named_in, unnamed_in}
 use Rattle.store_core.proofs.store.Store.list_of.Goals as goal

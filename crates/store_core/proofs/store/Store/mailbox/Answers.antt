@@ -1,4 +1,4 @@
-use Rattle.std.proofs.Common.{ap}
+use Rattle.store_core.proofs.Common.{ap}
 use Rattle.store_core.proofs.LookupLemmas.{numbered_in}
 use Rattle.store_core.proofs.store.Store.mailbox.Goals as goal
 

@@ -1,15 +1,9 @@
-use Rattle.std.proofs.Common.{◌≡◌, ◌∙◌, ap, subst, refl}
-use Rattle.model_lists.specs.Lists.{Lists}
-use Rattle.model_store.specs.Settled.{IsSettledFor, Leaves}
-use Rattle.storage_files.specs.Files.{end_in, is_taken_in}
-use Rattle.store_core.specs.Dues.{KeepsStored}
+use Rattle.store_core.proofs.Common.{◌≡◌, ◌∙◌, ap, subst, refl, Lists, IsSettledFor, Leaves, end_in, is_taken_in, KeepsStored, MailIsKept, length}
 use Rattle.store_core.proofs.KeptFileLemmas.{ends_made}
 use Rattle.store_core.proofs.StoreFileLemmas.{made_store, made_leaves, change_made, settled_then, stored_then, absent_there, room_kept}
 use Rattle.disk_model.specs.declared.name.FileName.TheVariants as file
 use Rattle.store_core.proofs.MadeLogLemmas.{made_named}
 use Rattle.store_core.proofs.KnownInstanceLemmas.{instances_made}
-use Rattle.model_kept.specs.Kept.{MailIsKept}
-use Rattle.std.proofs.Common.{length}
 use Rattle.storage_files.specs.OnDisk.{IsNewOrNone}
 use Rattle.store_core.proofs.MailStayLemmas.{beside_kept, unmade_unknown}
 use Rattle.store_core.proofs.store.Store.make_file.Goals as goal

@@ -1,5 +1,4 @@
-use Rattle.std.proofs.Common.{refl, sym, ◌∙◌, ap}
-use Rattle.store_core.specs.Removing.{useless_past}
+use Rattle.store_core.proofs.Common.{refl, sym, ◌∙◌, ap, useless_past}
 use Rattle.store_core.proofs.UselessLemmas.{next_found, next_passed, none_next, fewer_unheld}
 use Rattle.store_core.proofs.store.Store.next_useless.Goals as goal
 

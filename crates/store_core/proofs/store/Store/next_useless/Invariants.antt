@@ -1,5 +1,4 @@
-use Rattle.std.proofs.Common.{◌≡◌}
-use Rattle.store_core.specs.Removing.{useless_past}
+use Rattle.store_core.proofs.Common.{◌≡◌, useless_past}
 use Rattle.store_core.proofs.UselessLemmas.{unheld_left}
 use Rattle.store_core.proofs.store.Store.next_useless.Given as goal
 

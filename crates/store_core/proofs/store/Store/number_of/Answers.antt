@@ -1,5 +1,4 @@
-use Rattle.std.proofs.Common.{ap}
-use Rattle.store_core.specs.Value.{indexes_of}
+use Rattle.store_core.proofs.Common.{ap, indexes_of}
 use Rattle.store_core.proofs.LookupLemmas.{number_in, none_in}
 use Rattle.store_core.proofs.store.Store.number_of.Goals as goal
 

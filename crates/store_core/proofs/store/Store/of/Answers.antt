@@ -1,7 +1,5 @@
-use Rattle.std.proofs.Common.{sym, ◌∙◌, ap, subst}
-use Rattle.store_core.specs.Value.{StoreValue, indexes_of, newly_open}
-use Rattle.store_core.specs.Running.{HasEntryRoom, IsStore}
-use Rattle.store_core.specs.StoreInstances.{HasKnownInstances}
+use Rattle.store_core.proofs.Common.{sym, ◌∙◌, ap, subst, StoreValue, indexes_of, HasEntryRoom, IsStore, HasKnownInstances}
+use Rattle.store_core.specs.Value.{newly_open}
 use Rattle.store_core.proofs.RoomLemmas.{roomy_by, opened_as, dues_taken, store_roomy, room_there, instances_roomy, indexes_roomy}
 use Rattle.store_core.proofs.MadeLogLemmas.{none_made}
 use Rattle.store_core.proofs.store.Store.of.Goals as goal

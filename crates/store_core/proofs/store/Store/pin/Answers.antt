@@ -1,5 +1,4 @@
-use Rattle.std.specs.List.{list_any}
-use Rattle.std.proofs.Common.{◌≡◌, ◌==◌, true, refl, sym, subst}
+use Rattle.store_core.proofs.Common.{list_any, ◌≡◌, ◌==◌, true, refl, sym, subst}
 use Rattle.store_core.proofs.StoreFileLemmas.{room_kept}
 use Rattle.store_core.proofs.UsedFileLemmas.{pinned_store}
 use Rattle.store_core.proofs.MadeLogLemmas.{made_still}

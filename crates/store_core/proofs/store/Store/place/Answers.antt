@@ -1,17 +1,9 @@
-use Rattle.std.proofs.Common.{◌≡◌, ◌∙◌, ap, subst, refl}
-use Rattle.disk_model.specs.Disk.{Between, Grows}
-use Rattle.model_lists.specs.Lists.{Lists}
-use Rattle.model_store.specs.Settled.{IsSettledFor, Leaves}
-use Rattle.storage_files.specs.Files.{end_in, is_taken_in}
-use Rattle.storage_files.specs.OnDisk.{IsAddedTo}
-use Rattle.store_core.specs.Dues.{KeepsStored}
+use Rattle.store_core.proofs.Common.{◌≡◌, ◌∙◌, ap, subst, refl, Between, Grows, Lists, IsSettledFor, Leaves, end_in, is_taken_in, IsAddedTo, KeepsStored, MailIsKept}
 use Rattle.store_core.proofs.KeptFileLemmas.{file_there, ends_longer}
 use Rattle.store_core.proofs.StoreFileLemmas.{placed_store, placed_leaves, change_added, settled_then, stored_then, held_then, ends_with, each_grows, room_kept}
 use Rattle.disk_model.specs.declared.name.FileName.TheVariants as file
 use Rattle.store_core.proofs.MadeLogLemmas.{made_beside}
 use Rattle.store_core.proofs.KnownInstanceLemmas.{instances_placed}
-use Rattle.model_kept.specs.Kept.{MailIsKept}
-use Rattle.storage_files.specs.Files.{is_taken_in}
 use Rattle.store_core.proofs.MailStayLemmas.{added_kept}
 use Rattle.store_core.proofs.store.Store.place.Goals as goal
 

@@ -1,19 +1,13 @@
-use Rattle.std.proofs.Common.{◌≡◌, length, refl, sym, ◌∙◌, ap, subst, true}
+use Rattle.store_core.proofs.Common.{◌≡◌, length, refl, sym, ◌∙◌, ap, subst, true, Lists, IsSettledFor, Leaves, IsUnlikeKnown, next_instance_file, KeepsStored, MailIsKept, kept_begins, kept_beside}
 use Rattle.disk_model.specs.declared.name.FileName.TheVariants as file
-use Rattle.model_lists.specs.Lists.{Lists}
-use Rattle.model_store.specs.Settled.{IsSettledFor, Leaves}
-use Rattle.sis_store.specs.OnDisk.{IsUnlikeKnown, next_instance_file}
 use Rattle.sis_store.specs.Refusals.{IsPlaceError}
 use Rattle.sis_store.specs.declared.error.PlaceFault.{PlaceFault}
-use Rattle.store_core.specs.Dues.{KeepsStored}
 use Rattle.store_core.proofs.BoxCrashLemmas.{leaves_none}
 use Rattle.store_core.proofs.HolderLemmas.{placing_moves}
 use Rattle.store_core.proofs.MadeLogLemmas.{made_named, made_stopped}
 use Rattle.store_core.proofs.PlacedInstanceLemmas.{next_absent, file_made, placed_safe, placed_settled, placed_stored, placed_store, placed_known, stopped_store, stopped_known, room_placed, number_left, stopped_full, stopped_memory, stopped_fault}
 use Rattle.store_core.proofs.InstanceKeepingLemmas.{kept_untouched}
 use Rattle.store_core.proofs.PlacedKeepingLemmas.{found_placed, is_placed, placing_kept}
-use Rattle.model_kept.specs.Kept.{MailIsKept}
-use Rattle.model_kept.proofs.KeptLemmas.{kept_begins, kept_beside}
 use Rattle.store_core.proofs.MailStayLemmas.{next_unknown}
 use Rattle.store_core.proofs.store.Store.place_instance.Goals as goal
 

@@ -1,4 +1,4 @@
-use Rattle.std.proofs.Common.{refl}
+use Rattle.store_core.proofs.Common.{refl}
 use Rattle.store_core.proofs.StoreFileLemmas.{released_store, room_kept}
 use Rattle.store_core.proofs.MadeLogLemmas.{made_still}
 use Rattle.store_core.proofs.KnownInstanceLemmas.{instances_still}

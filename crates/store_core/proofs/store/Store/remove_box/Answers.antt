@@ -1,14 +1,8 @@
-use Rattle.std.proofs.Common.{◌≡◌, true, refl, sym, ◌∙◌, ap, subst}
+use Rattle.store_core.proofs.Common.{◌≡◌, true, refl, sym, ◌∙◌, ap, subst, NamedButFor, Lists, IsSettledFor, Leaves, KeepsStored, IsUnnamed, has_made_log, MailIsKept}
 use Rattle.disk_model.specs.declared.name.FileName.TheVariants as file
-use Rattle.gate_log.specs.Log.{NamedButFor}
-use Rattle.model_lists.specs.Lists.{Lists}
-use Rattle.model_store.specs.Settled.{IsSettledFor, Leaves}
-use Rattle.store_core.specs.Dues.{KeepsStored}
-use Rattle.store_core.specs.MadeLogs.{IsUnnamed, has_made_log}
 use Rattle.store_core.proofs.KnownInstanceLemmas.{instances_logged}
 use Rattle.store_core.proofs.MadeCallLemmas.{left_others, removed, room_same}
 use Rattle.store_core.proofs.UnnamedLogLemmas.{besides, leaves_beside, named_but, settled_then, store_beside, stored_then}
-use Rattle.model_kept.specs.Kept.{MailIsKept}
 use Rattle.store_core.proofs.MailStayLemmas.{box_log_kept}
 use Rattle.store_core.proofs.store.Store.remove_box.Goals as goal
 

@@ -1,15 +1,11 @@
-use Rattle.std.proofs.Common.{◌||◌, ◌≡◌, ◌∙◌, ap, subst, refl, sym}
+use Rattle.store_core.proofs.Common.{◌≡◌, ◌∙◌, ap, subst, refl, sym, Lists, IsSettledFor, Leaves, end_in, is_doomed_in, is_emptied_in, AreElsewhere, MailIsKept, kept_beside}
+use Rattle.std.proofs.Common.{◌||◌}
 use Rattle.disk_model.specs.declared.name.FileName.TheVariants as file
-use Rattle.model_lists.specs.Lists.{Lists}
-use Rattle.model_store.specs.Settled.{IsSettledFor, Leaves}
-use Rattle.storage_files.specs.Files.{end_in, is_doomed_in, is_emptied_in}
-use Rattle.store_core.specs.Removing.{AreElsewhere, KeepsStoredBut}
+use Rattle.store_core.specs.Removing.{KeepsStoredBut}
 use Rattle.store_core.proofs.StoreFileLemmas.{room_kept}
 use Rattle.store_core.proofs.RemovalLemmas.{removed_store, removed_leaves, settled_removed, stored_but, known_there}
 use Rattle.store_core.proofs.MadeLogLemmas.{made_beside}
 use Rattle.store_core.proofs.KnownInstanceLemmas.{instances_placed}
-use Rattle.model_kept.specs.Kept.{MailIsKept}
-use Rattle.model_kept.proofs.KeptLemmas.{kept_beside}
 use Rattle.store_core.proofs.MailStayLemmas.{bare_unknown, own_unsealed}
 use Rattle.store_core.proofs.store.Store.remove_file.Goals as goal
 

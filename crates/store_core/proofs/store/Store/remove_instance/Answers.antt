@@ -1,10 +1,5 @@
-use Rattle.std.proofs.Common.{◌≡◌, ◌∙◌, None, ap, subst, refl}
-use Rattle.disk_model.specs.Disk.{Grows, IfTold, SameButFor, reading}
+use Rattle.store_core.proofs.Common.{◌≡◌, ◌∙◌, None, ap, subst, refl, Grows, IfTold, SameButFor, reading, is_instance_named, MailIsKept, Lists, IsSettledFor, Leaves}
 use Rattle.disk_model.specs.declared.name.FileName.TheVariants as file
-use Rattle.map_index.specs.Shown.{is_instance_named}
-use Rattle.model_kept.specs.Kept.{MailIsKept}
-use Rattle.model_lists.specs.Lists.{Lists}
-use Rattle.model_store.specs.Settled.{IsSettledFor, Leaves}
 use Rattle.sis_store.specs.OnDisk.{file_of}
 use Rattle.store_core.specs.Removing.{KeepsStoredBeside}
 use Rattle.store_core.proofs.KnownInstanceLemmas.{firm_seen}

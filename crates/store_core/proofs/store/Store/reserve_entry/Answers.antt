@@ -1,4 +1,4 @@
-use Rattle.std.proofs.Common.{refl}
+use Rattle.store_core.proofs.Common.{refl}
 use Rattle.store_core.proofs.EntryRoomLemmas.{roomier_as, room_more}
 use Rattle.store_core.proofs.MadeLogLemmas.{made_still}
 use Rattle.store_core.proofs.KnownInstanceLemmas.{instances_still}

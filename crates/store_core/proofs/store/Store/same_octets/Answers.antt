@@ -1,4 +1,4 @@
-use Rattle.std.proofs.Common.{refl}
+use Rattle.store_core.proofs.Common.{refl}
 use Rattle.store_core.proofs.KnownInstanceLemmas.{instances_since}
 use Rattle.store_core.proofs.MadeLogLemmas.{made_idle}
 use Rattle.store_core.proofs.StoreFileLemmas.{store_idle, room_kept}

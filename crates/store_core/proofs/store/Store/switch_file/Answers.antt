@@ -1,12 +1,5 @@
-use Rattle.std.proofs.Common.{arith, All, refl, sym, ◌∙◌, ap, subst}
-use Rattle.disk_model.specs.Disk.{IfTold}
-use Rattle.model_lists.specs.Lists.{Lists}
-use Rattle.model_meaning.specs.MapMeaning.{MapMeaning, map_applied, record_at}
-use Rattle.model_store.specs.Settled.{IsSettledFor, Leaves}
-use Rattle.store_core.specs.Dues.{KeepsStored, due_at, leak_at}
-use Rattle.model_kept.specs.Kept.{MailIsKept}
+use Rattle.store_core.proofs.Common.{arith, All, refl, sym, ◌∙◌, ap, subst, IfTold, Lists, MapMeaning, map_applied, record_at, IsSettledFor, Leaves, KeepsStored, due_at, leak_at, MailIsKept, KeepsMail}
 use Rattle.store_core.proofs.MailStayLemmas.{map_log_kept}
-use Rattle.store_core.specs.Keeping.{KeepsMail}
 use Rattle.store_core.specs.Switching.{HasCopies, HasCopiesSynced}
 use Rattle.store_core.proofs.KnownInstanceLemmas.{firm_seen}
 use Rattle.store_core.proofs.KeptMailLemmas.{mail_mapped}

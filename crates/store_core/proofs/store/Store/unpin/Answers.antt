@@ -1,4 +1,4 @@
-use Rattle.std.proofs.Common.{◌≤◌, refl, sym, subst}
+use Rattle.store_core.proofs.Common.{◌≤◌, refl, sym, subst}
 use Rattle.storage_files.specs.Files.{pins_in}
 use Rattle.store_core.proofs.StoreFileLemmas.{room_kept}
 use Rattle.store_core.proofs.UsedFileLemmas.{unpinned_store}

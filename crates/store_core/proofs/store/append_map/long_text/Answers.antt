@@ -1,4 +1,4 @@
-use Rattle.std.proofs.Common.{◌≡◌, ◌∙◌, length, ap, subst, arith}
+use Rattle.store_core.proofs.Common.{◌≡◌, ◌∙◌, length, ap, subst, arith}
 use Rattle.mdbox_base.specs.Words.{IsOctets}
 use Rattle.store_core.proofs.InstanceNumberLemmas.{ids_in_text, ids_if_short, written_over}
 use Rattle.store_core.proofs.store.append_map.long_text.Goals as goal

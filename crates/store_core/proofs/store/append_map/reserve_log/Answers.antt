@@ -1,4 +1,4 @@
-use Rattle.std.proofs.Common.{arith}
+use Rattle.store_core.proofs.Common.{arith}
 use Rattle.store_core.proofs.MapAppendLemmas.{few_octets}
 use Rattle.store_core.proofs.store.append_map.reserve_log.Goals as goal
 

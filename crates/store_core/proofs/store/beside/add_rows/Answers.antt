@@ -1,10 +1,5 @@
-use Rattle.std.proofs.Common.{◌≡◌, ◌+◌, ◌∷◌, [], ◌∙◌, ℕ, List, length, length-append, take, sym, ap, subst, arith}
-use Rattle.std.proofs.lemmas.List.{length-map}
+use Rattle.store_core.proofs.Common.{◌≡◌, ◌+◌, ◌∷◌, [], ◌∙◌, ℕ, List, length, length-append, take, sym, ap, subst, arith, length-map, row_of, BoxRow, number_beside, StandBeside, in_rows}
 use Rattle.std.proofs.lemmas.Iterator.Consumers.{YieldsList-from_first, YieldsList-turn, YieldsList-end}
-use Rattle.box_index.specs.Row.{row_of}
-use Rattle.box_index.specs.declared.index.BoxRow.{BoxRow}
-use Rattle.store_core.specs.Dues.{number_beside}
-use Rattle.store_core.specs.Beside.{StandBeside, in_rows}
 use Rattle.store_core.proofs.CountingLemmas.{row_here}
 use Rattle.store_core.proofs.BesideLemmas.{walk_begins, walk_has_room, walk_goes_on, walk_ends, rows_few}
 use Rattle.store_core.proofs.store.beside.add_rows.Goals as goal

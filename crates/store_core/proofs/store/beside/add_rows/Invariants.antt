@@ -1,6 +1,4 @@
-use Rattle.std.proofs.Common.{◌+◌, length, take}
-use Rattle.store_core.specs.Dues.{number_beside}
-use Rattle.store_core.specs.Beside.{in_rows, StandBeside}
+use Rattle.store_core.proofs.Common.{◌+◌, length, take, number_beside, in_rows, StandBeside}
 use Rattle.store_core.proofs.store.beside.add_rows.Given as goal
 
 -- the rows so far are counted

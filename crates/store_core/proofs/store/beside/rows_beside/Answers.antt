@@ -1,5 +1,5 @@
-use Rattle.std.proofs.Common.{◌∙◌, ℕ, take, replicate, sym, ap, arith}
-use Rattle.store_core.specs.Beside.{in_boxes}
+use Rattle.store_core.proofs.Common.{◌∙◌, ℕ, take, sym, ap, arith, in_boxes}
+use Rattle.std.proofs.Common.{replicate}
 use Rattle.store_core.proofs.BesideLemmas.{boxes_none, none_beside, same_beside, walk_of_boxes, boxes_have_room, boxes_more}
 use Rattle.store_core.proofs.store.beside.rows_beside.Goals as goal
 

@@ -1,5 +1,4 @@
-use Rattle.std.proofs.Common.{◌≤◌, ◌*◌, ℕ, take}
-use Rattle.store_core.specs.Beside.{in_boxes, StandBeside}
+use Rattle.store_core.proofs.Common.{◌≤◌, ◌*◌, ℕ, take, in_boxes, StandBeside}
 use Rattle.store_core.proofs.store.beside.rows_beside.Given as goal
 
 -- the rows of the mailboxes so far are counted

@@ -1,6 +1,5 @@
-use Rattle.disk_model.specs.Disk.{IfTold, OthersStay}
+use Rattle.store_core.proofs.Common.{IfTold, OthersStay, each_image-map}
 use Rattle.disk_model.specs.declared.name.FileName.TheVariants as file
-use Rattle.disk_model.proofs.MomentLemmas.{each_image-map}
 use Rattle.gate_log.specs.Log.{IsAtMostAsLong}
 use Rattle.store_core.proofs.store.boxes.make_log.Goals as goal
 

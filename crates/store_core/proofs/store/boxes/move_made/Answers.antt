@@ -1,4 +1,4 @@
-use Rattle.std.proofs.Common.{sym}
+use Rattle.store_core.proofs.Common.{sym}
 use Rattle.store_core.proofs.MadeLogLemmas.{has_found}
 use Rattle.store_core.proofs.store.boxes.move_made.Goals as goal
 

@@ -1,5 +1,4 @@
-use Rattle.std.proofs.Common.{◌≢◌, List, All, sym, ◌∙◌, subst}
-use Rattle.store_core.specs.declared.store.OpenBox.{OpenBox}
+use Rattle.store_core.proofs.Common.{◌≢◌, List, All, sym, ◌∙◌, subst, OpenBox}
 use Rattle.store_core.proofs.MadeLogLemmas.{all_left, none_found}
 use Rattle.store_core.proofs.MadeCallLemmas.{taken_at}
 use Rattle.store_core.proofs.store.boxes.take_made.Goals as goal

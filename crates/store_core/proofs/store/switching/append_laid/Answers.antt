@@ -1,5 +1,4 @@
-use Rattle.std.proofs.Common.{ℕ, List, subst}
-use Rattle.store_core.specs.Append.{AddsText}
+use Rattle.store_core.proofs.Common.{ℕ, List, subst, AddsText}
 use Rattle.store_core.proofs.store.switching.append_laid.Goals as goal
 
 pub returns-clause-any_moment : goal.returns-clause-any_moment

@@ -1,8 +1,7 @@
-use Rattle.std.proofs.Common.{◌<◌, ℕ, ◌∙◌, rules}
+use Rattle.store_core.proofs.Common.{◌<◌, ℕ, ◌∙◌, rules, MapUid}
 use Rattle.std.proofs.lemmas.List.Kept.{AllPairs-from_increasing}
 use Rattle.std.proofs.lemmas.List.Sorted.{answers_always}
 use Rattle.map_index.proofs.SearchLemmas.{any_searched, pairs_unmap}
-use Rattle.mdbox_base.specs.declared.ids.MapUid.{MapUid}
 use Rattle.store_core.proofs.LeaveOutLemmas.{drops_as}
 use Rattle.store_core.proofs.store.switching.is_dropped.Goals as goal
 

@@ -1,4 +1,4 @@
-use Rattle.std.proofs.Common.{◌<◌, ◌+◌, ℕ, length, slice_set, sym, ◌∙◌, subst, arith}
+use Rattle.store_core.proofs.Common.{◌<◌, ◌+◌, ℕ, length, slice_set, sym, ◌∙◌, subst, arith}
 use Rattle.store_core.proofs.LeaveOutLemmas.{IsLeftOut, left_begins, left_gone, left_kept, left_ends}
 use Rattle.store_core.proofs.store.switching.leave_out.Goals.{then-not-is_dropped, else-not-is_dropped}
 use Rattle.store_core.proofs.store.switching.leave_out.Goals as goal
