@@ -9,7 +9,7 @@ use crate::folder::run_in;
 use crate::reasons::{has_no_reader, tell_disk, tell_input, tell_more, tell_output};
 use crate::streams::hold_streams;
 use crate::words::{are_text, words_of};
-use mdbox_base::{MemSink, Octets, Seq, give_all};
+use mdbox_base::{MemSink, Octets, Seq, Sink, give_all};
 use os_folder::{OsFolder, StdClock, StdSink, StdSource};
 use request_text::{Outcome, Status, report};
 use std::env;
@@ -40,11 +40,7 @@ pub fn start<R: Threads + Sync>(rt: &R, host: HostRuntime) -> ExitCode
     let words = words_of(host.alloc(), all);
     let asked = asked_by(host.alloc(), is_text, &words);
     if matches!(asked, Asked::Rebuild) && is_dovecots(&host) {
-        let _ = give_all(
-            &mut errors,
-            b"mdbox: Dovecot's index is here: copy storage/m.* and attachments into a new folder first\n",
-        );
-        return exit_of(Status(3));
+        return refuse_dovecots(&mut errors);
     }
     let mut input = StdSource::of(host.stdin());
     let mut output = StdSink::of(host.stdout());
@@ -74,4 +70,15 @@ pub fn start<R: Threads + Sync>(rt: &R, host: HostRuntime) -> ExitCode
         _ => {}
     }
     exit_of(status)
+}
+
+/// Tells that a rebuild isn't begun beside Dovecot's own files, and with which status that ends.
+fn refuse_dovecots<E: Sink>(errors: &mut E) -> ExitCode
+    ensures { exit_status result ≤ 8 }
+{
+    let _ = give_all(
+        errors,
+        b"mdbox: Dovecot's index is here: copy storage/m.* and attachments into a new folder first\n",
+    );
+    exit_of(Status(3))
 }

@@ -65,11 +65,11 @@ pub fn mailboxes_keep_names()
 {}
 
 /// An event that leaves the storage files and the instances as they were but for synced names, and of each record all but its count,
-/// leaves to the other tasks what is theirs, if it raises no count of 0, leaves unlisted records so, each name to its mailbox, and the map log no less room. One that changes nothing
-/// does. Where no more of the value changes than what logs mean and what is due, the claims are those of dues.
+/// leaves to the other tasks what is theirs, if it raises no count of 0, leaves unlisted records so, each name to its mailbox, and the map
+/// log no less room. One that changes nothing does. Where no more of the value changes than what logs mean and what is due, the claims are those of dues.
 pub fn log_events_leave_others<D>()
-    ensures logs { (mine : Claims) (old new : StoreValue D) (before after : Option History) → new.files ≡ old.files → new.instances ≡ old.instances → SyncsMail before after → SameButCounts old.map new.map → RaisesNone old.map new.map → old.map.highest.mailbox ≤ new.map.highest.mailbox → NamesStay old.map new.map → KeepsUids old new → old.map_log.room ≤ new.map_log.room → LeavesUnlisted mine old new
-        → LeavesOthers mine old new before after }
+    ensures logs { (mine : Claims) (old new : StoreValue D) (before after : Option History) → new.files ≡ old.files → new.instances ≡ old.instances → SyncsMail before after → SameButCounts old.map new.map → RaisesNone old.map new.map → old.map.highest.mailbox ≤ new.map.highest.mailbox → NamesStay old.map new.map → KeepsUids old new
+        → old.map_log.room ≤ new.map_log.room → LeavesUnlisted mine old new → LeavesOthers mine old new before after }
     ensures dues { (mine mine_now : ℕ → ℕ) (old new : StoreValue D) → ((uid : ℕ) → due_at uid new + mine uid ≡ due_at uid old + mine_now uid) → KeepsRest old new → MovesClaims (claims_of_dues mine) (claims_of_dues mine_now) old new }
     ensures idle { (mine : Claims) (store : StoreValue D) (before after : Option History) → IsIdle before after → LeavesOthers mine store store before after }
 {}
