@@ -98,7 +98,7 @@ queue_is row first was = ap (λ (o : Option Queued). queue_in (record row { curr
 task_is : (row : LaneRow) (first : Queued) → row.current ≡ Some first → option_map (λ (q : Queued). q.task) row.current ≡ Some first.task
 task_is row first was = ap (option_map (λ (q : Queued). q.task)) was
 
-claims_are : (row : LaneRow) (first : Queued) → row.current ≡ Some first → lane_claims claims_at (lane_value row) ≡ claims_at first.task
+pub claims_are : (row : LaneRow) (first : Queued) → row.current ≡ Some first → lane_claims claims_at (lane_value row) ≡ claims_at first.task
 claims_are row first was = ap (λ (o : Option Queued). lane_claims claims_at (lane_value (record row { current = o }))) was
 
 pub in_turn : {D : Type 0} → (start : Lists) (script : Requests) (run : Run) (journal : List JournalStep) (broken : Broken) (replies : List (Option Reply)) (began now : Seen) (rows : List LaneRow) (k : ℕ) (row : LaneRow) (first : Queued) (store : StoreValue D) (history : Option History) → slice_get rows k ≡ Some row → row.current ≡ Some first
@@ -184,7 +184,7 @@ waiting_behind : (script : Requests) (lane : ℕ) (ended : Option Reply) (first 
 waiting_behind script lane None first waiting are = are
 waiting_behind script lane (Some given) first waiting are = next_waiting script lane waiting are
 
-all_waiting : (script : Requests) (rows : List LaneRow) (k : ℕ) (row now : LaneRow) → slice_get rows k ≡ Some row → AreWaiting script (k + 1) now.waiting → ((j : ℕ) (other : LaneRow) → slice_get rows j ≡ Some other → AreWaiting script (j + 1) other.waiting)
+pub all_waiting : (script : Requests) (rows : List LaneRow) (k : ℕ) (row now : LaneRow) → slice_get rows k ≡ Some row → AreWaiting script (k + 1) now.waiting → ((j : ℕ) (other : LaneRow) → slice_get rows j ≡ Some other → AreWaiting script (j + 1) other.waiting)
     → (j : ℕ) (other : LaneRow) → slice_get (slice_set rows k now) j ≡ Some other → AreWaiting script (j + 1) other.waiting
 all_waiting script rows k row now there own all j other is = by_case (nat_cases k j)
   where

@@ -1,8 +1,10 @@
+pub mod AskLemmas
 pub mod BeginLemmas
 pub mod DamageLemmas
 pub mod EntryLemmas
 pub mod FindingLemmas
 pub mod GoingLemmas
+pub mod GrowLemmas
 pub mod LeftLemmas
 pub mod OpeningLemmas
 pub mod OwnUseLemmas
@@ -15,4 +17,5 @@ pub mod TellsUsesLemmas
 pub mod TraceLemmas
 pub mod UnpinnedLemmas
 pub mod WaitingLemmas
+pub mod WithLemmas
 pub mod WorldLemmas

@@ -27,7 +27,7 @@ use Rattle.lanes.proofs.WorldLemmas.{added_as, broken_at, entries_at}
 -- ---- rows
 
 -- what holds of each row, and of one that comes in the place of another
-each_set : (P : LaneRow → Type 0) (rows : List LaneRow) (k : ℕ) (row now : LaneRow) → slice_get rows k ≡ Some row → P now → ((j : ℕ) (other : LaneRow) → slice_get rows j ≡ Some other → P other) → (j : ℕ) (other : LaneRow) → slice_get (slice_set rows k now) j ≡ Some other → P other
+pub each_set : (P : LaneRow → Type 0) (rows : List LaneRow) (k : ℕ) (row now : LaneRow) → slice_get rows k ≡ Some row → P now → ((j : ℕ) (other : LaneRow) → slice_get rows j ≡ Some other → P other) → (j : ℕ) (other : LaneRow) → slice_get (slice_set rows k now) j ≡ Some other → P other
 each_set P rows k row now there own all j other is = by_case (nat_cases k j)
   where
     by_case : (k ≡ j) ⊎ (k ≢ j) → P other

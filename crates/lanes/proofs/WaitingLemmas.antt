@@ -21,13 +21,13 @@ use Rattle.lanes.proofs.GoingLemmas.{queue_is}
 -- ---- sums
 
 -- how often a place is in a queue
-abbrev times_in : ℕ → List ℕ → ℕ
+abbrev pub times_in : ℕ → List ℕ → ℕ
 times_in place places = count_by (λ other. other == place) places
 
-times_cons : (place first : ℕ) (rest : List ℕ) → times_in place (first ∷ rest) ≡ one_if (first == place) + times_in place rest
+pub times_cons : (place first : ℕ) (rest : List ℕ) → times_in place (first ∷ rest) ≡ one_if (first == place) + times_in place rest
 times_cons place first rest = sum_by-cons (λ (x : ℕ). cond (x == place) 1 0) first rest
 
-sum_set : {X : Type 0} → (f : X → ℕ) (xs : List X) (k : ℕ) (x y : X) → slice_get xs k ≡ Some x → sum_by f (slice_set xs k y) + f x ≡ sum_by f xs + f y
+pub sum_set : {X : Type 0} → (f : X → ℕ) (xs : List X) (k : ℕ) (x y : X) → slice_get xs k ≡ Some x → sum_by f (slice_set xs k y) + f x ≡ sum_by f xs + f y
 sum_set f [] k x y there = absurd (let z : None ≡ Some x = there in cc z)
 sum_set f (a ∷ xs) zero x y there =
     let same : f a ≡ f x = ap f (one_some a x there) in
@@ -45,7 +45,7 @@ one_of_sum f [] k x there = absurd (let z : None ≡ Some x = there in cc z)
 one_of_sum f (a ∷ xs) zero x there = let same : f a ≡ f x = ap f (one_some a x there) in let s = sum_by-cons f a xs in omega (arith, same, s)
 one_of_sum f (a ∷ xs) (suc k) x there = let h = one_of_sum f xs k x there in let s = sum_by-cons f a xs in omega (arith, h, s)
 
-equal_test : (a b : ℕ) → (a ≡ b → one_if (a == b) ≡ 1) × (a ≢ b → one_if (a == b) ≡ 0)
+pub equal_test : (a b : ℕ) → (a ≡ b → one_if (a == b) ≡ 1) × (a ≢ b → one_if (a == b) ≡ 0)
 equal_test a b = (λ e. ap one_if (same e), λ n. ap one_if (differ n))
   where
     same : a ≡ b → (a == b) ≡ true

@@ -1,3 +1,4 @@
+pub mod Asked
 pub mod Going
 pub mod Rows
 pub mod Worlds

@@ -1,9 +1,10 @@
 // A lane: the request in turn with its task, and those behind it.
-ghost use Rattle.std.specs.Prelude.{◌≡◌, ◌≢◌, true, false, [], Some, None, IfSome, IsNone, OnOk};
+ghost use Rattle.std.specs.Prelude.{◌≡◌, ◌≢◌, true, false, [], Some, None, IfSome, IsNone, OnErr, OnOk};
 ghost use Rattle.lane_tasks.specs.Tasks.{IsReadyTask};
 ghost use Rattle.mail_fetch.specs.Claims.{HasUseRoom};
 ghost use Rattle.lane_tasks.specs.declared.task.Task.{Task as TaskValue};
 ghost use Rattle.task_steps.specs.Step.{ended_by};
+ghost use Rattle.lanes.specs.Asked.{row_asked};
 ghost use Rattle.lanes.specs.Worlds.{queued_in};
 ghost use Rattle.lanes.specs.Rows.{IsReadyRow, RowGoesOn, TaskGoesOn, goes_on_by};
 
@@ -78,6 +79,24 @@ impl Lane {
             Err(failed) => {
                 put(&mut self.current, Some(failed.value));
                 let_go(queued);
+                Err(NoMemory)
+            }
+        }
+    }
+
+    /// Puts a request behind the others. Without memory it is let go, and the lane stays.
+    pub(crate) fn push_back(&mut self, queued: Queued) -> Result<(), NoMemory>
+        ensures ok { OnOk result (self.new ≡ row_asked queued self.old) }
+        ensures err { OnErr result (self.new ≡ self.old) }
+    {
+        if self.current.is_none() {
+            put(&mut self.current, Some(queued));
+            return Ok(());
+        }
+        match self.waiting.push_back(queued) {
+            Ok(()) => Ok(()),
+            Err(failed) => {
+                let_go(failed.value);
                 Err(NoMemory)
             }
         }

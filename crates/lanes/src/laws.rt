@@ -1,8 +1,9 @@
 // Lanes begin, go on and end.
-ghost use Rattle.std.specs.Prelude.{◌≡◌, ◌<◌, ◌≤◌, ◌+◌, ◌++◌, ℕ, false, List, [], length, slice_get, slice_set, Option, Some};
+ghost use Rattle.std.specs.Prelude.{◌≡◌, ◌<◌, ◌≤◌, ◌+◌, ◌++◌, ◌∷◌, ℕ, false, List, [], All, length, slice_get, slice_set, Option, Some};
 ghost use Rattle.disk_model.specs.Disk.{History, Faults, told_calls};
 ghost use Rattle.mdbox_base.specs.declared.ids.Uid.{Uid};
 ghost use Rattle.mdbox_base.specs.declared.replies.Reply.{Reply};
+ghost use Rattle.mdbox_base.specs.declared.requests.Request.{Request};
 ghost use Rattle.mdbox_base.specs.declared.requests.Request.TheVariants as request;
 ghost use Rattle.mdbox_base.specs.declared.script.JournalEntry.{JournalEntry};
 ghost use Rattle.model_lists.specs.Lists.{Lists};
@@ -17,6 +18,7 @@ ghost use Rattle.task_claims.specs.Claims.{HasNoTask};
 ghost use Rattle.task_steps.specs.Step.{IsFirmAt, Seen, ShowsSeen, ended_by};
 ghost use Rattle.mail_fetch.specs.Task.{seen_in};
 ghost use Rattle.purge_task.specs.Clause.{TellsUses};
+ghost use Rattle.lanes.specs.Asked.{GoesWith, HasNoIdleTurn, IsRequestAsked, IsOnlyLeft, asked_in, events_of};
 ghost use Rattle.lanes.specs.Going.{AddsEvent, AreFreshRows, FindsMessages, IsGoing};
 ghost use Rattle.lanes.specs.Rows.{LaneRow, RowGoesOn, lanes_of};
 ghost use Rattle.lanes.specs.Worlds.{AreEntriesAt, ArePartsOf, GoesOnBy, IsFreshWorld, IsLaneEvent, IsServedOn, IsSoundWorld, IsWorldOf, KeepsWorld, PartsValue, WorldValue};
@@ -78,4 +80,20 @@ pub fn entries_are_told()
 pub fn worlds_tell_uses<D: Disk>()
     ensures { (start : Lists) (script : Requests) (run : Run) (journal : List JournalStep) (broken : Broken) (replies : List (Option Reply)) (began : Seen) (store : StoreValue D) (history : Option History) (faults : Faults) (rows : List LaneRow) → IsGoing start script run journal broken replies began store history faults rows
         → store.stopped ≡ false → TellsUses run store }
+{}
+
+/// The script of a world grows by a request that is asked of a lane, whatever the lanes have done by then: with it the world is one of the
+/// same run, if none of its turns was idle. Where the grown script fetches messages, it must find them.
+pub fn scripts_grow<D: Disk>()
+    ensures { (lane : ℕ) (asked : Request) (start : Lists) (script : Requests) (run : Run) (steps : List JournalStep) (failed : Broken) (began : Seen) (old new : WorldValue D) (history : Option History) (faults : Faults) → IsRequestAsked lane asked old new → HasNoIdleTurn old
+        → ((place at : ℕ) (name : List ℕ) (uid : Uid) → slice_get (script ++ (lane, asked) ∷ []) place ≡ Some (at, request.Fetch name uid) → FindsMessages start (script ++ (lane, asked) ∷ []) run began.history history)
+        → IsWorldOf start script run steps failed began history faults old → IsWorldOf start (script ++ (lane, asked) ∷ []) run steps failed began history faults new }
+{}
+
+/// What events and requests that are asked leave of a world: its lanes, whether they were finished, and the moment as it began. Each request
+/// that is asked has its place among the replies. Where one request has no reply, all entries that events add are of this one.
+pub fn worlds_go_with<D: Disk>()
+    ensures keeps { (moves : List (ℕ × Option Request)) (old new : WorldValue D) → GoesWith D.history D.faults moves old new → (length new.rows ≡ length old.rows) × (new.finished ≡ old.finished) × (new.began ≡ old.began) × (length new.replies ≡ length old.replies + length (asked_in moves)) }
+    ensures follow { (first second : List (ℕ × Option Request)) (old mid new : WorldValue D) → GoesWith D.history D.faults first old mid → GoesWith D.history D.faults second mid new → GoesWith D.history D.faults (first ++ second) old new }
+    ensures own { (lanes : List ℕ) (last : ℕ) (old new : WorldValue D) → GoesWith D.history D.faults (events_of lanes) old new → IsOnlyLeft last old.replies → (more : List JournalEntry) × (new.journal ≡ old.journal ++ more) × All (λ entry. entry.request ≡ last) more × IsOnlyLeft last new.replies }
 {}

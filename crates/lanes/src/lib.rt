@@ -3,8 +3,8 @@
 
 pub use lane::{Lane, LaneEvent, Queued};
 pub use laws::{
-    entries_are_told, idle_worlds_have_replied, lanes_begin, lanes_end, lanes_go_on, worlds_begin,
-    worlds_go_on, worlds_tell_uses,
+    entries_are_told, idle_worlds_have_replied, lanes_begin, lanes_end, lanes_go_on, scripts_grow,
+    worlds_begin, worlds_go_on, worlds_go_with, worlds_tell_uses,
 };
 pub use parts::WorldParts;
 pub use turn::{Turn, Turned};

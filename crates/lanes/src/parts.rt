@@ -93,7 +93,7 @@ fn empty_lanes(alloc: Global, count: u32) -> Result<Vec<Lane>, NoMemory>
 }
 
 /// The task of a request that begins.
-fn task_for(request: Request, given: Option<Prepared>) -> Task
+pub(crate) fn task_for(request: Request, given: Option<Prepared>) -> Task
     requires { HasItsMessage request given }
     ensures { BeginsTask request result }
 {

@@ -1,21 +1,25 @@
 // A world: lanes over one store, which do the requests of a script.
-ghost use Rattle.std.specs.Prelude.{◌≡◌, ◌≤◌, ◌<◌, ◌+◌, ◌-◌, ◌++◌, ◌∷◌, [], ℕ, false, true, List, length, slice_get, Some, IfErr, IfOk, IfSome, IsNone, vec_len, vec_capacity};
+ghost use Rattle.std.specs.Prelude.{◌≡◌, ◌≤◌, ◌<◌, ◌+◌, ◌-◌, ◌++◌, ◌∷◌, [], ℕ, false, true, List, length, slice_get, Some, IfErr, IfOk, IfSome, IsNone, vec_len, vec_capacity, OnErr, OnOk};
 ghost use Rattle.serving.specs.Lanes.{replies_behind};
 ghost use Rattle.serving.specs.Serving.{AreIdle};
 ghost use Rattle.task_claims.specs.Claims.{HasNoTask};
 ghost use Rattle.task_steps.specs.Step.{ended_by};
+ghost use Rattle.lanes.specs.Asked.{GoesWith, IsRequestAsked, events_of};
 ghost use Rattle.lanes.specs.Rows.{lanes_of};
-ghost use Rattle.lanes.specs.Worlds.{AreAdded, AreGiven, AreIdleBetween, AreOfLanes, ArePartsOf, GoesOnBy, IsFreshWorld, IsIdleLane, IsLaneEvent, IsNextBusy, IsSoundWorld, PartsValue, Works, entries_broken, entries_made, replied_behind, turn_of, world_left};
+ghost use Rattle.lanes.specs.Worlds.{AreAdded, AreGiven, AreIdleBetween, AreOfLanes, ArePartsOf, GoesOnBy, HasItsMessage, IsFreshWorld, IsIdleLane, IsLaneEvent, IsNextBusy, IsSoundWorld, PartsValue, Works, entries_broken, entries_made, replied_behind, turn_of, world_left};
 ghost use Rattle.lanes.specs.declared.turn.Turned.TheVariants as turned;
 
-use crate::lane::{Lane, LaneEvent};
-use crate::parts::WorldParts;
+use crate::lane::{Lane, LaneEvent, Queued};
+use crate::parts::{WorldParts, task_for};
 use crate::turn::{Turn, Turned};
 use attach_detach::Prepared;
 use disk_model::Disk;
-use mdbox_base::{Did, Half, JournalEntry, Progress, Reply, Script, Seq};
+use mdbox_base::{Did, Half, JournalEntry, NoMemory, Progress, Reply, Request, Script, Seq};
 use std::marker::Model;
 use store_core::Store;
+
+/// For how many turns of each request a world has room.
+const TURNS_EACH: usize = 16;
 
 /// Lanes that do the requests of a script over one store, an event at a time, with what came of them.
 pub struct World<D: Disk> {
@@ -136,6 +140,51 @@ impl<D: Disk> World<D> {
         self.finished = true;
     }
 
+    /// Adds a request behind the others of its lane, and answers its place. Without memory it is let go, and the world stays.
+    pub fn ask(
+        &mut self,
+        lane: u32,
+        request: Request,
+        prepared: Option<Prepared>,
+    ) -> Result<u32, NoMemory>
+        requires lane { (1 ≤ lane) × (lane ≤ length self.old.rows) }
+        requires given { HasItsMessage request prepared }
+        requires few { length self.old.replies < 100000 }
+        requires running { self.old.finished ≡ false }
+        ensures ok { IfOk result (λ place. (place ≡ length self.old.replies) × IsRequestAsked lane request self.old self.new) }
+        ensures err { OnErr result (self.new ≡ self.old) }
+    {
+        let place = self.replies.len();
+        reserve_to(&mut self.replies, place + 1)?;
+        reserve_to(&mut self.journal, 2 * (place + 1))?;
+        reserve_to(&mut self.turns, self.turn_room as usize + TURNS_EACH)?;
+        let queued = Queued {
+            place: place as u32,
+            task: task_for(request, prepared),
+        };
+        self.lanes[(lane - 1) as usize].push_back(queued)?;
+        self.replies.push_reserved(None);
+        self.turn_room += TURNS_EACH as u64;
+        Ok(place as u32)
+    }
+
+    /// Does events of the lanes in rounds, each with its turn, until none has a request left; or until there is no memory for a turn.
+    pub fn answer_all(&mut self) -> Result<(), NoMemory>
+        ensures goes { (lanes : List ℕ) × GoesWith D.history D.faults (events_of lanes) self.old self.new }
+        ensures idle { OnOk result (AreIdle (lanes_of self.new.rows)) }
+    {
+        let mut last = 0;
+        while let Some(lane) = self.next_busy(last) {
+            self.known_facts();
+            match self.advance(lane) {
+                Turned::Worked => last = lane,
+                Turned::Idle => unreachable!(),
+                Turned::NoMemory => return Err(NoMemory),
+            }
+        }
+        Ok(())
+    }
+
     /// The lane that is in turn behind this one, of those that have a request left.
     fn next_busy(&self, last: u32) -> Option<u32>
         ensures some { IfSome result (λ lane. IsNextBusy last lane self.now.rows) }
@@ -237,6 +286,17 @@ impl<D: Disk> World<D> {
         } = self;
         (store, Seq::of(replies), Seq::of(journal), Seq::of(broken))
     }
+}
+
+/// Makes room for so many items in all.
+fn reserve_to<T: Drop>(items: &mut Vec<T>, count: usize) -> Result<(), NoMemory>
+    ensures same { (items.new.items ≡ items.old.items) × (vec_len items.new ≡ vec_len items.old) }
+    ensures ok { OnOk result (count ≤ vec_capacity items.new) }
+    ensures capacity { vec_capacity items.old ≤ vec_capacity items.new }
+{
+    let more = count.saturating_sub(items.len());
+    items.reserve(more)?;
+    Ok(())
 }
 
 /// The first lane after this one that has a request left.

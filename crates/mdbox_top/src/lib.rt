@@ -20,4 +20,5 @@ mod numbers;
 mod opening;
 mod rebuild;
 mod run;
+mod sessions;
 mod show;

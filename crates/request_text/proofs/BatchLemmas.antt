@@ -106,7 +106,7 @@ steps_by : (b : Bool) (xs : List JournalEntry) (e : JournalEntry) (r : ℕ) → 
 steps_by true xs e r t = sym (steps_more xs e r t)
 steps_by false xs e r t = sym (steps_other xs e r t)
 
-steps_to : (j : List JournalEntry) (at : ℕ) (e : JournalEntry) (r : ℕ) → at < length j → e ≡ get_or j at e
+pub steps_to : (j : List JournalEntry) (at : ℕ) (e : JournalEntry) (r : ℕ) → at < length j → e ≡ get_or j at e
     → (if e.request == r then with_place e.half (at + 1) (request_steps (take at j) r) else request_steps (take at j) r) ≡ request_steps (take (at + 1) j) r
 steps_to j at e r lt is =
     let cut : take (at + 1) j ≡ take at j ++ e ∷ [] = take_more j at e lt ∙ ap (λ (x : JournalEntry). take at j ++ x ∷ []) (sym is) in
@@ -133,7 +133,7 @@ written_back n new old p q =
 
 -- ---- the text
 
-replies_rest : (j : List JournalEntry) (n : ℕ) (xs ys : List (Option Reply)) → replies_from j n (xs ++ ys) ≡ replies_from j n xs ++ replies_from j (n + length xs) ys
+pub replies_rest : (j : List JournalEntry) (n : ℕ) (xs ys : List (Option Reply)) → replies_from j n (xs ++ ys) ≡ replies_from j n xs ++ replies_from j (n + length xs) ys
 replies_rest j n [] ys = ap (λ (k : ℕ). replies_from j k ys) (let z : n ≡ n + 0 = omega arith in z)
 replies_rest j n (x ∷ xs) ys =
     let here = answer_text (n + 1) (request_steps j n) x in

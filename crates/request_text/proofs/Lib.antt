@@ -1,3 +1,4 @@
 pub mod BatchLemmas
+pub mod OrderLemmas
 pub mod ReplyPrintLemmas
 pub mod WordsLemmas

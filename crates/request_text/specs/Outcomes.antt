@@ -27,6 +27,7 @@ status_of outcome.NoMemory = 5
 status_of outcome.DiskFault = 6
 status_of outcome.ReadFault = 7
 status_of outcome.WriteFault = 8
+status_of outcome.SessionFull = 0
 
 -- The end of a run that printed this reply: out of memory for 17, a disk fault for 18 and 19, and a refusal for any other NO.
 abbrev pub reply_outcome : Reply → Outcome
@@ -100,6 +101,7 @@ error_text outcome.NoMemory = said (codes "memory")
 error_text outcome.DiskFault = said (codes "disk fault")
 error_text outcome.ReadFault = said (codes "read fault")
 error_text outcome.WriteFault = said (codes "write fault")
+error_text outcome.SessionFull = said (codes "session full")
 
 -- The same end; or out of memory, if there was none for the text of a refusal.
 abbrev pub EndsAs : Outcome → Outcome → Type 0

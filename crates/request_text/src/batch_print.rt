@@ -1,10 +1,10 @@
 // Printing the replies of a script.
-ghost use Rattle.std.specs.Prelude.{◌≡◌, ◌≤◌, ◌++◌, ◌∷◌, [], OnOk, OnErr, IfErr};
+ghost use Rattle.std.specs.Prelude.{◌≡◌, ◌≢◌, ◌≤◌, ◌+◌, ◌++◌, ◌∷◌, [], All, Some, length, take, OnOk, OnErr, IfErr};
 ghost use Rattle.mdbox_base.specs.Streams.{Appended};
 ghost use Rattle.piece_writer.specs.Pieces.{Gathers, WritesPrefix, IsPrintError};
-ghost use Rattle.request_text.specs.BatchText.{place_text, places_text, front_text, numbered_text, answer_text, batch_text};
+ghost use Rattle.request_text.specs.BatchText.{place_text, places_text, front_text, numbered_text, answer_text, batch_text, request_steps};
 
-use crate::places::{Places, Steps, steps_of};
+use crate::places::{Places, Steps, steps_behind, steps_of};
 use crate::reply_print::{push_answer, put_reply};
 use mdbox_base::{JournalEntry, NoMemory, Octets, Reply, Sink, push_decimal};
 use piece_writer::{PieceWriter, PrintError};
@@ -40,6 +40,38 @@ pub fn print_batch<O: Sink>(
         )?;
         request += 1;
     }
+    writer.finish(output)
+}
+
+/// Prints the reply to a request, counted from 0, as `print_batch` prints it among the others. None of its steps stands among the first
+/// entries of the journal, of which there are so many.
+pub fn print_answer<O: Sink>(
+    alloc: Global,
+    output: &mut O,
+    journal: &[JournalEntry],
+    before: usize,
+    request: u32,
+    given: &Reply,
+) -> Result<(), PrintError>
+    requires within { before ≤ length journal.now }
+    requires own { All (λ entry. entry.request ≢ request) (take before journal.now) }
+    ensures ok { OnOk result (Appended (O.held output.old) (answer_text (request + 1) (request_steps journal.now request) (Some given.now)) (O.held output.new)) }
+    ensures err { OnErr result (WritesPrefix (O.held output.old) [] (answer_text (request + 1) (request_steps journal.now request) (Some given.now)) (O.held output.new)) }
+    ensures quiet { OnOk result (O.faults output.new ≡ O.faults output.old) }
+    ensures cause { IfErr result (IsPrintError (O.faults output.old) (O.faults output.new)) }
+    ensures counted { O.faults output.old ≤ O.faults output.new }
+{
+    let steps = steps_behind(journal, before, request);
+    let mut writer = PieceWriter::empty(alloc);
+    let number = request as u64 + 1;
+    put_numbered(
+        alloc,
+        output,
+        &mut writer,
+        number,
+        steps.places(given),
+        given,
+    )?;
     writer.finish(output)
 }
 

@@ -32,6 +32,8 @@ pub enum Command {
     Make { name: Name },
     /// Does the requests of the script that the input is, on so many lanes.
     Batch { lanes: u32 },
+    /// Does requests as they come, and prints each reply before the next is read.
+    Serve,
     /// Does so many requests, of the script that the number makes, on so many lanes.
     Exercise { lanes: u32, count: u32, number: u64 },
     /// Makes new logs, with this id, for the storage files that are there.
@@ -92,6 +94,9 @@ batch LANES reads a script from standard input, of at most 268435456 octets and 
             so many lanes (1 to 64) over the store in the current folder, opened once, and prints a line for each, in
             the script's order: its number, the place of its step in the order in which the steps were made or -, and
             what it replies
+serve       does the requests of a script as they come on standard input, of lanes 1 to 64, over the store in the current
+            folder, opened once, and prints what batch prints of each before it reads the next; ends at the input's end,
+            where no request stands, with NO 19 stopped, or after 100000 requests, which it tells with status 0
 exercise LANES COUNT NUMBER
             does as batch a script of COUNT requests (1 to 100000) that NUMBER (0 to 18446744073709551615) makes: each
             lane makes a mailbox, x and the lane's number, and then delivers, copies, expunges and flags in it; prints

@@ -35,6 +35,7 @@ pub fn report<E: Sink>(alloc: Global, errors: &mut E, outcome: Outcome) -> Statu
         Outcome::DiskFault => tell(errors, b"mdbox: disk fault\n", 6),
         Outcome::ReadFault => tell(errors, b"mdbox: read fault\n", 7),
         Outcome::WriteFault => tell(errors, b"mdbox: write fault\n", 8),
+        Outcome::SessionFull => tell(errors, b"mdbox: session full\n", 0),
     }
 }
 

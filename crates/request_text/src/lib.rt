@@ -1,10 +1,11 @@
 //! The words of the program's commands, what is printed of replies, how a run ends, and what is told of that.
 #![tactic(auto)]
 
-pub use batch_print::{print_batch, push_reply};
+pub use batch_print::{print_answer, print_batch, push_reply};
 pub use boxes::{BoxRow, print_boxes};
 pub use command::{Command, HELP, VERSION};
 pub use error_report::report;
+pub use laws::replies_are_told_in_order;
 pub use outcome::{
     FileRefusal, InputRefusal, Outcome, StoreRefusal, outcome_of_replies, outcome_of_reply,
 };
@@ -20,6 +21,7 @@ mod batch_print;
 mod boxes;
 mod command;
 mod error_report;
+mod laws;
 mod outcome;
 mod places;
 mod reply_print;

@@ -66,6 +66,8 @@ pub enum Outcome {
     ReadFault,
     /// The output failed.
     WriteFault,
+    /// A session has done as many requests as one may.
+    SessionFull,
 }
 
 /// The end of a run that printed this reply.

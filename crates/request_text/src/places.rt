@@ -1,6 +1,6 @@
 // The places of a script's requests in the journal.
-ghost use Rattle.std.specs.Prelude.{◌≡◌, ◌==◌, ℕ, Some, slice_get, if◌then◌else◌, IfOk};
-ghost use Rattle.request_text.specs.BatchText.{places_told, refuses_copy};
+ghost use Rattle.std.specs.Prelude.{◌≡◌, ◌≢◌, ◌≤◌, ◌==◌, ℕ, All, Some, length, slice_get, take, if◌then◌else◌, IfOk};
+ghost use Rattle.request_text.specs.BatchText.{places_told, refuses_copy, request_steps};
 ghost use Rattle.request_text.specs.Steps.{with_place, AreStepsOf};
 ghost use Rattle.request_text.specs.declared.places.Steps.{Steps};
 
@@ -97,5 +97,31 @@ fn note(rows: &mut [Steps], entry: JournalEntry, place: u64)
     let request = entry.request as usize;
     if request < rows.len() {
         rows[request] = rows[request].with(entry.half, place);
+    }
+}
+
+/// Where the steps of a request stand in the journal, none of them among its first entries, of which there are so many.
+pub fn steps_behind(journal: &[JournalEntry], before: usize, request: u32) -> Steps
+    requires within { before ≤ length journal.now }
+    requires own { All (λ entry. entry.request ≢ request) (take before journal.now) }
+    ensures { result ≡ request_steps journal.now request }
+{
+    let mut steps = Steps::NONE;
+    let mut at = before;
+    while at < journal.len() {
+        steps = noted(steps, journal[at], request, at as u64 + 1);
+        at += 1;
+    }
+    steps
+}
+
+/// The steps, where an entry stands at this place, if it is one of the request.
+fn noted(steps: Steps, entry: JournalEntry, request: u32, place: u64) -> Steps
+    ensures { result ≡ (if entry.request == request then with_place entry.half place steps else steps) }
+{
+    if entry.request == request {
+        steps.with(entry.half, place)
+    } else {
+        steps
     }
 }

@@ -57,6 +57,7 @@ fn read_one(word: &str) -> Result<Command, WordsError>
         "counts" => Ok(Command::Counts),
         "purge" => Ok(Command::Purge),
         "resync" => Ok(Command::Resync),
+        "serve" => Ok(Command::Serve),
         "dump" => Ok(Command::Dump),
         "logdump" => Ok(Command::LogDump),
         "--help" => Ok(Command::Help),

@@ -4,3 +4,4 @@ pub mod FlawLemmas
 pub mod MadeLemmas
 pub mod RequestLemmas
 pub mod ScriptLemmas
+pub mod TakeLemmas

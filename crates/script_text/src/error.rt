@@ -1,5 +1,5 @@
-// Why a text isn't a script.
-use mdbox_base::NoMemory;
+// Why a text isn't a script, and why no request was read or taken.
+use mdbox_base::{NoMemory, SourceFault};
 
 /// Why no script was read.
 #[derive(Clone, Copy, Debug, PartialEq, Eq)]
@@ -36,5 +36,37 @@ impl From<NoMemory> for Flaw {
 
     fn from(_error: NoMemory) -> Flaw {
         Flaw::NoMemory
+    }
+}
+
+/// Why no request was taken from a source.
+#[derive(Clone, Copy, Debug, PartialEq, Eq)]
+pub enum TakeError {
+    /// None stands there.
+    Bad,
+    /// The source failed.
+    Fault,
+    NoMemory,
+}
+
+impl From<NoMemory> for TakeError {
+    ghost use Rattle.std.specs.Prelude.{◌≡◌};
+    ghost use Rattle.script_text.specs.declared.error.TakeError.TheVariants as take_error;
+
+    ghost from_gives = { λ _ error. error ≡ take_error.NoMemory };
+
+    fn from(_error: NoMemory) -> TakeError {
+        TakeError::NoMemory
+    }
+}
+
+impl From<SourceFault> for TakeError {
+    ghost use Rattle.std.specs.Prelude.{◌≡◌};
+    ghost use Rattle.script_text.specs.declared.error.TakeError.TheVariants as take_error;
+
+    ghost from_gives = { λ _ error. error ≡ take_error.Fault };
+
+    fn from(_error: SourceFault) -> TakeError {
+        TakeError::Fault
     }
 }

@@ -1,13 +1,14 @@
 //! Scripts: the requests of several lanes as a text, read, written, and made from a number.
 #![tactic(auto)]
 
-pub use error::ScriptError;
+pub use error::{ScriptError, TakeError};
 pub use exercise::exercise_script;
 pub use flaw::{Need, ScriptFlaw, flaw_at};
 pub use laws::{
     a_text_is_one_script, made_scripts_fit, scripts_keep_mailboxes, written_scripts_are_read,
 };
-pub use read::read_script;
+pub use read::{MOST_REQUESTS, read_script};
+pub use take::take_request;
 pub use write::push_script;
 
 mod arguments;
@@ -18,5 +19,6 @@ mod flaw;
 mod laws;
 mod read;
 mod request;
+mod take;
 mod verb;
 mod write;

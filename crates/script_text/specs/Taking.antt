@@ -1,0 +1,45 @@
+-- One request at a time, taken from a source.
+use Rattle.std.specs.Prelude.{◌≡◌, ◌≤◌, ◌<◌, ◌⊎◌, ℕ, List, [], ◌∷◌, ◌++◌, length, IsTrue, IfSome, Option, Some, None}
+use Rattle.std.specs.List.{list_all}
+use Rattle.mdbox_base.specs.Numbers.{decimal_text}
+use Rattle.mdbox_base.specs.Streams.{IsAtEnd, Rose, Taken}
+use Rattle.mdbox_base.specs.Words.{is_other_than}
+use Rattle.mdbox_base.specs.declared.requests.Request.{Request}
+use Rattle.script_text.specs.Script.{BeginsNoRequest, FitsLanes, request_text, request_words, spaced}
+use Rattle.script_text.specs.declared.error.TakeError.{TakeError}
+use Rattle.script_text.specs.declared.error.TakeError.TheVariants as take_error
+
+-- The request that stood in front of a source was taken, no more of it, and it has so many octets; or the source was at its end.
+abbrev pub IsTakenFront : ℕ → Option (List ℕ) → Option (List ℕ) → Option ((ℕ × Request) × ℕ) → Type 0
+IsTakenFront lanes old new (Some (asked, size)) = FitsLanes lanes asked × Taken old (request_text asked) new × (size ≡ length (request_text asked))
+IsTakenFront lanes old new None = IsAtEnd old × (new ≡ old)
+
+-- Why none was taken: more is left of the source, and no request stands there; it failed; or out of memory.
+abbrev pub IsUntaken : ℕ → Option (List ℕ) → ℕ → ℕ → TakeError → Type 0
+IsUntaken lanes old faults later take_error.Bad = IfSome old (λ all. (0 < length all) × BeginsNoRequest lanes all) × (later ≡ faults)
+IsUntaken lanes old faults later take_error.Fault = Rose faults later
+IsUntaken lanes old faults later take_error.NoMemory = later ≡ faults
+
+-- ---- the parts of a request
+
+-- the line of a request, without its LF
+abbrev pub request_line : ℕ × Request → List ℕ
+request_line asked = spaced (decimal_text asked.0 ∷ request_words asked.1)
+
+-- no LF stands there
+abbrev pub HasNoLf : List ℕ → Type 0
+HasNoLf text = IsTrue (list_all (is_other_than 10) text)
+
+-- What was taken is a line and its LF; or all that was left of the source, or more than 1,024 octets, without an LF.
+abbrev pub IsLineTaken : List ℕ → Option (List ℕ) → Type 0
+IsLineTaken text left = ((line : List ℕ) × (text ≡ line ++ 10 ∷ []) × HasNoLf line) ⊎ (HasNoLf text × (IsAtEnd left ⊎ (1024 < length text)))
+
+-- So many octets were added to a text from a source, or fewer, all that were left of it.
+abbrev pub TakesUpTo : ℕ → List ℕ → List ℕ → Option (List ℕ) → Option (List ℕ) → Type 0
+TakesUpTo count before text old new = (octets : List ℕ) × (text ≡ before ++ octets) × Taken old octets new × (length octets ≤ count) × ((length octets ≡ count) ⊎ IsAtEnd new)
+
+-- Why octets were not taken: the source failed, or out of memory.
+abbrev pub IsTakeError : ℕ → ℕ → TakeError → Type 0
+IsTakeError faults later take_error.Bad = ⊥
+IsTakeError faults later take_error.Fault = Rose faults later
+IsTakeError faults later take_error.NoMemory = later ≡ faults

@@ -1,0 +1,7 @@
+//! A session: requests are done as they come, over a store that is opened once, each answered before the next is read.
+#![tactic(auto)]
+
+pub use serve::serve_session;
+
+mod one;
+mod serve;
