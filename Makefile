@@ -58,6 +58,7 @@ bench: all
 	bench/open
 	bench/fetch
 	bench/deliver
+	bench/serve
 	bench/attach
 	bench/threads
 	bench/rebuild
