@@ -19,7 +19,7 @@ use crate::exercise::exercise;
 use crate::init::init;
 use crate::input_commands::{dump, logdump};
 use crate::rebuild::rebuild;
-use crate::sessions::session;
+use crate::sessions::serve_input;
 use crate::show::show;
 use disk_model::Disk;
 use mdbox_base::{Clock, Request, Sink, Source};
@@ -190,7 +190,7 @@ fn perform<P: Preparer, D: Disk, I: Source, O: Sink, E: Sink, C: Clock>(
         }
         Command::Make { name } => serve(alloc, Request::Make { name }, None, disk, output),
         Command::Batch { lanes } => batch(preparer, alloc, lanes, disk, input, output),
-        Command::Serve => session(alloc, disk, input, output),
+        Command::Serve => serve_input(alloc, disk, input, output),
         Command::Exercise {
             lanes,
             count,

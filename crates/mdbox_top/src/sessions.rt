@@ -8,7 +8,7 @@ use std::alloc::Global;
 use store_open::OpenRefused;
 
 /// Opens the store, does the requests that come on the input, and prints each reply before the next is read; hands the disk back.
-pub fn session<D: Disk, I: Source, O: Sink>(
+pub fn serve_input<D: Disk, I: Source, O: Sink>(
     alloc: Global,
     disk: D,
     input: &mut I,

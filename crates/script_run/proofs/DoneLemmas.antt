@@ -16,7 +16,7 @@ use Rattle.mdbox_base.specs.declared.requests.Request.TheVariants as request
 use Rattle.model_kept.specs.Kept.{MailIsKept}
 use Rattle.model_lists.specs.Lists.{Lists}
 use Rattle.model_store.specs.Settled.{IsSettledFor}
-use Rattle.list_machine.specs.Run.{Run, reply_of}
+use Rattle.list_machine.specs.Run.{Run, RunEvent, reply_of}
 use Rattle.journal.specs.Events.{Around, is_fault}
 use Rattle.journal.specs.Makes.{AreNextEvents, HasCome}
 use Rattle.journal.specs.Journal.{Broken, HasReply, IsLegal, JournalStep, Requests, left_by, no_broken}
@@ -49,7 +49,7 @@ use Rattle.script_run.specs.Done.{IsScriptDone, LeavesStore, MayBeKept, MayBeSer
 use Rattle.script_run.specs.Faults.{FaultsByReplies, HasReadFault}
 use Rattle.script_run.specs.LeftOpen.{IsServedOpen}
 use Rattle.script_run.specs.Opening.{AreSafeFor, LogsShowLists}
-use Rattle.script_run.specs.Script.{HasStopped, ServesScript, has_change, has_delivery, has_fetch, has_mail_read, has_purge, is_fetch, is_purge}
+use Rattle.script_run.specs.Script.{HasStopped, IsRefusedAtOnce, ServesScript, has_change, has_delivery, has_fetch, has_mail_read, has_purge, is_fetch, is_purge}
 use Rattle.script_run.proofs.EndLemmas.{all_given, script_served, serves_from, unharmed}
 use Rattle.script_run.proofs.MailStaysLemmas.{opening_keeps, run_keeps, stays_from}
 use Rattle.script_run.proofs.CopyTaskLemmas.{IsCopyTold, StandsCopy, begun_copy, keeps_copy}
@@ -152,6 +152,164 @@ abbrev pub LanesEnd : (D : Type 0) → Type 0
 LanesEnd D = (start : Lists) (script : Requests) (run : Run) (journal : List JournalStep) (broken : Broken) (replies : List (Option Reply)) (began : Seen) (store : StoreValue D) (history : Option History) (faults : Faults) (rows : List LaneRow) → IsGoing start script run journal broken replies began store history faults rows
     → AreIdle (lanes_of rows) → (i : ℕ) → i < length script → (given : Reply) × HasReply replies i given × (reply_of i run ≡ Some given)
 
+-- Some lists are shown from which the script may be served, if there are lists from which it may read.
+start_of : {D : Type 0} → (script : Requests) (old mid : Option History) (s : StoreValue D) → OpenedNow old mid s → LogsShow → MayBeServed script old → (start : Lists) × LogsShowLists s.map (indexes_of s.boxes) start × MayRead script start old
+start_of script old mid s o show some = by_test (has_fetch script) refl
+  where
+    by_test : (b : Bool) → has_fetch script ≡ b → (start : Lists) × LogsShowLists s.map (indexes_of s.boxes) start × MayRead script start old
+    by_test true e = (some.0, opened_logs_show some.0 old s.map (indexes_of s.boxes) o.opened show (elim (some.1 e) [ inl settled ↦ settled_safe some.0 old settled | inr one ↦ one.1 ]), some.1)
+    by_test false e = let l = some_lists old s.map (indexes_of s.boxes) o.opened in (l.0, l.1, λ f. absurd (let k : true ≡ false = sym f ∙ e in cc k))
+
+-- Where no reply tells a fault, no event was refused by one.
+none_faulted : (around after : ℕ → Around) (script : Requests) (start : Lists) (run : Run) (journal : List JournalStep) (given : List Reply) → AreNextEvents around after script start run journal → ((i : ℕ) → i < length script → (one : Reply) × HasReply (map Some given) i one × (reply_of i run ≡ Some one))
+    → (HasReadFault given → ⊥) → (HasStopped given → ⊥) → All (λ event. event.refused ≢ Some refusal.ReadFault) run.events
+none_faulted around after script start run journal given next each unread unstopped = all_at (λ event. event.refused ≢ Some refusal.ReadFault) run.events (λ n e at why.
+    let k = next n e at in
+    let g = each e.request (slice_get_within script e.request k.asked k.request_is) in
+    by_reply g.0 (given_at given e.request g.0 g.1) (faults_are_told around after script start run journal next n e at (ap is_fault why) g.0 g.2))
+  where
+    by_reply : (one : Reply) → Contains given one → TellsFault one → ⊥
+    by_reply one c (inl e) = unread (subst (Contains given) e c)
+    by_reply one c (inr e) = unstopped (subst (Contains given) e c)
+
+-- What a run from these lists made of a world: it is one of the run with these events, none of which ended before the store was open; and
+-- where each answered its request with a refusal that a check gave, nothing has changed.
+pub record RunSince {D : Type 0} (start : Lists) (script : Requests) (run : Run) (began : Seen) (ended : WorldValue D) (mid new : Option History) (last : Faults) : Type 0 where
+  pub added : List RunEvent
+  pub more : List JournalStep
+  pub broke : Broken
+  pub is : IsWorldOf start script (and_events run added) more broke began new last ended
+  pub later : All (λ event. told_calls mid ≤ event.moment) added
+  pub refused : All IsRefusedAtOnce added → IsIdle mid new
+
+-- What is known of a run at its end, however its requests came: the opening, and what was made of the world that began then.
+pub record RunLeft {D : Type 0} (script : Requests) (old mid new : Option History) (first last : Faults) (s : StoreValue D) (ended : WorldValue D) : Type 0 where
+  pub opened : OpenedNow old mid s
+  pub show : LogsShow
+  pub since : (start : Lists) → LogsShowLists s.map (indexes_of s.boxes) start → MayRead script start old → RunSince start script (beginning s.map opened.store.entries) (before_opening (seen_in s mid first) old) ended mid new last
+  pub counts : HasCounted mid first ended new last
+  pub unwritten : has_delivery script ≡ false → has_purge script ≡ false → HasWrittenNone mid ended new last
+  pub unchanged : has_change script ≡ false → HasOnlyRead mid ended new last
+  pub unread : has_mail_read script ≡ false → HasReadNoOctets first ended new last
+  pub calm : has_fetch script ≡ false → HasReadAsTold first ended new last
+  pub sealed : (start : Lists) → LogsShowLists s.map (indexes_of s.boxes) start → MayRead script start old → HasKeptSealed start script s.map mid ended new last
+  pub made_is : IsMoment mid ended.began
+  pub many : length ended.replies ≡ length script
+  pub replied : (i : ℕ) → i < length ended.replies → (given : Reply) × HasReply ended.replies i given
+  pub idle : AreIdle (lanes_of ended.rows)
+  pub later : IsStore new ended.store
+  pub law : LanesEnd D
+
+-- a store that is stopped in the end replied so
+replied_by : {D : Type 0} → (script : Requests) (old mid new : Option History) (first last : Faults) (s : StoreValue D) (ended : WorldValue D) → RunLeft script old mid new first last s ended → (given : List Reply) → ended.replies ≡ map Some given → ended.store.stopped ≡ true → HasStopped given
+replied_by script old mid new first last s ended r given are e =
+    let i = r.counts.replied e in
+    given_at given i.0 (reply.Refused refusal.Stopped) (subst (λ (rs : List (Option Reply)). HasReply rs i.0 (reply.Refused refusal.Stopped)) are i.1)
+
+stopped_by : {D : Type 0} → (script : Requests) (old mid new : Option History) (first last : Faults) (s : StoreValue D) (ended : WorldValue D) → RunLeft script old mid new first last s ended → (given : List Reply) → ended.replies ≡ map Some given → (HasStopped given → ⊥) → ended.store.stopped ≡ false
+stopped_by script old mid new first last s ended r given are unstopped = not_true ended.store.stopped (λ e. unstopped (replied_by script old mid new first last s ended r given are e))
+
+-- from lists that the logs show, the replies tell the faults
+faults_of_run : {D : Type 0} → (script : Requests) (old mid new : Option History) (first last : Faults) (s : StoreValue D) (ended : WorldValue D) → (r : RunLeft script old mid new first last s ended) → (given : List Reply) → ended.replies ≡ map Some given → (start : Lists) → LogsShowLists s.map (indexes_of s.boxes) start → MayRead script start old
+    → FaultsByReplies given first last
+faults_of_run script old mid new first last s ended r given are start shows may =
+    let w = r.since start shows may in
+    let run : Run = and_events (beginning s.map r.opened.store.entries) w.added in
+    let going = w.is.going in
+    let counts = r.counts in
+    let runs = stopped_by script old mid new first last s ended r given are in
+    let legal = subst (λ (rs : List (Option Reply)). IsLegal start script run w.more rs first last) are going.serving.serves.legal in
+    record {
+      counted = counts.reads;
+      reads = legal.causes.reads;
+      changes = counts.changes;
+      stopped = λ h. let i = at_given given (reply.Refused refusal.Stopped) h in legal.causes.changes i.0 i.1;
+      unchanged = λ unstopped. counts.unchanged (runs unstopped);
+      quiet = λ unread unstopped.
+          going.quiet (runs unstopped)
+          (none_faulted going.serving.follows.around going.serving.follows.after script start run w.more given going.serving.follows.next
+          (λ i l. let e = r.law start script run w.more w.broke ended.replies _ ended.store new last ended.rows going r.idle i l in (e.0, subst (λ (rs : List (Option Reply)). HasReply rs i e.0) are e.1, e.2)) unread unstopped);
+    }
+
+-- and storage files and instances stayed
+mail_of_run : {D : Type 0} → (script : Requests) (old mid new : Option History) (first last : Faults) (s : StoreValue D) (ended : WorldValue D) → (r : RunLeft script old mid new first last s ended) → (start : Lists) → LogsShowLists s.map (indexes_of s.boxes) start → MayRead script start old → has_purge script ≡ false → MailIsKept s.map old new
+mail_of_run script old mid new first last s ended r start shows may none =
+    let w = r.since start shows may in
+    let going = w.is.going in
+    going.serving.serves.mail (none_moved going.serving.follows.around going.serving.follows.after script start _ w.more (λ i asked at. unpurged script i asked.0 asked.1 none at) going.serving.follows.next)
+
+-- it is served from them, and the logs show in the end what its journal leaves
+serves_run : {D : Type 0} → (script : Requests) (old mid new : Option History) (first last : Faults) (s : StoreValue D) (ended : WorldValue D) → (r : RunLeft script old mid new first last s ended) → (given : List Reply) → ended.replies ≡ map Some given → (start : Lists) → LogsShowLists s.map (indexes_of s.boxes) start → MayRead script start old
+    → (was : ServesScript script start given ended.journal first last old mid new) × LogsShowLists ended.store.map (indexes_of ended.store.boxes) (left_by start was.journal)
+serves_run script old mid new first last s ended r given are start shows may =
+    let from : Seen = before_opening (seen_in s mid first) old in
+    let w = r.since start shows may in
+    let run : Run = and_events (beginning s.map r.opened.store.entries) w.added in
+    let going = subst (λ (rs : List (Option Reply)). IsGoing start script run w.more w.broke rs from ended.store new last ended.rows) are w.is.going in
+    script_served start script run w.more w.broke given ended.journal from ended.began ended.store mid new last ended.rows going going.serving.stays_stopped r.later r.opened.drawn (opening_begins old mid s r.opened)
+    (λ e. let i = going.serving.replied_stopped e in given_at given i.0 (reply.Refused refusal.Stopped) i.1) (r.made_is, w.later) w.is.entries
+    w.refused
+
+-- what it left of the store
+leaves_run : {D : Type 0} → (script : Requests) (old mid new : Option History) (first last : Faults) (s : StoreValue D) (ended : WorldValue D) → RunLeft script old mid new first last s ended → (given : List Reply) → ended.replies ≡ map Some given → LeavesStore script s.map given old new
+leaves_run script old mid new first last s ended r given are = record {
+  generation = r.opened.swept.0;
+  opened = mid;
+  swept = r.opened.swept.1;
+  carried = r.opened.carried;
+  closed_well = r.opened.closed_well;
+  grows = r.counts.grows;
+  idle = λ none. (r.unchanged none).idle;
+  mail = λ none none_purges unstopped. (r.unwritten none none_purges).synced (stopped_by script old mid new first last s ended r given are unstopped);
+}
+
+stays_run : {D : Type 0} → (script : Requests) (old mid new : Option History) (first last : Faults) (s : StoreValue D) (ended : WorldValue D) → RunLeft script old mid new first last s ended → MayBeKept script old → KeepsOpenedMail old new
+stays_run script old mid new first last s ended r may = by_test (has_delivery script) refl
+  where
+    by_test : (b : Bool) → has_delivery script ≡ b → KeepsOpenedMail old new
+    by_test true e =
+        let start = start_of script old mid s r.opened r.show (may.1 e) in
+        run_keeps old new s.map (indexes_of s.boxes) r.opened.opened (mail_of_run script old mid new first last s ended r start.0 start.1 start.2 may.0)
+    by_test false e =
+        let kept = (r.unwritten e may.0).kept s.map in
+        stays_from old mid new s.map (indexes_of s.boxes) r.opened.opened r.opened.reads r.opened.stays kept
+
+-- and sealed storage files stay, also where a script purges
+sealed_run : {D : Type 0} → (script : Requests) (old mid new : Option History) (first last : Faults) (s : StoreValue D) (ended : WorldValue D) → RunLeft script old mid new first last s ended → MayBeServed script old → KeepsSealed old new
+sealed_run script old mid new first last s ended r may =
+    let start = start_of script old mid s r.opened r.show may in
+    keeps_sealed old mid new s.map (indexes_of s.boxes) r.opened.opened r.opened.reads r.opened.stays (r.sealed start.0 start.1 start.2).kept
+
+pub done_run : {D : Type 0} → (script : Requests) (old mid new : Option History) (first last : Faults) (s : StoreValue D) (ended : WorldValue D) → RunLeft script old mid new first last s ended → (given : List Reply) → ended.replies ≡ map Some given → IsScriptDone script given ended.journal old new first last
+unfolding leaves_run serves_run script_served
+done_run script old mid new first last s ended r given are =
+    let counts = r.counts in
+    record {
+      each = sym (length-map given Some) ∙ (ap length (sym are) ∙ r.many);
+      m = s.map;
+      meanings = indexes_of s.boxes;
+      opened = r.opened.opened;
+      shown = λ lists safe. opened_logs_show lists old s.map (indexes_of s.boxes) r.opened.opened r.show safe;
+      serves = λ lists shows may. (serves_run script old mid new first last s ended r given are lists shows may).0;
+      begins = λ lists shows may. sym r.opened.store.map_is;
+      undamaged = λ may.
+          let start = start_of script old mid s r.opened r.show may in
+          let w = r.since start.0 start.1 start.2 in
+          unharmed given (λ i one at. w.is.going.undamaged.none_told i one (subst (λ (rs : List (Option Reply)). HasReply rs i one) (sym are) at));
+      running = λ may none h.
+          let start = start_of script old mid s r.opened r.show may in
+          let w = r.since start.0 start.1 start.2 in
+          let i = at_given given (reply.Refused refusal.Stopped) h in
+          let stopped = w.is.going.serving.serves.halted i.0 (subst (λ (rs : List (Option Reply)). HasReply rs i.0 (reply.Refused refusal.Stopped)) (sym are) i.1) in
+          let e : true ≡ false = sym stopped ∙ (r.unchanged none).running in
+          cc e;
+      faults = λ may. let start = start_of script old mid s r.opened r.show may in faults_of_run script old mid new first last s ended r given are start.0 start.1 start.2;
+      counts = record { counted = counts.reads; changes = counts.changes; unchanged = λ unstopped. counts.unchanged (stopped_by script old mid new first last s ended r given are unstopped); unread = λ none. (r.unread none).unread; calm = λ none untold. (r.calm none).calm (λ i had. untold (given_at given i (reply.Refused refusal.ReadFault) (subst (λ (rs : List (Option Reply)). HasReply rs i (reply.Refused refusal.ReadFault)) are had))) };
+      leaves = leaves_run script old mid new first last s ended r given are;
+      stays = λ may. stays_run script old mid new first last s ended r may;
+      sealed = λ may. sealed_run script old mid new first last s ended r may;
+    }
+
 -- the law of lanes that begin
 abbrev pub LanesBegin : (D : Type 0) → Type 0
 LanesBegin D = (start : Lists) (script : Requests) (run : Run) (rows : List LaneRow) (store : StoreValue D) (history : Option History) (faults : Faults) → IsAtOpening run store → HasCome run store.map store.drawn (told_calls history) → HasNoTask store → store.stopped ≡ false → ShowsSeen (seen_in store history faults) start → IsFirmAt start (seen_in store history faults)
@@ -177,18 +335,6 @@ pub record ScriptRan {D : Type 0} (script : Requests) (old mid new : Option Hist
   pub later : IsStore new ended.store
   pub law : LanesEnd D
 
--- Where no reply tells a fault, no event was refused by one.
-none_faulted : (around after : ℕ → Around) (script : Requests) (start : Lists) (run : Run) (journal : List JournalStep) (given : List Reply) → AreNextEvents around after script start run journal → ((i : ℕ) → i < length script → (one : Reply) × HasReply (map Some given) i one × (reply_of i run ≡ Some one))
-    → (HasReadFault given → ⊥) → (HasStopped given → ⊥) → All (λ event. event.refused ≢ Some refusal.ReadFault) run.events
-none_faulted around after script start run journal given next each unread unstopped = all_at (λ event. event.refused ≢ Some refusal.ReadFault) run.events (λ n e at why.
-    let k = next n e at in
-    let g = each e.request (slice_get_within script e.request k.asked k.request_is) in
-    by_reply g.0 (given_at given e.request g.0 g.1) (faults_are_told around after script start run journal next n e at (ap is_fault why) g.0 g.2))
-  where
-    by_reply : (one : Reply) → Contains given one → TellsFault one → ⊥
-    by_reply one c (inl e) = unread (subst (Contains given) e c)
-    by_reply one c (inr e) = unstopped (subst (Contains given) e c)
-
 -- the world of the run with all events
 ended_world : {D : Type 0} → (script : Requests) (old mid new : Option History) (first last : Faults) (s : StoreValue D) (world ended : WorldValue D) → (r : ScriptRan script old mid new first last s world ended) → (start : Lists) → LogsShowLists s.map (indexes_of s.boxes) start → MayRead script start old
     → ServedSince start script (beginning s.map r.opened.store.entries) [] (before_opening (seen_in s mid first) old) (as_finished world) ended mid new last
@@ -200,44 +346,6 @@ ended_world script old mid new first last s world ended r start shows may =
 -- what came of the counts of faults
 counts_of_run : {D : Type 0} → (script : Requests) (old mid new : Option History) (first last : Faults) (s : StoreValue D) (world ended : WorldValue D) → ScriptRan script old mid new first last s world ended → HasCounted mid first ended new last
 counts_of_run script old mid new first last s world ended r = stays_over (HasCounted mid first) (counted_on mid first) 0 r.turns (as_finished world) ended mid new first last r.chain (counted_first (as_finished world) mid first r.runs)
-
--- a store that is stopped in the end replied so
-replied_by : {D : Type 0} → (script : Requests) (old mid new : Option History) (first last : Faults) (s : StoreValue D) (world ended : WorldValue D) → ScriptRan script old mid new first last s world ended → (given : List Reply) → ended.replies ≡ map Some given → ended.store.stopped ≡ true → HasStopped given
-replied_by script old mid new first last s world ended r given are e =
-    let i = (counts_of_run script old mid new first last s world ended r).replied e in
-    given_at given i.0 (reply.Refused refusal.Stopped) (subst (λ (rs : List (Option Reply)). HasReply rs i.0 (reply.Refused refusal.Stopped)) are i.1)
-
-stopped_by : {D : Type 0} → (script : Requests) (old mid new : Option History) (first last : Faults) (s : StoreValue D) (world ended : WorldValue D) → ScriptRan script old mid new first last s world ended → (given : List Reply) → ended.replies ≡ map Some given → (HasStopped given → ⊥) → ended.store.stopped ≡ false
-stopped_by script old mid new first last s world ended r given are unstopped = not_true ended.store.stopped (λ e. unstopped (replied_by script old mid new first last s world ended r given are e))
-
--- from lists that the logs show, the replies tell the faults
-faults_of_run : {D : Type 0} → (script : Requests) (old mid new : Option History) (first last : Faults) (s : StoreValue D) (world ended : WorldValue D) → (r : ScriptRan script old mid new first last s world ended) → (given : List Reply) → ended.replies ≡ map Some given → (start : Lists) → LogsShowLists s.map (indexes_of s.boxes) start → MayRead script start old
-    → FaultsByReplies given first last
-faults_of_run script old mid new first last s world ended r given are start shows may =
-    let w = ended_world script old mid new first last s world ended r start shows may in
-    let run : Run = and_events (beginning s.map r.opened.store.entries) w.added in
-    let going = w.is.going in
-    let counts = counts_of_run script old mid new first last s world ended r in
-    let runs = stopped_by script old mid new first last s world ended r given are in
-    let legal = subst (λ (rs : List (Option Reply)). IsLegal start script run w.more rs first last) are going.serving.serves.legal in
-    record {
-      counted = counts.reads;
-      reads = legal.causes.reads;
-      changes = counts.changes;
-      stopped = λ h. let i = at_given given (reply.Refused refusal.Stopped) h in legal.causes.changes i.0 i.1;
-      unchanged = λ unstopped. counts.unchanged (runs unstopped);
-      quiet = λ unread unstopped.
-          going.quiet (runs unstopped)
-          (none_faulted going.serving.follows.around going.serving.follows.after script start run w.more given going.serving.follows.next
-          (λ i l. let e = r.law start script run w.more w.broke ended.replies _ ended.store new last ended.rows going r.idle i l in (e.0, subst (λ (rs : List (Option Reply)). HasReply rs i e.0) are e.1, e.2)) unread unstopped);
-    }
-
--- and storage files and instances stayed
-mail_of_run : {D : Type 0} → (script : Requests) (old mid new : Option History) (first last : Faults) (s : StoreValue D) (world ended : WorldValue D) → (r : ScriptRan script old mid new first last s world ended) → (start : Lists) → LogsShowLists s.map (indexes_of s.boxes) start → MayRead script start old → has_purge script ≡ false → MailIsKept s.map old new
-mail_of_run script old mid new first last s world ended r start shows may none =
-    let w = ended_world script old mid new first last s world ended r start shows may in
-    let going = w.is.going in
-    going.serving.serves.mail (none_moved going.serving.follows.around going.serving.follows.after script start _ w.more (λ i asked at. unpurged script i asked.0 asked.1 none at) going.serving.follows.next)
 
 -- In the store that was opened no file is doomed, and no task of a script without a purge is to remove one.
 undoomed_first : {D : Type 0} → (script : Requests) (old mid new : Option History) (first last : Faults) (s : StoreValue D) (world ended : WorldValue D) → ScriptRan script old mid new first last s world ended → ((place lane : ℕ) (asked : Request) → slice_get script place ≡ Some (lane, asked) → is_purge asked ≡ false) → HasDoomedNone (as_finished world)
@@ -275,31 +383,49 @@ unread_run script old mid new first last s world ended r none =
     (record { tasks = fresh_tasks ReadsNoOctets script world.rows (λ place lane asked t at begins. unread_first script place lane asked t none at begins) r.fresh; unread = refl })
 
 -- One that fetches no message counts a failed read only if a reply says so.
-calm_run : {D : Type 0} → (script : Requests) (old mid new : Option History) (first last : Faults) (s : StoreValue D) (world ended : WorldValue D) → ScriptRan script old mid new first last s world ended → (given : List Reply) → ended.replies ≡ map Some given → has_fetch script ≡ false → (HasReadFault given → ⊥) → last.reads ≡ first.reads
-calm_run script old mid new first last s world ended r given are none untold =
-    (stays_over (HasReadAsTold first) (calm_on first) 0 r.turns (as_finished world) ended mid new first last r.chain
-    (record { tasks = fresh_tasks AnswersReads script world.rows (λ place lane asked t at begins. answers_first script place lane asked t none at begins) r.fresh; calm = λ unread. refl })).calm
-    (λ i had. untold (given_at given i (reply.Refused refusal.ReadFault) (subst (λ (rs : List (Option Reply)). HasReply rs i (reply.Refused refusal.ReadFault)) are had)))
+calm_run : {D : Type 0} → (script : Requests) (old mid new : Option History) (first last : Faults) (s : StoreValue D) (world ended : WorldValue D) → ScriptRan script old mid new first last s world ended → has_fetch script ≡ false → HasReadAsTold first ended new last
+calm_run script old mid new first last s world ended r none =
+    stays_over (HasReadAsTold first) (calm_on first) 0 r.turns (as_finished world) ended mid new first last r.chain
+    (record { tasks = fresh_tasks AnswersReads script world.rows (λ place lane asked t at begins. answers_first script place lane asked t none at begins) r.fresh; calm = λ unread. refl })
 
--- it is served from them, and the logs show in the end what its journal leaves
-serves_run : {D : Type 0} → (script : Requests) (old mid new : Option History) (first last : Faults) (s : StoreValue D) (world ended : WorldValue D) → (r : ScriptRan script old mid new first last s world ended) → (given : List Reply) → ended.replies ≡ map Some given → (start : Lists) → LogsShowLists s.map (indexes_of s.boxes) start → MayRead script start old
-    → (was : ServesScript script start given ended.journal first last old mid new) × LogsShowLists ended.store.map (indexes_of ended.store.boxes) (left_by start was.journal)
-serves_run script old mid new first last s world ended r given are start shows may =
+-- What it sealed is sealed, and stays.
+sealed_since : {D : Type 0} → (script : Requests) (old mid new : Option History) (first last : Faults) (s : StoreValue D) (world ended : WorldValue D) → (r : ScriptRan script old mid new first last s world ended) → (start : Lists) → LogsShowLists s.map (indexes_of s.boxes) start → MayRead script start old
+    → HasKeptSealed start script s.map mid ended new last
+sealed_since script old mid new first last s world ended r start shows may =
+    let run : Run = beginning s.map r.opened.store.entries in
     let from : Seen = before_opening (seen_in s mid first) old in
-    let w = ended_world script old mid new first last s world ended r start shows may in
-    let run : Run = and_events (beginning s.map r.opened.store.entries) w.added in
-    let going = subst (λ (rs : List (Option Reply)). IsGoing start script run w.more w.broke rs from ended.store new last ended.rows) are w.is.going in
-    script_served start script run w.more w.broke given ended.journal from ended.began ended.store mid new last ended.rows going going.serving.stays_stopped r.later r.opened.drawn (opening_begins old mid s r.opened)
-    (λ e. let i = going.serving.replied_stopped e in given_at given i.0 (reply.Refused refusal.Stopped) i.1) (subst (λ (n : ℕ). IsMoment mid n) (sym r.same_began) r.made_is, w.later) w.is.entries
-    (w.refused (fresh_tasks MayBeRefused script world.rows (λ place lane asked t at begins. begun_first asked t begins) r.fresh))
+    let fresh = world_finished start script run [] no_broken from mid first world (r.begins start shows may) in
+    stays_over (HasKeptSealed start script s.map mid) (sealed_on start script s.map mid) 0 r.turns (as_finished world) ended mid new first last r.chain
+    (sealed_first start script run no_broken from s.map mid (as_finished world) first fresh (ap (λ (v : StoreValue _). v.map) r.store_is))
 
--- Some lists are shown from which the script may be served, if there are lists from which it may read.
-start_of : {D : Type 0} → (script : Requests) (old mid : Option History) (s : StoreValue D) → OpenedNow old mid s → LogsShow → MayBeServed script old → (start : Lists) × LogsShowLists s.map (indexes_of s.boxes) start × MayRead script start old
-start_of script old mid s o show some = by_test (has_fetch script) refl
-  where
-    by_test : (b : Bool) → has_fetch script ≡ b → (start : Lists) × LogsShowLists s.map (indexes_of s.boxes) start × MayRead script start old
-    by_test true e = (some.0, opened_logs_show some.0 old s.map (indexes_of s.boxes) o.opened show (elim (some.1 e) [ inl settled ↦ settled_safe some.0 old settled | inr one ↦ one.1 ]), some.1)
-    by_test false e = let l = some_lists old s.map (indexes_of s.boxes) o.opened in (l.0, l.1, λ f. absurd (let k : true ≡ false = sym f ∙ e in cc k))
+-- So much is known of it at its end.
+left_of_run : {D : Type 0} → (script : Requests) (old mid new : Option History) (first last : Faults) (s : StoreValue D) (world ended : WorldValue D) → ScriptRan script old mid new first last s world ended → RunLeft script old mid new first last s ended
+left_of_run script old mid new first last s world ended r = record {
+  opened = r.opened;
+  show = r.show;
+  since = λ start shows may.
+      let w = ended_world script old mid new first last s world ended r start shows may in
+      record {
+        added = w.added;
+        more = w.more;
+        broke = w.broke;
+        is = w.is;
+        later = w.later;
+        refused = w.refused (fresh_tasks MayBeRefused script world.rows (λ place lane asked t at begins. begun_first asked t begins) r.fresh);
+      };
+  counts = counts_of_run script old mid new first last s world ended r;
+  unwritten = λ none none_purges. unwritten_run script old mid new first last s world ended r none none_purges;
+  unchanged = λ none. idle_run script old mid new first last s world ended r none;
+  unread = λ none. unread_run script old mid new first last s world ended r none;
+  calm = λ none. calm_run script old mid new first last s world ended r none;
+  sealed = λ start shows may. sealed_since script old mid new first last s world ended r start shows may;
+  made_is = subst (λ (n : ℕ). IsMoment mid n) (sym r.same_began) r.made_is;
+  many = r.many;
+  replied = r.replied;
+  idle = r.idle;
+  later = r.later;
+  law = r.law;
+}
 
 -- ---- a setting of flags alone
 
@@ -411,92 +537,28 @@ unmade_alone : {D : Type 0} → (script : Requests) (old mid new : Option Histor
 unmade_alone ((at, request.Make name) ∷ []) old mid new first last s world ended r (reply.Refused why ∷ []) are running = unmade_alike r.opened.swept.0 s old mid new r.opened.swept.1 ((make_told at name (reply.Refused why) old mid new first last s world ended r are).leaves why refl running)
 unmade_alone script old mid new first last s world ended r given are none = absurd none
 
--- what it left of the store
-leaves_run : {D : Type 0} → (script : Requests) (old mid new : Option History) (first last : Faults) (s : StoreValue D) (world ended : WorldValue D) → ScriptRan script old mid new first last s world ended → (given : List Reply) → ended.replies ≡ map Some given → LeavesStore script s.map given old new
-leaves_run script old mid new first last s world ended r given are = record {
-  generation = r.opened.swept.0;
-  opened = mid;
-  swept = r.opened.swept.1;
-  carried = r.opened.carried;
-  closed_well = r.opened.closed_well;
-  grows = (counts_of_run script old mid new first last s world ended r).grows;
-  idle = λ none. (idle_run script old mid new first last s world ended r none).idle;
-  mail = λ none none_purges unstopped. (unwritten_run script old mid new first last s world ended r none none_purges).synced (stopped_by script old mid new first last s world ended r given are unstopped);
-}
-
-stays_run : {D : Type 0} → (script : Requests) (old mid new : Option History) (first last : Faults) (s : StoreValue D) (world ended : WorldValue D) → ScriptRan script old mid new first last s world ended → MayBeKept script old → KeepsOpenedMail old new
-stays_run script old mid new first last s world ended r may = by_test (has_delivery script) refl
-  where
-    by_test : (b : Bool) → has_delivery script ≡ b → KeepsOpenedMail old new
-    by_test true e =
-        let start = start_of script old mid s r.opened r.show (may.1 e) in
-        run_keeps old new s.map (indexes_of s.boxes) r.opened.opened (mail_of_run script old mid new first last s world ended r start.0 start.1 start.2 may.0)
-    by_test false e =
-        let kept = (unwritten_run script old mid new first last s world ended r e may.0).kept s.map in
-        stays_from old mid new s.map (indexes_of s.boxes) r.opened.opened r.opened.reads r.opened.stays kept
-
--- and sealed storage files stay, also where a script purges
-sealed_run : {D : Type 0} → (script : Requests) (old mid new : Option History) (first last : Faults) (s : StoreValue D) (world ended : WorldValue D) → ScriptRan script old mid new first last s world ended → MayBeServed script old → KeepsSealed old new
-sealed_run script old mid new first last s world ended r may =
-    let run : Run = beginning s.map r.opened.store.entries in
-    let from : Seen = before_opening (seen_in s mid first) old in
-    let start = start_of script old mid s r.opened r.show may in
-    let fresh = world_finished start.0 script run [] no_broken from mid first world (r.begins start.0 start.1 start.2) in
-    let last_kept = stays_over (HasKeptSealed start.0 script s.map mid) (sealed_on start.0 script s.map mid) 0 r.turns (as_finished world) ended mid new first last r.chain
-    (sealed_first start.0 script run no_broken from s.map mid (as_finished world) first fresh (ap (λ (v : StoreValue _). v.map) r.store_is)) in
-    keeps_sealed old mid new s.map (indexes_of s.boxes) r.opened.opened r.opened.reads r.opened.stays last_kept.kept
-
-done_run : {D : Type 0} → (script : Requests) (old mid new : Option History) (first last : Faults) (s : StoreValue D) (world ended : WorldValue D) → ScriptRan script old mid new first last s world ended → (given : List Reply) → ended.replies ≡ map Some given → IsScriptDone script given ended.journal old new first last
-unfolding leaves_run serves_run script_served
-done_run script old mid new first last s world ended r given are =
-    let counts = counts_of_run script old mid new first last s world ended r in
-    record {
-      each = sym (length-map given Some) ∙ (ap length (sym are) ∙ r.many);
-      m = s.map;
-      meanings = indexes_of s.boxes;
-      opened = r.opened.opened;
-      shown = λ lists safe. opened_logs_show lists old s.map (indexes_of s.boxes) r.opened.opened r.show safe;
-      serves = λ lists shows may. (serves_run script old mid new first last s world ended r given are lists shows may).0;
-      begins = λ lists shows may. sym r.opened.store.map_is;
-      undamaged = λ may.
-          let start = start_of script old mid s r.opened r.show may in
-          let w = ended_world script old mid new first last s world ended r start.0 start.1 start.2 in
-          unharmed given (λ i one at. w.is.going.undamaged.none_told i one (subst (λ (rs : List (Option Reply)). HasReply rs i one) (sym are) at));
-      running = λ may none h.
-          let start = start_of script old mid s r.opened r.show may in
-          let w = ended_world script old mid new first last s world ended r start.0 start.1 start.2 in
-          let i = at_given given (reply.Refused refusal.Stopped) h in
-          let stopped = w.is.going.serving.serves.halted i.0 (subst (λ (rs : List (Option Reply)). HasReply rs i.0 (reply.Refused refusal.Stopped)) (sym are) i.1) in
-          let e : true ≡ false = sym stopped ∙ (idle_run script old mid new first last s world ended r none).running in
-          cc e;
-      faults = λ may. let start = start_of script old mid s r.opened r.show may in faults_of_run script old mid new first last s world ended r given are start.0 start.1 start.2;
-      counts = record { counted = counts.reads; changes = counts.changes; unchanged = λ unstopped. counts.unchanged (stopped_by script old mid new first last s world ended r given are unstopped); unread = λ none. (unread_run script old mid new first last s world ended r none).unread; calm = λ none untold. calm_run script old mid new first last s world ended r given are none untold };
-      leaves = leaves_run script old mid new first last s world ended r given are;
-      stays = λ may. stays_run script old mid new first last s world ended r may;
-      sealed = λ may. sealed_run script old mid new first last s world ended r may;
-    }
-
 -- It was done, and left the store so.
 pub script_done : {D : Type 0} → (script : Requests) (old mid new : Option History) (first last : Faults) (s : StoreValue D) (world ended : WorldValue D) → ScriptRan script old mid new first last s world ended
     → (given : List Reply) × (ended.replies ≡ map Some given) × IsServedOpen script given ended.journal old new first last ended.store
 unfolding done_run leaves_run serves_run script_served
 script_done script old mid new first last s world ended r =
-    let g = all_given ended.replies r.replied in (
+    let g = all_given ended.replies r.replied in
+    let l = left_of_run script old mid new first last s world ended r in (
       g.0,
       g.1,
       record {
-        done = done_run script old mid new first last s world ended r g.0 g.1;
+        done = done_run script old mid new first last s ended l g.0 g.1;
         comes = record {
-          shows = λ lists shows may. (serves_run script old mid new first last s world ended r g.0 g.1 lists shows may).1;
+          shows = λ lists shows may. (serves_run script old mid new first last s ended l g.0 g.1 lists shows may).1;
           means = λ lists shows may. refl;
-          again = λ unstopped. opens_again new ended.store r.later (stopped_by script old mid new first last s world ended r g.0 g.1 unstopped);
+          again = λ unstopped. opens_again new ended.store r.later (stopped_by script old mid new first last s ended l g.0 g.1 unstopped);
           alike = alike_alone script old mid new first last s world ended r g.0 g.1;
           made = made_alone script old mid new first last s world ended r g.0 g.1;
           resynced = resynced_alone script old mid new first last s world ended r g.0 g.1;
           purged = purged_alone script old mid new first last s world ended r g.0 g.1;
           room = room_alone script old mid new first last s world ended r g.0 g.1;
         };
-        stopped = λ e. replied_by script old mid new first last s world ended r g.0 g.1 e;
+        stopped = λ e. replied_by script old mid new first last s ended l g.0 g.1 e;
         told = told_alone script old mid new first last s world ended r g.0 g.1;
         undone = undone_alone script old mid new first last s world ended r g.0 g.1;
         unmade = unmade_alone script old mid new first last s world ended r g.0 g.1;

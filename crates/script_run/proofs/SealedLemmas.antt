@@ -80,19 +80,25 @@ pub record HasKeptSealed {D : Type 0} (start : Lists) (script : Requests) (m : M
   pub sealed : (number : ℕ) → is_sealed m number ≡ true → is_sealed (map_of run) number ≡ true
   pub kept : MailIsKept (sealed_only m) origin history
 
+-- What an event seals is sealed after it, and what was sealed before stays in it.
+pub sealed_event : (m : MapMeaning) (origin before between : Option History) (run : Run) (event : RunEvent) (now : MapMeaning) → IfTold before ReadsImage → map_of run ≡ now → ((number : ℕ) → is_sealed m number ≡ true → is_sealed (map_of run) number ≡ true) → MailIsKept (sealed_only m) origin before → MailIsKept now before between
+    → ((number : ℕ) → is_sealed m number ≡ true → is_sealed (map_of (and_then run event)) number ≡ true) × MailIsKept (sealed_only m) origin between
+sealed_event m origin before between run event now image come sealed kept mail =
+    let needs = needs_sealed now m (λ number is. subst (λ (n : MapMeaning). is_sealed n number ≡ true) come (sealed number is)) in
+    (λ number is. sealed_still run event number (sealed number is), kept_then (sealed_only m) origin before between image kept (kept_for_less now (sealed_only m) before between needs mail))
+
 pub sealed_on : {D : Type 0} → (start : Lists) (script : Requests) (m : MapMeaning) (origin : Option History) → StaysOver {D = D} (HasKeptSealed start script m origin)
 sealed_on start script m origin lane old mid before between first counted e is =
     let on = e.goes start script is.run is.steps is.failed is.began is.is in
-    let come : map_of is.run ≡ old.store.map = is.is.going.serving.serves.come.come.map_is in
-    let needs = needs_sealed old.store.map m (λ number sealed. subst (λ (n : MapMeaning). is_sealed n number ≡ true) come (is.sealed number sealed)) in
+    let kept = sealed_event m origin before between is.run on.0 old.store.map e.works.goes.goes.image is.is.going.serving.serves.come.come.map_is is.sealed is.kept on.3.mail in
     record {
       run = and_then is.run on.0;
       steps = is.steps ++ on.1;
       failed = on.2;
       began = is.began;
       is = on.4;
-      sealed = λ number sealed. sealed_still is.run on.0 number (is.sealed number sealed);
-      kept = kept_then (sealed_only m) origin before between e.works.goes.goes.image is.kept (kept_for_less old.store.map (sealed_only m) before between needs on.3.mail);
+      sealed = kept.0;
+      kept = kept.1;
     }
 
 pub sealed_first : {D : Type 0} → (start : Lists) (script : Requests) (run : Run) (failed : Broken) (began : Seen) (m : MapMeaning) (origin : Option History) (world : WorldValue D) (faults : Faults) → IsWorldOf start script run [] failed began origin faults world → world.store.map ≡ m → HasKeptSealed start script m origin world origin faults

@@ -153,7 +153,7 @@ answers_first script place lane asked t none at begins = answers_task asked t (a
 not_fault : (why kind : Refusal) → is_step kind ≡ false → is_step why ≡ true → why ≢ kind
 not_fault why kind none step is = let k : true ≡ false = sym step ∙ (ap is_step is ∙ none) in cc k
 
-refused_event : {D : Type 0} → (t next : Task) (old new : StoreValue D) (before after : Option History) (began now : Faults) (ended : Option Reply) (why : Refusal) → MayBeRefused t → ended ≡ Some (reply.Refused why) → is_step why ≡ true → TaskKeeps t next old new before after began now ended → IsIdle before after
+pub refused_event : {D : Type 0} → (t next : Task) (old new : StoreValue D) (before after : Option History) (began now : Faults) (ended : Option Reply) (why : Refusal) → MayBeRefused t → ended ≡ Some (reply.Refused why) → is_step why ≡ true → TaskKeeps t next old new before after began now ended → IsIdle before after
 refused_event (task.Purge t) (task.Purge next) old new before after began now ended why may is step k =
     let first = k.tells.refused why is (not_fault why refusal.ReadFault refl step) (not_fault why refusal.Stopped refl step) in
     (k.tells.first first).idle

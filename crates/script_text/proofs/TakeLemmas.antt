@@ -12,7 +12,7 @@ use Rattle.mdbox_base.proofs.StreamLemmas.{taken_more}
 use Rattle.mdbox_base.specs.declared.requests.Request.{Request}
 use Rattle.mdbox_base.specs.declared.requests.Request.TheVariants as request
 use Rattle.script_text.specs.Script.{BeginsNoRequest, FitsLanes, FitsScript, message_text, name_word, request_text, request_words, spaced}
-use Rattle.script_text.specs.Taking.{HasNoLf, IsLineTaken, TakesUpTo, request_line}
+use Rattle.script_text.specs.Taking.{HasNoLf, IsLineTaken, OfSource, TakesUpTo, request_line}
 use Rattle.script_text.proofs.CutLemmas.{cut_number, no_cut}
 use Rattle.script_text.proofs.RequestLemmas.{differ, lane_first, laid_out, name_then, number_then, parts_of, short_name, small_uid}
 
@@ -50,7 +50,7 @@ words_short request.Resync p = omega arith
 words_short (request.Delete name) p = absurd p
 words_short (request.Rename name target) p = absurd p
 
-line_short : (lanes : ℕ) (asked : ℕ × Request) → lanes < 2 ^ 32 → FitsLanes lanes asked → length (request_line asked) ≤ 1024
+pub line_short : (lanes : ℕ) (asked : ℕ × Request) → lanes < 2 ^ 32 → FitsLanes lanes asked → length (request_line asked) ≤ 1024
 line_short lanes asked small fits =
     let last = fits.last in
     let h = two_short (decimal_text asked.0) (spaced (request_words asked.1)) 20 600 (number_short asked.0 (omega (arith, small, last))) (words_short asked.1 fits.fits) in
@@ -59,7 +59,7 @@ line_short lanes asked small fits =
 
 -- ---- a front of a text
 
-front_in : (a b c d : List ℕ) → a ++ c ≡ b ++ d → length b ≤ length a → (r : List ℕ) × (a ≡ b ++ r)
+pub front_in : (a b c d : List ℕ) → a ++ c ≡ b ++ d → length b ≤ length a → (r : List ℕ) × (a ≡ b ++ r)
 front_in a [] c d e l = (a, refl)
 front_in [] (y ∷ b) c d e l = absurd (omega (arith, l))
 front_in (x ∷ a) (y ∷ b) c d e l =
@@ -125,16 +125,16 @@ whole_line lanes line more rest small clear counts none asked after fits e =
     let f = front_in ((line ++ 10 ∷ []) ++ more) (request_text asked) rest after e (omega (arith, many, same_line, whole, here, line_long)) in
     none asked f.0 fits f.1
 
--- where a source is modelled
-if_taken : (old new : Option (List ℕ)) (text : List ℕ) (P : List ℕ → Type 0) → Taken old text new → ((rest : List ℕ) → new ≡ Some rest → P (text ++ rest)) → IfSome old P
-if_taken old None text P taken holds = subst (λ (o : Option (List ℕ)). IfSome o P) (sym taken) tt
-if_taken old (Some rest) text P taken holds = subst (λ (o : Option (List ℕ)). IfSome o P) (sym taken) (holds rest refl)
+-- what was left of a source, of which a text was taken
+pub of_taken : (old new : Option (List ℕ)) (text : List ℕ) (P : List ℕ → Type 0) → Taken old text new → P text → ((rest : List ℕ) → new ≡ Some rest → P (text ++ rest)) → OfSource old P
+of_taken old None text P taken own holds = (text, subst (λ (o : Option (List ℕ)). IfSome o (λ all. all ≡ text)) (sym taken) tt, own)
+of_taken old (Some rest) text P taken own holds = (text ++ rest, subst (λ (o : Option (List ℕ)). IfSome o (λ all. all ≡ text ++ rest)) (sym taken) refl, holds rest refl)
 
-at_end : (left : Option (List ℕ)) (rest : List ℕ) → left ≡ Some rest → IsAtEnd left → rest ≡ []
+pub at_end : (left : Option (List ℕ)) (rest : List ℕ) → left ≡ Some rest → IsAtEnd left → rest ≡ []
 at_end left rest is end = let e : IfSome (Some rest) (λ r. r ≡ []) = subst (λ (o : Option (List ℕ)). IsAtEnd o) is end in e
 
 -- nothing is left of a source that was at its end before more was taken
-none_left : (mid new : Option (List ℕ)) (octets rest : List ℕ) → Taken mid octets new → new ≡ Some rest → IsAtEnd mid → rest ≡ []
+pub none_left : (mid new : Option (List ℕ)) (octets rest : List ℕ) → Taken mid octets new → new ≡ Some rest → IsAtEnd mid → rest ≡ []
 none_left mid new octets rest taken left end =
     let there : mid ≡ Some (octets ++ rest) = taken ∙ ap (option_map (λ r. octets ++ r)) left in
     none_behind octets rest (at_end mid (octets ++ rest) there end)
@@ -169,16 +169,11 @@ none_in_front lanes count line text mid new small is takes counts bad rest left 
         by_cause (inl end) = at_last lanes text rest (none_left mid new takes.0 rest takes.2 left end) bad
         by_cause (inr many) = subst (λ (t : List ℕ). BeginsNoRequest lanes t) (sym (ap (λ (t : List ℕ). t ++ rest) text_is ∙ append_assoc line takes.0 rest)) (long_line lanes line (takes.0 ++ rest) small clear many)
 
-pub none_taken : (lanes count : ℕ) (line text : List ℕ) (old mid new : Option (List ℕ)) → lanes < 2 ^ 32 → Taken old line mid → IsLineTaken line mid → 0 < length line → TakesUpTo count line text mid new
-    → ((asked : ℕ × Request) → FitsLanes lanes asked → line ≡ request_line asked ++ 10 ∷ [] → length (message_text asked.1) ≡ count) → BeginsNoRequest lanes text → IfSome old (λ all. (0 < length all) × BeginsNoRequest lanes all)
-none_taken lanes count line text old mid new small first is some takes counts bad =
-    let all : Taken old text new = subst (λ (t : List ℕ). Taken old t new) (sym takes.1) (taken_more old mid new line takes.0 first takes.2) in
-    if_taken old new text (λ all. (0 < length all) × BeginsNoRequest lanes all) all (λ rest left. (
-      let long : length text ≡ length line + length takes.0 = ap length takes.1 ∙ length-append line takes.0 in
-          let more = length-append text rest in
-          omega (arith, some, long, more),
-      none_in_front lanes count line text mid new small is takes counts bad rest left,
-    ))
+pub all_taken : (count : ℕ) (line text : List ℕ) (old mid new : Option (List ℕ)) → Taken old line mid → TakesUpTo count line text mid new → Taken old text new
+all_taken count line text old mid new first takes = subst (λ (t : List ℕ). Taken old t new) (sym takes.1) (taken_more old mid new line takes.0 first takes.2)
+
+pub some_taken : (count : ℕ) (line text : List ℕ) (mid new : Option (List ℕ)) → 0 < length line → TakesUpTo count line text mid new → 0 < length text
+some_taken count line text mid new some takes = let long : length text ≡ length line + length takes.0 = ap length takes.1 ∙ length-append line takes.0 in omega (arith, some, long)
 
 -- ---- and what was taken is just the request
 
@@ -207,13 +202,13 @@ none_behind lanes count line text mid new asked after small is takes counts none
         let same : line ≡ text = sym (takes.1 ∙ (ap (λ (o : List ℕ). line ++ o) nothing ∙ append-nil line)) in
         absurd (no_cut 10 line (request_line asked) (message_text asked.1 ++ after) clear (same ∙ (e ∙ append_assoc (request_line asked) (10 ∷ message_text asked.1) after)))
 
-pub just_taken : (lanes count size : ℕ) (line text : List ℕ) (old mid new : Option (List ℕ)) (asked : ℕ × Request) (after : List ℕ) → lanes < 2 ^ 32 → Taken old line mid → IsLineTaken line mid → TakesUpTo count line text mid new
-    → ((asked : ℕ × Request) → FitsLanes lanes asked → line ≡ request_line asked ++ 10 ∷ [] → length (message_text asked.1) ≡ count) → (HasNoLf line → count ≡ 0) → FitsLanes lanes asked → text ≡ request_text asked ++ after → size ≡ length text
-    → Taken old (request_text asked) new × (size ≡ length (request_text asked))
-just_taken lanes count size line text old mid new asked after small first is takes counts none fits e size_is =
+pub just_taken : (lanes count : ℕ) (line text : List ℕ) (old mid new : Option (List ℕ)) (asked : ℕ × Request) (after : List ℕ) → lanes < 2 ^ 32 → Taken old line mid → IsLineTaken line mid → TakesUpTo count line text mid new
+    → ((asked : ℕ × Request) → FitsLanes lanes asked → line ≡ request_line asked ++ 10 ∷ [] → length (message_text asked.1) ≡ count) → (HasNoLf line → count ≡ 0) → FitsLanes lanes asked → text ≡ request_text asked ++ after
+    → (text ≡ request_text asked) × Taken old (request_text asked) new
+just_taken lanes count line text old mid new asked after small first is takes counts none fits e =
     let same : text ≡ request_text asked = e ∙ (ap (λ (r : List ℕ). request_text asked ++ r) (none_behind lanes count line text mid new asked after small is takes counts none fits e) ∙ append-nil (request_text asked)) in (
-      subst (λ (t : List ℕ). Taken old t new) (sym takes.1 ∙ same) (taken_more old mid new line takes.0 first takes.2),
-      size_is ∙ ap length same,
+      same,
+      subst (λ (t : List ℕ). Taken old t new) same (all_taken count line text old mid new first takes),
     )
 
 -- ---- how many octets follow

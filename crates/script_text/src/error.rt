@@ -1,4 +1,5 @@
 // Why a text isn't a script, and why no request was read or taken.
+use crate::flaw::Need;
 use mdbox_base::{NoMemory, SourceFault};
 
 /// Why no script was read.
@@ -42,8 +43,8 @@ impl From<NoMemory> for Flaw {
 /// Why no request was taken from a source.
 #[derive(Clone, Copy, Debug, PartialEq, Eq)]
 pub enum TakeError {
-    /// None stands there.
-    Bad,
+    /// None stands there: this is missing first.
+    Bad(Need),
     /// The source failed.
     Fault,
     NoMemory,

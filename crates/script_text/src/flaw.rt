@@ -54,7 +54,7 @@ pub fn flaw_at(alloc: Global, text: &[u8], lanes: u32, offset: u64) -> Result<Sc
 }
 
 /// The number of the line that goes on after these octets.
-fn line_after(before: &[u8]) -> u64
+pub(crate) fn line_after(before: &[u8]) -> u64
     ensures { result ≡ 1 + count_by (λ octet. nat_eq octet 10) before.now }
 {
     let mut line = 1;
@@ -67,7 +67,7 @@ fn line_after(before: &[u8]) -> u64
 }
 
 /// What is missing first where this text begins.
-fn need_of(alloc: Global, text: &[u8], lanes: u32) -> Result<Need, NoMemory>
+pub(crate) fn need_of(alloc: Global, text: &[u8], lanes: u32) -> Result<Need, NoMemory>
     ensures { IfOk result (IsNeeded lanes text.now) }
 {
     let Some((_, words)) = lane_and_words(text, lanes) else {

@@ -8,7 +8,7 @@ pub use laws::{
     a_text_is_one_script, made_scripts_fit, scripts_keep_mailboxes, written_scripts_are_read,
 };
 pub use read::{MOST_REQUESTS, read_script};
-pub use take::take_request;
+pub use take::{Extent, take_request};
 pub use write::push_script;
 
 mod arguments;

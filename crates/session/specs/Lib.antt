@@ -1,1 +1,3 @@
+pub mod OneRequest
+pub mod Rounds
 pub mod Session

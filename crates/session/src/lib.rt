@@ -3,5 +3,6 @@
 
 pub use serve::serve_session;
 
+mod next;
 mod one;
 mod serve;

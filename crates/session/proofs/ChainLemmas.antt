@@ -1,4 +1,4 @@
--- What events and requests that are asked keep, one after another. NOT CHECKED YET.
+-- What events and requests that are asked keep, one after another.
 use Rattle.std.specs.Prelude.{◌≢◌, ◌⊎◌, ◌||◌, Bool, All, length, slice_get, slice_set}
 use Rattle.std.specs.Option.{option_map_or}
 use Rattle.std.proofs.Common.{◌≡◌, ◌≤◌, ◌-◌, ◌+◌, ◌++◌, ℕ, true, false, List, [], ◌∷◌, Option, Some, None, refl, sym, ◌∙◌, ap, subst, arith, inl, inr}
@@ -12,9 +12,11 @@ use Rattle.mdbox_base.specs.declared.replies.Reply.{Reply}
 use Rattle.mdbox_base.specs.declared.replies.Reply.TheVariants as reply
 use Rattle.mdbox_base.specs.declared.requests.Request.{Request}
 use Rattle.mdbox_base.specs.declared.requests.Request.TheVariants as request
+use Rattle.model_kept.specs.Kept.{MailIsKept}
 use Rattle.model_lists.specs.Lists.{Lists}
+use Rattle.model_meaning.specs.MapMeaning.{MapMeaning, is_sealed}
 use Rattle.model_store.specs.Settled.{IsSettledFor}
-use Rattle.list_machine.specs.Run.{Run, RunEvent, and_then}
+use Rattle.list_machine.specs.Run.{Run, RunEvent, and_then, map_of}
 use Rattle.journal.specs.Journal.{Broken, HasReply, JournalStep, Requests}
 use Rattle.journal.proofs.JournalLemmas.{get_more}
 use Rattle.serving.specs.Turns.{LaneTurn}
@@ -22,7 +24,7 @@ use Rattle.task_claims.specs.Leaving.{SyncsMail}
 use Rattle.serving.proofs.LaneLemmas.{get_set_other, get_set_same, nat_cases, one_some}
 use Rattle.task_steps.specs.Step.{Seen, ended_by}
 use Rattle.mail_fetch.specs.Clause.{ReadsSafe}
-use Rattle.lane_tasks.specs.Clause.{AnswersReads, DoomsNone, DoomsNothing, IsAtStart, OnlyReads, ReadsNoOctets}
+use Rattle.lane_tasks.specs.Clause.{AnswersReads, DoomsNone, DoomsNothing, OnlyReads, ReadsNoOctets}
 use Rattle.lane_tasks.specs.Tasks.{BeginsTask}
 use Rattle.lane_tasks.specs.declared.task.Task.{Task}
 use Rattle.lanes.specs.Asked.{GoesWith, HasNoIdleTurn, IsRequestAsked, asked_in, row_asked, world_asked}
@@ -35,6 +37,8 @@ use Rattle.lanes.proofs.GrowLemmas.{old_reply}
 use Rattle.script_run.specs.Script.{IsRefusedAtOnce, has_fetch, is_fetch}
 use Rattle.script_run.proofs.ChainLemmas.{AllTasks, HasCounted, HasDoomedNone, HasOnlyRead, HasReadAsTold, HasReadNoOctets, HasWrittenNone, StaysOver, WritesNoMail, in_turn, tasks_after}
 use Rattle.script_run.proofs.DoneLemmas.{fetches}
+use Rattle.script_run.proofs.SealedLemmas.{sealed_event, sealed_only}
+use Rattle.script_run.proofs.SinceLemmas.{MayBeRefused, begun_first, refused_event}
 
 -- ---- a fact that all of them keep
 
@@ -93,6 +97,10 @@ tasks_asked {D} Holds lane asked old mid a holds all j other at = by_lane (nat_c
 
 -- ---- the script
 
+-- the run's map has sealed all that this map has
+abbrev pub HasSealed : MapMeaning → Run → Type 0
+HasSealed m run = (number : ℕ) → is_sealed m number ≡ true → is_sealed (map_of run) number ≡ true
+
 -- What events and requests that are asked make of a world of a script: it is one of the script with these requests.
 pub record ServedWith {D : Type 0} (history : D → Option History) (faults : D → Faults) (start : Lists) (script : Requests) (run : Run) (steps : List JournalStep) (began : Seen) (old new : WorldValue D) : Type 0 where
   pub added : List RunEvent
@@ -101,7 +109,8 @@ pub record ServedWith {D : Type 0} (history : D → Option History) (faults : D 
   pub is : IsWorldOf start script (and_events run added) (steps ++ more) broke began (history new.store.disk) (faults new.store.disk) new
   pub busy : HasNoIdleTurn new
   pub later : All (λ event. told_calls (history old.store.disk) ≤ event.moment) added
-  pub refused : AllTasks IsAtStart old.rows → ((place lane : ℕ) (asked : Request) (t : Task) → slice_get script place ≡ Some (lane, asked) → BeginsTask asked t → IsAtStart t) → All IsRefusedAtOnce added → IsIdle (history old.store.disk) (history new.store.disk) × AllTasks IsAtStart new.rows
+  pub refused : AllTasks MayBeRefused old.rows → All IsRefusedAtOnce added → IsIdle (history old.store.disk) (history new.store.disk) × AllTasks MayBeRefused new.rows
+  pub sealed : (m : MapMeaning) (origin : Option History) → HasSealed m run → MailIsKept (sealed_only m) origin (history old.store.disk) → HasSealed m (and_events run added) × MailIsKept (sealed_only m) origin (history new.store.disk)
 
 -- a fetch among the first requests is one of the script's
 fetch_before : (before rest : Requests) → has_fetch before ≡ true → has_fetch (before ++ rest) ≡ true
@@ -130,9 +139,6 @@ module _ {D : Type 0} (history : D → Option History) (faults : D → Faults) (
             inr (omega (arith, all, own, single), one.1)
       ]
 
-  is_at_start : Type 0
-  is_at_start = (place lane : ℕ) (asked : Request) (t : Task) → slice_get script place ≡ Some (lane, asked) → BeginsTask asked t → IsAtStart t
-
   pub served_with : (before : Requests) (moves : List (ℕ × Option Request)) (old new : WorldValue D) (run : Run) (steps : List JournalStep) (failed : Broken) → script ≡ before ++ asked_in moves → GoesWith history faults moves old new → Finds run (history old.store.disk) → HasNoIdleTurn old
       → IsWorldOf start before run steps failed began (history old.store.disk) (faults old.store.disk) old → ServedWith history faults start script run steps began old new
   served_with before [] old new run steps failed is g finds busy world =
@@ -147,7 +153,8 @@ module _ {D : Type 0} (history : D → Option History) (faults : D → Faults) (
             (subst (λ (es : List RunEvent). IsWorldOf start before (record run { events = es }) steps failed began (history old.store.disk) (faults old.store.disk) old) (sym (append-nil run.events)) world));
         busy = busy;
         later = All-nil (λ (event : RunEvent). told_calls (history old.store.disk) ≤ event.moment);
-        refused = λ begun all none. (idle-begins (history old.store.disk), begun);
+        refused = λ begun all. (idle-begins (history old.store.disk), begun);
+        sealed = λ m origin sealed kept. (subst (λ (es : List RunEvent). HasSealed m (record run { events = es })) (sym (append-nil run.events)) sealed, kept);
       })
   served_with before ((lane, None) ∷ moves) old new run steps failed is g finds busy world =
       let event = g.1.1 in
@@ -167,13 +174,17 @@ module _ {D : Type 0} (history : D → Option History) (faults : D → Faults) (
         later =
             All-cons (λ (one : RunEvent). told_calls (history old.store.disk) ≤ one.moment) e.0 r.added (let at = e.3.moment_is in omega (arith, at, grown))
             (All-weaker (λ (one : RunEvent). told_calls (history g.0.store.disk) ≤ one.moment) (λ (one : RunEvent). told_calls (history old.store.disk) ≤ one.moment) (λ one at. omega (arith, at, grown)) r.added r.later);
-        refused = λ begun all each.
+        refused = λ begun each.
             let at_once = All-head IsRefusedAtOnce e.0 r.added each in
             let answered : ended_by event.works.event.ended ≡ Some (reply.Refused at_once.0) = sym e.3.reply_is ∙ at_once.1 in
-            let own = (in_turn IsAtStart lane old g.0 (history old.store.disk) (history g.0.store.disk) (faults old.store.disk) (faults g.0.store.disk) event begun).0 in
-            let rest = tasks_after IsAtStart lane old g.0 (history old.store.disk) (history g.0.store.disk) (faults old.store.disk) (faults g.0.store.disk) event (λ more. absurd (let k : None ≡ Some (reply.Refused at_once.0) = sym more ∙ answered in cc k)) begun in
-            let there = r.refused rest all (All-tail IsRefusedAtOnce e.0 r.added each) in
-            (idle-then (history old.store.disk) (history g.0.store.disk) (history new.store.disk) (event.works.goes.goes.keeps.refused at_once.0 own answered at_once.2) there.0, there.1);
+            let own = (in_turn MayBeRefused lane old g.0 (history old.store.disk) (history g.0.store.disk) (faults old.store.disk) (faults g.0.store.disk) event begun).0 in
+            let rest = tasks_after MayBeRefused lane old g.0 (history old.store.disk) (history g.0.store.disk) (faults old.store.disk) (faults g.0.store.disk) event (λ more. absurd (let k : None ≡ Some (reply.Refused at_once.0) = sym more ∙ answered in cc k)) begun in
+            let there = r.refused rest (All-tail IsRefusedAtOnce e.0 r.added each) in
+            (idle-then (history old.store.disk) (history g.0.store.disk) (history new.store.disk) (refused_event event.works.goes.queued.task event.works.goes.next old.store g.0.store (history old.store.disk) (history g.0.store.disk) (faults old.store.disk) (faults g.0.store.disk) (ended_by event.works.event.ended) at_once.0 own answered at_once.2 event.works.goes.goes.keeps) there.0, there.1);
+        sealed = λ m origin sealed kept.
+            let k = sealed_event m origin (history old.store.disk) (history g.0.store.disk) run e.0 old.store.map event.works.goes.goes.image world.going.serving.serves.come.come.map_is sealed kept e.3.mail in
+            let more = r.sealed m origin k.0 k.1 in
+            (subst (λ (es : List RunEvent). HasSealed m (record run { events = es })) (append_assoc run.events (e.0 ∷ []) r.added) more.0, more.1);
       }
     where
       no_event : (events : List RunEvent) (one : RunEvent) → events ++ one ∷ [] ≡ [] → ⊥
@@ -195,10 +206,10 @@ module _ {D : Type 0} (history : D → Option History) (faults : D → Faults) (
         is = r.is;
         busy = r.busy;
         later = subst (λ (h : Option History). All (λ event. told_calls h ≤ event.moment) r.added) here r.later;
-        refused = λ begun all_begin each.
-            let there : slice_get script (length before) ≡ Some (lane, asked) = ap (λ (s : Requests). slice_get s (length before)) is ∙ middle before (asked_in moves) (lane, asked) in
-            let more = r.refused (tasks_asked IsAtStart lane asked old g.0 a (λ t b. all_begin (length before) lane asked t there b) begun) all_begin each in
+        refused = λ begun each.
+            let more = r.refused (tasks_asked MayBeRefused lane asked old g.0 a (λ t b. begun_first asked t b) begun) each in
             (subst (λ (h : Option History). IsIdle h (history new.store.disk)) here more.0, more.1);
+        sealed = λ m origin sealed kept. r.sealed m origin sealed (subst (λ (h : Option History). MailIsKept (sealed_only m) origin h) (sym here) kept);
       }
 
 -- ---- the facts of ChainLemmas

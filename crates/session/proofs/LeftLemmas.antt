@@ -1,0 +1,199 @@
+-- What a session's requests, and the events that finish the last one, leave of the world that began with the opening.
+use Rattle.std.specs.Prelude.{◌≢◌, ◌⊎◌, ◌≤◌, All, length, slice_get}
+use Rattle.std.proofs.Common.{◌≡◌, ◌++◌, ℕ, true, false, List, [], ◌∷◌, Option, Some, None, refl, sym, ◌∙◌, ap, subst, arith, inl, inr}
+use Rattle.std.proofs.lemmas.List.{append-nil, append_assoc, length-append}
+use Rattle.std.proofs.lemmas.List.Elements.{All-append, All-cons, All-head, All-nil, All-tail, All-weaker}
+use Rattle.disk_model.specs.Disk.{Faults, History, IsIdle, IsMoment, told_calls}
+use Rattle.disk_model.proofs.IdleLemmas.{idle-begins, idle-then}
+use Rattle.mdbox_base.specs.declared.replies.Reply.{Reply}
+use Rattle.mdbox_base.specs.declared.requests.Request.{Request}
+use Rattle.model_kept.proofs.KeptLemmas.{kept_begins}
+use Rattle.model_lists.specs.Lists.{Lists}
+use Rattle.model_meaning.specs.MapMeaning.{MapMeaning, is_sealed}
+use Rattle.list_machine.specs.Run.{Run, RunEvent, map_of}
+use Rattle.journal.specs.Journal.{HasReply, Requests, no_broken}
+use Rattle.serving.specs.Serving.{AreIdle}
+use Rattle.serving.specs.Turns.{LaneTurn}
+use Rattle.store_core.specs.Running.{IsStore}
+use Rattle.store_core.specs.Value.{indexes_of}
+use Rattle.task_steps.proofs.UnmovedLemmas.{mail_still}
+use Rattle.task_steps.specs.Step.{Seen}
+use Rattle.mail_fetch.specs.Task.{seen_in}
+use Rattle.lane_tasks.specs.Clause.{AnswersReads, DoomsNone, OnlyReads, ReadsNoOctets}
+use Rattle.lane_tasks.specs.Tasks.{BeginsTask}
+use Rattle.lane_tasks.specs.declared.task.Task.{Task}
+use Rattle.lanes.specs.Asked.{GoesWith, HasNoIdleTurn, asked_in}
+use Rattle.lanes.specs.Going.{AreFreshRows}
+use Rattle.lanes.specs.Rows.{lanes_of}
+use Rattle.lanes.specs.Worlds.{GoesOnBy, IsWorldOf, WorldValue, and_events}
+use Rattle.lanes.proofs.TraceLemmas.{as_finished, world_finished}
+use Rattle.script_run.specs.Done.{MayRead}
+use Rattle.script_run.specs.Opening.{LogsShowLists}
+use Rattle.script_run.specs.Script.{IsRefusedAtOnce, has_change, has_delivery, has_fetch, has_mail_read, has_purge, is_purge}
+use Rattle.storage_files.specs.Files.{is_doomed_in}
+use Rattle.script_run.proofs.ChainLemmas.{AllTasks, HasCounted, HasDoomedNone, HasOnlyRead, HasReadAsTold, HasReadNoOctets, HasWrittenNone, WritesNoMail, calm_on, counted_first, counted_on, reads_on, stays_over, syncs_first, unread_on, unwritten_on}
+use Rattle.script_run.proofs.DoneLemmas.{LanesEnd, RunLeft, RunSince}
+use Rattle.script_run.proofs.OpenedLemmas.{none_doomed}
+use Rattle.script_run.proofs.RunBeginsLemmas.{OpenedNow, before_opening, beginning}
+use Rattle.script_run.proofs.SealedLemmas.{HasKeptSealed, sealed_on, sealed_only}
+use Rattle.script_run.proofs.ShownLemmas.{LogsShow, carried_safe}
+use Rattle.script_run.proofs.SinceLemmas.{MayBeRefused, answers_first, changes_none, dooms_first, fresh_tasks, reads_first, reads_unpurged, served_since, unpurged, unread_first, unwritten_first}
+use Rattle.session.proofs.ChainLemmas.{Finds, StaysAsked, calm_asked, counted_asked, reads_asked, served_with, stays_with, unread_asked, unwritten_asked}
+
+-- What is known of a session's run: the opening, the world that began then, without a request, what was asked of it and its events, and
+-- the events that finished it.
+pub record SessionRan {D : Type 0} (history : D → Option History) (faults : D → Faults) (script : Requests) (old : Option History) (world mid ended : WorldValue D) : Type 0 where
+  pub opened : OpenedNow old (history world.store.disk) world.store
+  pub show : LogsShow
+  pub fresh : AreFreshRows [] world.rows
+  pub unturned : world.turns ≡ []
+  pub made_is : IsMoment (history world.store.disk) world.began
+  pub begins : (start : Lists) → LogsShowLists world.store.map (indexes_of world.store.boxes) start
+      → IsWorldOf start [] (beginning world.store.map opened.store.entries) [] no_broken (before_opening (seen_in world.store (history world.store.disk) (faults world.store.disk)) old) (history world.store.disk) (faults world.store.disk) world
+  pub moves : List (ℕ × Option Request)
+  pub script_is : script ≡ asked_in moves
+  pub goes : GoesWith history faults moves world mid
+  pub turns : List ℕ
+  pub ends : GoesOnBy turns mid ended (history mid.store.disk) (history ended.store.disk) (faults mid.store.disk) (faults ended.store.disk)
+  pub same_began : ended.began ≡ world.began
+  pub many : length ended.replies ≡ length script
+  pub replied : (i : ℕ) → i < length ended.replies → (given : Reply) × HasReply ended.replies i given
+  pub idle : AreIdle (lanes_of ended.rows)
+  pub later : IsStore (history ended.store.disk) ended.store
+  pub law : LanesEnd D
+
+left_all : {X : Type 0} → (P : X → Type 0) (xs ys : List X) → All P (xs ++ ys) → All P xs
+left_all P [] ys all = All-nil P
+left_all P (x ∷ xs) ys all = All-cons P x xs (All-head P x (xs ++ ys) all) (left_all P xs ys (All-tail P x (xs ++ ys) all))
+
+right_all : {X : Type 0} → (P : X → Type 0) (xs ys : List X) → All P (xs ++ ys) → All P ys
+right_all P [] ys all = all
+right_all P (x ∷ xs) ys all = right_all P xs ys (All-tail P x (xs ++ ys) all)
+
+module _ {D : Type 0} (history : D → Option History) (faults : D → Faults) (script : Requests) (old : Option History) (world mid ended : WorldValue D) (r : SessionRan history faults script old world mid ended) where
+  -- the disk as the world began, as the last request was asked and its events were made, and at the end
+  first : Option History
+  first = history world.store.disk
+
+  then : Option History
+  then = history mid.store.disk
+
+  last : Option History
+  last = history ended.store.disk
+
+  count : Faults
+  count = faults world.store.disk
+
+  counts_then : Faults
+  counts_then = faults mid.store.disk
+
+  counts_last : Faults
+  counts_last = faults ended.store.disk
+
+  -- the tasks of a world without a request
+  no_tasks : (Holds : Task → Type 0) → AllTasks Holds world.rows
+  no_tasks Holds = fresh_tasks Holds [] world.rows (λ place lane asked t at begins. absurd (let k : None ≡ Some (lane, asked) = at in cc k)) r.fresh
+
+  not_busy : HasNoIdleTurn world
+  not_busy = subst (λ (ts : List LaneTurn). All (λ turn. turn.idle ≡ false) ts) (sym r.unturned) (All-nil (λ (turn : LaneTurn). turn.idle ≡ false))
+
+  counted_then : HasCounted first count mid then counts_then
+  counted_then = stays_with history faults script (HasCounted first count) (counted_on first count) (counted_asked script first count) [] r.moves world mid r.script_is r.goes (counted_first world first count r.opened.running)
+
+  counted_last : HasCounted first count ended last counts_last
+  counted_last = stays_over (HasCounted first count) (counted_on first count) 0 r.turns (as_finished mid) ended then last counts_then counts_last r.ends (record { grows = counted_then.grows; reads = counted_then.reads; changes = counted_then.changes; unchanged = counted_then.unchanged; replied = counted_then.replied })
+
+  since_run : (start : Lists) → LogsShowLists world.store.map (indexes_of world.store.boxes) start → MayRead script start old
+      → RunSince start script (beginning world.store.map r.opened.store.entries) (before_opening (seen_in world.store first count) old) ended first last counts_last
+  since_run start shows may =
+      let run : Run = beginning world.store.map r.opened.store.entries in
+      let from : Seen = before_opening (seen_in world.store first count) old in
+      let finds : Finds history faults start script from run first = λ some. elim (may some) [ inl settled ↦ inl settled | inr one ↦ inr (one.0, λ none. carried_safe start old first r.opened.carried one.1) ] in
+      let w = served_with history faults start script from [] r.moves world mid run [] no_broken r.script_is r.goes finds not_busy (r.begins start shows) in
+      let e = served_since 0 r.turns (as_finished mid) ended then last counts_then counts_last r.ends start script (and_events run w.added) w.more w.broke from (world_finished start script (and_events run w.added) w.more w.broke from then counts_then mid w.is) in
+      let grown = counted_then.grows in
+      record {
+        added = w.added ++ e.added;
+        more = w.more ++ e.more;
+        broke = e.broke;
+        is = subst (λ (es : List RunEvent). IsWorldOf start script (record run { events = es }) (w.more ++ e.more) e.broke from last counts_last ended) (append_assoc run.events w.added e.added) e.is;
+        later =
+            All-append (λ (event : RunEvent). told_calls first ≤ event.moment) w.added e.added w.later
+            (All-weaker (λ (event : RunEvent). told_calls then ≤ event.moment) (λ (event : RunEvent). told_calls first ≤ event.moment) (λ event at. omega (arith, at, grown)) e.added e.later);
+        refused = λ all.
+            let early = w.refused (no_tasks MayBeRefused) (left_all IsRefusedAtOnce w.added e.added all) in
+            idle-then first then last early.0 (e.refused early.1 (right_all IsRefusedAtOnce w.added e.added all));
+      }
+
+  -- in the store that was opened no file is doomed
+  none_doomed_first : HasDoomedNone world
+  none_doomed_first = record { tasks = no_tasks DoomsNone; files = λ runs file. none_doomed world.store old r.opened.files file }
+
+  unwritten_last : has_delivery script ≡ false → has_purge script ≡ false → HasWrittenNone first ended last counts_last
+  unwritten_last none none_purges =
+      let w =
+      stays_with history faults script (HasWrittenNone first) (unwritten_on first)
+      (unwritten_asked script first (λ place lane asked t there b. (unwritten_first script place lane asked t none none_purges there b, dooms_first asked t (unpurged script place lane asked none_purges there) b))) [] r.moves world mid r.script_is r.goes
+      (record { tasks = no_tasks WritesNoMail; undoomed = none_doomed_first; synced = λ runs. syncs_first first; kept = λ m. mail_still m first }) in
+      stays_over (HasWrittenNone first) (unwritten_on first) 0 r.turns (as_finished mid) ended then last counts_then counts_last r.ends (record { tasks = w.tasks; undoomed = record { tasks = w.undoomed.tasks; files = w.undoomed.files }; synced = w.synced; kept = w.kept })
+
+  read_last : has_change script ≡ false → HasOnlyRead first ended last counts_last
+  read_last none =
+      let w =
+      stays_with history faults script (HasOnlyRead first) (reads_on first)
+      (reads_asked script first (λ place lane asked t there b. (reads_first script place lane asked t none there b, dooms_first asked t (reads_unpurged asked (changes_none script place lane asked none there)) b))) [] r.moves world mid r.script_is r.goes
+      (record { tasks = no_tasks OnlyReads; undoomed = none_doomed_first; idle = idle-begins first; running = r.opened.running }) in
+      stays_over (HasOnlyRead first) (reads_on first) 0 r.turns (as_finished mid) ended then last counts_then counts_last r.ends (record { tasks = w.tasks; undoomed = record { tasks = w.undoomed.tasks; files = w.undoomed.files }; idle = w.idle; running = w.running })
+
+  unread_last : has_mail_read script ≡ false → HasReadNoOctets count ended last counts_last
+  unread_last none =
+      let w =
+      stays_with history faults script (HasReadNoOctets count) (unread_on count) (unread_asked script count (λ place lane asked t there b. unread_first script place lane asked t none there b)) [] r.moves world mid r.script_is r.goes
+      (record { tasks = no_tasks ReadsNoOctets; unread = refl }) in
+      stays_over (HasReadNoOctets count) (unread_on count) 0 r.turns (as_finished mid) ended then last counts_then counts_last r.ends (record { tasks = w.tasks; unread = w.unread })
+
+  calm_last : has_fetch script ≡ false → HasReadAsTold count ended last counts_last
+  calm_last none =
+      let w =
+      stays_with history faults script (HasReadAsTold count) (calm_on count) (calm_asked script count (λ place lane asked t there b. answers_first script place lane asked t none there b)) [] r.moves world mid r.script_is r.goes
+      (record { tasks = no_tasks AnswersReads; calm = λ unread. refl }) in
+      stays_over (HasReadAsTold count) (calm_on count) 0 r.turns (as_finished mid) ended then last counts_then counts_last r.ends (record { tasks = w.tasks; calm = w.calm })
+
+  sealed_last : (start : Lists) → LogsShowLists world.store.map (indexes_of world.store.boxes) start → MayRead script start old → HasKeptSealed start script world.store.map first ended last counts_last
+  sealed_last start shows may =
+      let run : Run = beginning world.store.map r.opened.store.entries in
+      let from : Seen = before_opening (seen_in world.store first count) old in
+      let finds : Finds history faults start script from run first = λ some. elim (may some) [ inl settled ↦ inl settled | inr one ↦ inr (one.0, λ none. carried_safe start old first r.opened.carried one.1) ] in
+      let w = served_with history faults start script from [] r.moves world mid run [] no_broken r.script_is r.goes finds not_busy (r.begins start shows) in
+      let come : map_of run ≡ world.store.map = (r.begins start shows).going.serving.serves.come.come.map_is in
+      let kept = w.sealed world.store.map first (λ number is. subst (λ (n : MapMeaning). is_sealed n number ≡ true) (sym come) is) (kept_begins (sealed_only world.store.map) first) in
+      stays_over (HasKeptSealed start script world.store.map first) (sealed_on start script world.store.map first) 0 r.turns (as_finished mid) ended then last counts_then counts_last r.ends
+      (record {
+        run = and_events run w.added;
+        steps = w.more;
+        failed = w.broke;
+        began = from;
+        is = world_finished start script (and_events run w.added) w.more w.broke from then counts_then mid w.is;
+        sealed = kept.0;
+        kept = kept.1;
+      })
+
+  -- So much is known of it at its end.
+  pub left_of_session : RunLeft script old first last count counts_last world.store ended
+  left_of_session = record {
+    opened = r.opened;
+    show = r.show;
+    since = since_run;
+    counts = counted_last;
+    unwritten = unwritten_last;
+    unchanged = read_last;
+    unread = unread_last;
+    calm = calm_last;
+    sealed = λ start shows may. sealed_last start shows may;
+    made_is = subst (λ (n : ℕ). IsMoment first n) (sym r.same_began) r.made_is;
+    many = r.many;
+    replied = r.replied;
+    idle = r.idle;
+    later = r.later;
+    law = r.law;
+  }
