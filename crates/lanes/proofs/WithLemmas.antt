@@ -13,7 +13,7 @@ use Rattle.serving.specs.Lanes.{replies_behind}
 use Rattle.serving.proofs.LaneLemmas.{get_set_other, get_set_same, nat_cases, one_some}
 use Rattle.task_steps.specs.Step.{ended_by}
 use Rattle.lanes.specs.Asked.{GoesWith, IsEventTurn, IsOnlyLeft, asked_in, events_of, row_asked}
-use Rattle.lanes.specs.Worlds.{AreAdded, entries_made, WorldValue}
+use Rattle.lanes.specs.Worlds.{AreAdded, GoesInRounds, WorldValue, entries_made}
 use Rattle.lanes.proofs.RoundLemmas.{event_keeps}
 use Rattle.lanes.proofs.AskLemmas.{longer}
 
@@ -98,3 +98,17 @@ module _ {D : Type 0} (history : D → Option History) (faults : D → Faults) w
         All-append (λ (entry : JournalEntry). entry.request ≡ last) here.0 rest.0 here.2 rest.2,
         rest.3,
       )
+
+-- Events in rounds add entries of the only request that has no reply.
+pub rounds_own : {D : Type 0} → (behind : ℕ) (lanes : List ℕ) (last : ℕ) (old new : WorldValue D) (before after : Option History) (first second : Faults) → GoesInRounds behind lanes old new before after first second → IsOnlyLeft last old.replies → (more : List JournalEntry) × (new.journal ≡ old.journal ++ more) × All (λ entry. entry.request ≡ last) more
+rounds_own behind [] last old new before after first second g only = ([], ap (λ (w : WorldValue _). w.journal) g.0 ∙ sym (append-nil old.journal), All-nil (λ (entry : JournalEntry). entry.request ≡ last))
+rounds_own behind (lane ∷ lanes) last old new before after first second g only =
+    let w = g.4.works in
+    let is : w.event.place ≡ last = only w.event.place w.unanswered in
+    let here = added_own (length old.journal < 2 * length old.replies) w.event.did (lane - 1 + 1) w.event.place (w.later - old.began) last old.journal g.0.journal is w.journal in
+    let left = subst (λ (rs : List (Option Reply)). IsOnlyLeft last rs) (sym w.replies_are) (left_behind last (ended_by w.event.ended) w.event.place old.replies w.unanswered only) in
+    let rest = rounds_own lane lanes last g.0 new g.1 after g.2 second g.6 left in (
+      here.0 ++ rest.0,
+      rest.1 ∙ (ap (λ (js : List JournalEntry). js ++ rest.0) here.1 ∙ append_assoc old.journal here.0 rest.0),
+      All-append (λ (entry : JournalEntry). entry.request ≡ last) here.0 rest.0 here.2 rest.2,
+    )

@@ -178,6 +178,7 @@ read_ends id report h k old new outcome.NoMemory made s = rebuilt_ends id report
 read_ends id report h k old new outcome.ReadFault made s = absurd s
 read_ends id report h k old new outcome.No made s = absurd s
 read_ends id report h k old new outcome.Usage made s = absurd s
+read_ends id report h k old new outcome.SessionFull made s = absurd s
 read_ends id report h k old new (outcome.StoreRefused why) made s = absurd s
 read_ends id report h k old new (outcome.InputRefused why) made s = absurd s
 
@@ -190,6 +191,7 @@ prints_read report h k outcome.NoMemory s = s
 prints_read report h k outcome.ReadFault s = s
 prints_read report h k outcome.No s = s
 prints_read report h k outcome.Usage s = s
+prints_read report h k outcome.SessionFull s = s
 prints_read report h k (outcome.StoreRefused why) s = s
 prints_read report h k (outcome.InputRefused why) s = s
 
@@ -201,6 +203,7 @@ tells_read report h k outcome.DiskFault now text s t = absurd s
 tells_read report h k outcome.ReadFault now text s t = absurd s
 tells_read report h k outcome.No now text s t = absurd s
 tells_read report h k outcome.Usage now text s t = absurd s
+tells_read report h k outcome.SessionFull now text s t = absurd s
 tells_read report h k (outcome.StoreRefused why) now text s t = absurd s
 tells_read report h k (outcome.InputRefused why) now text s t = absurd s
 

@@ -63,6 +63,7 @@ no_script_told lanes left text outcome.ReadFault t e = tt
 no_script_told lanes left text outcome.Done t e = absurd e
 no_script_told lanes left text outcome.No t e = absurd e
 no_script_told lanes left text outcome.Usage t e = absurd e
+no_script_told lanes left text outcome.SessionFull t e = absurd e
 no_script_told lanes left text outcome.DiskFault t e = absurd e
 no_script_told lanes left text outcome.WriteFault t e = absurd e
 no_script_told lanes left text (outcome.StoreRefused why) t e = absurd e
@@ -132,6 +133,7 @@ replies_number text replies h k outcome.No s = inr (inl refl)
 replies_number text replies h k outcome.DiskFault s = inr (inr (inr (inl refl)))
 replies_number text replies h k outcome.ReadFault s = one_of_shown 7 _ (outcome_number replies) (ap status_of s.0)
 replies_number text replies h k outcome.Usage s = one_of_shown 2 _ (outcome_number replies) (ap status_of s.0)
+replies_number text replies h k outcome.SessionFull s = inl refl
 replies_number text replies h k (outcome.StoreRefused why) s = one_of_shown 3 _ (outcome_number replies) (ap status_of s.0)
 replies_number text replies h k (outcome.InputRefused why) s = one_of_shown 4 _ (outcome_number replies) (ap status_of s.0)
 
@@ -161,7 +163,7 @@ pub unread_outcome_is : (given : List Reply) → HasReadFault given → replies_
 unread_outcome_is given c = told_outcome (map Some given) (unread_any given c)
 
 -- which reply it was
-abbrev HasCause : List Reply → Type 0
+abbrev pub HasCause : List Reply → Type 0
 HasCause given = (1 ≤ count_by is_read_fault (map Some given)) ⊎ HasStopped given
 
 count_rest : (r : Reply) (rest : List Reply) → count_by is_read_fault (map Some (r ∷ rest)) ≡ cond (is_read_fault (Some r)) 1 0 + count_by is_read_fault (map Some rest)
@@ -178,7 +180,7 @@ cause_in (reply.Refused refused.Stopped ∷ rest) e = inr (0, omega arith, refl)
 cause_in (reply.Refused why ∷ rest) e = later_cause (reply.Refused why) rest (cause_in rest e)
 cause_in (other ∷ rest) e = later_cause other rest (cause_in rest e)
 
-outcome_cause : (given : List Reply) → replies_outcome (map Some given) ≡ outcome.DiskFault → HasCause given
+pub outcome_cause : (given : List Reply) → replies_outcome (map Some given) ≡ outcome.DiskFault → HasCause given
 outcome_cause given = by_outcome (λ (o : Outcome). o ≡ outcome.DiskFault → HasCause given) (map Some given) (λ any e. cause_in given any) (λ e. absurd (cc e)) (λ e. absurd (cc e)) (λ e. absurd (cc e))
 
 -- a fault that was told ends with a status that says so, or may hide it
@@ -190,6 +192,7 @@ failed_printing text replies h k outcome.No s failed = inr (inl (ap status_of (s
 failed_printing text replies h k outcome.DiskFault s failed = inr (inl refl)
 failed_printing text replies h k outcome.ReadFault s failed = inr (inl (ap status_of (s.0 ∙ failed)))
 failed_printing text replies h k outcome.Usage s failed = inr (inl (ap status_of (s.0 ∙ failed)))
+failed_printing text replies h k outcome.SessionFull s failed = inr (inl (ap status_of (s.0 ∙ failed)))
 failed_printing text replies h k (outcome.StoreRefused why) s failed = inr (inl (ap status_of (s.0 ∙ failed)))
 failed_printing text replies h k (outcome.InputRefused why) s failed = inr (inl (ap status_of (s.0 ∙ failed)))
 
@@ -337,6 +340,7 @@ no_script_number lanes all outcome.ReadFault u = inr (inr (inl refl))
 no_script_number lanes all outcome.Done u = absurd u
 no_script_number lanes all outcome.No u = absurd u
 no_script_number lanes all outcome.Usage u = absurd u
+no_script_number lanes all outcome.SessionFull u = absurd u
 no_script_number lanes all outcome.DiskFault u = absurd u
 no_script_number lanes all outcome.WriteFault u = absurd u
 no_script_number lanes all (outcome.StoreRefused why) u = absurd u
@@ -348,6 +352,7 @@ script_number lanes all script outcome.ReadFault few r u = inr (inr (inr (inr (i
 script_number lanes all script outcome.Done few r u = absurd u
 script_number lanes all script outcome.No few r u = absurd u
 script_number lanes all script outcome.Usage few r u = absurd u
+script_number lanes all script outcome.SessionFull few r u = absurd u
 script_number lanes all script outcome.DiskFault few r u = absurd u
 script_number lanes all script outcome.WriteFault few r u = absurd u
 script_number lanes all script (outcome.StoreRefused why) few r u = absurd u

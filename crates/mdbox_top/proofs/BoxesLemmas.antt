@@ -156,6 +156,7 @@ printed_number rows h k outcome.NoMemory s = inr (inl refl)
 printed_number rows h k outcome.WriteFault s = inr (inr (inl refl))
 printed_number rows h k outcome.No s = absurd s
 printed_number rows h k outcome.Usage s = absurd s
+printed_number rows h k outcome.SessionFull s = absurd s
 printed_number rows h k outcome.DiskFault s = absurd s
 printed_number rows h k outcome.ReadFault s = absurd s
 printed_number rows h k (outcome.StoreRefused why) s = absurd s

@@ -60,6 +60,7 @@ pub shown_one : (text : List ℕ) (given : Reply) (h k : Option (List ℕ)) (o :
 shown_one text given h k outcome.No s one = sym (ap status_of s.0)
 shown_one text given h k outcome.Done s one = absurd (omega (arith, one))
 shown_one text given h k outcome.Usage s one = absurd (omega (arith, one))
+shown_one text given h k outcome.SessionFull s one = absurd (omega (arith, one))
 shown_one text given h k outcome.NoMemory s one = absurd (omega (arith, one))
 shown_one text given h k outcome.DiskFault s one = absurd (omega (arith, one))
 shown_one text given h k outcome.ReadFault s one = absurd (omega (arith, one))

@@ -26,6 +26,7 @@ made_ends id h k old new outcome.NoMemory made s = absurd s
 made_ends id h k old new outcome.ReadFault made s = absurd s
 made_ends id h k old new outcome.No made s = absurd s
 made_ends id h k old new outcome.Usage made s = absurd s
+made_ends id h k old new outcome.SessionFull made s = absurd s
 made_ends id h k old new outcome.DiskFault made s = absurd s
 made_ends id h k old new (outcome.StoreRefused why) made s = absurd s
 made_ends id h k old new (outcome.InputRefused why) made s = absurd s
@@ -55,6 +56,7 @@ init_status id h k old new (outcome.StoreRefused why) e free = absurd (unmade_re
 init_status id h k old new outcome.ReadFault e free = absurd e
 init_status id h k old new outcome.No e free = absurd e
 init_status id h k old new outcome.Usage e free = absurd e
+init_status id h k old new outcome.SessionFull e free = absurd e
 init_status id h k old new (outcome.InputRefused why) e free = absurd e
 
 -- an opening that failed

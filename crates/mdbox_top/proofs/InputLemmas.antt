@@ -47,6 +47,7 @@ input_told P R left h k file outcome.ReadFault t e = e
 input_told P R left h k file outcome.WriteFault t e = (e.0, of_told (λ (input : List ℕ). P input e.0) left file t e.1, e.2)
 input_told P R left h k file outcome.No t e = absurd e
 input_told P R left h k file outcome.Usage t e = absurd e
+input_told P R left h k file outcome.SessionFull t e = absurd e
 input_told P R left h k file outcome.DiskFault t e = absurd e
 input_told P R left h k file (outcome.StoreRefused why) t e = absurd e
 
@@ -74,6 +75,7 @@ refused_status P R all h k outcome.ReadFault why apart r e = inr (inr (inl refl)
 refused_status P R all h k outcome.WriteFault why apart r e = absurd (apart all e.0 why (subst (λ (input : List ℕ). P input e.0) (sym e.1.1) e.1.2) r)
 refused_status P R all h k outcome.No why apart r e = absurd e
 refused_status P R all h k outcome.Usage why apart r e = absurd e
+refused_status P R all h k outcome.SessionFull why apart r e = absurd e
 refused_status P R all h k outcome.DiskFault why apart r e = absurd e
 refused_status P R all h k (outcome.StoreRefused other) why apart r e = absurd e
 
@@ -85,6 +87,7 @@ printed_status P R all h k outcome.ReadFault text apart p e = inr (inr (inl refl
 printed_status P R all h k outcome.WriteFault text apart p e = inr (inr (inr (inl refl)))
 printed_status P R all h k outcome.No text apart p e = absurd e
 printed_status P R all h k outcome.Usage text apart p e = absurd e
+printed_status P R all h k outcome.SessionFull text apart p e = absurd e
 printed_status P R all h k outcome.DiskFault text apart p e = absurd e
 printed_status P R all h k (outcome.StoreRefused why) text apart p e = absurd e
 
@@ -99,6 +102,7 @@ shows_status text h k outcome.NoMemory e = absurd e
 shows_status text h k outcome.ReadFault e = absurd e
 shows_status text h k outcome.No e = absurd e
 shows_status text h k outcome.Usage e = absurd e
+shows_status text h k outcome.SessionFull e = absurd e
 shows_status text h k outcome.DiskFault e = absurd e
 shows_status text h k (outcome.StoreRefused why) e = absurd e
 shows_status text h k (outcome.InputRefused why) e = absurd e

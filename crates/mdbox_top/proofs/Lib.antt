@@ -19,3 +19,4 @@ pub mod RequestLemmas
 pub mod ResyncLemmas
 pub mod RunLemmas
 pub mod ServeLemmas
+pub mod SessionLemmas

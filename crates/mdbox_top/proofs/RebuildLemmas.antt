@@ -23,6 +23,7 @@ rebuilt_ends id report h k old new outcome.NoMemory made s = inl (report, made, 
 rebuilt_ends id report h k old new outcome.ReadFault made s = absurd s
 rebuilt_ends id report h k old new outcome.No made s = absurd s
 rebuilt_ends id report h k old new outcome.Usage made s = absurd s
+rebuilt_ends id report h k old new outcome.SessionFull made s = absurd s
 rebuilt_ends id report h k old new outcome.DiskFault made s = absurd s
 rebuilt_ends id report h k old new (outcome.StoreRefused why) made s = absurd s
 rebuilt_ends id report h k old new (outcome.InputRefused why) made s = absurd s
@@ -34,6 +35,7 @@ prints_no_fault report h k outcome.NoMemory s e = cc e
 prints_no_fault report h k outcome.ReadFault s e = s
 prints_no_fault report h k outcome.No s e = s
 prints_no_fault report h k outcome.Usage s e = s
+prints_no_fault report h k outcome.SessionFull s e = s
 prints_no_fault report h k outcome.DiskFault s e = s
 prints_no_fault report h k (outcome.StoreRefused why) s e = s
 prints_no_fault report h k (outcome.InputRefused why) s e = s
@@ -72,6 +74,7 @@ lost_status id h k old new (outcome.StoreRefused (store.Damaged name place)) e l
 lost_status id h k old new outcome.ReadFault e lost = absurd e
 lost_status id h k old new outcome.No e lost = absurd e
 lost_status id h k old new outcome.Usage e lost = absurd e
+lost_status id h k old new outcome.SessionFull e lost = absurd e
 lost_status id h k old new (outcome.InputRefused why) e lost = absurd e
 
 whole_status : (id : List ℕ) (h k : Option (List ℕ)) (old new : Option History) (o : Outcome) → RebuildOutcome id h k old new o → IsWholeNow old → IsOneOf (3 ∷ 5 ∷ 6 ∷ []) (status_of o)
@@ -86,6 +89,7 @@ whole_status id h k old new (outcome.StoreRefused (store.Damaged name place)) e 
 whole_status id h k old new outcome.ReadFault e whole = absurd e
 whole_status id h k old new outcome.No e whole = absurd e
 whole_status id h k old new outcome.Usage e whole = absurd e
+whole_status id h k old new outcome.SessionFull e whole = absurd e
 whole_status id h k old new (outcome.InputRefused why) e whole = absurd e
 
 pub rebuild_status : (id : List ℕ) (h k : Option (List ℕ)) (old new : Option History) (o : Outcome) → RebuildOutcome id h k old new o → (IsLostNow old → IsOneOf (0 ∷ 5 ∷ 6 ∷ 8 ∷ []) (status_of o)) × (IsWholeNow old → IsOneOf (3 ∷ 5 ∷ 6 ∷ []) (status_of o))

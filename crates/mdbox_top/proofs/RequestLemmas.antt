@@ -71,6 +71,7 @@ shown_number text given h k outcome.No s = inr (inl refl)
 shown_number text given h k outcome.DiskFault s = inr (inr (inr (inl refl)))
 shown_number text given h k outcome.ReadFault s = one_of_shown 7 _ (reply_number given) (ap status_of s.0)
 shown_number text given h k outcome.Usage s = one_of_shown 2 _ (reply_number given) (ap status_of s.0)
+shown_number text given h k outcome.SessionFull s = inl refl
 shown_number text given h k (outcome.StoreRefused why) s = one_of_shown 3 _ (reply_number given) (ap status_of s.0)
 shown_number text given h k (outcome.InputRefused why) s = one_of_shown 4 _ (reply_number given) (ap status_of s.0)
 
@@ -233,5 +234,6 @@ failed_status text given h k outcome.No s failed = inr (inl (ap status_of (s.0 �
 failed_status text given h k outcome.DiskFault s failed = inr (inl refl)
 failed_status text given h k outcome.ReadFault s failed = inr (inl (ap status_of (s.0 ∙ failed)))
 failed_status text given h k outcome.Usage s failed = inr (inl (ap status_of (s.0 ∙ failed)))
+failed_status text given h k outcome.SessionFull s failed = inr (inl (ap status_of (s.0 ∙ failed)))
 failed_status text given h k (outcome.StoreRefused why) s failed = inr (inl (ap status_of (s.0 ∙ failed)))
 failed_status text given h k (outcome.InputRefused why) s failed = inr (inl (ap status_of (s.0 ∙ failed)))

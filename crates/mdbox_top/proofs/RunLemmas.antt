@@ -45,6 +45,8 @@ use Rattle.mdbox_top.proofs.CountsLemmas.{counts_status}
 use Rattle.mdbox_top.proofs.ResyncLemmas.{resync_status}
 use Rattle.mdbox_top.proofs.ExerciseLemmas.{exercise_damage, exercise_input, exercise_rests_as, exercise_status, exercise_used}
 use Rattle.mdbox_top.proofs.DeliverLemmas.{deliver_input, deliver_damage, deliver_status, deliver_used, deliver_rests_as}
+use Rattle.mdbox_top.specs.SessionRun.{MayEndFailed}
+use Rattle.mdbox_top.proofs.SessionLemmas.{serve_damage, serve_input_memory, serve_status, serve_used}
 use Rattle.mdbox_top.proofs.RequestLemmas.{request_status, request_used, request_input, request_damage, still_safe, unasked}
 
 -- a refused input whose text finds no memory
@@ -65,6 +67,7 @@ input_memory D command.Counts left told h k old new f g why e = absurd (request_
 input_memory D command.Resync left told h k old new f g why e = absurd (request_input IsResyncReply request.Resync h k old new f g why e)
 input_memory D command.Purge left told h k old new f g why e = absurd (request_input IsPurgeReply request.Purge h k old new f g why e)
 input_memory D (command.Batch lanes) left told h k old new f g why e = batch_input lanes left h k old new f g why e
+input_memory D command.Serve left told h k old new f g why e = serve_input_memory left h k old new f g why e
 input_memory D (command.Exercise lanes count number) left told h k old new f g why e = absurd (exercise_input lanes count number h k old new f g why e)
 input_memory D (command.Rebuild id) left told h k old new f g why e = absurd e
 input_memory D command.Help left told h k old new f g why e = absurd e
@@ -86,6 +89,7 @@ damage_memory D command.Counts left told h k old new f g name place e = request_
 damage_memory D command.Resync left told h k old new f g name place e = request_damage IsResyncReply request.Resync h k old new f g (store.Damaged name place) e
 damage_memory D command.Purge left told h k old new f g name place e = request_damage IsPurgeReply request.Purge h k old new f g (store.Damaged name place) e
 damage_memory D (command.Batch lanes) left told h k old new f g name place e = batch_damage lanes left h k old new f g (store.Damaged name place) e
+damage_memory D command.Serve left told h k old new f g name place e = serve_damage left h k old new f g (store.Damaged name place) e
 damage_memory D (command.Exercise lanes count number) left told h k old new f g name place e = exercise_damage lanes count number h k old new f g (store.Damaged name place) e
 damage_memory D (command.Rebuild id) left told h k old new f g name place e = absurd e
 damage_memory D command.Dump left told h k old new f g name place e = absurd e
@@ -109,6 +113,7 @@ last_ends D c left told h k old new f g (outcome.StoreRefused store.MailFiles) l
 last_ends D c left told h k old new f g outcome.Done last y e = subst (Ends D c left told h k old new f g) (sym y) e
 last_ends D c left told h k old new f g outcome.No last y e = subst (Ends D c left told h k old new f g) (sym y) e
 last_ends D c left told h k old new f g outcome.Usage last y e = subst (Ends D c left told h k old new f g) (sym y) e
+last_ends D c left told h k old new f g outcome.SessionFull last y e = subst (Ends D c left told h k old new f g) (sym y) e
 last_ends D c left told h k old new f g outcome.NoMemory last y e = subst (Ends D c left told h k old new f g) (sym y) e
 last_ends D c left told h k old new f g outcome.DiskFault last y e = subst (Ends D c left told h k old new f g) (sym y) e
 last_ends D c left told h k old new f g outcome.ReadFault last y e = subst (Ends D c left told h k old new f g) (sym y) e
@@ -129,6 +134,7 @@ has_status D command.Counts r left told h k old new f g o e = λ lists s. counts
 has_status D command.Resync r left told h k old new f g o e = λ lists s. resync_status h k old new f g o e lists s
 has_status D command.Purge r left told h k old new f g o e = λ lists s. request_status IsPurgeReply request.Purge h k old new f g o e lists s
 has_status D (command.Batch lanes) r left told h k old new f g o e = batch_status lanes left h k old new f g o (omega (arith, r.1)) e
+has_status D command.Serve r left told h k old new f g o e = serve_status left h k old new f g o e
 has_status D (command.Exercise lanes count number) r left told h k old new f g o e = λ lists s. exercise_status lanes count number h k old new f g o e lists s
 has_status D (command.Rebuild id) r left told h k old new f g o e = rebuild_status id.0 h k old new o e
 has_status D command.Dump r left told h k old new f g o e = input_status DumpPrints DumpRefuses left h k o dumps_apart e
@@ -152,6 +158,7 @@ used D command.Counts left told h k old new f g e = request_used IsCountsReply r
 used D command.Resync left told h k old new f g e = request_used IsResyncReply request.Resync h k old new f g e
 used D command.Purge left told h k old new f g e = request_used IsPurgeReply request.Purge h k old new f g e
 used D (command.Batch lanes) left told h k old new f g e = batch_used lanes left h k old new f g e
+used D command.Serve left told h k old new f g e = serve_used left h k old new f g e
 used D (command.Exercise lanes count number) left told h k old new f g e = exercise_used lanes count number h k old new f g e
 used D (command.Rebuild id) left told h k old new f g e = e
 used D command.Dump left told h k old new f g e = e
@@ -162,6 +169,7 @@ used D command.Version left told h k old new f g e = e
 -- what a status says of the end
 two : (o : Outcome) → status_of o ≡ 2 → o ≡ outcome.Usage
 two outcome.Usage e = refl
+two outcome.SessionFull e = absurd (omega (arith, e))
 two outcome.Done e = absurd (omega (arith, e))
 two outcome.No e = absurd (omega (arith, e))
 two outcome.NoMemory e = absurd (omega (arith, e))
@@ -177,6 +185,7 @@ six outcome.Done e = absurd (omega (arith, e))
 six outcome.No e = absurd (omega (arith, e))
 six outcome.NoMemory e = absurd (omega (arith, e))
 six outcome.Usage e = absurd (omega (arith, e))
+six outcome.SessionFull e = absurd (omega (arith, e))
 six outcome.ReadFault e = absurd (omega (arith, e))
 six outcome.WriteFault e = absurd (omega (arith, e))
 six (outcome.StoreRefused why) e = absurd (omega (arith, e))
@@ -188,6 +197,7 @@ four outcome.Done e = absurd (omega (arith, e))
 four outcome.No e = absurd (omega (arith, e))
 four outcome.NoMemory e = absurd (omega (arith, e))
 four outcome.Usage e = absurd (omega (arith, e))
+four outcome.SessionFull e = absurd (omega (arith, e))
 four outcome.DiskFault e = absurd (omega (arith, e))
 four outcome.ReadFault e = absurd (omega (arith, e))
 four outcome.WriteFault e = absurd (omega (arith, e))
@@ -199,6 +209,7 @@ seven outcome.Done e = absurd (omega (arith, e))
 seven outcome.No e = absurd (omega (arith, e))
 seven outcome.NoMemory e = absurd (omega (arith, e))
 seven outcome.Usage e = absurd (omega (arith, e))
+seven outcome.SessionFull e = absurd (omega (arith, e))
 seven outcome.DiskFault e = absurd (omega (arith, e))
 seven outcome.WriteFault e = absurd (omega (arith, e))
 seven (outcome.StoreRefused why) e = absurd (omega (arith, e))
@@ -210,6 +221,7 @@ eight outcome.Done e = absurd (omega (arith, e))
 eight outcome.No e = absurd (omega (arith, e))
 eight outcome.NoMemory e = absurd (omega (arith, e))
 eight outcome.Usage e = absurd (omega (arith, e))
+eight outcome.SessionFull e = absurd (omega (arith, e))
 eight outcome.DiskFault e = absurd (omega (arith, e))
 eight outcome.ReadFault e = absurd (omega (arith, e))
 eight (outcome.StoreRefused why) e = absurd (omega (arith, e))
@@ -225,6 +237,7 @@ kept (outcome.StoreRefused store.MailFiles) last y = inl y
 kept outcome.Done last y = inl y
 kept outcome.No last y = inl y
 kept outcome.Usage last y = inl y
+kept outcome.SessionFull last y = inl y
 kept outcome.NoMemory last y = inl y
 kept outcome.DiskFault last y = inl y
 kept outcome.ReadFault last y = inl y
@@ -296,6 +309,12 @@ one_last o last y e = elim (kept o last y) [
   | inr none ↦ inl (ap status_of none)
 ]
 
+served_last : (o last : Outcome) → EndsAs o last → MayEndFailed (status_of o) → MayEndFailed (status_of last)
+served_last o last y e = elim (kept o last y) [
+  | inl same ↦ subst (λ (x : Outcome). MayEndFailed (status_of x)) (sym same) e
+  | inr none ↦ inr (inr (inl (ap status_of none)))
+]
+
 -- so the last end may follow a fault where the first may
 pub fails_last : (c : Command) (o last : Outcome) → EndsAs o last → MayHaveFailed c (status_of o) → MayHaveFailed c (status_of last)
 fails_last (command.Deliver name) o last y e = one_last o last y e
@@ -308,6 +327,7 @@ fails_last (command.Make name) o last y e = one_last o last y e
 fails_last command.Resync o last y e = one_last o last y e
 fails_last command.Purge o last y e = one_last o last y e
 fails_last (command.Batch lanes) o last y e = one_last o last y e
+fails_last command.Serve o last y e = served_last o last y e
 fails_last other o last y e = six_last o last y e
 
 pub rests_last : (c : Command) (left : Option (List ℕ)) (told : Option ℕ) (F G : Type 0) (f g : Faults) (old new : Option History) → (F → G) → Rests c left told F f g old new → Rests c left told G f g old new
@@ -324,6 +344,7 @@ rests_last command.Counts left told F G f g old new h r = λ none. r (λ failed.
 rests_last command.Resync left told F G f g old new h r = λ none. r (λ failed. none (h failed))
 rests_last command.Purge left told F G f g old new h r = λ none. r (λ failed. none (h failed))
 rests_last (command.Batch lanes) left told F G f g old new h r = batch_rests_as lanes left F G f g old new h r
+rests_last command.Serve left told F G f g old new h r = (r.0, r.1, λ none. r.2 (λ failed. none (h failed)))
 rests_last (command.Exercise lanes count number) left told F G f g old new h r = exercise_rests_as lanes count number F G f g old new h r
 rests_last other left told F G f g old new h r = tt
 

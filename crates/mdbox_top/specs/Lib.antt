@@ -21,3 +21,4 @@ pub mod RebuildRun
 pub mod ResyncRun
 pub mod Run
 pub mod Served
+pub mod SessionRun

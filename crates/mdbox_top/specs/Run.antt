@@ -13,6 +13,7 @@ use Rattle.mdbox_base.specs.declared.requests.Request.TheVariants as request
 use Rattle.mdbox_top.specs.Alone.{MayFail}
 use Rattle.mdbox_top.specs.BatchRun.{BatchOutcome, BatchMoments, BatchRests, BatchStatus, TellsScriptFaults}
 use Rattle.mdbox_top.specs.BoxesRun.{BoxesOutcome, BoxesMoments, BoxesRests}
+use Rattle.mdbox_top.specs.SessionRun.{MayEndFailed, ServeMoments, ServeOutcome, ServeRests, ServeStatus, TellsServeFaults}
 use Rattle.mdbox_top.specs.ExerciseRun.{ExerciseOutcome, ExerciseMoments, ExerciseRests}
 use Rattle.mdbox_top.specs.InputRun.{DumpPrints, DumpRefuses, LogDumpPrints, LogDumpRefuses, InputOutcome, InputStatus, ShowsText, IsOneOf}
 use Rattle.mdbox_top.specs.InitRun.{InitOutcome, InitMoments, MayMakeStore}
@@ -46,6 +47,7 @@ Ends D command.Counts left told held later old new began now outcome = CountsOut
 Ends D command.Resync left told held later old new began now outcome = ResyncOutcome D held later old new began now outcome
 Ends D command.Purge left told held later old new began now outcome = PurgeOutcome D held later old new began now outcome
 Ends D (command.Batch lanes) left told held later old new began now outcome = BatchOutcome D lanes left held later old new began now outcome
+Ends D command.Serve left told held later old new began now outcome = ServeOutcome left held later old new began now outcome
 Ends D (command.Exercise lanes count number) left told held later old new began now outcome = ExerciseOutcome D lanes count number held later old new began now outcome
 Ends D (command.Rebuild id) left told held later old new began now outcome = RebuildOutcome id.0 held later old new outcome
 Ends D command.Dump left told held later old new began now outcome = InputOutcome DumpPrints DumpRefuses left held later outcome
@@ -88,6 +90,7 @@ Moments command.Counts left told old new = CountsMoments old new
 Moments command.Resync left told old new = ResyncMoments old new
 Moments command.Purge left told old new = PurgeMoments old new
 Moments (command.Batch lanes) left told old new = BatchMoments lanes left old new
+Moments command.Serve left told old new = ServeMoments left old new
 Moments (command.Exercise lanes count number) left told old new = ExerciseMoments lanes count number old new
 Moments (command.Rebuild id) left told old new = RebuildMoments old new
 Moments other left told old new = new ≡ old
@@ -107,6 +110,7 @@ Rests command.Counts left told failed began now old new = CountsRests failed beg
 Rests command.Resync left told failed began now old new = ResyncRests failed began now old new
 Rests command.Purge left told failed began now old new = PurgeRests failed began now old new
 Rests (command.Batch lanes) left told failed began now old new = BatchRests lanes left failed began now old new
+Rests command.Serve left told failed began now old new = ServeRests left failed began now old new
 Rests (command.Exercise lanes count number) left told failed began now old new = ExerciseRests lanes count number failed began now old new
 Rests other left told failed began now old new = Unit {0}
 
@@ -127,6 +131,7 @@ HasStatus command.Counts left old status = (lists : Lists) → IsSettledFor list
 HasStatus command.Resync left old status = (lists : Lists) → IsSettledFor lists old → IsOneOf (0 ∷ 5 ∷ 6 ∷ 8 ∷ []) status
 HasStatus command.Purge left old status = (lists : Lists) → IsSettledFor lists old → IsOneOf (0 ∷ 1 ∷ 5 ∷ 6 ∷ 8 ∷ []) status
 HasStatus (command.Batch lanes) left old status = BatchStatus lanes left old status
+HasStatus command.Serve left old status = ServeStatus old status
 HasStatus (command.Exercise lanes count number) left old status = (lists : Lists) → IsSettledFor lists old → IsOneOf (0 ∷ 1 ∷ 5 ∷ 6 ∷ 8 ∷ []) status
 HasStatus (command.Rebuild id) left old status = (IsLostNow old → IsOneOf (0 ∷ 5 ∷ 6 ∷ 8 ∷ []) status) × (IsWholeNow old → IsOneOf (3 ∷ 5 ∷ 6 ∷ []) status)
 HasStatus command.Dump left old status = InputStatus DumpPrints DumpRefuses left status
@@ -135,7 +140,7 @@ HasStatus command.Help left old status = IsOneOf (0 ∷ 8 ∷ []) status
 HasStatus command.Version left old status = IsOneOf (0 ∷ 8 ∷ []) status
 
 -- The statuses with which the command may end if a call of the disk failed: 6; and for one that reads messages or changes a
--- store, 5 and 8, since printing that a read failed, or that the store is stopped, may fail.
+-- store, 5 and 8, since printing that a read failed, or that the store is stopped, may fail. A session goes on after a failed read.
 abbrev pub MayHaveFailed : Command → ℕ → Type 0
 MayHaveFailed (command.Deliver name) status = IsOneOf (5 ∷ 6 ∷ 8 ∷ []) status
 MayHaveFailed (command.Fetch name uid) status = MayFail (request.Fetch name uid) status
@@ -147,17 +152,20 @@ MayHaveFailed (command.Make name) status = MayFail (request.Make name) status
 MayHaveFailed command.Resync status = MayFail request.Resync status
 MayHaveFailed command.Purge status = MayFail request.Purge status
 MayHaveFailed (command.Batch lanes) status = IsOneOf (5 ∷ 6 ∷ 8 ∷ []) status
+MayHaveFailed command.Serve status = MayEndFailed status
 MayHaveFailed other status = status ≡ 6
 
--- It is said of the command which calls of the disk failed: always, but of a script that reads messages only if the disk was settled.
+-- It is said of the command which calls of the disk failed: always, but of requests that read messages only if the disk was settled.
 abbrev pub TellsFaults : Command → Option (List ℕ) → Option History → Type 0
 TellsFaults (command.Batch lanes) left old = TellsScriptFaults lanes left old
+TellsFaults command.Serve left old = TellsServeFaults left old
 TellsFaults other left old = Unit {0}
 
 -- the command reads standard input
 abbrev pub reads_input : Command → Bool
 reads_input (command.Deliver name) = true
 reads_input (command.Batch lanes) = true
+reads_input command.Serve = true
 reads_input command.Dump = true
 reads_input command.LogDump = true
 reads_input other = false
@@ -178,9 +186,15 @@ uses_disk command.Counts = true
 uses_disk command.Resync = true
 uses_disk command.Purge = true
 uses_disk (command.Batch lanes) = true
+uses_disk command.Serve = true
 uses_disk (command.Exercise lanes count number) = true
 uses_disk (command.Rebuild id) = true
 uses_disk other = false
+
+-- The command has read its input to the end before it makes a call of the disk; `serve` opens the store first.
+abbrev pub reads_before : Command → Bool
+reads_before command.Serve = false
+reads_before other = true
 
 -- the command asks the clock
 abbrev pub asks_clock : Command → Bool

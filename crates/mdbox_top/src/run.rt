@@ -1,5 +1,5 @@
 // One run of the program.
-ghost use Rattle.std.specs.Prelude.{◌≡◌, ◌≢◌, ◌≤◌, ◌↔◌, ◌⊎◌, false, map, string_bytes};
+ghost use Rattle.std.specs.Prelude.{◌≡◌, ◌≢◌, ◌≤◌, ◌↔◌, ◌⊎◌, false, true, map, string_bytes};
 ghost use Rattle.disk_model.specs.FaultCounts.{NoFault, AnyFaultCounted};
 ghost use Rattle.mdbox_base.specs.Streams.{Rose};
 ghost use Rattle.piece_writer.specs.Pieces.{WritesOrFaults};
@@ -9,7 +9,7 @@ ghost use Rattle.request_text.specs.declared.command.Command.{Command};
 ghost use Rattle.request_text.specs.declared.outcome.Outcome.TheVariants as outcome;
 ghost use Rattle.request_text.specs.declared.outcome.InputRefusal.{InputRefusal};
 ghost use Rattle.mdbox_top.specs.DeliverRun.{IsReadWhole};
-ghost use Rattle.mdbox_top.specs.Run.{Ends, Notes, RunOutcome, Moments, Rests, HasStatus, MayHaveFailed, TellsFaults, reads_input, uses_disk, asks_clock};
+ghost use Rattle.mdbox_top.specs.Run.{Ends, Notes, RunOutcome, Moments, Rests, HasStatus, MayHaveFailed, TellsFaults, reads_before, reads_input, uses_disk, asks_clock};
 
 use crate::alone::serve;
 use crate::batch::batch;
@@ -64,8 +64,9 @@ pub fn mdbox_run<R: Threads + Sync, D: Disk, I: Source, O: Sink, E: Sink, C: Clo
     ensures untouched { (command : Command) → Says (map string_bytes words.now) command → uses_disk command ≡ false → result.1 ≡ disk }
     ensures unasked { (command : Command) → Says (map string_bytes words.now) command → asks_clock command ≡ false → clock.new ≡ clock.old }
 
-    // With an input that is refused, and where the input or the clock fails, no call is made of the disk, whatever disk it is.
-    ensures uncalled { (result.0.0 ≡ 4) ⊎ (result.0.0 ≡ 7) → result.1 ≡ disk }
+    // With an input that is refused, and where the input or the clock fails, no call is made of the disk, whatever disk it is; but by a
+    // session, which reads its input as it goes on.
+    ensures uncalled { (command : Command) → Says (map string_bytes words.now) command → reads_before command ≡ true → (result.0.0 ≡ 4) ⊎ (result.0.0 ≡ 7) → result.1 ≡ disk }
 
     // The clock is asked once the input was read to its end, which came within its limit: of one that is refused it isn't.
     ensures asked { (clock.new ≡ clock.old) ⊎ (IsReadWhole (I.left input.old) (I.left input.new) × (I.faults input.new ≡ I.faults input.old)) }
@@ -114,7 +115,7 @@ pub fn mdbox_alone<P: Preparer, D: Disk, I: Source, O: Sink, E: Sink, C: Clock>(
     ensures unread { reads_input command ≡ false → input.new ≡ input.old }
     ensures untouched { uses_disk command ≡ false → result.1 ≡ disk }
     ensures unasked { asks_clock command ≡ false → clock.new ≡ clock.old }
-    ensures uncalled { (result.0.0 ≡ 4) ⊎ (result.0.0 ≡ 7) → result.1 ≡ disk }
+    ensures uncalled { reads_before command ≡ true → (result.0.0 ≡ 4) ⊎ (result.0.0 ≡ 7) → result.1 ≡ disk }
     ensures disk_fault { TellsFaults command (I.left input.old) (D.history disk) → AnyFaultCounted (result.0.0 ≡ 6) (D.faults disk) (D.faults result.1) }
     ensures read_fault { result.0.0 ≡ 7 → Rose (I.faults input.old) (I.faults input.new) ⊎ (Rose (C.faults clock.old) (C.faults clock.new) × IsReadWhole (I.left input.old) (I.left input.new)) }
     ensures write_fault { result.0.0 ≡ 8 → Rose (O.faults output.old) (O.faults output.new) }
@@ -149,7 +150,7 @@ fn perform<P: Preparer, D: Disk, I: Source, O: Sink, E: Sink, C: Clock>(
     ensures unread { reads_input command ≡ false → input.new ≡ input.old }
     ensures untouched { uses_disk command ≡ false → result.1 ≡ disk }
     ensures unasked { asks_clock command ≡ false → clock.new ≡ clock.old }
-    ensures uncalled { (result.0 ≡ outcome.ReadFault) ⊎ ((why : InputRefusal) × (result.0 ≡ outcome.InputRefused why)) → result.1 ≡ disk }
+    ensures uncalled { reads_before command ≡ true → (result.0 ≡ outcome.ReadFault) ⊎ ((why : InputRefusal) × (result.0 ≡ outcome.InputRefused why)) → result.1 ≡ disk }
     ensures rests { Rests command (I.left input.old) (C.time clock.old) (MayHaveFailed command (status_of result.0)) (D.faults disk) (D.faults result.1) (D.history disk) (D.history result.1) }
     ensures disk_fault { TellsFaults command (I.left input.old) (D.history disk) → AnyFaultCounted (result.0 ≡ outcome.DiskFault) (D.faults disk) (D.faults result.1) }
     ensures read_fault { result.0 ≡ outcome.ReadFault → Rose (I.faults input.old) (I.faults input.new) ⊎ (Rose (C.faults clock.old) (C.faults clock.new) × IsReadWhole (I.left input.old) (I.left input.new)) }

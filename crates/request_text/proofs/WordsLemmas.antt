@@ -198,6 +198,7 @@ same_words command.Boxes command.Boxes p q e = refl
 same_words command.Counts command.Counts p q e = refl
 same_words command.Purge command.Purge p q e = refl
 same_words command.Resync command.Resync p q e = refl
+same_words command.Serve command.Serve p q e = refl
 same_words command.Dump command.Dump p q e = refl
 same_words command.LogDump command.LogDump p q e = refl
 same_words command.Help command.Help p q e = refl

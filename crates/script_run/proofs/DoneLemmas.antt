@@ -133,12 +133,12 @@ begins_from start script lanes parts old mid first s o world law g are shows may
 -- ---- the end
 
 -- a reply that is given is among those given
-given_at : (given : List Reply) (i : ℕ) (one : Reply) → HasReply (map Some given) i one → Contains given one
+pub given_at : (given : List Reply) (i : ℕ) (one : Reply) → HasReply (map Some given) i one → Contains given one
 given_at [] i one at = absurd (let e : None ≡ Some (Some one) = at in cc e)
 given_at (r ∷ rest) zero one at = let e : Some (Some r) ≡ Some (Some one) = at in let f : Some r ≡ Some one = cc e in let z : r ≡ one = cc f in (0, omega arith, z)
 given_at (r ∷ rest) (suc i) one at = let c = given_at rest i one at in let l = c.1 in (suc c.0, omega (arith, l), c.2)
 
-at_given : (given : List Reply) (one : Reply) → Contains given one → (i : ℕ) × HasReply (map Some given) i one
+pub at_given : (given : List Reply) (one : Reply) → Contains given one → (i : ℕ) × HasReply (map Some given) i one
 at_given [] one c = absurd (let k = c.1 in omega (arith, k))
 at_given (r ∷ rest) one (zero, l, c) = (0, ap (λ (x : Reply). Some (Some x)) c)
 at_given (r ∷ rest) one (suc n, l, c) = let h = at_given rest one (n, omega (arith, l), c) in (suc h.0, h.1)

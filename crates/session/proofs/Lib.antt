@@ -1,2 +1,5 @@
 pub mod ChainLemmas
+pub mod FinishLemmas
+pub mod GoneLemmas
 pub mod LeftLemmas
+pub mod TellLemmas

@@ -23,11 +23,16 @@ use Rattle.script_text.specs.Taking.{OfSource, extent}
 use Rattle.script_text.specs.declared.flaw.Need.{Need}
 use Rattle.script_text.specs.declared.take.Extent.{Extent}
 
--- A world between two requests: it has 64 lanes, none of which has a request left, it wasn't finished, no reply says that the store is
--- stopped, and each entry is of a request that was asked.
+-- each request has its reply
+abbrev pub HaveReplies : List (Option Reply) → Type 0
+HaveReplies replies = (place : ℕ) → place < length replies → (given : Reply) × HasReply replies place given
+
+-- A world between two requests: it has 64 lanes, none of which has a request left, each request has its reply, none of which says that the
+-- store is stopped, it wasn't finished, and each entry is of a request that was asked.
 pub record IsWaiting {D : Type 0} (world : WorldValue D) : Type 0 where
   pub many : length world.rows ≡ 64
   pub idle : AreIdle (lanes_of world.rows)
+  pub replied : HaveReplies world.replies
   pub goes_on : world.finished ≡ false
   pub running : (place : ℕ) → HasReply world.replies place (reply.Refused refused.Stopped) → ⊥
   pub own : All (λ entry. entry.request < length world.replies) world.journal
@@ -45,6 +50,7 @@ pub record IsUnderWay {D : Type 0} (history : D → Option History) (faults : D 
 pub record IsAnswered {D : Type 0} (history : D → Option History) (faults : D → Faults) (asked : ℕ × Request) (old new : WorldValue D) (given : Reply) : Type 0 where
   pub begun : IsUnderWay history faults asked old new
   pub idle : AreIdle (lanes_of new.rows)
+  pub replied : HaveReplies new.replies
   pub reply : HasReply new.replies (length old.replies) given
 
 -- It was asked, answered so, and its reply is told.

@@ -11,8 +11,8 @@ ghost use Rattle.session.specs.Session.{IsSessionDone};
 use crate::next::{LANES, serve_next};
 use disk_model::Disk;
 use lanes::{
-    World, WorldParts, idle_worlds_have_replied, lanes_begin, lanes_end, scripts_grow, worlds_begin,
-    worlds_go_on, worlds_go_with,
+    World, WorldParts, idle_worlds_have_replied, lanes_begin, lanes_end, scripts_grow,
+    worlds_begin, worlds_go_on, worlds_go_with,
 };
 use mdbox_base::{NoMemory, Script, Seq, Sink, Source};
 use request_text::{Outcome, replies_are_told_in_order};

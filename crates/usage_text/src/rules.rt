@@ -22,6 +22,7 @@ pub(crate) fn rules_of(verb: &str) -> Option<&'static [Rule]>
         "counts" => Some(&[]),
         "purge" => Some(&[]),
         "resync" => Some(&[]),
+        "serve" => Some(&[]),
         "expunge" => Some(&[Rule::Name, Rule::Uid]),
         "copy" => Some(&[Rule::Name, Rule::Uid, Rule::Name]),
         "move" => Some(&[Rule::Name, Rule::Uid, Rule::Name]),

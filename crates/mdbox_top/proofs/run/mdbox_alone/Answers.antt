@@ -45,9 +45,9 @@ returns-clause-disk_fault g c = λ tells.
     record { reads = fault.reads; changes = fault.changes; rose = λ six. fault.rose (faulted c.perform-outcome.result.0 told.0 _ told.1 told.2 six) }
 
 pub returns-clause-uncalled : goal.returns-clause-uncalled
-returns-clause-uncalled g c = λ which.
+returns-clause-uncalled g c = λ before which.
     let told = c.report.ensures.told in
     elim which [
-      | inl four ↦ c.perform-outcome.ensures.uncalled (inr (uninput c.perform-outcome.result.0 told.0 _ told.1 told.2 four))
-      | inr seven ↦ c.perform-outcome.ensures.uncalled (inl (unread c.perform-outcome.result.0 told.0 _ told.1 told.2 seven))
+      | inl four ↦ c.perform-outcome.ensures.uncalled before (inr (uninput c.perform-outcome.result.0 told.0 _ told.1 told.2 four))
+      | inr seven ↦ c.perform-outcome.ensures.uncalled before (inl (unread c.perform-outcome.result.0 told.0 _ told.1 told.2 seven))
     ]

@@ -29,5 +29,8 @@ returns-in-ReadFault-clause-told g c = rw c.in-ReadFault.is (outcome.ReadFault, 
 pub returns-in-WriteFault-clause-told : goal.returns-in-WriteFault-clause-told
 returns-in-WriteFault-clause-told g c = rw c.in-WriteFault.is (outcome.WriteFault, refl, c.tell-in-WriteFault.ensures.status, c.tell-in-WriteFault.ensures.gave)
 
+pub returns-in-SessionFull-clause-told : goal.returns-in-SessionFull-clause-told
+returns-in-SessionFull-clause-told g c = rw c.in-SessionFull.is (outcome.SessionFull, refl, c.tell-in-SessionFull.ensures.status, c.tell-in-SessionFull.ensures.gave)
+
 pub returns-in-Err-clause-told : goal.returns-in-Err-clause-told
 returns-in-Err-clause-told g c = rw c.in-InputRefused.is (outcome.NoMemory, inr refl, c.tell-in-Err.ensures.status, c.tell-in-Err.ensures.gave)

@@ -47,6 +47,9 @@ returns-in-purge-clause-some c = (command.Purge, sym c.in-purge.is, refl)
 pub returns-in-resync-clause-some : goal.returns-in-resync-clause-some
 returns-in-resync-clause-some c = (command.Resync, sym c.in-resync.is, refl)
 
+pub returns-in-serve-clause-some : goal.returns-in-serve-clause-some
+returns-in-serve-clause-some c = (command.Serve, sym c.in-serve.is, refl)
+
 pub returns-in-dump-clause-some : goal.returns-in-dump-clause-some
 returns-in-dump-clause-some c = (command.Dump, sym c.in-dump.is, refl)
 
