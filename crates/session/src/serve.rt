@@ -100,7 +100,7 @@ fn serve_all<D: Disk, I: Source, O: Sink>(
         octets: 0,
         lines: 0,
     };
-    for _ in 0..MOST_REQUESTS {
+    for done in 0..MOST_REQUESTS {
         match serve_next(alloc, world, input, output, at) {
             Ok(next) => at = next,
             Err(ended) => return ended,
