@@ -38,18 +38,21 @@ rows_idle : (rows : List LaneRow) → ((k : ℕ) (row : LaneRow) → slice_get r
 rows_idle [] none = All-nil (λ (value : LaneValue Task). value.queue ≡ [])
 rows_idle (row ∷ rows) none = All-cons (λ (value : LaneValue Task). value.queue ≡ []) (lane_value row) (lanes_of rows) (none 0 row refl) (rows_idle rows (λ k other at. none (suc k) other at))
 
-no_replies : (parts : PartsValue) → parts.requests ≡ 0 → replicate {A = Option Reply} parts.requests None ≡ []
-no_replies parts none = ap (λ (n : ℕ). replicate n None) none
+abbrev nones : ℕ → List (Option Reply)
+nones n = replicate n None
+
+no_replies : (parts : PartsValue) → parts.requests ≡ 0 → nones parts.requests ≡ []
+no_replies parts none = ap nones none
 
 -- a world that begins without a request waits for the first
 pub fresh_waits : {D : Type 0} → (s : StoreValue D) (parts : PartsValue) (history : Option History) (world : WorldValue D) → ArePartsOf [] 64 parts → IsFreshWorld s parts history world → IsWaiting world
 fresh_waits s parts history world are begun = subst (λ (w : WorldValue _). IsWaiting w) (sym begun.2) (record {
   many = are.many;
   idle = rows_idle parts.rows (λ k row at. (are.rows k row at).all);
-  replied = λ place within. absurd (let none : length (replicate {A = Option Reply} parts.requests None) ≡ 0 = ap length (no_replies parts are.requests) in omega (arith, within, none));
+  replied = λ place within. absurd (let none : length (nones parts.requests) ≡ 0 = ap length (no_replies parts are.requests) in omega (arith, within, none));
   goes_on = refl;
   running = λ place at. absurd (let k : None ≡ Some (Some (reply.Refused refused.Stopped)) = sym (ap (λ (rs : List (Option Reply)). slice_get rs place) (no_replies parts are.requests)) ∙ at in cc k);
-  own = All-nil (λ (entry : JournalEntry). entry.request < length (replicate {A = Option Reply} parts.requests None));
+  own = All-nil (λ (entry : JournalEntry). entry.request < length (nones parts.requests));
 })
 
 pub fresh_empty : {D : Type 0} → (s : StoreValue D) (parts : PartsValue) (history : Option History) (world : WorldValue D) → ArePartsOf [] 64 parts → IsFreshWorld s parts history world → world.replies ≡ []

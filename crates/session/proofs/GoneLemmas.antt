@@ -179,7 +179,7 @@ flawed script rest flaw few fits at line some none needed =
 
 module _ {D : Type 0} (history : D → Option History) (faults : D → Faults) (old : Option History) (world new final : WorldValue D) (left rest held later : Option (List ℕ)) (e : SessionEnded history faults old world new final) (order : ToldInOrder) where
   -- so a session is done, if it ends so
-  Done : Outcome → Type 0
+  abbrev Done : Outcome → Type 0
   Done ended = OfSource left (λ octets. IsSessionDone octets rest held later old (history final.store.disk) (faults world.store.disk) (faults final.store.disk) ended)
 
   left_of : (moves : List (ℕ × Option Request)) → GoesWith history faults moves world new → RunLeft (asked_in moves) old (history world.store.disk) (history final.store.disk) (faults world.store.disk) (faults final.store.disk) world.store final
@@ -271,7 +271,7 @@ module _ {D : Type 0} (history : D → Option History) (faults : D → Faults) (
           let all = f.2.0 in
           let many = few in
           assemble moves all (outcome.InputRefused (refusal.Script flaw)) goes_still s.fits (read_on left between (script_text (asked_in moves)) all s.taken f.2.1) text_told
-          (λ given are. (last_alone given are, f.2.2.0, f.2.2.1, flawed (asked_in moves) all flaw (omega (arith, short, many)) s.fits f.0 f.1 f.2.2.0 f.2.2.1 f.2.2.2, f.0, unstopped given are))
+          (λ given are. (last_alone given are, (f.2.2.0, f.2.2.1, flawed (asked_in moves) all flaw (omega (arith, short, many)) s.fits f.0 f.1 f.2.2.0 f.2.2.1 f.2.2.2, f.0, unstopped given are)))
       finds_none outcome.ReadFault f short =
           let w = what_left between in
           assemble moves w.0 outcome.ReadFault goes_still s.fits (read_on left between (script_text (asked_in moves)) w.0 s.taken w.1) text_told (λ given are. (last_alone given are, unstopped given are))
@@ -293,7 +293,7 @@ module _ {D : Type 0} (history : D → Option History) (faults : D → Faults) (
       is_full many same =
           let w = what_left between in
           assemble moves w.0 outcome.SessionFull goes_still s.fits (read_on left between (script_text (asked_in moves)) w.0 s.taken w.1) text_told
-          (λ given are. (last_alone given are, many, same_left rest between w.0 same w.1, unstopped given are))
+          (λ given are. (last_alone given are, (many, same_left rest between w.0 same w.1, unstopped given are)))
 
     -- with one request more
     module _ (asked : ℕ × Request) (fits : FitsLanes 64 asked) (taken : Taken between (request_text asked) rest) where

@@ -72,23 +72,23 @@ right_all P (x ∷ xs) ys all = right_all P xs ys (All-tail P x (xs ++ ys) all)
 
 module _ {D : Type 0} (history : D → Option History) (faults : D → Faults) (script : Requests) (old : Option History) (world mid ended : WorldValue D) (r : SessionRan history faults script old world mid ended) where
   -- the disk as the world began, as the last request was asked and its events were made, and at the end
-  first : Option History
-  first = history world.store.disk
+  abbrev opened_disk : Option History
+  opened_disk = history world.store.disk
 
-  then : Option History
-  then = history mid.store.disk
+  abbrev asked_disk : Option History
+  asked_disk = history mid.store.disk
 
-  last : Option History
-  last = history ended.store.disk
+  abbrev left_disk : Option History
+  left_disk = history ended.store.disk
 
-  count : Faults
-  count = faults world.store.disk
+  abbrev opened_faults : Faults
+  opened_faults = faults world.store.disk
 
-  counts_then : Faults
-  counts_then = faults mid.store.disk
+  abbrev asked_faults : Faults
+  asked_faults = faults mid.store.disk
 
-  counts_last : Faults
-  counts_last = faults ended.store.disk
+  abbrev left_faults : Faults
+  left_faults = faults ended.store.disk
 
   -- the tasks of a world without a request
   no_tasks : (Holds : Task → Type 0) → AllTasks Holds world.rows
@@ -97,89 +97,89 @@ module _ {D : Type 0} (history : D → Option History) (faults : D → Faults) (
   not_busy : HasNoIdleTurn world
   not_busy = subst (λ (ts : List LaneTurn). All (λ turn. turn.idle ≡ false) ts) (sym r.unturned) (All-nil (λ (turn : LaneTurn). turn.idle ≡ false))
 
-  counted_then : HasCounted first count mid then counts_then
-  counted_then = stays_with history faults script (HasCounted first count) (counted_on first count) (counted_asked script first count) [] r.moves world mid r.script_is r.goes (counted_first world first count r.opened.running)
+  counted_then : HasCounted opened_disk opened_faults mid asked_disk asked_faults
+  counted_then = stays_with history faults script (HasCounted opened_disk opened_faults) (counted_on opened_disk opened_faults) (counted_asked script opened_disk opened_faults) [] r.moves world mid r.script_is r.goes (counted_first world opened_disk opened_faults r.opened.running)
 
-  counted_last : HasCounted first count ended last counts_last
-  counted_last = stays_over (HasCounted first count) (counted_on first count) 0 r.turns (as_finished mid) ended then last counts_then counts_last r.ends (record { grows = counted_then.grows; reads = counted_then.reads; changes = counted_then.changes; unchanged = counted_then.unchanged; replied = counted_then.replied })
+  counted_last : HasCounted opened_disk opened_faults ended left_disk left_faults
+  counted_last = stays_over (HasCounted opened_disk opened_faults) (counted_on opened_disk opened_faults) 0 r.turns (as_finished mid) ended asked_disk left_disk asked_faults left_faults r.ends (record { grows = counted_then.grows; reads = counted_then.reads; changes = counted_then.changes; unchanged = counted_then.unchanged; replied = counted_then.replied })
 
   since_run : (start : Lists) → LogsShowLists world.store.map (indexes_of world.store.boxes) start → MayRead script start old
-      → RunSince start script (beginning world.store.map r.opened.store.entries) (before_opening (seen_in world.store first count) old) ended first last counts_last
+      → RunSince start script (beginning world.store.map r.opened.store.entries) (before_opening (seen_in world.store opened_disk opened_faults) old) ended opened_disk left_disk left_faults
   since_run start shows may =
       let run : Run = beginning world.store.map r.opened.store.entries in
-      let from : Seen = before_opening (seen_in world.store first count) old in
-      let finds : Finds history faults start script from run first = λ some. elim (may some) [ inl settled ↦ inl settled | inr one ↦ inr (one.0, λ none. carried_safe start old first r.opened.carried one.1) ] in
+      let from : Seen = before_opening (seen_in world.store opened_disk opened_faults) old in
+      let finds : Finds history faults start script from run opened_disk = λ some. elim (may some) [ inl settled ↦ inl settled | inr one ↦ inr (one.0, λ none. carried_safe start old opened_disk r.opened.carried one.1) ] in
       let w = served_with history faults start script from [] r.moves world mid run [] no_broken r.script_is r.goes finds not_busy (r.begins start shows) in
-      let e = served_since 0 r.turns (as_finished mid) ended then last counts_then counts_last r.ends start script (and_events run w.added) w.more w.broke from (world_finished start script (and_events run w.added) w.more w.broke from then counts_then mid w.is) in
+      let e = served_since 0 r.turns (as_finished mid) ended asked_disk left_disk asked_faults left_faults r.ends start script (and_events run w.added) w.more w.broke from (world_finished start script (and_events run w.added) w.more w.broke from asked_disk asked_faults mid w.is) in
       let grown = counted_then.grows in
       record {
         added = w.added ++ e.added;
         more = w.more ++ e.more;
         broke = e.broke;
-        is = subst (λ (es : List RunEvent). IsWorldOf start script (record run { events = es }) (w.more ++ e.more) e.broke from last counts_last ended) (append_assoc run.events w.added e.added) e.is;
+        is = subst (λ (es : List RunEvent). IsWorldOf start script (record run { events = es }) (w.more ++ e.more) e.broke from left_disk left_faults ended) (append_assoc run.events w.added e.added) e.is;
         later =
-            All-append (λ (event : RunEvent). told_calls first ≤ event.moment) w.added e.added w.later
-            (All-weaker (λ (event : RunEvent). told_calls then ≤ event.moment) (λ (event : RunEvent). told_calls first ≤ event.moment) (λ event at. omega (arith, at, grown)) e.added e.later);
+            All-append (λ (event : RunEvent). told_calls opened_disk ≤ event.moment) w.added e.added w.later
+            (All-weaker (λ (event : RunEvent). told_calls asked_disk ≤ event.moment) (λ (event : RunEvent). told_calls opened_disk ≤ event.moment) (λ event at. omega (arith, at, grown)) e.added e.later);
         refused = λ all.
             let early = w.refused (no_tasks MayBeRefused) (left_all IsRefusedAtOnce w.added e.added all) in
-            idle-then first then last early.0 (e.refused early.1 (right_all IsRefusedAtOnce w.added e.added all));
+            idle-then opened_disk asked_disk left_disk early.0 (e.refused early.1 (right_all IsRefusedAtOnce w.added e.added all));
       }
 
   -- in the store that was opened no file is doomed
   none_doomed_first : HasDoomedNone world
   none_doomed_first = record { tasks = no_tasks DoomsNone; files = λ runs file. none_doomed world.store old r.opened.files file }
 
-  unwritten_last : has_delivery script ≡ false → has_purge script ≡ false → HasWrittenNone first ended last counts_last
+  unwritten_last : has_delivery script ≡ false → has_purge script ≡ false → HasWrittenNone opened_disk ended left_disk left_faults
   unwritten_last none none_purges =
       let w =
-      stays_with history faults script (HasWrittenNone first) (unwritten_on first)
-      (unwritten_asked script first (λ place lane asked t there b. (unwritten_first script place lane asked t none none_purges there b, dooms_first asked t (unpurged script place lane asked none_purges there) b))) [] r.moves world mid r.script_is r.goes
-      (record { tasks = no_tasks WritesNoMail; undoomed = none_doomed_first; synced = λ runs. syncs_first first; kept = λ m. mail_still m first }) in
-      stays_over (HasWrittenNone first) (unwritten_on first) 0 r.turns (as_finished mid) ended then last counts_then counts_last r.ends (record { tasks = w.tasks; undoomed = record { tasks = w.undoomed.tasks; files = w.undoomed.files }; synced = w.synced; kept = w.kept })
+      stays_with history faults script (HasWrittenNone opened_disk) (unwritten_on opened_disk)
+      (unwritten_asked script opened_disk (λ place lane asked t there b. (unwritten_first script place lane asked t none none_purges there b, dooms_first asked t (unpurged script place lane asked none_purges there) b))) [] r.moves world mid r.script_is r.goes
+      (record { tasks = no_tasks WritesNoMail; undoomed = none_doomed_first; synced = λ runs. syncs_first opened_disk; kept = λ m. mail_still m opened_disk }) in
+      stays_over (HasWrittenNone opened_disk) (unwritten_on opened_disk) 0 r.turns (as_finished mid) ended asked_disk left_disk asked_faults left_faults r.ends (record { tasks = w.tasks; undoomed = record { tasks = w.undoomed.tasks; files = w.undoomed.files }; synced = w.synced; kept = w.kept })
 
-  read_last : has_change script ≡ false → HasOnlyRead first ended last counts_last
+  read_last : has_change script ≡ false → HasOnlyRead opened_disk ended left_disk left_faults
   read_last none =
       let w =
-      stays_with history faults script (HasOnlyRead first) (reads_on first)
-      (reads_asked script first (λ place lane asked t there b. (reads_first script place lane asked t none there b, dooms_first asked t (reads_unpurged asked (changes_none script place lane asked none there)) b))) [] r.moves world mid r.script_is r.goes
-      (record { tasks = no_tasks OnlyReads; undoomed = none_doomed_first; idle = idle-begins first; running = r.opened.running }) in
-      stays_over (HasOnlyRead first) (reads_on first) 0 r.turns (as_finished mid) ended then last counts_then counts_last r.ends (record { tasks = w.tasks; undoomed = record { tasks = w.undoomed.tasks; files = w.undoomed.files }; idle = w.idle; running = w.running })
+      stays_with history faults script (HasOnlyRead opened_disk) (reads_on opened_disk)
+      (reads_asked script opened_disk (λ place lane asked t there b. (reads_first script place lane asked t none there b, dooms_first asked t (reads_unpurged asked (changes_none script place lane asked none there)) b))) [] r.moves world mid r.script_is r.goes
+      (record { tasks = no_tasks OnlyReads; undoomed = none_doomed_first; idle = idle-begins opened_disk; running = r.opened.running }) in
+      stays_over (HasOnlyRead opened_disk) (reads_on opened_disk) 0 r.turns (as_finished mid) ended asked_disk left_disk asked_faults left_faults r.ends (record { tasks = w.tasks; undoomed = record { tasks = w.undoomed.tasks; files = w.undoomed.files }; idle = w.idle; running = w.running })
 
-  unread_last : has_mail_read script ≡ false → HasReadNoOctets count ended last counts_last
+  unread_last : has_mail_read script ≡ false → HasReadNoOctets opened_faults ended left_disk left_faults
   unread_last none =
       let w =
-      stays_with history faults script (HasReadNoOctets count) (unread_on count) (unread_asked script count (λ place lane asked t there b. unread_first script place lane asked t none there b)) [] r.moves world mid r.script_is r.goes
+      stays_with history faults script (HasReadNoOctets opened_faults) (unread_on opened_faults) (unread_asked script opened_faults (λ place lane asked t there b. unread_first script place lane asked t none there b)) [] r.moves world mid r.script_is r.goes
       (record { tasks = no_tasks ReadsNoOctets; unread = refl }) in
-      stays_over (HasReadNoOctets count) (unread_on count) 0 r.turns (as_finished mid) ended then last counts_then counts_last r.ends (record { tasks = w.tasks; unread = w.unread })
+      stays_over (HasReadNoOctets opened_faults) (unread_on opened_faults) 0 r.turns (as_finished mid) ended asked_disk left_disk asked_faults left_faults r.ends (record { tasks = w.tasks; unread = w.unread })
 
-  calm_last : has_fetch script ≡ false → HasReadAsTold count ended last counts_last
+  calm_last : has_fetch script ≡ false → HasReadAsTold opened_faults ended left_disk left_faults
   calm_last none =
       let w =
-      stays_with history faults script (HasReadAsTold count) (calm_on count) (calm_asked script count (λ place lane asked t there b. answers_first script place lane asked t none there b)) [] r.moves world mid r.script_is r.goes
+      stays_with history faults script (HasReadAsTold opened_faults) (calm_on opened_faults) (calm_asked script opened_faults (λ place lane asked t there b. answers_first script place lane asked t none there b)) [] r.moves world mid r.script_is r.goes
       (record { tasks = no_tasks AnswersReads; calm = λ unread. refl }) in
-      stays_over (HasReadAsTold count) (calm_on count) 0 r.turns (as_finished mid) ended then last counts_then counts_last r.ends (record { tasks = w.tasks; calm = w.calm })
+      stays_over (HasReadAsTold opened_faults) (calm_on opened_faults) 0 r.turns (as_finished mid) ended asked_disk left_disk asked_faults left_faults r.ends (record { tasks = w.tasks; calm = w.calm })
 
-  sealed_last : (start : Lists) → LogsShowLists world.store.map (indexes_of world.store.boxes) start → MayRead script start old → HasKeptSealed start script world.store.map first ended last counts_last
+  sealed_last : (start : Lists) → LogsShowLists world.store.map (indexes_of world.store.boxes) start → MayRead script start old → HasKeptSealed start script world.store.map opened_disk ended left_disk left_faults
   sealed_last start shows may =
       let run : Run = beginning world.store.map r.opened.store.entries in
-      let from : Seen = before_opening (seen_in world.store first count) old in
-      let finds : Finds history faults start script from run first = λ some. elim (may some) [ inl settled ↦ inl settled | inr one ↦ inr (one.0, λ none. carried_safe start old first r.opened.carried one.1) ] in
+      let from : Seen = before_opening (seen_in world.store opened_disk opened_faults) old in
+      let finds : Finds history faults start script from run opened_disk = λ some. elim (may some) [ inl settled ↦ inl settled | inr one ↦ inr (one.0, λ none. carried_safe start old opened_disk r.opened.carried one.1) ] in
       let w = served_with history faults start script from [] r.moves world mid run [] no_broken r.script_is r.goes finds not_busy (r.begins start shows) in
       let come : map_of run ≡ world.store.map = (r.begins start shows).going.serving.serves.come.come.map_is in
-      let kept = w.sealed world.store.map first (λ number is. subst (λ (n : MapMeaning). is_sealed n number ≡ true) (sym come) is) (kept_begins (sealed_only world.store.map) first) in
-      stays_over (HasKeptSealed start script world.store.map first) (sealed_on start script world.store.map first) 0 r.turns (as_finished mid) ended then last counts_then counts_last r.ends
+      let kept = w.sealed world.store.map opened_disk (λ number is. subst (λ (n : MapMeaning). is_sealed n number ≡ true) (sym come) is) (kept_begins (sealed_only world.store.map) opened_disk) in
+      stays_over (HasKeptSealed start script world.store.map opened_disk) (sealed_on start script world.store.map opened_disk) 0 r.turns (as_finished mid) ended asked_disk left_disk asked_faults left_faults r.ends
       (record {
         run = and_events run w.added;
         steps = w.more;
         failed = w.broke;
         began = from;
-        is = world_finished start script (and_events run w.added) w.more w.broke from then counts_then mid w.is;
+        is = world_finished start script (and_events run w.added) w.more w.broke from asked_disk asked_faults mid w.is;
         sealed = kept.0;
         kept = kept.1;
       })
 
   -- So much is known of it at its end.
-  pub left_of_session : RunLeft script old first last count counts_last world.store ended
+  pub left_of_session : RunLeft script old opened_disk left_disk opened_faults left_faults world.store ended
   left_of_session = record {
     opened = r.opened;
     show = r.show;
@@ -190,7 +190,7 @@ module _ {D : Type 0} (history : D → Option History) (faults : D → Faults) (
     unread = unread_last;
     calm = calm_last;
     sealed = λ start shows may. sealed_last start shows may;
-    made_is = subst (λ (n : ℕ). IsMoment first n) (sym r.same_began) r.made_is;
+    made_is = subst (λ (n : ℕ). IsMoment opened_disk n) (sym r.same_began) r.made_is;
     many = r.many;
     replied = r.replied;
     idle = r.idle;
