@@ -12,7 +12,7 @@ import re
 CALLS = "openat,mkdir,pwrite64,ftruncate,fsync,unlink,rename,write"
 OPTIONS = ["-f", "-y", "-xx", "-s", "4000000", "-e", f"trace={CALLS}"]
 CALL = re.compile(r"^\d+ +(\w+)\((.*)\) += (-?\d+)")
-FOLDER = None
+FOLDER, LOCK = None, "mdbox.lock"
 
 
 class File:
@@ -56,6 +56,8 @@ class Folder:
             here = path[len(self.top) :]
             self.names.update({f"{here}/{name}": FOLDER for name in folders})
             for name in files:
+                if name == LOCK:
+                    continue
                 with open(f"{path}/{name}", "rb") as octets:
                     self.names[f"{here}/{name}"] = File(octets.read())
         self.kept = dict(self.names)
@@ -78,7 +80,7 @@ class Folder:
             return words.startswith("1<")
         opened = re.match(r"\d+<([^>]*)>", words)
         path = self.path(opened[1] if opened and name != "openat" else re.findall(r'"([^"]*)"', words)[0])
-        if path is None or path == "/mdbox.lock":
+        if path is None or path == f"/{LOCK}":
             return False
         if name == "openat" and ("O_CREAT" not in words or path in self.names):
             return False
@@ -97,7 +99,12 @@ class Folder:
             raise ValueError(line)
         return True
 
+    def octets(self):
+        """What each file reads as, and which folders there are."""
+        return {path: one.now if isinstance(one, File) else FOLDER for path, one in self.names.items()}
+
     def sync(self, path):
+        """Syncs a file, or the names in a folder."""
         if isinstance(self.names.get(path), File):
             self.names[path].sync()
             return
