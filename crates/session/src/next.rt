@@ -1,5 +1,5 @@
 // The next request of a session.
-ghost use Rattle.std.specs.Prelude.{◌≡◌, ◌≢◌, ◌≤◌, ◌<◌, ◌+◌, ◌*◌, IfErr, IfOk, OnOk, length};
+ghost use Rattle.std.specs.Prelude.{◌≡◌, ◌≢◌, ◌≤◌, ◌<◌, ◌+◌, IfErr, IfOk, OnOk, length};
 ghost use Rattle.mdbox_base.specs.Streams.{Rose};
 ghost use Rattle.request_text.specs.declared.outcome.InputRefusal.TheVariants as refusal;
 ghost use Rattle.request_text.specs.declared.outcome.Outcome.TheVariants as outcome;

@@ -1,12 +1,12 @@
 // One request of a session.
-ghost use Rattle.std.specs.Prelude.{◌≡◌, ◌≢◌, ◌≤◌, ◌<◌, IfErr, IfOk, OnErr, OnOk, length};
+ghost use Rattle.std.specs.Prelude.{◌≡◌, ◌≢◌, ◌≤◌, ◌<◌, ◌↔◌, IfErr, IfOk, IsTrue, OnOk, length};
 ghost use Rattle.mdbox_base.specs.Streams.{Rose};
 ghost use Rattle.mdbox_base.specs.declared.replies.Refusal.TheVariants as refused;
 ghost use Rattle.mdbox_base.specs.declared.replies.Reply.{Reply as ReplyValue};
 ghost use Rattle.mdbox_base.specs.declared.replies.Reply.TheVariants as reply;
 ghost use Rattle.lanes.specs.Worlds.{HasItsMessage};
 ghost use Rattle.request_text.specs.declared.outcome.Outcome.TheVariants as outcome;
-ghost use Rattle.script_text.specs.Script.{FitsLanes};
+ghost use Rattle.script_text.specs.Script.{FitsLanes, FitsScript};
 ghost use Rattle.session.specs.OneRequest.{EndsWithin, IsAnsweredAndTold, IsWaiting};
 
 use attach_detach::{Prepared, prepare};

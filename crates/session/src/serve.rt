@@ -1,5 +1,6 @@
 // A session, from the opening of the store to its end.
-ghost use Rattle.std.specs.Prelude.{◌≡◌, ◌≢◌, ◌≤◌, ◌<◌, ◌+◌, IfErr, IfOk, length};
+ghost use Rattle.std.specs.Prelude.{◌≡◌, ◌≢◌, ◌≤◌, [], IfErr, IfOk};
+ghost use Rattle.lanes.specs.Worlds.{ArePartsOf};
 ghost use Rattle.mdbox_base.specs.Streams.{Rose};
 ghost use Rattle.request_text.specs.declared.outcome.Outcome.TheVariants as outcome;
 ghost use Rattle.script_run.specs.Opening.{IsUnopened};
