@@ -13,7 +13,7 @@ use Rattle.mdbox_base.specs.declared.requests.Request.{Request}
 use Rattle.mdbox_base.specs.declared.requests.Request.TheVariants as request
 use Rattle.script_text.specs.Script.{BeginsNoRequest, FitsLanes, FitsScript, message_text, name_word, request_text, request_words, spaced}
 use Rattle.script_text.specs.Taking.{HasNoLf, IsLineTaken, OfSource, TakesUpTo, request_line}
-use Rattle.script_text.proofs.CutLemmas.{cut_number, no_cut}
+use Rattle.script_text.proofs.CutLemmas.{no_cut}
 use Rattle.script_text.proofs.RequestLemmas.{differ, lane_first, laid_out, name_then, number_then, parts_of, short_name, small_uid}
 
 -- ---- no line is long
@@ -89,7 +89,7 @@ no_message (request.Deliver name time message) none = absurd (none (name_word na
 no_message other none = refl
 
 -- the words of a request's line
-words_of_line : (lanes : ℕ) (asked : ℕ × Request) (text line rest : List ℕ) → lanes < 2 ^ 32 → FitsLanes lanes asked → text ≡ line ++ 10 ∷ rest → IsTrue (list_all (is_other_than 10) line) → text ≡ request_line asked ++ 10 ∷ [] → line ≡ decimal_text asked.0 ++ 32 ∷ spaced (request_words asked.1)
+pub words_of_line : (lanes : ℕ) (asked : ℕ × Request) (text line rest : List ℕ) → lanes < 2 ^ 32 → FitsLanes lanes asked → text ≡ line ++ 10 ∷ rest → IsTrue (list_all (is_other_than 10) line) → text ≡ request_line asked ++ 10 ∷ [] → line ≡ decimal_text asked.0 ++ 32 ∷ spaced (request_words asked.1)
 words_of_line lanes asked text line rest small fits cut clear is =
     let whole : text ++ message_text asked.1 ≡ request_text asked ++ [] =
     ap (λ (t : List ℕ). t ++ message_text asked.1) is ∙ append_assoc (request_line asked) (10 ∷ []) (message_text asked.1) ∙ sym (append-nil (request_text asked)) in
@@ -211,16 +211,16 @@ just_taken lanes count line text old mid new asked after small first is takes co
 
 -- ---- how many octets follow
 
--- the line of a request is cut off as it is
-pub words_behind : (lanes : ℕ) (asked : ℕ × Request) (text line rest lane words : List ℕ) → lanes < 2 ^ 32 → FitsLanes lanes asked → text ≡ line ++ 10 ∷ rest → IsTrue (list_all (is_other_than 10) line) → line ≡ lane ++ 32 ∷ words → IsTrue (list_all (is_other_than 32) lane) → text ≡ request_line asked ++ 10 ∷ []
+-- the words of a request's line follow its lane
+pub words_behind : (lanes lane : ℕ) (asked : ℕ × Request) (text line rest words : List ℕ) → lanes < 2 ^ 32 → FitsLanes lanes asked → text ≡ line ++ 10 ∷ rest → IsTrue (list_all (is_other_than 10) line) → lane ≤ lanes → line ≡ decimal_text lane ++ 32 ∷ words → text ≡ request_line asked ++ 10 ∷ []
     → words ≡ spaced (request_words asked.1)
-words_behind lanes asked text line rest lane words small fits cut clear split lane_clear is =
+words_behind lanes lane asked text line rest words small fits cut clear high split is =
     let last = fits.last in
-    (cut_number 32 asked.0 lane words (spaced (request_words asked.1)) refl (omega (arith, small, last)) lane_clear (sym split ∙ words_of_line lanes asked text line rest small fits cut clear is)).1
+    (number_then lane asked.0 words (spaced (request_words asked.1)) (omega (arith, small, high)) (omega (arith, small, last)) (sym split ∙ words_of_line lanes asked text line rest small fits cut clear is)).1
 
--- a line of a request has an LF and a space
-pub no_line : (lanes : ℕ) (asked : ℕ × Request) (text line rest : List ℕ) → lanes < 2 ^ 32 → FitsLanes lanes asked → text ≡ line ++ 10 ∷ rest → IsTrue (list_all (is_other_than 10) line) → ((before behind : List ℕ) → line ≢ before ++ 32 ∷ behind) → text ≡ request_line asked ++ 10 ∷ [] → ⊥
-no_line lanes asked text line rest small fits cut clear none is = none (decimal_text asked.0) (spaced (request_words asked.1)) (words_of_line lanes asked text line rest small fits cut clear is)
+-- a line of a request begins with its lane
+pub no_line : (lanes : ℕ) (asked : ℕ × Request) (text line rest : List ℕ) → lanes < 2 ^ 32 → FitsLanes lanes asked → text ≡ line ++ 10 ∷ rest → IsTrue (list_all (is_other_than 10) line) → ((lane : ℕ) (words : List ℕ) → 1 ≤ lane → lane ≤ lanes → line ≢ decimal_text lane ++ 32 ∷ words) → text ≡ request_line asked ++ 10 ∷ [] → ⊥
+no_line lanes asked text line rest small fits cut clear none is = none asked.0 (spaced (request_words asked.1)) fits.first fits.last (words_of_line lanes asked text line rest small fits cut clear is)
 
 -- words that begin so are a delivery's, or none
 pub no_delivery : (arguments : List ℕ) → ((name : List ℕ) (time size : ℕ) → IsName name → time < 2 ^ 64 → size < 2 ^ 64 → arguments ≢ spaced (name_word name ∷ decimal_text time ∷ decimal_text size ∷ [])) → (asked : Request) → FitsScript asked → codes "deliver " ++ arguments ≡ spaced (request_words asked) → ⊥

@@ -9,7 +9,7 @@ use crate::arguments::name_time_size;
 use crate::cut::cut;
 use crate::error::{Flaw, TakeError};
 use crate::flaw::{line_after, need_of};
-use crate::request::{MOST_OCTETS, request_at};
+use crate::request::{MOST_OCTETS, lane_and_words, request_at};
 use mdbox_base::{NoMemory, Octets, Request, Source};
 use std::alloc::Global;
 
@@ -89,7 +89,7 @@ fn take_line<I: Source>(source: &mut I, text: &mut Octets) -> Result<(), TakeErr
     Ok(())
 }
 
-/// How many octets follow a line: those of a delivery's message and its LF. None follow what has no LF.
+/// How many octets follow a line: those of a delivery's message and its LF. None follow what has no LF, or no lane.
 fn octets_after(alloc: Global, text: &[u8], lanes: u32) -> Result<u64, NoMemory>
     ensures none { IfOk result (λ count. HasNoLf text.now → count ≡ 0) }
     ensures short { IfOk result (λ count. count ≤ 67108865) }
@@ -98,7 +98,7 @@ fn octets_after(alloc: Global, text: &[u8], lanes: u32) -> Result<u64, NoMemory>
     let Some((line, _)) = cut(text, b'\n') else {
         return Ok(0);
     };
-    let Some((_, words)) = cut(line, b' ') else {
+    let Some((_, words)) = lane_and_words(line, lanes) else {
         return Ok(0);
     };
     let Some(arguments) = words.strip_prefix(b"deliver ") else {
