@@ -41,10 +41,10 @@ use Rattle.lanes.proofs.WaitingLemmas.{equal_test, sum_set, times_cons, times_in
 
 -- ---- a lane
 
-behind_idle : (q : Queued) (row : LaneRow) → row.current ≡ None → row_asked q row ≡ record { current = Some q; waiting = [] }
+pub behind_idle : (q : Queued) (row : LaneRow) → row.current ≡ None → row_asked q row ≡ record { current = Some q; waiting = [] }
 behind_idle q row none = ap (λ (o : Option Queued). option_map_or (λ (first : Queued). record { current = Some first; waiting = row.waiting ++ q ∷ [] }) o (record { current = Some q; waiting = [] })) none
 
-behind_busy : (q : Queued) (row : LaneRow) (first : Queued) → row.current ≡ Some first → row_asked q row ≡ record { current = Some first; waiting = row.waiting ++ q ∷ [] }
+pub behind_busy : (q : Queued) (row : LaneRow) (first : Queued) → row.current ≡ Some first → row_asked q row ≡ record { current = Some first; waiting = row.waiting ++ q ∷ [] }
 behind_busy q row first was = ap (λ (o : Option Queued). option_map_or (λ (first : Queued). record { current = Some first; waiting = row.waiting ++ q ∷ [] }) o (record { current = Some q; waiting = [] })) was
 
 map_push : (xs : List Queued) (q : Queued) → map (λ (x : Queued). x.place) (xs ++ q ∷ []) ≡ map (λ (x : Queued). x.place) xs ++ q.place ∷ []

@@ -105,7 +105,7 @@ outcome_by P false true d w x y z = x
 outcome_by P false false true w x y z = y
 outcome_by P false false false w x y z = z
 
-by_outcome : (P : Outcome → Type 0) (replies : List (Option Reply)) → (list_any is_disk_no replies ≡ true → P outcome.DiskFault) → P outcome.NoMemory → P outcome.No → P outcome.Done → P (replies_outcome replies)
+pub by_outcome : (P : Outcome → Type 0) (replies : List (Option Reply)) → (list_any is_disk_no replies ≡ true → P outcome.DiskFault) → P outcome.NoMemory → P outcome.No → P outcome.Done → P (replies_outcome replies)
 by_outcome P replies w x y z = outcome_by P (list_any is_disk_no replies) (list_any is_lack replies) (list_any is_no replies) w x y z
 
 abbrev ShowsAs : List ℕ → List (Option Reply) → Option (List ℕ) → Option (List ℕ) → Outcome → Type 0

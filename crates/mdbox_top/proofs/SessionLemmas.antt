@@ -1,12 +1,10 @@
 -- How a session ends, as a run of the program.
-use Rattle.std.specs.Prelude.{◌≡◌, ◌≤◌, ◌⊎◌, ℕ, List, [], ◌∷◌, ◌++◌, map, Option, Some, None}
+use Rattle.std.specs.Prelude.{◌≡◌, ℕ, List, [], ◌∷◌, map, Option, Some, None}
 use Rattle.std.proofs.Common.{refl, sym, ◌∙◌, ap, subst, inl, inr, append-nil, arith}
 use Rattle.disk_model.specs.Disk.{Faults, History}
 use Rattle.disk_model.specs.FaultCounts.{AnyFaultCounted, NoFault}
 use Rattle.mdbox_base.specs.Streams.{Appended}
 use Rattle.mdbox_base.specs.declared.replies.Reply.{Reply}
-use Rattle.model_lists.specs.Lists.{Lists}
-use Rattle.model_store.specs.Settled.{IsSettledFor}
 use Rattle.journal.specs.Journal.{Requests}
 use Rattle.piece_writer.specs.Pieces.{WritesPrefix}
 use Rattle.request_text.specs.Outcomes.{replies_outcome, status_of}
@@ -18,10 +16,9 @@ use Rattle.request_text.specs.declared.outcome.StoreRefusal.{StoreRefusal}
 use Rattle.script_run.specs.Faults.{FaultsByReplies, HasReadFault}
 use Rattle.script_run.specs.Opening.{IsUnopened}
 use Rattle.script_run.specs.Script.{HasStopped}
-use Rattle.session.specs.Session.{IsSessionDone, ShowsLines, StopsAt}
+use Rattle.session.specs.Session.{IsSessionDone, StopsAt}
 use Rattle.store_open.specs.declared.error.OpenError.{OpenError}
 use Rattle.store_open.specs.declared.error.OpenError.TheVariants as error
-use Rattle.mdbox_top.specs.BatchRun.{OpenedOutcome}
 use Rattle.mdbox_top.specs.InputRun.{IsOneOf, OfInput}
 use Rattle.mdbox_top.specs.OpeningOutcome.{opening_outcome}
 use Rattle.mdbox_top.specs.SessionRun.{IsServeDone, MayEndFailed, ReadsFirst, ServeMoments, ServeOutcome, ServeRests, ServeStatus, TellsServeFaults}

@@ -1,11 +1,10 @@
 -- What is missing of what was taken by its line is missing of the source too.
-use Rattle.std.specs.Prelude.{◌≡◌, ◌<◌, ◌≤◌, ◌+◌, ◌^◌, ℕ, List, [], ◌∷◌, ◌++◌, length, IsTrue, Option, Some, None, ◌⊎◌, refl}
-use Rattle.std.specs.List.{list_all}
+use Rattle.std.specs.Prelude.{◌≡◌, ◌<◌, ◌≤◌, ◌+◌, ◌^◌, ℕ, List, [], ◌∷◌, ◌++◌, length, Option, Some, ◌⊎◌, refl}
 use Rattle.std.proofs.Common.{sym, ◌∙◌, ap, subst, arith, append_assoc, append-nil, inl, inr}
 use Rattle.std.proofs.lemmas.Bool.{cases_lt}
 use Rattle.std.proofs.lemmas.List.{length-append}
 use Rattle.mdbox_base.specs.Numbers.{decimal_text}
-use Rattle.mdbox_base.specs.Streams.{IsAtEnd, Taken}
+use Rattle.mdbox_base.specs.Streams.{Taken}
 use Rattle.mdbox_base.specs.Words.{is_other_than}
 use Rattle.mdbox_base.specs.declared.requests.Request.{Request}
 use Rattle.mdbox_base.specs.declared.requests.Request.TheVariants as request
@@ -14,9 +13,9 @@ use Rattle.script_text.specs.Script.{BeginsNoRequest, FitsLanes, request_words, 
 use Rattle.script_text.specs.Taking.{HasNoLf, IsLineTaken, TakesUpTo, request_line}
 use Rattle.script_text.specs.declared.flaw.Need.{Need}
 use Rattle.script_text.specs.declared.flaw.Need.TheVariants as need
-use Rattle.script_text.proofs.CutLemmas.{all_both, both, first, no_cut, number_clear, second}
+use Rattle.script_text.proofs.CutLemmas.{all_both, both, first, no_cut, number_clear}
 use Rattle.script_text.proofs.RequestLemmas.{lane_first, words_clear}
-use Rattle.script_text.proofs.TakeLemmas.{at_end, front_in, line_short, none_left}
+use Rattle.script_text.proofs.TakeLemmas.{front_in, line_short, none_left}
 
 -- ---- the fronts of a line
 

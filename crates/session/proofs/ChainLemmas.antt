@@ -1,6 +1,5 @@
 -- What events and requests that are asked keep, one after another.
 use Rattle.std.specs.Prelude.{◌≢◌, ◌⊎◌, ◌||◌, Bool, All, length, slice_get, slice_set}
-use Rattle.std.specs.Option.{option_map_or}
 use Rattle.std.proofs.Common.{◌≡◌, ◌≤◌, ◌-◌, ◌+◌, ◌++◌, ℕ, true, false, List, [], ◌∷◌, Option, Some, None, refl, sym, ◌∙◌, ap, subst, arith, inl, inr}
 use Rattle.std.proofs.lemmas.List.{append-nil, append_assoc, length-append}
 use Rattle.std.proofs.lemmas.List.Elements.{All-append, All-cons, All-head, All-nil, All-tail, All-weaker}
@@ -27,13 +26,12 @@ use Rattle.mail_fetch.specs.Clause.{ReadsSafe}
 use Rattle.lane_tasks.specs.Clause.{AnswersReads, DoomsNone, DoomsNothing, OnlyReads, ReadsNoOctets}
 use Rattle.lane_tasks.specs.Tasks.{BeginsTask}
 use Rattle.lane_tasks.specs.declared.task.Task.{Task}
-use Rattle.lanes.specs.Asked.{GoesWith, HasNoIdleTurn, IsRequestAsked, asked_in, row_asked, world_asked}
+use Rattle.lanes.specs.Asked.{GoesWith, HasNoIdleTurn, IsRequestAsked, asked_in, row_asked}
 use Rattle.lanes.specs.Going.{FindsMessages}
 use Rattle.lanes.specs.Rows.{LaneRow}
 use Rattle.lanes.specs.Worlds.{IsWorldOf, WorldValue, and_events, queued_in, turn_of}
 use Rattle.lanes.specs.declared.lane.Queued.{Queued}
 use Rattle.lanes.proofs.AskLemmas.{asked_grows, behind_busy, behind_idle}
-use Rattle.lanes.proofs.GrowLemmas.{old_reply}
 use Rattle.script_run.specs.Script.{IsRefusedAtOnce, has_fetch, is_fetch}
 use Rattle.script_run.proofs.ChainLemmas.{AllTasks, HasCounted, HasDoomedNone, HasOnlyRead, HasReadAsTold, HasReadNoOctets, HasWrittenNone, StaysOver, WritesNoMail, in_turn, tasks_after}
 use Rattle.script_run.proofs.DoneLemmas.{fetches}

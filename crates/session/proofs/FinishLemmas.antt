@@ -10,7 +10,7 @@ use Rattle.mdbox_base.specs.declared.requests.Request.{Request}
 use Rattle.mdbox_base.specs.declared.requests.Request.TheVariants as request
 use Rattle.mdbox_base.specs.declared.script.JournalEntry.{JournalEntry}
 use Rattle.model_lists.specs.Lists.{Lists}
-use Rattle.journal.specs.Journal.{Requests, no_broken}
+use Rattle.journal.specs.Journal.{no_broken}
 use Rattle.serving.specs.Lanes.{LaneValue}
 use Rattle.serving.specs.Serving.{AreIdle, unreplied}
 use Rattle.store_core.proofs.InstanceFirmLemmas.{named_all_firm}

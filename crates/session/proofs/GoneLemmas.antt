@@ -1,9 +1,8 @@
 -- How a session ends: what was read, done and told by then.
-use Rattle.std.specs.Prelude.{Bool, if◌then◌else◌, ◌≢◌, ◌⊎◌, ◌≤◌, ◌<◌, ◌+◌, suc, All, drop, length, map, nat_eq, slice_get, take, IfSome}
+use Rattle.std.specs.Prelude.{Bool, if◌then◌else◌, ◌⊎◌, ◌≤◌, ◌<◌, ◌+◌, suc, All, drop, length, map, nat_eq, take, IfSome}
 use Rattle.std.specs.List.{AllByRecursion, count_by, list_any}
-use Rattle.std.specs.Option.{option_map}
 use Rattle.std.proofs.Common.{◌≡◌, ◌++◌, ℕ, zero, true, false, List, [], ◌∷◌, Option, Some, None, refl, sym, ◌∙◌, ap, subst, arith, inl, inr}
-use Rattle.std.proofs.lemmas.List.{append-nil, append_assoc, length-append}
+use Rattle.std.proofs.lemmas.List.{append-nil, append_assoc}
 use Rattle.std.proofs.lemmas.List.Elements.{All-append}
 use Rattle.disk_model.specs.Disk.{Faults, History, IsMoment}
 use Rattle.mdbox_base.specs.Streams.{Appended, IsAtEnd, Taken}
@@ -40,11 +39,11 @@ use Rattle.script_run.proofs.DoneLemmas.{LanesEnd, RunLeft, at_given, done_run, 
 use Rattle.script_run.proofs.EndLemmas.{all_given}
 use Rattle.script_run.proofs.RunBeginsLemmas.{OpenedNow, before_opening, beginning}
 use Rattle.script_run.proofs.ShownLemmas.{LogsShow}
-use Rattle.session.specs.OneRequest.{EndsSession, EndsWithin, FindsNone, HaveReplies, IsAnswered, IsLast, IsUnderWay, IsWaiting, last_text}
+use Rattle.session.specs.OneRequest.{EndsSession, EndsWithin, FindsNone, HaveReplies, IsAnswered, IsUnderWay, last_text}
 use Rattle.session.specs.Rounds.{HasGone, HasServed}
 use Rattle.session.specs.Session.{EndsAtStop, HasLeft, IsSessionDone, ShowsLines, StopsAt, StopsAtEnd}
-use Rattle.session.proofs.LeftLemmas.{SessionRan, left_of_session}
-use Rattle.session.proofs.TellLemmas.{OneMore, ToldInOrder, appended_then, asked_more, fits_more, front_or_last, moves_of, none_left_over, one_more, reply_more, text_more, text_on}
+use Rattle.session.proofs.LeftLemmas.{left_of_session}
+use Rattle.session.proofs.TellLemmas.{OneMore, ToldInOrder, appended_then, asked_more, fits_more, moves_of, none_left_over, one_more, reply_more, text_more, text_on}
 
 -- ---- the end of the last request's events
 

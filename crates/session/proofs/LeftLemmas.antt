@@ -1,9 +1,9 @@
 -- What a session's requests, and the events that finish the last one, leave of the world that began with the opening.
-use Rattle.std.specs.Prelude.{◌≢◌, ◌⊎◌, ◌≤◌, All, length, slice_get}
-use Rattle.std.proofs.Common.{◌≡◌, ◌++◌, ℕ, true, false, List, [], ◌∷◌, Option, Some, None, refl, sym, ◌∙◌, ap, subst, arith, inl, inr}
-use Rattle.std.proofs.lemmas.List.{append-nil, append_assoc, length-append}
+use Rattle.std.specs.Prelude.{◌<◌, ◌≤◌, All, length}
+use Rattle.std.proofs.Common.{◌≡◌, ◌++◌, ℕ, true, false, List, [], ◌∷◌, Option, Some, None, refl, sym, ap, subst, arith, inl, inr}
+use Rattle.std.proofs.lemmas.List.{append_assoc}
 use Rattle.std.proofs.lemmas.List.Elements.{All-append, All-cons, All-head, All-nil, All-tail, All-weaker}
-use Rattle.disk_model.specs.Disk.{Faults, History, IsIdle, IsMoment, told_calls}
+use Rattle.disk_model.specs.Disk.{Faults, History, IsMoment, told_calls}
 use Rattle.disk_model.proofs.IdleLemmas.{idle-begins, idle-then}
 use Rattle.mdbox_base.specs.declared.replies.Reply.{Reply}
 use Rattle.mdbox_base.specs.declared.requests.Request.{Request}
@@ -20,7 +20,6 @@ use Rattle.task_steps.proofs.UnmovedLemmas.{mail_still}
 use Rattle.task_steps.specs.Step.{Seen}
 use Rattle.mail_fetch.specs.Task.{seen_in}
 use Rattle.lane_tasks.specs.Clause.{AnswersReads, DoomsNone, OnlyReads, ReadsNoOctets}
-use Rattle.lane_tasks.specs.Tasks.{BeginsTask}
 use Rattle.lane_tasks.specs.declared.task.Task.{Task}
 use Rattle.lanes.specs.Asked.{GoesWith, HasNoIdleTurn, asked_in}
 use Rattle.lanes.specs.Going.{AreFreshRows}
@@ -29,8 +28,7 @@ use Rattle.lanes.specs.Worlds.{GoesOnBy, IsWorldOf, WorldValue, and_events}
 use Rattle.lanes.proofs.TraceLemmas.{as_finished, world_finished}
 use Rattle.script_run.specs.Done.{MayRead}
 use Rattle.script_run.specs.Opening.{LogsShowLists}
-use Rattle.script_run.specs.Script.{IsRefusedAtOnce, has_change, has_delivery, has_fetch, has_mail_read, has_purge, is_purge}
-use Rattle.storage_files.specs.Files.{is_doomed_in}
+use Rattle.script_run.specs.Script.{IsRefusedAtOnce, has_change, has_delivery, has_fetch, has_mail_read, has_purge}
 use Rattle.script_run.proofs.ChainLemmas.{AllTasks, HasCounted, HasDoomedNone, HasOnlyRead, HasReadAsTold, HasReadNoOctets, HasWrittenNone, WritesNoMail, calm_on, counted_first, counted_on, reads_on, stays_over, syncs_first, unread_on, unwritten_on}
 use Rattle.script_run.proofs.DoneLemmas.{LanesEnd, RunLeft, RunSince}
 use Rattle.script_run.proofs.OpenedLemmas.{none_doomed}
@@ -38,7 +36,7 @@ use Rattle.script_run.proofs.RunBeginsLemmas.{OpenedNow, before_opening, beginni
 use Rattle.script_run.proofs.SealedLemmas.{HasKeptSealed, sealed_on, sealed_only}
 use Rattle.script_run.proofs.ShownLemmas.{LogsShow, carried_safe}
 use Rattle.script_run.proofs.SinceLemmas.{MayBeRefused, answers_first, changes_none, dooms_first, fresh_tasks, reads_first, reads_unpurged, served_since, unpurged, unread_first, unwritten_first}
-use Rattle.session.proofs.ChainLemmas.{Finds, StaysAsked, calm_asked, counted_asked, reads_asked, served_with, stays_with, unread_asked, unwritten_asked}
+use Rattle.session.proofs.ChainLemmas.{Finds, calm_asked, counted_asked, reads_asked, served_with, stays_with, unread_asked, unwritten_asked}
 
 -- What is known of a session's run: the opening, the world that began then, without a request, what was asked of it and its events, and
 -- the events that finished it.

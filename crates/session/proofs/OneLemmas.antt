@@ -1,8 +1,7 @@
 -- One request of a session, and one more.
-use Rattle.std.specs.Prelude.{◌≢◌, ◌≤◌, ◌<◌, ◌+◌, ◌*◌, All, Bool, if◌then◌else◌, length, take}
+use Rattle.std.specs.Prelude.{◌≢◌, ◌≤◌, ◌<◌, ◌+◌, All, Bool, if◌then◌else◌, length, take}
 use Rattle.std.specs.List.{list_any}
-use Rattle.std.specs.Option.{option_map}
-use Rattle.std.proofs.Common.{◌≡◌, ◌++◌, ℕ, true, false, List, [], ◌∷◌, Option, Some, None, refl, sym, ◌∙◌, ap, subst, arith, inl, inr}
+use Rattle.std.proofs.Common.{◌≡◌, ◌++◌, ℕ, true, false, List, [], ◌∷◌, Option, Some, None, refl, sym, ◌∙◌, ap, subst, arith, inl}
 use Rattle.std.proofs.lemmas.List.{append-nil, length-append}
 use Rattle.std.proofs.lemmas.List.Elements.{All-weaker}
 use Rattle.disk_model.specs.Disk.{Faults, History}
@@ -25,7 +24,6 @@ use Rattle.request_text.specs.Outcomes.{is_disk_no, is_lack, is_no, replies_outc
 use Rattle.request_text.specs.declared.outcome.InputRefusal.TheVariants as refusal
 use Rattle.request_text.specs.declared.outcome.Outcome.{Outcome}
 use Rattle.request_text.specs.declared.outcome.Outcome.TheVariants as outcome
-use Rattle.request_text.specs.declared.outcome.StoreRefusal.{StoreRefusal}
 use Rattle.script_text.specs.Script.{request_text, script_text}
 use Rattle.script_text.specs.Taking.{extent}
 use Rattle.script_text.specs.declared.take.Extent.{Extent}

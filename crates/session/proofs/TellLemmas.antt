@@ -1,11 +1,11 @@
 -- A request more of a session: its reply comes after the others, its entries are its own, and what is told grows by its text.
-use Rattle.std.specs.Prelude.{◌≢◌, ◌⊎◌, ◌≤◌, ◌<◌, ◌+◌, suc, All, cond, length, slice_get, get_or, nat_eq, take}
+use Rattle.std.specs.Prelude.{◌≢◌, ◌⊎◌, ◌<◌, ◌+◌, suc, All, cond, length, slice_get, nat_eq, take}
 use Rattle.std.specs.List.{AllByRecursion, count_by}
 use Rattle.std.specs.Option.{option_map}
-use Rattle.std.proofs.Common.{◌≡◌, ◌++◌, ℕ, zero, true, false, List, [], ◌∷◌, Option, Some, None, refl, sym, ◌∙◌, ap, subst, arith, inl, inr}
+use Rattle.std.proofs.Common.{◌≡◌, ◌++◌, ℕ, zero, List, [], ◌∷◌, Option, Some, None, refl, sym, ◌∙◌, ap, subst, arith, inl, inr}
 use Rattle.std.proofs.lemmas.List.{append-nil, append_assoc, length-append}
 use Rattle.std.proofs.lemmas.List.Sums.{sum_by-append}
-use Rattle.std.proofs.lemmas.List.Elements.{All-append, All-cons, All-head, All-nil, All-tail, All-weaker}
+use Rattle.std.proofs.lemmas.List.Elements.{All-append, All-weaker}
 use Rattle.disk_model.specs.Disk.{Faults, History}
 use Rattle.mdbox_base.specs.Streams.{Appended, Taken}
 use Rattle.mdbox_base.specs.declared.replies.Refusal.TheVariants as refused
@@ -15,9 +15,8 @@ use Rattle.mdbox_base.specs.declared.requests.Request.{Request}
 use Rattle.mdbox_base.specs.declared.script.JournalEntry.{JournalEntry}
 use Rattle.mdbox_base.proofs.StreamLemmas.{taken_more}
 use Rattle.journal.specs.Journal.{HasReply, Requests}
-use Rattle.piece_writer.specs.Pieces.{WritesPrefix}
 use Rattle.lanes.specs.Asked.{GoesWith, IsOnlyLeft, asked_in, events_of}
-use Rattle.lanes.specs.Worlds.{GoesInRounds, WorldValue}
+use Rattle.lanes.specs.Worlds.{WorldValue}
 use Rattle.lanes.proofs.WithLemmas.{follow, keep_with, own_entries}
 use Rattle.request_text.specs.BatchText.{answer_text, batch_text, request_steps}
 use Rattle.script_text.specs.Script.{FitsLanes, request_text, script_text}

@@ -1,5 +1,5 @@
 -- One request of a session.
-use Rattle.std.specs.Prelude.{◌≡◌, ◌≢◌, ◌≤◌, ◌<◌, ◌+◌, ◌++◌, ◌∷◌, ◌⊎◌, ℕ, List, [], All, length, map, Option, Some}
+use Rattle.std.specs.Prelude.{false, ◌≡◌, ◌≢◌, ◌<◌, ◌+◌, ◌∷◌, ◌⊎◌, ℕ, List, [], All, length, Option, Some}
 use Rattle.disk_model.specs.Disk.{Faults, History}
 use Rattle.mdbox_base.specs.Streams.{Appended, IsAtEnd, Taken}
 use Rattle.mdbox_base.specs.declared.replies.Refusal.TheVariants as refused

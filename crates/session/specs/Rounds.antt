@@ -1,5 +1,5 @@
 -- The requests of a session, one after another.
-use Rattle.std.specs.Prelude.{◌≡◌, ◌≢◌, ◌⊎◌, ◌++◌, ◌∷◌, ℕ, List, [], length, Option, Some}
+use Rattle.std.specs.Prelude.{◌≡◌, ◌⊎◌, ℕ, List, length, Option}
 use Rattle.std.specs.List.{AllByRecursion}
 use Rattle.disk_model.specs.Disk.{Faults, History}
 use Rattle.mdbox_base.specs.Streams.{Appended, Taken}
@@ -11,7 +11,6 @@ use Rattle.request_text.specs.declared.outcome.Outcome.{Outcome}
 use Rattle.request_text.specs.declared.outcome.Outcome.TheVariants as outcome
 use Rattle.script_text.specs.Script.{FitsLanes, script_text}
 use Rattle.script_text.specs.Taking.{extent}
-use Rattle.script_text.specs.declared.take.Extent.{Extent}
 use Rattle.session.specs.OneRequest.{EndsSession, IsWaiting}
 
 -- These requests were taken from the input, one after another, and no octet more; they were done, and their replies are told, all in this
