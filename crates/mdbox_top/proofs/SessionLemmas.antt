@@ -73,7 +73,7 @@ abbrev pub DoneOf : Option (List ℕ) → Option (List ℕ) → Option (List ℕ
 DoneOf left after held later old new f g o = OfInput left (λ input. IsSessionDone input after held later old new f g o)
 
 front_of : (left after held later : Option (List ℕ)) (old new : Option History) (f g : Faults) (o : Outcome) → (d : DoneOf left after held later old new f g o) → OfInput left (ReadsFirst d.2.script)
-front_of left after held later old new f g o d = (d.0, d.1, d.2.rest, d.2.read)
+front_of left after held later old new f g o d = (d.0, d.1, (d.2.rest, d.2.read))
 
 pub session_fault : (left after held later : Option (List ℕ)) (old new : Option History) (f g : Faults) (o : Outcome) → DoneOf left after held later old new f g o → TellsServeFaults left old → AnyFaultCounted (o ≡ outcome.DiskFault) f g
 session_fault left after held later old new f g o d tells = by_fault d.0 d.2.script d.2.rest after d.2.given f g (d.2.done.faults (tells d.2.script (front_of left after held later old new f g o d))) o d.2.stops
@@ -96,8 +96,8 @@ session_rests left after held later old new f g o d = (
 -- ---- a store that was not opened
 
 no_requests : (left : Option (List ℕ)) → OfInput left (ReadsFirst [])
-no_requests None = ([], tt, [], refl)
-no_requests (Some all) = (all, refl, all, refl)
+no_requests None = ([], tt, ([], refl))
+no_requests (Some all) = (all, refl, (all, refl))
 
 unopened_ends : (why : OpenError) → why ≡ error.DiskFault → MayEndFailed (status_of (opening_outcome why))
 unopened_ends why e = inr (inr (inr (inl (ap (λ (w : OpenError). status_of (opening_outcome w)) e))))
@@ -124,7 +124,7 @@ pub serve_input_memory : (left h k : Option (List ℕ)) (old new : Option Histor
 serve_input_memory left h k old new f g why (inl n) = absurd (refused_by 4 _ (opening_number n.why) (ap status_of n.ended_is) (inr refl))
 serve_input_memory left h k old new f g why (inr d) =
     let s = d.1.2 in
-    inr (d.0, d.1.0, d.1.1, record { script = s.script; rest = s.rest; read = s.read; fits = s.fits; given = s.given; journal = s.journal; done = s.done; last = s.last; printed = prefix_of h k _ s.printed; stops = tt })
+    inr (d.0, (d.1.0, d.1.1, record { script = s.script; rest = s.rest; read = s.read; fits = s.fits; given = s.given; journal = s.journal; done = s.done; last = s.last; printed = prefix_of h k _ s.printed; stops = tt }))
 
 never_damaged : (s : StoreRefusal) (replies : List (Option Reply)) → outcome.StoreRefused s ≡ replies_outcome replies → ⊥
 never_damaged s replies = by_outcome (λ (o : Outcome). outcome.StoreRefused s ≡ o → ⊥) replies (λ any e. cc e) (λ e. cc e) (λ e. cc e) (λ e. cc e)

@@ -112,7 +112,7 @@ pub record ServedWith {D : Type 0} (history : D → Option History) (faults : D 
 
 -- a fetch among the first requests is one of the script's
 fetch_before : (before rest : Requests) → has_fetch before ≡ true → has_fetch (before ++ rest) ≡ true
-fetch_before [] rest e = absurd (cc e)
+fetch_before [] rest e = absurd (let k : false ≡ true = e in cc k)
 fetch_before (asked ∷ before) rest e = by_test (is_fetch asked.1) e
   where
     by_test : (b : Bool) → (b || has_fetch before) ≡ true → (b || has_fetch (before ++ rest)) ≡ true

@@ -107,10 +107,17 @@ pub fits_more : (script : Requests) (asked : ℕ × Request) → AllByRecursion 
 fits_more [] asked all one = (one, tt)
 fits_more (first ∷ script) asked all one = (all.0, fits_more script asked all.1 one)
 
+abbrev so_far : ℕ → ℕ → Extent
+so_far octets lines = record { octets = octets; lines = lines }
+
+abbrev lines_in : List ℕ → ℕ
+lines_in text = count_by (λ octet. nat_eq octet 10) text
+
 pub extent_append : (a b : List ℕ) → extent_then (extent a) (extent b) ≡ extent (a ++ b)
 extent_append a b =
-    ap (λ (n : ℕ). record { octets = n; lines = count_by (λ octet. nat_eq octet 10) a + count_by (λ octet. nat_eq octet 10) b }) (sym (length-append a b))
-    ∙ ap (λ (n : ℕ). record { octets = length (a ++ b); lines = n }) (sym (sum_by-append (λ octet. cond (nat_eq octet 10) 1 0) a b))
+    let long : length a + length b ≡ length (a ++ b) = sym (length-append a b) in
+    let more : lines_in a + lines_in b ≡ lines_in (a ++ b) = sym (sum_by-append (λ (octet : ℕ). cond (nat_eq octet 10) 1 0) a b) in
+    ap (λ (n : ℕ). so_far n (lines_in a + lines_in b)) long ∙ ap (λ (n : ℕ). so_far (length (a ++ b)) n) more
 
 -- ---- the journal
 
