@@ -6,6 +6,8 @@ import subprocess
 import types
 
 ID = "0011223344556677"
+# How much is read at once, as much as a pipe holds.
+PIECE = 1 << 16
 
 
 def message(size):
@@ -105,7 +107,7 @@ class Session(Replies):
             octets = octets[self.child.stdin.write(octets) :]
 
     def more(self):
-        got = self.child.stdout.read(1 << 20)
+        got = os.read(self.child.stdout.fileno(), PIECE)
         if not got:
             raise Gone
         self.read += got
