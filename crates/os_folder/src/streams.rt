@@ -1,9 +1,10 @@
-// Standard input, output and error. A call that the system fails is counted; none is tried again.
-ghost use Rattle.std.specs.Prelude.{None, Ok, ◌≡◌, ◌↔◌, ◌<◌, ◌≤◌, ◌⊎◌, IsOk, IsErr, IfOk};
+// Standard input, output and error. A call that a signal has interrupted did nothing, and is made again; any other that the system fails
+// is counted.
+ghost use Rattle.std.specs.Prelude.{None, Ok, ◌≡◌, ◌↔◌, ◌<◌, ◌≤◌, ◌⊎◌, IsOk, IsErr, IfOk, length};
 ghost use Rattle.mdbox_base.specs.Streams.{next_count};
 
 use mdbox_base::{Sink, SinkFault, Source, SourceFault};
-use std::io::{self, Read, Write};
+use std::io::{self, ErrorKind, Read, Write};
 use std::rt::Stdin;
 
 /// Standard input.
@@ -57,9 +58,35 @@ impl Source for StdSource {
     ghost faults = { λ source. source.faults };
 
     fn take(&mut self, into: &mut [u8]) -> Result<usize, SourceFault> {
-        let answer = self.stdin.read(into);
+        let answer = read_on(&mut self.stdin, into);
         self.took(answer)
     }
+}
+
+/// Reads, however often a signal interrupts it.
+fn read_on<R: Read>(stream: &mut R, into: &mut [u8]) -> io::Result<usize>
+    ensures { IfOk result (λ count. count ≤ length into.new) }
+{
+    for _ in 0..u64::MAX {
+        match stream.read(into) {
+            Err(error) if error.kind() == ErrorKind::Interrupted => {}
+            answer => return answer,
+        }
+    }
+    stream.read(into)
+}
+
+/// Writes, however often a signal interrupts it.
+fn write_on<W: Write>(stream: &mut W, from: &[u8]) -> io::Result<usize>
+    ensures { IfOk result (λ count. count ≤ length from.now) }
+{
+    for _ in 0..u64::MAX {
+        match stream.write(from) {
+            Err(error) if error.kind() == ErrorKind::Interrupted => {}
+            answer => return answer,
+        }
+    }
+    stream.write(from)
 }
 
 /// Standard output or standard error.
@@ -114,7 +141,7 @@ impl<W: Write> Sink for StdSink<W> {
     ghost faults = { λ sink. sink.faults };
 
     fn give(&mut self, from: &[u8]) -> Result<usize, SinkFault> {
-        let answer = self.stream.write(from);
+        let answer = write_on(&mut self.stream, from);
         self.gave(answer, from.len())
     }
 }
