@@ -109,3 +109,9 @@ found_at f xs n at d lt e = sym (slice_get-get_or xs at d lt) ∙ ap (slice_get 
 
 pub found_nowhere : {X : Type 0} → (f : X → ℕ) (xs : List X) (n : ℕ) → length xs ≡ position_or_len (λ y. f y == n) xs → None ≡ find (λ y. f y == n) xs
 found_nowhere f xs n e = sym (slice_get_past xs (length xs) (omega arith)) ∙ ap (slice_get xs) e ∙ sym (find_at (λ y. f y == n) xs)
+
+-- a place that has the number is the one
+pub guessed : {X : Type 0} → (f : X → ℕ) (xs : List X) (n at : ℕ) (d : X) → AllPairs (λ a b. f a < f b) xs → at < length xs → f (get_or xs at d) ≡ n → at ≡ position_or_len (λ x. f x == n) xs
+guessed f xs n at d rise within here =
+    sym (position_or_len_is (λ x. f x == n) xs at d (omega (arith, within))
+    (λ k lt. unequal _ n (λ e. let l : f (get_or xs k d) < f (get_or xs at d) = rise k at d lt within in omega (arith, l, e, here))) (λ lt. equal _ n here))

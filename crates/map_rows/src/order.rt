@@ -125,7 +125,11 @@ fn place_of(keys: &[OrderKey], number: u128) -> Result<usize, usize>
     ensures found { IfOk result (IsFoundAt keys.now number) }
     ensures absent { IfErr result (IsPlaceFor keys.now number) }
 {
-    keys.binary_search_by_key(&number, |key| key.number)
+    match keys.last() {
+        // Most numbers that are added are the greatest.
+        Some(last) if last.number < number => Err(keys.len()),
+        _ => keys.binary_search_by_key(&number, |key| key.number),
+    }
 }
 
 /// The place of the first key whose number is at least this one, else how many keys there are.

@@ -52,6 +52,13 @@ pub fn place_with_uid(records: &[Record], uid: MapUid) -> usize
     requires { AllPairs (λ a b. a.row.uid.0 < b.row.uid.0) records.now }
     ensures { result ≡ position_or_len (λ r. r.row.uid.0 == uid.0) records.now }
 {
+    // Where it is if none was dropped of those before it.
+    let first = records.first().map_or(0, |record| record.row.uid.0);
+    let guess = uid.0.saturating_sub(first) as usize;
+    match records.get(guess) {
+        Some(record) if record.row.uid.0 == uid.0 => return guess,
+        _ => {}
+    }
     match records.binary_search_by_key(&uid.0, |record| record.row.uid.0) {
         Ok(place) => place,
         Err(_) => records.len(),
