@@ -5,6 +5,9 @@ ghost use Rattle.model_base64.specs.Base64Text.{IsForm, line_break, padded, text
 use base64::engine::general_purpose::STANDARD;
 use mdbox_base::LineForm;
 
+/// How many octets the longest line has.
+const LONGEST: usize = 996;
+
 /// Adds the text of a form and octets at the end, where there is room for it.
 pub fn put_lines(out: &mut Vec<u8>, form: LineForm, octets: &[u8])
     requires form { IsForm form }
@@ -13,28 +16,28 @@ pub fn put_lines(out: &mut Vec<u8>, form: LineForm, octets: &[u8])
     ensures kept { vec_capacity out.old ≤ vec_capacity out.new }
 {
     let size = form.length as usize / 4 * 3;
+    let mut encoded = [0; LONGEST];
     let mut rest = octets;
     while rest.len() > size {
         let (line, behind) = rest.split_at(size);
-        put_encoded(out, line);
+        put_encoded(out, &mut encoded, line);
         put_break(out, form.crlf);
         rest = behind;
     }
-    put_encoded(out, rest);
+    put_encoded(out, &mut encoded, rest);
 }
 
-/// Adds the padded encoding of the octets of one line.
-fn put_encoded(out: &mut Vec<u8>, octets: &[u8])
+/// Adds the padded encoding of the octets of one line, which is made in memory for the longest one.
+fn put_encoded(out: &mut Vec<u8>, encoded: &mut [u8; LONGEST], octets: &[u8])
     requires line { length octets.now ≤ 747 }
     requires room { length out.old.items + length (padded octets.now) ≤ vec_capacity out.old }
     ensures text { out.new.items ≡ out.old.items ++ padded octets.now }
     ensures kept { vec_capacity out.old ≤ vec_capacity out.new }
 {
-    let mut line = [0; 996];
-    let Ok(size) = STANDARD.encode_slice(octets, &mut line) else {
+    let Ok(size) = STANDARD.encode_slice(octets, encoded) else {
         unreachable!()
     };
-    put_octets(out, &line[..size]);
+    put_octets(out, &encoded[..size]);
 }
 
 fn put_break(out: &mut Vec<u8>, crlf: bool)
