@@ -2,6 +2,7 @@
 use Rattle.std.specs.Prelude.{◌≢◌, ◌⊎◌, ◌||◌, Bool, All, length, slice_get, slice_set}
 use Rattle.std.proofs.Common.{◌≡◌, ◌≤◌, ◌-◌, ◌+◌, ◌++◌, ℕ, true, false, List, [], ◌∷◌, Option, Some, None, refl, sym, ◌∙◌, ap, subst, arith, inl, inr}
 use Rattle.std.proofs.lemmas.List.{append-nil, append_assoc, length-append}
+use Rattle.std.proofs.lemmas.List.Folds.{list_any-append}
 use Rattle.std.proofs.lemmas.List.Elements.{All-append, All-cons, All-head, All-nil, All-tail, All-weaker}
 use Rattle.disk_model.specs.Disk.{Faults, History, IsIdle, told_calls}
 use Rattle.disk_model.proofs.IdleLemmas.{idle-begins, idle-then}
@@ -112,12 +113,7 @@ pub record ServedWith {D : Type 0} (history : D → Option History) (faults : D 
 
 -- a fetch among the first requests is one of the script's
 fetch_before : (before rest : Requests) → has_fetch before ≡ true → has_fetch (before ++ rest) ≡ true
-fetch_before [] rest e = absurd (let k : false ≡ true = e in cc k)
-fetch_before (asked ∷ before) rest e = by_test (is_fetch asked.1) e
-  where
-    by_test : (b : Bool) → (b || has_fetch before) ≡ true → (b || has_fetch (before ++ rest)) ≡ true
-    by_test true e = refl
-    by_test false e = fetch_before before rest e
+fetch_before before rest e = list_any-append (λ (asked : ℕ × Request). is_fetch asked.1) before rest ∙ ap (λ (b : Bool). b || has_fetch rest) e
 
 module _ {D : Type 0} (history : D → Option History) (faults : D → Faults) (start : Lists) (script : Requests) (began : Seen) where
   -- how its fetches find their messages
