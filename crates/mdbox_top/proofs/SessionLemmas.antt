@@ -16,7 +16,7 @@ use Rattle.request_text.specs.declared.outcome.StoreRefusal.{StoreRefusal}
 use Rattle.script_run.specs.Faults.{FaultsByReplies, HasReadFault}
 use Rattle.script_run.specs.Opening.{IsUnopened}
 use Rattle.script_run.specs.Script.{HasStopped}
-use Rattle.session.specs.Session.{IsSessionDone, StopsAt}
+use Rattle.session.specs.Session.{IsSessionDone, SessionStopsAt}
 use Rattle.store_open.specs.declared.error.OpenError.{OpenError}
 use Rattle.store_open.specs.declared.error.OpenError.TheVariants as error
 use Rattle.mdbox_top.specs.InputRun.{IsOneOf, OfInput}
@@ -27,11 +27,11 @@ use Rattle.mdbox_top.proofs.RequestLemmas.{damage_lacking, opening_number, refus
 
 -- ---- faults of the disk
 
-by_fault : (input : List ℕ) (script : Requests) (rest : List ℕ) (left : Option (List ℕ)) (given : List Reply) (began now : Faults) → FaultsByReplies given began now → (o : Outcome) → StopsAt input script rest left given o → AnyFaultCounted (o ≡ outcome.DiskFault) began now
+by_fault : (input : List ℕ) (script : Requests) (rest : List ℕ) (left : Option (List ℕ)) (given : List Reply) (began now : Faults) → FaultsByReplies given began now → (o : Outcome) → SessionStopsAt input script rest left given o → AnyFaultCounted (o ≡ outcome.DiskFault) began now
 by_fault input script rest left given began now f o s = record {
   reads = f.counted;
   changes = f.changes;
-  rose = λ e. elim (subst (λ (x : Outcome). StopsAt input script rest left given x) e s) [
+  rose = λ e. elim (subst (λ (x : Outcome). SessionStopsAt input script rest left given x) e s) [
     | inl stopped ↦ inr (f.stopped stopped.0)
     | inr end ↦ elim (outcome_cause given (sym end.3)) [ inl some ↦ inl (let reads = f.reads in omega (arith, reads, some)) | inr stopped ↦ inr (f.stopped stopped) ]
   ];
@@ -41,7 +41,7 @@ by_fault input script rest left given began now f o s = record {
 none_told : (given : List Reply) (began now : Faults) (o : Outcome) → FaultsByReplies given began now → (HasStopped given → ⊥) → o ≡ replies_outcome (map Some given) → (MayEndFailed (status_of o) → ⊥) → NoFault began now
 none_told given began now o f unstopped is none = f.quiet (λ (c : HasReadFault given). none (inr (inr (inr (inl (ap status_of (is ∙ unread_outcome_is given c))))))) unstopped
 
-by_quiet : (input : List ℕ) (script : Requests) (rest : List ℕ) (left : Option (List ℕ)) (given : List Reply) (began now : Faults) → FaultsByReplies given began now → (o : Outcome) → StopsAt input script rest left given o → (MayEndFailed (status_of o) → ⊥) → NoFault began now
+by_quiet : (input : List ℕ) (script : Requests) (rest : List ℕ) (left : Option (List ℕ)) (given : List Reply) (began now : Faults) → FaultsByReplies given began now → (o : Outcome) → SessionStopsAt input script rest left given o → (MayEndFailed (status_of o) → ⊥) → NoFault began now
 by_quiet input script rest left given began now f outcome.Done s none = absurd (none (inl refl))
 by_quiet input script rest left given began now f outcome.SessionFull s none = absurd (none (inl refl))
 by_quiet input script rest left given began now f (outcome.InputRefused why) s none = absurd (none (inr (inl refl)))
@@ -54,7 +54,7 @@ by_quiet input script rest left given began now f outcome.Usage s none = none_to
 by_quiet input script rest left given began now f (outcome.StoreRefused why) s none = none_told given began now (outcome.StoreRefused why) f s.2 s.3 none
 
 -- a reply that the store is stopped ends it so
-stopped_may : (input : List ℕ) (script : Requests) (rest : List ℕ) (left : Option (List ℕ)) (given : List Reply) (o : Outcome) → StopsAt input script rest left given o → HasStopped given → MayEndFailed (status_of o)
+stopped_may : (input : List ℕ) (script : Requests) (rest : List ℕ) (left : Option (List ℕ)) (given : List Reply) (o : Outcome) → SessionStopsAt input script rest left given o → HasStopped given → MayEndFailed (status_of o)
 stopped_may input script rest left given outcome.Done s h = inl refl
 stopped_may input script rest left given outcome.SessionFull s h = inl refl
 stopped_may input script rest left given (outcome.InputRefused why) s h = inr (inl refl)
@@ -147,7 +147,7 @@ serve_status left h k old new f g o (inl n) lists s = elim (settled_opens lists 
 ]
 serve_status left h k old new f g o (inr d) lists s = by_end o d.1.2.stops
   where
-    by_end : (x : Outcome) → StopsAt d.1.0 d.1.2.script d.1.2.rest d.0 d.1.2.given x → IsOneOf (0 ∷ 1 ∷ 4 ∷ 5 ∷ 6 ∷ 7 ∷ 8 ∷ []) (status_of x)
+    by_end : (x : Outcome) → SessionStopsAt d.1.0 d.1.2.script d.1.2.rest d.0 d.1.2.given x → IsOneOf (0 ∷ 1 ∷ 4 ∷ 5 ∷ 6 ∷ 7 ∷ 8 ∷ []) (status_of x)
     by_end outcome.Done stops = inl refl
     by_end outcome.SessionFull stops = inl refl
     by_end outcome.No stops = inr (inl refl)

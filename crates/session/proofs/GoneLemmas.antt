@@ -41,7 +41,7 @@ use Rattle.script_run.proofs.RunBeginsLemmas.{OpenedNow, before_opening, beginni
 use Rattle.script_run.proofs.ShownLemmas.{LogsShow}
 use Rattle.session.specs.OneRequest.{EndsSession, EndsWithin, FindsNone, HaveReplies, IsAnswered, IsUnderWay, last_text}
 use Rattle.session.specs.Rounds.{HasGone, HasServed}
-use Rattle.session.specs.Session.{EndsAtStop, HasLeft, IsSessionDone, ShowsLines, StopsAt, StopsAtEnd}
+use Rattle.session.specs.Session.{EndsAtStop, IsLeftInSource, IsSessionDone, ShowsLines, SessionStopsAt, StopsAtEnd}
 use Rattle.session.proofs.LeftLemmas.{left_of_session}
 use Rattle.session.proofs.TellLemmas.{OneMore, ToldInOrder, appended_then, asked_more, fits_more, moves_of, none_left_over, one_more, reply_more, text_more, text_on}
 
@@ -127,11 +127,11 @@ what_left : (between : Option (List ℕ)) → (r : List ℕ) × IfSome between (
 what_left None = ([], tt)
 what_left (Some rest) = (rest, refl)
 
-same_left : (rest between : Option (List ℕ)) (r : List ℕ) → rest ≡ between → IfSome between (λ all. all ≡ r) → HasLeft r rest
-same_left rest between r same is = subst (λ (o : Option (List ℕ)). HasLeft r o) (sym same) is
+same_left : (rest between : Option (List ℕ)) (r : List ℕ) → rest ≡ between → IfSome between (λ all. all ≡ r) → IsLeftInSource r rest
+same_left rest between r same is = subst (λ (o : Option (List ℕ)). IsLeftInSource r o) (sym same) is
 
-ended_left : (between rest : Option (List ℕ)) → IsAtEnd between → rest ≡ between → HasLeft [] rest
-ended_left between rest end same = subst (λ (o : Option (List ℕ)). HasLeft [] o) (sym same) end
+ended_left : (between rest : Option (List ℕ)) → IsAtEnd between → rest ≡ between → IsLeftInSource [] rest
+ended_left between rest end same = subst (λ (o : Option (List ℕ)). IsLeftInSource [] o) (sym same) end
 
 -- ---- a prefix is told
 
@@ -208,7 +208,7 @@ module _ {D : Type 0} (history : D → Option History) (faults : D → Faults) (
       })
 
   assemble : (moves : List (ℕ × Option Request)) (r : List ℕ) (ended : Outcome) → GoesWith history faults moves world new → AllByRecursion (FitsLanes 64) (asked_in moves) → IfSome left (λ all. all ≡ script_text (asked_in moves) ++ r)
-      → ShowsLines (batch_text final.journal final.replies) held later ended → ((given : List Reply) → final.replies ≡ map Some given → EndsAtStop given × StopsAt (script_text (asked_in moves) ++ r) (asked_in moves) r rest given ended) → Done ended
+      → ShowsLines (batch_text final.journal final.replies) held later ended → ((given : List Reply) → final.replies ≡ map Some given → EndsAtStop given × SessionStopsAt (script_text (asked_in moves) ++ r) (asked_in moves) r rest given ended) → Done ended
   assemble moves r ended goes fits read told stops =
       let l = left_of moves goes in
       let g = all_given final.replies e.replied in
@@ -260,7 +260,7 @@ module _ {D : Type 0} (history : D → Option History) (faults : D → Faults) (
       last_alone : (given : List Reply) → final.replies ≡ map Some given → EndsAtStop given
       last_alone given are = none_but_last given mid.replies (sym replies_are ∙ are) s.waits.running
 
-      at_end : (ended : Outcome) → IsAtEnd between → rest ≡ between → ended ≡ replies_outcome mid.replies → (ShowsLines (batch_text final.journal final.replies) held later ended) → ((given : List Reply) → StopsAtEnd [] rest given ended → StopsAt (script_text (asked_in moves) ++ []) (asked_in moves) [] rest given ended) → Done ended
+      at_end : (ended : Outcome) → IsAtEnd between → rest ≡ between → ended ≡ replies_outcome mid.replies → (ShowsLines (batch_text final.journal final.replies) held later ended) → ((given : List Reply) → StopsAtEnd [] rest given ended → SessionStopsAt (script_text (asked_in moves) ++ []) (asked_in moves) [] rest given ended) → Done ended
       at_end ended end same is shown stops =
           assemble moves [] ended goes_still s.fits (read_on left between (script_text (asked_in moves)) [] s.taken end) shown
           (λ given are. (last_alone given are, stops given (refl, ended_left between rest end same, unstopped given are, is ∙ ap replies_outcome (sym replies_are ∙ are))))
@@ -297,7 +297,7 @@ module _ {D : Type 0} (history : D → Option History) (faults : D → Faults) (
     -- with one request more
     module _ (asked : ℕ × Request) (fits : FitsLanes 64 asked) (taken : Taken between (request_text asked) rest) where
       begun_with : (ended : Outcome) → (u : IsUnderWay history faults asked mid new) → (own : Reply) → HasReply final.replies (length mid.replies) own → (r : List ℕ) → IfSome rest (λ all. all ≡ r) → ShowsLines (batch_text final.journal final.replies) held later ended
-          → ((given : List Reply) → final.replies ≡ mid.replies ++ Some own ∷ [] → final.replies ≡ map Some given → StopsAt (script_text (asked_in moves ++ asked ∷ []) ++ r) (asked_in moves ++ asked ∷ []) r rest given ended) → Done ended
+          → ((given : List Reply) → final.replies ≡ mid.replies ++ Some own ∷ [] → final.replies ≡ map Some given → SessionStopsAt (script_text (asked_in moves ++ asked ∷ []) ++ r) (asked_in moves ++ asked ∷ []) r rest given ended) → Done ended
       begun_with ended u own here r is shown stops =
           let m = one_more history faults asked mid new s.waits.replied u in
           let many = m.many in
@@ -310,7 +310,7 @@ module _ {D : Type 0} (history : D → Option History) (faults : D → Faults) (
           (subst (λ (t : List ℕ). IfSome left (λ all. all ≡ t)) (sym (append_assoc (script_text (asked_in moves)) (request_text asked) r) ∙ ap (λ (t : List ℕ). t ++ r) (sym text)) input) shown
           (λ given given_are. (
             only_last_stops given mid.replies own (sym are ∙ given_are) s.waits.running,
-            subst (λ (q : Requests). StopsAt (script_text q ++ r) q r rest given ended) (sym script) (stops given are given_are),
+            subst (λ (q : Requests). SessionStopsAt (script_text q ++ r) q r rest given ended) (sym script) (stops given are given_are),
           ))
 
       -- what the events that finish it add is the request's own

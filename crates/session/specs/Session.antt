@@ -24,23 +24,23 @@ ShowsLines text held later outcome.NoMemory = WritesPrefix held [] text later
 ShowsLines text held later ended = Appended held text later
 
 -- the source has this left, where that is told: no octet after the last request was taken
-abbrev pub HasLeft : List ℕ → Option (List ℕ) → Type 0
-HasLeft rest left = IfSome left (λ octets. octets ≡ rest)
+abbrev pub IsLeftInSource : List ℕ → Option (List ℕ) → Type 0
+IsLeftInSource rest left = IfSome left (λ octets. octets ≡ rest)
 
 -- The input came to its end, and the session ends as its replies say.
 abbrev pub StopsAtEnd : List ℕ → Option (List ℕ) → List Reply → Outcome → Type 0
-StopsAtEnd rest left given ended = (rest ≡ []) × HasLeft [] left × (HasStopped given → ⊥) × (ended ≡ replies_outcome (map Some given))
+StopsAtEnd rest left given ended = (rest ≡ []) × IsLeftInSource [] left × (HasStopped given → ⊥) × (ended ≡ replies_outcome (map Some given))
 
 -- Why a session ended: at what is no request; after 100,000 of them; since the last reply says that the store is stopped; by a fault of the
 -- input or the output; out of memory; or at the input's end, as its replies say.
-abbrev pub StopsAt : List ℕ → Requests → List ℕ → Option (List ℕ) → List Reply → Outcome → Type 0
-StopsAt input script rest left given (outcome.InputRefused (refusal.Script flaw)) = (0 < length rest) × BeginsNoRequest 64 rest × IsFlawOf 64 input flaw × (flaw.offset ≡ length (script_text script)) × (HasStopped given → ⊥)
-StopsAt input script rest left given outcome.SessionFull = (length script ≡ 100000) × HasLeft rest left × (HasStopped given → ⊥)
-StopsAt input script rest left given outcome.DiskFault = (HasStopped given × HasLeft rest left) ⊎ StopsAtEnd rest left given outcome.DiskFault
-StopsAt input script rest left given outcome.ReadFault = HasStopped given → ⊥
-StopsAt input script rest left given outcome.WriteFault = Unit {0}
-StopsAt input script rest left given outcome.NoMemory = Unit {0}
-StopsAt input script rest left given ended = StopsAtEnd rest left given ended
+abbrev pub SessionStopsAt : List ℕ → Requests → List ℕ → Option (List ℕ) → List Reply → Outcome → Type 0
+SessionStopsAt input script rest left given (outcome.InputRefused (refusal.Script flaw)) = (0 < length rest) × BeginsNoRequest 64 rest × IsFlawOf 64 input flaw × (flaw.offset ≡ length (script_text script)) × (HasStopped given → ⊥)
+SessionStopsAt input script rest left given outcome.SessionFull = (length script ≡ 100000) × IsLeftInSource rest left × (HasStopped given → ⊥)
+SessionStopsAt input script rest left given outcome.DiskFault = (HasStopped given × IsLeftInSource rest left) ⊎ StopsAtEnd rest left given outcome.DiskFault
+SessionStopsAt input script rest left given outcome.ReadFault = HasStopped given → ⊥
+SessionStopsAt input script rest left given outcome.WriteFault = Unit {0}
+SessionStopsAt input script rest left given outcome.NoMemory = Unit {0}
+SessionStopsAt input script rest left given ended = StopsAtEnd rest left given ended
 
 -- No request follows one whose reply says that the store is stopped.
 abbrev pub EndsAtStop : List Reply → Type 0
@@ -59,4 +59,4 @@ pub record IsSessionDone (input : List ℕ) (left held later : Option (List ℕ)
   pub done : IsScriptDone script given journal old new began now
   pub last : EndsAtStop given
   pub printed : ShowsLines (batch_text journal (map Some given)) held later ended
-  pub stops : StopsAt input script rest left given ended
+  pub stops : SessionStopsAt input script rest left given ended
