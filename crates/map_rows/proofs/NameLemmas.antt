@@ -1,8 +1,8 @@
 -- Namings of instances: how many there are after a change, and what is named.
-use Rattle.map_rows.proofs.Common.{AllPairs, ◌⊎◌, nat_le, ◌↔◌, IsTrue, Bor, list_any, option_map, option_copied, bytes_eq, IsSearchInRange, IsBinarySearchResult, nat_cmp, ranked, IsOctets, Result, Ok, Err, ◌≡◌, ◌+◌, ◌<◌, ◌≤◌, ◌==◌, ◌&&◌, ◌||◌, ◌++◌, ℕ, zero, suc, Bool, true, false, not, cond}
+use Rattle.map_rows.proofs.Common.{AllPairs, ◌⊎◌, nat_le, ◌↔◌, IsTrue, Bor, list_any, option_map, option_copied, bytes_eq, IsSearchInRange, IsBinarySearchResult, nat_cmp, ranked, IsOctets, Result, Ok, Err, ◌≡◌, ◌+◌, ◌-◌, ◌<◌, ◌≤◌, ◌==◌, ◌&&◌, ◌||◌, ◌++◌, ℕ, zero, suc, Bool, true, false, not, cond}
 use Rattle.map_rows.proofs.Common.{Option, Some, None, List, [], ◌∷◌, length, get_or, take, drop, find, filter, map, All, refl, sym, ◌∙◌, ap, subst, inl, inr, arith, cases_lt, nat_tests, All-nil, All-cons, All-head, All-tail, All-weaker, AllPairs-cons, AllPairs-filter, AllPairs-from_increasing}
 use Rattle.map_rows.proofs.Common.{InstRow, pairs_head, pairs_tail, pairs_nil, found_among, found_holds, found_none, text_is, text_yes, MapRecord, AgreesOn, MapUid, has_map_uid, Record, meant_record, NamedInstance, namings_of, all_namings, AreNamesOf, AreNumbered, AreNamings, instances_of, times}
-use Rattle.std.specs.Prelude.{insert, remove, flat_map, is_some}
+use Rattle.std.specs.Prelude.{insert, remove, flat_map, is_some, slice_get}
 use Rattle.std.specs.Prelude.{IfOk, IfErr}
 use Rattle.std.specs.List.Sorted.{IsStrictlyIncreasing}
 use Rattle.std.proofs.Common.{set, add-one}
@@ -18,7 +18,7 @@ use Rattle.map_rows.specs.Keys.{guid_number}
 use Rattle.map_rows.specs.Named.{is_instance, IsOnlyNaming, IsNumbered, IsNaming, IsNamedAt, IsGapFor}
 use Rattle.map_rows.proofs.KeyLemmas.{guid_only}
 use Rattle.map_rows.proofs.NearLemmas.{none_found}
-use Rattle.map_rows.proofs.SearchLemmas.{answers_rise, pairs_unmap}
+use Rattle.map_rows.proofs.SearchLemmas.{answers_rise, below_last, pairs_unmap}
 use Rattle.map_rows.proofs.MemberLemmas.{find_counted, none_counted, count_append, both, equal_is, same_number}
 
 -- ---- one instance
@@ -375,6 +375,14 @@ searched_names named n rise (Err at) within parted = (
     behind = λ k d le lt. ranked _ n _ (sym ((parted (answers_rise (λ (k : NamedInstance). k.number) named n rise)).1 k d le lt));
   },
 )
+
+-- a number that is greater than the last naming's stands behind all
+pub gap_behind : (named : List NamedInstance) (last : NamedInstance) (n : ℕ) → AllPairs (λ a b. a.number < b.number) named → Some last ≡ slice_get named (length named - 1) → last.number < n → IsGapFor named n (length named)
+gap_behind named last n rise is lt = record {
+  within = omega arith;
+  before = λ k d below. below_last (λ (k : NamedInstance). k.number) named last n k d rise is lt below;
+  behind = λ k d le within. absurd (omega (arith, le, within));
+}
 
 -- the naming at the place of an id has this id
 id_at : (id : List ℕ) (n : NamedInstance) → IsNumbered n → length id ≡ 16 → IsOctets id → n.number ≡ guid_number id → n.row.id.0 ≡ id

@@ -4,9 +4,9 @@ use Rattle.map_rows.proofs.Common.{◌≡◌, ◌≢◌, inl, inr, ℕ, zero, su
 use Rattle.map_rows.proofs.Common.{IsBinarySearchResult, IsNonDecreasingBy, nat_cmp, ranked, cases_lt, cases_eq, nat_tests, slice_get_past, All-cons, All-head, All-tail, All-weaker, AllPairs-cons, AllPairs-filter, find_at, pairs_head, pairs_tail, OrderKey, OrderValue, NumbersRise, last_of, with_key}
 use Rattle.std.proofs.Common.{IfOk, IfErr}
 use Rattle.std.specs.Ordering.{ordering_index}
-use Rattle.std.proofs.lemmas.Option.{same_Some, slice_get-get_or}
 use Rattle.std.proofs.lemmas.List.Elements.{All-append, filter_passes}
 use Rattle.std.proofs.lemmas.List.Sums.{position_or_len_is}
+use Rattle.map_rows.proofs.SearchLemmas.{below_last}
 use Rattle.map_rows.specs.Orders.{IsFoundAt, IsPlaceFor, IsFirstFrom}
 
 -- the answers of a search rise along the keys
@@ -204,13 +204,6 @@ not_new keys n at rise f e = some_there keys at f.within (sym (found_is keys n a
 pub behind_last : (keys : List OrderKey) (last : OrderKey) (n : ℕ) → NumbersRise keys → Some last ≡ slice_get keys (length keys - 1) → last.number < n → IsPlaceFor keys n (length keys)
 behind_last keys last n rise is lt = record {
   within = omega arith;
-  before = λ k d below.
-      let end : length keys - 1 < length keys = omega (arith, below) in
-      let same : last ≡ get_or keys (length keys - 1) d = same_Some _ _ (is ∙ slice_get-get_or keys (length keys - 1) d end) in
-      let most : (get_or keys (length keys - 1) d).number ≡ last.number = ap (λ (k : OrderKey). k.number) (sym same) in
-      elim (cases_eq k (length keys - 1)) [
-        | inl e ↦ let here : (get_or keys k d).number ≡ (get_or keys (length keys - 1) d).number = ap (λ (i : ℕ). (get_or keys i d).number) e in omega (arith, here, most, lt)
-        | inr apart ↦ let l : (get_or keys k d).number < (get_or keys (length keys - 1) d).number = rise k (length keys - 1) d (omega (arith, below, apart)) end in omega (arith, l, most, lt)
-      ];
+  before = λ k d below. below_last (λ (key : OrderKey). key.number) keys last n k d rise is lt below;
   behind = λ k d le within. absurd (omega (arith, le, within));
 }

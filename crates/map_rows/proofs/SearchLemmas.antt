@@ -1,5 +1,5 @@
 -- What a search finds among records in order of map uid.
-use Rattle.map_rows.proofs.Common.{AllPairs, nat_lt, ◌≡◌, ◌≢◌, inl, inr, ℕ, ◌<◌, ◌≤◌, ◌==◌, Bool, true, false, not, cond, Some, None, List, [], ◌∷◌, length, find, get_or, map, Result, Ok, Err, refl, sym, ◌∙◌, ap, subst, ◌+◌, arith, list_any, IsSearchInRange, IsBinarySearchResult, IsNonDecreasingBy}
+use Rattle.map_rows.proofs.Common.{AllPairs, nat_lt, ◌≡◌, ◌≢◌, inl, inr, ℕ, ◌-◌, ◌<◌, ◌≤◌, ◌==◌, Bool, true, false, not, cond, Some, None, List, [], ◌∷◌, length, find, get_or, map, Result, Ok, Err, refl, sym, ◌∙◌, ap, subst, ◌+◌, arith, list_any, IsSearchInRange, IsBinarySearchResult, IsNonDecreasingBy}
 use Rattle.map_rows.proofs.Common.{nat_cmp, ranked, cases_lt, cases_eq, nat_tests, find_at, slice_get_past, AllPairs-cons, pairs_head, pairs_tail, pairs_nil, MapRecord, Record, meant_record}
 use Rattle.std.specs.Prelude.{position, slice_get}
 use Rattle.std.specs.Prelude.{MatchResult}
@@ -8,7 +8,7 @@ use Rattle.std.specs.List.{position_or_len}
 use Rattle.std.specs.Ordering.{ordering_index}
 use Rattle.std.proofs.lemmas.List.{length-map}
 use Rattle.std.proofs.lemmas.List.Folds.{list_any_at, list_any_none}
-use Rattle.std.proofs.lemmas.Option.{slice_get-get_or}
+use Rattle.std.proofs.lemmas.Option.{same_Some, slice_get-get_or}
 use Rattle.std.proofs.lemmas.List.Sums.{fails_before_first, passes_at_first, position_or_len_is}
 use Rattle.map_rows.proofs.DerivedListLemmas.{All-unmap}
 
@@ -115,3 +115,13 @@ pub guessed : {X : Type 0} → (f : X → ℕ) (xs : List X) (n at : ℕ) (d : X
 guessed f xs n at d rise within here =
     sym (position_or_len_is (λ x. f x == n) xs at d (omega (arith, within))
     (λ k lt. unequal _ n (λ e. let l : f (get_or xs k d) < f (get_or xs at d) = rise k at d lt within in omega (arith, l, e, here))) (λ lt. equal _ n here))
+
+-- what is greater than the last item's number is greater than all
+pub below_last : {X : Type 0} → (f : X → ℕ) (xs : List X) (last : X) (n k : ℕ) (d : X) → AllPairs (λ a b. f a < f b) xs → Some last ≡ slice_get xs (length xs - 1) → f last < n → k < length xs → f (get_or xs k d) < n
+below_last f xs last n k d rise is lt below =
+    let end : length xs - 1 < length xs = omega (arith, below) in
+    let most : f last ≡ f (get_or xs (length xs - 1) d) = ap f (same_Some _ _ (is ∙ slice_get-get_or xs (length xs - 1) d end)) in
+    elim (cases_eq k (length xs - 1)) [
+      | inl e ↦ let here : f (get_or xs k d) ≡ f (get_or xs (length xs - 1) d) = ap (λ (i : ℕ). f (get_or xs i d)) e in omega (arith, here, most, lt)
+      | inr apart ↦ let l : f (get_or xs k d) < f (get_or xs (length xs - 1) d) = rise k (length xs - 1) d (omega (arith, below, apart)) end in omega (arith, l, most, lt)
+    ]

@@ -155,7 +155,11 @@ fn place_of(named: &[NamedInstance], number: u128) -> Result<usize, usize>
     ensures found { IfOk result (IsNamedAt named.now number) }
     ensures absent { IfErr result (IsGapFor named.now number) }
 {
-    named.binary_search_by_key(&number, |name| name.number)
+    match named.last() {
+        // Most instances that are first named now have the greatest ids.
+        Some(last) if last.number < number => Err(named.len()),
+        _ => named.binary_search_by_key(&number, |name| name.number),
+    }
 }
 
 /// Adds a naming of this instance. There is room for it.

@@ -93,7 +93,8 @@ impl Replay for MapIndex {
         if !self.fits(&entry) {
             return Ok(false);
         }
-        self.apply(&entry)?;
+        self.reserve_for(&entry)?;
+        self.take_in(entry);
         Ok(true)
     }
 }
