@@ -39,7 +39,7 @@ use Rattle.script_run.proofs.DoneLemmas.{LanesEnd, RunLeft, at_given, done_run, 
 use Rattle.script_run.proofs.EndLemmas.{all_given}
 use Rattle.script_run.proofs.RunBeginsLemmas.{OpenedNow, before_opening, beginning}
 use Rattle.script_run.proofs.ShownLemmas.{LogsShow}
-use Rattle.session.specs.OneRequest.{EndsSession, EndsWithin, FindsNone, HaveReplies, IsAnswered, IsUnderWay, last_text}
+use Rattle.session.specs.OneRequest.{EndsSession, EndsByRequest, FindsNone, HaveReplies, IsAnswered, IsUnderWay, last_text}
 use Rattle.session.specs.Rounds.{HasGone, HasServed}
 use Rattle.session.specs.Session.{EndsAtStop, IsLeftInSource, IsSessionDone, ShowsLines, SessionStopsAt, StopsAtEnd}
 use Rattle.session.proofs.LeftLemmas.{left_of_session}
@@ -338,7 +338,7 @@ module _ {D : Type 0} (history : D → Option History) (faults : D → Faults) (
       cut_text : (own : Reply) → IsAnswered history faults asked mid new own → WritesPrefix told [] (last_text mid new own) later → WritesPrefix held [] (batch_text final.journal final.replies) later
       cut_text own a p = then_prefix held told later (batch_text mid.journal mid.replies) (last_text mid new own) (batch_text final.journal final.replies) (answered_text own a) s.printed p
 
-      ends_within : (ended : Outcome) → EndsWithin history faults asked mid new told later ended → Done ended
+      ends_within : (ended : Outcome) → EndsByRequest history faults asked mid new told later ended → Done ended
       ends_within outcome.NoMemory (inl (inl still, unsaid)) =
           let w = what_left rest in
           assemble moves (request_text asked ++ w.0) outcome.NoMemory (goes_still still unsaid) s.fits (read_on left between (script_text (asked_in moves)) (request_text asked ++ w.0) s.taken (read_on between rest (request_text asked) w.0 taken w.1))

@@ -60,12 +60,12 @@ pub record IsAnsweredAndTold {D : Type 0} (history : D → Option History) (faul
 
 -- The session ends with it: no memory to ask it, or for its events, and nothing is told of it; a prefix of its reply is told, for a fault
 -- of the output or out of memory; or the reply is that the store is stopped.
-abbrev pub EndsWithin : {D : Type 0} → (D → Option History) → (D → Faults) → ℕ × Request → WorldValue D → WorldValue D → Option (List ℕ) → Option (List ℕ) → Outcome → Type 0
-EndsWithin history faults asked old new held later outcome.NoMemory =
+abbrev pub EndsByRequest : {D : Type 0} → (D → Option History) → (D → Faults) → ℕ × Request → WorldValue D → WorldValue D → Option (List ℕ) → Option (List ℕ) → Outcome → Type 0
+EndsByRequest history faults asked old new held later outcome.NoMemory =
     (((new ≡ old) ⊎ IsUnderWay history faults asked old new) × (later ≡ held)) ⊎ ((given : Reply) × IsAnswered history faults asked old new given × WritesPrefix held [] (last_text old new given) later)
-EndsWithin history faults asked old new held later outcome.WriteFault = (given : Reply) × IsAnswered history faults asked old new given × WritesPrefix held [] (last_text old new given) later
-EndsWithin history faults asked old new held later outcome.DiskFault = IsAnsweredAndTold history faults asked old new held later (reply.Refused refused.Stopped)
-EndsWithin history faults asked old new held later other = ⊥
+EndsByRequest history faults asked old new held later outcome.WriteFault = (given : Reply) × IsAnswered history faults asked old new given × WritesPrefix held [] (last_text old new given) later
+EndsByRequest history faults asked old new held later outcome.DiskFault = IsAnsweredAndTold history faults asked old new held later (reply.Refused refused.Stopped)
+EndsByRequest history faults asked old new held later other = ⊥
 
 -- ---- from the input
 
@@ -92,7 +92,7 @@ pub record IsLast {D : Type 0} (history : D → Option History) (faults : D → 
   pub asked : ℕ × Request
   pub fits : FitsLanes 64 asked
   pub taken : Taken left (request_text asked) rest
-  pub ends : EndsWithin history faults asked old new held later ended
+  pub ends : EndsByRequest history faults asked old new held later ended
 
 -- No request follows: the input is at its end; none stands there, which comes after so much of it; it failed; or out of memory.
 abbrev pub FindsNone : {D : Type 0} → WorldValue D → Option (List ℕ) → Option (List ℕ) → Extent → Outcome → Type 0

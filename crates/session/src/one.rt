@@ -7,7 +7,7 @@ ghost use Rattle.mdbox_base.specs.declared.replies.Reply.TheVariants as reply;
 ghost use Rattle.lanes.specs.Worlds.{HasItsMessage};
 ghost use Rattle.request_text.specs.declared.outcome.Outcome.TheVariants as outcome;
 ghost use Rattle.script_text.specs.Script.{FitsLanes, FitsScript};
-ghost use Rattle.session.specs.OneRequest.{EndsWithin, IsAnsweredAndTold, IsWaiting};
+ghost use Rattle.session.specs.OneRequest.{EndsByRequest, IsAnsweredAndTold, IsWaiting};
 
 use attach_detach::{Prepared, prepare};
 use disk_model::Disk;
@@ -28,7 +28,7 @@ pub fn serve_one<D: Disk, O: Sink>(
     requires waiting { IsWaiting world.old }
     requires few { length world.old.replies < 100000 }
     ensures ok { OnOk result ((given : ReplyValue) × IsAnsweredAndTold D.history D.faults asked world.old world.new (O.held output.old) (O.held output.new) given × (given ≢ reply.Refused refused.Stopped)) }
-    ensures err { IfErr result (EndsWithin D.history D.faults asked world.old world.new (O.held output.old) (O.held output.new)) }
+    ensures err { IfErr result (EndsByRequest D.history D.faults asked world.old world.new (O.held output.old) (O.held output.new)) }
     ensures write_fault { IfErr result (λ ended. ended ≡ outcome.WriteFault → Rose (O.faults output.old) (O.faults output.new)) }
     ensures write_quiet { IfErr result (λ ended. ended ≢ outcome.WriteFault → O.faults output.new ≡ O.faults output.old) }
     ensures quiet { OnOk result (O.faults output.new ≡ O.faults output.old) }
