@@ -1,9 +1,10 @@
 -- One request of a session, and one more.
-use Rattle.std.specs.Prelude.{◌≢◌, ◌≤◌, ◌<◌, ◌+◌, All, Bool, if◌then◌else◌, length, take}
+use Rattle.std.specs.Prelude.{◌≢◌, ◌≤◌, ◌<◌, ◌+◌, All, Bool, if◌then◌else◌, length, take, slice_index_or}
 use Rattle.std.specs.List.{list_any}
 use Rattle.std.proofs.Common.{◌≡◌, ◌++◌, ℕ, true, false, List, [], ◌∷◌, Option, Some, None, refl, sym, ◌∙◌, ap, subst, arith, inl}
 use Rattle.std.proofs.lemmas.List.{append-nil, length-append}
 use Rattle.std.proofs.lemmas.List.Elements.{All-weaker}
+use Rattle.std.proofs.lemmas.Option.{get_or_from_slice_get}
 use Rattle.disk_model.specs.Disk.{Faults, History}
 use Rattle.mdbox_base.specs.Streams.{Appended, IsAtEnd, Taken}
 use Rattle.mdbox_base.specs.declared.replies.Refusal.TheVariants as refused
@@ -15,11 +16,13 @@ use Rattle.mdbox_base.specs.declared.script.JournalEntry.{JournalEntry}
 use Rattle.model_lists.specs.Lists.{Lists}
 use Rattle.model_store.specs.Settled.{IsSettledFor}
 use Rattle.list_machine.specs.Run.{Run, RunEvent}
-use Rattle.journal.specs.Journal.{Broken, JournalStep, Requests, left_by}
+use Rattle.journal.specs.Journal.{Broken, HasReply, JournalStep, Requests, left_by}
 use Rattle.task_steps.specs.Step.{Seen}
 use Rattle.lanes.specs.Asked.{HasNoIdleTurn, asked_in}
 use Rattle.lanes.specs.Worlds.{IsWorldOf, WorldValue, and_events}
-use Rattle.request_text.specs.BatchText.{batch_text}
+use Rattle.lanes.specs.Rows.{lanes_of}
+use Rattle.serving.specs.Serving.{AreIdle}
+use Rattle.request_text.specs.BatchText.{answer_text, batch_text, request_steps}
 use Rattle.request_text.specs.Outcomes.{is_disk_no, is_lack, is_no, replies_outcome}
 use Rattle.request_text.specs.declared.outcome.InputRefusal.TheVariants as refusal
 use Rattle.request_text.specs.declared.outcome.Outcome.{Outcome}
@@ -27,10 +30,10 @@ use Rattle.request_text.specs.declared.outcome.Outcome.TheVariants as outcome
 use Rattle.script_text.specs.Script.{request_text, script_text}
 use Rattle.script_text.specs.Taking.{extent}
 use Rattle.script_text.specs.declared.take.Extent.{Extent}
-use Rattle.session.specs.OneRequest.{FindsNone, IsUnderWay, IsWaiting, extent_then}
+use Rattle.session.specs.OneRequest.{FindsNone, HaveReplies, IsAnswered, IsUnderWay, IsWaiting, extent_then, last_text}
 use Rattle.session.specs.Rounds.{HasServed}
 use Rattle.session.proofs.ChainLemmas.{served_with}
-use Rattle.session.proofs.TellLemmas.{OneMore, asked_more, extent_append, moves_of, none_asked, text_more}
+use Rattle.session.proofs.TellLemmas.{OneMore, asked_more, extent_append, moves_of, none_asked, one_more, text_more}
 
 -- ---- the journal before a request
 
@@ -39,13 +42,55 @@ take_front [] b = refl
 take_front (x ∷ a) b = ap (λ (t : List _). x ∷ t) (take_front a b)
 
 -- none of the entries before a request is one of it
-pub none_before : {D : Type 0} → (old new : WorldValue D) → OneMore old new → All (λ entry. entry.request < length old.replies) old.journal → All (λ entry. entry.request ≢ length old.replies) (take (length old.journal) new.journal)
+none_before : {D : Type 0} → (old new : WorldValue D) → OneMore old new → All (λ entry. entry.request < length old.replies) old.journal → All (λ entry. entry.request ≢ length old.replies) (take (length old.journal) new.journal)
 none_before old new m own =
     subst (λ (js : List JournalEntry). All (λ entry. entry.request ≢ length old.replies) js) (sym (ap (λ (js : List JournalEntry). take (length old.journal) js) m.journal_is ∙ take_front old.journal m.more))
     (All-weaker (λ (entry : JournalEntry). entry.request < length old.replies) (λ (entry : JournalEntry). entry.request ≢ length old.replies) (λ entry l e. omega (arith, l, e)) old.journal own)
 
-pub journal_longer : {D : Type 0} → (old new : WorldValue D) → OneMore old new → length old.journal ≤ length new.journal
+journal_longer : {D : Type 0} → (old new : WorldValue D) → OneMore old new → length old.journal ≤ length new.journal
 journal_longer old new m = let l : length new.journal ≡ length old.journal + length m.more = ap length m.journal_is ∙ length-append old.journal m.more in omega (arith, l)
+
+-- ---- its reply
+
+there_is : (replies now : List (Option Reply)) (place n : ℕ) (one : Reply) (result : Option Reply) → HasReply replies n one → place ≡ n → now ≡ replies → result ≡ slice_index_or now place result → result ≡ Some one
+there_is replies now place n one result has is same read =
+    read ∙ (ap (λ (rs : List (Option Reply)). slice_index_or rs place result) same ∙ (ap (λ (k : ℕ). slice_index_or replies k result) is ∙ get_or_from_slice_get replies n (Some one) result has))
+
+-- a request that was done has its reply where it is looked for
+pub no_lack : {D : Type 0} → (old new : WorldValue D) (place : ℕ) (now : List (Option Reply)) (result : Option Reply) → OneMore old new → HaveReplies new.replies → place ≡ length old.replies → now ≡ new.replies → result ≡ slice_index_or now place result → result ≡ None → ⊥
+no_lack old new place now result m each is same read none =
+    let many = m.many in
+    let one = each (length old.replies) (omega (arith, many)) in
+    let k : None ≡ Some one.0 = sym none ∙ there_is new.replies now place (length old.replies) one.0 result one.1 is same read in
+    cc k
+
+pub one_answered : {D : Type 0} → (history : D → Option History) (faults : D → Faults) (asked : ℕ × Request) (old new : WorldValue D) (place : ℕ) (now : List (Option Reply)) (result : Option Reply) (given : Reply) → IsWaiting old → IsUnderWay history faults asked old new → AreIdle (lanes_of new.rows) → HaveReplies new.replies
+    → place ≡ length old.replies → now ≡ new.replies → result ≡ slice_index_or now place result → result ≡ Some given → IsAnswered history faults asked old new given
+one_answered history faults asked old new place now result given waits u idle each is same read some =
+    let many = (one_more history faults asked old new waits.replied u).many in
+    let one = each (length old.replies) (omega (arith, many)) in
+    let both : Some given ≡ Some one.0 = sym some ∙ there_is new.replies now place (length old.replies) one.0 result one.1 is same read in
+    let it : given ≡ one.0 = cc both in
+    record { begun = u; idle = idle; replied = each; reply = subst (λ (r : Reply). HasReply new.replies (length old.replies) r) (sym it) one.1 }
+
+-- what was printed of it
+pub told_as : {D : Type 0} → (P : List ℕ → Type 0) (old new : WorldValue D) (journal : List JournalEntry) (place : ℕ) (given : Reply) → place ≡ length old.replies → journal ≡ new.journal → P (answer_text (place + 1) (request_steps journal place) (Some given)) → P (last_text old new given)
+told_as P old new journal place given is same told =
+    subst (λ (n : ℕ). P (answer_text (n + 1) (request_steps new.journal n) (Some given))) is (subst (λ (js : List JournalEntry). P (answer_text (place + 1) (request_steps js place) (Some given))) same told)
+
+-- the entries before it, as they are looked at
+pub before_as : {D : Type 0} → (old new : WorldValue D) (first now : List JournalEntry) (place : ℕ) → OneMore old new → All (λ entry. entry.request < length old.replies) old.journal → place ≡ length old.replies → first ≡ old.journal → now ≡ new.journal → All (λ entry. entry.request ≢ place) (take (length first) now)
+before_as old new first now place m own is was same =
+    subst (λ (n : ℕ). All (λ entry. entry.request ≢ n) (take (length first) now)) (sym is)
+    (subst (λ (js : List JournalEntry). All (λ entry. entry.request ≢ length old.replies) (take (length js) now)) (sym was)
+    (subst (λ (js : List JournalEntry). All (λ entry. entry.request ≢ length old.replies) (take (length old.journal) js)) (sym same) (none_before old new m own)))
+
+pub longer_as : {D : Type 0} → (old new : WorldValue D) (first now : List JournalEntry) → OneMore old new → first ≡ old.journal → now ≡ new.journal → length first ≤ length now
+longer_as old new first now m was same =
+    let more = journal_longer old new m in
+    let here : length first ≡ length old.journal = ap length was in
+    let there : length now ≡ length new.journal = ap length same in
+    omega (arith, more, here, there)
 
 -- ---- the end of the input
 

@@ -1,4 +1,5 @@
-use Rattle.std.proofs.Common.{◌≡◌, ◌++◌, [], length, refl, subst, ◌∙◌, inl, inr, arith}
+use Rattle.std.proofs.Common.{◌≡◌, ◌++◌, [], length, refl, ap, ◌∙◌, inl, inr, arith, rules}
+use Rattle.std.proofs.lemmas.Grind.{common_steps}
 use Rattle.lanes.specs.Asked.{asked_in}
 use Rattle.lanes.proofs.WithLemmas.{keep_with}
 use Rattle.request_text.proofs.OrderLemmas.{told_in_order}
@@ -43,7 +44,7 @@ serve_next-requires-clause-few g c =
     let i = c.loop-done.invariant in
     let grown = (keep_with g.D.Disk.history g.D.Disk.faults i.moves c.args.world.now c.loop-done.world i.served.goes).3 in
     let many = i.many in
-    let none = c.requires.fresh in
+    let none : length c.args.world.now.replies ≡ 0 = ap length c.requires.fresh in
     omega (arith, grown, many, none)
 
 pub returns-in-Err-clause-gone : goal.returns-in-Err-clause-gone
@@ -61,11 +62,12 @@ returns-in-Err-clause-gone g c =
 pub returns-clause-gone : goal.returns-clause-gone
 returns-clause-gone g c =
     let i = c.loop-done.invariant in
+    let all : c.loop-done.done ≡ 100000 = first_of (search rules, grind (arith, common_steps)) in
     record {
       moves = i.moves;
       mid = c.loop-done.world;
       between = g.I.Source.left c.loop-done.input;
       told = g.O.Sink.held c.loop-done.output;
       served = i.served;
-      ends = inr (refl, i.many, refl, refl, refl);
+      ends = inr (refl, i.many ∙ all, refl, refl, refl);
     }

@@ -36,11 +36,11 @@ of-world-requires-clause-unused g c =
       o.state.1,
     )
 
-pub serve_all-requires-clause-waiting : goal.serve_all-requires-clause-waiting
-serve_all-requires-clause-waiting g c = fresh_waits c.in-Ok-open_store.store c.in-Ok.parts _ c.of-world.result c.in-Ok.ensures c.of-world.ensures
+pub serve_all-ended-requires-clause-waiting : goal.serve_all-ended-requires-clause-waiting
+serve_all-ended-requires-clause-waiting g c = fresh_waits c.in-Ok-open_store.store c.in-Ok.parts _ c.of-world.result c.in-Ok.ensures c.of-world.ensures
 
-pub serve_all-requires-clause-fresh : goal.serve_all-requires-clause-fresh
-serve_all-requires-clause-fresh g c = fresh_empty c.in-Ok-open_store.store c.in-Ok.parts _ c.of-world.result c.in-Ok.ensures c.of-world.ensures
+pub serve_all-ended-requires-clause-fresh : goal.serve_all-ended-requires-clause-fresh
+serve_all-ended-requires-clause-fresh g c = fresh_empty c.in-Ok-open_store.store c.in-Ok.parts _ c.of-world.result c.in-Ok.ensures c.of-world.ensures
 
 pub returns-in-Ok-open_store-clause-done : goal.returns-in-Ok-open_store-clause-done
 returns-in-Ok-open_store-clause-done g c =
@@ -48,7 +48,7 @@ returns-in-Ok-open_store-clause-done g c =
     let s = c.in-Ok-open_store.store in
     let history = g.D.Disk.history in
     let faults = g.D.Disk.faults in
-    let gone = c.serve_all.new.world in
+    let gone = c.serve_all-ended.new.world in
     let ended = c.finish.new.self in
     let opened : OpenedNow (history c.args.disk) (history s.disk) s = record {
       opened = o.opened;
