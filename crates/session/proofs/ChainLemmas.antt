@@ -8,7 +8,6 @@ use Rattle.disk_model.specs.Disk.{Faults, History, IsIdle, told_calls}
 use Rattle.disk_model.proofs.IdleLemmas.{idle-begins, idle-then}
 use Rattle.mdbox_base.specs.declared.ids.Uid.{Uid}
 use Rattle.mdbox_base.specs.declared.replies.Refusal.TheVariants as refusal
-use Rattle.mdbox_base.specs.declared.replies.Reply.{Reply}
 use Rattle.mdbox_base.specs.declared.replies.Reply.TheVariants as reply
 use Rattle.mdbox_base.specs.declared.requests.Request.{Request}
 use Rattle.mdbox_base.specs.declared.requests.Request.TheVariants as request

@@ -1,5 +1,5 @@
 -- A session from the opening of the store to the end of its last request.
-use Rattle.std.specs.Prelude.{◌<◌, ◌≤◌, suc, All, length, replicate, slice_get}
+use Rattle.std.specs.Prelude.{◌<◌, ◌≤◌, suc, length, replicate, slice_get}
 use Rattle.std.proofs.Common.{◌≡◌, ℕ, true, false, List, [], ◌∷◌, Option, Some, None, refl, sym, ◌∙◌, ap, subst, arith}
 use Rattle.std.proofs.lemmas.List.Elements.{All-cons, All-nil}
 use Rattle.disk_model.specs.Disk.{Faults, History, told_calls}

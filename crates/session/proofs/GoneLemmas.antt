@@ -1,5 +1,5 @@
 -- How a session ends: what was read, done and told by then.
-use Rattle.std.specs.Prelude.{Bool, if◌then◌else◌, ◌⊎◌, ◌≤◌, ◌<◌, ◌+◌, suc, All, drop, length, map, nat_eq, take, IfSome}
+use Rattle.std.specs.Prelude.{Bool, if◌then◌else◌, ◌⊎◌, ◌≤◌, ◌<◌, ◌+◌, suc, drop, length, map, nat_eq, take, IfSome}
 use Rattle.std.specs.List.{AllByRecursion, count_by, list_any}
 use Rattle.std.proofs.Common.{◌≡◌, ◌++◌, ℕ, zero, true, false, List, [], ◌∷◌, Option, Some, None, refl, sym, ◌∙◌, ap, subst, arith, inl, inr}
 use Rattle.std.proofs.lemmas.List.{append-nil, append_assoc}

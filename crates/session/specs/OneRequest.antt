@@ -20,7 +20,6 @@ use Rattle.request_text.specs.declared.outcome.Outcome.TheVariants as outcome
 use Rattle.script_text.specs.Flaws.{IsNeeded}
 use Rattle.script_text.specs.Script.{BeginsNoRequest, FitsLanes, request_text}
 use Rattle.script_text.specs.Taking.{OfSource, extent}
-use Rattle.script_text.specs.declared.flaw.Need.{Need}
 use Rattle.script_text.specs.declared.take.Extent.{Extent}
 
 -- each request has its reply

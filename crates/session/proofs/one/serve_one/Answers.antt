@@ -1,8 +1,6 @@
 use Rattle.std.proofs.Common.{◌≡◌, true, false, List, ℕ, [], refl, sym, ◌∙◌, subst, inl, inr}
 use Rattle.mdbox_base.specs.Streams.{Appended}
-use Rattle.mdbox_base.specs.declared.replies.Refusal.TheVariants as refused
 use Rattle.mdbox_base.specs.declared.replies.Reply.{Reply}
-use Rattle.mdbox_base.specs.declared.replies.Reply.TheVariants as reply
 use Rattle.piece_writer.specs.Pieces.{WritesPrefix}
 use Rattle.session.specs.OneRequest.{IsAnsweredAndTold, IsUnderWay}
 use Rattle.session.proofs.OneLemmas.{before_as, longer_as, no_lack, one_answered, told_as}

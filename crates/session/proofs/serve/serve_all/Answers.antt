@@ -1,11 +1,7 @@
 use Rattle.std.proofs.Common.{◌≡◌, ◌++◌, [], length, refl, ap, ◌∙◌, inl, inr, arith, rules}
 use Rattle.std.proofs.lemmas.Grind.{common_steps}
-use Rattle.lanes.specs.Asked.{asked_in}
 use Rattle.lanes.proofs.WithLemmas.{keep_with}
 use Rattle.request_text.proofs.OrderLemmas.{told_in_order}
-use Rattle.script_text.specs.Script.{script_text}
-use Rattle.script_text.specs.Taking.{extent}
-use Rattle.session.specs.OneRequest.{EndsSession}
 use Rattle.session.proofs.OneLemmas.{further_at, further_many, served_first}
 use Rattle.session.proofs.TellLemmas.{moves_of, served_more}
 use Rattle.session.proofs.serve.serve_all.Goals as goal

@@ -1,4 +1,4 @@
-use Rattle.std.proofs.Common.{◌≡◌, refl, sym, ◌∙◌, ap, subst}
+use Rattle.std.proofs.Common.{◌∙◌, ap, subst}
 use Rattle.script_run.proofs.DoneLemmas.{EndedParts, no_task}
 use Rattle.script_run.proofs.RunBeginsLemmas.{OpenedNow}
 use Rattle.script_run.proofs.StillLemmas.{unopened_still}
