@@ -30,11 +30,14 @@ use Rattle.mail_fetch.specs.Task.{seen_in}
 use Rattle.mail_fetch.specs.declared.task.FetchStage.{FetchStage}
 use Rattle.mail_fetch.specs.declared.task.FetchStage.TheVariants as fetch_stage
 use Rattle.mail_ops.specs.Copy.{CopyAnswers}
+use Rattle.mail_ops.specs.Deleting.{DeleteAnswers}
 use Rattle.mail_ops.specs.Expunging.{ExpungeAnswers}
 use Rattle.mail_ops.specs.Making.{MakeAnswers}
 use Rattle.mail_ops.specs.Moving.{MoveAnswers}
+use Rattle.mail_ops.specs.Renaming.{RenameAnswers}
 use Rattle.mail_ops.specs.Requests.{Replies}
 use Rattle.mail_ops.specs.declared.copy.CopyStage.TheVariants as copy_stage
+use Rattle.mail_ops.specs.declared.deleting.DeleteStage.TheVariants as delete_stage
 use Rattle.mail_ops.specs.declared.expunging.ExpungeStage.TheVariants as expunge_stage
 use Rattle.mail_ops.specs.declared.making.MakeStage.TheVariants as make_stage
 use Rattle.mail_ops.specs.declared.moving.MoveStage.TheVariants as move_stage
@@ -196,7 +199,7 @@ pub record PurgesSo {D : Type 0} (t next : PurgeValue) (old new : StoreValue D) 
   pub refused : (why : Refusal) → ended ≡ Some (reply.Refused why) → why ≢ refusal.ReadFault → why ≢ refusal.Stopped → t.stage ≡ purge_stage.First
 
 -- What a task answers, by what its event found in the store and left of it: of a listing or a setting of flags, and, unless the store
--- was stopped, of a make, a copy, a move, an expunge, a delivery or a resync, with the stages before and after. A resync that puts counts
+-- was stopped, of a make, a copy, a move, an expunge, a deletion, a renaming, a delivery or a resync, with the stages before and after. A resync that puts counts
 -- right leaves each exact. Of a purge it is what its event dropped, and what it made of the files.
 abbrev pub TellsStore : {D : Type 0} → Task → Task → StoreValue D → StoreValue D → Option History → Option History → Option Reply → Type 0
 TellsStore (task.Ops t) next old new before after ended = (given : Reply) × (ended ≡ Some given) × Replies t.request old new given
@@ -207,6 +210,8 @@ TellsStore (task.Expunge t) (task.Expunge next) old new before after ended = old
 TellsStore (task.Deliver t) (task.Deliver next) old new before after ended = old.stopped ≡ false → SavesSo t next old new before after ended
 TellsStore (task.Resync t) (task.Resync next) old new before after ended = (old.stopped ≡ false → ResyncsSo t next old new before after ended) × ((corrected damaged : ℕ) → ended ≡ Some (reply.Resynced corrected damaged) → AreExact new)
 TellsStore (task.Purge t) (task.Purge next) old new before after ended = PurgesSo t next old new before after ended
+TellsStore (task.Delete t) (task.Delete next) old new before after ended = old.stopped ≡ false → DeleteAnswers t.name t.stage old new before after next.stage (progress_by ended)
+TellsStore (task.Rename t) next old new before after ended = old.stopped ≡ false → (given : Reply) × (ended ≡ Some given) × RenameAnswers t.name t.target old new before after given
 TellsStore t next old new before after ended = Unit {0}
 
 -- What an event of a fetch read and answers, and what it did, whatever the disk.
@@ -239,6 +244,7 @@ IsAtStart (task.Fetch t) = t.stage ≡ fetch_stage.First
 IsAtStart (task.Deliver t) = (prepared : Prepared) × (t.stage ≡ save_stage.First prepared)
 IsAtStart (task.Resync t) = t.stage ≡ ToList
 IsAtStart (task.Purge t) = ⊥
+IsAtStart (task.Delete t) = t.stage ≡ delete_stage.First
 IsAtStart other = Unit {0}
 
 -- It is of the same kind and of the same request, as far as the task tells it: of a delivery its message's size.
@@ -253,6 +259,8 @@ StaysOfRequest (task.Fetch t) (task.Fetch next) = (next.name ≡ t.name) × (nex
 StaysOfRequest (task.Deliver t) (task.Deliver next) = (next.name ≡ t.name) × (next.time ≡ t.time) × (next.size ≡ t.size)
 StaysOfRequest (task.Resync t) (task.Resync next) = Unit {0}
 StaysOfRequest (task.Purge t) (task.Purge next) = Unit {0}
+StaysOfRequest (task.Delete t) (task.Delete next) = next.name ≡ t.name
+StaysOfRequest (task.Rename t) (task.Rename next) = (next.name ≡ t.name) × (next.target ≡ t.target)
 StaysOfRequest t next = ⊥
 
 -- Whatever the disk is and fails: time goes on, and at each moment storage files and instances have what the map needs. No count of

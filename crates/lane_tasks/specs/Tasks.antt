@@ -21,12 +21,14 @@ use Rattle.mail_fetch.specs.Task.{events_left}
 use Rattle.mail_fetch.specs.declared.task.FetchStage.TheVariants as fetch_stage
 use Rattle.mail_ops.specs.Claims.{copy_claims, expunge_claims, make_claims, move_claims}
 use Rattle.mail_ops.specs.Copy.{IsAtCopy, IsReadyToCopy, copy_left}
+use Rattle.mail_ops.specs.Deleting.{IsAtDelete, IsReadyToDelete, delete_left}
 use Rattle.mail_ops.specs.Expunging.{IsAtExpunge, expunge_amounts, expunge_left}
 use Rattle.mail_ops.specs.Making.{IsAtMake, IsReadyToMake, make_left}
 use Rattle.mail_ops.specs.Moving.{IsAtMove, IsReadyToMove, move_left}
-use Rattle.mail_ops.specs.Owing.{AreDueIn}
+use Rattle.mail_ops.specs.Owing.{AreDueIn, map_room_left}
 use Rattle.mail_ops.specs.Task.{IsAt}
 use Rattle.mail_ops.specs.declared.copy.CopyStage.TheVariants as copy_stage
+use Rattle.mail_ops.specs.declared.deleting.DeleteStage.TheVariants as delete_stage
 use Rattle.mail_ops.specs.declared.expunging.ExpungeStage.TheVariants as expunge_stage
 use Rattle.mail_ops.specs.declared.making.MakeStage.{MakeStage}
 use Rattle.mail_ops.specs.declared.making.MakeStage.TheVariants as make_stage
@@ -48,12 +50,9 @@ use Rattle.lane_tasks.specs.declared.task.Task.TheVariants as task
 
 -- ---- its request
 
--- The requests that have a task as they are. A delivery's message is prepared first. A deletion and a renaming of a mailbox have no
--- task yet, so that no script may ask them.
+-- The requests that have a task as they are. A delivery's message is prepared first.
 abbrev pub HasTask : Request → Type 0
 HasTask (request.Deliver name time octets) = ⊥
-HasTask (request.Delete name) = ⊥
-HasTask (request.Rename name target) = ⊥
 HasTask other = Unit {0}
 
 -- A delivery's request is of its mailbox and time. Of the message the task keeps no octets, so these may be any.
@@ -73,6 +72,8 @@ IsTaskOf (task.Fetch t) asked = asked ≡ request.Fetch t.name t.uid
 IsTaskOf (task.Deliver t) asked = IsDeliveryOf t asked
 IsTaskOf (task.Resync t) asked = asked ≡ request.Resync
 IsTaskOf (task.Purge t) asked = asked ≡ request.Purge
+IsTaskOf (task.Delete t) asked = asked ≡ request.Delete t.name
+IsTaskOf (task.Rename t) asked = asked ≡ request.Rename t.name t.target
 
 -- what its last event did: nothing before the first
 abbrev pub did_of : Task → Did
@@ -86,6 +87,8 @@ did_of (task.Fetch t) = t.did
 did_of (task.Deliver t) = t.did
 did_of (task.Resync t) = t.did
 did_of (task.Purge t) = t.did
+did_of (task.Delete t) = t.did
+did_of (task.Rename t) = t.did
 
 -- a delivery that has begun nothing has the request's message, prepared
 abbrev pub IsFreshDelivery : SaveValue → Request → Type 0
@@ -102,6 +105,7 @@ IsAtFirst (task.Fetch t) asked = t.stage ≡ fetch_stage.First
 IsAtFirst (task.Deliver t) asked = IsFreshDelivery t asked
 IsAtFirst (task.Resync t) asked = t.stage ≡ ToList
 IsAtFirst (task.Purge t) asked = t.stage ≡ purge_stage.First
+IsAtFirst (task.Delete t) asked = t.stage ≡ delete_stage.First
 IsAtFirst other asked = Unit {0}
 
 -- A request has this task as it begins.
@@ -136,19 +140,22 @@ IsReadyTask (task.Expunge t) store history = AreDueIn store (expunge_amounts t.s
 IsReadyTask (task.Fetch t) store history = IsReadyToFetch t.stage store
 IsReadyTask (task.Deliver t) store history = (octets : List ℕ) × IsReadyToDeliver t.stage t.name t.time t.size octets store history
 IsReadyTask (task.Purge t) store history = IsReadyToPurge t store history
+IsReadyTask (task.Delete t) store history = IsReadyToDelete t.stage store
 IsReadyTask other store history = Unit {0}
 
 -- How many events are still to come at the most, also beside other tasks: a make may have to begin anew for each mailbox that others
--- make, and a purge to remove each instance that others place, as long as there are numbers.
+-- make, and a purge to remove each instance that others place, as long as there are numbers; a copy and a move may have to begin again,
+-- and each time they append to the map log themselves.
 abbrev pub work_left : {D : Type 0} → Task → StoreValue D → ℕ
 work_left (task.Make t) store = make_left t.stage store + 2 * (4294967295 - store.map.highest.mailbox)
-work_left (task.Copy t) store = copy_left t.stage
-work_left (task.Move t) store = move_left t.stage
+work_left (task.Copy t) store = copy_left t.stage + 3 * map_room_left store
+work_left (task.Move t) store = move_left t.stage + 3 * map_room_left store
 work_left (task.Expunge t) store = expunge_left t.stage
 work_left (task.Fetch t) store = events_left t.stage
 work_left (task.Deliver t) store = save_events_left t.stage store.instances
 work_left (task.Resync t) store = resync_left t.stage
 work_left (task.Purge t) store = purge_left t.stage store
+work_left (task.Delete t) store = delete_left t.stage
 work_left other store = 1
 
 -- ---- where it stands
@@ -179,6 +186,8 @@ IsAtTask (task.Fetch t) store history asked run place said = IsAtFetch t.stage s
 IsAtTask (task.Deliver t) store history asked run place said = IsAtDelivery t store history asked run place said
 IsAtTask (task.Resync t) store history asked run place said = IsAtResync t.stage run place said
 IsAtTask (task.Purge t) store history asked run place said = IsAtPurge t store run place said
+IsAtTask (task.Delete t) store history asked run place said = IsAtDelete t.stage run place said
+IsAtTask (task.Rename t) store history asked run place said = HasNotBegun run place said
 
 -- none of a request's events that wasn't refused took a storage file
 abbrev pub TookNoFile : Run → ℕ → Type 0

@@ -14,7 +14,9 @@ ghost use Rattle.lane_tasks.specs.Tasks.{BeginsTask, HasTask, IsReadyTask, claim
 use attach_detach::Prepared;
 use disk_model::Disk;
 use mail_fetch::FetchTask;
-use mail_ops::{CopyTask, CountsTask, ExpungeTask, MakeTask, MoveTask, OpsTask};
+use mail_ops::{
+    CopyTask, CountsTask, DeleteTask, ExpungeTask, MakeTask, MoveTask, OpsTask, RenameTask,
+};
 use mail_save::SaveTask;
 use mdbox_base::{Did, Name, Progress, Request};
 use purge_task::PurgeTask;
@@ -44,6 +46,10 @@ pub enum Task {
     Resync(ResyncTask),
     /// Of a purge.
     Purge(PurgeTask),
+    /// Of a deletion of a mailbox.
+    Delete(DeleteTask),
+    /// Of a renaming of a mailbox.
+    Rename(RenameTask),
 }
 
 impl Task {
@@ -61,6 +67,8 @@ impl Task {
             Request::Move { name, uid, target } => Task::Move(MoveTask::of(name, uid, target)),
             Request::Expunge { name, uid } => Task::Expunge(ExpungeTask::of(name, uid)),
             Request::Fetch { name, uid } => Task::Fetch(FetchTask::of(name, uid)),
+            Request::Delete { name } => Task::Delete(DeleteTask::of(name)),
+            Request::Rename { name, target } => Task::Rename(RenameTask::of(name, target)),
             Request::List { name } => Task::Ops(OpsTask::of(Request::List { name })),
             Request::Flag { name, uid, flags } => {
                 Task::Ops(OpsTask::of(Request::Flag { name, uid, flags }))
@@ -92,6 +100,8 @@ impl Task {
             Task::Deliver(task) => task.did(),
             Task::Resync(task) => task.did(),
             Task::Purge(task) => task.did(),
+            Task::Delete(task) => task.did(),
+            Task::Rename(task) => task.did(),
         }
     }
 
@@ -130,6 +140,8 @@ impl Task {
             Task::Deliver(task) => task.step(store),
             Task::Resync(task) => task.step(store),
             Task::Purge(task) => task.step(store),
+            Task::Delete(task) => task.step(store),
+            Task::Rename(task) => task.step(store),
         }
     }
 }

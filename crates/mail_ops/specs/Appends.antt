@@ -1,5 +1,5 @@
 -- What an append to a log of the store says, as its event needs it: after Ok, and where a change of the disk failed.
-use Rattle.std.specs.Prelude.{◌≡◌, ◌≤◌, ℕ, true, false, List, [], ◌∷◌, Option, Some, Result, Ok, Err}
+use Rattle.std.specs.Prelude.{◌≡◌, ◌≤◌, ◌<◌, ℕ, true, false, List, [], ◌∷◌, Option, Some, Result, Ok, Err}
 use Rattle.disk_model.specs.Disk.{History, Faults, Grows}
 use Rattle.mdbox_base.specs.Streams.{Rose}
 use Rattle.mdbox_base.specs.declared.entries.BoxEntry.{BoxEntry}
@@ -40,13 +40,14 @@ pub record MapAppends {D : Type 0} (old new : StoreValue D) (before after : Opti
   pub reads : now.reads ≡ began.reads
   pub changes : began.changes ≤ now.changes
 
--- The entry, which fits, was taken in.
+-- The entry, which fits, was taken in, and the map log is longer by it.
 pub record MapTook {D : Type 0} (entry : MapEntry) (old new : StoreValue D) (before after : Option History) (began now : Faults) : Type 0 where
   pub appends : MapAppends old new before after began now
   pub runs : new.stopped ≡ false
   pub settled : (lists : Lists) → IsSettledFor lists before → IsSettledFor lists after
   pub fits : MapFits old.map entry
   pub taken : new.map ≡ map_applied entry old.map
+  pub further : old.map_log.end < new.map_log.end
   pub due : (uid : ℕ) → due_at uid new ≡ due_by entry (λ other. due_at other old) uid
   pub spared : (uid : ℕ) (row : MapRecord) → record_at old.map uid ≡ Some row → IsSpared uid row new before after
   pub mail : KeepsMail before after
@@ -73,12 +74,13 @@ MapAnswers entry (Err e) old new before after began now = MapFell old new before
 -- ---- to the log of a mailbox
 
 -- Of a settled disk each image at every moment is safe for its lists, or for those that the entry gives. The map, the storage
--- files and the rest of the store stay, and so do files and instances at each moment.
+-- files and the rest of the store stay, and so do files and instances at each moment. So does the map log.
 pub record BoxAppends {D : Type 0} (number : ℕ) (entry : BoxEntry) (old new : StoreValue D) (before after : Option History) (began now : Faults) : Type 0 where
   pub moments : (lists : Lists) (octets : List ℕ) → Brings old.map entry octets before → IsSettledFor lists before → Leaves lists (lists_by number octets entry lists) before after
   pub map : new.map ≡ old.map
   pub drawn : new.drawn ≡ old.drawn
   pub files : new.files ≡ old.files
+  pub end : old.map_log.end ≤ new.map_log.end
   pub room : old.map_log.room ≤ new.map_log.room
   pub rest : KeepsRest old new
   pub stays : (m : MapMeaning) → MailIsKept m before after

@@ -1,5 +1,5 @@
 -- Requests that copy a message: what they are refused for, where they stand, and what their events do.
-use Rattle.std.specs.Prelude.{◌≡◌, ◌≤◌, ◌<◌, ◌⊎◌, ℕ, nat_le, List, length, is_some, if◌then◌else◌, Option, Some, None}
+use Rattle.std.specs.Prelude.{◌≡◌, ◌≢◌, ◌≤◌, ◌<◌, ◌⊎◌, ℕ, nat_le, List, length, is_some, if◌then◌else◌, Option, Some, None}
 use Rattle.std.specs.Option.{option_map_or, option_or}
 use Rattle.disk_model.specs.Disk.{History, Faults}
 use Rattle.mdbox_base.specs.declared.entries.BoxEntry.{BoxEntry}
@@ -16,6 +16,7 @@ use Rattle.model_meaning.specs.MapMeaning.{count_of}
 use Rattle.list_machine.specs.Machine.{refused_where}
 use Rattle.store_core.specs.Keeping.{KeepsUid}
 use Rattle.store_core.specs.Value.{StoreValue, list_named}
+use Rattle.task_claims.specs.Leaving.{number_named}
 use Rattle.mail_ops.specs.Appends.{MapTook, MapFell, BoxTook, BoxFell}
 use Rattle.mail_ops.specs.Messages.{IsBoxOf, IsRowOf}
 use Rattle.mail_ops.specs.declared.event.NotDone.{NotDone}
@@ -88,23 +89,41 @@ IsNotRaised name uid target (not_done.Refused why) old new before after began no
 IsNotRaised name uid target not_done.NoMemory old new before after began now = (new ≡ old) × MayBeRaised name uid.0 target old
 IsNotRaised name uid target not_done.Stopped old new before after began now = MapFell old new before after began now × MayBeRaised name uid.0 target old
 
--- The message was added to the target, by the record that is held.
-pub record AddsRow {D : Type 0} (name : List ℕ) (uid : Uid) (target : List ℕ) (held : MapUid) (given : Uid) (old new : StoreValue D) (before after : Option History) (began now : Faults) : Type 0 where
+-- No check refuses the message, and the name of its source names the mailbox from which it began, or another.
+pub record IsStillNamed {D : Type 0} (name : List ℕ) (uid : ℕ) (target : List ℕ) (source : ℕ) (store : StoreValue D) : Type 0 where
+  pub free : copy_refusal name uid target store ≡ None
+  pub named : number_named store.map name ≡ Some source
+
+pub record IsNamedElsewhere {D : Type 0} (name : List ℕ) (uid : ℕ) (target : List ℕ) (source : ℕ) (store : StoreValue D) : Type 0 where
+  pub other : ℕ
+  pub free : copy_refusal name uid target store ≡ None
+  pub named : number_named store.map name ≡ Some other
+  pub differs : other ≢ source
+
+-- The message was added to the target, from the mailbox with this number, by the record that is held.
+pub record AddsRow {D : Type 0} (name : List ℕ) (uid : Uid) (target : List ℕ) (held : MapUid) (source : BoxNo) (given : Uid) (old new : StoreValue D) (before after : Option History) (began now : Faults) : Type 0 where
   pub row : LogRow
   pub number : ℕ
   pub at : CopyPlace name uid.0 target old row number given.0
+  pub source_is : at.source ≡ source.0
   pub holds : held.0 ≡ row.map_uid
   pub took : BoxTook number (added_copy given row) old new before after began now
 
-pub record FellAdding {D : Type 0} (name : List ℕ) (uid : Uid) (target : List ℕ) (held : MapUid) (old new : StoreValue D) (before after : Option History) (began now : Faults) : Type 0 where
+pub record FellAdding {D : Type 0} (name : List ℕ) (uid : Uid) (target : List ℕ) (held : MapUid) (source : BoxNo) (old new : StoreValue D) (before after : Option History) (began now : Faults) : Type 0 where
   pub row : LogRow
   pub number : ℕ
   pub given : Uid
   pub at : CopyPlace name uid.0 target old row number given.0
+  pub source_is : at.source ≡ source.0
   pub holds : held.0 ≡ row.map_uid
   pub fell : BoxFell number (added_copy given row) old new before after began now
 
-abbrev pub IsNotAdded : {D : Type 0} → List ℕ → Uid → List ℕ → MapUid → NotDone → StoreValue D → StoreValue D → Option History → Option History → Faults → Faults → Type 0
-IsNotAdded name uid target held (not_done.Refused why) old new before after began now = (new ≡ old) × (copy_refusal name uid.0 target old ≡ Some why)
-IsNotAdded name uid target held not_done.NoMemory old new before after began now = (new ≡ old) × (copy_refusal name uid.0 target old ≡ None)
-IsNotAdded name uid target held not_done.Stopped old new before after began now = FellAdding name uid target held old new before after began now
+-- What the second event did: the message was added, with this UID, or it is to begin again.
+abbrev pub AddsUnless : {D : Type 0} → List ℕ → Uid → List ℕ → MapUid → BoxNo → Option Uid → StoreValue D → StoreValue D → Option History → Option History → Faults → Faults → Type 0
+AddsUnless name uid target held source (Some given) old new before after began now = AddsRow name uid target held source given old new before after began now
+AddsUnless name uid target held source None old new before after began now = (new ≡ old) × IsNamedElsewhere name uid.0 target source.0 old
+
+abbrev pub IsNotAdded : {D : Type 0} → List ℕ → Uid → List ℕ → MapUid → BoxNo → NotDone → StoreValue D → StoreValue D → Option History → Option History → Faults → Faults → Type 0
+IsNotAdded name uid target held source (not_done.Refused why) old new before after began now = (new ≡ old) × (copy_refusal name uid.0 target old ≡ Some why)
+IsNotAdded name uid target held source not_done.NoMemory old new before after began now = (new ≡ old) × IsStillNamed name uid.0 target source.0 old
+IsNotAdded name uid target held source not_done.Stopped old new before after began now = FellAdding name uid target held source old new before after began now

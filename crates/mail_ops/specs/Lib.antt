@@ -1,8 +1,11 @@
 pub mod Appends
+pub mod Changing
 pub mod Copy
 pub mod CopyStages
 pub mod Copying
 pub mod Counting
+pub mod DeleteStages
+pub mod Deleting
 pub mod Event
 pub mod Expunging
 pub mod Flagging
@@ -14,6 +17,7 @@ pub mod MoveStages
 pub mod Moving
 pub mod OnlyLogs
 pub mod Owing
+pub mod Renaming
 pub mod Requests
 pub mod SparedMail
 pub mod Task

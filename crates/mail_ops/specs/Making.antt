@@ -89,13 +89,14 @@ pub record MakesLog {D : Type 0} (number : ℕ) (old new : StoreValue D) : Type 
   pub unnamed : IsUnnamed number new.map
   pub same : new ≡ record (with_drawn_box number old) { disk = new.disk; made = new.made }
 
--- The map names the mailbox, which is its last one and empty, and whose log is no longer one of those that it doesn't name. The room of
--- the map log doesn't fall.
+-- The map names the mailbox, which is its last one and empty, and whose log is no longer one of those that it doesn't name. The map log
+-- has grown, and has no less room.
 pub record NamesLog {D : Type 0} (number : BoxNo) (name : List ℕ) (old new : StoreValue D) : Type 0 where
   pub map : new.map ≡ map_applied (map_entry.B number 1 name) old.map
   pub indexes : indexes_of new.boxes ≡ indexes_of old.boxes ++ box_meaning [] ∷ []
   pub made : new.made ≡ without_box number.0 old.made
   pub room : old.map_log.room ≤ new.map_log.room
+  pub further : old.map_log.end < new.map_log.end
   pub same : new ≡ record old { disk = new.disk; map_log = new.map_log; map = new.map; boxes = new.boxes; made = new.made }
 
 -- The log was removed: no crash leaves it. Each other file is as it was, with its name synced.

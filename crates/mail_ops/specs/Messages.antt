@@ -1,13 +1,11 @@
 -- Where a message is listed in a store.
-use Rattle.std.specs.Prelude.{◌≡◌, ℕ, List, find, is_some, if◌then◌else◌, Option, Some, None}
+use Rattle.std.specs.Prelude.{◌≡◌, ℕ, List, find, is_some, if◌then◌else◌, option_and_then, Option, Some, None}
 use Rattle.std.specs.Option.{option_map, option_map_or}
 use Rattle.std.specs.Str.{bytes_eq}
 use Rattle.mdbox_base.specs.declared.replies.Refusal.{Refusal}
 use Rattle.mdbox_base.specs.declared.replies.Refusal.TheVariants as refusal
 use Rattle.model_meaning.specs.BoxMeaning.{LogRow, BoxMeaning, row_at}
-use Rattle.store_core.specs.Keeping.{KeepsUid}
 use Rattle.store_core.specs.Value.{StoreValue, list_named, list_numbered}
-use Rattle.task_claims.specs.Leaving.{number_named}
 
 -- Why there is no such message: no mailbox has the name, or no message of it the UID.
 abbrev pub missing_message : {D : Type 0} → List ℕ → ℕ → StoreValue D → Option Refusal
@@ -25,7 +23,14 @@ pub record IsRowOf {D : Type 0} (name : List ℕ) (uid : ℕ) (store : StoreValu
   pub box : IsBoxOf name store number m
   pub listed : row_at m uid ≡ Some row
 
--- The mailbox with this name has this number, and lists no other message with this UID than one of this record.
-pub record KeepsNamed {D : Type 0} (name : List ℕ) (source uid held : ℕ) (store : StoreValue D) : Type 0 where
-  pub named : number_named store.map name ≡ Some source
-  pub keeps : KeepsUid source uid held store
+-- ---- by the number of the mailbox
+
+-- the row with this UID of the mailbox with this number: none if it isn't there, or doesn't list the UID
+abbrev pub row_numbered : {D : Type 0} → ℕ → ℕ → StoreValue D → Option LogRow
+row_numbered number uid store = option_and_then (λ m. row_at m uid) (list_numbered store number)
+
+-- The mailbox with this number is there, and lists this row with the UID.
+pub record IsRowIn {D : Type 0} (number uid : ℕ) (store : StoreValue D) (row : LogRow) : Type 0 where
+  pub m : BoxMeaning
+  pub numbered : list_numbered store number ≡ Some m
+  pub listed : row_at m uid ≡ Some row

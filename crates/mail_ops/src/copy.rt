@@ -1,5 +1,5 @@
 // Copying a message to a mailbox.
-ghost use Rattle.std.specs.Prelude.{◌≡◌, ◌<◌, false, ℕ};
+ghost use Rattle.std.specs.Prelude.{◌≡◌, ◌<◌, ◌+◌, ◌*◌, false, ℕ};
 ghost use Rattle.journal.specs.Events.{Around};
 ghost use Rattle.mdbox_base.specs.declared.progress.Did.TheVariants as did;
 ghost use Rattle.mdbox_base.specs.declared.progress.Progress.TheVariants as progress;
@@ -11,6 +11,7 @@ ghost use Rattle.mail_ops.specs.Copy.{IsAtCopy, copy_left, IsReadyToCopy, CopyAn
 ghost use Rattle.task_claims.specs.Stable.{MovesOwnClaims};
 ghost use Rattle.mail_ops.specs.Claims.{copy_claims};
 ghost use Rattle.mail_ops.specs.OnlyLogs.{ChangesOnlyLogs};
+ghost use Rattle.mail_ops.specs.Owing.{map_room_left};
 ghost use Rattle.store_seen.specs.Seeing.{seen_of};
 ghost use Rattle.mail_ops.specs.declared.copy.CopyStage.TheVariants as stage;
 
@@ -30,6 +31,8 @@ pub enum CopyStage {
     First,
     /// The second, which adds the message to the target. The copy began from the mailbox with this number.
     Adding { held: Lowering, source: BoxNo },
+    /// Behind a second that found another mailbox under the source's name: it gives the count back, and the copy begins again.
+    BeginningAgain(Lowering),
     /// The third, which gives the count back, and this reply.
     GivingBack { held: Lowering, why: Refusal },
 }
@@ -74,10 +77,11 @@ impl CopyTask {
     }
 
     /// Does the next event: the first raises the count of the message's record, and takes the memory to give it back; the second
-    /// adds the message to the target; if that is refused, the third gives the count back. A task that has given its reply
+    /// adds the message to the target; if that is refused, the third gives the count back. If the source's name names another mailbox at
+    /// the second, nothing is added, the third gives the count back, and the copy begins again. A task that has given its reply
     /// begins anew; one that was stopped stays where it was.
     pub fn step<D: Disk>(&mut self, store: &mut Store<D>) -> Progress
-        // What it holds is due in the store, and the source lists no other message with the UID, also afterwards.
+        // What it holds is due in the store, and the mailbox from which it began lists no other message with the UID, also afterwards.
         requires ready { store.old.stopped ≡ false → IsReadyToCopy self.old.name self.old.uid self.old.stage store.old }
         ensures ready { store.new.stopped ≡ false → IsReadyToCopy self.old.name self.old.uid self.new.stage store.new }
 
@@ -94,8 +98,8 @@ impl CopyTask {
         // nothing.
         ensures claims { store.new.stopped ≡ false → MovesOwnClaims (copy_claims self.old.stage) (copy_claims self.new.stage) result store.old store.new (D.history store.old.disk) (D.history store.new.disk) }
 
-        // So it ends.
-        ensures left { result ≡ progress.More → copy_left self.new.stage < copy_left self.old.stage }
+        // So it ends: what grows as it begins again has been paid by the map log.
+        ensures left { result ≡ progress.More → copy_left self.new.stage + 3 * map_room_left store.new < copy_left self.old.stage + 3 * map_room_left store.old }
         ensures request { (self.new.name ≡ self.old.name) × (self.new.uid ≡ self.old.uid) × (self.new.target ≡ self.old.target) }
     {
         store.facts();
@@ -136,19 +140,14 @@ fn next_event<D: Disk>(
                 error.did(Half::Whole, Did::Failed),
             ),
         },
-        CopyStage::Adding { held, source } => match add(store, name, uid, target, held.uid()) {
-            Ok(uid) => (
-                CopyStage::First,
-                Progress::Done(Reply::Copied { uid }),
-                Did::Step(Half::Whole),
-            ),
-            Err(NotDone::Stopped) => (
-                CopyStage::Adding { held, source },
+        CopyStage::Adding { held, source } => add_event(store, name, uid, target, held, source),
+        CopyStage::BeginningAgain(held) => match held.append(store) {
+            Ok(()) => (CopyStage::First, Progress::More, Did::Quiet),
+            Err(Stopped) => (
+                CopyStage::BeginningAgain(held),
                 Progress::Done(Reply::Refused(Refusal::Stopped)),
-                Did::Broken(Half::Whole),
+                Did::Failed,
             ),
-            Err(NotDone::NoMemory) => give_back(held, Refusal::NoMemory, Did::Quiet),
-            Err(NotDone::Refused(why)) => give_back(held, why, Did::Step(Half::Whole)),
         },
         CopyStage::GivingBack { held, why } => match held.append(store) {
             Ok(()) => (
@@ -162,6 +161,36 @@ fn next_event<D: Disk>(
                 Did::Failed,
             ),
         },
+    }
+}
+
+/// The second event: adds the message to the target.
+fn add_event<D: Disk>(
+    store: &mut Store<D>,
+    name: &Name,
+    uid: Uid,
+    target: &Name,
+    held: Lowering,
+    source: BoxNo,
+) -> (CopyStage, Progress, Did)
+    requires running { store.old.stopped ≡ false }
+    requires ready { IsReadyToCopy name.now uid (stage.Adding held source) store.old }
+    ensures { CopiesOn name.now uid target.now (stage.Adding held source) result.0 result.1 result.2 store.old store.new (D.history store.old.disk) (D.history store.new.disk) (D.faults store.old.disk) (D.faults store.new.disk) }
+{
+    match add(store, name, uid, target, held.uid(), source) {
+        Ok(Some(uid)) => (
+            CopyStage::First,
+            Progress::Done(Reply::Copied { uid }),
+            Did::Step(Half::Whole),
+        ),
+        Ok(None) => (CopyStage::BeginningAgain(held), Progress::More, Did::Quiet),
+        Err(NotDone::Stopped) => (
+            CopyStage::Adding { held, source },
+            Progress::Done(Reply::Refused(Refusal::Stopped)),
+            Did::Broken(Half::Whole),
+        ),
+        Err(NotDone::NoMemory) => give_back(held, Refusal::NoMemory, Did::Quiet),
+        Err(NotDone::Refused(why)) => give_back(held, why, Did::Step(Half::Whole)),
     }
 }
 

@@ -1,10 +1,10 @@
 // Copying a message: the events of a copy, and of the first half of a move.
-ghost use Rattle.std.specs.Prelude.{◌≡◌, ◌≤◌, ◌<◌, length, Some, IfSome, IfOk, IfErr, false};
+ghost use Rattle.std.specs.Prelude.{◌≡◌, ◌≤◌, ◌<◌, length, Some, IfOk, IfErr, false};
 ghost use Rattle.box_index.specs.Row.{row_of};
 ghost use Rattle.store_core.specs.Dues.{due_at};
 ghost use Rattle.store_core.specs.Keeping.{KeepsUid};
 ghost use Rattle.task_claims.specs.Leaving.{number_named};
-ghost use Rattle.mail_ops.specs.Copying.{CopyPlace, copy_refusal, room_refusal, RaisesRow, IsNotRaised, AddsRow, IsNotAdded};
+ghost use Rattle.mail_ops.specs.Copying.{CopyPlace, copy_refusal, room_refusal, RaisesRow, IsNotRaised, AddsUnless, IsNotAdded};
 
 use crate::event::NotDone;
 use crate::lowering::Lowering;
@@ -110,27 +110,33 @@ pub(crate) fn raise<D: Disk>(
     }
 }
 
-/// Adds the message, as it is listed now, to the target, by its record whose count was raised. It gets the target's next UID.
+/// Adds the message, as it is listed now, to the target, by its record whose count was raised. It gets the target's next UID. None if
+/// the source's name names another mailbox than the one with this number: then nothing is added.
 pub(crate) fn add<D: Disk>(
     store: &mut Store<D>,
     name: &Name,
     uid: Uid,
     target: &Name,
     held: MapUid,
-) -> Result<Uid, NotDone>
+    source: BoxNo,
+) -> Result<Option<Uid>, NotDone>
     requires running { store.old.stopped ≡ false }
     requires due { 1 ≤ due_at held.0 store.old }
-    requires keeps { IfSome (number_named store.old.map name.now) (λ source. KeepsUid source uid.0 held.0 store.old) }
-    ensures added { IfOk result (λ given. AddsRow name.now uid target.now held given store.old store.new (D.history store.old.disk) (D.history store.new.disk) (D.faults store.old.disk) (D.faults store.new.disk)) }
-    ensures refused { IfErr result (λ error. IsNotAdded name.now uid target.now held error store.old store.new (D.history store.old.disk) (D.history store.new.disk) (D.faults store.old.disk) (D.faults store.new.disk)) }
+    requires keeps { KeepsUid source.0 uid.0 held.0 store.old }
+    ensures added { IfOk result (λ given. AddsUnless name.now uid target.now held source given store.old store.new (D.history store.old.disk) (D.history store.new.disk) (D.faults store.old.disk) (D.faults store.new.disk)) }
+    ensures refused { IfErr result (λ error. IsNotAdded name.now uid target.now held source error store.old store.new (D.history store.old.disk) (D.history store.new.disk) (D.faults store.old.disk) (D.faults store.new.disk)) }
 {
     store.facts();
     let CopyAt {
         row,
-        source: _,
+        source: BoxNo(now),
         target: number,
         next,
     } = find_copy(store, name, uid, target)?;
+    let BoxNo(began) = source;
+    if now != began {
+        return Ok(None);
+    }
     let entry = BoxEntry::A {
         uid: next,
         flags: row.flags.bits(),
@@ -140,7 +146,7 @@ pub(crate) fn add<D: Disk>(
         guid: row.guid,
     };
     match store.append_box(number, &entry) {
-        Ok(()) => Ok(next),
+        Ok(()) => Ok(Some(next)),
         Err(StepError::Stopped) => Err(NotDone::Stopped),
         Err(StepError::NoMemory) => Err(NotDone::NoMemory),
     }

@@ -16,16 +16,19 @@ ghost use Rattle.model_meaning.specs.BoxMeaning.{LogRow, BoxMeaning, row_at};
 ghost use Rattle.model_meaning.specs.MapMeaning.{MapBox};
 ghost use Rattle.model_store.specs.Listing.{ShowLists, meaning_named, listing_of};
 ghost use Rattle.store_core.specs.Value.{StoreValue};
+ghost use Rattle.task_claims.specs.Claims.{no_claims};
 ghost use Rattle.task_claims.specs.Stable.{IsStable};
 ghost use Rattle.task_steps.specs.Step.{IsKept};
 ghost use Rattle.mail_ops.specs.Claims.{copy_claims, expunge_claims, make_claims, move_claims};
 ghost use Rattle.mail_ops.specs.Copy.{IsAtCopy, IsReadyToCopy};
+ghost use Rattle.mail_ops.specs.Deleting.{IsAtDelete, IsReadyToDelete};
 ghost use Rattle.mail_ops.specs.Expunging.{IsAtExpunge, expunge_amounts};
 ghost use Rattle.mail_ops.specs.Making.{IsAtMake, IsReadyToMake};
 ghost use Rattle.mail_ops.specs.Moving.{IsAtMove, IsReadyToMove};
 ghost use Rattle.mail_ops.specs.Owing.{AreDueIn};
 ghost use Rattle.mail_ops.specs.Task.{IsAt};
 ghost use Rattle.mail_ops.specs.declared.copy.CopyStage.{CopyStage};
+ghost use Rattle.mail_ops.specs.declared.deleting.DeleteStage.{DeleteStage};
 ghost use Rattle.mail_ops.specs.declared.expunging.ExpungeStage.{ExpungeStage};
 ghost use Rattle.mail_ops.specs.declared.making.MakeStage.{MakeStage};
 ghost use Rattle.mail_ops.specs.declared.moving.MoveStage.{MoveStage};
@@ -53,9 +56,14 @@ pub fn move_stages_are_kept()
     ensures { (uid : Uid) (stage : MoveStage) → IsKept (IsAtMove uid stage) }
 {}
 
-/// And those of a make.
+/// Those of a make.
 pub fn make_stages_are_kept()
     ensures { (stage : MakeStage) → IsKept (IsAtMake stage) }
+{}
+
+/// And those of a deletion.
+pub fn delete_stages_are_kept()
+    ensures { (stage : DeleteStage) → IsKept (IsAtDelete stage) }
 {}
 
 /// Each of these tasks stays ready for its next event beside each event of any other task that moves only its own claims and leaves to
@@ -65,6 +73,7 @@ pub fn ready_tasks_are_stable<D: Disk>()
     ensures moves { (name : List ℕ) (uid : Uid) (now : MoveStage) → IsStable (move_claims now) (λ (store : StoreValue D) (history : Option History). IsReadyToMove name uid now store) }
     ensures expunges { (now : ExpungeStage) → IsStable (expunge_claims now) (λ (store : StoreValue D) (history : Option History). AreDueIn store (expunge_amounts now)) }
     ensures makes { (now : MakeStage) → IsStable (make_claims now) (λ (store : StoreValue D) (history : Option History). IsReadyToMake now store) }
+    ensures deletes { (now : DeleteStage) → IsStable no_claims (λ (store : StoreValue D) (history : Option History). IsReadyToDelete now store) }
 {}
 
 /// Where lists are shown, what the logs of the mailboxes mean is what the list machine answers a listing.

@@ -111,7 +111,7 @@ impl MakeTask {
 }
 
 /// What is true of every mailbox name.
-fn known_name(name: &Name)
+pub(crate) fn known_name(name: &Name)
     ensures { IsName name.now }
 {
     let _ = name.as_octets();
@@ -228,7 +228,7 @@ fn remove_event<D: Disk>(
     ensures { RemovesOr number answer did result.0 result.1 result.2 store.old store.new (D.history store.old.disk) (D.history store.new.disk) (D.faults store.old.disk) (D.faults store.new.disk) }
 {
     store.known_logs();
-    match store.remove_box(number) {
+    match store.remove_box(number, 1) {
         Ok(()) => (MakeStage::First, answer, did),
         Err(Stopped) => (
             MakeStage::Naming(number),

@@ -1,7 +1,7 @@
 // Where a message is listed.
-ghost use Rattle.std.specs.Prelude.{◌≡◌, Some, None, IfOk, IfErr};
+ghost use Rattle.std.specs.Prelude.{◌≡◌, Some, None, IfNone, IfOk, IfErr, IfSome};
 ghost use Rattle.box_index.specs.Row.{row_of};
-ghost use Rattle.mail_ops.specs.Messages.{IsRowOf, missing_message};
+ghost use Rattle.mail_ops.specs.Messages.{IsRowIn, IsRowOf, missing_message, row_numbered};
 
 use box_index::BoxRow;
 use disk_model::Disk;
@@ -28,4 +28,14 @@ pub(crate) fn find_message<D: Disk>(
         unreachable!()
     };
     Ok((number, row))
+}
+
+/// The row with this UID of the mailbox with this number. None if the mailbox isn't there, or doesn't list the UID.
+pub(crate) fn find_in<D: Disk>(store: &Store<D>, number: BoxNo, uid: Uid) -> Option<BoxRow>
+    ensures found { IfSome result (λ row. IsRowIn number.0 uid.0 store.now (row_of row)) }
+    ensures none { IfNone result (row_numbered number.0 uid.0 store.now ≡ None) }
+{
+    let index = store.mailbox(number)?;
+    let row = index.find(uid)?;
+    Some(row)
 }

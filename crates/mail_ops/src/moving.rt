@@ -1,5 +1,5 @@
 // Moving a message to a mailbox.
-ghost use Rattle.std.specs.Prelude.{◌≡◌, ◌<◌, true, false, ℕ};
+ghost use Rattle.std.specs.Prelude.{◌≡◌, ◌<◌, ◌+◌, ◌*◌, true, false, ℕ};
 ghost use Rattle.journal.specs.Events.{Around};
 ghost use Rattle.mdbox_base.specs.declared.progress.Did.TheVariants as did;
 ghost use Rattle.mdbox_base.specs.declared.progress.Progress.TheVariants as progress;
@@ -11,6 +11,7 @@ ghost use Rattle.mail_ops.specs.Moving.{IsAtMove, move_left, IsReadyToMove, Move
 ghost use Rattle.task_claims.specs.Stable.{MovesOwnClaims};
 ghost use Rattle.mail_ops.specs.Claims.{move_claims};
 ghost use Rattle.mail_ops.specs.OnlyLogs.{ChangesOnlyLogs};
+ghost use Rattle.mail_ops.specs.Owing.{map_room_left};
 ghost use Rattle.store_seen.specs.Seeing.{seen_of};
 ghost use Rattle.mail_ops.specs.declared.moving.MoveStage.TheVariants as stage;
 
@@ -34,12 +35,14 @@ pub enum MoveStage {
         held: Lowering,
         source: BoxNo,
     },
+    /// Behind a second that found another mailbox under the source's name: it gives the count back, and the move begins again.
+    BeginningAgain(Lowering),
     /// Behind a second that was refused: it gives the count back, and this reply.
     GivingBack {
         held: Lowering,
         why: Refusal,
     },
-    /// The third, which removes the message from its source, the mailbox with this number. The copy has this UID.
+    /// The third, which removes the message from the mailbox with this number, whatever its name is by then. The copy has this UID.
     Removing {
         held: Lowering,
         copied: Uid,
@@ -93,10 +96,11 @@ impl MoveTask {
 
     /// Does the next event: the first raises the count of the message's record, and takes the memory to lower it; the second adds
     /// the message to the target, and if that is refused, a third gives the count back; else the third removes the message
-    /// from its source, and the last lowers the count, or the third answers that it has gone. A task that has given its reply
-    /// begins anew; one that was stopped stays where it was.
+    /// from the mailbox from which the move began, and the last lowers the count, or the third answers that it has gone. If the source's
+    /// name names another mailbox at the second, nothing is added, a third gives the count back, and the move begins again. A task that
+    /// has given its reply begins anew; one that was stopped stays where it was.
     pub fn step<D: Disk>(&mut self, store: &mut Store<D>) -> Progress
-        // What it holds or owes is due in the store, and the source lists no other message with the UID, also afterwards.
+        // What it holds or owes is due in the store, and the mailbox from which it began lists no other message with the UID, also afterwards.
         requires ready { store.old.stopped ≡ false → IsReadyToMove self.old.name self.old.uid self.old.stage store.old }
         ensures ready { store.new.stopped ≡ false → IsReadyToMove self.old.name self.old.uid self.new.stage store.new }
 
@@ -114,8 +118,8 @@ impl MoveTask {
         // nothing.
         ensures claims { store.new.stopped ≡ false → MovesOwnClaims (move_claims self.old.stage) (move_claims self.new.stage) result store.old store.new (D.history store.old.disk) (D.history store.new.disk) }
 
-        // So it ends.
-        ensures left { result ≡ progress.More → move_left self.new.stage < move_left self.old.stage }
+        // So it ends: what grows as it begins again has been paid by the map log.
+        ensures left { result ≡ progress.More → move_left self.new.stage + 3 * map_room_left store.new < move_left self.old.stage + 3 * map_room_left store.old }
         ensures request { (self.new.name ≡ self.old.name) × (self.new.uid ≡ self.old.uid) × (self.new.target ≡ self.old.target) }
     {
         store.facts();
@@ -157,6 +161,14 @@ fn next_event<D: Disk>(
             ),
         },
         MoveStage::Adding { held, source } => add_event(store, name, uid, target, held, source),
+        MoveStage::BeginningAgain(held) => match held.append(store) {
+            Ok(()) => (MoveStage::First, Progress::More, Did::Quiet),
+            Err(Stopped) => (
+                MoveStage::BeginningAgain(held),
+                Progress::Done(Reply::Refused(Refusal::Stopped)),
+                Did::Failed,
+            ),
+        },
         MoveStage::GivingBack { held, why } => match held.append(store) {
             Ok(()) => (
                 MoveStage::First,
@@ -205,8 +217,8 @@ fn add_event<D: Disk>(
     requires ready { IsReadyToMove name.now uid (stage.Adding held source) store.old }
     ensures { MovesOn name.now uid target.now (stage.Adding held source) result.0 result.1 result.2 store.old store.new (D.history store.old.disk) (D.history store.new.disk) (D.faults store.old.disk) (D.faults store.new.disk) }
 {
-    match add(store, name, uid, target, held.uid()) {
-        Ok(copied) => (
+    match add(store, name, uid, target, held.uid(), source) {
+        Ok(Some(copied)) => (
             MoveStage::Removing {
                 held,
                 copied,
@@ -215,6 +227,7 @@ fn add_event<D: Disk>(
             Progress::More,
             Did::Step(Half::CopyHalf),
         ),
+        Ok(None) => (MoveStage::BeginningAgain(held), Progress::More, Did::Quiet),
         Err(NotDone::Stopped) => (
             MoveStage::Adding { held, source },
             Progress::Done(Reply::Refused(Refusal::Stopped)),
@@ -232,7 +245,7 @@ fn give_back(held: Lowering, why: Refusal, did: Did) -> (MoveStage, Progress, Di
     (MoveStage::GivingBack { held, why }, Progress::More, did)
 }
 
-/// The third event: removes the message from its source, if it is still there.
+/// The third event: removes the message from the mailbox with this number, if it is still there.
 fn remove_event<D: Disk>(
     store: &mut Store<D>,
     name: &Name,
@@ -246,7 +259,7 @@ fn remove_event<D: Disk>(
     requires ready { IsReadyToMove name.now uid (stage.Removing held copied source) store.old }
     ensures { MovesOn name.now uid target.now (stage.Removing held copied source) result.0 result.1 result.2 store.old store.new (D.history store.old.disk) (D.history store.new.disk) (D.faults store.old.disk) (D.faults store.new.disk) }
 {
-    match remove_listed(store, name, uid, held.uid()) {
+    match remove_listed(store, source, uid, held.uid()) {
         Ok(true) => (
             MoveStage::Owing { owed: held, copied },
             Progress::More,

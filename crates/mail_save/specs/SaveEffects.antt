@@ -55,10 +55,11 @@ abbrev pub AreOthersTaken : {D : Type 0} → ℕ → StoreValue D → StoreValue
 AreOthersTaken file old new = (number : ℕ) → number ≢ file → is_taken_in number new.files.files ≡ is_taken_in number old.files.files
 
 -- What the logs mean stays, and so does all else but the disk, and whether the store is stopped. The room of the map log doesn't
--- fall.
+-- fall, and neither does its end, unless the store is stopped.
 pub record IsLeftAlone {D : Type 0} (old new : StoreValue D) : Type 0 where
   pub indexes : indexes_of new.boxes ≡ indexes_of old.boxes
   pub room : old.map_log.room ≤ new.map_log.room
+  pub end : new.stopped ≡ false → old.map_log.end ≤ new.map_log.end
   pub same : new ≡ record old { disk = new.disk; map_log = new.map_log; boxes = new.boxes; stopped = new.stopped }
 
 -- each record is there still, and stores what it stored
@@ -186,7 +187,7 @@ pub record PlacesParts {D : Type 0} (parts : SavedParts) (file : FileNo) (at : S
 abbrev pub saved_row : List InstRow → MapUid → SavedAt → MapRecord
 saved_row rows uid at = stored_row 0 1 uid at.file at.offset at.size at.guid rows
 
--- It has the next map uid, and one of it is due. The storage file is given back. The room of the map log doesn't fall.
+-- It has the next map uid, and one of it is due. The storage file is given back. The map log grows, and its room doesn't fall.
 pub record StoresPlaced {D : Type 0} (at : SavedAt) (rows : List InstRow) (time size : ℕ) (added : Added) (old new : StoreValue D) : Type 0 where
   pub uid_is : added.map_uid.0 ≡ old.drawn.map + 1
   pub few : old.drawn.map < 4294967294
@@ -202,6 +203,7 @@ pub record StoresPlaced {D : Type 0} (at : SavedAt) (rows : List InstRow) (time 
   pub ends : AreEndsSame old new
   pub others : AreOthersTaken at.file.0 old new
   pub room : old.map_log.room ≤ new.map_log.room
+  pub further : old.map_log.end < new.map_log.end
   pub same : new ≡ record old { disk = new.disk; map_log = new.map_log; map = new.map; files = record old.files { files = released_in at.file.0 old.files.files }; drawn = new.drawn; dues = new.dues; stopped = new.stopped }
 
 -- The storage file is given back, and nothing else has changed.
@@ -224,13 +226,14 @@ pub record AddsStored {D : Type 0} (name : List ℕ) (added : Added) (uid : Uid)
   pub due : (m : BoxMeaning) (other : ℕ) → list_named old name ≡ Some m → due_at other new ≡ due_by_box m (entry_added uid added) (λ k. due_at k old) other
   pub same : new ≡ record old { disk = new.disk; boxes = new.boxes; dues = new.dues; stopped = new.stopped }
 
--- The count of its record is lowered, and one less of it is due. The room of the map log doesn't fall.
+-- The count of its record is lowered, and one less of it is due. The map log grows, and its room doesn't fall.
 pub record LowersRecord {D : Type 0} (uid : MapUid) (old new : StoreValue D) : Type 0 where
   pub fits : MapFits old.map (entry_lowered uid)
   pub map : new.map ≡ map_applied (entry_lowered uid) old.map
   pub due : (other : ℕ) → due_at other new ≡ due_by (entry_lowered uid) (λ k. due_at k old) other
   pub mailboxes : new.map.boxes ≡ old.map.boxes
   pub room : old.map_log.room ≤ new.map_log.room
+  pub further : old.map_log.end < new.map_log.end
   pub same : new ≡ record old { disk = new.disk; map_log = new.map_log; map = new.map; dues = new.dues; stopped = new.stopped }
 
 -- ---- by stage

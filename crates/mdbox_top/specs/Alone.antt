@@ -6,11 +6,10 @@ use Rattle.mdbox_base.specs.declared.replies.Reply.{Reply}
 use Rattle.mdbox_base.specs.declared.replies.Reply.TheVariants as reply
 use Rattle.mdbox_base.specs.declared.requests.Request.{Request}
 use Rattle.mdbox_base.specs.declared.requests.Request.TheVariants as request
-use Rattle.list_machine.specs.Machine.{delete_mailbox, rename_mailbox}
-use Rattle.mdbox_top.specs.Changed.{ChangeMoments, ChangeRests}
 use Rattle.mdbox_top.specs.InputRun.{IsOneOf}
 use Rattle.tasks_alone.specs.FaultsAlone.{FaultsByReply}
 use Rattle.mdbox_top.specs.ListRun.{IsListReply, ListMoments, ListRests}
+use Rattle.mdbox_top.specs.DeleteRun.{IsDeleteReply, DeleteMoments, DeleteRests}
 use Rattle.mdbox_top.specs.DeliverRun.{IsDeliverReply, SaveMoments, SaveRests}
 use Rattle.mdbox_top.specs.FetchRun.{IsFetchReply, FetchMoments, FetchRests}
 use Rattle.mdbox_top.specs.FlagRun.{IsFlagReply, FlagMoments, FlagRests}
@@ -20,9 +19,10 @@ use Rattle.mdbox_top.specs.MoveRun.{IsMoveReply, MoveMoments, MoveRests}
 use Rattle.mdbox_top.specs.ExpungeRun.{IsExpungeReply, ExpungeMoments, ExpungeRests}
 use Rattle.mdbox_top.specs.CountsRun.{IsCountsReply, CountsMoments, CountsRests}
 use Rattle.mdbox_top.specs.PurgeRun.{IsPurgeReply, PurgeMoments, PurgeRests}
+use Rattle.mdbox_top.specs.RenameRun.{IsRenameReply, RenameMoments, RenameRests}
 use Rattle.mdbox_top.specs.ResyncRun.{IsResyncReply, ResyncMoments, ResyncRests}
 
--- what its reply tells: no deletion and no renaming is replied, since neither has a task yet
+-- what its reply tells
 abbrev pub ReplyTells : Request → Option History → Option History → Reply → Type 0
 ReplyTells (request.Deliver name time octets) = IsDeliverReply name time octets
 ReplyTells (request.List name) = IsListReply name
@@ -32,8 +32,8 @@ ReplyTells (request.Expunge name uid) = IsExpungeReply name uid
 ReplyTells (request.Copy name uid target) = IsCopyReply name uid target
 ReplyTells (request.Move name uid target) = IsMoveReply name uid target
 ReplyTells (request.Make name) = IsMakeReply name
-ReplyTells (request.Delete name) = λ old new given. ⊥
-ReplyTells (request.Rename name target) = λ old new given. ⊥
+ReplyTells (request.Delete name) = IsDeleteReply name
+ReplyTells (request.Rename name target) = IsRenameReply name target
 ReplyTells request.Counts = IsCountsReply
 ReplyTells request.Resync = IsResyncReply
 ReplyTells request.Purge = IsPurgeReply
@@ -48,8 +48,8 @@ RequestMoments (request.Expunge name uid) = ExpungeMoments name uid
 RequestMoments (request.Copy name uid target) = CopyMoments name uid target
 RequestMoments (request.Move name uid target) = MoveMoments name uid target
 RequestMoments (request.Make name) = MakeMoments name
-RequestMoments (request.Delete name) = ChangeMoments (delete_mailbox name)
-RequestMoments (request.Rename name target) = ChangeMoments (rename_mailbox name target)
+RequestMoments (request.Delete name) = DeleteMoments name
+RequestMoments (request.Rename name target) = RenameMoments name target
 RequestMoments request.Counts = CountsMoments
 RequestMoments request.Resync = ResyncMoments
 RequestMoments request.Purge = PurgeMoments
@@ -64,8 +64,8 @@ RequestRests (request.Expunge name uid) = ExpungeRests name uid
 RequestRests (request.Copy name uid target) = CopyRests name uid target
 RequestRests (request.Move name uid target) = MoveRests name uid target
 RequestRests (request.Make name) = MakeRests name
-RequestRests (request.Delete name) = ChangeRests (delete_mailbox name)
-RequestRests (request.Rename name target) = ChangeRests (rename_mailbox name target)
+RequestRests (request.Delete name) = DeleteRests name
+RequestRests (request.Rename name target) = RenameRests name target
 RequestRests request.Counts = CountsRests
 RequestRests request.Resync = ResyncRests
 RequestRests request.Purge = PurgeRests

@@ -2,6 +2,7 @@ pub mod Alone
 pub mod BatchRun
 pub mod BoxesRun
 pub mod CountsRun
+pub mod DeleteRun
 pub mod DeliverRun
 pub mod Changed
 pub mod CopyRun
@@ -18,6 +19,7 @@ pub mod Numbers
 pub mod OpeningOutcome
 pub mod PurgeRun
 pub mod RebuildRun
+pub mod RenameRun
 pub mod ResyncRun
 pub mod Run
 pub mod Served

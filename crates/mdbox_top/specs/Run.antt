@@ -19,6 +19,7 @@ use Rattle.mdbox_top.specs.InputRun.{DumpPrints, DumpRefuses, LogDumpPrints, Log
 use Rattle.mdbox_top.specs.InitRun.{InitOutcome, InitMoments, MayMakeStore}
 use Rattle.mdbox_top.specs.RebuildRun.{RebuildOutcome, RebuildMoments, RebuildNotes, IsLostNow, IsWholeNow}
 use Rattle.mdbox_top.specs.ListRun.{ListOutcome, ListMoments, ListRests}
+use Rattle.mdbox_top.specs.DeleteRun.{DeleteOutcome, DeleteMoments, DeleteRests}
 use Rattle.mdbox_top.specs.DeliverRun.{DeliverOutcome, DeliverMoments, DeliverRests, DeliverStatus}
 use Rattle.mdbox_top.specs.FetchRun.{FetchOutcome, FetchMoments, FetchRests}
 use Rattle.mdbox_top.specs.FlagRun.{FlagOutcome, FlagMoments, FlagRests}
@@ -28,6 +29,7 @@ use Rattle.mdbox_top.specs.MoveRun.{MoveOutcome, MoveMoments, MoveRests}
 use Rattle.mdbox_top.specs.ExpungeRun.{ExpungeOutcome, ExpungeMoments, ExpungeRests}
 use Rattle.mdbox_top.specs.CountsRun.{CountsOutcome, CountsMoments, CountsRests}
 use Rattle.mdbox_top.specs.PurgeRun.{PurgeOutcome, PurgeMoments, PurgeRests}
+use Rattle.mdbox_top.specs.RenameRun.{RenameOutcome, RenameMoments, RenameRests}
 use Rattle.mdbox_top.specs.ResyncRun.{ResyncOutcome, ResyncMoments, ResyncRests}
 
 -- How a command ends, over a disk of this kind: this was left of the input, this is the time that the clock would tell, the output held
@@ -42,6 +44,8 @@ Ends D (command.Expunge name uid) left told held later old new began now outcome
 Ends D (command.Copy name uid target) left told held later old new began now outcome = CopyOutcome D name uid target held later old new began now outcome
 Ends D (command.Move name uid target) left told held later old new began now outcome = MoveOutcome D name uid target held later old new began now outcome
 Ends D (command.Make name) left told held later old new began now outcome = MakeOutcome D name held later old new began now outcome
+Ends D (command.Delete name) left told held later old new began now outcome = DeleteOutcome D name held later old new began now outcome
+Ends D (command.Rename name target) left told held later old new began now outcome = RenameOutcome D name target held later old new began now outcome
 Ends D command.Boxes left told held later old new began now outcome = BoxesOutcome held later old new began now outcome
 Ends D command.Counts left told held later old new began now outcome = CountsOutcome D held later old new began now outcome
 Ends D command.Resync left told held later old new began now outcome = ResyncOutcome D held later old new began now outcome
@@ -85,6 +89,8 @@ Moments (command.Expunge name uid) left told old new = ExpungeMoments name uid o
 Moments (command.Copy name uid target) left told old new = CopyMoments name uid target old new
 Moments (command.Move name uid target) left told old new = MoveMoments name uid target old new
 Moments (command.Make name) left told old new = MakeMoments name old new
+Moments (command.Delete name) left told old new = DeleteMoments name old new
+Moments (command.Rename name target) left told old new = RenameMoments name target old new
 Moments command.Boxes left told old new = BoxesMoments old new
 Moments command.Counts left told old new = CountsMoments old new
 Moments command.Resync left told old new = ResyncMoments old new
@@ -105,6 +111,8 @@ Rests (command.Expunge name uid) left told failed began now old new = ExpungeRes
 Rests (command.Copy name uid target) left told failed began now old new = CopyRests name uid target failed began now old new
 Rests (command.Move name uid target) left told failed began now old new = MoveRests name uid target failed began now old new
 Rests (command.Make name) left told failed began now old new = MakeRests name failed began now old new
+Rests (command.Delete name) left told failed began now old new = DeleteRests name failed began now old new
+Rests (command.Rename name target) left told failed began now old new = RenameRests name target failed began now old new
 Rests command.Boxes left told failed began now old new = BoxesRests failed began now old new
 Rests command.Counts left told failed began now old new = CountsRests failed began now old new
 Rests command.Resync left told failed began now old new = ResyncRests failed began now old new
@@ -126,6 +134,8 @@ HasStatus (command.Expunge name uid) left old status = (lists : Lists) → IsSet
 HasStatus (command.Copy name uid target) left old status = (lists : Lists) → IsSettledFor lists old → IsOneOf (0 ∷ 1 ∷ 5 ∷ 6 ∷ 8 ∷ []) status
 HasStatus (command.Move name uid target) left old status = (lists : Lists) → IsSettledFor lists old → IsOneOf (0 ∷ 1 ∷ 5 ∷ 6 ∷ 8 ∷ []) status
 HasStatus (command.Make name) left old status = (lists : Lists) → IsSettledFor lists old → IsOneOf (0 ∷ 1 ∷ 5 ∷ 6 ∷ 8 ∷ []) status
+HasStatus (command.Delete name) left old status = (lists : Lists) → IsSettledFor lists old → IsOneOf (0 ∷ 1 ∷ 5 ∷ 6 ∷ 8 ∷ []) status
+HasStatus (command.Rename name target) left old status = (lists : Lists) → IsSettledFor lists old → IsOneOf (0 ∷ 1 ∷ 5 ∷ 6 ∷ 8 ∷ []) status
 HasStatus command.Boxes left old status = (lists : Lists) → IsSettledFor lists old → IsOneOf (0 ∷ 5 ∷ 6 ∷ 8 ∷ []) status
 HasStatus command.Counts left old status = (lists : Lists) → IsSettledFor lists old → IsOneOf (0 ∷ 5 ∷ 6 ∷ 8 ∷ []) status
 HasStatus command.Resync left old status = (lists : Lists) → IsSettledFor lists old → IsOneOf (0 ∷ 5 ∷ 6 ∷ 8 ∷ []) status
@@ -149,6 +159,8 @@ MayHaveFailed (command.Expunge name uid) status = MayFail (request.Expunge name 
 MayHaveFailed (command.Copy name uid target) status = MayFail (request.Copy name uid target) status
 MayHaveFailed (command.Move name uid target) status = MayFail (request.Move name uid target) status
 MayHaveFailed (command.Make name) status = MayFail (request.Make name) status
+MayHaveFailed (command.Delete name) status = MayFail (request.Delete name) status
+MayHaveFailed (command.Rename name target) status = MayFail (request.Rename name target) status
 MayHaveFailed command.Resync status = MayFail request.Resync status
 MayHaveFailed command.Purge status = MayFail request.Purge status
 MayHaveFailed (command.Batch lanes) status = IsOneOf (5 ∷ 6 ∷ 8 ∷ []) status
@@ -181,6 +193,8 @@ uses_disk (command.Expunge name uid) = true
 uses_disk (command.Copy name uid target) = true
 uses_disk (command.Move name uid target) = true
 uses_disk (command.Make name) = true
+uses_disk (command.Delete name) = true
+uses_disk (command.Rename name target) = true
 uses_disk command.Boxes = true
 uses_disk command.Counts = true
 uses_disk command.Resync = true

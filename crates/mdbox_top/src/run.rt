@@ -190,6 +190,10 @@ fn perform<P: Preparer, D: Disk, I: Source, O: Sink, E: Sink, C: Clock>(
             serve(alloc, request, None, disk, output)
         }
         Command::Make { name } => serve(alloc, Request::Make { name }, None, disk, output),
+        Command::Delete { name } => serve(alloc, Request::Delete { name }, None, disk, output),
+        Command::Rename { name, target } => {
+            serve(alloc, Request::Rename { name, target }, None, disk, output)
+        }
         Command::Batch { lanes } => batch(preparer, alloc, lanes, disk, input, output),
         Command::Serve => serve_input(alloc, disk, input, output),
         Command::Exercise {

@@ -55,6 +55,7 @@ pub fn switch<D: Disk>(store: &mut Store<D>, work: &mut Work) -> Result<Switched
     ensures kept { OnOk result ((source : SourceValue) (left : List SourceValue) → sources_left work.old ≡ source ∷ left → KeepsButTarget source.target (D.history store.old.disk) (D.history store.new.disk)) }
     ensures firm { OnOk result (KeepsFirm store.old store.new (D.history store.old.disk) (D.history store.new.disk)) }
     ensures room { store.old.map_log.room ≤ store.new.map_log.room }
+    ensures further { OnOk result (store.old.map_log.end < store.new.map_log.end) }
     ensures mailboxes { store.new.map.boxes ≡ store.old.map.boxes }
     ensures refused { IfErr result (λ why. (why ≡ refusal.Stopped) × (store.new.stopped ≡ true)) }
     ensures err { OnErr result (store.new ≡ record store.old { disk = store.new.disk; map_log = store.new.map_log; files = store.new.files; stopped = true }) }
@@ -195,6 +196,7 @@ fn append<D: Disk>(
     ensures firm { OnOk result (KeepsFirm store.old store.new (D.history store.old.disk) (D.history store.new.disk)) }
     ensures unpinned { IfOk result (λ unpinned. unpinned ≡ (pins_in file.0 store.old.files.files == 0)) }
     ensures room { store.old.map_log.room ≤ store.new.map_log.room }
+    ensures further { OnOk result (store.old.map_log.end < store.new.map_log.end) }
     ensures ok { OnOk result (store.new ≡ record store.old { disk = store.new.disk; map_log = store.new.map_log; map = store.new.map; files = record store.old.files { files = changed_in file.0 made_doomed store.old.files.files }; dues = store.new.dues }) }
     ensures refused { IfErr result (λ why. (why ≡ refusal.Stopped) × (store.new ≡ record store.old { disk = store.new.disk; map_log = store.new.map_log; stopped = true })) }
     ensures grows { Grows (D.history store.old.disk) (D.history store.new.disk) }

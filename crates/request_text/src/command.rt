@@ -30,6 +30,10 @@ pub enum Command {
     Move { name: Name, uid: Uid, target: Name },
     /// Makes an empty mailbox with this name.
     Make { name: Name },
+    /// Deletes the mailbox with this name, and removes all its messages.
+    Delete { name: Name },
+    /// Gives the mailbox with this name the name of the target.
+    Rename { name: Name, target: Name },
     /// Does the requests of the script that the input is, on so many lanes.
     Batch { lanes: u32 },
     /// Does requests as they come, and prints each reply before the next is read.
@@ -90,6 +94,10 @@ move BOX UID TO
             there; or prints NO with a number and the cause, as copy does
 make BOX    adds an empty mailbox with this name to the store and prints OK; or prints NO 11 exists,
             NO 15 too many mailboxes 1024, or NO 16 store full 4294967294
+delete BOX  removes the mailbox with all its messages and prints OK; or prints NO 10 no mailbox or NO 21 inbox
+rename BOX TO
+            gives the mailbox the name TO, its messages and their UIDs stay, and prints OK; or prints
+            NO 10 no mailbox, NO 21 inbox or NO 11 exists
 batch LANES reads a script from standard input, of at most 268435456 octets and 100000 requests, does its requests on
             so many lanes (1 to 64) over the store in the current folder, opened once, and prints a line for each, in
             the script's order: its number, the place of its step in the order in which the steps were made or -, and

@@ -77,6 +77,7 @@ fn read_two(alloc: Global, verb: &str, word: &[u8]) -> Result<Command, WordsErro
         "deliver" => read_deliver(alloc, word),
         "list" => read_list(alloc, word),
         "make" => read_make(alloc, word),
+        "delete" => read_delete(alloc, word),
         "batch" => read_batch(word),
         "rebuild" => read_rebuild(word),
         _ => Err(WordsError::Usage),
@@ -137,6 +138,16 @@ fn read_make(alloc: Global, word: &[u8]) -> Result<Command, WordsError>
     Ok(Command::Make { name })
 }
 
+/// The deletion of the mailbox with this name.
+fn read_delete(alloc: Global, word: &[u8]) -> Result<Command, WordsError>
+    ensures says { IfOk result (Says (codes "delete" ∷ word.now ∷ [])) }
+    ensures usage { IsErrOf result words_error.Usage → SayNothing (codes "delete" ∷ word.now ∷ []) }
+    ensures memory { IsErrOf result words_error.NoMemory → IsName word.now }
+{
+    let name = read_name(alloc, word)?;
+    Ok(Command::Delete { name })
+}
+
 /// The script for as many lanes as this word says.
 fn read_batch(word: &[u8]) -> Result<Command, WordsError>
     ensures says { IfOk result (Says (codes "batch" ∷ word.now ∷ [])) }
@@ -150,14 +161,15 @@ fn read_batch(word: &[u8]) -> Result<Command, WordsError>
 }
 
 /// The command that three words say.
-fn read_three(alloc: Global, verb: &str, name: &[u8], uid: &[u8]) -> Result<Command, WordsError>
-    ensures says { IfOk result (Says (verb.now ∷ name.now ∷ uid.now ∷ [])) }
-    ensures usage { IsErrOf result words_error.Usage → SayNothing (verb.now ∷ name.now ∷ uid.now ∷ []) }
-    ensures memory { IsErrOf result words_error.NoMemory → (command : Command) × NamesMailbox command × Says (verb.now ∷ name.now ∷ uid.now ∷ []) command }
+fn read_three(alloc: Global, verb: &str, first: &[u8], second: &[u8]) -> Result<Command, WordsError>
+    ensures says { IfOk result (Says (verb.now ∷ first.now ∷ second.now ∷ [])) }
+    ensures usage { IsErrOf result words_error.Usage → SayNothing (verb.now ∷ first.now ∷ second.now ∷ []) }
+    ensures memory { IsErrOf result words_error.NoMemory → (command : Command) × NamesMailbox command × Says (verb.now ∷ first.now ∷ second.now ∷ []) command }
 {
     match verb {
-        "fetch" => read_fetch(alloc, name, uid),
-        "expunge" => read_expunge(alloc, name, uid),
+        "fetch" => read_fetch(alloc, first, second),
+        "expunge" => read_expunge(alloc, first, second),
+        "rename" => read_rename(alloc, first, second),
         _ => Err(WordsError::Usage),
     }
 }
@@ -186,6 +198,16 @@ fn read_expunge(alloc: Global, name: &[u8], uid: &[u8]) -> Result<Command, Words
     };
     let name = read_name(alloc, name)?;
     Ok(Command::Expunge { name, uid })
+}
+
+/// The renaming of the mailbox with this name to the target.
+fn read_rename(alloc: Global, name: &[u8], target: &[u8]) -> Result<Command, WordsError>
+    ensures says { IfOk result (Says (codes "rename" ∷ name.now ∷ target.now ∷ [])) }
+    ensures usage { IsErrOf result words_error.Usage → SayNothing (codes "rename" ∷ name.now ∷ target.now ∷ []) }
+    ensures memory { IsErrOf result words_error.NoMemory → IsName name.now × IsName target.now }
+{
+    let (name, target) = read_names(alloc, name, target)?;
+    Ok(Command::Rename { name, target })
 }
 
 /// The command that four words say.

@@ -1,6 +1,7 @@
 -- A script of one request, and the lists that it leaves.
-use Rattle.std.specs.Prelude.{◌≡◌, ◌<◌, ◌+◌, ◌++◌, ◌⊎◌, ℕ, nat_le, Bool, List, [], ◌∷◌, All, if◌then◌else◌, is_some, length, Option, Some, None}
+use Rattle.std.specs.Prelude.{◌≡◌, ◌<◌, ◌+◌, ◌++◌, ◌⊎◌, ℕ, nat_le, Bool, List, [], ◌∷◌, All, if◌then◌else◌, codes, is_none, is_some, length, Option, Some, None}
 use Rattle.std.specs.Option.{option_map_or, option_or}
+use Rattle.std.specs.Str.{bytes_eq}
 use Rattle.disk_model.specs.Disk.{Between, told_calls, History, Faults, EachImage, reading}
 use Rattle.disk_model.specs.declared.name.FileName.{FileName}
 use Rattle.mdbox_base.specs.declared.entries.Highest.{Highest}
@@ -80,9 +81,11 @@ HasOneEvent (request.Flag name uid flags) = Unit {0}
 HasOneEvent request.Counts = Unit {0}
 HasOneEvent other = ⊥
 
--- A request that makes its step at the same event always: an expunge and a copy have further events.
+-- A request that makes its step at the same event always: an expunge, a deletion and a copy have further events.
 abbrev pub MakesOneStep : Request → Type 0
 MakesOneStep (request.Expunge name uid) = Unit {0}
+MakesOneStep (request.Delete name) = Unit {0}
+MakesOneStep (request.Rename name target) = Unit {0}
 MakesOneStep (request.Copy name uid target) = Unit {0}
 MakesOneStep asked = HasOneEvent asked
 
@@ -147,6 +150,14 @@ abbrev pub IsFlagAnswer : Option Refusal → Reply → Type 0
 IsFlagAnswer (Some why) given = given ≡ reply.Refused why
 IsFlagAnswer None given = (given ≡ reply.Done) ⊎ (given ≡ reply.Refused refusal.Stopped)
 
+-- Why the mailbox with this name isn't deleted, by what the logs mean: no mailbox has the name, or it is INBOX. And why it doesn't get
+-- another name: besides, a mailbox has that.
+abbrev pub undeleted_cause : List ℕ → Option BoxMeaning → Option Refusal
+undeleted_cause name found = option_or (refused_where (is_none found) refusal.NoMailbox) (refused_where (bytes_eq name (codes "INBOX")) refusal.Inbox)
+
+abbrev pub unrenamed_cause : List ℕ → Option BoxMeaning → Option BoxMeaning → Option Refusal
+unrenamed_cause name found other = option_or (undeleted_cause name found) (refused_where (is_some other) refusal.Exists)
+
 -- What a request replies that is done or isn't: its cause, if there is one. Else it is done; or there was no memory; or a change of
 -- the disk failed, and the store is stopped.
 abbrev pub IsChangeAnswer : Option Refusal → Reply → Type 0
@@ -205,9 +216,13 @@ ReadAlike = Between (λ a b. (name : FileName) → reading (b name) ≡ reading 
 abbrev pub AreAlongMake : ℕ → List ℕ → Lists → Lists → Type 0
 AreAlongMake number name lists some = (some ≡ lists) ⊎ (some ≡ with_mailbox number name lists)
 
--- The reply to a make, a setting of flags, an expunge, a copy or a move alone is so by the logs with which the store opened.
+-- The reply to a make, a deletion, a renaming, a setting of flags, an expunge, a copy or a move alone is so by the logs with which the
+-- store opened.
 abbrev pub IsToldAlone : Requests → MapMeaning → List BoxMeaning → List Reply → Type 0
 IsToldAlone ((lane, request.Make name) ∷ []) m meanings (given ∷ []) = IsChangeAnswer (unmade_cause (meaning_named name m.boxes meanings) m) given
+IsToldAlone ((lane, request.Delete name) ∷ []) m meanings (given ∷ []) = IsChangeAnswer (undeleted_cause name (meaning_named name m.boxes meanings)) given
+IsToldAlone ((lane, request.Rename name target) ∷ []) m meanings (given ∷ []) =
+    IsChangeAnswer (unrenamed_cause name (meaning_named name m.boxes meanings) (meaning_named target m.boxes meanings)) given
 IsToldAlone ((lane, request.Flag name uid flags) ∷ []) m meanings (given ∷ []) = IsFlagAnswer (missing_cause (meaning_named name m.boxes meanings) uid.0) given
 IsToldAlone ((lane, request.Expunge name uid) ∷ []) m meanings (given ∷ []) = IsChangeAnswer (missing_cause (meaning_named name m.boxes meanings) uid.0) given
 IsToldAlone ((lane, request.Copy name uid target) ∷ []) m meanings (given ∷ []) =
@@ -216,10 +231,13 @@ IsToldAlone ((lane, request.Move name uid target) ∷ []) m meanings (given ∷ 
     IsMoveAnswer (uncopied_cause (meaning_named name m.boxes meanings) (meaning_named target m.boxes meanings) m uid.0) (meaning_named target m.boxes meanings) given
 IsToldAlone script m meanings given = Unit {0}
 
--- A make, an expunge, a copy, a move, a resync or a purge alone was refused, and the store isn't stopped: nothing has changed since the
--- opening. So it is of an expunge, a resync and a purge also for want of memory; of a purge not if a read failed.
+-- A make, a deletion, a renaming, an expunge, a copy, a move, a resync or a purge alone was refused, and the store isn't stopped: nothing
+-- has changed since the opening. So it is of a deletion, a renaming, an expunge, a resync and a purge also for want of memory; of a purge
+-- not if a read failed.
 abbrev pub IsUndoneAlone : Requests → List Reply → Type 0
 IsUndoneAlone ((lane, request.Make name) ∷ []) (reply.Refused why ∷ []) = (why ≡ refusal.Stopped → ⊥) × (why ≡ refusal.NoMemory → ⊥)
+IsUndoneAlone ((lane, request.Delete name) ∷ []) (reply.Refused why ∷ []) = why ≡ refusal.Stopped → ⊥
+IsUndoneAlone ((lane, request.Rename name target) ∷ []) (reply.Refused why ∷ []) = why ≡ refusal.Stopped → ⊥
 IsUndoneAlone ((lane, request.Expunge name uid) ∷ []) (reply.Refused why ∷ []) = why ≡ refusal.Stopped → ⊥
 IsUndoneAlone ((lane, request.Copy name uid target) ∷ []) (reply.Refused why ∷ []) = (why ≡ refusal.Stopped → ⊥) × (why ≡ refusal.NoMemory → ⊥)
 IsUndoneAlone ((lane, request.Move name uid target) ∷ []) (reply.Refused why ∷ []) = (why ≡ refusal.Stopped → ⊥) × (why ≡ refusal.NoMemory → ⊥)

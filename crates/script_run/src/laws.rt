@@ -53,7 +53,7 @@ pub fn one_request()
 /// A request of one event is answered as the machine does at that event, on any lists that the logs show, of a run that has their map;
 /// unless there was no memory, or a failed change stopped the store. No such request reads octets of messages, so none is a read fault.
 /// Where a check refused it nothing has changed. A crash leaves the lists before it, or those that its step leaves: so it is of each
-/// request that makes its step at the same event always, an expunge and a copy too, from lists that the logs show.
+/// request that makes its step at the same event always, a deletion, a renaming, an expunge and a copy too, from lists that the logs show.
 pub fn requests_of_one_event()
     ensures answered { (asked : Request) (given : Reply) (entries : List JournalEntry) (old new : Option History) (began now : Faults) → (done : IsScriptDone (alone asked) (given ∷ []) entries old new began now) → HasOneEvent asked → (lists : Lists) → LogsShowLists done.m done.meanings lists → IsUnanswered given ⊎ IsAnsweredFirst asked done.m lists given }
     ensures unread { (asked : Request) (given : Reply) (entries : List JournalEntry) (old new : Option History) (began now : Faults) → IsScriptDone (alone asked) (given ∷ []) entries old new began now → MakesSteps asked → given ≡ reply.Refused refusal.ReadFault → ⊥ }

@@ -37,6 +37,8 @@ verb_text verb.Copy = codes "copy"
 verb_text verb.Move = codes "move"
 verb_text verb.Expunge = codes "expunge"
 verb_text verb.Make = codes "make"
+verb_text verb.Delete = codes "delete"
+verb_text verb.Rename = codes "rename"
 
 -- a request has the verb in front of the text
 abbrev pub BeginsVerb : List ℕ → Type 0

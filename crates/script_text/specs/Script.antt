@@ -48,7 +48,7 @@ abbrev pub script_text : List (ℕ × Request) → List ℕ
 script_text requests = flat_map request_text requests
 
 -- Names are those of mailboxes, UIDs are from 1 to 4,294,967,294, flags are a sum of bits up to 16, a time is below 2 ^ 64,
--- and a message has at most 67,108,864 octets. No script asks for a deletion or a new name yet.
+-- and a message has at most 67,108,864 octets.
 abbrev pub FitsScript : Request → Type 0
 FitsScript (request.Deliver name time message) = IsName name × (time < 2 ^ 64) × (length message ≤ 67108864)
 FitsScript (request.List name) = IsName name
@@ -58,8 +58,8 @@ FitsScript (request.Copy name uid target) = IsName name × IsNumber uid.0 × IsN
 FitsScript (request.Move name uid target) = IsName name × IsNumber uid.0 × IsName target
 FitsScript (request.Expunge name uid) = IsName name × IsNumber uid.0
 FitsScript (request.Make name) = IsName name
-FitsScript (request.Delete name) = ⊥
-FitsScript (request.Rename name target) = ⊥
+FitsScript (request.Delete name) = IsName name
+FitsScript (request.Rename name target) = IsName name × IsName target
 FitsScript request.Counts = Unit {0}
 FitsScript request.Purge = Unit {0}
 FitsScript request.Resync = Unit {0}

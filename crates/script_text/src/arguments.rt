@@ -36,6 +36,16 @@ pub fn name_and_uid(alloc: Global, words: &[u8]) -> Result<(Name, Uid), Flaw>
     Ok((name, uid))
 }
 
+/// A name and another name.
+pub fn name_and_name(alloc: Global, words: &[u8]) -> Result<(Name, Name), Flaw>
+    ensures found { IfOk result (λ x. IsName x.0 × IsName x.1 × (words.now ≡ spaced (name_word x.0 ∷ name_word x.1 ∷ []))) }
+    ensures bad { IsErrOf result flaw.Bad → (name target : List ℕ) → IsName name → IsName target → words.now ≢ spaced (name_word name ∷ name_word target ∷ []) }
+{
+    let (name, word) = name_and_rest(alloc, words)?;
+    let target = name_alone(alloc, word)?;
+    Ok((name, target))
+}
+
 /// A name, a UID and flags.
 pub fn name_uid_flags(alloc: Global, words: &[u8]) -> Result<(Name, Uid, Flags), Flaw>
     ensures found { IfOk result (λ x. IsName x.0 × IsNumber x.1.0 × (x.2 ≤ 31) × (words.now ≡ spaced (name_word x.0 ∷ decimal_text x.1.0 ∷ decimal_text x.2 ∷ []))) }

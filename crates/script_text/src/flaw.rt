@@ -125,6 +125,12 @@ fn begins_verb(text: &[u8]) -> bool
     if begins(text, b"make") {
         return true;
     }
+    if begins(text, b"delete") {
+        return true;
+    }
+    if begins(text, b"rename") {
+        return true;
+    }
     if begins(text, b"counts") {
         return true;
     }

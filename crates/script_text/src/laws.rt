@@ -1,9 +1,8 @@
 // Laws of scripts.
 ghost use Rattle.std.specs.Prelude.{◌≡◌, ◌≤◌, ◌<◌, ◌^◌, ℕ, List, Result};
-ghost use Rattle.mdbox_base.specs.declared.requests.Request.TheVariants as request;
 ghost use Rattle.mdbox_base.specs.declared.script.Script.{Script};
 ghost use Rattle.script_text.specs.MadeScript.{made_script};
-ghost use Rattle.script_text.specs.Script.{ScriptGives, IsScript, IsForLanes, FitsScript, script_text};
+ghost use Rattle.script_text.specs.Script.{ScriptGives, IsScript, IsForLanes, script_text};
 ghost use Rattle.script_text.specs.declared.error.ScriptError.{ScriptError};
 
 /// A text is one script at most, or goes wrong at one place.
@@ -14,12 +13,6 @@ pub fn a_text_is_one_script()
 /// What is written of a script is this script again.
 pub fn written_scripts_are_read()
     ensures { (script : Script) → IsForLanes script → IsScript script.lanes (script_text script.requests) script }
-{}
-
-/// No request of a script deletes a mailbox or gives it another name.
-pub fn scripts_keep_mailboxes()
-    ensures deleted { (name : List ℕ) → FitsScript (request.Delete name) → ⊥ }
-    ensures renamed { (name target : List ℕ) → FitsScript (request.Rename name target) → ⊥ }
 {}
 
 /// A made script is one for its lanes.

@@ -6,7 +6,9 @@ ghost use Rattle.script_text.specs.Reading.{IsRequestOf, AsksNothing, IsOneWord,
 ghost use Rattle.script_text.specs.declared.error.Flaw.TheVariants as flaw;
 ghost use Rattle.mdbox_base.specs.declared.requests.Request.{Request};
 
-use crate::arguments::{name_alone, name_and_uid, name_time_size, name_uid_flags, name_uid_name};
+use crate::arguments::{
+    name_alone, name_and_name, name_and_uid, name_time_size, name_uid_flags, name_uid_name,
+};
 use crate::cut::cut;
 use crate::error::Flaw;
 use crate::verb::{Verb, verb_of};
@@ -117,6 +119,14 @@ fn asked_with<'a>(
         Verb::Make => {
             let name = name_alone(alloc, arguments)?;
             Ok((Request::Make { name }, rest))
+        }
+        Verb::Delete => {
+            let name = name_alone(alloc, arguments)?;
+            Ok((Request::Delete { name }, rest))
+        }
+        Verb::Rename => {
+            let (name, target) = name_and_name(alloc, arguments)?;
+            Ok((Request::Rename { name, target }, rest))
         }
     }
 }

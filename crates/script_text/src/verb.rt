@@ -14,6 +14,8 @@ pub enum Verb {
     Move,
     Expunge,
     Make,
+    Delete,
+    Rename,
 }
 
 /// The verb that a word is.
@@ -30,6 +32,8 @@ pub fn verb_of(word: &[u8]) -> Option<Verb>
         b"move" => Some(Verb::Move),
         b"expunge" => Some(Verb::Expunge),
         b"make" => Some(Verb::Make),
+        b"delete" => Some(Verb::Delete),
+        b"rename" => Some(Verb::Rename),
         _ => None,
     }
 }

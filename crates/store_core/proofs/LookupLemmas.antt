@@ -1,8 +1,11 @@
 -- Mailboxes that are looked up by number and by name.
-use Rattle.store_core.proofs.Common.{◌≡◌, ◌<◌, ◌==◌, ℕ, Bool, true, false, cond, List, [], ◌∷◌, find, Option, Some, None, All, refl, sym, ◌∙◌, ap, subst, arith, AllPairs, bytes_eq, option_map, cond-true, cond-false, ne_eqb, eq-eqb, All-head, All-tail, BoxNo, pairs_head, pairs_tail, BoxMeaning}
+use Rattle.store_core.proofs.Common.{◌≡◌, ◌<◌, ◌==◌, ℕ, Bool, true, false, cond, List, [], ◌∷◌, find, Option, Some, None, All, refl, sym, ◌∙◌, ap, subst, arith, AllPairs, bytes_eq, option_map, cond-true, cond-false, ne_eqb, eq-eqb, All-head, All-tail, BoxNo, pairs_head, pairs_tail, BoxMeaning, ◌≢◌, length, slice_get, suc, zero}
 use Rattle.store_core.proofs.Common.{MapBox, MapMeaning, meaning_numbered, indexes_of, AreBoxLogs, OpenBox}
 use Rattle.std.specs.Prelude.{IfSome, IfNone}
 use Rattle.box_index.specs.State.{BoxState}
+use Rattle.map_index.specs.Shown.{shown_box}
+use Rattle.map_index.specs.declared.rows.BoxAt.{BoxAt}
+use Rattle.model_meaning.specs.MapMeaning.{box_at}
 use Rattle.model_store.specs.Listing.{meaning_named}
 
 through : (b : Bool) (x : OpenBox) (rest : Option OpenBox) → option_map (λ (o : OpenBox). o.index.meaning) (cond b (Some x) rest) ≡ cond b (Some x.index.meaning) (option_map (λ (o : OpenBox). o.index.meaning) rest)
@@ -113,3 +116,71 @@ number_in name m n meanings (Some k) rising same e =
 pub none_in : (name : List ℕ) (m n : MapMeaning) (meanings : List BoxMeaning) (r : Option BoxNo) → m ≡ n → r ≡ option_map (λ b. the_number b) (find (λ box. bytes_eq box.name name) m.boxes) → IfNone r (meaning_named name n.boxes meanings ≡ None)
 none_in name m n meanings None same e = sym (unnamed_in name m n meanings None same e refl)
 none_in name m n meanings (Some k) same e = tt
+
+-- ---- the mailbox of the map, by the place of its log
+
+above_at : (n k x : ℕ) (store : List ℕ) (mailboxes : List MapBox) (boxes : List OpenBox) → AreBoxLogs store mailboxes boxes → k < length boxes → option_map (λ b. b.number.0) (slice_get boxes k) ≡ Some n → All (λ box. x < box.number) mailboxes → x < n
+above_at n k x store [] [] a below at up = absurd (omega (arith, below))
+above_at n k x store [] (b ∷ bs) a below at up = absurd a
+above_at n k x store (m ∷ ms) [] a below at up = absurd a
+above_at n zero x store (m ∷ ms) (b ∷ bs) a below at up =
+    let is : Some b.number.0 ≡ Some n = at in
+    let same : b.number.0 ≡ n = cc is in
+    let number = a.0 in
+    let less : x < m.number = All-head (λ (box : MapBox). x < box.number) m ms up in
+    omega (arith, same, number, less)
+above_at n (suc k) x store (m ∷ ms) (b ∷ bs) a below at up = above_at n k x store ms bs a.3 (omega (arith, below)) at (All-tail (λ (box : MapBox). x < box.number) m ms up)
+
+pub box_of_place : (n k : ℕ) (store : List ℕ) (mailboxes : List MapBox) (boxes : List OpenBox) → AreBoxLogs store mailboxes boxes → AllPairs (λ a b. a.number < b.number) mailboxes → k < length boxes → option_map (λ b. b.number.0) (slice_get boxes k) ≡ Some n
+    → slice_get mailboxes k ≡ find (λ box. box.number == n) mailboxes
+box_of_place n k store [] [] a rising below at = absurd (omega (arith, below))
+box_of_place n k store [] (b ∷ bs) a rising below at = absurd a
+box_of_place n k store (m ∷ ms) [] a rising below at = absurd a
+box_of_place n zero store (m ∷ ms) (b ∷ bs) a rising below at =
+    let is : Some b.number.0 ≡ Some n = at in
+    let same : b.number.0 ≡ n = cc is in
+    sym (cond-true (m.number == n) (Some m) (find (λ (box : MapBox). box.number == n) ms) (eq-eqb m.number n (sym a.0 ∙ same)))
+box_of_place n (suc k) store (m ∷ ms) (b ∷ bs) a rising below at =
+    let less : m.number < n = above_at n k m.number store ms bs a.3 (omega (arith, below)) at (pairs_head (λ (a b : MapBox). a.number < b.number) m ms rising) in
+    box_of_place n k store ms bs a.3 (pairs_tail (λ (a b : MapBox). a.number < b.number) m ms rising) (omega (arith, below)) at
+    ∙ sym (cond-false (m.number == n) (Some m) (find (λ (box : MapBox). box.number == n) ms) (ne_eqb m.number n (λ (e : m.number ≡ n). omega (arith, less, e))))
+
+pub none_at : (n : ℕ) (store : List ℕ) (mailboxes : List MapBox) (boxes : List OpenBox) → AreBoxLogs store mailboxes boxes → All (λ b. b.number.0 ≢ n) boxes → find (λ box. box.number == n) mailboxes ≡ None
+none_at n store [] [] a none = refl
+none_at n store [] (b ∷ bs) a none = absurd a
+none_at n store (m ∷ ms) [] a none = absurd a
+none_at n store (m ∷ ms) (b ∷ bs) a none =
+    cond-false (m.number == n) (Some m) (find (λ (box : MapBox). box.number == n) ms) (ne_eqb m.number n (λ e. All-head (λ (o : OpenBox). o.number.0 ≢ n) b bs none (a.0 ∙ e)))
+    ∙ none_at n store ms bs a.3 (All-tail (λ (o : OpenBox). o.number.0 ≢ n) b bs none)
+
+-- as many logs as mailboxes
+pub as_many_logs : (store : List ℕ) (mailboxes : List MapBox) (boxes : List OpenBox) → AreBoxLogs store mailboxes boxes → length boxes ≡ length mailboxes
+as_many_logs store [] [] a = refl
+as_many_logs store [] (b ∷ bs) a = absurd a
+as_many_logs store (m ∷ ms) [] a = absurd a
+as_many_logs store (m ∷ ms) (b ∷ bs) a = ap suc (as_many_logs store ms bs a.3)
+
+-- its generation, of a map that is known under two names
+pub generation_at : (n k : ℕ) (store : List ℕ) (m seen : MapMeaning) (bs ds : List OpenBox) (at : BoxAt) → AreBoxLogs store m.boxes bs → AllPairs (λ a b. a.number < b.number) m.boxes → m ≡ seen → ds ≡ bs → (k < length ds) × (option_map (λ b. b.number.0) (slice_get ds k) ≡ Some n)
+    → Some at ≡ option_map shown_box (slice_get m.boxes k) → Some at.generation ≡ option_map (λ box. box.generation) (box_at seen n)
+generation_at n k store m seen bs ds at logs rising same held place shown =
+    by_box (slice_get m.boxes k) shown ∙ ap (option_map (λ (box : MapBox). box.generation)) (found ∙ ap (λ (o : MapMeaning). box_at o n) same)
+  where
+    found : slice_get m.boxes k ≡ box_at m n
+    found = box_of_place n k store m.boxes bs logs rising (subst (λ (os : List OpenBox). k < length os) held place.0) (subst (λ (os : List OpenBox). option_map (λ (b : OpenBox). b.number.0) (slice_get os k) ≡ Some n) held place.1)
+
+    by_box : (o : Option MapBox) → Some at ≡ option_map shown_box o → Some at.generation ≡ option_map (λ (box : MapBox). box.generation) o
+    by_box None e = absurd (cc (let w : Some at ≡ None = e in w))
+    by_box (Some box) e = let w : Some at ≡ Some (shown_box box) = e in let is : at ≡ shown_box box = cc w in ap (λ (x : BoxAt). Some x.generation) is
+
+pub generation_none : (n : ℕ) (store : List ℕ) (m seen : MapMeaning) (bs ds : List OpenBox) (r : Option ℕ) → AreBoxLogs store m.boxes bs → m ≡ seen → ds ≡ bs → All (λ b. b.number.0 ≢ n) ds → r ≡ None → r ≡ option_map (λ box. box.generation) (box_at seen n)
+generation_none n store m seen bs ds r logs same held none is =
+    is ∙ ap (option_map (λ (box : MapBox). box.generation)) (sym (none_at n store m.boxes bs logs (subst (λ (os : List OpenBox). All (λ (b : OpenBox). b.number.0 ≢ n) os) held none)) ∙ ap (λ (o : MapMeaning). box_at o n) same)
+
+-- there is no place without a mailbox
+pub some_box : (k : ℕ) (store : List ℕ) (mailboxes : List MapBox) (boxes : List OpenBox) → AreBoxLogs store mailboxes boxes → k < length boxes → None ≡ option_map shown_box (slice_get mailboxes k) → ⊥
+some_box k store [] [] a below e = omega (arith, below)
+some_box k store [] (b ∷ bs) a below e = absurd a
+some_box k store (m ∷ ms) [] a below e = absurd a
+some_box zero store (m ∷ ms) (b ∷ bs) a below e = let w : None ≡ Some (shown_box m) = e in cc w
+some_box (suc k) store (m ∷ ms) (b ∷ bs) a below e = some_box k store ms bs a.3 (omega (arith, below)) e

@@ -1,5 +1,6 @@
 pub mod Append
 pub mod Beside
+pub mod Deleting
 pub mod Dues
 pub mod Files
 pub mod Keeping

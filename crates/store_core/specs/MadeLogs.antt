@@ -31,6 +31,16 @@ without_box number boxes = filter (λ open_box. not (open_box.number.0 == number
 abbrev pub SparesLogs : {D : Type 0} → ℕ → StoreValue D → StoreValue D → Type 0
 SparesLogs number old new = (other : ℕ) → other ≢ number → has_made_log other old ≡ true → has_made_log other new ≡ true
 
+-- The number was given to a mailbox, no mailbox has it, and no log of it is made: that of a mailbox which was deleted.
+pub record IsGone {D : Type 0} (number : ℕ) (store : StoreValue D) : Type 0 where
+  pub given : number ≤ store.map.highest.mailbox
+  pub unnamed : IsUnnamed number store.map
+  pub unmade : has_made_log number store ≡ false
+
+-- Numbers of which this is so stay such.
+abbrev pub KeepsGone : {D : Type 0} → StoreValue D → StoreValue D → Type 0
+KeepsGone old new = (number : ℕ) → IsGone number old → IsGone number new
+
 -- ---- what holds of every store
 
 -- A log that was made is of generation 1 of a mailbox whose number was drawn and which the map doesn't have. It has no entry,

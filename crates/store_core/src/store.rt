@@ -42,8 +42,10 @@ use storage_files::MailFiles;
 mod append_map;
 mod beside;
 mod boxes;
+mod deleting;
 mod files;
 mod instances;
+mod renaming;
 mod switching;
 mod using;
 

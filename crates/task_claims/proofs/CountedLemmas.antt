@@ -3,12 +3,14 @@ use Rattle.std.proofs.Common.{◌≡◌, ◌==◌, ◌+◌, ◌-◌, ℕ, Bool, 
 use Rattle.std.specs.Prelude.{find, filter, if◌then◌else◌}
 use Rattle.std.proofs.lemmas.Bool.{eqb-true}
 use Rattle.std.proofs.lemmas.List.Elements.{All-head, All-tail, All-cons, All-nil}
+use Rattle.mdbox_base.specs.declared.entries.MapCount.{MapCount}
 use Rattle.mdbox_base.specs.declared.entries.MapEntry.TheVariants as map_entry
+use Rattle.mdbox_base.specs.declared.ids.BoxNo.{BoxNo}
 use Rattle.mdbox_base.specs.declared.ids.MapUid.{MapUid}
 use Rattle.model_meaning.specs.MapFits.{MapFits}
-use Rattle.model_meaning.specs.MapMeaning.{MapRecord, MapMeaning, record_at, record_changed, map_applied, has_map_uid}
-use Rattle.model_meaning.proofs.AppliedLemmas.{records_by_raised, records_by_lowered}
-use Rattle.store_core.proofs.MapDueLemmas.{found_with}
+use Rattle.model_meaning.specs.MapMeaning.{MapRecord, MapMeaning, record_at, record_changed, count_given, map_applied, has_map_uid}
+use Rattle.model_meaning.proofs.AppliedLemmas.{records_by_raised, records_by_lowered, records_by_deleted, records_by_renamed}
+use Rattle.store_core.proofs.MapDueLemmas.{found_deleted, found_with}
 use Rattle.task_claims.specs.Leaving.{but_count, records_within, RaisesNone, SameButCounts}
 
 -- ---- entries that change counts
@@ -26,6 +28,13 @@ raised_same uid m = ap (map but_count) (records_by_raised uid m.records) ∙ cha
 
 pub lowered_same : (uids : List MapUid) (m : MapMeaning) → SameButCounts m (map_applied (map_entry.D uids) m)
 lowered_same uids m = ap (map but_count) (records_by_lowered uids m.records) ∙ changed_same (record_changed (map_entry.D uids)) (λ row. but_count_if (has_map_uid row.uid uids) row (row.count - 1)) m.records
+
+-- a mailbox is deleted, or gets another name
+pub deleted_same : (mailbox : BoxNo) (amounts : List MapCount) (m : MapMeaning) → SameButCounts m (map_applied (map_entry.X mailbox amounts) m)
+deleted_same mailbox amounts m = ap (map but_count) (records_by_deleted mailbox amounts m.records) ∙ changed_same (record_changed (map_entry.X mailbox amounts)) (λ row. refl) m.records
+
+pub renamed_same : (mailbox : BoxNo) (name : List ℕ) (m : MapMeaning) → SameButCounts m (map_applied (map_entry.V mailbox name) m)
+renamed_same mailbox name m = ap (map but_count) (records_by_renamed mailbox name m.records)
 
 pub same_map : (m n : MapMeaning) → n ≡ m → SameButCounts m n
 same_map m n e = ap (λ (k : MapMeaning). map but_count k.records) e
@@ -74,6 +83,11 @@ unraised_lower uids m other row now there none is =
     by_test : (t : Bool) → (if t then record row { count = row.count - 1 } else row).count ≡ 0
     by_test true = omega (arith, none)
     by_test false = none
+
+pub unraised_deleted : (mailbox : BoxNo) (amounts : List MapCount) (m : MapMeaning) → RaisesNone m (map_applied (map_entry.X mailbox amounts) m)
+unraised_deleted mailbox amounts m other row now there none is =
+    let count : now.count ≡ row.count - count_given row.uid amounts 0 = ap (λ (r : MapRecord). r.count) (some_record now (record_changed (map_entry.X mailbox amounts) row) (sym is ∙ found_deleted mailbox amounts m other row there)) in
+    omega (arith, count, none)
 
 -- ---- what they have in common
 

@@ -1,4 +1,5 @@
 pub mod CountedLemmas
+pub mod GoneLemmas
 pub mod LeftLemmas
 pub mod NameLemmas
 pub mod OpenedLemmas

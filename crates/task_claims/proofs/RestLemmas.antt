@@ -1,6 +1,6 @@
 -- An event that leaves the rest of a store and its files leaves to the other tasks what is theirs.
 use Rattle.std.specs.Option.{option_map}
-use Rattle.std.proofs.Common.{◌≡◌, ◌≢◌, ◌≤◌, ◌+◌, ℕ, List, [], ◌∷◌, ◌++◌, get_or, map, Option, Some, refl, sym, ◌∙◌, ap, subst, arith, inl, inr}
+use Rattle.std.proofs.Common.{◌≡◌, ◌≢◌, ◌<◌, ◌≤◌, ◌+◌, ◌⊎◌, ℕ, List, [], ◌∷◌, ◌++◌, get_or, map, Option, Some, refl, sym, ◌∙◌, ap, subst, arith, inl, inr}
 use Rattle.std.proofs.lemmas.List.{append-nil}
 use Rattle.disk_model.specs.Disk.{DiskState, FileState, History, IsIdle, reading}
 use Rattle.disk_model.specs.declared.name.FileName.TheVariants as file
@@ -12,6 +12,7 @@ use Rattle.sis_store.specs.Instances.{InstancesValue}
 use Rattle.sis_store.specs.OnDisk.{instance_file}
 use Rattle.storage_files.specs.Files.{FilesValue, end_in, file_in, with_pins}
 use Rattle.store_core.specs.Keeping.{KeepsInstances, KeepsMail, KeepsRest, KeepsUids, NameTheSame, ReadsInstances, SyncsInstances, origin_and_names}
+use Rattle.store_core.specs.MadeLogs.{KeepsGone}
 use Rattle.store_core.specs.StoreInstances.{IsKnownRow, IsFirstKnown}
 use Rattle.store_core.specs.Dues.{due_at}
 use Rattle.store_core.specs.Value.{StoreValue}
@@ -99,9 +100,10 @@ counts_name (row ∷ rows) = ap (λ (ps : List (ℕ × List InstRow)). origin_an
 pub counts_name_same : (m n : MapMeaning) → SameButCounts m n → NameTheSame m n
 counts_name_same m n same = sym (counts_name n.records) ∙ ap (map origin_and_names) same ∙ counts_name m.records
 
-pub rest_leaves : {D : Type 0} → (mine : Claims) (old new : StoreValue D) (before after : Option History) → new.files ≡ old.files → new.instances ≡ old.instances → SyncsMail before after → SameButCounts old.map new.map → RaisesNone old.map new.map → old.map.highest.mailbox ≤ new.map.highest.mailbox → NamesStay old.map new.map → KeepsUids old new → old.map_log.room ≤ new.map_log.room → LeavesUnlisted mine old new
+pub rest_leaves : {D : Type 0} → (mine : Claims) (old new : StoreValue D) (before after : Option History) → new.files ≡ old.files → new.instances ≡ old.instances → SyncsMail before after → SameButCounts old.map new.map → RaisesNone old.map new.map → old.map.highest.mailbox ≤ new.map.highest.mailbox → old.map_log.end ≤ new.map_log.end
+    → (NamesStay old.map new.map ⊎ (old.map_log.end < new.map_log.end)) → KeepsGone old new → KeepsUids old new → old.map_log.room ≤ new.map_log.room → LeavesUnlisted mine old new
     → LeavesOthers mine old new before after
-rest_leaves mine old new before after files instances mail same unraised mailboxes names uids room unlisted =
+rest_leaves mine old new before after files instances mail same unraised mailboxes end names gone uids room unlisted =
     let firm = firm_same old new before after instances (counts_name_same old.map new.map same) (between-map Mails SyncsInstances before after (λ a b m. m.1) mail) in
     let keeps = kept_same old new before after instances (between-map Mails ReadsInstances before after (λ a b m hash id. synced_reads (a (file.Inst hash id)) (b (file.Inst hash id)) (m.1 hash id)) mail) firm in
     record {
@@ -114,7 +116,9 @@ rest_leaves mine old new before after files instances mail same unraised mailbox
       store = keeps.store;
       numbers = subst (λ (v : InstancesValue). PlacesFew old.instances v) (sym instances) (none_placed old.instances);
       mailboxes = mailboxes;
+      end = end;
       names = names;
+      gone = gone;
       compared = keeps.compared;
       firm = firm;
       uids = uids;
@@ -125,8 +129,8 @@ rest_leaves mine old new before after files instances mail same unraised mailbox
 -- an event that changes nothing
 pub idle_leaves : {D : Type 0} → (mine : Claims) (store : StoreValue D) (before after : Option History) → IsIdle before after → LeavesOthers mine store store before after
 idle_leaves mine store before after idle =
-    rest_leaves mine store store before after refl refl (between-map (λ a b. b ≡ a) Mails before after (λ a b e. ((λ number. inl (ap (λ (d : DiskState). d (file.Mail number)) e)), (λ hash id. inl (ap (λ (d : DiskState). d (file.Inst hash id)) e)))) idle.same) refl (unraised_same store.map store.map refl) (stays store.map.highest.mailbox) (λ name number is. is)
-    (λ number uid held k. k) (stays store.map_log.room) (λ uid rec none found listed. (listed, refl))
+    rest_leaves mine store store before after refl refl (between-map (λ a b. b ≡ a) Mails before after (λ a b e. ((λ number. inl (ap (λ (d : DiskState). d (file.Mail number)) e)), (λ hash id. inl (ap (λ (d : DiskState). d (file.Inst hash id)) e)))) idle.same) refl (unraised_same store.map store.map refl) (stays store.map.highest.mailbox) (stays store.map_log.end) (inl (λ name number is. is))
+    (λ number g. g) (λ number uid held k. k) (stays store.map_log.room) (λ uid rec none found listed. (listed, refl))
 
 -- ---- claims
 

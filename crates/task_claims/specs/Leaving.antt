@@ -1,5 +1,5 @@
 -- What an event of a task leaves to the other tasks.
-use Rattle.std.specs.Prelude.{◌≡◌, ◌≢◌, ◌≤◌, ◌+◌, ◌==◌, ◌⊎◌, ◌++◌, ℕ, List, length, take, drop, All, map, filter, Option, Some, IsSome}
+use Rattle.std.specs.Prelude.{◌≡◌, ◌≢◌, ◌<◌, ◌≤◌, ◌+◌, ◌==◌, ◌⊎◌, ◌++◌, ℕ, List, length, take, drop, All, map, filter, Option, Some, IsSome}
 use Rattle.std.specs.Option.{option_map}
 use Rattle.disk_model.specs.Disk.{Files, FileState, History, Between, named, reading}
 use Rattle.disk_model.specs.declared.name.FileName.TheVariants as file
@@ -15,6 +15,7 @@ use Rattle.storage_files.specs.Files.{end_in, file_in, with_pins}
 use Rattle.storage_files.specs.declared.file.MailFile.{MailFile}
 use Rattle.store_core.specs.Dues.{due_at}
 use Rattle.store_core.specs.Keeping.{KeepsFirm, KeepsUids}
+use Rattle.store_core.specs.MadeLogs.{KeepsGone}
 use Rattle.store_core.specs.StoreInstances.{IsKnownRow, IsFirstKnown}
 use Rattle.store_core.specs.Value.{StoreValue, references_to}
 use Rattle.task_claims.specs.Claims.{Claims, Due, Emptied, Held, OthersClaim, Pinned, Removing, Taken}
@@ -127,9 +128,11 @@ KeepsCompared old new before after = (hash : Hash) (size : ℕ) (octets : List �
     → IsUnlikeCompared old.instances.store hash size octets last drawn old.instances.known before → IsUnlikeCompared old.instances.store hash size octets last drawn new.instances.known after
 
 -- An event of a task that had these claims as it began, and that didn't stop the store, leaves to the other tasks what is theirs, and
--- every storage file that it doesn't claim to empty or to remove. The last ten are of no claim: no count of 0 rises; the store of the
--- instances, whose numbers rise; the numbers of mailboxes, and which name names which; what was compared; which instances a record that is made may name; the
--- message with a UID; the room for an entry of the map log; and a disk that is modelled stays so. What grows here is what a task's work left is counted by, so that no event of another task adds to it.
+-- every storage file that it doesn't claim to empty or to remove. The others are of no claim: no count of 0 rises; the store of the
+-- instances, whose numbers rise; the numbers of mailboxes; the end of the map log, which rises if a name comes to name another
+-- mailbox or none; the numbers of deleted mailboxes, which no mailbox gets; what was compared; which instances a record that is made
+-- may name; the message with a UID; the room for an entry of the map log; and a disk that is modelled stays so. What grows here is
+-- what a task's work left is counted by, so that no event of another task adds to it.
 pub record LeavesOthers {D : Type 0} (mine : Claims) (old new : StoreValue D) (before after : Option History) : Type 0 where
   pub records : (uid : ℕ) (row : MapRecord) → OthersClaim mine old (Due uid) → record_at old.map uid ≡ Some row → LeavesRecord uid row new before after
   pub unlisted : LeavesUnlisted mine old new
@@ -140,7 +143,9 @@ pub record LeavesOthers {D : Type 0} (mine : Claims) (old new : StoreValue D) (b
   pub store : new.instances.store ≡ old.instances.store
   pub numbers : PlacesFew old.instances new.instances
   pub mailboxes : old.map.highest.mailbox ≤ new.map.highest.mailbox
-  pub names : NamesStay old.map new.map
+  pub end : old.map_log.end ≤ new.map_log.end
+  pub names : NamesStay old.map new.map ⊎ (old.map_log.end < new.map_log.end)
+  pub gone : KeepsGone old new
   pub compared : KeepsCompared old new before after
   pub firm : KeepsFirm old new before after
   pub uids : KeepsUids old new

@@ -102,7 +102,8 @@ impl<D: Disk> Store<D> {
         ensures others { OnOk result (KeepsMail (D.history self.old.disk) (D.history self.new.disk)) }
         ensures firm { OnOk result (KeepsFirm self.old self.new (D.history self.old.disk) (D.history self.new.disk)) }
 
-        // The room of the map log never falls.
+        // The map log grows, and its room never falls.
+        ensures further { OnOk result (self.old.map_log.end < self.new.map_log.end) }
         ensures room { self.old.map_log.room ≤ self.new.map_log.room }
 
         ensures stopped { IsErrOf result step_error.Stopped ↔ (self.new.stopped ≡ true) }
@@ -166,7 +167,7 @@ fn take_room(
 }
 
 /// The octets of a long entry. None where it is short.
-fn long_text(alloc: Global, entry: &MapEntry) -> Result<Option<Octets>, NoMemory>
+pub(super) fn long_text(alloc: Global, entry: &MapEntry) -> Result<Option<Octets>, NoMemory>
     requires { MapInRange entry.now }
     ensures text { IfOk result (λ text. IsLaidOut text entry.now) }
     ensures ids { OnOk result (HasOctetIds entry.now) }
@@ -232,9 +233,8 @@ fn reserve_for(
 }
 
 /// Makes room in a log for the record of an entry, where it has too little.
-fn reserve_log(log: &mut GateLog, entry: &MapEntry) -> Result<(), NoMemory>
+pub(super) fn reserve_log(log: &mut GateLog, entry: &MapEntry) -> Result<(), NoMemory>
     requires range { MapInRange entry.now }
-    requires kind { IsAppendable entry.now }
     ensures room { OnOk result (length (map_text entry.now) + 5 ≤ log.new.room) }
     ensures no_less { log.old.room ≤ log.new.room }
     ensures same { log.new ≡ record log.old { room = log.new.room } }
@@ -249,7 +249,7 @@ fn reserve_log(log: &mut GateLog, entry: &MapEntry) -> Result<(), NoMemory>
 }
 
 /// Adds an entry to the map log, which has room for it. Its octets are at hand, or it is short.
-fn append_entry<D: Disk>(
+pub(super) fn append_entry<D: Disk>(
     log: &mut GateLog,
     disk: &mut D,
     entry: &MapEntry,
@@ -268,6 +268,7 @@ fn append_entry<D: Disk>(
     ensures fault { ChangeFaultCounted (IsErr result) (D.faults disk.old) (D.faults disk.new) }
     ensures unfailed { OnOk result (NoFault (D.faults disk.old) (D.faults disk.new)) }
     ensures log { IsSameLog log.old log.new }
+    ensures further { OnOk result (log.old.end < log.new.end) }
 {
     match text {
         Some(text) => log.append(disk, text.as_slice()),

@@ -113,9 +113,9 @@ impl<D: Disk> Store<D> {
         }
     }
 
-    /// Removes the log of a mailbox that the map doesn't have, and syncs all names. It takes no memory. A change of the disk
+    /// Removes the log of this generation of a mailbox that the map doesn't have, and syncs all names. It takes no memory. A change of the disk
     /// that fails stops the store.
-    pub fn remove_box(&mut self, number: BoxNo) -> Result<(), Stopped>
+    pub fn remove_box(&mut self, number: BoxNo, generation: u32) -> Result<(), Stopped>
         requires running { self.old.stopped ≡ false }
         requires unnamed { IsUnnamed number.0 self.old.map }
 
@@ -127,8 +127,8 @@ impl<D: Disk> Store<D> {
         ensures stored { OnOk result (KeepsStored (D.history self.old.disk) (D.history self.new.disk)) }
 
         // After Ok there is no such log, and no crash leaves one. No other file has changed, and their names are synced.
-        ensures gone { OnOk result (IfTold (D.history self.new.disk) (λ now. now (file.Box number.0 1) ≡ no_file)) }
-        ensures others { OnOk result (NamedButFor (file.Box number.0 1) (D.history self.old.disk) (D.history self.new.disk)) }
+        ensures gone { OnOk result (IfTold (D.history self.new.disk) (λ now. now (file.Box number.0 generation) ≡ no_file)) }
+        ensures others { OnOk result (NamedButFor (file.Box number.0 generation) (D.history self.old.disk) (D.history self.new.disk)) }
         ensures ok { OnOk result (self.new ≡ record self.old { disk = self.new.disk; made = without_box number.0 self.old.made }) }
         ensures spared { SparesLogs number.0 self.old self.new }
 
@@ -137,7 +137,7 @@ impl<D: Disk> Store<D> {
         ensures fault { ChangeFaultCounted (IsErr result) (D.faults self.old.disk) (D.faults self.new.disk) }
         ensures unfailed { OnOk result (NoFault (D.faults self.old.disk) (D.faults self.new.disk)) }
     {
-        if let Err(_fault) = remove_log(&mut self.disk, number) {
+        if let Err(_fault) = remove_log(&mut self.disk, number, generation) {
             self.stopped = true;
             return Err(Stopped);
         }
@@ -172,7 +172,8 @@ impl<D: Disk> Store<D> {
         // Storage files and instances are as they were.
         ensures others { OnOk result (KeepsMail (D.history self.old.disk) (D.history self.new.disk)) }
 
-        // The room of the map log never falls.
+        // The map log grows, and its room never falls.
+        ensures further { OnOk result (self.old.map_log.end < self.new.map_log.end) }
         ensures room { self.old.map_log.room ≤ self.new.map_log.room }
 
         ensures stopped { IsErrOf result step_error.Stopped ↔ (self.new.stopped ≡ true) }
@@ -191,7 +192,7 @@ impl<D: Disk> Store<D> {
             mailbox,
             name,
         )?;
-        match append_name(&mut self.map_log, &mut self.disk, &entry) {
+        match append_naming(&mut self.map_log, &mut self.disk, &entry) {
             Ok(()) => {
                 move_made(&mut self.boxes, &mut self.made, mailbox);
                 self.map.take_in(entry);
@@ -263,15 +264,15 @@ fn make_log<D: Disk>(
     create_log(alloc, disk, FileName::Box(number.0, 1), head).map_err(|_| DiskFault)
 }
 
-/// Removes the log of generation 1 of a mailbox, and syncs all names.
-fn remove_log<D: Disk>(disk: &mut D, number: BoxNo) -> Result<(), DiskFault>
-    ensures any_moment { EachImage (λ _ image. OthersStay (file.Box number.0 1) (D.history disk.old) image) (D.history disk.old) (D.history disk.new) }
-    ensures gone { OnOk result (IfTold (D.history disk.new) (λ now. now (file.Box number.0 1) ≡ no_file)) }
-    ensures others { OnOk result (NamedButFor (file.Box number.0 1) (D.history disk.old) (D.history disk.new)) }
+/// Removes the log of this generation of a mailbox, and syncs all names.
+fn remove_log<D: Disk>(disk: &mut D, number: BoxNo, generation: u32) -> Result<(), DiskFault>
+    ensures any_moment { EachImage (λ _ image. OthersStay (file.Box number.0 generation) (D.history disk.old) image) (D.history disk.old) (D.history disk.new) }
+    ensures gone { OnOk result (IfTold (D.history disk.new) (λ now. now (file.Box number.0 generation) ≡ no_file)) }
+    ensures others { OnOk result (NamedButFor (file.Box number.0 generation) (D.history disk.old) (D.history disk.new)) }
     ensures fault { ChangeFaultCounted (IsErr result) (D.faults disk.old) (D.faults disk.new) }
     ensures unfailed { OnOk result (NoFault (D.faults disk.old) (D.faults disk.new)) }
 {
-    disk.remove(FileName::Box(number.0, 1))?;
+    disk.remove(FileName::Box(number.0, generation))?;
     disk.sync_names()?;
     Ok(())
 }
@@ -291,8 +292,12 @@ fn naming(alloc: Global, mailbox: BoxNo, name: &Name) -> Result<MapEntry, NoMemo
     })
 }
 
-/// Adds an entry that names a mailbox to the map log, which has room for it.
-fn append_name<D: Disk>(log: &mut GateLog, disk: &mut D, entry: &MapEntry) -> Result<(), DiskFault>
+/// Adds an entry that gives a mailbox its name to the map log, which has room for it.
+pub(super) fn append_naming<D: Disk>(
+    log: &mut GateLog,
+    disk: &mut D,
+    entry: &MapEntry,
+) -> Result<(), DiskFault>
     requires read { (entries : List (List ℕ)) × Reads log.old entries (D.history disk.old) }
     requires range { MapInRange entry.now }
     requires short { length (map_text entry.now) ≤ 265 }
@@ -306,6 +311,7 @@ fn append_name<D: Disk>(log: &mut GateLog, disk: &mut D, entry: &MapEntry) -> Re
     ensures fault { ChangeFaultCounted (IsErr result) (D.faults disk.old) (D.faults disk.new) }
     ensures unfailed { OnOk result (NoFault (D.faults disk.old) (D.faults disk.new)) }
     ensures log { IsSameLog log.old log.new }
+    ensures further { OnOk result (log.old.end < log.new.end) }
 {
     let mut room = [0; LONGEST];
     let text = &mut room[..map_entry_size(entry)];
@@ -323,8 +329,8 @@ fn keep_log(made: &mut Vec<OpenBox>, number: BoxNo, log: GateLog, room: LogRoom,
     made.push_reserved(OpenBox { number, log, index });
 }
 
-/// Removes the mailbox with this number from those whose logs were made, if it is there.
-fn forget_log(made: &mut Vec<OpenBox>, number: BoxNo)
+/// Removes the mailbox with this number from these, if it is there.
+pub(super) fn forget_log(made: &mut Vec<OpenBox>, number: BoxNo)
     requires { AllPairs HaveOtherNumbers made.old.items }
     ensures { made.new.items ≡ without_box number.0 made.old.items }
 {

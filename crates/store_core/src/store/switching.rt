@@ -68,6 +68,7 @@ impl<D: Disk> Store<D> {
 
         ensures unpinned { IfOk result (λ unpinned. unpinned ≡ (pins_in file.0 self.old.files.files == 0)) }
         ensures laid { text.new ≡ map_text entry.now }
+        ensures further { OnOk result (self.old.map_log.end < self.new.map_log.end) }
         ensures room { self.old.map_log.room ≤ self.new.map_log.room }
         ensures ok { OnOk result (self.new ≡ record self.old { disk = self.new.disk; map_log = self.new.map_log; map = self.new.map; files = record self.old.files { files = changed_in file.0 made_doomed self.old.files.files }; dues = self.new.dues }) }
         ensures err { OnErr result (self.new ≡ record self.old { disk = self.new.disk; map_log = self.new.map_log; stopped = true }) }
@@ -110,6 +111,7 @@ fn append_laid<D: Disk>(
     ensures fault { ChangeFaultCounted (IsErr result) (D.faults disk.old) (D.faults disk.new) }
     ensures unfailed { OnOk result (NoFault (D.faults disk.old) (D.faults disk.new)) }
     ensures log { IsSameLog log.old log.new }
+    ensures further { OnOk result (log.old.end < log.new.end) }
     ensures laid { text.new ≡ map_text entry.now }
 {
     put_map_entry(text, entry);
