@@ -167,9 +167,11 @@ impl<D: Disk> Store<D> {
         ensures files { AreFilesInOrder self.now.files }
         ensures instances { HasKnownInstances (D.history self.now.disk) self.now }
         ensures ids { AreInstances self.now.instances }
+        ensures end { self.now.map_log.end < 2 ^ 64 }
     {
         self.files.known_facts();
         self.instances.known_facts();
+        self.map_log.known_facts();
     }
 
     /// Each count is made up of the listed messages, what is due of the record, and its leak.
