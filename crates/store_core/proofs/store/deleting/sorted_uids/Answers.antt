@@ -7,4 +7,4 @@ pub returns-clause-sorted : goal.returns-clause-sorted
 returns-clause-sorted c = IsNonDecreasingBy-from_sort (λ (u : ℕ). u) _ c.sort_unstable.ensures.sorted
 
 pub returns-clause-same : goal.returns-clause-same
-returns-clause-same c = subst (λ (us : List ℕ). IsPermutation us _) c.in_ok-uids.ensures c.sort_unstable.ensures.permutation
+returns-clause-same c = rw (← c.in_ok-uids.ensures) c.sort_unstable.ensures.permutation
