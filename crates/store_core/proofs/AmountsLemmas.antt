@@ -1,6 +1,6 @@
 -- The amounts of a mailbox: how often it lists each record, counted over the map uids in rising order.
 use Rattle.store_core.proofs.Common.{◌≡◌, ◌≢◌, ◌<◌, ◌≤◌, ◌+◌, ◌-◌, ◌==◌, ℕ, Bool, true, false, cond, if◌then◌else◌, suc, zero, List, [], ◌∷◌, ◌++◌, length, map, find, take, slice_index_or, slice_set, in_rows, count_by, Option, Some, None, All, AllPairs, option_map_or, refl, sym, ◌∙◌, ap, subst, arith}
-use Rattle.store_core.proofs.Common.{BoxRow, LogRow, row_of, All-nil, All-cons, All-head, All-tail, All-weaker, sum_by-cons, cond-true, cond-false, cases_eq, eq-eqb, inl, inr, ne_eqb, equal_is, length-map, pairs_head, pairs_tail}
+use Rattle.store_core.proofs.Common.{BoxRow, LogRow, row_of, All-nil, All-cons, All-head, All-tail, sum_by-cons, cond-true, cond-false, cases_eq, eq-eqb, inl, inr, ne_eqb, equal_is, length-map, pairs_head, pairs_tail}
 use Rattle.std.specs.List.Sorted.{IsNonDecreasing, IsPermutation, IsStrictlyIncreasing}
 use Rattle.std.proofs.lemmas.List.Sorted.{length_permutation, sum_by-IsPermutation}
 use Rattle.std.proofs.lemmas.List.{get_or-map, take_all}
@@ -124,10 +124,10 @@ given_more uid k (c ∷ []) rise up = by_test (c.uid.0 == uid) refl
     same false = refl
 
     new : (s r : Bool) → (c.uid.0 == k) ≡ s → (uid == k) ≡ r → (c.uid.0 == uid) ≡ false → cond s c.count (cond r 1 0) ≡ cond s c.count 0 + cond r 1 0
-    new true true a b no = absurd (let e : c.uid.0 ≡ uid = equal_is c.uid.0 k a ∙ sym (equal_is uid k b) in let w : true ≡ false = sym (eq-eqb c.uid.0 uid e) ∙ no in cc w)
-    new true false a b no = omega arith
-    new false true a b no = refl
-    new false false a b no = refl
+    new true true a b unlike = absurd (let e : c.uid.0 ≡ uid = equal_is c.uid.0 k a ∙ sym (equal_is uid k b) in let w : true ≡ false = sym (eq-eqb c.uid.0 uid e) ∙ unlike in cc w)
+    new true false a b unlike = omega arith
+    new false true a b unlike = refl
+    new false false a b unlike = refl
 
     by_test : (t : Bool) → (c.uid.0 == uid) ≡ t → amount k (if t then record c { count = c.count + 1 } ∷ [] else c ∷ fresh uid ∷ []) ≡ amount k (c ∷ []) + cond (uid == k) 1 0
     by_test true t =
@@ -146,7 +146,7 @@ given_more uid k (c ∷ d ∷ rest) rise up =
     less = All-head (Rise c) d rest (pairs_head Rise c (d ∷ rest) rise)
 
     by_test : (t : Bool) → (c.uid.0 == k) ≡ t → amount k (with_uid_counted uid (d ∷ rest)) ≡ amount k (d ∷ rest) + cond (uid == k) 1 0 → cond t c.count (amount k (with_uid_counted uid (d ∷ rest))) ≡ cond t c.count (amount k (d ∷ rest)) + cond (uid == k) 1 0
-    by_test true t h = let e = equal_is c.uid.0 k t in let no = cond-false (uid == k) 1 0 (ne_eqb uid k (λ (q : uid ≡ k). omega (arith, e, q, less, least))) in omega (arith, no)
+    by_test true t h = let e = equal_is c.uid.0 k t in let no = cond-false {A = ℕ} (uid == k) 1 0 (ne_eqb uid k (λ (q : uid ≡ k). omega (arith, e, q, less, least))) in omega (arith, no)
     by_test false t h = h
 
 -- ---- a walk over the map uids
@@ -193,7 +193,7 @@ counting_has_room uids i d uid amounts most within is c = λ k e lt same.
     let own : amount uid amounts ≡ it.count = ap (λ (u : ℕ). amount u amounts) (sym same) ∙ given_there amounts k e c.rise lt in
     let before = c.given uid in
     let whole = sum_by_more_le (λ (u : ℕ). hit u uid) uids i d within in
-    let here : hit (slice_index_or uids i d) uid ≡ 1 = cond-true (slice_index_or uids i d == uid) 1 0 (eq-eqb (slice_index_or uids i d) uid (sym is)) in
+    let here : hit (slice_index_or uids i d) uid ≡ 1 = cond-true {A = ℕ} (slice_index_or uids i d == uid) 1 0 (eq-eqb (slice_index_or uids i d) uid (sym is)) in
     let few = most uid in
     omega (arith, own, before, whole, here, few)
 
@@ -255,12 +255,18 @@ pushed_at uid c [] last is unlike =
     sym (cond-false (c.uid.0 == uid) (record c { count = c.count + 1 } ∷ []) (c ∷ fresh uid ∷ []) (ap (λ (x : MapCount). x.uid.0 == uid) (sym here) ∙ unlike))
 pushed_at uid c (d ∷ rest) last is unlike = ap (λ (cs : List MapCount). c ∷ cs) (pushed_at uid d rest last is unlike)
 
-pub pushed_last : (uid n : ℕ) (items : List MapCount) (last : MapCount) → n ≡ length items → 0 < n → last ≡ slice_index_or items (n - 1) last → last.uid.0 ≢ uid → items ++ fresh uid ∷ [] ≡ with_uid_counted uid items
+pushed_last : (uid n : ℕ) (items : List MapCount) (last : MapCount) → n ≡ length items → 0 < n → last ≡ slice_index_or items (n - 1) last → last.uid.0 ≢ uid → items ++ fresh uid ∷ [] ≡ with_uid_counted uid items
 pushed_last uid n [] last long some is unlike = absurd (omega (arith, long, some))
 pushed_last uid n (c ∷ rest) last long some is unlike =
     let at : n - 1 ≡ length rest = omega (arith, long) in
     pushed_at uid c rest last (is ∙ ap (λ (k : ℕ). slice_index_or (c ∷ rest) k last) at) (ne_eqb last.uid.0 uid unlike)
 
-pub pushed_first : (uid n : ℕ) (items : List MapCount) → n ≡ length items → n ≡ 0 → items ++ fresh uid ∷ [] ≡ with_uid_counted uid items
-pushed_first uid n [] long none = refl
-pushed_first uid n (c ∷ rest) long none = absurd (omega (arith, long, none))
+-- what was read is put back
+set_back : (k : ℕ) (items : List MapCount) (last : MapCount) → last ≡ slice_index_or items k last → k < length items → slice_set items k last ≡ items
+set_back k [] last is lt = absurd (omega (arith, lt))
+set_back zero (c ∷ rest) last is lt = let here : last ≡ c = is in ap (λ (x : MapCount). x ∷ rest) here
+set_back (suc k) (c ∷ rest) last is lt = ap (λ (cs : List MapCount). c ∷ cs) (set_back k rest last is (omega (arith, lt)))
+
+pub pushed_back : (uid n : ℕ) (items : List MapCount) (last : MapCount) → n ≡ length items → 0 < n → last ≡ slice_index_or items (n - 1) last → last.uid.0 ≢ uid → slice_set items (n - 1) last ++ fresh uid ∷ [] ≡ with_uid_counted uid items
+pushed_back uid n items last long some is unlike =
+    ap (λ (cs : List MapCount). cs ++ fresh uid ∷ []) (set_back (n - 1) items last is (omega (arith, long, some))) ∙ pushed_last uid n items last long some is unlike

@@ -189,12 +189,14 @@ fn note_uid(amounts: &mut Vec<MapCount>, uid: u32) -> Result<(), NoMemory>
     requires { IsBelowLimit uid amounts.old.items }
     ensures { OnOk result (amounts.new.items ≡ with_uid_counted uid amounts.old.items) }
 {
+    let first = MapCount {
+        uid: MapUid(uid),
+        count: 1,
+    };
     match amounts.last_mut() {
         Some(last) if last.uid.0 == uid => last.count += 1,
-        _ => amounts.push(MapCount {
-            uid: MapUid(uid),
-            count: 1,
-        })?,
+        Some(_) => amounts.push(first)?,
+        None => amounts.push(first)?,
     }
     Ok(())
 }

@@ -1,6 +1,5 @@
-use Rattle.std.proofs.Common.{ℕ, subst, List, map}
+use Rattle.std.proofs.Common.{ℕ}
 use Rattle.std.proofs.lemmas.List.Sorted.{IsNonDecreasingBy-from_sort}
-use Rattle.std.specs.List.Sorted.{IsPermutation}
 use Rattle.store_core.proofs.store.deleting.sorted_uids.Goals as goal
 
 pub returns-clause-sorted : goal.returns-clause-sorted
