@@ -352,9 +352,9 @@ given_back q name uid target half held why Stands old new before after began fau
 abbrev pub starting_over : ℕ → ℕ → ℕ → RunEvent
 starting_over lane place calls = event_of lane place StartsOver calls
 
-pub begins_again : {D : Type 0} → (q : Request) (name : List ℕ) (uid : Uid) (target : List ℕ) (half : Half) (held : MapUid) (source : ℕ) (store : StoreValue D) (history : Option History) (faults : Faults) → IsCopying q name uid target half → store.stopped ≡ false → IsNamedElsewhere name uid.0 target source store
+pub add_elsewhere : {D : Type 0} → (q : Request) (name : List ℕ) (uid : Uid) (target : List ℕ) (half : Half) (held : MapUid) (source : ℕ) (store : StoreValue D) (history : Option History) (faults : Faults) → IsCopying q name uid target half → store.stopped ≡ false → IsNamedElsewhere name uid.0 target source store
     → CopyingClause q (IsHolding held source) (IsBeginningAgain held) store store history history faults faults did.Quiet None
-begins_again q name uid target half held source store history faults c runs n = λ around behind pins run lane place said lists come shows stood.
+add_elsewhere q name uid target half held source store history faults c runs n = λ around behind pins run lane place said lists come shows stood.
     let seen = seen_of pins store history faults in
     let event : RunEvent = starting_over lane place (told_calls history) in
     let elsewhere = elsewhere_is run place name source n.other (named_in pins run name n.other store history faults come n.named) n.differs stood.source_is in
@@ -412,9 +412,9 @@ raises_then run event place said held stood own part unrefused unlisted = record
   uncopied = copied_new place run event own stood.uncopied ∙ ap uid_added unlisted;
 }
 
-pub given_again : {D : Type 0} → (q : Request) (name : List ℕ) (uid : Uid) (target : List ℕ) (half : Half) (held : MapUid) (old new : StoreValue D) (before after : Option History) (began faulted : Faults) → IsCopying q name uid target half → old.stopped ≡ false
+pub begun_again : {D : Type 0} → (q : Request) (name : List ℕ) (uid : Uid) (target : List ℕ) (half : Half) (held : MapUid) (old new : StoreValue D) (before after : Option History) (began faulted : Faults) → IsCopying q name uid target half → old.stopped ≡ false
     → ((other : ℕ) → one_due held.0 other ≤ due_at other old) → MapTook (lowering_of held) old new before after began faulted → CopyingClause q (IsBeginningAgain held) IsToRaise old new before after began faulted did.Quiet None
-given_again q name uid target half held old new before after began faulted c ran due t = λ around behind pins run lane place said lists come shows stood.
+begun_again q name uid target half held old new before after began faulted c ran due t = λ around behind pins run lane place said lists come shows stood.
     let event : RunEvent = giving_again lane place held.0 (told_calls after) in
     let a = t.appends in
     let seen = seen_of pins old before began in
@@ -440,8 +440,8 @@ given_again q name uid target half held old new before after began faulted c ran
 
 -- ---- as other requests go on
 
-pub raising_kept : IsKept IsToRaise
-raising_kept run place said event e new stood =
+pub to_raise_kept : IsKept IsToRaise
+to_raise_kept run place said event e new stood =
     let same = own_other place run event (ne_eqb event.request place e) in record {
       calm = unrefused_still run event place said same stood.calm;
       last = by_last same stood.last;
@@ -473,8 +473,8 @@ giving_back_kept held why run place said event e new stood =
       cause = stood.cause;
     }
 
-pub beginning_kept : (held : MapUid) → IsKept (IsBeginningAgain held)
-beginning_kept held run place said event e new stood =
+pub beginning_again_kept : (held : MapUid) → IsKept (IsBeginningAgain held)
+beginning_again_kept held run place said event e new stood =
     let same = own_other place run event (ne_eqb event.request place e) in record {
       calm = unrefused_still run event place said same stood.calm;
       last = ends_still (own_events place run) (own_events place (and_then run event)) StartsOver same stood.last;

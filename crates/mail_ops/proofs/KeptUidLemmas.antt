@@ -1,12 +1,11 @@
 -- What the source of a message that is added to a mailbox lists with its UID: an entry leaves no other message there.
 use Rattle.mail_ops.proofs.Common.{◌≡◌, ◌≤◌, ◌<◌, ◌==◌, ℕ, Bool, true, false, cond, List, [], ◌∷◌, Option, Some, refl, sym, ◌∙◌, ap, subst, arith, option_map, eqb-true, History, Faults, BoxEntry, MapEntry, BoxNo, MapUid, Uid, meanings_by, LogRow, BoxMeaning, row_at, box_applied, MapBox, MapMeaning}
-use Rattle.mail_ops.proofs.Common.{map_applied, meaning_numbered, KeepsUid, KeepsUids, StoreValue, indexes_of, MapTook, AddsRow, RaisesRow, added_copy, raising_of, RemovesRow}
+use Rattle.mail_ops.proofs.Common.{map_applied, meaning_numbered, KeepsUid, KeepsUids, StoreValue, indexes_of, MapTook, AddsRow, RaisesRow, added_copy, raising_of, BoxTook}
 use Rattle.std.specs.Prelude.{max}
 use Rattle.std.specs.Option.{IfSome}
 use Rattle.mdbox_base.specs.declared.entries.BoxEntry.TheVariants as box_entry
 use Rattle.model_meaning.specs.MapMeaning.{numbers_of}
 use Rattle.store_core.specs.Value.{list_numbered}
-use Rattle.mail_ops.specs.Moving.{RemovesFrom}
 use Rattle.mail_ops.proofs.KeptRowLemmas.{KeepsRows, WasListed, addition_keeps, flagging_keeps, removal_keeps}
 
 -- ---- by number
@@ -105,11 +104,8 @@ addition_left name uid target held source given old new before after began now r
     entry_keeps r.number (added_copy given r.row) r.at.m old new r.took.appends.map r.took.taken r.at.to.numbered
     (addition_keeps given r.row.flags r.row.time r.row.size (record { 0 = r.row.map_uid }) (record { 0 = r.row.guid }) r.at.m r.at.next_is)
 
-pub removal_left : {D : Type 0} → (name : List ℕ) (uid : Uid) (owed : MapUid) (old new : StoreValue D) (before after : Option History) (began now : Faults) → RemovesRow name uid owed old new before after began now → KeepsUids old new
-removal_left name uid owed old new before after began now r = entry_keeps r.number (box_entry.R uid) r.there.m old new r.took.appends.map r.took.taken r.there.box.numbered (removal_keeps uid r.there.m)
-
-pub leaving_left : {D : Type 0} → (source : BoxNo) (uid : Uid) (owed : MapUid) (old new : StoreValue D) (before after : Option History) (began now : Faults) → RemovesFrom source uid owed old new before after began now → KeepsUids old new
-leaving_left source uid owed old new before after began now r = entry_keeps source.0 (box_entry.R uid) r.there.m old new r.took.appends.map r.took.taken r.there.numbered (removal_keeps uid r.there.m)
+pub removal_left : {D : Type 0} → (number : ℕ) (uid : Uid) (m : BoxMeaning) (old new : StoreValue D) (before after : Option History) (began now : Faults) → list_numbered old number ≡ Some m → BoxTook number (box_entry.R uid) old new before after began now → KeepsUids old new
+removal_left number uid m old new before after began now numbered t = entry_keeps number (box_entry.R uid) m old new t.appends.map t.taken numbered (removal_keeps uid m)
 
 pub flags_left : {D : Type 0} → (number : ℕ) (uid : Uid) (flags : ℕ) (m : BoxMeaning) (old new : StoreValue D) → new.map ≡ old.map → indexes_of new.boxes ≡ meanings_by number (box_entry.F uid flags) old.map.boxes (indexes_of old.boxes) → list_numbered old number ≡ Some m → KeepsUids old new
 flags_left number uid flags m old new map_is taken numbered = entry_keeps number (box_entry.F uid flags) m old new map_is taken numbered (flagging_keeps uid flags m)
