@@ -1,7 +1,7 @@
 -- The first event of a copy or a move, by the clause of a step: the count is raised, or it is refused.
-use Rattle.mail_ops.proofs.Common.{MapFits, nat_tests, ◌≡◌, ◌≤◌, ◌<◌, ◌+◌, ℕ, Bool, true, false, List, [], ◌∷◌, Option, Some, None, refl, sym, ◌∙◌, ap, subst, arith, inl, inr, ◌⊎◌, flat_map, nat_le, length, slice_get, is_some, if◌then◌else◌, option_map_or, option_or, common_steps, History, Faults}
-use Rattle.mail_ops.proofs.Common.{told_calls, BoxNo, MapUid, Uid, Did, Refusal, Reply, Request, Half, ListedMessage, Lists, LogRow, BoxMeaning, row_at, MapMeaning, record_of, map_applied, no_numbers, ShowLists, First, RunEvent, event_of, Run, and_then, own_events, map_of, first_refusal}
-use Rattle.mail_ops.proofs.Common.{refused_where, part_checks, is_step, halves_of, Around, last_refusal, due_at, IsStore, StoreValue, indexes_of, list_named, one_due, HasComeTo, Steps, MapFell, IsHolding, copy_refusal, room_refusal, raising_of, RaisesRow, IsRaiseRefusal}
+use Rattle.mail_ops.proofs.Common.{MapFits, nat_tests, ◌≡◌, ◌≤◌, ◌<◌, ◌+◌, ℕ, Bool, true, false, List, [], ◌∷◌, Option, Some, None, refl, sym, ◌∙◌, ap, subst, arith, inl, inr, ◌⊎◌, nat_le, length, slice_get, is_some, if◌then◌else◌, option_map_or, option_or, common_steps, History, Faults}
+use Rattle.mail_ops.proofs.Common.{told_calls, BoxNo, MapUid, Uid, Did, Refusal, Reply, Request, Half, ListedMessage, Lists, LogRow, BoxMeaning, row_at, MapMeaning, record_of, map_applied, no_numbers, ShowLists, First, RunEvent, event_of, Run, and_then, map_of, first_refusal}
+use Rattle.mail_ops.proofs.Common.{refused_where, part_checks, is_step, halves_of, Around, due_at, IsStore, StoreValue, indexes_of, list_named, one_due, HasComeTo, Steps, MapFell, IsHolding, copy_refusal, room_refusal, raising_of, RaisesRow, IsRaiseRefusal}
 use Rattle.mail_ops.proofs.Common.{seen_of, CanRefuse, did_check, did_fall, did_forget, did_own, did_stop, ends_well, no_reply, own_event, refuses, replied_so, stands_by, stays_left, stays_itself, first_reply, never_more, nothing}
 use Rattle.mdbox_base.specs.declared.entries.MapEntry.TheVariants as map_entry
 use Rattle.mdbox_base.specs.declared.progress.Did.TheVariants as did
