@@ -45,7 +45,7 @@ move_added name uid target held copied source old new before after began faulted
     let named : number_named old.map name ≡ Some source.0 = r.at.from.box.number_is ∙ ap Some r.source_is in
     let seen = seen_of pins old before began in
     let later = seen_of pins new after faulted in
-    let allowed = place_refuses run q name uid target half.CopyHalf old lists None c shows.1 (place_free name uid.0 target old r.row r.number copied.0 r.at) event in
+    let allowed = place_refuses run q name uid target half.CopyHalf false old lists None c shows.1 (place_free name uid.0 target old r.row r.number copied.0 r.at) event in
     let done = is_copied old name uid target r.row r.number copied lists k in
     stands_by around behind run lane place said q lists seen later (did.Step half.CopyHalf) None event (Some (reply.Copied copied)) (HasCopied held copied source.0)
     (did_own around behind run lane place said q lists (add_message target k.shown.message lists) seen later (did.Step half.CopyHalf) None (Some (reply.Copied copied)) event

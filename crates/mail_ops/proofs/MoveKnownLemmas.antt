@@ -19,6 +19,7 @@ use Rattle.mail_ops.proofs.CopyLastLemmas.{added_due, add_elsewhere, add_fell, a
 use Rattle.mail_ops.proofs.KeptUidLemmas.{addition_left, fallen_keeps, raised_source}
 use Rattle.mail_ops.proofs.LoweringLemmas.{ended_moves, held_still, lowered_due, raised_covers, raised_moves}
 use Rattle.mail_ops.proofs.MoveEventLemmas.{move_added, move_gone, move_removed, move_broken, move_unlowered, move_lowered}
+use Rattle.mail_ops.proofs.MapRoomLemmas.{no_more_left, paid_by_map}
 use Rattle.mail_ops.proofs.MovePartLemmas.{move_copies}
 use Rattle.mail_ops.proofs.RemovalLemmas.{removal_due}
 use Rattle.mail_ops.proofs.OnlyLogsLemmas.{box_fell_keeps, box_took_keeps, idle_keeps, map_fell_keeps, map_took_keeps}
@@ -40,20 +41,6 @@ moved_stopped given gone e = let k : reply.Moved given gone ≡ reply.Refused re
 
 none_due : {D : Type 0} → (name : List ℕ) (uid : Uid) (store : StoreValue D) → IsReadyToMove name uid stage.First store
 none_due name uid store = record { due = λ other. omega arith; source = tt }
-
--- a map log that is no shorter can get no more
-pub no_more_left : {D : Type 0} → (next now : ℕ) (old new : StoreValue D) → next < now → old.map_log.end ≤ new.map_log.end → next + 3 * map_room_left new < now + 3 * map_room_left old
-no_more_left next now old new fewer grows = less_by next now old.map_log.end new.map_log.end fewer grows
-  where
-    less_by : (a b e f : ℕ) → a < b → e ≤ f → a + 3 * (2 ^ 64 - f) < b + 3 * (2 ^ 64 - e)
-    less_by a b e f less grown = omega (arith, less, grown)
-
--- and one that has grown pays for a beginning
-pub paid_by_map : {D : Type 0} → (old new : StoreValue D) → old.map_log.end < 2 ^ 64 → old.map_log.end < new.map_log.end → 4 + 3 * map_room_left new < 2 + 3 * map_room_left old
-paid_by_map old new bounded further = paid old.map_log.end new.map_log.end bounded further
-  where
-    paid : (e f : ℕ) → e < 2 ^ 64 → e < f → 4 + 3 * (2 ^ 64 - f) < 2 + 3 * (2 ^ 64 - e)
-    paid e f below grown = omega (arith, below, grown)
 
 -- ---- the first event
 
@@ -160,7 +147,7 @@ known_again name uid target held old new before after began faulted ran bounded 
   keeps = map_took_keeps _ _ _ _ old new before after began faulted ran (more_is (reply.Refused refusal.Stopped)) t;
   moves = record { due = λ other. ended_moves (due_at other old) (due_at other new) held.0 other (lowered_due held old new other (ready.due other) (t.due other)) };
   replies = record { indexes = t.appends.indexes; mailboxes = t.appends.mailboxes; taken = t.taken };
-  left = λ e. paid_by_map old new bounded t.further;
+  left = λ e. paid_by_map 4 2 old new (omega arith) bounded t.further;
 }
 
 pub known_not_again : {D : Type 0} → (name : List ℕ) (uid : Uid) (target : List ℕ) (held : MapUid) (old new : StoreValue D) (before after : Option History) (began faulted : Faults) → old.stopped ≡ false → IsReadyToMove name uid (stage.BeginningAgain held) old → MapFell old new before after began faulted
