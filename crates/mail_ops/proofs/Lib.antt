@@ -32,6 +32,7 @@ pub mod MakeLogLemmas
 pub mod MakeNamedLemmas
 pub mod MakeStageLemmas
 pub mod MakeStepLemmas
+pub mod MapRoomLemmas
 pub mod MessageLemmas
 pub mod MoveEventLemmas
 pub mod MoveKnownLemmas
