@@ -4,9 +4,7 @@
 pub use error::{ScriptError, TakeError};
 pub use exercise::exercise_script;
 pub use flaw::{Need, ScriptFlaw, flaw_at};
-pub use laws::{
-    a_text_is_one_script, made_scripts_fit, scripts_keep_mailboxes, written_scripts_are_read,
-};
+pub use laws::{a_text_is_one_script, made_scripts_fit, written_scripts_are_read};
 pub use read::{MOST_REQUESTS, read_script};
 pub use take::{Extent, take_request};
 pub use write::push_script;
