@@ -1,6 +1,6 @@
 -- Numbers of deleted mailboxes stay such: no mailbox gets one, and no log of it is made.
 use Rattle.std.specs.List.{list_any}
-use Rattle.std.specs.Prelude.{filter, not, ◌||◌}
+use Rattle.std.specs.Prelude.{filter, if◌then◌else◌, not, ◌||◌}
 use Rattle.std.proofs.Common.{◌≡◌, ◌≢◌, ◌≤◌, ◌<◌, ◌==◌, ℕ, Bool, true, false, List, [], ◌∷◌, ◌++◌, All, refl, sym, ◌∙◌, ap, subst, arith}
 use Rattle.std.proofs.lemmas.Bool.{ne_eqb}
 use Rattle.std.proofs.lemmas.List.Elements.{All-append, All-cons, All-nil}
