@@ -3,6 +3,7 @@ use Rattle.lane_tasks.proofs.Common.{◌≡◌, ℕ, true, false, List, [], Opti
 use Rattle.lane_tasks.proofs.Common.{Emptied, Held, Taken, make_claims, IsAt, MakeStage, fetch_claims, IsAtFetch, FetchStage, save_claims, IsAtSave, IsReadyToDeliver, SaveValue, SaveStage, purge_claims, IsAtPurgeStage, PurgeStage, IsMakeNumber, IsReadyTask, HasNamedFound, StandsTask, TookNoFile}
 use Rattle.lane_tasks.proofs.Common.{claims_at, Task}
 use Rattle.mdbox_base.specs.declared.requests.Request.TheVariants as request
+use Rattle.list_machine.specs.Run.{uid_added}
 use Rattle.journal.specs.Events.{last_refusal}
 use Rattle.task_claims.specs.Claims.{ClaimsNothing, Due, Made, Thing}
 use Rattle.task_claims.specs.Stable.{Beside}
