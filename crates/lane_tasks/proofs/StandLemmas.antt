@@ -1,7 +1,7 @@
 -- Where tasks begin, and that they stay where they stand, and ready, beside events of others.
 use Rattle.lane_tasks.proofs.Common.{◌≡◌, ℕ, true, false, List, [], Option, None, refl, sym, ◌∙◌, ap, subst, arith, inl, ◌≢◌, ◌⊎◌, ◌≤◌, All, list_any, All-nil, Faults, History, Reply, Request, Run, RunEvent, and_then, own_events, gave_back, took_file, AreFilesInOrder, IsStore, StoreValue, Claims}
 use Rattle.lane_tasks.proofs.Common.{Emptied, Held, Taken, make_claims, IsAt, MakeStage, fetch_claims, IsAtFetch, FetchStage, save_claims, IsAtSave, IsReadyToDeliver, SaveValue, SaveStage, purge_claims, IsAtPurgeStage, PurgeStage, IsMakeNumber, IsReadyTask, HasNamedFound, StandsTask, TookNoFile}
-use Rattle.lane_tasks.proofs.Common.{claims_at, Task}
+use Rattle.lane_tasks.proofs.Common.{claims_at, flat_map, Task}
 use Rattle.mdbox_base.specs.declared.requests.Request.TheVariants as request
 use Rattle.list_machine.specs.Run.{uid_added}
 use Rattle.journal.specs.Events.{last_refusal}
